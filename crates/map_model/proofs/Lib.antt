@@ -4,3 +4,5 @@ pub mod Keys
 pub mod Units
 pub mod MapForm
 pub mod RowTests
+pub mod Decide
+mod Rows
