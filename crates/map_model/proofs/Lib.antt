@@ -6,3 +6,6 @@ pub mod MapForm
 pub mod RowTests
 pub mod Decide
 mod Rows
+pub mod Trees
+pub mod Shapes
+pub mod Batches
