@@ -99,19 +99,40 @@ fn takes_only_instances(rt: HostRuntime) -> Result<(), Fail> {
     assert!(rt; is_instance(alloc, &flat, u32::MAX, &both)?);
     assert!(rt; !is_instance(alloc, &flat, 0, &both)?, "no demand");
     assert!(rt; !is_instance(alloc, &flat, 1, &[])?, "no list");
-    assert!(rt; !is_instance(alloc, &flat, 1, &[choice(2, 1)])?, "no such pool");
-    assert!(rt; !is_instance(alloc, &flat, 1, &[choice(1, 1), choice(1, 2)])?, "a pool twice");
+    assert!(rt;
+        !is_instance(alloc, &flat, 1, &[choice(2, 1)])?,
+        "no such pool"
+    );
+    assert!(rt;
+        !is_instance(alloc, &flat, 1, &[choice(1, 1), choice(1, 2)])?,
+        "a pool twice"
+    );
     let tree = [root(10), pool(0, 1 << 48)];
     assert!(rt; is_instance(alloc, &tree, 1, &[choice(1, 1)])?);
-    assert!(rt; !is_instance(alloc, &tree, 1, &[choice(0, 1)])?, "not a pool");
+    assert!(rt;
+        !is_instance(alloc, &tree, 1, &[choice(0, 1)])?,
+        "not a pool"
+    );
     let large = [pool_root((1 << 48) + 1)];
-    assert!(rt; !is_instance(alloc, &large, 1, &[choice(0, 1)])?, "a large capacity");
+    assert!(rt;
+        !is_instance(alloc, &large, 1, &[choice(0, 1)])?,
+        "a large capacity"
+    );
     let upward = [pool(1, 5), root(5)];
-    assert!(rt; !is_instance(alloc, &upward, 1, &[choice(0, 1)])?, "a later parent");
+    assert!(rt;
+        !is_instance(alloc, &upward, 1, &[choice(0, 1)])?,
+        "a later parent"
+    );
     let own = [pool(0, 5)];
-    assert!(rt; !is_instance(alloc, &own, 1, &[choice(0, 1)])?, "its own parent");
+    assert!(rt;
+        !is_instance(alloc, &own, 1, &[choice(0, 1)])?,
+        "its own parent"
+    );
     let pools = [pool_root(5), pool(0, 5)];
-    assert!(rt; !is_instance(alloc, &pools, 1, &[choice(1, 1)])?, "a pool as parent");
+    assert!(rt;
+        !is_instance(alloc, &pools, 1, &[choice(1, 1)])?,
+        "a pool as parent"
+    );
     Ok(())
 }
 
