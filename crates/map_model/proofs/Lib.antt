@@ -4,3 +4,8 @@ pub mod Keys
 pub mod Units
 pub mod MapForm
 pub mod RowTests
+pub mod Decide
+mod Rows
+pub mod Trees
+pub mod Shapes
+pub mod Batches
