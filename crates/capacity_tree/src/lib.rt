@@ -2,6 +2,7 @@
 #![tactic(auto)]
 
 mod tree;
+mod walks;
 
 pub use tree::Tree;
 

@@ -3,6 +3,7 @@ ghost use Rattle.map_model.specs.Market.{IsMarket, path};
 ghost use Rattle.map_model.specs.Progress.{root_of};
 ghost use Rattle.capacity_tree.specs.Loads.{AddsUnits, AreTreesOf, Loads, OnPath, TakesUnits, trees_of};
 
+use crate::walks::{add_along, path_from, root_from, take_along};
 use arrayvec::ArrayVec;
 use map_model::{Instance, NodeId, Units};
 use no_memory::NoMemory;
@@ -48,15 +49,7 @@ impl Tree {
         requires { node.0 < length self.now.trees.nodes }
         ensures { map (λ n. n.0) result.items ≡ path self.now.trees node.0 }
     {
-        let mut path = ArrayVec::new();
-        let mut at = Some(node);
-        for _step in 0..8usize {
-            if let Some(node) = at {
-                path.push(node);
-                at = self.parents[node.0 as usize];
-            }
-        }
-        path
+        path_from(self.parents.as_slice(), node)
     }
 
     /// The root of a node's tree.
@@ -64,13 +57,7 @@ impl Tree {
         requires { node.0 < length self.now.trees.nodes }
         ensures { result.0 ≡ root_of self.now.trees node.0 }
     {
-        let mut root = node;
-        for _step in 0..7usize {
-            if let Some(parent) = self.parents[root.0 as usize] {
-                root = parent;
-            }
-        }
-        root
+        root_from(self.parents.as_slice(), node)
     }
 
     /// The units under a node.
@@ -87,13 +74,12 @@ impl Tree {
         requires room { OnPath self.old.trees pool.0 (λ n. slice_index self.old.units n + units < 2 ^ 64) }
         ensures { AddsUnits self.old self.new pool.0 units }
     {
-        let mut at = Some(pool);
-        for _step in 0..8usize {
-            if let Some(node) = at {
-                self.loads[node.0 as usize] += units;
-                at = self.parents[node.0 as usize];
-            }
-        }
+        add_along(
+            self.parents.as_slice(),
+            pool,
+            units,
+            self.loads.as_mut_slice(),
+        );
     }
 
     /// Takes units from under a pool, and so from under each node of its path.
@@ -102,12 +88,11 @@ impl Tree {
         requires held { OnPath self.old.trees pool.0 (λ n. units ≤ slice_index self.old.units n) }
         ensures { TakesUnits self.old self.new pool.0 units }
     {
-        let mut at = Some(pool);
-        for _step in 0..8usize {
-            if let Some(node) = at {
-                self.loads[node.0 as usize] -= units;
-                at = self.parents[node.0 as usize];
-            }
-        }
+        take_along(
+            self.parents.as_slice(),
+            pool,
+            units,
+            self.loads.as_mut_slice(),
+        );
     }
 }

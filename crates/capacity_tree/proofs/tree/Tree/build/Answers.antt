@@ -1,25 +1,14 @@
-use Rattle.std.proofs.Common.{rules, ◌≡◌, ℕ, ◌+◌, ◌<◌, ◌≤◌, ◌^◌, length, map, replicate, slice_index, IfOk, ◌-◌, ◌*◌, ◌/◌, ◌%◌, Bool, true, false, nat_eq, nat_lt, List, [], ◌∷◌, ◌++◌, slice_index_or, slice_set, bit_and, bit_or, Fits, w8, w32, w64, Bor, MutBor}
-use Rattle.map_model.specs.Market.{IsMarket, path}
-use Rattle.map_model.specs.Progress.{root_of}
-use Rattle.capacity_tree.specs.Loads.{AddsUnits, AreTreesOf, Loads, OnPath, TakesUnits, trees_of}
+use Rattle.std.proofs.Common.{◌≡◌, ◌<◌, length, arith}
+use Rattle.std.proofs.lemmas.Grind.{common_steps}
+use Rattle.map_model.specs.Market.{Market}
+use Rattle.capacity_tree.specs.Loads.{AreTreesOf, trees_of}
+use Rattle.capacity_tree.proofs.Trees.{AreTreesOf-made, IsMarket-trees}
 use Rattle.capacity_tree.proofs.tree.Tree.build.Goals as goal
 
--- src/tree.rt:39:9
-pub loop-n-init : goal.loop-n-init
-loop-n-init c = ?
-
--- src/tree.rt:39:9
-pub loop-n-preserved : goal.loop-n-preserved
-loop-n-preserved c = ?
-
--- src/tree.rt:43:9
 pub invariant_of-result : goal.invariant_of-result
-invariant_of-result c = ?
+invariant_of-result c =
+    let are : AreTreesOf c.args.instance.now (trees_of c.loop-n.parents.items) = AreTreesOf-made c.args.instance.now c.loop-n.parents.items (omega arith) (λ n l. c.loop-n.invariant.so_far n (omega arith)) in
+    (IsMarket-trees c.args.instance.now c.loop-n.parents.items c.nodes-n-end.ensures.market are, grind (arith, common_steps, c.in_ok-loads.ensures.len))
 
--- src/tree.rt:34:5
 pub returns-clause-trees : goal.returns-clause-trees
-returns-clause-trees c = ?
-
--- src/tree.rt:34:5
-pub returns-clause-empty : goal.returns-clause-empty
-returns-clause-empty c = ?
+returns-clause-trees c = AreTreesOf-made c.args.instance.now c.loop-n.parents.items (omega arith) (λ n l. c.loop-n.invariant.so_far n (omega arith))

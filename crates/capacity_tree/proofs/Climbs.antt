@@ -1,2 +1,0 @@
-use Rattle.std.proofs.Common.{◌≡◌, ℕ, refl}
-
