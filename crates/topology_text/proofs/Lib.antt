@@ -1,0 +1,14 @@
+pub mod Firsts
+pub mod Walks
+pub mod Looked
+pub mod Documents
+pub mod Numbers
+pub mod Depths
+pub mod Quiet
+pub mod Sound
+pub mod SoundGroups
+pub mod Clean
+pub mod Markets
+pub mod Distinct
+pub mod Rows
+pub mod Named

@@ -1,0 +1,11 @@
+pub mod Schema
+pub mod Walk
+pub mod Code
+pub mod Texts
+pub mod Values
+pub mod Faults
+pub mod Topology
+pub mod Names
+pub mod Hosts
+pub mod Plan
+pub mod Kept
