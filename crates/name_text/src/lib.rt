@@ -1,0 +1,12 @@
+//! DNS names: their texts, and their octets on the wire. None of it takes memory.
+#![tactic(auto)]
+
+mod compare;
+mod fault;
+mod name;
+mod read;
+
+pub use compare::{same_name, under};
+pub use fault::NameFault;
+pub use name::Name;
+pub use read::{read_label, read_name};

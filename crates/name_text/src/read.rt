@@ -1,0 +1,136 @@
+//! Reading the text of a name.
+ghost use Rattle.std.specs.Prelude.{◌≡◌, ◌<◌, ◌≤◌, ◌+◌, ◌++◌, ◌∷◌, ◌==◌, [], None, Some, true, false, IfSome, length, take, drop, nat_le, option_map};
+ghost use Rattle.std.specs.List.{position_from, slice_split};
+ghost use Rattle.name_text.specs.Wire.{wire};
+ghost use Rattle.name_text.specs.Names.{first_fault, is_label_byte, label_fault, label_name_of, name_of, short_wire, undotted};
+
+use crate::{Name, NameFault};
+use arrayvec::ArrayVec;
+
+fn is_label_byte(b: u8) -> bool
+    ensures { result ≡ is_label_byte b }
+{
+    matches!(b, b'a'..=b'z' | b'A'..=b'Z' | b'0'..=b'9' | b'-' | b'_')
+}
+
+/// The first fault of a label.
+fn label_fault(label: &[u8]) -> Option<NameFault>
+    ensures { result ≡ label_fault label.now }
+{
+    if label.is_empty() {
+        Some(NameFault::EmptyLabel)
+    } else if !label.iter().all(|b| is_label_byte(*b)) {
+        Some(NameFault::BadByte)
+    } else if label.len() > 63 {
+        Some(NameFault::LongLabel)
+    } else {
+        None
+    }
+}
+
+fn position_of_dot(text: &[u8]) -> Option<usize>
+    ensures first { result ≡ position_from (λ b. b == 46) 0 text.now }
+    ensures within { IfSome result (λ i. i < length text.now) }
+{
+    text.iter().position(|b| *b == b'.')
+}
+
+fn before(text: &[u8], i: usize) -> &[u8]
+    requires { i ≤ length text.now }
+    ensures { result.now ≡ take i text.now }
+{
+    &text[..i]
+}
+
+fn after(text: &[u8], i: usize) -> &[u8]
+    requires { i ≤ length text.now }
+    ensures { result.now ≡ drop i text.now }
+{
+    &text[i..]
+}
+
+/// The text without one dot at its end.
+fn undotted(text: &[u8]) -> &[u8]
+    ensures { result.now ≡ undotted text.now }
+{
+    text.strip_suffix(b".").unwrap_or(text)
+}
+
+/// The fault of the leftmost label that has one, among those that the dots of a text part.
+fn first_fault(text: &[u8]) -> Option<NameFault>
+    ensures { result ≡ first_fault (slice_split (λ b. b == 46) text.now) }
+{
+    let mut rest = text;
+    while let Some(dot) = position_of_dot(rest) {
+        let fault = label_fault(before(rest, dot));
+        if fault.is_some() {
+            return fault;
+        }
+        rest = after(rest, dot + 1);
+    }
+    label_fault(rest)
+}
+
+/// Adds a label and its length, where there is room.
+fn push_label(octets: &mut ArrayVec<u8, 255>, label: &[u8]) -> bool
+    requires { length label.now ≤ 63 }
+    ensures pushed { result ≡ true → octets.new.items ≡ octets.old.items ++ length label.now ∷ label.now }
+    ensures full { result ≡ false → 255 < length octets.old.items + 1 + length label.now }
+{
+    if octets.len() + 1 + label.len() > 255 {
+        return false;
+    }
+    octets.push(label.len() as u8);
+    octets.try_extend_from_slice(label).is_ok()
+}
+
+/// The name on the wire whose labels the dots of a text part, where it fits 255 octets.
+fn wire_of(text: &[u8]) -> Option<ArrayVec<u8, 255>>
+    requires { first_fault (slice_split (λ b. b == 46) text.now) ≡ None }
+    ensures { option_map (λ v. v.items) result ≡ short_wire (slice_split (λ b. b == 46) text.now) }
+{
+    let mut octets = ArrayVec::new();
+    let mut rest = text;
+    while let Some(dot) = position_of_dot(rest) {
+        if !push_label(&mut octets, before(rest, dot)) {
+            return None;
+        }
+        rest = after(rest, dot + 1);
+    }
+    if !push_label(&mut octets, rest) || octets.is_full() {
+        return None;
+    }
+    octets.push(0);
+    Some(octets)
+}
+
+/// Reads the text of a name: labels joined by dots, one dot at the end allowed. Letters keep their case.
+///
+/// The fault is that of the leftmost label with one, and in a label the first of `EmptyLabel`, `BadByte` and `LongLabel`; `LongName` comes only where no label has a fault.
+#[tactic(auto, unfolding(crate::specs::Names::name_of))]
+pub fn read_name(text: &[u8]) -> Result<Name, NameFault>
+    ensures { result ≡ name_of text.now }
+{
+    let text = undotted(text);
+    match first_fault(text) {
+        Some(fault) => Err(fault),
+        None => match wire_of(text) {
+            Some(octets) => Ok(Name { octets }),
+            None => Err(NameFault::LongName),
+        },
+    }
+}
+
+/// Reads one label of 1 to 63 octets, with no dot, as a name of that label alone.
+#[tactic(auto, unfolding(crate::specs::Names::label_name_of))]
+pub fn read_label(text: &[u8]) -> Result<Name, NameFault>
+    ensures { result ≡ label_name_of text.now }
+{
+    match label_fault(text) {
+        Some(fault) => Err(fault),
+        None => match wire_of(text) {
+            Some(octets) => Ok(Name { octets }),
+            None => Err(NameFault::LongName),
+        },
+    }
+}
