@@ -12,3 +12,4 @@ pub mod Markets
 pub mod Distinct
 pub mod Rows
 pub mod Named
+pub mod Repeats

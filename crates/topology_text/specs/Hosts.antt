@@ -1,7 +1,7 @@
 -- The addresses of a node, by family.
 use Rattle.std.specs.Prelude.{◌≡◌, ℕ, ◌≤◌, ◌==◌, List, [], length, Bool, true, false, IsTrue, All, if◌then◌else◌}
-use Rattle.addr_text.specs.declared.Addr.{Addr}
-use Rattle.addr_text.specs.declared.Addr.TheVariants.{V4, V6}
+use Rattle.addr_text.specs.declared.address.Addr.{Addr}
+use Rattle.addr_text.specs.declared.address.Addr.TheVariants.{V4, V6}
 
 -- a node's addresses of either family, in the file's order
 pub record HostLists : Type 0 where

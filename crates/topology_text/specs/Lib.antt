@@ -1,11 +1,12 @@
 pub mod Schema
+pub mod Texts
 pub mod Walk
 pub mod Code
-pub mod Texts
 pub mod Values
-pub mod Faults
-pub mod Topology
 pub mod Names
+pub mod Prefixes
 pub mod Hosts
 pub mod Plan
 pub mod Kept
+pub mod Topology
+pub mod Faults

@@ -1,15 +1,18 @@
 -- The names of a topology's nodes and groups, and what the names in it lead to.
-use Rattle.std.specs.Prelude.{ℕ, zero, suc, List, [], ◌∷◌, length, Bool, false, not, ◌&&◌, ◌||◌, ◌==◌, nat_lt, Option, None, Some, is_some, option_and_then, slice_index_or}
+use Rattle.std.specs.Prelude.{ℕ, zero, suc, List, [], ◌∷◌, length, map, take, Bool, false, not, ◌&&◌, ◌||◌, ◌==◌, nat_lt, Option, None, Some, is_some, option_and_then, slice_index_or}
 use Rattle.std.specs.List.{filter_map, list_any, position_from}
-use Rattle.std.specs.Str.{bytes_eq}
+use Rattle.std.specs.Str.{bytes_eq, str_to_ascii_lowercase}
 use Rattle.toml.specs.Data.{Data, string, boolean, table, Members, as_str}
-use Rattle.topology_text.specs.Walk.{Visit, items_at, value_at}
+use Rattle.name_text.specs.Names.{is_same, is_under}
+use Rattle.topology_text.specs.Texts.{service_name, zone_name}
+use Rattle.topology_text.specs.Walk.{Visit, items_at, marked, table_in, value_at}
 use Rattle.topology_text.specs.Values.{whole_if}
 use Rattle.topology_text.specs.declared.schema.At.{At}
+use Rattle.topology_text.specs.declared.schema.At.TheVariants.{Item}
 use Rattle.topology_text.specs.declared.schema.Spot.{Spot}
 use Rattle.topology_text.specs.declared.schema.Spot.TheVariants.{NodeTable, GroupTable}
 use Rattle.topology_text.specs.declared.schema.Key.{Key}
-use Rattle.topology_text.specs.declared.schema.Key.TheVariants.{Name, Parent, Pool, Pools, Ns, A, Aaaa, Scores}
+use Rattle.topology_text.specs.declared.schema.Key.TheVariants.{Zone, Node, Group, Apex, Name, Parent, Pool, Pools, Ns, Services, A, Aaaa, Scores}
 
 -- a value that is a text
 abbrev pub text_in : Option Data → Option (List ℕ)
@@ -30,10 +33,25 @@ is_called text (Some name) = bytes_eq name text
 abbrev pub number_of : List Data → List ℕ → Option ℕ
 number_of entries text = position_from (λ e. is_called text (text_at e Name)) 0 entries
 
--- the entries of a topology's two arrays
+-- the entries of a topology's two arrays, and its zone where that is a table
 pub record Entries : Type 0 where
   pub nodes : List Data
   pub groups : List Data
+  pub zone : Option Members
+
+-- the entries of a table's two arrays, and its zone
+abbrev pub entries_of : Members → Entries
+entries_of top = record { nodes = items_at top Node; groups = items_at top Group; zone = table_in (value_at top Zone) }
+
+-- the items at a key of the zone
+abbrev pub zone_items : Option Members → Key → List Data
+zone_items None k = []
+zone_items (Some ms) k = items_at ms k
+
+-- the text at a key of the zone
+abbrev pub zone_text : Option Members → Key → Option (List ℕ)
+zone_text None k = None
+zone_text (Some ms) k = text_in (value_at ms k)
 
 -- a value that is a boolean, or false
 abbrev pub flag_in : Option Data → Bool
@@ -75,8 +93,40 @@ repeats_name d (NodeTable i) text = is_taken d.nodes i text
 repeats_name d (GroupTable i) text = is_taken d.groups i text
 repeats_name d _ text = false
 
+-- the name on the wire that an item of `ns` or `services` stands for
+abbrev pub name_in : Key → Data → Option (List ℕ)
+name_in Ns (string t) = zone_name t
+name_in Services (string t) = service_name t
+name_in _ _ = None
+
+-- the names that the items of a list stand for
+abbrev pub names_in : Key → List Data → List (List ℕ)
+names_in k ds = filter_map (name_in k) ds
+
+-- the name is there among some, whatever the case of letters
+abbrev pub is_among : List (List ℕ) → Option (List ℕ) → Bool
+is_among names None = false
+is_among names (Some name) = list_any (is_same name) names
+
+-- a name as it is compared
+abbrev pub folds_of : Option (List ℕ) → List (List ℕ)
+folds_of None = []
+folds_of (Some name) = str_to_ascii_lowercase name ∷ []
+
+-- the name is one of those that were folded
+abbrev pub is_seen : List (List ℕ) → Option (List ℕ) → Bool
+is_seen folds None = false
+is_seen folds (Some name) = list_any (bytes_eq (str_to_ascii_lowercase name)) folds
+
+-- the items that stand for a name for which an earlier item stands
+abbrev pub repeats_in : Key → List Data → List At
+repeats_in k ds = map (λ p. Item p.0) (marked (λ i d. is_among (names_in k (take i ds)) (name_in k d)) ds)
+
+-- a name, a name server or a service that stands earlier too
 abbrev pub duplicate_name : Entries → Visit → Key → List At
 duplicate_name d v Name = whole_if (repeats_name d v.spot (text_in (value_at v.members Name)))
+duplicate_name d v Ns = repeats_in Ns (zone_items d.zone Ns)
+duplicate_name d v Services = repeats_in Services (zone_items d.zone Services)
 duplicate_name d v _ = []
 
 -- a pool has that number
@@ -114,6 +164,15 @@ is_deep_at d _ = false
 abbrev pub too_deep : Entries → Visit → Key → List At
 too_deep d v Parent = whole_if (is_deep_at d v.spot)
 too_deep d v _ = []
+
+-- a name server that is the apex or stands under it
+abbrev pub is_under_apex : Option (List ℕ) → Option (List ℕ) → Bool
+is_under_apex (Some apex) (Some name) = is_under name apex
+is_under_apex _ _ = false
+
+abbrev pub is_inside : Entries → Key → Data → Bool
+is_inside d Ns (string t) = is_under_apex (option_and_then zone_name (zone_text d.zone Apex)) (zone_name t)
+is_inside d _ _ = false
 
 -- the texts of an array
 abbrev pub texts_of : List Data → List (List ℕ)

@@ -1,9 +1,9 @@
 -- What a topology's file says.
 use Rattle.std.specs.Prelude.{◌≡◌, ℕ, ◌<◌, ◌≤◌, List, [], length, map, Option, IsTrue, All, AllPairs, Contains, position, slice_index_or}
 use Rattle.std.specs.Str.{bytes_eq}
-use Rattle.addr_text.specs.declared.Addr.{Addr}
-use Rattle.addr_text.specs.declared.Addr.TheVariants.{V4, V6}
-use Rattle.addr_text.specs.declared.Prefix.{Prefix}
+use Rattle.addr_text.specs.declared.address.Addr.{Addr}
+use Rattle.addr_text.specs.declared.address.Addr.TheVariants.{V4, V6}
+use Rattle.addr_text.specs.declared.address.Prefix.{Prefix}
 use Rattle.map_model.specs.declared.instance.GroupId.{GroupId}
 use Rattle.map_model.specs.Market.{Market, IsMarket}
 use Rattle.topology_text.specs.declared.topology.Zone.{Zone}

@@ -6,8 +6,9 @@ use Rattle.topology_text.specs.declared.schema.Key.TheVariants.{Zone, Node, Grou
 use Rattle.topology_text.specs.declared.schema.Kind.{Kind}
 use Rattle.topology_text.specs.declared.schema.Kind.TheVariants.{Text, Integer, Flag, Table, Texts, Integers, Tables}
 use Rattle.topology_text.specs.declared.schema.Spot.{Spot}
-use Rattle.topology_text.specs.declared.schema.Spot.TheVariants.{Top, ZoneTable, NodeTable, GroupTable}
+use Rattle.topology_text.specs.declared.schema.Spot.TheVariants.{Top, ZoneTable, NodeTable, GroupTable, Family}
 
+-- a key as it is written
 abbrev pub key_text : Key → List ℕ
 key_text Zone = codes "zone"
 key_text Node = codes "node"
@@ -34,6 +35,7 @@ key_text Pools = codes "pools"
 key_text Scores = codes "scores"
 key_text Prefixes = codes "prefixes"
 
+-- the kind of a key's value
 abbrev pub kind_of : Key → Kind
 kind_of Zone = Table
 kind_of Node = Tables
@@ -60,6 +62,7 @@ kind_of Pools = Texts
 kind_of Scores = Integers
 kind_of Prefixes = Texts
 
+-- the keys that a table must have
 abbrev pub is_required : Key → Bool
 is_required Parent = false
 is_required Pool = false
@@ -73,6 +76,7 @@ keys_of Top = Zone ∷ Node ∷ Group ∷ []
 keys_of ZoneTable = Apex ∷ Mname ∷ Rname ∷ Serial ∷ Refresh ∷ Retry ∷ Expire ∷ Minimum ∷ Ttl ∷ Ns ∷ Services ∷ []
 keys_of (NodeTable n) = Name ∷ Parent ∷ Capacity ∷ Pool ∷ A ∷ Aaaa ∷ []
 keys_of (GroupTable g) = Name ∷ Demand ∷ Pools ∷ Scores ∷ Prefixes ∷ []
+keys_of (Family f) = []
 
 -- a value is of a kind; the items of an array are looked at apart
 abbrev pub is_kind : Kind → Data → Bool

@@ -4,12 +4,13 @@ use Rattle.std.specs.List.{list_any, list_all}
 use Rattle.std.specs.Str.{bytes_eq}
 use Rattle.toml.specs.Data.{Data, string, integer, array}
 use Rattle.topology_text.specs.Schema.{key_text, kind_of, is_required, keys_of, is_kind, is_item_kind}
-use Rattle.topology_text.specs.Texts.{is_name, is_label}
+use Rattle.addr_text.specs.Addresses.{prefix_of}
+use Rattle.topology_text.specs.Texts.{is_name, service_name, v4_address, v6_address, zone_name}
 use Rattle.topology_text.specs.Walk.{Visit, items_of_value, items_where, list_of, names_of, value_at}
 use Rattle.topology_text.specs.declared.schema.At.{At}
 use Rattle.topology_text.specs.declared.schema.At.TheVariants.{Whole}
 use Rattle.topology_text.specs.declared.schema.Key.{Key}
-use Rattle.topology_text.specs.declared.schema.Key.TheVariants.{Node, Group, Serial, Refresh, Retry, Expire, Minimum, Ttl, Ns, Services, Name, Capacity, A, Aaaa, Demand, Scores}
+use Rattle.topology_text.specs.declared.schema.Key.TheVariants.{Node, Group, Apex, Mname, Rname, Serial, Refresh, Retry, Expire, Minimum, Ttl, Ns, Services, Name, Capacity, A, Aaaa, Demand, Scores, Prefixes}
 use Rattle.topology_text.specs.declared.schema.Place.{Place}
 use Rattle.topology_text.specs.declared.schema.Spot.{Spot}
 
@@ -45,7 +46,11 @@ unknown v = if list_all (is_key_of v.spot) (names_of v.members) then [] else rec
 
 -- a name against the rule of its key
 abbrev pub is_bad_name : Key → Data → Bool
-is_bad_name Services (string t) = not (is_label t)
+is_bad_name Apex (string t) = not (is_some (zone_name t))
+is_bad_name Mname (string t) = not (is_some (zone_name t))
+is_bad_name Rname (string t) = not (is_some (zone_name t))
+is_bad_name Ns (string t) = not (is_some (zone_name t))
+is_bad_name Services (string t) = not (is_some (service_name t))
 is_bad_name Name (string t) = not (is_name t)
 is_bad_name _ _ = false
 
@@ -70,6 +75,17 @@ is_in_range _ z = true
 abbrev pub is_out_of_range : Key → Data → Bool
 is_out_of_range k (integer z) = not (is_in_range k z)
 is_out_of_range k _ = false
+
+-- a text in `a` or `aaaa` that is no address of its family
+abbrev pub is_bad_address : Key → Data → Bool
+is_bad_address A (string t) = not (is_some (v4_address t))
+is_bad_address Aaaa (string t) = not (is_some (v6_address t))
+is_bad_address _ _ = false
+
+-- a text in `prefixes` that is no prefix
+abbrev pub is_bad_prefix : Key → Data → Bool
+is_bad_prefix Prefixes (string t) = not (is_some (prefix_of t))
+is_bad_prefix _ _ = false
 
 -- how many items an array may have
 abbrev pub limit_of : Key → Option ℕ

@@ -1,7 +1,7 @@
 -- The walk over a topology's tables, and the faults that stand at a key of one of them.
 use Rattle.std.specs.Prelude.{ℕ, List, [], ◌∷◌, ◌++◌, map, Bool, if◌then◌else◌, Option, None, Some}
-use Rattle.std.specs.List.{cons_option, enumerate_from, filter_map, flat_map}
-use Rattle.toml.specs.Data.{Data, array, table, Items, no_items, item, Members, no_members, member, get_member}
+use Rattle.std.specs.List.{cons_option, enumerate_from, filter, filter_map, flat_map}
+use Rattle.toml.specs.Data.{Data, array, table, Items, no_items, item, Members, no_members, member, get_member, as_table}
 use Rattle.topology_text.specs.Schema.{key_text, keys_of}
 use Rattle.topology_text.specs.declared.schema.At.{At}
 use Rattle.topology_text.specs.declared.schema.At.TheVariants.{Item}
@@ -44,6 +44,11 @@ abbrev pub entry_spot : Key → ℕ → Spot
 entry_spot Node i = NodeTable i
 entry_spot _ i = GroupTable i
 
+-- a value that is a table
+abbrev pub table_in : Option Data → Option Members
+table_in None = None
+table_in (Some d) = as_table d
+
 -- the visit of a value that is a table
 abbrev pub visit_of : Spot → Data → Option Visit
 visit_of spot (table ms) = Some (record { spot = spot; members = ms })
@@ -72,6 +77,13 @@ items_from test i ds = filter_map (λ p. if test p.1 then Some (Item p.0) else N
 
 abbrev pub items_where : (Data → Bool) → List Data → List At
 items_where test ds = items_from test 0 ds
+
+-- the elements that pass a test of their number and themselves, each behind its number
+abbrev pub marked_from : {X : Type 0} → (ℕ → X → Bool) → ℕ → List X → List (ℕ × X)
+marked_from test i xs = filter (λ p. test p.0 p.1) (enumerate_from i xs)
+
+abbrev pub marked : {X : Type 0} → (ℕ → X → Bool) → List X → List (ℕ × X)
+marked test xs = marked_from test 0 xs
 
 -- the places of what is found at a key
 abbrev pub places_at : (Visit → Key → List At) → Visit → Key → List Place

@@ -14,7 +14,7 @@ use std::alloc::{AllocError, Global};
 use toml::Value;
 
 /// A number, or 0.
-fn natural(value: &Value) -> u64
+pub fn natural(value: &Value) -> u64
     ensures { result ≡ natural (view value.now) }
 {
     match value {
@@ -40,7 +40,7 @@ fn number_at(entry: &Value, key: Key) -> u64
 }
 
 /// The items at a key of an entry.
-fn items_in(entry: &Value, key: Key) -> &[Value]
+pub fn items_in(entry: &Value, key: Key) -> &[Value]
     ensures { map view result.now ≡ items_in (view entry.now) key }
 {
     match entry {
@@ -159,7 +159,7 @@ fn node_rows(alloc: Global, index: &Entries<'_>) -> Result<Vec<Node>, AllocError
 }
 
 /// The instance.
-pub fn build(alloc: Global, index: &Entries<'_>) -> Result<Instance, AllocError>
+pub fn instance(alloc: Global, index: &Entries<'_>) -> Result<Instance, AllocError>
     requires { IsSound (entries index.now) }
     ensures { IfOk result (λ i. i ≡ market_of (entries index.now)) }
 {

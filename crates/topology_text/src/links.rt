@@ -4,15 +4,17 @@ ghost use Rattle.std.specs.List.{list_any};
 ghost use Rattle.std.specs.Str.{bytes_eq};
 ghost use Rattle.toml.specs.View.{table_view, view};
 ghost use Rattle.topology_text.specs.Code.{entries, visit};
-ghost use Rattle.topology_text.specs.Names.{ascend, count_at, duplicate_name, has_repeat, is_deep, is_deep_at, is_misplaced, is_misshapen, is_other, is_pool_number, is_taken, is_unknown_name, list_shape, misplaced_at, number_of, parent_of, parent_order, repeats_name, text_in, texts_of, too_deep};
+ghost use Rattle.topology_text.specs.Names.{ascend, count_at, duplicate_name, has_repeat, is_deep, is_deep_at, is_inside, is_misplaced, is_misshapen, is_other, is_pool_number, is_taken, is_under_apex, is_unknown_name, list_shape, misplaced_at, number_of, parent_of, parent_order, repeats_name, text_in, texts_of, too_deep};
 ghost use Rattle.topology_text.specs.Values.{whole_if};
 ghost use Rattle.topology_text.specs.Walk.{first, value_at};
 
 use crate::names::{Entries, flag_of, text_of};
 use crate::rule::Rule;
 use crate::schema::{At, Key, Spot};
+use crate::texts::zone_name;
 use crate::values::Test;
 use crate::walk::{TableAt, items_of, value_of};
+use name_text::{Name, under};
 use toml::{Table, Value};
 
 fn whole_if(bad: bool) -> Option<At>
@@ -41,7 +43,7 @@ fn repeats_name(index: &Entries<'_>, spot: Spot, name: &str) -> bool
     }
 }
 
-/// The later of two entries of one name.
+/// The later of two entries, name servers or services of one name.
 #[derive(Drop)]
 pub struct DuplicateName<'a>(pub &'a Entries<'a>);
 
@@ -54,6 +56,8 @@ impl<'a> Rule for DuplicateName<'a> {
                 let name = text_of(table.table, Key::Name)?;
                 whole_if(repeats_name(self.0, table.spot, name))
             }
+            Key::Ns => self.0.ns_repeat(),
+            Key::Services => self.0.services_repeat(),
             _ => None,
         }
     }
@@ -193,5 +197,32 @@ impl Rule for ListShape {
 
     fn first(&self, table: &TableAt<'_>, key: Key) -> Option<At> {
         whole_if(is_misshapen(table.table, key))
+    }
+}
+
+/// The name is the apex, or under it.
+fn is_under_apex(apex: Option<&Name>, name: Option<Name>) -> bool
+    ensures { result ≡ is_under_apex (option_map (λ n. n.now) apex.entry) name }
+{
+    match (apex, name) {
+        (Some(apex), Some(name)) => under(name.wire(), apex.wire()),
+        _ => false,
+    }
+}
+
+/// A name server that is the apex or stands under it.
+#[derive(Drop)]
+pub struct NsInside<'a>(pub &'a Entries<'a>);
+
+impl<'a> Test for NsInside<'a> {
+    ghost fails = { λ r k d. is_inside (entries r.0.now) k d };
+
+    fn is_bad(&self, key: Key, value: &Value) -> bool {
+        match (key, value) {
+            (Key::Ns, Value::String(text)) => {
+                is_under_apex(self.0.apex(), zone_name(text.as_str()))
+            }
+            _ => false,
+        }
     }
 }

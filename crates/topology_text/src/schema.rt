@@ -49,6 +49,8 @@ pub enum Spot {
     ZoneTable,
     NodeTable(usize),
     GroupTable(usize),
+    /// No table: the prefixes of an address family, 4 or 6.
+    Family(u8),
 }
 
 /// A value as a whole, or one of its items.
@@ -160,6 +162,7 @@ impl Spot {
                 Key::Scores,
                 Key::Prefixes,
             ],
+            Spot::Family(_) => &[],
         }
     }
 }

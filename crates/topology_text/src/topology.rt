@@ -1,5 +1,5 @@
 //! A topology as it was read.
-ghost use Rattle.std.specs.Prelude.{◌≡◌, ◌⊎◌, ◌<◌, length, option_map, slice_index_or, []};
+ghost use Rattle.std.specs.Prelude.{◌≡◌, ◌⊎◌, ◌<◌, length, map, option_map, slice_index_or, []};
 ghost use Rattle.topology_text.specs.Plan.{IsPlan, Plan, addresses_of, number_in};
 
 use addr_text::{Addr, Prefix};
@@ -126,6 +126,28 @@ impl Model for Topology {
 }
 
 impl Topology {
+    /// A topology of these parts, which fit together.
+    pub(crate) fn from_parts(
+        instance: Instance,
+        zone: Zone,
+        node_names: IndexSet<Vec<u8>>,
+        group_names: IndexSet<Vec<u8>>,
+        prefixes: Vec<(Prefix, GroupId)>,
+        addresses: Vec<Hosts>,
+    ) -> Topology
+        requires { IsPlan (record { market = instance; zone = zone; node_names = map (λ v. v.items) node_names.keys; group_names = map (λ v. v.items) group_names.keys; prefixes = prefixes.items; addresses = addresses.items }) }
+        ensures { result ≡ record { market = instance; zone = zone; node_names = map (λ v. v.items) node_names.keys; group_names = map (λ v. v.items) group_names.keys; prefixes = prefixes.items; addresses = addresses.items } }
+    {
+        Topology {
+            instance,
+            zone,
+            node_names,
+            group_names,
+            prefixes,
+            addresses,
+        }
+    }
+
     /// The groups, the nodes, and their numbers.
     pub fn instance(&self) -> &Instance
         ensures instance { result.now ≡ self.now.market }

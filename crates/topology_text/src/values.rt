@@ -5,12 +5,13 @@ ghost use Rattle.toml.specs.View.{view};
 ghost use Rattle.topology_text.specs.Schema.{is_kind, is_item_kind, kind_of};
 ghost use Rattle.topology_text.specs.Walk.{Visit, first, items_from, items_where, value_at};
 ghost use Rattle.topology_text.specs.Code.{visit};
-ghost use Rattle.topology_text.specs.Values.{failing, is_bad_name, is_in_range, is_out_of_range, is_over, is_within, limit_of, missing, too_many, wrong_in, wrong_kind};
+ghost use Rattle.topology_text.specs.Values.{failing, is_bad_address, is_bad_name, is_bad_prefix, is_in_range, is_out_of_range, is_over, is_within, limit_of, missing, too_many, wrong_in, wrong_kind};
 
 use crate::rule::Rule;
 use crate::schema::{At, Key, Kind};
-use crate::texts::{is_label, is_name};
+use crate::texts::{is_name, service_name, v4_address, v6_address, zone_name};
 use crate::walk::{TableAt, items_of, value_of};
+use addr_text::read_prefix;
 use toml::Value;
 
 /// A test of one value, or of one item of an array.
@@ -131,7 +132,10 @@ impl Test for BadName {
 
     fn is_bad(&self, key: Key, value: &Value) -> bool {
         match (key, value) {
-            (Key::Services, Value::String(text)) => !is_label(text.as_str()),
+            (Key::Apex | Key::Mname | Key::Rname | Key::Ns, Value::String(text)) => {
+                zone_name(text.as_str()).is_none()
+            }
+            (Key::Services, Value::String(text)) => service_name(text.as_str()).is_none(),
             (Key::Name, Value::String(text)) => !is_name(text.as_str()),
             _ => false,
         }
@@ -171,6 +175,37 @@ impl Test for OutOfRange {
     fn is_bad(&self, key: Key, value: &Value) -> bool {
         match value {
             Value::Integer(number) => !is_in_range(key, *number),
+            _ => false,
+        }
+    }
+}
+
+/// A text is no address of its list's family.
+#[derive(Drop)]
+pub struct BadAddress;
+
+impl Test for BadAddress {
+    ghost fails = { λ _ k d. is_bad_address k d };
+
+    fn is_bad(&self, key: Key, value: &Value) -> bool {
+        match (key, value) {
+            (Key::A, Value::String(text)) => v4_address(text.as_str()).is_none(),
+            (Key::Aaaa, Value::String(text)) => v6_address(text.as_str()).is_none(),
+            _ => false,
+        }
+    }
+}
+
+/// A text is no prefix.
+#[derive(Drop)]
+pub struct BadPrefix;
+
+impl Test for BadPrefix {
+    ghost fails = { λ _ k d. is_bad_prefix k d };
+
+    fn is_bad(&self, key: Key, value: &Value) -> bool {
+        match (key, value) {
+            (Key::Prefixes, Value::String(text)) => read_prefix(text.as_str().as_bytes()).is_none(),
             _ => false,
         }
     }

@@ -3,7 +3,7 @@ use Rattle.toml.specs.View.{table_view}
 use Rattle.topology_text.specs.Code.{entries}
 use Rattle.topology_text.specs.Faults.{document}
 use Rattle.topology_text.proofs.Documents.{IsRead, index_of, reads_ok, reads_err, reads_sound}
-use Rattle.topology_text.proofs.read.read_instance.Goals as goal
+use Rattle.topology_text.proofs.read.read_topology.Goals as goal
 
 pub build-requires : goal.build-requires
 build-requires c =

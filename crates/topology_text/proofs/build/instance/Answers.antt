@@ -3,7 +3,7 @@ use Rattle.map_model.specs.Market.{Market, IsMarket}
 use Rattle.topology_text.specs.Code.{entries}
 use Rattle.topology_text.specs.Topology.{market_of}
 use Rattle.topology_text.proofs.Distinct.{market_good}
-use Rattle.topology_text.proofs.build.build.Goals as goal
+use Rattle.topology_text.proofs.build.instance.Goals as goal
 
 pub from_rows-requires : goal.from_rows-requires
 from_rows-requires c =
