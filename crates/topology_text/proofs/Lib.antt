@@ -13,3 +13,5 @@ pub mod Distinct
 pub mod Rows
 pub mod Named
 pub mod Repeats
+pub mod Twice
+pub mod Totals
