@@ -15,3 +15,4 @@ pub mod Named
 pub mod Repeats
 pub mod Twice
 pub mod Totals
+pub mod NameLists

@@ -1,5 +1,5 @@
 -- All faults of a topology's table, by number and within a number in the order of the walk.
-use Rattle.std.specs.Prelude.{List, ◌++◌, map, Result, Ok, Err, Option, None, Some, ◌≡◌, ℕ, if◌then◌else◌}
+use Rattle.std.specs.Prelude.{Bool, List, ◌++◌, map, Result, Ok, Err, Option, None, Some, ◌≡◌, ℕ, if◌then◌else◌}
 use Rattle.std.specs.List.{flat_map}
 use Rattle.std.specs.Str.{is_utf8}
 use Rattle.toml.specs.Data.{Data, Members}
