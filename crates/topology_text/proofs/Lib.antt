@@ -16,3 +16,8 @@ pub mod Repeats
 pub mod Twice
 pub mod Totals
 pub mod NameLists
+pub mod Plans
+pub mod SoundZone
+pub mod SoundHosts
+pub mod SoundNames
+pub mod SoundPrefixes

@@ -9,7 +9,7 @@ use Rattle.topology_text.specs.Values.{whole_if}
 use Rattle.topology_text.specs.declared.schema.At.{At}
 use Rattle.topology_text.specs.declared.schema.Key.{Key}
 use Rattle.topology_text.specs.declared.schema.Key.TheVariants.{Zone, Node, Group}
-use Rattle.topology_text.specs.declared.schema.Spot.TheVariants.{Top, NodeTable, GroupTable}
+use Rattle.topology_text.specs.declared.schema.Spot.TheVariants.{Top, ZoneTable, NodeTable, GroupTable}
 
 pub empty_first : {A : Type 0} (xs ys : List A) → xs ++ ys ≡ [] → xs ≡ []
 empty_first [] ys h = refl
@@ -81,3 +81,10 @@ quiet_group finds top i ms j h l is within =
     let e : 0 + i ≡ i = omega arith in
     let at : places_in finds (record { spot = GroupTable (0 + i); members = ms }) ≡ [] = quiet_entries (places_in finds) Group 0 (items_at top Group) i ms (walk_four (places_in finds) top h).3 l is in
     quiet_key finds (record { spot = GroupTable i; members = ms }) j (rw (← e) at) within
+
+-- and a key of the zone
+pub quiet_zone : (finds : Visit → Key → List At) (top ms : Members) (j : ℕ) → places_of finds (walk top) ≡ [] → value_at top Zone ≡ Some (table ms) → j < 11
+    → finds (record { spot = ZoneTable; members = ms }) (get_or (keys_of ZoneTable) j Zone) ≡ []
+quiet_zone finds top ms j h is within =
+    let at : flat_map (places_in finds) (zone_visits (Some (table ms))) ≡ [] = ap (λ o. flat_map (places_in finds) (zone_visits o)) (sym is) ∙ (walk_four (places_in finds) top h).1 in
+    quiet_key finds (record { spot = ZoneTable; members = ms }) j (empty_first _ [] at) within
