@@ -1,0 +1,3 @@
+mod Splits
+mod Digits
+mod Firsts
