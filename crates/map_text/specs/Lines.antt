@@ -27,9 +27,9 @@ place_line (Some o) (Some amount) = Place (record { group = o.group; place = o.p
 
 -- the node that refuses an offer
 abbrev pub full_line : Option Offer → Option ℕ → Line
-full_line None node = Unknown
+full_line None n = Unknown
 full_line (Some o) None = Unknown
-full_line (Some o) (Some node) = Full (record { group = o.group; place = o.place; node = record { 0 = node } })
+full_line (Some o) (Some n) = Full (record { group = o.group; place = o.place; node = record { 0 = n } })
 
 -- a word has at least one octet
 abbrev pub has_no_word : Words → Bool
@@ -50,3 +50,9 @@ line_of t line =
     if bytes_eq line (codes "glb map 1") then Header
     else if bytes_eq line (codes "end") then End
     else entry_of t (four_of (parts 32 line))
+
+-- the numbers of a line are those of the instance, and an amount is at least 1
+abbrev pub IsInRange : Market → Line → Type 0
+IsInRange m (Place x) = IsOffer m x.group.0 x.place × (0 < x.amount)
+IsInRange m (Full x) = IsOffer m x.group.0 x.place × (x.node.0 < length m.nodes)
+IsInRange m _ = Unit {0}

@@ -12,7 +12,6 @@ mod number;
 mod offer;
 mod read;
 
-
 pub use fault::MapFault;
 pub use line::Line;
-
+pub use read::read_map;

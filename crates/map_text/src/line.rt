@@ -1,9 +1,11 @@
-ghost use Rattle.std.specs.Prelude.{◌≡◌, None, Some, option_map};
-ghost use Rattle.map_text.specs.Lines.{entry_of, full_line, line_of, place_line};
+ghost use Rattle.std.specs.Prelude.{◌≡◌, ◌<◌, None, Some, IfSome, length, option_map};
+ghost use Rattle.map_model.specs.Market.{Market};
+ghost use Rattle.map_model.specs.Allocation.{IsOffer};
+ghost use Rattle.map_text.specs.Lines.{IsInRange, entry_of, full_line, line_of, place_line};
 
 use crate::cut::{Words, four_words};
 use crate::number::read_amount;
-use crate::offer::find_offer;
+use crate::offer::{find_node, find_offer};
 use map_model::{MapLine, NameLine, NodeId, Offer};
 use topology_text::Topology;
 
@@ -25,7 +27,8 @@ pub enum Line {
 }
 
 fn place_line(offer: Option<Offer>, amount: Option<u32>) -> Line
-    ensures { result ≡ place_line offer amount }
+    ensures value { result ≡ place_line offer amount }
+    ensures range { (m : Market) → IfSome offer (λ o. IsOffer m o.group.0 o.place) → IfSome amount (λ a. 0 < a) → IsInRange m result }
 {
     match (offer, amount) {
         (_, None) => Line::Bad,
@@ -39,7 +42,8 @@ fn place_line(offer: Option<Offer>, amount: Option<u32>) -> Line
 }
 
 fn full_line(offer: Option<Offer>, node: Option<NodeId>) -> Line
-    ensures { result ≡ full_line offer (option_map (λ n. n.0) node) }
+    ensures value { result ≡ full_line offer (option_map (λ n. n.0) node) }
+    ensures range { (m : Market) → IfSome offer (λ o. IsOffer m o.group.0 o.place) → IfSome node (λ n. n.0 < length m.nodes) → IsInRange m result }
 {
     match (offer, node) {
         (Some(Offer { group, place }), Some(node)) => Line::Full(NameLine { group, place, node }),
@@ -48,21 +52,29 @@ fn full_line(offer: Option<Offer>, node: Option<NodeId>) -> Line
 }
 
 fn read_words(topology: &Topology, words: Words<'_>) -> Line
-    ensures { result ≡ entry_of topology.now (Some (record { keyword = words.entry.keyword.now; group = words.entry.group.now; pool = words.entry.pool.now; last = words.entry.last.now })) }
+    ensures range { IsInRange topology.now.market result }
+    ensures value { result ≡ entry_of topology.now (Some (record { keyword = words.entry.keyword.now; group = words.entry.group.now; pool = words.entry.pool.now; last = words.entry.last.now })) }
 {
     if words.group.is_empty() || words.pool.is_empty() || words.last.is_empty() {
         return Line::Bad;
     }
     match words.keyword {
-        b"place" => place_line(find_offer(topology, words.group, words.pool), read_amount(words.last)),
-        b"full" => full_line(find_offer(topology, words.group, words.pool), topology.node_named(words.last)),
+        b"place" => place_line(
+            find_offer(topology, words.group, words.pool),
+            read_amount(words.last),
+        ),
+        b"full" => full_line(
+            find_offer(topology, words.group, words.pool),
+            find_node(topology, words.last),
+        ),
         _ => Line::Bad,
     }
 }
 
 /// What a line of a map's text says, over a topology.
 pub fn read_line(topology: &Topology, line: &[u8]) -> Line
-    ensures { result ≡ line_of topology.now line.now }
+    ensures value { result ≡ line_of topology.now line.now }
+    ensures range { IsInRange topology.now.market result }
 {
     if line == b"glb map 1".as_slice() {
         return Line::Header;

@@ -1,4 +1,4 @@
-ghost use Rattle.std.specs.Prelude.{◌≡◌, ◌^◌, ◌≤◌, true, None, Some, MatchOption};
+ghost use Rattle.std.specs.Prelude.{◌≡◌, ◌^◌, ◌<◌, ◌≤◌, true, None, Some, IfSome, MatchOption};
 ghost use Rattle.std.specs.Char.{is_ascii_digit};
 ghost use Rattle.std.specs.List.{list_all};
 ghost use Rattle.std.specs.Str.Parse.{digits_value};
@@ -28,7 +28,8 @@ fn value_of(digits: &[u8]) -> Option<u32>
 
 /// The amount that a word writes: a decimal number from 1 to 2^32-1 without leading zeros.
 pub fn read_amount(word: &[u8]) -> Option<u32>
-    ensures { result ≡ amount_of word.now }
+    ensures value { result ≡ amount_of word.now }
+    ensures range { IfSome result (λ v. 0 < v) }
 {
     if !are_digits(word) || word.first() == Some(&b'0') {
         return None;

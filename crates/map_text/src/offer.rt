@@ -1,5 +1,6 @@
 ghost use Rattle.std.specs.Prelude.{◌≡◌, ◌<◌, Some, None, length, IfSome, option_map};
 ghost use Rattle.map_model.specs.Allocation.{IsOffer};
+ghost use Rattle.topology_text.specs.Plan.{number_in};
 ghost use Rattle.map_text.specs.Lines.{offer_of, place_of};
 
 use map_model::{GroupId, Instance, NodeId, Offer};
@@ -28,4 +29,12 @@ pub fn find_offer(topology: &Topology, group: &[u8], pool: &[u8]) -> Option<Offe
     let pool = topology.node_named(pool)?;
     let place = find_place(topology.instance(), group, pool)?;
     Some(Offer { group, place })
+}
+
+/// The node of a name.
+pub fn find_node(topology: &Topology, name: &[u8]) -> Option<NodeId>
+    ensures value { option_map (λ n. n.0) result ≡ number_in topology.now.node_names name.now }
+    ensures node { IfSome result (λ n. n.0 < length topology.now.market.nodes) }
+{
+    topology.node_named(name)
 }

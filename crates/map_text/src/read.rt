@@ -101,3 +101,37 @@ impl Reader {
         Ok(())
     }
 }
+
+impl Reader {
+    fn take(&mut self, line: Line) -> Result<(), MapFault>
+        requires { self.old.count + 1 < 2 ^ 64 }
+        ensures { MatchResult result (λ _. (fault_of (kept self.old) line ≡ None) × (kept self.new ≡ with_line (kept self.old) line)) (λ e. ¬ (e ≡ MapFault.NoMemory) → fault_of (kept self.old) line ≡ Some e) }
+    {
+        if let Some(fault) = self.fault_of(line) {
+            return Err(fault);
+        }
+        self.add(line)?;
+        Ok(())
+    }
+}
+
+/// The map that a text says over a topology, or the first fault of the text.
+///
+/// Lines are read in order. In the first one at fault `BadLine` comes before `UnknownName` before `OrderBroken`.
+/// The fault is `Truncated` where no whole line has one and the text does not end with the LF of its `end` line.
+pub fn read_map(alloc: Global, topology: &Topology, text: &[u8]) -> Result<MapLines, MapFault>
+    ensures read { MatchResult result (λ m. map_of topology.now text.now ≡ Ok (record { lines = m.lines.items; names = m.names.items })) (λ e. ¬ (e ≡ MapFault.NoMemory) → map_of topology.now text.now ≡ Err e) }
+    ensures form { IfOk result (λ m. IsMapForm topology.now.market m.lines.items m.names.items) }
+{
+    let mut reader = Reader::new(alloc);
+    let mut rest = text;
+    'lines: while let Some((line, behind)) = cut(rest, b'\n') {
+        reader.take(read_line(topology, line))?;
+        rest = behind;
+    }
+    if reader.is_ended && rest.is_empty() {
+        Ok(reader.map)
+    } else {
+        Err(MapFault::Truncated)
+    }
+}
