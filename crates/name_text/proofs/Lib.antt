@@ -1,1 +1,4 @@
-
+pub mod Splits
+pub mod Labels
+pub mod Forms
+pub mod Rests

@@ -1,5 +1,5 @@
 -- DNS name texts, and comparing names on the wire.
-use Rattle.std.specs.Prelude.{ℕ, zero, suc, ◌+◌, ◌-◌, List, [], ◌∷◌, ◌++◌, length, take, Bool, ◌&&◌, ◌||◌, ◌==◌, nat_le, if◌then◌else◌, Option, None, Some, Result, Ok, Err, nat_eq}
+use Rattle.std.specs.Prelude.{ℕ, zero, suc, ◌+◌, ◌-◌, List, [], ◌∷◌, ◌++◌, length, take, Bool, ◌&&◌, ◌||◌, ◌==◌, nat_le, nat_lt, not, if◌then◌else◌, Option, None, Some, Result, Ok, Err, nat_eq}
 use Rattle.std.specs.List.{ends_with, list_all, list_any, slice_split}
 use Rattle.std.specs.Option.{ok_or, option_or}
 use Rattle.std.specs.Str.{str_eq_ignore_ascii_case}
@@ -20,8 +20,9 @@ is_label label = nat_le 1 (length label) && list_all is_label_byte label && nat_
 abbrev pub label_fault : List ℕ → Option NameFault
 label_fault label =
     if length label == 0 then Some EmptyLabel
-    else if list_all is_label_byte label then (if nat_le (length label) 63 then None else Some LongLabel)
-    else Some BadByte
+    else if not (list_all is_label_byte label) then Some BadByte
+    else if nat_lt 63 (length label) then Some LongLabel
+    else None
 
 -- the fault of the leftmost label that has one
 abbrev pub first_fault : List (List ℕ) → Option NameFault
@@ -53,9 +54,13 @@ name_of text = named (first_fault (labels_of text)) (labels_of text)
 unfoldable pub label_name_of : List ℕ → Result (List ℕ) NameFault
 label_name_of text = named (label_fault text) (text ∷ [])
 
--- the name whose labels are those of a name and then those of an apex, where the whole fits 255 octets
+-- all octets of a name but its last, the 0
+abbrev pub labels_part : List ℕ → List ℕ
+labels_part name = take (length name - 1) name
+
+-- the name whose labels are those of a name and then those of an apex, where it fits 255 octets
 unfoldable pub joined_to : List ℕ → List ℕ → Option (List ℕ)
-joined_to apex name = if nat_le (length name - 1 + length apex) 255 then Some (take (length name - 1) name ++ apex) else None
+joined_to apex name = if nat_le (length (labels_part name ++ apex)) 255 then Some (labels_part name ++ apex) else None
 
 -- the same name, whatever the case of its letters (RFC 4343); a length octet is below 64, so it is no letter
 abbrev pub is_same : List ℕ → List ℕ → Bool

@@ -1,5 +1,5 @@
 //! A name on the wire.
-ghost use Rattle.std.specs.Prelude.{◌≡◌};
+ghost use Rattle.std.specs.Prelude.{◌≡◌, ◌<◌, length, option_map};
 ghost use Rattle.name_text.specs.Wire.{IsName};
 ghost use Rattle.name_text.specs.Names.{joined_to};
 
@@ -35,16 +35,27 @@ impl Name {
     }
 
     /// The name whose labels are this one's and then the apex's, such as a service's name in a zone; None where it has more than 255 octets.
+    #[tactic(auto, unfolding(crate::specs::Names::joined_to))]
     pub fn followed_by(&self, apex: &Name) -> Option<Name>
         ensures { result ≡ joined_to apex.now self.now }
     {
-        let mut octets = ArrayVec::new();
-        let labels = self.octets.len() - 1;
-        if labels + apex.octets.len() > 255 {
-            return None;
-        }
-        let _ = octets.try_extend_from_slice(&self.octets.as_slice()[..labels]);
-        let _ = octets.try_extend_from_slice(apex.octets.as_slice());
+        let octets = joined(self.wire(), apex.wire())?;
         Some(Name { octets })
     }
+}
+
+/// The octets of the first name but its last one, and then those of the apex.
+#[tactic(auto, unfolding(crate::specs::Names::joined_to))]
+fn joined(name: &[u8], apex: &[u8]) -> Option<ArrayVec<u8, 255>>
+    requires { 0 < length name.now }
+    ensures { option_map (λ v. v.items) result ≡ joined_to apex.now name.now }
+{
+    let labels = &name[..name.len() - 1];
+    if labels.len() + apex.len() > 255 {
+        return None;
+    }
+    let mut octets = ArrayVec::new();
+    let _ = octets.try_extend_from_slice(labels);
+    let _ = octets.try_extend_from_slice(apex);
+    Some(octets)
 }

@@ -1,6 +1,6 @@
 //! Reading the text of a name.
 ghost use Rattle.std.specs.Prelude.{◌≡◌, ◌<◌, ◌≤◌, ◌+◌, ◌++◌, ◌∷◌, ◌==◌, [], None, Some, true, false, IfSome, length, take, drop, nat_le, option_map};
-ghost use Rattle.std.specs.List.{position_from, slice_split};
+ghost use Rattle.std.specs.List.{list_all, position_from, slice_split};
 ghost use Rattle.name_text.specs.Wire.{wire};
 ghost use Rattle.name_text.specs.Names.{first_fault, is_label_byte, label_fault, label_name_of, name_of, short_wire, undotted};
 
@@ -13,13 +13,19 @@ fn is_label_byte(b: u8) -> bool
     matches!(b, b'a'..=b'z' | b'A'..=b'Z' | b'0'..=b'9' | b'-' | b'_')
 }
 
+fn are_label_bytes(label: &[u8]) -> bool
+    ensures { result ≡ list_all is_label_byte label.now }
+{
+    label.iter().all(|b| is_label_byte(*b))
+}
+
 /// The first fault of a label.
 fn label_fault(label: &[u8]) -> Option<NameFault>
     ensures { result ≡ label_fault label.now }
 {
     if label.is_empty() {
         Some(NameFault::EmptyLabel)
-    } else if !label.iter().all(|b| is_label_byte(*b)) {
+    } else if !are_label_bytes(label) {
         Some(NameFault::BadByte)
     } else if label.len() > 63 {
         Some(NameFault::LongLabel)
@@ -62,9 +68,8 @@ fn first_fault(text: &[u8]) -> Option<NameFault>
 {
     let mut rest = text;
     while let Some(dot) = position_of_dot(rest) {
-        let fault = label_fault(before(rest, dot));
-        if fault.is_some() {
-            return fault;
+        if let Some(fault) = label_fault(before(rest, dot)) {
+            return Some(fault);
         }
         rest = after(rest, dot + 1);
     }
@@ -73,7 +78,6 @@ fn first_fault(text: &[u8]) -> Option<NameFault>
 
 /// Adds a label and its length, where there is room.
 fn push_label(octets: &mut ArrayVec<u8, 255>, label: &[u8]) -> bool
-    requires { length label.now ≤ 63 }
     ensures pushed { result ≡ true → octets.new.items ≡ octets.old.items ++ length label.now ∷ label.now }
     ensures full { result ≡ false → 255 < length octets.old.items + 1 + length label.now }
 {
@@ -86,7 +90,6 @@ fn push_label(octets: &mut ArrayVec<u8, 255>, label: &[u8]) -> bool
 
 /// The name on the wire whose labels the dots of a text part, where it fits 255 octets.
 fn wire_of(text: &[u8]) -> Option<ArrayVec<u8, 255>>
-    requires { first_fault (slice_split (λ b. b == 46) text.now) ≡ None }
     ensures { option_map (λ v. v.items) result ≡ short_wire (slice_split (λ b. b == 46) text.now) }
 {
     let mut octets = ArrayVec::new();

@@ -1,0 +1,193 @@
+#!/usr/bin/env python3
+"""Writes a topology and a good map of it, for benchmarks.
+
+    generate.py GROUPS POOLS LEVELS PERCENT TOPOLOGY MAP
+
+GROUPS groups each rank sixteen of POOLS pools. With LEVELS 1 every pool is a
+root; with more, each node of a level has two children on the level below, and
+the pools are the lowest level. The pools together hold PERCENT of the demand.
+The map is computed here by deferred acceptance with a heap for each node, apart
+from glb's own code, so that `glb check` has something to judge. The same
+arguments give the same files.
+"""
+
+import heapq
+import random
+import sys
+
+LIST = 16
+ZONE = """[zone]
+apex = "cdn.example"
+mname = "ns1.ops.example"
+rname = "admin.ops.example"
+serial = 1
+refresh = 3600
+retry = 600
+expire = 86400
+minimum = 60
+ttl = 20
+ns = ["ns1.ops.example", "ns2.ops.example"]
+services = ["www"]
+"""
+
+
+def make_nodes(pools, levels):
+    """The parent of each node, roots first, and the number of the first pool."""
+    sizes = [max(1, pools >> up) for up in reversed(range(levels))]
+    parents, first, above = [], 0, 0
+    for level, size in enumerate(sizes):
+        first = len(parents)
+        for i in range(size):
+            parents.append(None if level == 0 else above + i * sizes[level - 1] // size)
+        above = first
+    return parents, first
+
+
+def prefixes_of(group, count):
+    """The prefixes of a group: both defaults for the first, and /32s for the rest."""
+    if group == 0:
+        return ["0.0.0.0/0", "::/0"]
+    first = group * count
+    return [
+        "%d.%d.%d.%d/32" % (100 + (n >> 24), n >> 16 & 255, n >> 8 & 255, n & 255)
+        for n in range(first, first + count)
+    ]
+
+
+class World:
+    def __init__(self, groups, pools, levels, percent):
+        draw = random.Random(20151)
+        self.parents, self.first_pool = make_nodes(pools, levels)
+        nodes = len(self.parents)
+        self.paths = []
+        for node in range(nodes):
+            path = [node]
+            while self.parents[path[-1]] is not None:
+                path.append(self.parents[path[-1]])
+            self.paths.append(path)
+        self.demand = [draw.randint(50, 150) for _ in range(groups)]
+        each = sum(self.demand) * percent // 100 // pools
+        self.capacity = [0] * nodes
+        for node in reversed(range(nodes)):
+            if node >= self.first_pool:
+                self.capacity[node] = draw.randint(each // 2, each + each // 2)
+            else:
+                self.capacity[node] = self.capacity[node] * 95 // 100
+            parent = self.parents[node]
+            if parent is not None:
+                self.capacity[parent] += self.capacity[node]
+        self.lists = [
+            [self.first_pool + p for p in draw.sample(range(pools), min(LIST, pools))]
+            for _ in range(groups)
+        ]
+        self.scores = [[draw.randrange(1 << 32) for _ in l] for l in self.lists]
+
+    def accept(self):
+        """Deferred acceptance: amounts by (group, place), and loads."""
+        nodes = len(self.parents)
+        self.load = [0] * nodes
+        self.amount = [[0] * len(l) for l in self.lists]
+        # the worst held offer of each node first: keys are negated
+        self.heaps = [[] for _ in range(nodes)]
+        pointer = [0] * len(self.lists)
+        free = list(self.demand)
+        work = list(range(len(self.lists)))
+        proposals = 0
+        while work:
+            g = work.pop()
+            k = pointer[g]
+            if free[g] == 0 or k == len(self.lists[g]):
+                continue
+            proposals += 1
+            units, free[g] = free[g], 0
+            pool = self.lists[g][k]
+            if self.amount[g][k] == 0:
+                seat = (-self.scores[g][k], -g, -pool, k)
+                for n in self.paths[pool]:
+                    heapq.heappush(self.heaps[n], seat)
+            self.amount[g][k] += units
+            for n in self.paths[pool]:
+                self.load[n] += units
+            for n in self.paths[pool]:
+                while self.load[n] > self.capacity[n]:
+                    heap = self.heaps[n]
+                    _, other, _, place = heap[0]
+                    other = -other
+                    if self.amount[other][place] == 0:
+                        heapq.heappop(heap)
+                        continue
+                    gone = min(self.load[n] - self.capacity[n], self.amount[other][place])
+                    self.amount[other][place] -= gone
+                    for above in self.paths[self.lists[other][place]]:
+                        self.load[above] -= gone
+                    free[other] += gone
+                    if pointer[other] == place:
+                        pointer[other] += 1
+                    work.append(other)
+            if free[g] > 0:
+                work.append(g)
+        return proposals
+
+    def worst_key(self, n):
+        heap = self.heaps[n]
+        while heap and self.amount[-heap[0][1]][heap[0][3]] == 0:
+            heapq.heappop(heap)
+        if not heap:
+            return None
+        score, group, pool, _ = heap[0]
+        return (-score, -group, -pool)
+
+    def write_topology(self, path):
+        count = min(4, 262144 // max(1, len(self.lists)))
+        with open(path, "w") as out:
+            out.write(ZONE)
+            for n, parent in enumerate(self.parents):
+                out.write('[[node]]\nname = "n%d"\ncapacity = %d\n' % (n, self.capacity[n]))
+                if parent is not None:
+                    out.write('parent = "n%d"\n' % parent)
+                if n >= self.first_pool:
+                    out.write('pool = true\na = ["192.0.2.%d"]\n' % (n % 256))
+            for g, pools in enumerate(self.lists):
+                out.write('[[group]]\nname = "g%d"\ndemand = %d\n' % (g, self.demand[g]))
+                out.write("pools = [%s]\n" % ", ".join('"n%d"' % p for p in pools))
+                out.write("scores = [%s]\n" % ", ".join(str(s) for s in self.scores[g]))
+                prefixes = ", ".join('"%s"' % p for p in prefixes_of(g, count))
+                out.write("prefixes = [%s]\n" % prefixes)
+
+    def write_map(self, path):
+        full = [self.load[n] == self.capacity[n] for n in range(len(self.parents))]
+        worst = [self.worst_key(n) for n in range(len(self.parents))]
+        with open(path, "w") as out:
+            out.write("glb map 1\n")
+            for g, amounts in enumerate(self.amount):
+                for k, amount in enumerate(amounts):
+                    if amount:
+                        out.write("place g%d n%d %d\n" % (g, self.lists[g][k], amount))
+            for g, amounts in enumerate(self.amount):
+                placed = 0
+                for k, amount in enumerate(amounts):
+                    placed += amount
+                    if placed >= self.demand[g]:
+                        break
+                    pool = self.lists[g][k]
+                    key = (self.scores[g][k], g, pool)
+                    for n in self.paths[pool]:
+                        if full[n] and (worst[n] is None or worst[n] <= key):
+                            out.write("full g%d n%d n%d\n" % (g, pool, n))
+                            break
+                    else:
+                        sys.exit("no node refuses group %d at place %d" % (g, k))
+            out.write("end\n")
+
+
+def main():
+    groups, pools, levels, percent = map(int, sys.argv[1:5])
+    world = World(groups, pools, levels, percent)
+    proposals = world.accept()
+    world.write_topology(sys.argv[5])
+    world.write_map(sys.argv[6])
+    unplaced = sum(world.demand) - sum(map(sum, world.amount))
+    print("%d proposals, %d units unplaced" % (proposals, unplaced))
+
+
+main()

@@ -1,0 +1,2 @@
+-- Reading gives back what was written.
+use Rattle.std.proofs.Common.{◌≡◌, ℕ}

@@ -1,0 +1,113 @@
+use Rattle.std.proofs.Common.{◌≡◌, ℕ, List, [], ◌∷◌, Bool, true, false, None, Some, refl}
+use Rattle.map_model.specs.declared.instance.Choice.{Choice}
+use Rattle.map_model.specs.declared.instance.Node.{Node}
+use Rattle.map_model.specs.declared.lines.MapLine.{MapLine}
+use Rattle.map_model.specs.declared.lines.NameLine.{NameLine}
+use Rattle.map_model.specs.Market.{Market, climb, demand_of}
+use Rattle.map_model.specs.Allocation.{IsGood, is_wanted, load, placed, refuser_of}
+use Rattle.map_model.proofs.Decide.{IsGood-computed}
+
+-- Worked rows: each map that they name is good, as the definitions compute it. Groups, nodes and places by number.
+abbrev choice : ℕ → ℕ → Choice
+choice pool score = record { pool = record { 0 = pool }; score = score }
+
+abbrev root : ℕ → Node
+root capacity = record { capacity = capacity; parent = None; is_pool = false }
+
+abbrev lone_pool : ℕ → Node
+lone_pool capacity = record { capacity = capacity; parent = None; is_pool = true }
+
+abbrev pool_under : ℕ → ℕ → Node
+pool_under parent capacity = record { capacity = capacity; parent = Some (record { 0 = parent }); is_pool = true }
+
+abbrev line : ℕ → ℕ → ℕ → MapLine
+line g k amount = record { group = record { 0 = g }; place = k; amount = amount }
+
+abbrev name : ℕ → ℕ → ℕ → NameLine
+name g k n = record { group = record { 0 = g }; place = k; node = record { 0 = n } }
+
+-- two-level eviction: R 15; A 10 and B 10 under R; g1 8 [A,B] 1,2; g2 8 [A,B] 3,4
+abbrev two_level : Market
+two_level = record {
+  groups = record { demand = 8; choices = choice 1 1 ∷ choice 2 2 ∷ [] } ∷ record { demand = 8; choices = choice 1 3 ∷ choice 2 4 ∷ [] } ∷ [];
+  nodes = root 15 ∷ pool_under 0 10 ∷ pool_under 0 10 ∷ [];
+}
+
+two_level-good : IsGood two_level (line 0 0 8 ∷ line 1 0 2 ∷ line 1 1 5 ∷ []) (name 1 0 1 ∷ name 1 1 0 ∷ [])
+unfolding climb
+two_level-good = IsGood-computed two_level (line 0 0 8 ∷ line 1 0 2 ∷ line 1 1 5 ∷ []) (name 1 0 1 ∷ name 1 1 0 ∷ []) refl refl
+
+-- blocking offer: with 4 units of g2 at B the root holds 14, B is wanted, and no node refuses it
+blocking-load : load two_level (line 0 0 8 ∷ line 1 0 2 ∷ line 1 1 4 ∷ []) 0 ≡ 14
+unfolding climb
+blocking-load = refl
+
+blocking-wanted : is_wanted two_level (line 0 0 8 ∷ line 1 0 2 ∷ line 1 1 4 ∷ []) 1 1 ≡ true
+blocking-wanted = refl
+
+blocking-refuser : refuser_of two_level (line 0 0 8 ∷ line 1 0 2 ∷ line 1 1 4 ∷ []) 1 1 ≡ None
+unfolding climb
+blocking-refuser = refl
+
+-- over demand first: 9 units of g1 at A, which is then over its capacity too
+over_demand-placed : placed (line 0 0 9 ∷ line 1 0 2 ∷ line 1 1 5 ∷ []) 0 ≡ 9
+over_demand-placed = refl
+
+over_demand-load : load two_level (line 0 0 9 ∷ line 1 0 2 ∷ line 1 1 5 ∷ []) 1 ≡ 11
+unfolding climb
+over_demand-load = refl
+
+-- refuser no longer full: R 10; A 6 and B 10 under R; a 6 [A] 5; b 4 [A] 6; c 8 [B] 1
+abbrev no_longer_full : Market
+no_longer_full = record {
+  groups = record { demand = 6; choices = choice 1 5 ∷ [] } ∷ record { demand = 4; choices = choice 1 6 ∷ [] } ∷ record { demand = 8; choices = choice 2 1 ∷ [] } ∷ [];
+  nodes = root 10 ∷ pool_under 0 6 ∷ pool_under 0 10 ∷ [];
+}
+
+no_longer_full-good : IsGood no_longer_full (line 0 0 2 ∷ line 2 0 8 ∷ []) (name 0 0 0 ∷ name 1 0 0 ∷ [])
+unfolding climb
+no_longer_full-good = IsGood-computed no_longer_full (line 0 0 2 ∷ line 2 0 8 ∷ []) (name 0 0 0 ∷ name 1 0 0 ∷ []) refl refl
+
+-- lowered pool frees its region: R 10; A and B 10 under R, A lowered to 3; a 8 [A] 1; b 8 [B] 2
+abbrev region : ℕ → Market
+region capacity = record {
+  groups = record { demand = 8; choices = choice 1 1 ∷ [] } ∷ record { demand = 8; choices = choice 2 2 ∷ [] } ∷ [];
+  nodes = root 10 ∷ pool_under 0 capacity ∷ pool_under 0 10 ∷ [];
+}
+
+region-good : IsGood (region 10) (line 0 0 8 ∷ line 1 0 2 ∷ []) (name 1 0 0 ∷ [])
+unfolding climb
+region-good = IsGood-computed (region 10) (line 0 0 8 ∷ line 1 0 2 ∷ []) (name 1 0 0 ∷ []) refl refl
+
+lowered_region-good : IsGood (region 3) (line 0 0 3 ∷ line 1 0 7 ∷ []) (name 0 0 1 ∷ name 1 0 0 ∷ [])
+unfolding climb
+lowered_region-good = IsGood-computed (region 3) (line 0 0 3 ∷ line 1 0 7 ∷ []) (name 0 0 1 ∷ name 1 0 0 ∷ []) refl refl
+
+-- two good maps: roots P 1, Q 1, Z 5; a 1 [P,Q] 2,1; b 1 [Q,P] 2,1; c [Z] 1, of demand 1 and then 2
+abbrev crossed : ℕ → Market
+crossed demand = record {
+  groups = record { demand = 1; choices = choice 0 2 ∷ choice 1 1 ∷ [] } ∷ record { demand = 1; choices = choice 1 2 ∷ choice 0 1 ∷ [] } ∷ record { demand = demand; choices = choice 2 1 ∷ [] } ∷ [];
+  nodes = lone_pool 1 ∷ lone_pool 1 ∷ lone_pool 5 ∷ [];
+}
+
+crossed-good : IsGood (crossed 1) (line 0 1 1 ∷ line 1 1 1 ∷ line 2 0 1 ∷ []) (name 0 0 0 ∷ name 1 0 1 ∷ [])
+unfolding climb
+crossed-good = IsGood-computed (crossed 1) (line 0 1 1 ∷ line 1 1 1 ∷ line 2 0 1 ∷ []) (name 0 0 0 ∷ name 1 0 1 ∷ []) refl refl
+
+-- the repaired map
+repaired-good : IsGood (crossed 2) (line 0 1 1 ∷ line 1 1 1 ∷ line 2 0 2 ∷ []) (name 0 0 0 ∷ name 1 0 1 ∷ [])
+unfolding climb
+repaired-good = IsGood-computed (crossed 2) (line 0 1 1 ∷ line 1 1 1 ∷ line 2 0 2 ∷ []) (name 0 0 0 ∷ name 1 0 1 ∷ []) refl refl
+
+-- the map from scratch
+scratch-good : IsGood (crossed 2) (line 0 0 1 ∷ line 1 0 1 ∷ line 2 0 2 ∷ []) []
+unfolding climb
+scratch-good = IsGood-computed (crossed 2) (line 0 0 1 ∷ line 1 0 1 ∷ line 2 0 2 ∷ []) [] refl refl
+
+-- empty pool: root A 0; g 1 [A] 1
+abbrev empty_pool : Market
+empty_pool = record { groups = record { demand = 1; choices = choice 0 1 ∷ [] } ∷ []; nodes = lone_pool 0 ∷ [] }
+
+empty_pool-good : IsGood empty_pool [] (name 0 0 0 ∷ [])
+unfolding climb
+empty_pool-good = IsGood-computed empty_pool [] (name 0 0 0 ∷ []) refl refl

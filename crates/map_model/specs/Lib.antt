@@ -1,0 +1,5 @@
+pub mod Market
+pub mod Allocation
+pub mod Progress
+pub mod Batch
+pub mod Rows

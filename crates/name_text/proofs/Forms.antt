@@ -1,0 +1,142 @@
+-- Octets that are the spelling of labels.
+use Rattle.std.proofs.Common.{◌≡◌, ℕ, ◌+◌, ◌-◌, ◌<◌, ◌≤◌, Bool, true, false, cond, ◌||◌, ◌&&◌, not, nat_le, nat_lt, nat_eq, ◌==◌, List, [], ◌∷◌, ◌++◌, length, take, Option, None, Some, Ok, Err, refl, ap, sym, ◌∙◌, subst, arith, length-append, append_assoc}
+use Rattle.std.proofs.lemmas.Bool.Decides.{nat_tests}
+use Rattle.std.proofs.lemmas.List.{take-append-le}
+use Rattle.std.specs.List.{list_all, onto_first, slice_split}
+use Rattle.std.specs.Option.{ok_or, option_or}
+use Rattle.name_text.specs.declared.fault.NameFault.{NameFault}
+use Rattle.name_text.specs.declared.fault.NameFault.TheVariants.{EmptyLabel, BadByte, LongLabel, LongName}
+use Rattle.name_text.specs.Wire.{wire, AreLabels, IsName}
+use Rattle.name_text.specs.Names.{first_fault, is_label_byte, joined_to, label_fault, label_name_of, labels_part, named, short_wire}
+
+-- what the three tests of a label say where it has no fault
+passes : (empty good long : Bool) → (cond empty (Some EmptyLabel) (cond (not good) (Some BadByte) (cond long (Some LongLabel) None))) ≡ None → (empty ≡ false) × (good ≡ true) × (long ≡ false)
+passes true good long h = cc
+passes false false long h = cc
+passes false true true h = cc
+passes false true false h = (refl, refl, refl)
+
+pub record IsSound (label : List ℕ) : Type 0 where
+  pub some : 0 < length label
+  pub good : list_all is_label_byte label ≡ true
+  pub few : length label < 64
+
+pub sound_label : (label : List ℕ) → label_fault label ≡ None → IsSound label
+sound_label label none =
+    let (some, good, few) = passes (length label == 0) (list_all is_label_byte label) (nat_lt 63 (length label)) none in record {
+      some = grind (arith, nat_tests);
+      good = good;
+      few = grind (arith, nat_tests);
+    }
+
+both_none : (a b : Option NameFault) → option_or a b ≡ None → (a ≡ None) × (b ≡ None)
+both_none None b h = (refl, h)
+both_none (Some fault) b h = cc
+
+-- labels with no fault have the sizes of labels
+pub are_labels : (labels : List (List ℕ)) → first_fault labels ≡ None → AreLabels labels
+are_labels [] none = tt
+are_labels (label ∷ labels) none =
+    let (here, later) = both_none (label_fault label) (first_fault labels) none in
+    let sound = sound_label label here in (sound.some, sound.few, are_labels labels later)
+
+short_is : (b : Bool) (octets all : List ℕ) → nat_le (length all) 255 ≡ b → Some octets ≡ cond b (Some all) None → (octets ≡ all) × (length all ≤ 255)
+short_is true octets all test is = (cc, grind (arith, nat_tests))
+short_is false octets all test is = cc
+
+-- what was spelled of labels with no fault is a name
+pub is_name : (labels : List (List ℕ)) (octets : List ℕ) → first_fault labels ≡ None → Some octets ≡ short_wire labels → IsName octets
+is_name labels octets none is =
+    let (spelled, short) = short_is (nat_le (length (wire labels)) 255) octets (wire labels) refl is in record {
+      labels = labels;
+      sizes = are_labels labels none;
+      spelled = spelled;
+      fits = omega (arith, ap length spelled);
+    }
+
+pub label_alone : (label : List ℕ) → label_fault label ≡ None → first_fault (label ∷ []) ≡ None
+label_alone label none = ap (λ (o : Option NameFault). option_or o None) none
+
+-- no dot is an octet of a label
+is_dot : (b : ℕ) → (b == 46) ≡ true → b ≡ 46
+is_dot b hit = grind (arith, nat_tests)
+
+dot_is_bad : (b : ℕ) → is_label_byte b ≡ true → b ≡ 46 → ⊥
+dot_is_bad b good is = let bad : is_label_byte 46 ≡ true = subst (λ (n : ℕ). is_label_byte n ≡ true) is good in cc
+
+not_true : (t : Bool) → (t ≡ true → ⊥) → t ≡ false
+not_true false never = refl
+not_true true never = absurd (never refl)
+
+no_dot : (b : ℕ) → is_label_byte b ≡ true → (b == 46) ≡ false
+no_dot b good = not_true (b == 46) (λ hit. dot_is_bad b good (is_dot b hit))
+
+both_true : (a b : Bool) → (a && b) ≡ true → (a ≡ true) × (b ≡ true)
+both_true true b h = (refl, h)
+both_true false b h = cc
+
+-- so the dots part a label's text into itself alone
+pub alone : (label : List ℕ) → list_all is_label_byte label ≡ true → slice_split (λ b. b == 46) label ≡ label ∷ []
+alone [] good = refl
+alone (b ∷ bs) good =
+    let (first, others) = both_true (is_label_byte b) (list_all is_label_byte bs) good in
+    ap (λ (t : Bool). cond t ([] ∷ slice_split (λ b. b == 46) bs) (onto_first b (slice_split (λ b. b == 46) bs))) (no_dot b first) ∙ ap (onto_first b) (alone bs others)
+
+-- the labels' octets, without the 0 at the end
+spelled : List (List ℕ) → List ℕ
+spelled [] = []
+spelled (label ∷ labels) = length label ∷ (label ++ spelled labels)
+
+wire-spelled : (labels : List (List ℕ)) → wire labels ≡ spelled labels ++ 0 ∷ []
+unfolding spelled
+wire-spelled [] = refl
+wire-spelled (label ∷ labels) = ap (λ (l : List ℕ). length label ∷ (label ++ l)) (wire-spelled labels) ∙ ap (λ (l : List ℕ). length label ∷ l) (sym (append_assoc label (spelled labels) (0 ∷ [])))
+
+wire-append : (labels more : List (List ℕ)) → wire (labels ++ more) ≡ spelled labels ++ wire more
+unfolding spelled
+wire-append [] more = refl
+wire-append (label ∷ labels) more = ap (λ (l : List ℕ). length label ∷ (label ++ l)) (wire-append labels more) ∙ ap (λ (l : List ℕ). length label ∷ l) (sym (append_assoc label (spelled labels) (wire more)))
+
+labels-append : (labels more : List (List ℕ)) → AreLabels labels → AreLabels more → AreLabels (labels ++ more)
+labels-append [] more some others = others
+labels-append (label ∷ labels) more some others = (some.0, some.1, labels-append labels more some.2 others)
+
+front_of : (xs : List ℕ) (b : ℕ) → labels_part (xs ++ b ∷ []) ≡ xs
+front_of [] b = refl
+front_of (x ∷ xs) b =
+    let size : length (x ∷ xs ++ b ∷ []) - 1 ≡ length (x ∷ xs) = omega (arith, length-append (x ∷ xs) (b ∷ [])) in
+    ap (λ (n : ℕ). take n (x ∷ xs ++ b ∷ [])) size ∙ ap (λ (l : List ℕ). x ∷ l) (front (xs) (b ∷ []))
+  where
+    front : (ys zs : List ℕ) → take (length ys) (ys ++ zs) ≡ ys
+    front [] zs = refl
+    front (y ∷ ys) zs = ap (λ (l : List ℕ). y ∷ l) (front ys zs)
+
+-- a name has an octet
+pub some_octet : (octets : List ℕ) → IsName octets → 0 < length octets
+some_octet octets name = let e = ap length (name.spelled ∙ wire-spelled name.labels) in omega (arith, e, length-append (spelled name.labels) (0 ∷ []))
+
+-- labels of a name in front of another name
+pub is_joined : (name apex octets : List ℕ) → IsName name → IsName apex → Some octets ≡ joined_to apex name → IsName octets
+unfolding joined_to
+is_joined name apex octets first second is =
+    let (whole, short) = short_is (nat_le (length (labels_part name ++ apex)) 255) octets (labels_part name ++ apex) refl is in
+    let front : labels_part name ≡ spelled first.labels = ap labels_part (first.spelled ∙ wire-spelled first.labels) ∙ front_of (spelled first.labels) 0 in record {
+      labels = first.labels ++ second.labels;
+      sizes = labels-append first.labels second.labels first.sizes second.sizes;
+      spelled = whole ∙ ap (λ (l : List ℕ). l ++ apex) front ∙ ap (λ (l : List ℕ). spelled first.labels ++ l) second.spelled ∙ sym (wire-append first.labels second.labels);
+      fits = omega (arith, ap length whole);
+    }
+
+same_parts : (text : List ℕ) → label_fault text ≡ None → short_wire (slice_split (λ b. b == 46) text) ≡ short_wire (text ∷ [])
+same_parts text none = ap short_wire (alone text (sound_label text none).good)
+
+-- what is read of one label
+pub label_reads : (text octets : List ℕ) → label_fault text ≡ None → Some octets ≡ short_wire (slice_split (λ b. b == 46) text) → Ok octets ≡ label_name_of text
+unfolding label_name_of
+label_reads text octets none is =
+    sym (ap (λ (o : Option NameFault). named o (text ∷ [])) none ∙ ap (λ (o : Option (List ℕ)). ok_or o LongName) (sym (same_parts text none) ∙ sym is))
+
+pub label_refused : (text : List ℕ) → label_fault text ≡ None → None ≡ short_wire (slice_split (λ b. b == 46) text) → Err LongName ≡ label_name_of text
+unfolding label_name_of
+label_refused text none is =
+    sym (ap (λ (o : Option NameFault). named o (text ∷ [])) none ∙ ap (λ (o : Option (List ℕ)). ok_or o LongName) (sym (same_parts text none) ∙ sym is))

@@ -1,0 +1,45 @@
+#!/usr/bin/env bash
+# Runs the real program on the example files, and compares what it writes and its status.
+set -uo pipefail
+here=$(cd "$(dirname "$0")" && pwd)
+cd "$here"
+(cd ../crates/glb_program && rt run -- check ../../examples/flat.toml ../../examples/flat.map) >/dev/null 2>&1
+glb=../crates/glb_program/out/glb_program
+passed=0
+failed=0
+
+# expect STATUS TEXT WORD..: what `glb WORD..` is to answer
+expect() {
+    local status=$1 text=$2 written answered
+    shift 2
+    written=$("$glb" "$@")
+    answered=$?
+    if [ "$answered" = "$status" ] && [ "$written" = "$text" ]; then
+        passed=$((passed + 1))
+    else
+        failed=$((failed + 1))
+        echo "glb $*: status $answered, '$written'; wanted $status, '$text'"
+    fi
+}
+
+usage='usage: glb check, answer, map, repair, serve or large'
+expect 0 'good' check flat.toml flat.map
+expect 0 'good' check tree.toml tree.map
+expect 1 "$usage"
+expect 1 "$usage" check flat.toml
+expect 1 "$usage" check --quick flat.map
+expect 1 "$usage" guess flat.toml flat.map
+expect 1 "$usage" check $'\xff' flat.map
+expect 2 'refused topology 2 missing key at zone ttl' check refused.toml flat.map
+expect 2 'refused topology 1 not toml' check flat.map flat.map
+expect 2 'refused map bad line at line 1' check flat.toml flat.toml
+expect 2 'refused map unknown name at line 2' check tree.toml flat.map
+expect 3 '' check nowhere.toml flat.map
+expect 3 '' check flat.toml nowhere.map
+expect 7 'blocking gamma zurich' check flat.toml flat-bad.map
+expect 7 'blocking g2 B' check tree.toml tree-bad.map
+# a full device in the place of the output
+"$glb" check flat.toml flat.map >/dev/full
+if [ $? = 4 ]; then passed=$((passed + 1)); else failed=$((failed + 1)) && echo 'a full device: wanted 4'; fi
+echo "$passed passed, $failed failed"
+[ "$failed" = 0 ]
