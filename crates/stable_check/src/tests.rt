@@ -103,6 +103,10 @@ fn blocking(group: u32, place: u8) -> Verdict {
     }
 }
 
+const TWO_LEVEL_LINES: &[(u32, u8, u32)] = &[(0, 0, 8), (1, 0, 2), (1, 1, 5)];
+
+const TWO_LEVEL_NAMES: &[(u32, u8, u32)] = &[(1, 0, 1), (1, 1, 0)];
+
 // R 15; A 10 and B 10 under R; g1 8 [A,B] 1,2; g2 8 [A,B] 3,4.
 fn two_level(alloc: Global) -> Result<Instance, Fail> {
     let nodes = [root(15), pool(10, Some(0)), pool(10, Some(0))];
@@ -116,38 +120,36 @@ fn two_level(alloc: Global) -> Result<Instance, Fail> {
 #[test]
 fn judges_two_level_eviction(rt: HostRuntime) -> Result<(), Fail> {
     let alloc = rt.alloc();
-    let names = [(1, 0, 1), (1, 1, 0)];
-    let good = [(0, 0, 8), (1, 0, 2), (1, 1, 5)];
     let rows = [
         Row {
-            lines: &good,
-            names: &names,
+            lines: TWO_LEVEL_LINES,
+            names: TWO_LEVEL_NAMES,
             verdict: Verdict::Good,
         },
         // An offer that is held in part is wanted, and no node refuses it.
         Row {
             lines: &[(0, 0, 8), (1, 0, 2), (1, 1, 4)],
-            names: &names,
+            names: TWO_LEVEL_NAMES,
             verdict: blocking(1, 1),
         },
         Row {
             lines: &[(0, 0, 9), (1, 0, 2), (1, 1, 5)],
-            names: &names,
+            names: TWO_LEVEL_NAMES,
             verdict: over_demand(0, 9),
         },
         Row {
             lines: &[(0, 0, 8), (1, 0, 2), (1, 1, 7)],
-            names: &names,
+            names: TWO_LEVEL_NAMES,
             verdict: over_demand(1, 9),
         },
         Row {
             lines: &[(0, 0, 8), (1, 0, 3), (1, 1, 4)],
-            names: &names,
+            names: TWO_LEVEL_NAMES,
             verdict: over_capacity(1, 11),
         },
         Row {
             lines: &[(0, 0, 8), (1, 0, 8)],
-            names: &names,
+            names: TWO_LEVEL_NAMES,
             verdict: over_capacity(0, 16),
         },
         Row {
@@ -161,28 +163,28 @@ fn judges_two_level_eviction(rt: HostRuntime) -> Result<(), Fail> {
             verdict: blocking(1, 0),
         },
         Row {
-            lines: &good,
+            lines: TWO_LEVEL_LINES,
             names: &[(1, 0, 0), (1, 1, 0)],
             verdict: Verdict::BadName { index: 0 },
         },
         Row {
-            lines: &good,
+            lines: TWO_LEVEL_LINES,
             names: &[(1, 0, 1)],
             verdict: Verdict::BadName { index: 1 },
         },
         Row {
-            lines: &good,
+            lines: TWO_LEVEL_LINES,
             names: &[(1, 1, 0), (1, 0, 1)],
             verdict: Verdict::BadName { index: 0 },
         },
         Row {
-            lines: &good,
+            lines: TWO_LEVEL_LINES,
             names: &[(1, 0, 1), (1, 1, 0), (1, 1, 0)],
             verdict: Verdict::BadName { index: 2 },
         },
         Row {
-            lines: &good,
-            names: &names,
+            lines: TWO_LEVEL_LINES,
+            names: TWO_LEVEL_NAMES,
             verdict: Verdict::Good,
         },
     ];
@@ -294,6 +296,10 @@ fn judges_a_lowered_pool(rt: HostRuntime) -> Result<(), Fail> {
     judge_rows(&rt, alloc, &instance, &rows)
 }
 
+const CROSSED_LINES: &[(u32, u8, u32)] = &[(0, 1, 1), (1, 1, 1), (2, 0, 1)];
+
+const CROSSED_NAMES: &[(u32, u8, u32)] = &[(0, 0, 0), (1, 0, 1)];
+
 // Roots P 1, Q 1, Z 5; a 1 [P,Q] 2,1; b 1 [Q,P] 2,1; c [Z] 1, of demand 1 and then 2.
 #[test]
 fn judges_two_good_maps(rt: HostRuntime) -> Result<(), Fail> {
@@ -305,15 +311,13 @@ fn judges_two_good_maps(rt: HostRuntime) -> Result<(), Fail> {
         (1, &[(2, 1)]),
     ];
     let mut instance = instance_of(alloc, &nodes, &groups)?;
-    let names = [(0, 0, 0), (1, 0, 1)];
-    let was = [(0, 1, 1), (1, 1, 1), (2, 0, 1)];
     judge_rows(
         &rt,
         alloc,
         &instance,
         &[Row {
-            lines: &was,
-            names: &names,
+            lines: CROSSED_LINES,
+            names: CROSSED_NAMES,
             verdict: Verdict::Good,
         }],
     )?;
@@ -321,13 +325,13 @@ fn judges_two_good_maps(rt: HostRuntime) -> Result<(), Fail> {
     instance.set_demand(GroupId(2), 2);
     let rows = [
         Row {
-            lines: &was,
-            names: &names,
+            lines: CROSSED_LINES,
+            names: CROSSED_NAMES,
             verdict: blocking(2, 0),
         },
         Row {
             lines: &[(0, 1, 1), (1, 1, 1), (2, 0, 2)],
-            names: &names,
+            names: CROSSED_NAMES,
             verdict: Verdict::Good,
         },
         Row {
