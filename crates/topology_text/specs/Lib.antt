@@ -10,3 +10,4 @@ pub mod Plan
 pub mod Kept
 pub mod Topology
 pub mod Faults
+pub mod FaultTexts

@@ -1,8 +1,11 @@
 //! The faults of a topology.
-ghost use Rattle.std.specs.Prelude.{◌≡◌};
+ghost use Rattle.std.specs.Prelude.{◌≡◌, Some};
+ghost use Rattle.topology_text.specs.FaultTexts.{fault_text};
 
 use crate::schema::Place;
 use std::alloc::AllocError;
+use std::error::Error;
+use std::fmt;
 
 /// The first fault of a topology, or want of memory.
 ///
@@ -56,3 +59,32 @@ impl From<AllocError> for TopologyFault {
         TopologyFault::NoMemory
     }
 }
+
+impl fmt::Display for TopologyFault {
+    ghost output = { λ fault. Some (fault_text fault) };
+
+    fn fmt<W: fmt::Write>(&self, f: &mut fmt::Formatter<W>) -> fmt::Result {
+        match self {
+            TopologyFault::NotToml => f.write_str("1 not toml"),
+            TopologyFault::MissingKey(place) => write!(f, "2 missing key at {place}"),
+            TopologyFault::WrongKind(place) => write!(f, "3 wrong kind at {place}"),
+            TopologyFault::UnknownKey(place) => write!(f, "4 unknown key at {place}"),
+            TopologyFault::BadName(place) => write!(f, "5 bad name at {place}"),
+            TopologyFault::DuplicateName(place) => write!(f, "6 duplicate name at {place}"),
+            TopologyFault::UnknownName(place) => write!(f, "7 unknown name at {place}"),
+            TopologyFault::ParentOrder(place) => write!(f, "8 parent order at {place}"),
+            TopologyFault::TooDeep(place) => write!(f, "9 too deep at {place}"),
+            TopologyFault::Range(place) => write!(f, "10 out of range at {place}"),
+            TopologyFault::BadAddress(place) => write!(f, "11 bad address at {place}"),
+            TopologyFault::BadPrefix(place) => write!(f, "12 bad prefix at {place}"),
+            TopologyFault::DuplicatePrefix(place) => write!(f, "13 duplicate prefix at {place}"),
+            TopologyFault::NoDefault(place) => write!(f, "14 no default at {place}"),
+            TopologyFault::ListShape(place) => write!(f, "15 list shape at {place}"),
+            TopologyFault::NsInside(place) => write!(f, "16 ns inside at {place}"),
+            TopologyFault::TooMany(place) => write!(f, "17 too many at {place}"),
+            TopologyFault::NoMemory => f.write_str("out of memory"),
+        }
+    }
+}
+
+impl Error for TopologyFault {}

@@ -1,5 +1,8 @@
-ghost use Rattle.std.specs.Prelude.{◌≡◌};
+ghost use Rattle.std.specs.Prelude.{◌≡◌, Some};
+ghost use Rattle.topology_text.specs.FaultTexts.{at_part, key_part, place_text, spot_text};
 ghost use Rattle.topology_text.specs.Schema.{key_text, kind_of, is_required, keys_of};
+
+use std::fmt;
 
 /// A key of one of the tables.
 #[derive(Clone, Copy, Debug, PartialEq, Eq)]
@@ -163,6 +166,37 @@ impl Spot {
                 Key::Prefixes,
             ],
             Spot::Family(_) => &[],
+        }
+    }
+}
+
+impl fmt::Display for Spot {
+    ghost output = { λ spot. Some (spot_text spot) };
+
+    fn fmt<W: fmt::Write>(&self, f: &mut fmt::Formatter<W>) -> fmt::Result {
+        match self {
+            Spot::Top => f.write_str("top"),
+            Spot::ZoneTable => f.write_str("zone"),
+            Spot::NodeTable(n) => write!(f, "node {n}"),
+            Spot::GroupTable(n) => write!(f, "group {n}"),
+            Spot::Family(n) => write!(f, "family {n}"),
+        }
+    }
+}
+
+impl fmt::Display for Place {
+    ghost output = { λ place. Some (place_text place) };
+
+    fn fmt<W: fmt::Write>(&self, f: &mut fmt::Formatter<W>) -> fmt::Result {
+        let spot = self.spot;
+        write!(f, "{spot}")?;
+        if let Some(key) = self.key {
+            let text = key.text();
+            write!(f, " {text}")?;
+        }
+        match self.at {
+            At::Whole => Ok(()),
+            At::Item(n) => write!(f, " {n}"),
         }
     }
 }
