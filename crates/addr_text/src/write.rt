@@ -24,6 +24,7 @@ fn digit_char(digit: u16) -> u8
 }
 
 /// Adds a number of 0 to 255, without leading zeros.
+#[tactic(auto, unfolding(crate::specs::Numbers::digits_in))]
 fn push_decimal(out: &mut ArrayVec<u8, 39>, number: u16)
     requires room { length out.old.items + 3 ≤ 39 }
     requires number { number < 256 }
@@ -43,6 +44,7 @@ fn push_decimal(out: &mut ArrayVec<u8, 39>, number: u16)
 }
 
 /// Adds a group, without leading zeros.
+#[tactic(auto, unfolding(crate::specs::Numbers::digits_in))]
 fn push_hex(out: &mut ArrayVec<u8, 39>, group: u16)
     requires { length out.old.items + 4 ≤ 39 }
     ensures text { out.new.items ≡ out.old.items ++ hex_text group }
@@ -134,7 +136,8 @@ fn push_groups(out: &mut ArrayVec<u8, 39>, groups: &[u16])
 
 /// The four numbers of an IPv4 address, the first the highest.
 fn numbers_of(n: u32) -> ArrayVec<u8, 4>
-    ensures { result.items ≡ digits_in 256 4 n }
+    ensures numbers { result.items ≡ digits_in 256 4 n }
+    ensures fits { n < 2 ^ 32 }
 {
     let mut numbers = ArrayVec::new();
     let mut rest = n;
@@ -147,7 +150,8 @@ fn numbers_of(n: u32) -> ArrayVec<u8, 4>
 
 /// The eight groups of an IPv6 address, the first the highest.
 fn groups_of(n: u128) -> ArrayVec<u16, 8>
-    ensures { result.items ≡ digits_in 65536 8 n }
+    ensures groups { result.items ≡ digits_in 65536 8 n }
+    ensures fits { n < 2 ^ 128 }
 {
     let mut groups = ArrayVec::new();
     let mut rest = n;

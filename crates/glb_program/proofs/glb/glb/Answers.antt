@@ -1,0 +1,6 @@
+use Rattle.std.proofs.Common.{rules}
+use Rattle.glb_program.proofs.Good.{good_run}
+use Rattle.glb_program.proofs.glb.glb.Goals as goal
+
+pub returns-in-Some-clause-good : goal.returns-in-Some-clause-good
+returns-in-Some-clause-good g c = good_run _ _ _ _ (search rules)

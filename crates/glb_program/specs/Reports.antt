@@ -1,0 +1,47 @@
+-- How a command ended, as an outcome.
+use Rattle.std.specs.Prelude.{◌≡◌, ℕ, ◌<◌, ◌≤◌, List, [], ◌∷◌, length, Option, Some, IsSomeAnd}
+use Rattle.map_model.specs.Allocation.{IsOffer}
+use Rattle.map_model.specs.declared.lines.MapLines.{MapLines}
+use Rattle.topology_text.specs.Plan.{Plan}
+use Rattle.map_text.specs.Reading.{Mapped}
+use Rattle.stable_check.specs.declared.verdict.Verdict.{Verdict}
+use Rattle.stable_check.specs.declared.verdict.Verdict.TheVariants.{Blocking, OverCapacity, OverDemand}
+use Rattle.glb_program.specs.declared.report.Report.{Report}
+use Rattle.glb_program.specs.declared.report.Ended.{Ended}
+use Rattle.glb_program.specs.declared.report.Ended.TheVariants as ended
+use Rattle.glb_program.specs.Outcome.{Outcome}
+use Rattle.glb_program.specs.Files.{refused}
+
+-- a report, as an outcome
+abbrev pub outcome_of : Report → Outcome
+outcome_of report = record { status = report.status; pieces = report.text.items ∷ [] }
+
+-- where a command ended with a report, it is of that kind
+abbrev pub EndsBy : (Outcome → Type 0) → Ended → Type 0
+EndsBy P (ended.Said report) = P (outcome_of report)
+EndsBy P ended.SourceFault = Unit {0}
+EndsBy P ended.NoMemory = Unit {0}
+
+-- the outcome that a command ended with
+abbrev pub IsReport : Ended → Outcome → Type 0
+IsReport (ended.Said report) due = due ≡ outcome_of report
+IsReport _ due = ⊥
+
+-- the file is longer than it may be, and is refused for that
+abbrev pub IsTooLong : Option (List ℕ) → ℕ → List ℕ → Outcome → Type 0
+IsTooLong held limit text due = IsSomeAnd held (λ bytes. limit < length bytes) × (due ≡ refused text)
+
+-- the bytes of the file, within the limit
+abbrev pub AreBytes : Option (List ℕ) → ℕ → List ℕ → Type 0
+AreBytes held limit bytes = (held ≡ Some bytes) × (length bytes ≤ limit)
+
+-- what a verdict names is there, and has a name
+abbrev pub IsNameable : Plan → Verdict → Type 0
+IsNameable t (OverDemand g units) = g.0 < length t.group_names
+IsNameable t (OverCapacity n units) = n.0 < length t.node_names
+IsNameable t (Blocking g k) = (g.0 < length t.group_names) × IsOffer t.market g.0 k
+IsNameable t _ = Unit {0}
+
+-- a map, as its text says it
+abbrev pub mapped : MapLines → Mapped
+mapped m = record { lines = m.lines.items; names = m.names.items }

@@ -1,0 +1,27 @@
+-- What the words of a command line ask for.
+use Rattle.std.specs.Prelude.{ℕ, Bool, false, not, ◌==◌, ◌&&◌, List, [], ◌∷◌, Option, None, Some, codes, if◌then◌else◌, map, String}
+use Rattle.std.specs.Str.{bytes_eq}
+use Rattle.std.specs.String.{string_bytes}
+use Rattle.std.specs.declared.alloc.Global.{Global}
+
+-- a command, with the names of its files
+pub data Ask : Type 0 where
+  check : List ℕ → List ℕ → Ask
+
+-- the words, as texts
+abbrev pub texts : List (String Global) → List (List ℕ)
+texts words = map string_bytes words
+
+-- a word that begins with `-`
+abbrev pub is_dashed : List ℕ → Bool
+is_dashed [] = false
+is_dashed (first ∷ rest) = first == 45
+
+-- a command with two files
+abbrev pub asked_of_two : List ℕ → List ℕ → List ℕ → Option Ask
+asked_of_two command a b = if bytes_eq command (codes "check") && not (is_dashed a) && not (is_dashed b) then Some (check a b) else None
+
+-- What the words ask for, if they are taken: the first is the program's name, the second a command, as many follow as the command has, and none of these begins with `-`.
+abbrev pub asked : List (List ℕ) → Option Ask
+asked (program ∷ command ∷ a ∷ b ∷ []) = asked_of_two command a b
+asked _ = None

@@ -1,0 +1,62 @@
+ghost use Rattle.std.specs.Prelude.{◌≡◌, ◌≢◌, ◌≤◌, IfSome};
+ghost use Rattle.outside.specs.Faults.{BothTell, Rose};
+ghost use Rattle.glb_program.specs.Outcome.{AreLoaded, AreLoadsOf, HasCauses, HasText};
+ghost use Rattle.glb_program.specs.Run.{IsDue, IsGoodRun, IsRun, loads_of, loads_of_ask};
+ghost use Rattle.glb_program.specs.Commands.{ask_of};
+ghost use Rattle.glb_program.specs.Reports.{EndsBy};
+ghost use Rattle.glb_program.specs.Words.{asked, texts};
+
+use crate::check::check_files;
+use crate::report::{Ended, finish, say};
+use crate::status::Status;
+use crate::words::{Command, read_words};
+use outside::{Shelf, Sink};
+use std::alloc::Global;
+
+const USAGE: &[u8] = b"usage: glb check, answer, map, repair, serve or large\n";
+
+/// Does what a command asks for, up to its text.
+fn run_command<F: Shelf>(alloc: Global, files: &mut F, command: Command<'_>) -> Ended
+    ensures noted { BothTell (F.told files.old) (F.told files.new) (AreLoadsOf (loads_of_ask (ask_of command.entry))) }
+    ensures loaded { EndsBy (λ _. BothTell (F.told files.old) (F.told files.new) (AreLoaded (loads_of_ask (ask_of command.entry)))) result }
+    ensures due { EndsBy (IsDue (ask_of command.entry) (F.told files.old)) result }
+    ensures text { EndsBy (λ due. HasText due.status) result }
+    ensures later { F.faults files.old ≤ F.faults files.new }
+    ensures cause { result ≡ Ended.SourceFault → Rose (F.faults files.old) (F.faults files.new) }
+{
+    match command {
+        Command::Check { topology, map } => check_files(alloc, files, topology, map),
+    }
+}
+
+/// The whole program: does what the words ask for, over these files and this output, and answers the status.
+///
+/// The first word is the program's name.
+pub fn glb<R, F: Shelf, K: Sink>(
+    _rt: &R,
+    alloc: Global,
+    words: &[String],
+    files: &mut F,
+    out: &mut K,
+) -> Status
+    // The answer is the one that is due to the words and the files, and its text is on the output; or a beginning of that, where the output failed; or nothing, where a load failed or memory was wanting.
+    ensures run { IsRun (asked (texts words.now)) (record { files = F.told files.old; out = K.told out.old }) (record { files = F.told files.new; out = K.told out.new }) result }
+
+    // The files of the words are loaded in their order, once each, and each only where all before it say something; and all of these, unless the answer is a fault of the files or want of memory.
+    ensures noted { BothTell (F.told files.old) (F.told files.new) (AreLoadsOf (loads_of (asked (texts words.now)))) }
+    ensures loaded { result ≢ Status.SourceFault → result ≢ Status.NoMemory → BothTell (F.told files.old) (F.told files.new) (AreLoaded (loads_of (asked (texts words.now)))) }
+
+    // A fault outside is answered only where its count rose.
+    ensures causes { HasCauses (record { files = F.faults files.old; out = K.faults out.old }) (record { files = F.faults files.new; out = K.faults out.new }) result }
+
+    // Status 0 says that the files hold a map that is good, and that the output got `good`.
+    ensures good { result ≡ Status.Ok → IsGoodRun (asked (texts words.now)) (record { files = F.told files.old; out = K.told out.old }) (record { files = F.told files.new; out = K.told out.new }) }
+{
+    match read_words(words) {
+        Some(command) => {
+            let ended = run_command(alloc, files, command);
+            finish(out, ended)
+        }
+        None => say(out, Status::Usage, USAGE),
+    }
+}

@@ -1,0 +1,18 @@
+/// How a run of the program ended. The number is the status that the process ends with.
+#[derive(Clone, Copy, Debug, PartialEq, Eq)]
+pub enum Status {
+    /// All was read and done.
+    Ok = 0,
+    /// The words are not taken. The output got the usage line.
+    Usage = 1,
+    /// A file is too long or at fault. The output got its text.
+    Refused = 2,
+    /// A file could not be loaded.
+    SourceFault = 3,
+    /// The output failed, and holds a beginning of what was due.
+    SinkFault = 4,
+    /// The map is not good. The output got the verdict.
+    NotGood = 7,
+    /// There was no memory.
+    NoMemory = 8,
+}

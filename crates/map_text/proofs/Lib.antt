@@ -1,0 +1,5 @@
+mod Splits
+mod Digits
+mod Firsts
+mod Readings
+mod Forms

@@ -1,0 +1,6 @@
+pub mod Texts
+pub mod Parts
+pub mod Number
+pub mod Lines
+pub mod Reading
+pub mod Reader

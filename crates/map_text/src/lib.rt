@@ -1,0 +1,17 @@
+//! The text of a map: one line for each amount that is placed, and one for each name.
+//!
+//! Each line ends at LF, and one space stands between two words. The first line is `glb map 1` and the last one
+//! `end`. Between them stands `place GROUP POOL AMOUNT` for each line of the map, and then `full GROUP POOL NODE`
+//! for each of its names, both strictly increasing by the group's number and the pool's place in the group's list.
+#![tactic(auto)]
+
+mod cut;
+mod fault;
+mod line;
+mod number;
+mod offer;
+mod read;
+
+pub use fault::MapFault;
+pub use line::Line;
+pub use read::read_map;
