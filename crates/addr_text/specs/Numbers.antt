@@ -7,7 +7,7 @@ abbrev pub in_base : ℕ → List ℕ → ℕ
 in_base base digits = fold (λ n d. base * n + d) 0 digits
 
 -- the last so many digits of a number, the highest first
-abbrev pub digits_in : ℕ → ℕ → ℕ → List ℕ
+unfoldable pub digits_in : ℕ → ℕ → ℕ → List ℕ
 digits_in base zero n = []
 digits_in base (suc count) n = digits_in base count (n / base) ++ (n % base) ∷ []
 

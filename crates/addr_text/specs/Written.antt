@@ -25,7 +25,15 @@ decimal_text n = map digit_char (digits_in 10 (decimal_count n) n)
 abbrev pub hex_text : ℕ → List ℕ
 hex_text g = map digit_char (digits_in 16 (hex_count g) g)
 
--- four numbers joined by dots
+-- a dot and a number
+abbrev pub dot_text : ℕ → List ℕ
+dot_text n = 46 ∷ decimal_text n
+
+-- a colon and a group
+abbrev pub colon_text : ℕ → List ℕ
+colon_text g = 58 ∷ hex_text g
+
+-- numbers joined by dots
 abbrev pub dotted : List ℕ → List ℕ
 dotted ns = join_with_byte 46 (map decimal_text ns)
 

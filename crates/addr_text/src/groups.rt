@@ -19,9 +19,9 @@ fn push_number(numbers: &mut ArrayVec<u8, 4>, text: &[u8]) -> bool
     }
 }
 
-/// The four numbers of an IPv4 text.
-pub fn v4_numbers(text: &[u8]) -> Option<ArrayVec<u8, 4>>
-    ensures { option_map (λ v. v.items) result ≡ v4_numbers text.now }
+/// Numbers joined by dots, at most four.
+fn joined_numbers(text: &[u8]) -> Option<ArrayVec<u8, 4>>
+    ensures { option_map (λ v. v.items) result ≡ only_if (λ ns. nat_le (length ns) 4) (all_of (number_of 255) (parts 46 text.now)) }
 {
     let mut numbers = ArrayVec::new();
     let mut rest = text;
@@ -31,11 +31,19 @@ pub fn v4_numbers(text: &[u8]) -> Option<ArrayVec<u8, 4>>
         }
         rest = after(rest, dot + 1);
     }
-    if push_number(&mut numbers, rest) && numbers.is_full() {
+    if push_number(&mut numbers, rest) {
         Some(numbers)
     } else {
         None
     }
+}
+
+/// The four numbers of an IPv4 text.
+pub fn v4_numbers(text: &[u8]) -> Option<ArrayVec<u8, 4>>
+    ensures { option_map (λ v. v.items) result ≡ v4_numbers text.now }
+{
+    let numbers = joined_numbers(text)?;
+    if numbers.is_full() { Some(numbers) } else { None }
 }
 
 /// Adds a group, where there is one and room for it.
@@ -136,19 +144,30 @@ fn push_zeros(groups: &mut ArrayVec<u16, 8>, count: usize)
     }
 }
 
+/// The groups on the two sides of `::`, filled.
+fn two_sides(before: &[u8], after: &[u8]) -> Option<ArrayVec<u16, 8>>
+    ensures { option_map (λ v. v.items) result ≡ filled (side_groups before.now) (side_groups after.now) }
+{
+    match (side_groups(before), side_groups(after)) {
+        (Some(left), Some(right)) => filled(left.as_slice(), right.as_slice()),
+        _ => None,
+    }
+}
+
+/// Eight groups joined by colons.
+fn eight_groups(text: &[u8]) -> Option<ArrayVec<u16, 8>>
+    ensures { option_map (λ v. v.items) result ≡ only_if (λ gs. length gs == 8) (joined_groups text.now) }
+{
+    let groups = joined_groups(text)?;
+    if groups.is_full() { Some(groups) } else { None }
+}
+
 /// The eight groups of an IPv6 text.
 pub fn v6_groups(text: &[u8]) -> Option<ArrayVec<u16, 8>>
     ensures { option_map (λ v. v.items) result ≡ v6_groups text.now }
 {
     match sides(text) {
-        Some((before, after)) => {
-            let left = side_groups(before)?;
-            let right = side_groups(after)?;
-            filled(left.as_slice(), right.as_slice())
-        }
-        None => {
-            let groups = joined_groups(text)?;
-            if groups.is_full() { Some(groups) } else { None }
-        }
+        Some((before, after)) => two_sides(before, after),
+        None => eight_groups(text),
     }
 }

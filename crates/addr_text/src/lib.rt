@@ -7,6 +7,8 @@ mod groups;
 mod read;
 mod runs;
 mod slices;
+#[cfg(test)]
+mod tests;
 mod write;
 
 pub use address::{Addr, Listen, Peer, Prefix};

@@ -1,6 +1,6 @@
 //! Parts of slices.
-ghost use Rattle.std.specs.Prelude.{◌≡◌, ◌<◌, ◌≤◌, ◌==◌, IfSome, length, take, drop};
-ghost use Rattle.std.specs.List.{after_first, after_last, before_first, before_last, position_from};
+ghost use Rattle.std.specs.Prelude.{◌≡◌, ◌<◌, ◌≤◌, ◌==◌, ◌+◌, ◌-◌, IfSome, length, not, take, drop};
+ghost use Rattle.std.specs.List.{after_first, after_last, before_first, before_last, position_from, position_or_len, suffix_len};
 
 /// Where an octet first stands.
 pub fn position_of(text: &[u8], octet: u8) -> Option<usize>
@@ -26,15 +26,34 @@ pub fn after<T>(items: &[T], i: usize) -> &[T]
     &items[i..]
 }
 
+/// An octet's first place; the length where it is nowhere.
+fn start_of_first(text: &[u8], octet: u8) -> usize
+    ensures start { result ≡ position_or_len (λ b. b == octet) text.now }
+    ensures within { result ≤ length text.now }
+{
+    position_of(text, octet).unwrap_or(text.len())
+}
+
 /// What stands before and after an octet's first place; all and nothing where it is nowhere.
 pub fn split_first(text: &[u8], octet: u8) -> (&[u8], &[u8])
     ensures front { result.0.now ≡ before_first (λ b. b == octet) text.now }
     ensures back { result.1.now ≡ after_first (λ b. b == octet) text.now }
 {
-    match text.iter().position(|b| *b == octet) {
-        Some(i) => (&text[..i], &text[i + 1..]),
-        None => (text, &[]),
+    let start = start_of_first(text, octet);
+    let back = if start < text.len() { after(text, start + 1) } else { &[] };
+    (before(text, start), back)
+}
+
+/// The place behind an octet's last one; 0 where it is nowhere.
+fn end_of_last(text: &[u8], octet: u8) -> usize
+    ensures end { result ≡ length text.now - suffix_len (λ b. not (b == octet)) text.now }
+    ensures within { result ≤ length text.now }
+{
+    let mut end = text.len();
+    while end > 0 && text[end - 1] != octet {
+        end -= 1;
     }
+    end
 }
 
 /// What stands before and after an octet's last place; nothing and all where it is nowhere.
@@ -42,8 +61,6 @@ pub fn split_last(text: &[u8], octet: u8) -> (&[u8], &[u8])
     ensures front { result.0.now ≡ before_last (λ b. b == octet) text.now }
     ensures back { result.1.now ≡ after_last (λ b. b == octet) text.now }
 {
-    match text.iter().rposition(|b| *b == octet) {
-        Some(i) => (&text[..i], &text[i + 1..]),
-        None => (&[], text),
-    }
+    let end = end_of_last(text, octet);
+    (before(text, end.saturating_sub(1)), after(text, end))
 }

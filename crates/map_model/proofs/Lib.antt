@@ -9,3 +9,4 @@ mod Rows
 pub mod Trees
 pub mod Shapes
 pub mod Batches
+pub mod NameForm

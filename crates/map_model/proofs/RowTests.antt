@@ -87,6 +87,7 @@ trees_IsMarket nodes few trees shallow = record {
     lower : (at : Option NodeId) (n : ℕ) → IfSome at (λ p. (p.0 < n) × IsFalse (node_in nodes p.0).is_pool) → IfSome at (λ p. p.0 < n)
     lower None n h = tt
     lower (Some p) n h = h.0
+
     inside : (at : Option NodeId) (n : ℕ) → IfSome at (λ p. (p.0 < n) × IsFalse (node_in nodes p.0).is_pool) → IfSome at (λ p. IsFalse (node_in nodes p.0).is_pool)
     inside None n h = tt
     inside (Some p) n h = h.1
@@ -126,4 +127,5 @@ IsMarket_rows groups nodes market = record {
 }
 
 pub ruleset tree_tests = (trees_IsMarket, IsMarket_trees)
+
 pub ruleset row_tests = (rows_IsMarket, IsMarket_rows)

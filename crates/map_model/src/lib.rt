@@ -11,3 +11,6 @@ mod validity;
 pub use change::Change;
 pub use instance::{Choice, GroupId, GroupRow, Instance, Key, Node, NodeId, Offer, Units};
 pub use lines::{MapLine, MapLines, NameLine};
+
+#[cfg(test)]
+mod tests;

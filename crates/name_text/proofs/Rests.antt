@@ -1,7 +1,8 @@
 -- How a loop over length octets finds the place where another name begins.
-use Rattle.std.proofs.Common.{◌≡◌, ℕ, zero, suc, ◌+◌, ◌<◌, ◌≤◌, Bool, true, false, ◌||◌, List, [], ◌∷◌, length, get_or, drop, refl, sym, ap, ◌∙◌, arith}
+use Rattle.std.proofs.Common.{◌≡◌, ℕ, zero, suc, ◌+◌, ◌<◌, ◌≤◌, Bool, true, false, ◌||◌, List, [], ◌∷◌, ◌++◌, length, map, get_or, drop, refl, sym, ap, ◌∙◌, arith}
 use Rattle.std.proofs.lemmas.List.{drop-drop, drop_all, drop_more}
 use Rattle.std.specs.List.{list_any}
+use Rattle.name_text.specs.Wire.{tails, wire}
 use Rattle.name_text.specs.Names.{is_same, is_under, rests, rests_after}
 
 rests-skip : (k : ℕ) (name : List ℕ) → rests_after k name ≡ rests (drop k name)
@@ -31,3 +32,21 @@ goes_on name apex at all lt other so_far = sym (here name apex at lt ∙ ap (λ 
 pub past_all : (name apex : List ℕ) (at : ℕ) (all : Bool) → length name ≤ at → is_under (drop at name) apex ≡ all → false ≡ all
 unfolding is_under
 past_all name apex at all le so_far = sym (ap (λ (l : List ℕ). is_under l apex) (drop_all at name le)) ∙ so_far
+
+-- behind a label's octets the next label stands
+rests-label : (label octets : List ℕ) → rests_after (length label) (label ++ octets) ≡ rests octets
+rests-label [] octets = refl
+rests-label (b ∷ label) octets = rests-label label octets
+
+-- what stands from each label on is spelled of the labels from it on
+rests-wire : (labels : List (List ℕ)) → rests (wire labels) ≡ map wire (tails labels)
+rests-wire [] = refl
+rests-wire (label ∷ labels) = ap (λ (ls : List (List ℕ)). wire (label ∷ labels) ∷ ls) (rests-label label (wire labels) ∙ rests-wire labels)
+
+any-map : (test : List ℕ → Bool) (ts : List (List (List ℕ))) → list_any test (map wire ts) ≡ list_any (λ t. test (wire t)) ts
+any-map test [] = refl
+any-map test (t ∷ ts) = ap (λ (b : Bool). test (wire t) || b) (any-map test ts)
+
+pub by_labels : (name apex : List ℕ) (labels : List (List ℕ)) → name ≡ wire labels → is_under name apex ≡ list_any (λ rest. is_same (wire rest) apex) (tails labels)
+unfolding is_under
+by_labels name apex labels is = ap (λ (l : List ℕ). list_any (λ rest. is_same rest apex) (rests l)) is ∙ ap (list_any (λ rest. is_same rest apex)) (rests-wire labels) ∙ any-map (λ rest. is_same rest apex) (tails labels)

@@ -6,6 +6,11 @@ abbrev pub wire : List (List ℕ) → List ℕ
 wire [] = 0 ∷ []
 wire (label ∷ labels) = length label ∷ (label ++ wire labels)
 
+-- the labels from each of them on: all, all but the first, and so on down to none
+abbrev pub tails : List (List ℕ) → List (List (List ℕ))
+tails [] = [] ∷ []
+tails (label ∷ labels) = (label ∷ labels) ∷ tails labels
+
 -- each label has 1 to 63 octets
 abbrev pub AreLabels : List (List ℕ) → Type 0
 AreLabels [] = Unit {0}

@@ -5,6 +5,8 @@ mod compare;
 mod fault;
 mod name;
 mod read;
+#[cfg(test)]
+mod tests;
 
 pub use compare::{same_name, under};
 pub use fault::NameFault;

@@ -4,7 +4,7 @@ ghost use Rattle.map_model.specs.Allocation.{IsGood};
 ghost use Rattle.stable_check.specs.declared.verdict.Verdict.TheVariants.{Good};
 ghost use Rattle.stable_check.specs.Judgement.{Judges, RoomSize};
 
-use crate::first_bad_line;
+use crate::lines::first_bad_line;
 use crate::scans::{first_bad_name, first_blocking, first_over_capacity, first_over_demand};
 use crate::tallies::{tally_groups, tally_loads, tally_places, tally_worst};
 use crate::verdict::Verdict;
@@ -78,7 +78,7 @@ fn judge(
     }
     tally_loads(instance, lines, loads);
     tally_worst(instance, lines, worst);
-    if let Some(node) = first_over_capacity(instance, loads, worst) {
+    if let Some(node) = first_over_capacity(instance, loads) {
         return Verdict::OverCapacity {
             node,
             load: loads[node.0 as usize],

@@ -1,6 +1,6 @@
 use Rattle.std.proofs.Common.{◌∙◌, arith}
 use Rattle.map_model.proofs.MapForm.{length-AreLines, offers-AreLines}
-use Rattle.stable_check.proofs.Needs.{scan_needs, within}
+use Rattle.stable_check.proofs.Needs.{tallies_made, within}
 use Rattle.stable_check.proofs.judge.judge.Goals as goal
 
 pub tally_groups-requires-clause-few : goal.tally_groups-requires-clause-few
@@ -28,13 +28,13 @@ tally_places-requires-clause-places g c = λ k d l.
 pub first_blocking-requires : goal.first_blocking-requires
 first_blocking-requires g c =
     let r = c.requires in
-    scan_needs c.args.instance.now c.groups-groups.ensures.market c.args.lines.now g.held r.0 c.in_default.ensures c.tally_places.new.amounts c.tally_loads.new.loads c.tally_worst.new.worst
+    tallies_made c.args.instance.now c.groups-groups.ensures.market c.args.lines.now g.held r.0 c.in_default.ensures c.tally_places.new.amounts c.tally_loads.new.loads c.tally_worst.new.worst
     (c.tally_places.auto.amounts ∙ r.1.1.0) (c.tally_loads.auto.loads ∙ r.1.1.1.0) (c.tally_worst.auto.worst ∙ r.1.1.1.1)
     c.tally_places.ensures.each c.tally_places.ensures.small c.tally_loads.ensures c.tally_worst.ensures
 
 pub first_bad_name-requires : goal.first_bad_name-requires
 first_bad_name-requires g c =
     let r = c.requires in
-    scan_needs c.args.instance.now c.groups-groups.ensures.market c.args.lines.now g.held r.0 c.in_default.ensures c.tally_places.new.amounts c.tally_loads.new.loads c.tally_worst.new.worst
+    tallies_made c.args.instance.now c.groups-groups.ensures.market c.args.lines.now g.held r.0 c.in_default.ensures c.tally_places.new.amounts c.tally_loads.new.loads c.tally_worst.new.worst
     (c.tally_places.auto.amounts ∙ r.1.1.0) (c.tally_loads.auto.loads ∙ r.1.1.1.0) (c.tally_worst.auto.worst ∙ r.1.1.1.1)
     c.tally_places.ensures.each c.tally_places.ensures.small c.tally_loads.ensures c.tally_worst.ensures

@@ -1,0 +1,29 @@
+use Rattle.std.proofs.Common.{◌≡◌, ◌+◌, ◌<◌, length, sym, ◌∙◌, subst, arith, rules}
+use Rattle.std.specs.Option.{IfSome}
+use Rattle.map_model.specs.Market.{Market}
+use Rattle.map_model.proofs.Paths.{parent_there}
+use Rattle.capacity_tree.specs.Loads.{trees_of}
+use Rattle.capacity_tree.proofs.Trees.{length-trees, parent_of-trees, there_next}
+use Rattle.capacity_tree.proofs.Turns.{path_turn, path_over, path_done}
+use Rattle.capacity_tree.proofs.walks.path_from.Goals as goal
+use Rattle.capacity_tree.proofs.walks.path_from.Goals.{in-Some, in_default}
+
+pub loop-step-preserved : goal.loop-step-preserved
+loop-step-preserved c =
+    let m : Market = trees_of c.args.parents.now in
+    elim c.match-at.branch [
+      | in-Some w ↦ record {
+        there = there_next c.args.parents.now c.requires.market w.in-Some.node c.loop-step.at c.match-at.at w.in-Some.is (w.at-is ∙ sym (parent_of-trees c.args.parents.now w.in-Some.node.0)) c.loop-step.invariant.there;
+        few = rw w.path-is (omega (arith, w.push.ensures.len));
+        so_far = rw (w.path-is, w.push.ensures.items) (path_turn m c.loop-step._step w.in-Some.node c.loop-step.at c.match-at.at c.loop-step.path.items _ c.loop-step-test.true w.in-Some.is
+            (w.at-is ∙ sym (parent_of-trees c.args.parents.now w.in-Some.node.0)) c.loop-step.invariant.so_far);
+      }
+      | in_default w ↦ record {
+        there = subst (λ x. IfSome x (λ p. p.0 < length c.args.parents.now)) (sym w.at-is) c.loop-step.invariant.there;
+        few = rw w.path-is (omega arith);
+        so_far = rw w.path-is (path_over m c.loop-step._step (c.loop-step._step + 1) c.loop-step.at c.match-at.at _ _ (grind rules) w.at-is c.loop-step.invariant.so_far);
+      }
+    ]
+
+pub returns : goal.returns
+returns c = path_done (trees_of c.args.parents.now) c.loop-step._step c.loop-step.at _ _ c.loop-step-test.false c.loop-step.invariant.so_far

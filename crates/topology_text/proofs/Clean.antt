@@ -1,0 +1,229 @@
+-- A table without faults is sound.
+use Rattle.std.proofs.Common.{◌≡◌, ℕ, ◌^◌, ◌<◌, ◌≤◌, true, false, not, List, [], ◌++◌, length, get_or, Option, None, Some, IfSome, is_some, option_and_then, refl, ap, ◌∙◌, arith, lit<}
+use Rattle.toml.specs.Data.{Data, Members, string, integer, float, boolean, datetime, array, table}
+use Rattle.topology_text.specs.Schema.{kind_of, is_item_kind}
+use Rattle.topology_text.specs.Hosts.{IsHosts}
+use Rattle.topology_text.specs.Texts.{is_name}
+use Rattle.topology_text.specs.Walk.{items_at, items_of_value, places_of, table_in, value_at, walk}
+use Rattle.topology_text.specs.Values.{failing, is_bad_name, is_out_of_range, missing, too_many, wrong_in, wrong_kind}
+use Rattle.topology_text.specs.Names.{ascend, count_at, duplicate_name, entries_of, entry_at, has_repeat, is_pool, is_taken, is_unknown_name, list_shape, number_of, parent_of, parent_order, text_at, texts_of, too_deep}
+use Rattle.topology_text.specs.Faults.{failures, faults_of, list_faults, name_faults, prefix_faults, shape_faults, value_faults}
+use Rattle.topology_text.specs.Prefixes.{all_prefixes, duplicate_prefixes, no_default, passing}
+use Rattle.topology_text.specs.Topology.{AreSoundNames, IsSound, IsSoundGroup, IsSoundZone, hosts_of, number_at}
+use Rattle.topology_text.specs.declared.schema.Key.TheVariants.{Zone, Node, Group, Apex, Mname, Rname, Serial, Refresh, Retry, Expire, Minimum, Ttl, Name, Parent, Capacity, Demand, Pools, Scores}
+use Rattle.topology_text.proofs.Quiet.{empty_first, empty_second, empty_map, not_whole, quiet_top, quiet_zone, quiet_node, quiet_group}
+use Rattle.topology_text.proofs.SoundHosts.{hosts_good}
+use Rattle.topology_text.proofs.SoundNames.{name_good, names_sound}
+use Rattle.topology_text.proofs.SoundZone.{apex_good, mname_good, rname_good, serial_fits, refresh_fits, retry_fits, expire_fits, minimum_fits, ttl_fits}
+use Rattle.topology_text.proofs.Sound.{capacity_fits, not_deep, not_over, parent_before, parent_inner, root_shallow}
+use Rattle.topology_text.proofs.SoundGroups.{array_passes, demand_high, demand_low, is_there, kinds_pass, pool_there, score_fits, shape_pools, shape_scores}
+
+-- the rules find nothing on the walk
+pub record IsQuiet (top : Members) : Type 0 where
+  pub missed : places_of missing (walk top) ≡ []
+  pub kinds : places_of wrong_kind (walk top) ≡ []
+  pub well_named : failures is_bad_name (walk top) ≡ []
+  pub once : places_of (duplicate_name (entries_of top)) (walk top) ≡ []
+  pub named : failures (is_unknown_name (entries_of top)) (walk top) ≡ []
+  pub ordered : places_of (parent_order (entries_of top)) (walk top) ≡ []
+  pub deep : places_of (too_deep (entries_of top)) (walk top) ≡ []
+  pub ranges : failures is_out_of_range (walk top) ≡ []
+  pub twice : duplicate_prefixes (all_prefixes (walk top)) ≡ []
+  pub defaults : no_default (all_prefixes (walk top)) ≡ []
+  pub shapes : places_of list_shape (walk top) ≡ []
+  pub many : places_of too_many (walk top) ≡ []
+  pub passed : passing (walk top) ≡ []
+
+pub quiet : (top : Members) → faults_of top ≡ [] → IsQuiet top
+unfolding faults_of
+quiet top h =
+    let shape = empty_first (shape_faults (walk top)) _ h in
+    let rest = empty_second (shape_faults (walk top)) _ h in
+    let names = empty_first (name_faults (entries_of top) (walk top)) _ rest in
+    let rest2 = empty_second (name_faults (entries_of top) (walk top)) _ rest in
+    let values = empty_first (value_faults (walk top)) _ rest2 in
+    let rest3 = empty_second (value_faults (walk top)) _ rest2 in
+    let prefixes = empty_first (prefix_faults (walk top)) _ rest3 in
+    let lists = empty_second (prefix_faults (walk top)) _ rest3 in
+    let shape2 = empty_second _ _ shape in
+    let names2 = empty_second _ _ names in
+    let names3 = empty_second _ _ names2 in
+    let names4 = empty_second _ _ names3 in
+    let lists2 = empty_second _ _ lists in
+    let limits : places_of too_many (walk top) ++ passing (walk top) ≡ [] = empty_map _ _ (empty_second _ _ lists2) in
+    record {
+      missed = empty_map _ _ (empty_first _ _ shape);
+      kinds = empty_map _ _ (empty_first _ _ shape2);
+      well_named = empty_map _ _ (empty_first _ _ names);
+      once = empty_map _ _ (empty_first _ _ names2);
+      named = empty_map _ _ (empty_first _ _ names3);
+      ordered = empty_map _ _ (empty_first _ _ names4);
+      deep = empty_map _ _ (empty_second _ _ names4);
+      ranges = empty_map _ _ (empty_first _ _ values);
+      twice = empty_map _ _ (empty_first _ _ prefixes);
+      defaults = empty_map _ _ (empty_second _ _ prefixes);
+      shapes = empty_map _ _ (empty_first _ _ lists);
+      many = empty_first _ _ limits;
+      passed = empty_second (places_of too_many (walk top)) _ limits;
+    }
+
+capacity_of : (top : Members) → IsQuiet top → (i : ℕ) → i < length (items_at top Node) → (e : Data) → entry_at (items_at top Node) i ≡ e → number_at e Capacity ≤ 2 ^ 48
+capacity_of top q i l (table ms) is = capacity_fits (value_at ms Capacity) (quiet_node (λ v k. failing (is_out_of_range k) (value_at v.members k)) top i ms 2 q.ranges l is (lit< tt))
+capacity_of top q i l (string t) is = omega arith
+capacity_of top q i l (integer z) is = omega arith
+capacity_of top q i l (float x) is = omega arith
+capacity_of top q i l (boolean b) is = omega arith
+capacity_of top q i l (datetime t) is = omega arith
+capacity_of top q i l (array ds) is = omega arith
+
+-- an entry that is no table has no parent
+no_parent : (nodes : List Data) (i : ℕ) (e : Data) → entry_at nodes i ≡ e → text_at e Parent ≡ None → parent_of nodes i ≡ None
+no_parent nodes i e is none = ap (λ (x : Data). option_and_then (number_of nodes) (text_at x Parent)) is ∙ ap (option_and_then (number_of nodes)) none
+
+parent_of_node : (top : Members) → IsQuiet top → (i : ℕ) → i < length (items_at top Node) → (e : Data) → entry_at (items_at top Node) i ≡ e → IfSome (parent_of (items_at top Node) i) (λ p. p < i)
+parent_of_node top q i l (table ms) is = parent_before (items_at top Node) i _ (quiet_node (parent_order (entries_of top)) top i ms 1 q.ordered l is (lit< tt))
+parent_of_node top q i l (string t) is = rw (no_parent _ i _ is refl) tt
+parent_of_node top q i l (integer z) is = rw (no_parent _ i _ is refl) tt
+parent_of_node top q i l (float x) is = rw (no_parent _ i _ is refl) tt
+parent_of_node top q i l (boolean b) is = rw (no_parent _ i _ is refl) tt
+parent_of_node top q i l (datetime t) is = rw (no_parent _ i _ is refl) tt
+parent_of_node top q i l (array ds) is = rw (no_parent _ i _ is refl) tt
+
+inner_of_node : (top : Members) → IsQuiet top → (i : ℕ) → i < length (items_at top Node) → (e : Data) → entry_at (items_at top Node) i ≡ e → IfSome (parent_of (items_at top Node) i) (λ p. is_pool (entry_at (items_at top Node) p) ≡ false)
+inner_of_node top q i l (table ms) is = parent_inner (items_at top Node) i _ (quiet_node (parent_order (entries_of top)) top i ms 1 q.ordered l is (lit< tt))
+inner_of_node top q i l (string t) is = rw (no_parent _ i _ is refl) tt
+inner_of_node top q i l (integer z) is = rw (no_parent _ i _ is refl) tt
+inner_of_node top q i l (float x) is = rw (no_parent _ i _ is refl) tt
+inner_of_node top q i l (boolean b) is = rw (no_parent _ i _ is refl) tt
+inner_of_node top q i l (datetime t) is = rw (no_parent _ i _ is refl) tt
+inner_of_node top q i l (array ds) is = rw (no_parent _ i _ is refl) tt
+
+shallow_node : (top : Members) → IsQuiet top → (i : ℕ) → i < length (items_at top Node) → (e : Data) → entry_at (items_at top Node) i ≡ e → length (ascend 9 (items_at top Node) (Some i)) ≤ 8
+shallow_node top q i l (table ms) is = not_deep (items_at top Node) i (quiet_node (too_deep (entries_of top)) top i ms 1 q.deep l is (lit< tt))
+shallow_node top q i l (string t) is = root_shallow _ i (no_parent _ i _ is refl)
+shallow_node top q i l (integer z) is = root_shallow _ i (no_parent _ i _ is refl)
+shallow_node top q i l (float x) is = root_shallow _ i (no_parent _ i _ is refl)
+shallow_node top q i l (boolean b) is = root_shallow _ i (no_parent _ i _ is refl)
+shallow_node top q i l (datetime t) is = root_shallow _ i (no_parent _ i _ is refl)
+shallow_node top q i l (array ds) is = root_shallow _ i (no_parent _ i _ is refl)
+
+-- a group that is a table
+table_group : (top : Members) → IsQuiet top → (g : ℕ) → g < length (items_at top Group) → (ms : Members) → get_or (items_at top Group) g (boolean false) ≡ table ms → IsSoundGroup (items_at top Node) (table ms)
+table_group top q g l ms is =
+    let pools_there : is_some (value_at ms Pools) ≡ true = is_there _ (quiet_group missing top g ms 2 q.missed l is (lit< tt)) in
+    let scores_there : is_some (value_at ms Scores) ≡ true = is_there _ (quiet_group missing top g ms 3 q.missed l is (lit< tt)) in
+    let demand_there : is_some (value_at ms Demand) ≡ true = is_there _ (quiet_group missing top g ms 1 q.missed l is (lit< tt)) in
+    let demand_range = quiet_group (λ v k. failing (is_out_of_range k) (value_at v.members k)) top g ms 1 q.ranges l is (lit< tt) in
+    let pools_kind = quiet_group wrong_kind top g ms 2 q.kinds l is (lit< tt) in
+    let pools_known = quiet_group (λ v k. failing (is_unknown_name (entries_of top) k) (value_at v.members k)) top g ms 2 q.named l is (lit< tt) in
+    let scores_range = quiet_group (λ v k. failing (is_out_of_range k) (value_at v.members k)) top g ms 3 q.ranges l is (lit< tt) in
+    let pools_shape : (1 ≤ count_at ms Pools) × (count_at ms Pools ≤ 16) × (has_repeat (texts_of (items_at ms Pools)) ≡ false) =
+    shape_pools _ _ _ pools_there (not_whole _ (quiet_group list_shape top g ms 2 q.shapes l is (lit< tt))) in
+    let scores_shape : count_at ms Scores ≡ count_at ms Pools = shape_scores _ _ _ scores_there (not_whole _ (quiet_group list_shape top g ms 3 q.shapes l is (lit< tt))) in
+    record {
+      some = demand_low (value_at ms Demand) demand_there (quiet_group wrong_kind top g ms 1 q.kinds l is (lit< tt)) demand_range;
+      fits = demand_high (value_at ms Demand) demand_range;
+      asks = pools_shape.0;
+      few = pools_shape.1;
+      beside = scores_shape;
+      pools = λ j d h. pool_there (entries_of top) _ (kinds_pass Pools (value_at ms Pools) pools_kind j d h) (array_passes (is_unknown_name (entries_of top) Pools) (value_at ms Pools) pools_known j d h);
+      distinct = pools_shape.2;
+      scores = λ j d h. score_fits (get_or (items_of_value (value_at ms Scores)) j d) (array_passes (is_out_of_range Scores) (value_at ms Scores) scores_range j d h);
+    }
+
+group_of_table : (top : Members) → IsQuiet top → (g : ℕ) → g < length (items_at top Group) → (e : Data) → get_or (items_at top Group) g (boolean false) ≡ e → not (is_item_kind (kind_of Group) e) ≡ false → IsSoundGroup (items_at top Node) e
+group_of_table top q g l (table ms) is kind = table_group top q g l ms is
+group_of_table top q g l (string t) is kind = cc
+group_of_table top q g l (integer z) is kind = cc
+group_of_table top q g l (float x) is kind = cc
+group_of_table top q g l (boolean b) is kind = cc
+group_of_table top q g l (datetime t) is kind = cc
+group_of_table top q g l (array ds) is kind = cc
+
+-- the name of a node that is a table
+node_name : (top : Members) → IsQuiet top → (i : ℕ) → i < length (items_at top Node) → (e : Data) → get_or (items_at top Node) i (boolean false) ≡ e → not (is_item_kind (kind_of Node) e) ≡ false
+    → (t : List ℕ) × (text_at e Name ≡ Some t) × (is_name t ≡ true) × (is_taken (items_at top Node) i (text_at e Name) ≡ false)
+node_name top q i l (table ms) is kind =
+    let (t, named, good) = name_good (value_at ms Name) (is_there _ (quiet_node missing top i ms 0 q.missed l is (lit< tt))) (quiet_node wrong_kind top i ms 0 q.kinds l is (lit< tt)) (quiet_node (λ v k. failing (is_bad_name k) (value_at v.members k)) top i ms 0 q.well_named l is (lit< tt)) in
+    (t, named, good, not_whole _ (quiet_node (duplicate_name (entries_of top)) top i ms 0 q.once l is (lit< tt)))
+node_name top q i l (string t) is kind = cc
+node_name top q i l (integer z) is kind = cc
+node_name top q i l (float x) is kind = cc
+node_name top q i l (boolean b) is kind = cc
+node_name top q i l (datetime t) is kind = cc
+node_name top q i l (array ds) is kind = cc
+
+node_names_sound : (top : Members) → IsQuiet top → AreSoundNames (items_at top Node)
+node_names_sound top q = names_sound (items_at top Node) (λ i l. node_name top q i l _ refl (kinds_pass Node (value_at top Node) (quiet_top wrong_kind top 1 q.kinds (lit< tt)) i (boolean false) l))
+
+-- the name of a group that is a table
+group_name : (top : Members) → IsQuiet top → (i : ℕ) → i < length (items_at top Group) → (e : Data) → get_or (items_at top Group) i (boolean false) ≡ e → not (is_item_kind (kind_of Group) e) ≡ false
+    → (t : List ℕ) × (text_at e Name ≡ Some t) × (is_name t ≡ true) × (is_taken (items_at top Group) i (text_at e Name) ≡ false)
+group_name top q i l (table ms) is kind =
+    let (t, named, good) = name_good (value_at ms Name) (is_there _ (quiet_group missing top i ms 0 q.missed l is (lit< tt))) (quiet_group wrong_kind top i ms 0 q.kinds l is (lit< tt)) (quiet_group (λ v k. failing (is_bad_name k) (value_at v.members k)) top i ms 0 q.well_named l is (lit< tt)) in
+    (t, named, good, not_whole _ (quiet_group (duplicate_name (entries_of top)) top i ms 0 q.once l is (lit< tt)))
+group_name top q i l (string t) is kind = cc
+group_name top q i l (integer z) is kind = cc
+group_name top q i l (float x) is kind = cc
+group_name top q i l (boolean b) is kind = cc
+group_name top q i l (datetime t) is kind = cc
+group_name top q i l (array ds) is kind = cc
+
+group_names_sound : (top : Members) → IsQuiet top → AreSoundNames (items_at top Group)
+group_names_sound top q = names_sound (items_at top Group) (λ i l. group_name top q i l _ refl (kinds_pass Group (value_at top Group) (quiet_top wrong_kind top 2 q.kinds (lit< tt)) i (boolean false) l))
+
+-- the addresses of a node
+hosts_of_node : (top : Members) → IsQuiet top → (i : ℕ) → i < length (items_at top Node) → (e : Data) → entry_at (items_at top Node) i ≡ e → IsHosts (hosts_of e)
+hosts_of_node top q i l (table ms) is =
+    hosts_good (table ms) (not_over 6 _ (quiet_node too_many top i ms 4 q.many l is (lit< tt))) (not_over 6 _ (quiet_node too_many top i ms 5 q.many l is (lit< tt)))
+hosts_of_node top q i l (string t) is = hosts_good (string t) (omega arith) (omega arith)
+hosts_of_node top q i l (integer z) is = hosts_good (integer z) (omega arith) (omega arith)
+hosts_of_node top q i l (float x) is = hosts_good (float x) (omega arith) (omega arith)
+hosts_of_node top q i l (boolean b) is = hosts_good (boolean b) (omega arith) (omega arith)
+hosts_of_node top q i l (datetime t) is = hosts_good (datetime t) (omega arith) (omega arith)
+hosts_of_node top q i l (array ds) is = hosts_good (array ds) (omega arith) (omega arith)
+
+-- the zone, which is a table
+zone_table : (top ms : Members) → IsQuiet top → value_at top Zone ≡ Some (table ms) → IsSoundZone (Some ms)
+zone_table top ms q is =
+    record {
+      apex = apex_good (value_at ms Apex) (is_there _ (quiet_zone missing top ms 0 q.missed is (lit< tt))) (quiet_zone wrong_kind top ms 0 q.kinds is (lit< tt)) (quiet_zone (λ v k. failing (is_bad_name k) (value_at v.members k)) top ms 0 q.well_named is (lit< tt));
+      mname = mname_good (value_at ms Mname) (is_there _ (quiet_zone missing top ms 1 q.missed is (lit< tt))) (quiet_zone wrong_kind top ms 1 q.kinds is (lit< tt)) (quiet_zone (λ v k. failing (is_bad_name k) (value_at v.members k)) top ms 1 q.well_named is (lit< tt));
+      rname = rname_good (value_at ms Rname) (is_there _ (quiet_zone missing top ms 2 q.missed is (lit< tt))) (quiet_zone wrong_kind top ms 2 q.kinds is (lit< tt)) (quiet_zone (λ v k. failing (is_bad_name k) (value_at v.members k)) top ms 2 q.well_named is (lit< tt));
+      serial = serial_fits (value_at ms Serial) (quiet_zone (λ v k. failing (is_out_of_range k) (value_at v.members k)) top ms 3 q.ranges is (lit< tt));
+      refresh = refresh_fits (value_at ms Refresh) (quiet_zone (λ v k. failing (is_out_of_range k) (value_at v.members k)) top ms 4 q.ranges is (lit< tt));
+      retry = retry_fits (value_at ms Retry) (quiet_zone (λ v k. failing (is_out_of_range k) (value_at v.members k)) top ms 5 q.ranges is (lit< tt));
+      expire = expire_fits (value_at ms Expire) (quiet_zone (λ v k. failing (is_out_of_range k) (value_at v.members k)) top ms 6 q.ranges is (lit< tt));
+      minimum = minimum_fits (value_at ms Minimum) (quiet_zone (λ v k. failing (is_out_of_range k) (value_at v.members k)) top ms 7 q.ranges is (lit< tt));
+      ttl = ttl_fits (value_at ms Ttl) (quiet_zone (λ v k. failing (is_out_of_range k) (value_at v.members k)) top ms 8 q.ranges is (lit< tt));
+    }
+
+zone_there : (top : Members) → IsQuiet top → (o : Option Data) → value_at top Zone ≡ o → is_some o ≡ true → wrong_in Zone o ≡ [] → IsSoundZone (table_in o)
+zone_there top q None is there kind = cc
+zone_there top q (Some (table ms)) is there kind = zone_table top ms q is
+zone_there top q (Some (string t)) is there kind = cc
+zone_there top q (Some (integer z)) is there kind = cc
+zone_there top q (Some (float x)) is there kind = cc
+zone_there top q (Some (boolean b)) is there kind = cc
+zone_there top q (Some (datetime t)) is there kind = cc
+zone_there top q (Some (array ds)) is there kind = cc
+
+zone_sound : (top : Members) → IsQuiet top → IsSoundZone (table_in (value_at top Zone))
+zone_sound top q = zone_there top q (value_at top Zone) refl (is_there _ (quiet_top missing top 0 q.missed (lit< tt))) (quiet_top wrong_kind top 0 q.kinds (lit< tt))
+
+pub sound : (top : Members) → faults_of top ≡ [] → IsSound (entries_of top)
+sound top h =
+    let q = quiet top h in
+    record {
+      few_nodes = not_over 8192 _ (quiet_top too_many top 1 q.many (lit< tt));
+      few_groups = not_over 65536 _ (quiet_top too_many top 2 q.many (lit< tt));
+      capacities = λ i l. capacity_of top q i l _ refl;
+      parents = λ i l. parent_of_node top q i l _ refl;
+      inner = λ i l. inner_of_node top q i l _ refl;
+      shallow = λ i l. shallow_node top q i l _ refl;
+      node_names = node_names_sound top q;
+      group_names = group_names_sound top q;
+      hosts = λ i l. hosts_of_node top q i l _ refl;
+      zone = zone_sound top q;
+      groups = λ g l. group_of_table top q g l _ refl (kinds_pass Group (value_at top Group) (quiet_top wrong_kind top 2 q.kinds (lit< tt)) g (boolean false) l);
+    }

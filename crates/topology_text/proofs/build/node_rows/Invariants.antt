@@ -1,0 +1,10 @@
+use Rattle.std.proofs.Common.{◌≡◌, ◌++◌, map, drop}
+use Rattle.toml.specs.View.{view}
+use Rattle.topology_text.specs.Code.{entries}
+use Rattle.topology_text.specs.Topology.{node_of}
+use Rattle.topology_text.proofs.build.node_rows.Given as goal
+
+abbrev pub invariant-loop-entry : goal.invariant-loop-entry
+invariant-loop-entry l =
+    let each = node_of (entries l.index).nodes in
+    l.rows.items ++ map each (map view (drop l.entry-index l.entry-items)) ≡ map each (map view l.entry-items)

@@ -1,0 +1,15 @@
+-- What the code's walk stands for.
+use Rattle.std.specs.Prelude.{map, option_map}
+use Rattle.toml.specs.View.{table_view, view}
+use Rattle.topology_text.specs.declared.names.Entries.{Entries as CodeEntries}
+use Rattle.topology_text.specs.Names.{Entries}
+use Rattle.topology_text.specs.declared.walk.TableAt.{TableAt}
+use Rattle.topology_text.specs.Walk.{Visit}
+
+-- a table on the walk
+abbrev pub visit : TableAt → Visit
+visit t = record { spot = t.spot; members = table_view t.table.now }
+
+-- the entries, and not their index
+abbrev pub entries : CodeEntries → Entries
+entries e = record { nodes = map view e.nodes.now; groups = map view e.groups.now; zone = option_map (λ t. table_view t.now) e.zone }

@@ -1,0 +1,13 @@
+pub mod Schema
+pub mod Texts
+pub mod Walk
+pub mod Code
+pub mod Values
+pub mod Names
+pub mod Prefixes
+pub mod Hosts
+pub mod Plan
+pub mod Kept
+pub mod Topology
+pub mod Faults
+pub mod FaultTexts

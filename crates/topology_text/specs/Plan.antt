@@ -1,0 +1,59 @@
+-- What a topology's file says.
+use Rattle.std.specs.Prelude.{◌≡◌, ℕ, ◌<◌, ◌≤◌, List, [], length, map, Option, IsTrue, All, AllPairs, Contains, position, slice_index_or}
+use Rattle.std.specs.Str.{bytes_eq}
+use Rattle.addr_text.specs.declared.address.Addr.{Addr}
+use Rattle.addr_text.specs.declared.address.Addr.TheVariants.{V4, V6}
+use Rattle.addr_text.specs.declared.address.Prefix.{Prefix}
+use Rattle.map_model.specs.declared.instance.GroupId.{GroupId}
+use Rattle.map_model.specs.Market.{Market, IsMarket}
+use Rattle.topology_text.specs.declared.topology.Zone.{Zone}
+use Rattle.topology_text.specs.Hosts.{HostLists, IsHosts, addresses_at}
+use Rattle.topology_text.specs.Texts.{is_name}
+
+-- the instance, the zone, and by number the names of nodes and groups and the addresses of nodes; each prefix with its group, in file order
+pub record Plan : Type 0 where
+  pub market : Market
+  pub zone : Zone
+  pub node_names : List (List ℕ)
+  pub group_names : List (List ℕ)
+  pub prefixes : List (Prefix × GroupId)
+  pub addresses : List HostLists
+
+-- the place of a text in a list of distinct names
+abbrev pub number_in : List (List ℕ) → List ℕ → Option ℕ
+number_in names text = position (bytes_eq text) names
+
+-- the addresses of a node for records of a kind, 1 or 28
+abbrev pub addresses_of : Plan → ℕ → ℕ → List Addr
+addresses_of p n kind = addresses_at (slice_index_or p.addresses n (record { v4 = []; v6 = [] })) kind
+
+-- the prefix that holds all addresses of version 4
+abbrev pub default_v4 : Prefix
+default_v4 = record { addr = V4 0; len = 0 }
+
+-- the prefix that holds all addresses of version 6
+abbrev pub default_v6 : Prefix
+default_v6 = record { addr = V6 0; len = 0 }
+
+-- names for nodes or groups: as many as there are, each by the rule, and no two the same
+pub record AreNames (names : List (List ℕ)) (count : ℕ) : Type 0 where
+  pub as_many : length names ≡ count
+  pub each : All (λ n. IsTrue (is_name n)) names
+  pub distinct : AllPairs (λ a b. a ≡ b → ⊥) names
+
+-- prefixes of groups: each once, and both that hold all addresses of a family
+pub record ArePrefixes (prefixes : List (Prefix × GroupId)) (groups : ℕ) : Type 0 where
+  pub few : length prefixes ≤ 262144
+  pub owned : All (λ e. e.1.0 < groups) prefixes
+  pub once : AllPairs (λ a b. a.0 ≡ b.0 → ⊥) prefixes
+  pub all_v4 : Contains (map (λ e. e.0) prefixes) default_v4
+  pub all_v6 : Contains (map (λ e. e.0) prefixes) default_v6
+
+-- what holds of every topology
+pub record IsPlan (p : Plan) : Type 0 where
+  pub market : IsMarket p.market
+  pub nodes : AreNames p.node_names (length p.market.nodes)
+  pub groups : AreNames p.group_names (length p.market.groups)
+  pub prefixes : ArePrefixes p.prefixes (length p.market.groups)
+  pub as_many : length p.addresses ≡ length p.market.nodes
+  pub addresses : All IsHosts p.addresses

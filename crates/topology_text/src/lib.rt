@@ -1,0 +1,26 @@
+//! Topologies: what a TOML text says of groups, nodes and the zone, or the first fault that it has.
+#![tactic(auto)]
+
+mod build;
+mod fault;
+mod links;
+mod names;
+mod parts;
+mod prefixes;
+mod read;
+mod rule;
+mod schema;
+mod texts;
+mod topology;
+mod unknown;
+mod values;
+mod walk;
+mod zone;
+
+pub use fault::TopologyFault;
+pub use read::read_topology;
+pub use schema::{At, Key, Kind, Place, Spot};
+pub use topology::{Hosts, Names, Topology, Zone};
+
+#[cfg(test)]
+mod tests;

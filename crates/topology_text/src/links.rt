@@ -1,0 +1,228 @@
+//! Rules that look at names, and at what they lead to.
+ghost use Rattle.std.specs.Prelude.{◌≡◌, ◌≤◌, map, length, option_map, Some, IsNone};
+ghost use Rattle.std.specs.List.{list_any};
+ghost use Rattle.std.specs.Str.{bytes_eq};
+ghost use Rattle.toml.specs.View.{table_view, view};
+ghost use Rattle.topology_text.specs.Code.{entries, visit};
+ghost use Rattle.topology_text.specs.Names.{ascend, count_at, duplicate_name, has_repeat, is_deep, is_deep_at, is_inside, is_misplaced, is_misshapen, is_other, is_pool_number, is_taken, is_under_apex, is_unknown_name, list_shape, misplaced_at, number_of, parent_of, parent_order, repeats_name, text_in, texts_of, too_deep};
+ghost use Rattle.topology_text.specs.Values.{whole_if};
+ghost use Rattle.topology_text.specs.Walk.{first, value_at};
+
+use crate::names::{Entries, flag_of, text_of};
+use crate::rule::Rule;
+use crate::schema::{At, Key, Spot};
+use crate::texts::zone_name;
+use crate::values::Test;
+use crate::walk::{TableAt, items_of, value_of};
+use name_text::{Name, under};
+use toml::{Table, Value};
+
+fn whole_if(bad: bool) -> Option<At>
+    ensures { result ≡ first (whole_if bad) }
+{
+    if bad { Some(At::Whole) } else { None }
+}
+
+fn is_other(found: Option<usize>, number: usize) -> bool
+    ensures { result ≡ is_other found number }
+{
+    match found {
+        Some(first) => first != number,
+        None => false,
+    }
+}
+
+/// The name is that of an earlier entry.
+fn repeats_name(index: &Entries<'_>, spot: Spot, name: &str) -> bool
+    ensures { result ≡ repeats_name (entries index.now) spot (Some name.now) }
+{
+    match spot {
+        Spot::NodeTable(i) => is_other(index.node_number(name), i),
+        Spot::GroupTable(i) => is_other(index.group_number(name), i),
+        _ => false,
+    }
+}
+
+/// The later of two entries, name servers or services of one name.
+#[derive(Drop)]
+pub struct DuplicateName<'a>(pub &'a Entries<'a>);
+
+impl<'a> Rule for DuplicateName<'a> {
+    ghost finds = { λ r v k. duplicate_name (entries r.0.now) v k };
+
+    fn first(&self, table: &TableAt<'_>, key: Key) -> Option<At> {
+        match key {
+            Key::Name => {
+                let name = text_of(table.table, Key::Name)?;
+                whole_if(repeats_name(self.0, table.spot, name))
+            }
+            Key::Ns => self.0.ns_repeat(),
+            Key::Services => self.0.services_repeat(),
+            _ => None,
+        }
+    }
+}
+
+/// A pool has that name.
+fn is_pool_name(index: &Entries<'_>, name: &str) -> bool
+    ensures { result ≡ is_pool_number (entries index.now).nodes (number_of (entries index.now).nodes name.now) }
+{
+    match index.node_number(name) {
+        Some(node) => index.is_pool(node),
+        None => false,
+    }
+}
+
+/// A parent that is no node, or a pool that is none.
+#[derive(Drop)]
+pub struct UnknownName<'a>(pub &'a Entries<'a>);
+
+impl<'a> Test for UnknownName<'a> {
+    ghost fails = { λ r k d. is_unknown_name (entries r.0.now) k d };
+
+    fn is_bad(&self, key: Key, value: &Value) -> bool {
+        match (key, value) {
+            (Key::Parent, Value::String(text)) => self.0.node_number(text.as_str()).is_none(),
+            (Key::Pools, Value::String(text)) => !is_pool_name(self.0, text.as_str()),
+            _ => false,
+        }
+    }
+}
+
+fn is_misplaced(index: &Entries<'_>, node: usize) -> bool
+    ensures { result ≡ is_misplaced (entries index.now).nodes node (parent_of (entries index.now).nodes node) }
+{
+    match index.parent(node) {
+        Some(parent) => parent >= node || index.is_pool(parent),
+        None => false,
+    }
+}
+
+/// A parent that doesn't stand earlier, or is a pool.
+#[derive(Drop)]
+pub struct ParentOrder<'a>(pub &'a Entries<'a>);
+
+impl<'a> Rule for ParentOrder<'a> {
+    ghost finds = { λ r v k. parent_order (entries r.0.now) v k };
+
+    fn first(&self, table: &TableAt<'_>, key: Key) -> Option<At> {
+        match (key, table.spot) {
+            (Key::Parent, Spot::NodeTable(i)) => whole_if(is_misplaced(self.0, i)),
+            _ => None,
+        }
+    }
+}
+
+/// More than eight nodes stand on the path.
+fn is_deep(index: &Entries<'_>, node: usize) -> bool
+    ensures { result ≡ is_deep (entries index.now).nodes node }
+{
+    let mut at = Some(node);
+    for _step in 0..8usize {
+        match at {
+            Some(n) => at = index.parent(n),
+            None => return false,
+        }
+    }
+    at.is_some()
+}
+
+/// A path of more than eight nodes.
+#[derive(Drop)]
+pub struct TooDeep<'a>(pub &'a Entries<'a>);
+
+impl<'a> Rule for TooDeep<'a> {
+    ghost finds = { λ r v k. too_deep (entries r.0.now) v k };
+
+    fn first(&self, table: &TableAt<'_>, key: Key) -> Option<At> {
+        match (key, table.spot) {
+            (Key::Parent, Spot::NodeTable(i)) => whole_if(is_deep(self.0, i)),
+            _ => None,
+        }
+    }
+}
+
+/// Some item is that text.
+fn has_text(items: &[Value], text: &str) -> bool
+    ensures { result ≡ list_any (bytes_eq text.now) (texts_of (map view items.now)) }
+{
+    for item in items {
+        if let Some(other) = item.as_str() {
+            if text == other {
+                return true;
+            }
+        }
+    }
+    false
+}
+
+/// Some text stands twice among a few items.
+fn has_repeat(items: &[Value]) -> bool
+    ensures { result ≡ has_repeat (texts_of (map view items.now)) }
+{
+    for (i, item) in items.iter().enumerate() {
+        if let Some(text) = item.as_str() {
+            if has_text(&items[i + 1..], text) {
+                return true;
+            }
+        }
+    }
+    false
+}
+
+fn is_misshapen(table: &Table, key: Key) -> bool
+    ensures { result ≡ is_misshapen (table_view table.now) key }
+{
+    let count = items_of(table, key).len();
+    match key {
+        Key::Ns => value_of(table, key).is_some() && count == 0,
+        Key::A | Key::Aaaa => count > 0 && !flag_of(table, Key::Pool),
+        Key::Pools => {
+            value_of(table, key).is_some()
+                && (count == 0 || count > 16 || has_repeat(items_of(table, key)))
+        }
+        Key::Scores => {
+            value_of(table, key).is_some() && count != items_of(table, Key::Pools).len()
+        }
+        _ => false,
+    }
+}
+
+/// A list against its shape.
+#[derive(Drop)]
+pub struct ListShape;
+
+impl Rule for ListShape {
+    ghost finds = { λ _ v k. list_shape v k };
+
+    fn first(&self, table: &TableAt<'_>, key: Key) -> Option<At> {
+        whole_if(is_misshapen(table.table, key))
+    }
+}
+
+/// The name is the apex, or under it.
+fn is_under_apex(apex: Option<&Name>, name: Option<Name>) -> bool
+    ensures { result ≡ is_under_apex (option_map (λ n. n.now) apex.entry) name }
+{
+    match (apex, name) {
+        (Some(apex), Some(name)) => under(name.wire(), apex.wire()),
+        _ => false,
+    }
+}
+
+/// A name server that is the apex or stands under it.
+#[derive(Drop)]
+pub struct NsInside<'a>(pub &'a Entries<'a>);
+
+impl<'a> Test for NsInside<'a> {
+    ghost fails = { λ r k d. is_inside (entries r.0.now) k d };
+
+    fn is_bad(&self, key: Key, value: &Value) -> bool {
+        match (key, value) {
+            (Key::Ns, Value::String(text)) => {
+                is_under_apex(self.0.apex(), zone_name(text.as_str()))
+            }
+            _ => false,
+        }
+    }
+}

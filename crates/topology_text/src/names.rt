@@ -1,0 +1,218 @@
+//! Names of entries.
+ghost use Rattle.std.specs.Prelude.{◌<◌, length, IfSome, ◌≡◌, ℕ, map, List, Option, option_map, option_and_then, IfOk, OnOk, if◌then◌else◌, Some, None};
+ghost use Rattle.std.specs.HashMap.{get_by};
+ghost use Rattle.std.specs.Option.{option_or};
+ghost use Rattle.std.specs.Str.{bytes_eq};
+ghost use Rattle.toml.specs.View.{table_view, view};
+ghost use Rattle.topology_text.specs.Walk.{first, value_at};
+ghost use Rattle.topology_text.specs.Texts.{zone_name};
+ghost use Rattle.topology_text.specs.Names.{entries_of, entry_at, flag_in, is_pool, number_of, parent_of, repeats_in, text_at, text_in, zone_items, zone_text};
+ghost use Rattle.topology_text.specs.declared.schema.Key.TheVariants.{Apex, Ns, Services};
+
+use crate::schema::{At, Key};
+use crate::texts::zone_name;
+use crate::walk::{items_of, value_of};
+use crate::zone::{first_repeat, zone_items, zone_table, zone_text};
+use name_text::Name;
+use std::alloc::{AllocError, Global};
+use std::collections::HashMap;
+use toml::{Table, Value};
+
+/// The text at a key of a table.
+pub fn text_of(table: &Table, key: Key) -> Option<&str>
+    ensures { option_map (λ t. t.now) result ≡ text_in (value_at (table_view table.now) key) }
+{
+    match value_of(table, key) {
+        Some(Value::String(text)) => Some(text.as_str()),
+        _ => None,
+    }
+}
+
+/// The boolean at a key of a table, or false.
+pub fn flag_of(table: &Table, key: Key) -> bool
+    ensures { result ≡ flag_in (value_at (table_view table.now) key) }
+{
+    match value_of(table, key) {
+        Some(Value::Boolean(flag)) => *flag,
+        _ => false,
+    }
+}
+
+/// The entry is a pool.
+pub fn is_pool(entry: &Value) -> bool
+    ensures { result ≡ is_pool (view entry.now) }
+{
+    match entry {
+        Value::Table(table) => flag_of(table, Key::Pool),
+        _ => false,
+    }
+}
+
+/// The text at a key of an entry.
+pub fn text_at(entry: &Value, key: Key) -> Option<&str>
+    ensures { option_map (λ t. t.now) result ≡ text_at (view entry.now) key }
+{
+    match entry {
+        Value::Table(table) => match value_of(table, key) {
+            Some(Value::String(text)) => Some(text.as_str()),
+            _ => None,
+        },
+        _ => None,
+    }
+}
+
+/// Notes the number of a name that has none yet.
+fn note_first<'a>(
+    numbers: &mut HashMap<&'a str, usize>,
+    name: &'a str,
+    number: usize,
+) -> Result<(), AllocError>
+    ensures { OnOk result ((q : List ℕ) → get_by (λ k. bytes_eq q k.now) numbers.new ≡ option_or (get_by (λ k. bytes_eq q k.now) numbers.old) (if bytes_eq name.now q then Some number else None)) }
+{
+    if let None = numbers.get(name) {
+        numbers.insert(name, number)?;
+    }
+    Ok(())
+}
+
+/// The first number of each name.
+pub fn numbers_of(alloc: Global, entries: &[Value]) -> Result<HashMap<&str, usize>, AllocError>
+    ensures { IfOk result (λ m. (q : List ℕ) → get_by (λ k. bytes_eq q k.now) m ≡ number_of (map view entries.now) q) }
+{
+    let mut numbers = HashMap::new(alloc);
+    for (i, entry) in entries.iter().enumerate() {
+        if let Some(name) = text_at(entry, Key::Name) {
+            note_first(&mut numbers, name, i)?;
+        }
+    }
+    Ok(numbers)
+}
+
+/// The zone's top name, if there is one.
+fn zone_apex(zone: Option<&Table>) -> Option<Name>
+    ensures { result ≡ option_and_then zone_name (zone_text (option_map (λ t. table_view t.now) zone.entry) Key.Apex) }
+{
+    match zone_text(zone, Key::Apex) {
+        Some(text) => zone_name(text),
+        None => None,
+    }
+}
+
+/// The entries of a topology's two arrays and its zone, with their names.
+#[derive(Drop)]
+pub struct Entries<'a> {
+    nodes: &'a [Value],
+    groups: &'a [Value],
+    zone: Option<&'a Table>,
+    node_numbers: HashMap<&'a str, usize>,
+    group_numbers: HashMap<&'a str, usize>,
+    apex: Option<Name>,
+    ns_repeat: Option<At>,
+    services_repeat: Option<At>,
+    ghost nodes_are: { (q : List ℕ) → get_by (λ k. bytes_eq q k.now) node_numbers ≡ number_of (map view nodes.now) q },
+    ghost groups_are: { (q : List ℕ) → get_by (λ k. bytes_eq q k.now) group_numbers ≡ number_of (map view groups.now) q },
+    ghost apex_is: { apex ≡ option_and_then zone_name (zone_text (option_map (λ t. table_view t.now) zone) Apex) },
+    ghost ns_are: { ns_repeat ≡ first (repeats_in Ns (zone_items (option_map (λ t. table_view t.now) zone) Ns)) },
+    ghost services_are: { services_repeat ≡ first (repeats_in Services (zone_items (option_map (λ t. table_view t.now) zone) Services)) },
+}
+
+impl<'a> Entries<'a> {
+    ghost use Rattle.topology_text.specs.Code.{entries};
+
+    /// What stands in a table.
+    pub fn new(alloc: Global, top: &'a Table) -> Result<Entries<'a>, AllocError>
+        ensures { IfOk result (λ e. entries e ≡ entries_of (table_view top.now)) }
+    {
+        let nodes = items_of(top, Key::Node);
+        let groups = items_of(top, Key::Group);
+        let zone = zone_table(top);
+        let node_numbers = numbers_of(alloc, nodes)?;
+        let group_numbers = numbers_of(alloc, groups)?;
+        let ns_repeat = first_repeat(alloc, Key::Ns, zone_items(zone, Key::Ns))?;
+        let services_repeat = first_repeat(alloc, Key::Services, zone_items(zone, Key::Services))?;
+        Ok(Entries {
+            nodes,
+            groups,
+            zone,
+            node_numbers,
+            group_numbers,
+            apex: zone_apex(zone),
+            ns_repeat,
+            services_repeat,
+        })
+    }
+
+    /// The first name server that stands earlier too.
+    pub fn ns_repeat(&self) -> Option<At>
+        ensures { result ≡ first (repeats_in Key.Ns (zone_items (entries self.now).zone Key.Ns)) }
+    {
+        self.ns_repeat
+    }
+
+    /// The first service that stands earlier too.
+    pub fn services_repeat(&self) -> Option<At>
+        ensures { result ≡ first (repeats_in Key.Services (zone_items (entries self.now).zone Key.Services)) }
+    {
+        self.services_repeat
+    }
+
+    /// The zone, if it is a table.
+    pub fn zone(&self) -> Option<&Table>
+        ensures { option_map (λ t. table_view t.now) result ≡ (entries self.now).zone }
+    {
+        self.zone
+    }
+
+    /// The zone's top name, if there is one.
+    pub fn apex(&self) -> Option<&Name>
+        ensures { option_map (λ n. n.now) result ≡ option_and_then zone_name (zone_text (entries self.now).zone Key.Apex) }
+    {
+        self.apex.as_ref()
+    }
+
+    /// The first node of that name.
+    pub fn node_number(&self, name: &str) -> Option<usize>
+        ensures number { result ≡ number_of (entries self.now).nodes name.now }
+        ensures within { IfSome result (λ n. n < length (entries self.now).nodes) }
+    {
+        self.node_numbers.get(name).copied()
+    }
+
+    /// The first group of that name.
+    pub fn group_number(&self, name: &str) -> Option<usize>
+        ensures { result ≡ number_of (entries self.now).groups name.now }
+    {
+        self.group_numbers.get(name).copied()
+    }
+
+    /// That node is there, and is a pool.
+    pub fn is_pool(&self, node: usize) -> bool
+        ensures { result ≡ is_pool (entry_at (entries self.now).nodes node) }
+    {
+        match self.nodes.get(node) {
+            Some(entry) => is_pool(entry),
+            None => false,
+        }
+    }
+
+    /// The number of a node's parent.
+    pub fn parent(&self, node: usize) -> Option<usize>
+        ensures { result ≡ parent_of (entries self.now).nodes node }
+    {
+        let entry = self.nodes.get(node)?;
+        let name = text_at(entry, Key::Parent)?;
+        self.node_number(name)
+    }
+
+    pub fn nodes(&self) -> &[Value]
+        ensures { result.now ≡ self.now.nodes.now }
+    {
+        self.nodes
+    }
+
+    pub fn groups(&self) -> &[Value]
+        ensures { result.now ≡ self.now.groups.now }
+    {
+        self.groups
+    }
+}

@@ -1,0 +1,186 @@
+//! What a fault-free table says beside the instance.
+ghost use Rattle.std.specs.Prelude.{◌≡◌, ◌<◌, ◌^◌, All, AllPairs, IfOk, IsTrue, is_some, length, map, option_and_then, option_map};
+ghost use Rattle.std.specs.List.{filter_map};
+ghost use Rattle.toml.specs.View.{table_view, view};
+ghost use Rattle.topology_text.specs.Code.{entries};
+ghost use Rattle.topology_text.specs.Names.{names_in, zone_text};
+ghost use Rattle.topology_text.specs.Plan.{ArePrefixes};
+ghost use Rattle.topology_text.specs.Texts.{zone_name};
+ghost use Rattle.topology_text.specs.Topology.{IsSound, IsSoundZone, address_in, hosts_of, items_in, name_of, owned, plan_of, zone_name_at, zone_number, zone_of};
+
+use crate::build::{instance, items_in, natural};
+use crate::names::{Entries, text_at};
+use crate::prefixes::PrefixAt;
+use crate::schema::Key;
+use crate::texts::{v4_address, v6_address, zone_name};
+use crate::topology::{Hosts, Names, Topology, Zone};
+use crate::walk::value_of;
+use crate::zone::{name_in, zone_items, zone_text};
+use addr_text::{Addr, Prefix};
+use indexmap::IndexSet;
+use map_model::GroupId;
+use name_text::Name;
+use std::alloc::{AllocError, Global};
+use toml::{Table, Value};
+
+/// The name of an entry.
+fn name_of(alloc: Global, entry: &Value) -> Result<Vec<u8>, AllocError>
+    ensures { IfOk result (λ v. v.items ≡ name_of (view entry.now)) }
+{
+    match text_at(entry, Key::Name) {
+        Some(text) => Vec::from_slice(alloc, text.as_bytes()),
+        None => Ok(Vec::new(alloc)),
+    }
+}
+
+/// The names of entries, which differ.
+fn names(alloc: Global, entries: &[Value]) -> Result<IndexSet<Vec<u8>>, AllocError>
+    requires { AllPairs (λ a b. a ≡ b → ⊥) (map name_of (map view entries.now)) }
+    ensures { IfOk result (λ s. map (λ v. v.items) s.keys ≡ map name_of (map view entries.now)) }
+{
+    let mut names = IndexSet::new(alloc);
+    for entry in entries {
+        let name = name_of(alloc, entry)?;
+        names.insert_full(name)?;
+    }
+    Ok(names)
+}
+
+/// The address that an item of `a` or `aaaa` is.
+fn address_in(key: Key, item: &Value) -> Option<Addr>
+    ensures { result ≡ address_in key (view item.now) }
+{
+    match (key, item) {
+        (Key::A, Value::String(text)) => v4_address(text.as_str()),
+        (Key::Aaaa, Value::String(text)) => v6_address(text.as_str()),
+        _ => None,
+    }
+}
+
+/// The addresses in a list.
+fn addresses(alloc: Global, key: Key, items: &[Value]) -> Result<Vec<Addr>, AllocError>
+    ensures { IfOk result (λ v. v.items ≡ filter_map (address_in key) (map view items.now)) }
+{
+    let mut addresses = Vec::new(alloc);
+    for item in items {
+        if let Some(address) = address_in(key, item) {
+            addresses.push(address)?;
+        }
+    }
+    Ok(addresses)
+}
+
+/// The addresses of an entry.
+fn hosts_of(alloc: Global, entry: &Value) -> Result<Hosts, AllocError>
+    ensures { IfOk result (λ h. h ≡ hosts_of (view entry.now)) }
+{
+    let v4 = addresses(alloc, Key::A, items_in(entry, Key::A))?;
+    let v6 = addresses(alloc, Key::Aaaa, items_in(entry, Key::Aaaa))?;
+    Ok(Hosts::new(v4, v6))
+}
+
+/// The addresses of all entries.
+fn all_hosts(alloc: Global, entries: &[Value]) -> Result<Vec<Hosts>, AllocError>
+    ensures { IfOk result (λ v. v.items ≡ map hosts_of (map view entries.now)) }
+{
+    let mut hosts = Vec::new(alloc);
+    for entry in entries {
+        hosts.push(hosts_of(alloc, entry)?)?;
+    }
+    Ok(hosts)
+}
+
+/// Each prefix with its group.
+fn owned(alloc: Global, prefixes: &[PrefixAt]) -> Result<Vec<(Prefix, GroupId)>, AllocError>
+    requires { All (λ e. e.group < 2 ^ 32) prefixes.now }
+    ensures { IfOk result (λ v. v.items ≡ map owned prefixes.now) }
+{
+    let mut owned = Vec::new(alloc);
+    for entry in prefixes {
+        owned.push((entry.prefix, GroupId(entry.group as u32)))?;
+    }
+    Ok(owned)
+}
+
+/// The names in a list of the zone.
+fn wire_names(alloc: Global, key: Key, items: &[Value]) -> Result<Names, AllocError>
+    ensures { IfOk result (λ v. v ≡ names_in key (map view items.now)) }
+{
+    let mut names = Vec::new(alloc);
+    for item in items {
+        if let Some(name) = name_in(key, item) {
+            names.push(name)?;
+        }
+    }
+    Ok(Names::new(names))
+}
+
+/// The name at a key of the zone.
+fn zone_name_at(zone: Option<&Table>, key: Key) -> Name
+    requires { IsTrue (is_some (option_and_then zone_name (zone_text (option_map (λ t. table_view t.now) zone) key))) }
+    ensures { result ≡ zone_name_at (option_map (λ t. table_view t.now) zone.entry) key }
+{
+    zone_text(zone, key).and_then(|text| zone_name(text)).unwrap()
+}
+
+/// The number at a key of the zone.
+fn zone_number(zone: Option<&Table>, key: Key) -> u32
+    requires { zone_number (option_map (λ t. table_view t.now) zone) key < 2 ^ 32 }
+    ensures { result ≡ zone_number (option_map (λ t. table_view t.now) zone.entry) key }
+{
+    match zone {
+        Some(table) => match value_of(table, key) {
+            Some(value) => natural(value) as u32,
+            None => 0,
+        },
+        None => 0,
+    }
+}
+
+/// The zone.
+fn zone_of(alloc: Global, zone: Option<&Table>) -> Result<Zone, AllocError>
+    requires { IsSoundZone (option_map (λ t. table_view t.now) zone) }
+    ensures { IfOk result (λ z. z ≡ zone_of (option_map (λ t. table_view t.now) zone.entry)) }
+{
+    let ns = wire_names(alloc, Key::Ns, zone_items(zone, Key::Ns))?;
+    let services = wire_names(alloc, Key::Services, zone_items(zone, Key::Services))?;
+    Ok(Zone {
+        apex: zone_name_at(zone, Key::Apex),
+        mname: zone_name_at(zone, Key::Mname),
+        rname: zone_name_at(zone, Key::Rname),
+        serial: zone_number(zone, Key::Serial),
+        refresh: zone_number(zone, Key::Refresh),
+        retry: zone_number(zone, Key::Retry),
+        expire: zone_number(zone, Key::Expire),
+        minimum: zone_number(zone, Key::Minimum),
+        ttl: zone_number(zone, Key::Ttl),
+        ns,
+        services,
+    })
+}
+
+/// All that a fault-free table says, whose prefixes these are.
+pub fn topology(
+    alloc: Global,
+    index: &Entries<'_>,
+    prefixes: &[PrefixAt],
+) -> Result<Topology, AllocError>
+    requires sound { IsSound (entries index.now) }
+    requires prefixes { ArePrefixes (map owned prefixes.now) (length (entries index.now).groups) }
+    ensures { IfOk result (λ t. t ≡ plan_of (entries index.now) prefixes.now) }
+{
+    let instance = instance(alloc, index)?;
+    let zone = zone_of(alloc, index.zone())?;
+    let node_names = names(alloc, index.nodes())?;
+    let group_names = names(alloc, index.groups())?;
+    let owned = owned(alloc, prefixes)?;
+    let hosts = all_hosts(alloc, index.nodes())?;
+    Ok(Topology::from_parts(
+        instance,
+        zone,
+        node_names,
+        group_names,
+        owned,
+        hosts,
+    ))
+}
