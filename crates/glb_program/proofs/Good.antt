@@ -16,7 +16,7 @@ use Rattle.glb_program.specs.Words.{Ask, check}
 use Rattle.glb_program.specs.Outcome.{IsPrinted, Outcome, Outside, RunsBy}
 use Rattle.glb_program.specs.Files.{Kind, Reads, Says, refused, says, map_file, topology_file}
 use Rattle.glb_program.specs.Check.{HoldsGoodMap, IsCheck, IsCheckDue, IsJudged, status_of}
-use Rattle.glb_program.specs.Run.{IsGoodRun, IsRun, IsUsage}
+use Rattle.glb_program.specs.Run.{IsGoodRun, IsRun}
 use Rattle.glb_program.specs.Texts as text
 
 -- where all is well, the file said something
@@ -67,9 +67,8 @@ whole_run Due P before after result (inr (inl cut)) ok well = let other = cut.st
 whole_run Due P before after result (inr (inr silent)) ok well = elim silent.status [ inl other ↦ cc | inr other ↦ cc ]
 
 pub good_run : (ask : Option Ask) (before after : Outside) (result : Status) → IsRun ask before after result → result ≡ status.Ok → IsGoodRun ask before after
-good_run None before after result run ok =
-    (whole_run IsUsage (λ _. IsGoodRun None before after) before.out after.out result run ok
-    (λ due is well puts. let usage : due.status ≡ status.Usage = ap (λ (o : Outcome). o.status) is in cc)).1
+good_run None before after result (inl whole) ok = let usage : whole.due.status ≡ status.Usage = ap (λ (o : Outcome). o.status) whole.is_due in let same = whole.status in absurd (cc)
+good_run None before after result (inr cut) ok = let other = cut.status in absurd (cc)
 good_run (Some (check topology map)) before after result run ok =
     (whole_run (IsCheckDue topology map before.files) (λ _. IsGoodRun (Some (check topology map)) before after) before.out after.out result run ok
     (λ due is_due well puts.

@@ -74,6 +74,10 @@ pub record IsSilent (before after : Option Written) (result : Status) : Type 0 w
   pub status : (result ≡ SourceFault) ⊎ (result ≡ NoMemory)
   pub puts : BothTell before after (λ b a. a ≡ b)
 
+-- the outcome that is due was answered with its text, or the put of the text failed
+abbrev pub Speaks : (Outcome → Type 0) → Option Written → Option Written → Status → Type 0
+Speaks Due before after result = IsWhole Due before after result ⊎ IsCut Due before after result
+
 -- The run of a command that puts its texts at its end. `Due` says which outcomes are due.
 abbrev pub RunsBy : (Outcome → Type 0) → Option Written → Option Written → Status → Type 0
 RunsBy Due before after result = IsWhole Due before after result ⊎ IsCut Due before after result ⊎ IsSilent before after result

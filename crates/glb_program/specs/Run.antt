@@ -5,7 +5,7 @@ use Rattle.outside.specs.Shelf.{Load, Shelved}
 use Rattle.glb_program.specs.declared.status.Status.{Status}
 use Rattle.glb_program.specs.declared.status.Status.TheVariants.{Usage}
 use Rattle.glb_program.specs.Words.{Ask, check}
-use Rattle.glb_program.specs.Outcome.{Outcome, Outside, RunsBy}
+use Rattle.glb_program.specs.Outcome.{Outcome, Outside, RunsBy, Speaks}
 use Rattle.glb_program.specs.Check.{HoldsGoodMap, IsCheckDue, loads_of_check}
 use Rattle.glb_program.specs.Texts as text
 
@@ -19,7 +19,7 @@ IsDue (check topology map) files = IsCheckDue topology map files
 
 -- what a run does
 abbrev pub IsRun : Option Ask → Outside → Outside → Status → Type 0
-IsRun None before after = RunsBy IsUsage before.out after.out
+IsRun None before after = Speaks IsUsage before.out after.out
 IsRun (Some ask) before after = RunsBy (IsDue ask before.files) before.out after.out
 
 -- the loads that are due to a command over the files: in the order of its words with their limits, each where all before it say something

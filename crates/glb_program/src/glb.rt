@@ -1,7 +1,7 @@
-ghost use Rattle.std.specs.Prelude.{◌≡◌, ◌≢◌, ◌≤◌, IfSome};
+ghost use Rattle.std.specs.Prelude.{◌≡◌, ◌≢◌, ◌≤◌, ◌⊎◌, IsSomeAnd};
 ghost use Rattle.outside.specs.Faults.{BothTell, Rose};
 ghost use Rattle.glb_program.specs.Outcome.{AreLoaded, AreLoadsOf, HasCauses, HasText};
-ghost use Rattle.glb_program.specs.Run.{IsDue, IsGoodRun, IsRun, loads_of, loads_of_ask};
+ghost use Rattle.glb_program.specs.Run.{IsDue, IsGoodRun, IsRun, IsSound, loads_of, loads_of_ask};
 ghost use Rattle.glb_program.specs.Commands.{ask_of};
 ghost use Rattle.glb_program.specs.Reports.{EndsBy};
 ghost use Rattle.glb_program.specs.Words.{asked, texts};
@@ -51,6 +51,9 @@ pub fn glb<R, F: Shelf, K: Sink>(
 
     // Status 0 says that the files hold a map that is good, and that the output got `good`.
     ensures good { result ≡ Status.Ok → IsGoodRun (asked (texts words.now)) (record { files = F.told files.old; out = K.told out.old }) (record { files = F.told files.new; out = K.told out.new }) }
+
+    // Where the files are told to hold a map that is good, and no count of faults rises, there is no other answer but want of memory.
+    ensures complete { IsSomeAnd (F.told files.old) (λ shelf. IsSound (asked (texts words.now)) shelf.holds) → ¬ Rose (F.faults files.old) (F.faults files.new) → ¬ Rose (K.faults out.old) (K.faults out.new) → (result ≡ Status.Ok) ⊎ (result ≡ Status.NoMemory) }
 {
     match read_words(words) {
         Some(command) => {

@@ -1,6 +1,6 @@
 ghost use Rattle.std.specs.Prelude.{◌≡◌, ◌⊎◌, ◌≤◌, [], ◌∷◌};
 ghost use Rattle.outside.specs.Faults.{BothTell, Rose};
-ghost use Rattle.glb_program.specs.Outcome.{HasText, RunsBy};
+ghost use Rattle.glb_program.specs.Outcome.{HasText, RunsBy, Speaks};
 ghost use Rattle.glb_program.specs.Reports.{EndsBy, IsReport};
 
 use crate::status::Status;
@@ -24,8 +24,8 @@ pub enum Ended {
 
 /// Puts a text, and answers its status unless that fails.
 pub fn say<K: Sink>(out: &mut K, status: Status, text: &[u8]) -> Status
-    ensures run { RunsBy (λ due. due ≡ record { status = status; pieces = text.now ∷ [] }) (K.told out.old) (K.told out.new) result }
-    ensures spoken { result ≡ status ⊎ result ≡ Status.SinkFault }
+    ensures run { Speaks (λ due. due ≡ record { status = status; pieces = text.now ∷ [] }) (K.told out.old) (K.told out.new) result }
+    ensures status { result ≡ status ⊎ result ≡ Status.SinkFault }
     ensures later { K.faults out.old ≤ K.faults out.new }
     ensures cause { HasText status → result ≡ Status.SinkFault → Rose (K.faults out.old) (K.faults out.new) }
 {
