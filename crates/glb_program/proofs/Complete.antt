@@ -30,7 +30,7 @@ only_good m lines names (Blocking g k) judged good = let some = good.stable g.0 
 only_good m lines names (BadName i) judged good = absurd (judged.3.here (ap (λ ns. slice_get ns i) good.named))
 
 -- what a file says decides what is due
-reads_on : {T F : Type 0} (kind : Kind T F) (held : Option (List ℕ)) (Next : T → Outcome → Type 0) (due : Outcome) (t : T) → Says kind held t → Reads kind held Next due → Next t due
+reads_on : {T : Type 0} (kind : Kind T) (held : Option (List ℕ)) (Next : T → Outcome → Type 0) (due : Outcome) (t : T) → Says kind held t → Reads kind held Next due → Next t due
 reads_on {T = T} kind held Next due t is h = subst (λ (r : Option (Result T (List ℕ))). MatchOption r ⊥ (λ x. MatchResult x (λ y. Next y due) (λ text. due ≡ refused text))) is h
 
 well_due : (topology map : List ℕ) (files : List ℕ → Option (List ℕ)) (due : Outcome) → HoldsGoodMap topology map files → IsCheck topology map files due → due.status ≡ status.Ok
