@@ -1,5 +1,5 @@
 -- What is read as a prefix is one.
-use Rattle.std.proofs.Common.{◌≡◌, ℕ, ◌≤◌, ◌==◌, Bool, true, false, cond, nat_le, List, Option, None, Some, option_map, refl, ap, sym, ◌∙◌, subst, arith}
+use Rattle.std.proofs.Common.{◌≡◌, ℕ, ◌≤◌, ◌==◌, Bool, true, false, cond, nat_le, List, Option, None, Some, option_map, refl, subst, arith}
 use Rattle.std.proofs.lemmas.Bool.Decides.{nat_tests}
 use Rattle.std.specs.Option.{option_and_then}
 use Rattle.std.specs.List.{after_first, before_first}
@@ -15,6 +15,7 @@ number_within limit text n is = plain (is_plain text) (option_map (in_base 10) (
     tested : (b : Bool) (m : ℕ) → nat_le m limit ≡ b → cond b (Some m) None ≡ Some n → n ≤ limit
     tested true m low e = let same : m ≡ n = cc in let few : m ≤ limit = grind (arith, nat_tests) in omega arith
     tested false m low e = cc
+
     plain : (b : Bool) (o : Option ℕ) → cond b (only_if (λ m. nat_le m limit) o) None ≡ Some n → n ≤ limit
     plain false o e = cc
     plain true None e = cc
