@@ -6,13 +6,13 @@ use Rattle.topology_text.specs.Hosts.{IsHosts}
 use Rattle.topology_text.specs.Texts.{is_name}
 use Rattle.topology_text.specs.Walk.{items_at, items_of_value, places_of, table_in, value_at, walk}
 use Rattle.topology_text.specs.Values.{failing, is_bad_name, is_out_of_range, missing, too_many, wrong_in, wrong_kind}
-use Rattle.topology_text.specs.Names.{ascend, count_at, duplicate_name, entries_of, entry_at, has_repeat, is_pool, is_taken, is_unknown_name, list_shape, number_of, parent_of, parent_order, text_at, texts_of, too_deep}
+use Rattle.topology_text.specs.Names.{ascend, count_at, duplicate_name, entries_of, entry_at, flag_in, has_repeat, is_pool, is_taken, is_unknown_name, list_shape, number_of, parent_of, parent_order, text_at, texts_of, too_deep}
 use Rattle.topology_text.specs.Faults.{failures, faults_of, list_faults, name_faults, prefix_faults, shape_faults, value_faults}
 use Rattle.topology_text.specs.Prefixes.{all_prefixes, duplicate_prefixes, no_default, passing}
 use Rattle.topology_text.specs.Topology.{AreSoundNames, IsSound, IsSoundGroup, IsSoundZone, hosts_of, number_at}
-use Rattle.topology_text.specs.declared.schema.Key.TheVariants.{Zone, Node, Group, Apex, Mname, Rname, Serial, Refresh, Retry, Expire, Minimum, Ttl, Name, Parent, Capacity, Demand, Pools, Scores}
+use Rattle.topology_text.specs.declared.schema.Key.TheVariants.{Zone, Node, Group, Apex, Mname, Rname, Serial, Refresh, Retry, Expire, Minimum, Ttl, Name, Parent, Pool, A, Aaaa, Capacity, Demand, Pools, Scores}
 use Rattle.topology_text.proofs.Quiet.{empty_first, empty_second, empty_map, not_whole, quiet_top, quiet_zone, quiet_node, quiet_group}
-use Rattle.topology_text.proofs.SoundHosts.{hosts_good}
+use Rattle.topology_text.proofs.SoundHosts.{hosts_good, hosts_none, list_empty}
 use Rattle.topology_text.proofs.SoundNames.{name_good, names_sound}
 use Rattle.topology_text.proofs.SoundZone.{apex_good, mname_good, rname_good, serial_fits, refresh_fits, retry_fits, expire_fits, minimum_fits, ttl_fits}
 use Rattle.topology_text.proofs.Sound.{capacity_fits, not_deep, not_over, parent_before, parent_inner, root_shallow}
@@ -183,6 +183,18 @@ hosts_of_node top q i l (boolean b) is = hosts_good (boolean b) (omega arith) (o
 hosts_of_node top q i l (datetime t) is = hosts_good (datetime t) (omega arith) (omega arith)
 hosts_of_node top q i l (array ds) is = hosts_good (array ds) (omega arith) (omega arith)
 
+-- a node that is no pool has none
+hosts_of_other : (top : Members) → IsQuiet top → (i : ℕ) → i < length (items_at top Node) → (e : Data) → entry_at (items_at top Node) i ≡ e → is_pool e ≡ false → hosts_of e ≡ record { v4 = []; v6 = [] }
+hosts_of_other top q i l (table ms) is other =
+    hosts_none (table ms) (list_empty (flag_in (value_at ms Pool)) (items_at ms A) other (not_whole _ (quiet_node list_shape top i ms 4 q.shapes l is (lit< tt))))
+    (list_empty (flag_in (value_at ms Pool)) (items_at ms Aaaa) other (not_whole _ (quiet_node list_shape top i ms 5 q.shapes l is (lit< tt))))
+hosts_of_other top q i l (string t) is other = refl
+hosts_of_other top q i l (integer z) is other = refl
+hosts_of_other top q i l (float x) is other = refl
+hosts_of_other top q i l (boolean b) is other = refl
+hosts_of_other top q i l (datetime t) is other = refl
+hosts_of_other top q i l (array ds) is other = refl
+
 -- the zone, which is a table
 zone_table : (top ms : Members) → IsQuiet top → value_at top Zone ≡ Some (table ms) → IsSoundZone (Some ms)
 zone_table top ms q is =
@@ -224,6 +236,7 @@ sound top h =
       node_names = node_names_sound top q;
       group_names = group_names_sound top q;
       hosts = λ i l. hosts_of_node top q i l _ refl;
+      pools_only = λ i l other. hosts_of_other top q i l _ refl other;
       zone = zone_sound top q;
       groups = λ g l. group_of_table top q g l _ refl (kinds_pass Group (value_at top Group) (quiet_top wrong_kind top 2 q.kinds (lit< tt)) g (boolean false) l);
     }

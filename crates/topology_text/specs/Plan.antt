@@ -1,11 +1,12 @@
 -- What a topology's file says.
-use Rattle.std.specs.Prelude.{◌≡◌, ℕ, ◌<◌, ◌≤◌, List, [], length, map, Option, IsTrue, All, AllPairs, Contains, position, slice_index_or}
+use Rattle.std.specs.Prelude.{◌≡◌, ℕ, ◌<◌, ◌≤◌, List, [], length, map, Option, IsTrue, IsFalse, All, AllPairs, Contains, position, slice_index_or}
 use Rattle.std.specs.Str.{bytes_eq}
 use Rattle.addr_text.specs.declared.address.Addr.{Addr}
 use Rattle.addr_text.specs.declared.address.Addr.TheVariants.{V4, V6}
 use Rattle.addr_text.specs.declared.address.Prefix.{Prefix}
+use Rattle.addr_text.specs.Addresses.{IsPrefix}
 use Rattle.map_model.specs.declared.instance.GroupId.{GroupId}
-use Rattle.map_model.specs.Market.{Market, IsMarket}
+use Rattle.map_model.specs.Market.{Market, IsMarket, is_pool_at}
 use Rattle.topology_text.specs.declared.topology.Zone.{Zone}
 use Rattle.topology_text.specs.Hosts.{HostLists, IsHosts, addresses_at}
 use Rattle.topology_text.specs.Texts.{is_name}
@@ -41,9 +42,10 @@ pub record AreNames (names : List (List ℕ)) (count : ℕ) : Type 0 where
   pub each : All (λ n. IsTrue (is_name n)) names
   pub distinct : AllPairs (λ a b. a ≡ b → ⊥) names
 
--- prefixes of groups: each once, and both that hold all addresses of a family
+-- prefixes of groups: each with no bit beyond its length, each once, and both that hold all addresses of a family
 pub record ArePrefixes (prefixes : List (Prefix × GroupId)) (groups : ℕ) : Type 0 where
   pub few : length prefixes ≤ 262144
+  pub each : All (λ e. IsPrefix e.0) prefixes
   pub owned : All (λ e. e.1.0 < groups) prefixes
   pub once : AllPairs (λ a b. a.0 ≡ b.0 → ⊥) prefixes
   pub all_v4 : Contains (map (λ e. e.0) prefixes) default_v4
@@ -57,3 +59,4 @@ pub record IsPlan (p : Plan) : Type 0 where
   pub prefixes : ArePrefixes p.prefixes (length p.market.groups)
   pub as_many : length p.addresses ≡ length p.market.nodes
   pub addresses : All IsHosts p.addresses
+  pub pools_only : (n : ℕ) → n < length p.market.nodes → IsFalse (is_pool_at p.market n) → (addresses_of p n 1 ≡ []) × (addresses_of p n 28 ≡ [])

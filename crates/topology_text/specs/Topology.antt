@@ -151,4 +151,5 @@ pub record IsSound (d : Entries) : Type 0 where
   pub node_names : AreSoundNames d.nodes
   pub group_names : AreSoundNames d.groups
   pub hosts : (i : ℕ) → i < length d.nodes → IsHosts (hosts_of (entry_at d.nodes i))
+  pub pools_only : (i : ℕ) → i < length d.nodes → is_pool (entry_at d.nodes i) ≡ false → hosts_of (entry_at d.nodes i) ≡ record { v4 = []; v6 = [] }
   pub zone : IsSoundZone d.zone
