@@ -35,6 +35,7 @@ plan_good d prefixes s p =
     let groups_len : length d.groups ≡ length (map (group_of d.nodes) d.groups) = sym (length-map d.groups (group_of d.nodes)) in
     record {
       market = market_good d s;
+      zone = s.zone.whole;
       nodes = names_good d.nodes _ s.node_names nodes_len;
       groups = names_good d.groups _ s.group_names groups_len;
       prefixes = subst (ArePrefixes (map owned prefixes)) groups_len p;

@@ -27,22 +27,9 @@ use Rattle.topology_text.specs.declared.schema.Spot.{Spot}
 use Rattle.topology_text.specs.declared.schema.Spot.TheVariants.{Top, ZoneTable, NodeTable, GroupTable, Family}
 use Rattle.topology_text.proofs.Clean.{IsQuiet, quiet}
 use Rattle.topology_text.proofs.Quiet.{empty_first, empty_map, empty_second}
+use Rattle.topology_text.proofs.Repeats.{none_marked}
 use Rattle.topology_text.proofs.Totals.{passes}
 use Rattle.topology_text.proofs.Twice.{is_later}
-
--- nothing is marked: no element passes
-none_marked : {X : Type 0} (test : ℕ → X → Bool) (i : ℕ) (xs : List X) → marked_from test i xs ≡ [] → (j : ℕ) (d : X) → j < length xs → test (i + j) (get_or xs j d) ≡ false
-none_marked test i [] h j d l = absurd (omega arith)
-none_marked test i (x ∷ xs) h zero d l = let e : i + 0 ≡ i = omega arith in rw e (fails (test i x) h)
-  where
-    fails : (b : Bool) → cond b ((i, x) ∷ marked_from test (i + 1) xs) (marked_from test (i + 1) xs) ≡ [] → b ≡ false
-    fails true q = cc
-    fails false q = refl
-none_marked test i (x ∷ xs) h (suc j) d l = let e : i + suc j ≡ (i + 1) + j = omega arith in rw e (none_marked test (i + 1) xs (rest (test i x) h) j d (omega arith))
-  where
-    rest : (b : Bool) → cond b ((i, x) ∷ marked_from test (i + 1) xs) (marked_from test (i + 1) xs) ≡ [] → marked_from test (i + 1) xs ≡ []
-    rest true q = cc
-    rest false q = q
 
 -- prefixes of one text are one prefix
 same_addr : (a b : Addr) → is_same_addr a b ≡ true → a ≡ b

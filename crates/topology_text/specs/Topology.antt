@@ -9,7 +9,7 @@ use Rattle.map_model.specs.declared.instance.Node.{Node}
 use Rattle.map_model.specs.declared.instance.GroupId.{GroupId}
 use Rattle.map_model.specs.Market.{Group, Market}
 use Rattle.topology_text.specs.Hosts.{HostLists, IsHosts}
-use Rattle.topology_text.specs.Plan.{Plan}
+use Rattle.topology_text.specs.Plan.{IsZone, Plan}
 use Rattle.topology_text.specs.Texts.{is_name, v4_address, v6_address, zone_name}
 use Rattle.topology_text.specs.declared.prefixes.PrefixAt.{PrefixAt}
 use Rattle.topology_text.specs.declared.topology.Zone.{Zone}
@@ -138,6 +138,7 @@ pub record IsSoundZone (zone : Option Members) : Type 0 where
   pub expire : zone_number zone Expire < 2 ^ 32
   pub minimum : zone_number zone Minimum < 2 ^ 31
   pub ttl : zone_number zone Ttl < 2 ^ 31
+  pub whole : IsZone (zone_of zone)
 
 -- entries that can stand in a topology
 pub record IsSound (d : Entries) : Type 0 where
