@@ -127,8 +127,10 @@ not_past visits none (suc n) h = apart (is_past visits n) (is_past visits (suc n
     apart true b e q = cc
     apart false true e q = cc
     apart false false e q = refl
+
     blank : Visit
     blank = record { spot = Top; members = no_members }
+
     step : (is_past visits (suc n) && not (is_past visits n)) ≡ false
     step =
         let e : 0 + n ≡ n = omega arith in

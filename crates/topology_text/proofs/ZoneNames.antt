@@ -74,6 +74,7 @@ one_label text n h = go (label_fault text) refl h
     short : (b : Bool) → ok_or (cond b (Some (wire (text ∷ []))) None) LongName ≡ Ok n → n ≡ wire (text ∷ [])
     short true q = cc
     short false q = cc
+
     go : (o : Option NameFault) → label_fault text ≡ o → named o (text ∷ []) ≡ Ok n → IsService n
     go (Some fault) is q = cc
     go None is q = (text, is, short (nat_le (length (wire (text ∷ []))) 255) q)

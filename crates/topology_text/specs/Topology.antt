@@ -23,6 +23,7 @@ abbrev pub natural : Data → ℕ
 natural (integer (pos n)) = n
 natural _ = 0
 
+-- a value that is there and a number, or 0
 abbrev pub natural_in : Option Data → ℕ
 natural_in None = 0
 natural_in (Some d) = natural d
@@ -67,6 +68,7 @@ abbrev pub zone_number : Option Members → Key → ℕ
 zone_number None k = 0
 zone_number (Some ms) k = natural_in (value_at ms k)
 
+-- the zone: each key's value
 abbrev pub zone_of : Option Members → Zone
 zone_of z = record {
   apex = zone_name_at z Apex;
