@@ -1,19 +1,22 @@
 -- A table without faults is sound.
-use Rattle.std.proofs.Common.{◌≡◌, ℕ, ◌^◌, ◌<◌, ◌≤◌, true, false, not, List, [], ◌++◌, length, get_or, Option, None, Some, IfSome, is_some, option_and_then, refl, ap, ◌∙◌, arith, lit<}
+use Rattle.std.proofs.Common.{◌≡◌, ℕ, ◌^◌, ◌<◌, ◌≤◌, true, false, not, List, [], ◌++◌, length, get_or, Option, None, Some, IfSome, is_some, option_and_then, All, refl, ap, sym, ◌∙◌, subst, arith, lit<}
 use Rattle.toml.specs.Data.{Data, Members, string, integer, float, boolean, datetime, array, table}
 use Rattle.topology_text.specs.Schema.{kind_of, is_item_kind}
 use Rattle.topology_text.specs.Hosts.{IsHosts}
-use Rattle.topology_text.specs.Texts.{is_name}
+use Rattle.topology_text.specs.Texts.{is_name, zone_name}
 use Rattle.topology_text.specs.Walk.{items_at, items_of_value, places_of, table_in, value_at, walk}
 use Rattle.topology_text.specs.Values.{failing, is_bad_name, is_out_of_range, missing, too_many, wrong_in, wrong_kind}
-use Rattle.topology_text.specs.Names.{ascend, count_at, duplicate_name, entries_of, entry_at, has_repeat, is_pool, is_taken, is_unknown_name, list_shape, number_of, parent_of, parent_order, text_at, texts_of, too_deep}
+use Rattle.topology_text.specs.Names.{ascend, count_at, duplicate_name, entries_of, entry_at, flag_in, has_repeat, is_inside, is_pool, is_taken, names_in, repeats_in, zone_items, zone_text, is_unknown_name, list_shape, number_of, parent_of, parent_order, text_at, texts_of, too_deep}
 use Rattle.topology_text.specs.Faults.{failures, faults_of, list_faults, name_faults, prefix_faults, shape_faults, value_faults}
 use Rattle.topology_text.specs.Prefixes.{all_prefixes, duplicate_prefixes, no_default, passing}
-use Rattle.topology_text.specs.Topology.{AreSoundNames, IsSound, IsSoundGroup, IsSoundZone, hosts_of, number_at}
-use Rattle.topology_text.specs.declared.schema.Key.TheVariants.{Zone, Node, Group, Apex, Mname, Rname, Serial, Refresh, Retry, Expire, Minimum, Ttl, Name, Parent, Capacity, Demand, Pools, Scores}
+use Rattle.topology_text.specs.Topology.{AreSoundNames, IsSound, IsSoundGroup, IsSoundZone, hosts_of, number_at, zone_name_at, zone_of}
+use Rattle.name_text.specs.Names.{is_under}
+use Rattle.topology_text.specs.Plan.{IsZone}
+use Rattle.topology_text.specs.declared.schema.Key.TheVariants.{Zone, Node, Group, Apex, Mname, Rname, Serial, Refresh, Retry, Expire, Minimum, Ttl, Ns, Services, Name, Parent, Pool, A, Aaaa, Capacity, Demand, Pools, Scores}
 use Rattle.topology_text.proofs.Quiet.{empty_first, empty_second, empty_map, not_whole, quiet_top, quiet_zone, quiet_node, quiet_group}
-use Rattle.topology_text.proofs.SoundHosts.{hosts_good}
+use Rattle.topology_text.proofs.SoundHosts.{hosts_good, hosts_none, list_empty}
 use Rattle.topology_text.proofs.SoundNames.{name_good, names_sound}
+use Rattle.topology_text.proofs.ZoneNames.{all_outside, all_services, all_short, apex_of, few_names, names_apart, ns_named, ns_there, some_names, zone_name_short}
 use Rattle.topology_text.proofs.SoundZone.{apex_good, mname_good, rname_good, serial_fits, refresh_fits, retry_fits, expire_fits, minimum_fits, ttl_fits}
 use Rattle.topology_text.proofs.Sound.{capacity_fits, not_deep, not_over, parent_before, parent_inner, root_shallow}
 use Rattle.topology_text.proofs.SoundGroups.{array_passes, demand_high, demand_low, is_there, kinds_pass, pool_there, score_fits, shape_pools, shape_scores}
@@ -31,6 +34,7 @@ pub record IsQuiet (top : Members) : Type 0 where
   pub twice : duplicate_prefixes (all_prefixes (walk top)) ≡ []
   pub defaults : no_default (all_prefixes (walk top)) ≡ []
   pub shapes : places_of list_shape (walk top) ≡ []
+  pub inside : failures (is_inside (entries_of top)) (walk top) ≡ []
   pub many : places_of too_many (walk top) ≡ []
   pub passed : passing (walk top) ≡ []
 
@@ -63,6 +67,7 @@ quiet top h =
       twice = empty_map _ _ (empty_first _ _ prefixes);
       defaults = empty_map _ _ (empty_second _ _ prefixes);
       shapes = empty_map _ _ (empty_first _ _ lists);
+      inside = empty_map _ _ (empty_first _ _ lists2);
       many = empty_first _ _ limits;
       passed = empty_second (places_of too_many (walk top)) _ limits;
     }
@@ -183,10 +188,55 @@ hosts_of_node top q i l (boolean b) is = hosts_good (boolean b) (omega arith) (o
 hosts_of_node top q i l (datetime t) is = hosts_good (datetime t) (omega arith) (omega arith)
 hosts_of_node top q i l (array ds) is = hosts_good (array ds) (omega arith) (omega arith)
 
+-- a node that is no pool has none
+hosts_of_other : (top : Members) → IsQuiet top → (i : ℕ) → i < length (items_at top Node) → (e : Data) → entry_at (items_at top Node) i ≡ e → is_pool e ≡ false → hosts_of e ≡ record { v4 = []; v6 = [] }
+hosts_of_other top q i l (table ms) is other =
+    hosts_none (table ms) (list_empty (flag_in (value_at ms Pool)) (items_at ms A) other (not_whole _ (quiet_node list_shape top i ms 4 q.shapes l is (lit< tt))))
+    (list_empty (flag_in (value_at ms Pool)) (items_at ms Aaaa) other (not_whole _ (quiet_node list_shape top i ms 5 q.shapes l is (lit< tt))))
+hosts_of_other top q i l (string t) is other = refl
+hosts_of_other top q i l (integer z) is other = refl
+hosts_of_other top q i l (float x) is other = refl
+hosts_of_other top q i l (boolean b) is other = refl
+hosts_of_other top q i l (datetime t) is other = refl
+hosts_of_other top q i l (array ds) is other = refl
+
+-- what the zone's lists show
+zone_lists : (top ms : Members) → IsQuiet top → value_at top Zone ≡ Some (table ms) → is_some (option_and_then zone_name (zone_text (Some ms) Apex)) ≡ true → IsZone (zone_of (Some ms))
+zone_lists top ms q is there =
+    let d = entries_of top in
+    let same : d.zone ≡ Some ms = ap table_in is in
+    let there2 : is_some (apex_of d) ≡ true = ap (λ z. is_some (option_and_then zone_name (zone_text z Apex))) same ∙ there in
+    let ns_list : repeats_in Ns (items_at ms Ns) ≡ [] = ap (λ z. repeats_in Ns (zone_items z Ns)) (sym same) ∙ quiet_zone (duplicate_name d) top ms 9 q.once is (lit< tt) in
+    let services_list : repeats_in Services (items_at ms Services) ≡ [] = ap (λ z. repeats_in Services (zone_items z Services)) (sym same) ∙ quiet_zone (duplicate_name d) top ms 10 q.once is (lit< tt) in
+    let ns_is : is_some (value_at ms Ns) ≡ true = is_there _ (quiet_zone missing top ms 9 q.missed is (lit< tt)) in
+    let ns_count : 1 ≤ length (items_at ms Ns) = ns_there _ _ ns_is (not_whole _ (quiet_zone list_shape top ms 9 q.shapes is (lit< tt))) in
+    let ns_kind = quiet_zone wrong_kind top ms 9 q.kinds is (lit< tt) in
+    let ns_good = quiet_zone (λ v k. failing (is_bad_name k) (value_at v.members k)) top ms 9 q.well_named is (lit< tt) in
+    let ns_free = quiet_zone (λ v k. failing (is_inside d k) (value_at v.members k)) top ms 9 q.inside is (lit< tt) in
+    let ns_few : length (items_at ms Ns) ≤ 4 = not_over 4 _ (quiet_zone too_many top ms 9 q.many is (lit< tt)) in
+    let services_few : length (items_at ms Services) ≤ 64 = not_over 64 _ (quiet_zone too_many top ms 10 q.many is (lit< tt)) in
+    record {
+      apex = zone_name_short (zone_text (Some ms) Apex);
+      mname = zone_name_short (zone_text (Some ms) Mname);
+      rname = zone_name_short (zone_text (Some ms) Rname);
+      minimum = minimum_fits (value_at ms Minimum) (quiet_zone (λ v k. failing (is_out_of_range k) (value_at v.members k)) top ms 7 q.ranges is (lit< tt));
+      ttl = ttl_fits (value_at ms Ttl) (quiet_zone (λ v k. failing (is_out_of_range k) (value_at v.members k)) top ms 8 q.ranges is (lit< tt));
+      some_ns = some_names Ns (items_at ms Ns) ns_count (ns_named _ (kinds_pass Ns (value_at ms Ns) ns_kind 0 (boolean false) ns_count) (array_passes (is_bad_name Ns) (value_at ms Ns) ns_good 0 (boolean false) ns_count));
+      few_ns = omega (arith, few_names Ns (items_at ms Ns));
+      short_ns = all_short (items_at ms Ns);
+      outside = subst (λ z. All (λ n. is_under n (zone_name_at z Apex) ≡ false) (names_in Ns (items_at ms Ns))) same (all_outside d (items_at ms Ns) there2 (λ j l. array_passes (is_inside d Ns) (value_at ms Ns) ns_free j (boolean false) l));
+      distinct_ns = names_apart Ns (items_at ms Ns) ns_list;
+      few_services = omega (arith, few_names Services (items_at ms Services));
+      services = all_services (items_at ms Services);
+      distinct_services = names_apart Services (items_at ms Services) services_list;
+    }
+
 -- the zone, which is a table
 zone_table : (top ms : Members) → IsQuiet top → value_at top Zone ≡ Some (table ms) → IsSoundZone (Some ms)
 zone_table top ms q is =
+    let there = apex_good (value_at ms Apex) (is_there _ (quiet_zone missing top ms 0 q.missed is (lit< tt))) (quiet_zone wrong_kind top ms 0 q.kinds is (lit< tt)) (quiet_zone (λ v k. failing (is_bad_name k) (value_at v.members k)) top ms 0 q.well_named is (lit< tt)) in
     record {
+      whole = zone_lists top ms q is there;
       apex = apex_good (value_at ms Apex) (is_there _ (quiet_zone missing top ms 0 q.missed is (lit< tt))) (quiet_zone wrong_kind top ms 0 q.kinds is (lit< tt)) (quiet_zone (λ v k. failing (is_bad_name k) (value_at v.members k)) top ms 0 q.well_named is (lit< tt));
       mname = mname_good (value_at ms Mname) (is_there _ (quiet_zone missing top ms 1 q.missed is (lit< tt))) (quiet_zone wrong_kind top ms 1 q.kinds is (lit< tt)) (quiet_zone (λ v k. failing (is_bad_name k) (value_at v.members k)) top ms 1 q.well_named is (lit< tt));
       rname = rname_good (value_at ms Rname) (is_there _ (quiet_zone missing top ms 2 q.missed is (lit< tt))) (quiet_zone wrong_kind top ms 2 q.kinds is (lit< tt)) (quiet_zone (λ v k. failing (is_bad_name k) (value_at v.members k)) top ms 2 q.well_named is (lit< tt));
@@ -224,6 +274,7 @@ sound top h =
       node_names = node_names_sound top q;
       group_names = group_names_sound top q;
       hosts = λ i l. hosts_of_node top q i l _ refl;
+      pools_only = λ i l other. hosts_of_other top q i l _ refl other;
       zone = zone_sound top q;
       groups = λ g l. group_of_table top q g l _ refl (kinds_pass Group (value_at top Group) (quiet_top wrong_kind top 2 q.kinds (lit< tt)) g (boolean false) l);
     }

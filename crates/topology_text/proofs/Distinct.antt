@@ -73,7 +73,7 @@ apart nodes (table x ∷ ps) zero (suc j) d once known before l same = let never
 apart nodes (table x ∷ ps) (suc i) (suc j) d once known before l same = let never : false ≡ true = known 0 d (omega arith) in cc
 
 -- a node is a pool in the instance where its entry is one
-pool_same : (d : Entries) (n : ℕ) → (node_in (map (node_of d.nodes) d.nodes) n).is_pool ≡ is_pool (entry_at d.nodes n)
+pub pool_same : (d : Entries) (n : ℕ) → (node_in (map (node_of d.nodes) d.nodes) n).is_pool ≡ is_pool (entry_at d.nodes n)
 pool_same d n = ap (λ (x : Node). x.is_pool) (get_or-map_at (node_of d.nodes) d.nodes n (boolean false))
 
 -- the node of a pool's number is a pool

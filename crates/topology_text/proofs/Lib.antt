@@ -21,3 +21,4 @@ pub mod SoundZone
 pub mod SoundHosts
 pub mod SoundNames
 pub mod SoundPrefixes
+pub mod ZoneNames

@@ -24,9 +24,9 @@ not_there (x ∷ xs) name other =
 fresh : (names : List (List ℕ)) (i : ℕ) (name : List ℕ) → AllPairs (λ a b. a ≡ b → ⊥) names → i < length names → get_or names i [] ≡ name → list_any (bytes_eq name) (take i names) ≡ false
 fresh names i name distinct h is =
     not_there (take i names) name (λ j l same.
-      let len : length (take i names) ≡ i = length-take-le i names (omega arith) in
-      let before : j < i = omega arith in
-      distinct j i [] before h (sym (get_or-take i names j [] before) ∙ same ∙ sym is))
+    let len : length (take i names) ≡ i = length-take-le i names (omega arith) in
+    let before : j < i = omega arith in
+    distinct j i [] before h (sym (get_or-take i names j [] before) ∙ same ∙ sym is))
 
 -- one more name in the index, whose keys are the names so far
 pub names_put : (vs : List Value) (i : ℕ) (v : Value) (old new : List (Vec ℕ Global)) (name : Vec ℕ Global) → AllPairs (λ a b. a ≡ b → ⊥) (map name_of (map view vs)) → i < length vs → v ≡ get_or vs i v

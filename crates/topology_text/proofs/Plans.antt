@@ -5,15 +5,15 @@ use Rattle.toml.specs.Data.{Data, boolean}
 use Rattle.addr_text.specs.declared.address.Prefix.{Prefix}
 use Rattle.map_model.specs.declared.instance.GroupId.{GroupId}
 use Rattle.map_model.specs.Market.{Market}
-use Rattle.topology_text.specs.Hosts.{HostLists, IsHosts}
+use Rattle.topology_text.specs.Hosts.{HostLists, IsHosts, addresses_at}
 use Rattle.topology_text.specs.Names.{Entries}
 use Rattle.topology_text.specs.Plan.{AreNames, ArePrefixes, IsPlan, Plan}
 use Rattle.topology_text.specs.Texts.{is_name}
 use Rattle.topology_text.specs.Topology.{AreSoundNames, IsSound, group_of, hosts_of, market_of, name_of, node_of, owned, plan_of, zone_of}
 use Rattle.topology_text.specs.declared.prefixes.PrefixAt.{PrefixAt}
 use Rattle.topology_text.specs.declared.topology.Zone.{Zone}
-use Rattle.topology_text.proofs.Distinct.{market_good}
-use Rattle.topology_text.proofs.Markets.{All-map_at}
+use Rattle.topology_text.proofs.Distinct.{market_good, pool_same}
+use Rattle.topology_text.proofs.Markets.{All-map_at, get_or-map_at}
 
 names_good : (entries : List Data) (n : ℕ) → AreSoundNames entries → length entries ≡ n → AreNames (map name_of entries) n
 names_good entries n s len = record {
@@ -35,11 +35,17 @@ plan_good d prefixes s p =
     let groups_len : length d.groups ≡ length (map (group_of d.nodes) d.groups) = sym (length-map d.groups (group_of d.nodes)) in
     record {
       market = market_good d s;
+      zone = s.zone.whole;
       nodes = names_good d.nodes _ s.node_names nodes_len;
       groups = names_good d.groups _ s.group_names groups_len;
       prefixes = subst (ArePrefixes (map owned prefixes)) groups_len p;
       as_many = length-map d.nodes hosts_of ∙ nodes_len;
       addresses = All-map_at hosts_of IsHosts d.nodes (boolean false) s.hosts;
+      pools_only = λ n h other.
+          let l : n < length d.nodes = omega arith in
+          let none : get_or (map hosts_of d.nodes) n (record { v4 = []; v6 = [] }) ≡ record { v4 = []; v6 = [] } =
+          get_or-map_at hosts_of d.nodes n (boolean false) ∙ s.pools_only n l (sym (pool_same d n) ∙ other) in
+          (ap (λ (h : HostLists). addresses_at h 1) none, ap (λ (h : HostLists). addresses_at h 28) none);
     }
 
 -- the parts that were built are the plan's

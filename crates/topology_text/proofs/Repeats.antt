@@ -35,6 +35,20 @@ pub marked_here : {X : Type 0} (test : ℕ → X → Bool) (i : ℕ) (xs : List 
     → first (marked_from test i (drop i xs)) ≡ Some (i, get_or xs i d)
 marked_here test i xs d h bad = rw (drop_more xs i d h, bad)
 
+-- nothing is marked: no element passes
+pub none_marked : {X : Type 0} (test : ℕ → X → Bool) (i : ℕ) (xs : List X) → marked_from test i xs ≡ [] → (j : ℕ) (d : X) → j < length xs → test (i + j) (get_or xs j d) ≡ false
+none_marked test i [] h j d l = absurd (omega arith)
+none_marked test i (x ∷ xs) h zero d l = let e : i + 0 ≡ i = omega arith in rw e (fails (test i x) h)
+  where
+    fails : (b : Bool) → cond b ((i, x) ∷ marked_from test (i + 1) xs) (marked_from test (i + 1) xs) ≡ [] → b ≡ false
+    fails true q = cc
+    fails false q = refl
+none_marked test i (x ∷ xs) h (suc j) d l = let e : i + suc j ≡ (i + 1) + j = omega arith in rw e (none_marked test (i + 1) xs (rest (test i x) h) j d (omega arith))
+  where
+    rest : (b : Bool) → cond b ((i, x) ∷ marked_from test (i + 1) xs) (marked_from test (i + 1) xs) ≡ [] → marked_from test (i + 1) xs ≡ []
+    rest true q = cc
+    rest false q = q
+
 -- so far the folded names are those of the items, and no item repeats one
 pub record AreSeen (k : Key) (ds : List Data) (i : ℕ) (folds : List (List ℕ)) : Type 0 where
   pub folded : folds ≡ map str_to_ascii_lowercase (names_in k (take i ds))

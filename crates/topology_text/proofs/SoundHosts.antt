@@ -1,5 +1,6 @@
 -- The addresses of an entry, each in the list of its family.
-use Rattle.std.proofs.Common.{◌≡◌, ℕ, ◌+◌, ◌<◌, ◌≤◌, suc, zero, Bool, true, false, cond, List, [], ◌∷◌, length, Option, None, Some, IsTrue, All, refl, ap, sym, ◌∙◌, subst, arith}
+use Rattle.std.proofs.Common.{◌≡◌, ℕ, ◌+◌, ◌<◌, ◌≤◌, suc, zero, Bool, true, false, not, ◌&&◌, nat_lt, cond, List, [], ◌∷◌, length, Option, None, Some, IsTrue, All, refl, ap, sym, ◌∙◌, subst, arith}
+use Rattle.std.proofs.lemmas.Bool.Decides.{nat_tests}
 use Rattle.std.proofs.lemmas.List.Elements.{All-cons, All-nil}
 use Rattle.std.specs.List.{cons_option, filter_map}
 use Rattle.addr_text.specs.declared.address.Addr.{Addr}
@@ -60,3 +61,18 @@ hosts_good e few more = record {
   v4 = All-filter_map (address_in A) (λ a. IsTrue (is_v4 a)) (items_in e A) v4_passed;
   v6 = All-filter_map (address_in Aaaa) (λ a. IsTrue (is_v6 a)) (items_in e Aaaa) v6_passed;
 }
+
+-- a node that is no pool has no items in its lists, so no addresses
+no_items : (n : ℕ) (flag : Bool) → flag ≡ false → (nat_lt 0 n && not flag) ≡ false → n ≡ 0
+no_items n true off shape = cc
+no_items n false off shape = grind (arith, nat_tests)
+
+empty_list : {X : Type 0} (xs : List X) → length xs ≡ 0 → xs ≡ []
+empty_list [] h = refl
+empty_list (x ∷ xs) h = absurd (omega arith)
+
+pub hosts_none : (e : Data) → items_in e A ≡ [] → items_in e Aaaa ≡ [] → hosts_of e ≡ record { v4 = []; v6 = [] }
+hosts_none e a aaaa = rw (a, aaaa) refl
+
+pub list_empty : (flag : Bool) (ds : List Data) → flag ≡ false → (nat_lt 0 (length ds) && not flag) ≡ false → ds ≡ []
+list_empty flag ds off shape = empty_list ds (no_items (length ds) flag off shape)

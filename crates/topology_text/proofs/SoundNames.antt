@@ -64,11 +64,11 @@ pub names_sound : (entries : List Data) → ((i : ℕ) → i < length entries �
 names_sound entries each = record {
   each = λ i l. let (t, named, good, free) = each i l in ap is_name (name_is (entry_at entries i) t named) ∙ good;
   distinct = λ i j d before l same.
-    let m : j < length entries = omega (arith, length-map entries name_of) in
-    let (t, named, good, free) = each i (omega arith) in
-    let (u, named2, good2, free2) = each j m in
-    let left : get_or (map name_of entries) i d ≡ t = get_or-map name_of entries i (boolean false) d (omega arith) ∙ name_is (entry_at entries i) t named in
-    let right : get_or (map name_of entries) j d ≡ u = get_or-map name_of entries j (boolean false) d m ∙ name_is (entry_at entries j) u named2 in
-    let one : u ≡ t = sym right ∙ sym same ∙ left in
-    two_apart entries i j t before m named (named2 ∙ ap Some one) free2;
+      let m : j < length entries = omega (arith, length-map entries name_of) in
+      let (t, named, good, free) = each i (omega arith) in
+      let (u, named2, good2, free2) = each j m in
+      let left : get_or (map name_of entries) i d ≡ t = get_or-map name_of entries i (boolean false) d (omega arith) ∙ name_is (entry_at entries i) t named in
+      let right : get_or (map name_of entries) j d ≡ u = get_or-map name_of entries j (boolean false) d m ∙ name_is (entry_at entries j) u named2 in
+      let one : u ≡ t = sym right ∙ sym same ∙ left in
+      two_apart entries i j t before m named (named2 ∙ ap Some one) free2;
 }

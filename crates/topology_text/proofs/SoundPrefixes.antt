@@ -11,6 +11,8 @@ use Rattle.std.specs.List.{cons_option, enumerate_from, filter_map, flat_map, li
 use Rattle.addr_text.specs.declared.address.Addr.{Addr}
 use Rattle.addr_text.specs.declared.address.Addr.TheVariants.{V4, V6}
 use Rattle.addr_text.specs.declared.address.Prefix.{Prefix}
+use Rattle.addr_text.specs.Addresses.{IsPrefix}
+use Rattle.addr_text.proofs.Prefixed.{prefix_is}
 use Rattle.toml.specs.Data.{Data, Members, no_members, string, integer, float, boolean, datetime, array, table}
 use Rattle.topology_text.specs.Faults.{faults_of}
 use Rattle.topology_text.specs.Names.{entries_of}
@@ -25,22 +27,9 @@ use Rattle.topology_text.specs.declared.schema.Spot.{Spot}
 use Rattle.topology_text.specs.declared.schema.Spot.TheVariants.{Top, ZoneTable, NodeTable, GroupTable, Family}
 use Rattle.topology_text.proofs.Clean.{IsQuiet, quiet}
 use Rattle.topology_text.proofs.Quiet.{empty_first, empty_map, empty_second}
+use Rattle.topology_text.proofs.Repeats.{none_marked}
 use Rattle.topology_text.proofs.Totals.{passes}
 use Rattle.topology_text.proofs.Twice.{is_later}
-
--- nothing is marked: no element passes
-none_marked : {X : Type 0} (test : ℕ → X → Bool) (i : ℕ) (xs : List X) → marked_from test i xs ≡ [] → (j : ℕ) (d : X) → j < length xs → test (i + j) (get_or xs j d) ≡ false
-none_marked test i [] h j d l = absurd (omega arith)
-none_marked test i (x ∷ xs) h zero d l = let e : i + 0 ≡ i = omega arith in rw e (fails (test i x) h)
-  where
-    fails : (b : Bool) → cond b ((i, x) ∷ marked_from test (i + 1) xs) (marked_from test (i + 1) xs) ≡ [] → b ≡ false
-    fails true q = cc
-    fails false q = refl
-none_marked test i (x ∷ xs) h (suc j) d l = let e : i + suc j ≡ (i + 1) + j = omega arith in rw e (none_marked test (i + 1) xs (rest (test i x) h) j d (omega arith))
-  where
-    rest : (b : Bool) → cond b ((i, x) ∷ marked_from test (i + 1) xs) (marked_from test (i + 1) xs) ≡ [] → marked_from test (i + 1) xs ≡ []
-    rest true q = cc
-    rest false q = q
 
 -- prefixes of one text are one prefix
 same_addr : (a b : Addr) → is_same_addr a b ≡ true → a ≡ b
@@ -138,8 +127,10 @@ not_past visits none (suc n) h = apart (is_past visits n) (is_past visits (suc n
     apart true b e q = cc
     apart false true e q = cc
     apart false false e q = refl
+
     blank : Visit
     blank = record { spot = Top; members = no_members }
+
     step : (is_past visits (suc n) && not (is_past visits n)) ≡ false
     step =
         let e : 0 + n ≡ n = omega arith in
@@ -151,6 +142,35 @@ total_within visits none =
     let past : nat_lt 262144 (total (take (length visits) visits)) ≡ false = not_past visits none (length visits) (omega arith) in
     let whole : nat_lt 262144 (total visits) ≡ false = ap (λ vs. nat_lt 262144 (total vs)) (sym (take-length visits)) ∙ past in
     grind (arith, nat_tests)
+
+-- each is a prefix
+item_is : (d : Data) (p : Prefix) → prefix_in d ≡ Some p → IsPrefix p
+item_is (string t) p h = prefix_is t p h
+item_is (integer z) p h = cc
+item_is (float x) p h = cc
+item_is (boolean b) p h = cc
+item_is (datetime t) p h = cc
+item_is (array ds) p h = cc
+item_is (table ms) p h = cc
+
+from_is : (g i : ℕ) (ds : List Data) → All (λ e. IsPrefix e.prefix) (prefixes_from g i ds)
+from_is g i [] = All-nil (λ e. IsPrefix e.prefix)
+from_is g i (d ∷ ds) = one (prefix_in d) refl (from_is g (i + 1) ds)
+  where
+    one : (o : Option Prefix) → prefix_in d ≡ o → All (λ e. IsPrefix e.prefix) (prefixes_from g (i + 1) ds) → All (λ e. IsPrefix e.prefix) (cons_option (option_map (λ x. record { prefix = x; group = g; item = i }) o) (prefixes_from g (i + 1) ds))
+    one None is rest = rest
+    one (Some p) is rest = All-cons (λ e. IsPrefix e.prefix) (record { prefix = p; group = g; item = i }) (prefixes_from g (i + 1) ds) (item_is d p is) rest
+
+at_is : (spot : Spot) (ds : List Data) → All (λ e. IsPrefix e.prefix) (prefixes_at spot ds)
+at_is Top ds = All-nil (λ e. IsPrefix e.prefix)
+at_is ZoneTable ds = All-nil (λ e. IsPrefix e.prefix)
+at_is (NodeTable n) ds = All-nil (λ e. IsPrefix e.prefix)
+at_is (GroupTable g) ds = from_is g 0 ds
+at_is (Family f) ds = All-nil (λ e. IsPrefix e.prefix)
+
+all_is : (visits : List Visit) → All (λ e. IsPrefix e.prefix) (all_prefixes visits)
+all_is [] = All-nil (λ e. IsPrefix e.prefix)
+all_is (v ∷ vs) = All-append (λ e. IsPrefix e.prefix) (prefixes_at v.spot (items_at v.members Prefixes)) (all_prefixes vs) (at_is v.spot (items_at v.members Prefixes)) (all_is vs)
 
 -- each prefix stands in a group that is there
 from_below : (g i n : ℕ) (ds : List Data) → g < n → All (λ e. e.group < n) (prefixes_from g i ds)
@@ -209,6 +229,10 @@ prefixes_sound top h =
     let es = all_prefixes (walk top) in
     record {
       few = omega (arith, length-map es owned, few_all (walk top), total_within (walk top) q.passed);
+      each = λ k d l.
+          let p : PrefixAt = record { prefix = d.0; group = d.1.0; item = 0 } in
+          let m : k < length es = omega (arith, length-map es owned) in
+          subst (λ e. IsPrefix e.0) (sym (get_or-map owned es k p d m)) (all_is (walk top) k p m);
       owned = λ k d l.
           let p : PrefixAt = record { prefix = d.0; group = d.1.0; item = 0 } in
           let m : k < length es = omega (arith, length-map es owned) in

@@ -60,6 +60,7 @@ within_here visits i n v s h many =
   where
     past : 262144 < total (take (i + 1) visits) → nat_lt 262144 (total (take (i + 1) visits)) ≡ true
     past many = grind (arith, nat_tests)
+
     not_past : total (take i visits) ≤ 262144 → nat_lt 262144 (total (take i visits)) ≡ false
     not_past few = grind (arith, nat_tests)
 

@@ -60,6 +60,7 @@ abbrev pub found_none : Option TopologyFault → Result (Unit {0}) TopologyFault
 found_none None = Ok tt
 found_none (Some f) = Err f
 
+-- what a check of these faults answers: nothing, or the first of them
 abbrev pub checked : List TopologyFault → Result (Unit {0}) TopologyFault
 checked faults = found_none (first faults)
 

@@ -145,10 +145,12 @@ abbrev pub is_misplaced : List Data → ℕ → Option ℕ → Bool
 is_misplaced nodes i None = false
 is_misplaced nodes i (Some p) = not (nat_lt p i) || is_pool (entry_at nodes p)
 
+-- the entry at a place of the walk has such a parent
 abbrev pub misplaced_at : Entries → Spot → Bool
 misplaced_at d (NodeTable i) = is_misplaced d.nodes i (parent_of d.nodes i)
 misplaced_at d _ = false
 
+-- a node whose parent is misplaced, at its key `parent`
 abbrev pub parent_order : Entries → Visit → Key → List At
 parent_order d v Parent = whole_if (misplaced_at d v.spot)
 parent_order d v _ = []
@@ -157,10 +159,12 @@ parent_order d v _ = []
 abbrev pub is_deep : List Data → ℕ → Bool
 is_deep nodes i = nat_lt 8 (length (ascend 9 nodes (Some i)))
 
+-- the node at a place of the walk has such a path
 abbrev pub is_deep_at : Entries → Spot → Bool
 is_deep_at d (NodeTable i) = is_deep d.nodes i
 is_deep_at d _ = false
 
+-- a node whose path is too deep, at its key `parent`
 abbrev pub too_deep : Entries → Visit → Key → List At
 too_deep d v Parent = whole_if (is_deep_at d v.spot)
 too_deep d v _ = []
@@ -170,6 +174,7 @@ abbrev pub is_under_apex : Option (List ℕ) → Option (List ℕ) → Bool
 is_under_apex (Some apex) (Some name) = is_under name apex
 is_under_apex _ _ = false
 
+-- an item of `ns` that is the zone's apex or stands under it
 abbrev pub is_inside : Entries → Key → Data → Bool
 is_inside d Ns (string t) = is_under_apex (option_and_then zone_name (zone_text d.zone Apex)) (zone_name t)
 is_inside d _ _ = false
@@ -196,5 +201,6 @@ is_misshapen ms Pools = is_some (value_at ms Pools) && ((count_at ms Pools == 0 
 is_misshapen ms Scores = is_some (value_at ms Scores) && not (count_at ms Scores == count_at ms Pools)
 is_misshapen ms _ = false
 
+-- a list against its shape, as a whole
 abbrev pub list_shape : Visit → Key → List At
 list_shape v k = whole_if (is_misshapen v.members k)

@@ -1,11 +1,14 @@
 -- What a topology's file says.
-use Rattle.std.specs.Prelude.{◌≡◌, ℕ, ◌<◌, ◌≤◌, List, [], length, map, Option, IsTrue, All, AllPairs, Contains, position, slice_index_or}
+use Rattle.std.specs.Prelude.{◌≡◌, ℕ, ◌<◌, ◌≤◌, ◌^◌, false, List, [], ◌∷◌, length, map, Option, None, IsTrue, IsFalse, All, AllPairs, Contains, position, slice_index_or}
 use Rattle.std.specs.Str.{bytes_eq}
 use Rattle.addr_text.specs.declared.address.Addr.{Addr}
 use Rattle.addr_text.specs.declared.address.Addr.TheVariants.{V4, V6}
 use Rattle.addr_text.specs.declared.address.Prefix.{Prefix}
+use Rattle.addr_text.specs.Addresses.{IsPrefix}
 use Rattle.map_model.specs.declared.instance.GroupId.{GroupId}
-use Rattle.map_model.specs.Market.{Market, IsMarket}
+use Rattle.map_model.specs.Market.{Market, IsMarket, is_pool_at}
+use Rattle.name_text.specs.Names.{is_same, is_under, label_fault}
+use Rattle.name_text.specs.Wire.{wire}
 use Rattle.topology_text.specs.declared.topology.Zone.{Zone}
 use Rattle.topology_text.specs.Hosts.{HostLists, IsHosts, addresses_at}
 use Rattle.topology_text.specs.Texts.{is_name}
@@ -41,19 +44,42 @@ pub record AreNames (names : List (List ℕ)) (count : ℕ) : Type 0 where
   pub each : All (λ n. IsTrue (is_name n)) names
   pub distinct : AllPairs (λ a b. a ≡ b → ⊥) names
 
--- prefixes of groups: each once, and both that hold all addresses of a family
+-- prefixes of groups: each with no bit beyond its length, each once, and both that hold all addresses of a family
 pub record ArePrefixes (prefixes : List (Prefix × GroupId)) (groups : ℕ) : Type 0 where
   pub few : length prefixes ≤ 262144
+  pub each : All (λ e. IsPrefix e.0) prefixes
   pub owned : All (λ e. e.1.0 < groups) prefixes
   pub once : AllPairs (λ a b. a.0 ≡ b.0 → ⊥) prefixes
   pub all_v4 : Contains (map (λ e. e.0) prefixes) default_v4
   pub all_v6 : Contains (map (λ e. e.0) prefixes) default_v6
 
+-- the name is one label of 1 to 63 octets
+abbrev pub IsService : List ℕ → Type 0
+IsService name = (label : List ℕ) × (label_fault label ≡ None) × (name ≡ wire (label ∷ []))
+
+-- a zone: names of at most 64 octets, one to four name servers and at most 64 services, no two the same whatever the case of letters, no name server in the zone, and times that fit 31 bits
+pub record IsZone (z : Zone) : Type 0 where
+  pub apex : length z.apex ≤ 64
+  pub mname : length z.mname ≤ 64
+  pub rname : length z.rname ≤ 64
+  pub minimum : z.minimum < 2 ^ 31
+  pub ttl : z.ttl < 2 ^ 31
+  pub some_ns : 1 ≤ length z.ns
+  pub few_ns : length z.ns ≤ 4
+  pub short_ns : All (λ n. length n ≤ 64) z.ns
+  pub outside : All (λ n. is_under n z.apex ≡ false) z.ns
+  pub distinct_ns : AllPairs (λ a b. is_same a b ≡ false) z.ns
+  pub few_services : length z.services ≤ 64
+  pub services : All IsService z.services
+  pub distinct_services : AllPairs (λ a b. is_same a b ≡ false) z.services
+
 -- what holds of every topology
 pub record IsPlan (p : Plan) : Type 0 where
   pub market : IsMarket p.market
+  pub zone : IsZone p.zone
   pub nodes : AreNames p.node_names (length p.market.nodes)
   pub groups : AreNames p.group_names (length p.market.groups)
   pub prefixes : ArePrefixes p.prefixes (length p.market.groups)
   pub as_many : length p.addresses ≡ length p.market.nodes
   pub addresses : All IsHosts p.addresses
+  pub pools_only : (n : ℕ) → n < length p.market.nodes → IsFalse (is_pool_at p.market n) → (addresses_of p n 1 ≡ []) × (addresses_of p n 28 ≡ [])

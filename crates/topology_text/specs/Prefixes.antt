@@ -68,6 +68,7 @@ abbrev pub count_at : Spot → List Data → ℕ
 count_at (GroupTable g) ds = length ds
 count_at _ ds = 0
 
+-- how many items the prefixes of all groups on a walk have
 abbrev pub total : List Visit → ℕ
 total visits = sum_by (λ v. count_at v.spot (items_at v.members Prefixes)) visits
 

@@ -9,7 +9,7 @@ use Rattle.map_model.specs.declared.instance.Node.{Node}
 use Rattle.map_model.specs.declared.instance.GroupId.{GroupId}
 use Rattle.map_model.specs.Market.{Group, Market}
 use Rattle.topology_text.specs.Hosts.{HostLists, IsHosts}
-use Rattle.topology_text.specs.Plan.{Plan}
+use Rattle.topology_text.specs.Plan.{IsZone, Plan}
 use Rattle.topology_text.specs.Texts.{is_name, v4_address, v6_address, zone_name}
 use Rattle.topology_text.specs.declared.prefixes.PrefixAt.{PrefixAt}
 use Rattle.topology_text.specs.declared.topology.Zone.{Zone}
@@ -23,6 +23,7 @@ abbrev pub natural : Data → ℕ
 natural (integer (pos n)) = n
 natural _ = 0
 
+-- a value that is there and a number, or 0
 abbrev pub natural_in : Option Data → ℕ
 natural_in None = 0
 natural_in (Some d) = natural d
@@ -67,6 +68,7 @@ abbrev pub zone_number : Option Members → Key → ℕ
 zone_number None k = 0
 zone_number (Some ms) k = natural_in (value_at ms k)
 
+-- the zone: each key's value
 abbrev pub zone_of : Option Members → Zone
 zone_of z = record {
   apex = zone_name_at z Apex;
@@ -138,6 +140,7 @@ pub record IsSoundZone (zone : Option Members) : Type 0 where
   pub expire : zone_number zone Expire < 2 ^ 32
   pub minimum : zone_number zone Minimum < 2 ^ 31
   pub ttl : zone_number zone Ttl < 2 ^ 31
+  pub whole : IsZone (zone_of zone)
 
 -- entries that can stand in a topology
 pub record IsSound (d : Entries) : Type 0 where
@@ -151,4 +154,5 @@ pub record IsSound (d : Entries) : Type 0 where
   pub node_names : AreSoundNames d.nodes
   pub group_names : AreSoundNames d.groups
   pub hosts : (i : ℕ) → i < length d.nodes → IsHosts (hosts_of (entry_at d.nodes i))
+  pub pools_only : (i : ℕ) → i < length d.nodes → is_pool (entry_at d.nodes i) ≡ false → hosts_of (entry_at d.nodes i) ≡ record { v4 = []; v6 = [] }
   pub zone : IsSoundZone d.zone

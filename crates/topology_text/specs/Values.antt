@@ -33,6 +33,7 @@ abbrev pub wrong_in : Key → Option Data → List At
 wrong_in k None = []
 wrong_in k (Some d) = if is_kind (kind_of k) d then items_where (λ e. not (is_item_kind (kind_of k) e)) (items_of_value (Some d)) else Whole ∷ []
 
+-- a value or an item at a key that isn't of its kind
 abbrev pub wrong_kind : Visit → Key → List At
 wrong_kind v k = wrong_in k (value_at v.members k)
 
@@ -72,6 +73,7 @@ is_in_range Demand z = is_within 1 (2 ^ 32 - 1) z
 is_in_range Scores z = is_within 0 (2 ^ 32 - 1) z
 is_in_range _ z = true
 
+-- a number out of its key's range
 abbrev pub is_out_of_range : Key → Data → Bool
 is_out_of_range k (integer z) = not (is_in_range k z)
 is_out_of_range k _ = false
@@ -97,6 +99,7 @@ limit_of A = Some 6
 limit_of Aaaa = Some 6
 limit_of _ = None
 
+-- a count past its limit, if there is one
 abbrev pub is_over : Option ℕ → ℕ → Bool
 is_over None n = false
 is_over (Some limit) n = nat_lt limit n

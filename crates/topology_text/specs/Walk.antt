@@ -54,6 +54,7 @@ abbrev pub visit_of : Spot → Data → Option Visit
 visit_of spot (table ms) = Some (record { spot = spot; members = ms })
 visit_of spot _ = None
 
+-- the zone on the walk, if it is a table
 abbrev pub zone_visits : Option Data → List Visit
 zone_visits None = []
 zone_visits (Some d) = cons_option (visit_of ZoneTable d) []
@@ -75,6 +76,7 @@ first (x ∷ xs) = Some x
 abbrev pub items_from : (Data → Bool) → ℕ → List Data → List At
 items_from test i ds = filter_map (λ p. if test p.1 then Some (Item p.0) else None) (enumerate_from i ds)
 
+-- the items that pass a test
 abbrev pub items_where : (Data → Bool) → List Data → List At
 items_where test ds = items_from test 0 ds
 
@@ -82,6 +84,7 @@ items_where test ds = items_from test 0 ds
 abbrev pub marked_from : {X : Type 0} → (ℕ → X → Bool) → ℕ → List X → List (ℕ × X)
 marked_from test i xs = filter (λ p. test p.0 p.1) (enumerate_from i xs)
 
+-- the same over a whole list
 abbrev pub marked : {X : Type 0} → (ℕ → X → Bool) → List X → List (ℕ × X)
 marked test xs = marked_from test 0 xs
 

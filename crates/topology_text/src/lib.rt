@@ -20,7 +20,7 @@ mod zone;
 pub use fault::TopologyFault;
 pub use read::read_topology;
 pub use schema::{At, Key, Kind, Place, Spot};
-pub use topology::{Hosts, Names, Topology, Zone};
+pub use topology::{Names, Topology, Zone};
 
 #[cfg(test)]
 mod tests;

@@ -120,7 +120,9 @@ fn zone_name_at(zone: Option<&Table>, key: Key) -> Name
     requires { IsTrue (is_some (option_and_then zone_name (zone_text (option_map (λ t. table_view t.now) zone) key))) }
     ensures { result ≡ zone_name_at (option_map (λ t. table_view t.now) zone.entry) key }
 {
-    zone_text(zone, key).and_then(|text| zone_name(text)).unwrap()
+    zone_text(zone, key)
+        .and_then(|text| zone_name(text))
+        .unwrap()
 }
 
 /// The number at a key of the zone.
@@ -175,12 +177,5 @@ pub fn topology(
     let group_names = names(alloc, index.groups())?;
     let owned = owned(alloc, prefixes)?;
     let hosts = all_hosts(alloc, index.nodes())?;
-    Ok(Topology::from_parts(
-        instance,
-        zone,
-        node_names,
-        group_names,
-        owned,
-        hosts,
-    ))
+    Ok(Topology::from_parts(instance, zone, node_names, group_names, owned, hosts))
 }

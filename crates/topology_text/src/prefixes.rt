@@ -86,10 +86,7 @@ fn place_of(entry: PrefixAt) -> Place
 }
 
 /// The first prefix that stands earlier too.
-pub fn first_duplicate(
-    alloc: Global,
-    prefixes: &[PrefixAt],
-) -> Result<Option<Place>, AllocError>
+pub fn first_duplicate(alloc: Global, prefixes: &[PrefixAt]) -> Result<Option<Place>, AllocError>
     ensures { IfOk result (λ o. o ≡ first (duplicate_prefixes prefixes.now)) }
 {
     let mut seen = IndexSet::new(alloc);

@@ -14,7 +14,9 @@ use crate::rule::first_by;
 use crate::schema::Place;
 use crate::topology::Topology;
 use crate::unknown::first_unknown;
-use crate::values::{BadAddress, BadName, BadPrefix, EachValue, MissingKey, OutOfRange, TooMany, WrongKind};
+use crate::values::{
+    BadAddress, BadName, BadPrefix, EachValue, MissingKey, OutOfRange, TooMany, WrongKind,
+};
 use crate::walk::{TableAt, walk};
 use std::alloc::Global;
 use toml::Table;
@@ -74,10 +76,7 @@ fn check_values(tables: &[TableAt<'_>]) -> Result<(), TopologyFault>
 }
 
 /// The prefixes beside one another; the first that stands earlier too was looked for.
-fn check_prefixes(
-    prefixes: &[PrefixAt],
-    duplicate: Option<Place>,
-) -> Result<(), TopologyFault>
+fn check_prefixes(prefixes: &[PrefixAt], duplicate: Option<Place>) -> Result<(), TopologyFault>
     requires { duplicate ≡ first (duplicate_prefixes prefixes.now) }
     ensures { result ≡ checked (map TopologyFault.DuplicatePrefix (duplicate_prefixes prefixes.now) ++ map TopologyFault.NoDefault (no_default prefixes.now)) }
 {
