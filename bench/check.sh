@@ -1,6 +1,7 @@
 #!/usr/bin/env bash
-# Time and memory of `glb check` against the bare reading of the same TOML, on
-# topologies of up to 65,536 groups with lists of sixteen and a good map of each.
+# Time and memory of the bare reading of a topology's TOML, of glb's reading of it,
+# and of the whole of `glb check`, on topologies of up to 65,536 groups with lists of
+# sixteen and a good map of each.
 # Takes some minutes: bench/generate.py computes the maps. Needs python3.
 #
 #   bench/check.sh            all sizes
@@ -53,12 +54,16 @@ git -C "$work/repository" init -q
 (cd "$work/repository/crates/bare_toml" && rt run -- "$top/examples/flat.toml") >>"$work/log" 2>&1
 bare=$work/repository/crates/bare_toml/out/bare_toml
 
+touch "$work/nothing"
+
 # groups, pools, levels, per cent of the demand that the pools hold
 measure() {
     python3 "$here/generate.py" "$1" "$2" "$3" "$4" "$work/topology" "$work/map" >"$work/proposals"
     printf '%6d groups, %4d pools, %d levels, %3d %%: topology %3d MB, map %3d MB; ' \
         "$1" "$2" "$3" "$4" $(($(stat -c %s "$work/topology") >> 20)) $(($(stat -c %s "$work/map") >> 20))
     printf 'bare TOML %s; ' "$(python3 "$here/measure.py" 3 0 "$bare" "$work/topology")"
+    # a map of no octets is refused, once the topology is read
+    printf 'reading %s; ' "$(python3 "$here/measure.py" 3 2 "$glb" check "$work/topology" "$work/nothing")"
     printf 'check %s\n' "$(python3 "$here/measure.py" 3 0 "$glb" check "$work/topology" "$work/map")"
 }
 
@@ -68,3 +73,5 @@ for groups in ${1:-1024 8192 65536}; do
     measure "$groups" 2048 8 150
     measure "$groups" 2048 8 80
 done
+# as many groups, nodes and prefixes as a topology may have
+[ -n "${1:-}" ] || measure 65536 8192 1 150
