@@ -22,3 +22,4 @@ pub mod SoundHosts
 pub mod SoundNames
 pub mod SoundPrefixes
 pub mod ZoneNames
+pub mod NoMemory

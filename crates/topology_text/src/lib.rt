@@ -19,7 +19,7 @@ mod zone;
 
 pub use fault::TopologyFault;
 pub use read::read_topology;
-pub use schema::{At, Key, Kind, Place, Spot};
+pub use schema::{At, Key, Place, Spot};
 pub use topology::{Names, Topology, Zone};
 
 #[cfg(test)]

@@ -204,12 +204,14 @@ impl<'a> Entries<'a> {
         self.node_number(name)
     }
 
+    /// The entries of `node`.
     pub fn nodes(&self) -> &[Value]
         ensures { result.now ≡ self.now.nodes.now }
     {
         self.nodes
     }
 
+    /// The entries of `group`.
     pub fn groups(&self) -> &[Value]
         ensures { result.now ≡ self.now.groups.now }
     {

@@ -123,6 +123,7 @@ impl Key {
         }
     }
 
+    /// Whether a table must have the key.
     pub fn is_required(self) -> bool
         ensures { result ≡ is_required self }
     {

@@ -36,6 +36,14 @@ impl Names {
     {
         self.names.as_slice()
     }
+
+    /// The names as they were handed in.
+    pub fn into_vec(self) -> Vec<Name>
+        ensures { result.items ≡ self }
+    {
+        let Names { names } = self;
+        names
+    }
 }
 
 /// The zone: its apex, the numbers of its start of authority (RFC 1035, section 3.3.13), and the names in it.
@@ -192,7 +200,7 @@ impl Topology {
 
     /// The name of a group.
     pub fn group_name(&self, group: GroupId) -> &[u8]
-        requires { group.0 < length self.now.group_names }
+        requires { group.0 < length self.now.market.groups }
         ensures name { result.now ≡ slice_index_or self.now.group_names group.0 [] }
         ensures plan { IsPlan self.now }
     {
@@ -204,7 +212,7 @@ impl Topology {
 
     /// The name of a node.
     pub fn node_name(&self, node: NodeId) -> &[u8]
-        requires { node.0 < length self.now.node_names }
+        requires { node.0 < length self.now.market.nodes }
         ensures name { result.now ≡ slice_index_or self.now.node_names node.0 [] }
         ensures plan { IsPlan self.now }
     {
@@ -216,7 +224,7 @@ impl Topology {
 
     /// The addresses of a node for records of type A (`kind` is 1) or AAAA (28), in the file's order.
     pub fn addresses(&self, node: NodeId, kind: u16) -> &[Addr]
-        requires node { node.0 < length self.now.addresses }
+        requires node { node.0 < length self.now.market.nodes }
         requires kind { (kind ≡ 1) ⊎ (kind ≡ 28) }
         ensures addresses { result.now ≡ addresses_of self.now node.0 kind }
         ensures plan { IsPlan self.now }
