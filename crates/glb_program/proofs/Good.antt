@@ -1,5 +1,5 @@
 -- What status 0 says.
-use Rattle.std.proofs.Common.{◌≡◌, ◌⊎◌, ℕ, List, [], ◌∷◌, ◌++◌, Option, None, Some, Result, Ok, Err, MatchOption, MatchResult, IfSome, inl, inr, refl, ap, sym, ◌∙◌, subst, append-nil}
+use Rattle.std.proofs.Common.{◌≡◌, ℕ, List, [], ◌∷◌, ◌++◌, Option, None, Some, Result, Ok, Err, MatchOption, MatchResult, IfSome, inl, inr, refl, ap, sym, ◌∙◌, append-nil}
 use Rattle.std.specs.List.{concat}
 use Rattle.map_model.specs.Allocation.{IsGood}
 use Rattle.outside.specs.Faults.{BothTell}
