@@ -1,24 +1,22 @@
 -- Where the files hold a good map and nothing outside fails, the answer is status 0.
-use Rattle.std.proofs.Common.{◌≡◌, ◌⊎◌, ℕ, ◌<◌, ◌≤◌, List, [], ◌∷◌, Option, None, Some, Result, Ok, Err, IsSome, IsSomeAnd, MatchOption, MatchResult, inl, inr, refl, ap, sym, ◌∙◌, subst, arith}
+use Rattle.std.proofs.Common.{◌≡◌, ◌⊎◌, ℕ, List, Option, None, Some, Result, IsSomeAnd, MatchOption, MatchResult, inl, inr, refl, ap, ◌∙◌, subst, arith}
 use Rattle.std.specs.Prelude.{slice_get}
 use Rattle.map_model.specs.declared.lines.MapLine.{MapLine}
 use Rattle.map_model.specs.declared.lines.NameLine.{NameLine}
 use Rattle.map_model.specs.Market.{Market}
-use Rattle.map_model.specs.Allocation.{IsGood, names_of}
+use Rattle.map_model.specs.Allocation.{IsGood}
 use Rattle.outside.specs.Faults.{Rose}
 use Rattle.outside.specs.Shelf.{Shelved}
 use Rattle.stable_check.specs.Judgement.{Judges}
 use Rattle.stable_check.specs.declared.verdict.Verdict.{Verdict}
 use Rattle.stable_check.specs.declared.verdict.Verdict.TheVariants.{Good, BadLine, OverDemand, OverCapacity, Blocking, BadName}
-use Rattle.topology_text.specs.Plan.{Plan}
-use Rattle.map_text.specs.Reading.{Mapped}
 use Rattle.glb_program.specs.declared.status.Status.{Status}
 use Rattle.glb_program.specs.declared.status.Status.TheVariants as status
 use Rattle.glb_program.specs.Words.{Ask, check}
 use Rattle.glb_program.specs.Outcome.{Faults, HasCauses, Outcome, Outside, RunsBy}
-use Rattle.glb_program.specs.Files.{Kind, Reads, Says, refused, says, map_file, topology_file}
+use Rattle.glb_program.specs.Files.{Kind, Reads, Says, refused, map_file, topology_file}
 use Rattle.glb_program.specs.Check.{HoldsGoodMap, IsCheck, IsCheckDue, IsJudged, status_of}
-use Rattle.glb_program.specs.Run.{IsRun, IsSound, IsUsage}
+use Rattle.glb_program.specs.Run.{IsRun, IsSound}
 
 -- a good map has no other verdict
 only_good : (m : Market) (lines : List MapLine) (names : List NameLine) (v : Verdict) → Judges m lines names v → IsGood m lines names → v ≡ Good
@@ -30,7 +28,7 @@ only_good m lines names (Blocking g k) judged good = let some = good.stable g.0 
 only_good m lines names (BadName i) judged good = absurd (judged.3.here (ap (λ ns. slice_get ns i) good.named))
 
 -- what a file says decides what is due
-reads_on : {T F : Type 0} (kind : Kind T F) (held : Option (List ℕ)) (Next : T → Outcome → Type 0) (due : Outcome) (t : T) → Says kind held t → Reads kind held Next due → Next t due
+reads_on : {T : Type 0} (kind : Kind T) (held : Option (List ℕ)) (Next : T → Outcome → Type 0) (due : Outcome) (t : T) → Says kind held t → Reads kind held Next due → Next t due
 reads_on {T = T} kind held Next due t is h = subst (λ (r : Option (Result T (List ℕ))). MatchOption r ⊥ (λ x. MatchResult x (λ y. Next y due) (λ text. due ≡ refused text))) is h
 
 well_due : (topology map : List ℕ) (files : List ℕ → Option (List ℕ)) (due : Outcome) → HoldsGoodMap topology map files → IsCheck topology map files due → due.status ≡ status.Ok

@@ -1,5 +1,5 @@
 -- What status 0 says.
-use Rattle.std.proofs.Common.{◌≡◌, ◌⊎◌, ℕ, List, [], ◌∷◌, ◌++◌, Option, None, Some, Result, Ok, Err, MatchOption, MatchResult, IfSome, inl, inr, refl, ap, sym, ◌∙◌, subst, append-nil}
+use Rattle.std.proofs.Common.{◌≡◌, ℕ, List, [], ◌∷◌, ◌++◌, Option, None, Some, Result, Ok, Err, MatchOption, MatchResult, IfSome, inl, inr, refl, ap, sym, ◌∙◌, append-nil}
 use Rattle.std.specs.List.{concat}
 use Rattle.map_model.specs.Allocation.{IsGood}
 use Rattle.outside.specs.Faults.{BothTell}
@@ -20,7 +20,7 @@ use Rattle.glb_program.specs.Run.{IsGoodRun, IsRun}
 use Rattle.glb_program.specs.Texts as text
 
 -- where all is well, the file said something
-well_read : {T F : Type 0} (kind : Kind T F) (held : Option (List ℕ)) (Next : T → Outcome → Type 0) (due : Outcome) → Reads kind held Next due → due.status ≡ status.Ok → (t : T) × Says kind held t × Next t due
+well_read : {T : Type 0} (kind : Kind T) (held : Option (List ℕ)) (Next : T → Outcome → Type 0) (due : Outcome) → Reads kind held Next due → due.status ≡ status.Ok → (t : T) × Says kind held t × Next t due
 well_read {T = T} kind held Next due h ok = go (says kind held) refl h
   where
     go : (r : Option (Result T (List ℕ))) → says kind held ≡ r → MatchOption r ⊥ (λ x. MatchResult x (λ t. Next t due) (λ text. due ≡ refused text)) → (t : T) × Says kind held t × Next t due

@@ -1,11 +1,11 @@
 -- The loads of one file after another.
-use Rattle.std.proofs.Common.{◌≡◌, ℕ, suc, List, [], ◌∷◌, ◌++◌, length, take, Option, None, Some, Result, Ok, Err, IfSome, ap, sym, ◌∙◌, append_assoc}
+use Rattle.std.proofs.Common.{◌≡◌, ℕ, suc, List, [], ◌∷◌, ◌++◌, length, take, Option, None, Some, IfSome, ap, sym, ◌∙◌, append_assoc}
 use Rattle.std.proofs.Math.Seq.{take-length}
 use Rattle.outside.specs.Faults.{BothTell}
 use Rattle.outside.specs.Shelf.{Load, Shelved}
 use Rattle.glb_program.specs.Outcome.{AreLoaded, AreLoadsOf, Outcome}
 use Rattle.glb_program.specs.Files.{Kind, Says, says as says_of, load_of, loads_behind, loads_from}
-use Rattle.glb_program.specs.Reports.{EndsBy}
+use Rattle.glb_program.specs.Reports.{EndsBy, outcome_of}
 use Rattle.glb_program.specs.declared.report.Ended.{Ended}
 use Rattle.glb_program.specs.declared.report.Ended.TheVariants as ended
 
@@ -17,7 +17,7 @@ noted_all due (Some x) None h = absurd h
 noted_all due (Some x) (Some y) h = record { files = h.files; loads = (length (due x.holds), h.loads ∙ ap (λ ls. x.loads ++ ls) (sym (take-length (due x.holds)))) }
 
 -- a file that says something, and then a load that may have failed
-pub noted_both : {T F : Type 0} (kind : Kind T F) (name : List ℕ) (next : T → List Load) (that : T) (b : Load) (s t u : Option Shelved) → next that ≡ b ∷ []
+pub noted_both : {T : Type 0} (kind : Kind T) (name : List ℕ) (next : T → List Load) (that : T) (b : Load) (s t u : Option Shelved) → next that ≡ b ∷ []
     → BothTell s t (AreLoaded (λ _. load_of kind name ∷ [])) → IfSome s (λ x. Says kind (x.holds name) that) → BothTell t u (AreLoadsOf (λ _. b ∷ []))
     → BothTell s u (AreLoadsOf (λ files. loads_from kind name (files name) next))
 noted_both kind name next that b None None None is one says two = tt
@@ -41,7 +41,7 @@ noted_both kind name next that b (Some x) (Some y) (Some z) is one says two =
     }
 
 -- a file that says something, and then a load that was made
-pub loaded_both : {T F : Type 0} (kind : Kind T F) (name : List ℕ) (next : T → List Load) (that : T) (b : Load) (s t u : Option Shelved) → next that ≡ b ∷ []
+pub loaded_both : {T : Type 0} (kind : Kind T) (name : List ℕ) (next : T → List Load) (that : T) (b : Load) (s t u : Option Shelved) → next that ≡ b ∷ []
     → BothTell s t (AreLoaded (λ _. load_of kind name ∷ [])) → IfSome s (λ x. Says kind (x.holds name) that) → BothTell t u (AreLoaded (λ _. b ∷ []))
     → BothTell s u (AreLoaded (λ files. loads_from kind name (files name) next))
 loaded_both kind name next that b None None None is one says two = tt
@@ -58,7 +58,7 @@ loaded_both kind name next that b (Some x) (Some y) (Some z) is one says two =
     }
 
 -- what follows of a report
-pub ends_weaker : (P Q : Type 0) (e : Ended) → (P → Q) → EndsBy (λ _. P) e → EndsBy (λ _. Q) e
-ends_weaker P Q (ended.Said report) follows h = follows h
+pub ends_weaker : (P Q : Outcome → Type 0) (e : Ended) → ((due : Outcome) → P due → Q due) → EndsBy P e → EndsBy Q e
+ends_weaker P Q (ended.Said report) follows h = follows (outcome_of report) h
 ends_weaker P Q ended.SourceFault follows h = tt
 ends_weaker P Q ended.NoMemory follows h = tt

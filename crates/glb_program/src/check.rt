@@ -1,8 +1,9 @@
-ghost use Rattle.std.specs.Prelude.{◌≡◌, ◌≤◌, [], ◌∷◌, IfOk, IfErr, IfSome, MatchResult};
+ghost use Rattle.std.specs.Prelude.{◌≡◌, ◌≢◌, ◌≤◌, [], ◌∷◌, IfOk, IfSome};
 ghost use Rattle.outside.specs.Faults.{BothTell, Rose};
 ghost use Rattle.stable_check.specs.Judgement.{Judges};
-ghost use Rattle.glb_program.specs.Outcome.{AreLoaded, AreLoadsOf, HasText};
+ghost use Rattle.glb_program.specs.Outcome.{AreLoaded, AreLoadsOf, HasText, IsSaid};
 ghost use Rattle.glb_program.specs.Check.{IsCheckDue, IsJudged, loads_of_check, status_of};
+ghost use Rattle.glb_program.specs.Files.{Reads, load_of, map_file};
 ghost use Rattle.glb_program.specs.Reports.{EndsBy, IsNameable, mapped, outcome_of};
 
 use crate::files::{load_map, load_topology};
@@ -35,7 +36,7 @@ fn judge(alloc: Global, topology: &Topology, map: &MapLines) -> Result<Verdict, 
 }
 
 /// The verdict on a map, as what is to be said.
-fn report(alloc: Global, topology: &Topology, map: &MapLines) -> Result<Report, NoMemory>
+fn try_report(alloc: Global, topology: &Topology, map: &MapLines) -> Result<Report, NoMemory>
     ensures judged { IfOk result (λ r. IsJudged topology.now (mapped map.now) (outcome_of r)) }
     ensures text { IfOk result (λ r. HasText r.status) }
 {
@@ -47,35 +48,43 @@ fn report(alloc: Global, topology: &Topology, map: &MapLines) -> Result<Report, 
     })
 }
 
-fn try_check<F: Shelf>(
-    alloc: Global,
-    files: &mut F,
-    topology: &str,
-    map: &str,
-) -> Result<Report, Ended>
-    ensures noted { BothTell (F.told files.old) (F.told files.new) (AreLoadsOf (loads_of_check topology.now map.now)) }
-    ensures loaded { MatchResult result (λ _. BothTell (F.told files.old) (F.told files.new) (AreLoaded (loads_of_check topology.now map.now))) (EndsBy (λ _. BothTell (F.told files.old) (F.told files.new) (AreLoaded (loads_of_check topology.now map.now)))) }
-    ensures text { MatchResult result (λ r. HasText r.status) (EndsBy (λ due. HasText due.status)) }
-    ensures due { MatchResult result (λ r. IsCheckDue topology.now map.now (F.told files.old) (outcome_of r)) (EndsBy (IsCheckDue topology.now map.now (F.told files.old))) }
-    ensures later { F.faults files.old ≤ F.faults files.new }
-    ensures cause { IfErr result (λ e. e ≡ Ended.SourceFault → Rose (F.faults files.old) (F.faults files.new)) }
+fn report(alloc: Global, topology: &Topology, map: &MapLines) -> Ended
+    ensures judged { EndsBy (IsJudged topology.now (mapped map.now)) result }
+    ensures text { EndsBy (λ due. HasText due.status) result }
+    ensures source { result ≢ Ended.SourceFault }
 {
-    let topology = load_topology(alloc, files, topology)?;
-    let map = load_map(alloc, files, map, &topology)?;
-    Ok(report(alloc, &topology, &map)?)
+    match try_report(alloc, topology, map) {
+        Ok(report) => Ended::Said(report),
+        Err(NoMemory) => Ended::NoMemory,
+    }
 }
 
-/// Whether the map of a file is good for the instance of another.
+/// Whether the map of a file is good for the instance of a topology.
+fn check_map<F: Shelf>(alloc: Global, files: &mut F, topology: &Topology, map: &str) -> Ended
+    ensures noted { BothTell (F.told files.old) (F.told files.new) (AreLoadsOf (λ _. load_of (map_file topology.now) map.now ∷ [])) }
+    ensures loaded { EndsBy (λ _. BothTell (F.told files.old) (F.told files.new) (AreLoaded (λ _. load_of (map_file topology.now) map.now ∷ []))) result }
+    ensures due { IfSome (F.told files.old) (λ shelf. EndsBy (Reads (map_file topology.now) (shelf.holds map.now) (IsJudged topology.now)) result) }
+    ensures said { EndsBy IsSaid result }
+    ensures later { F.faults files.old ≤ F.faults files.new }
+    ensures cause { result ≡ Ended.SourceFault → Rose (F.faults files.old) (F.faults files.new) }
+{
+    match load_map(alloc, files, map, topology) {
+        Ok(map) => report(alloc, topology, &map),
+        Err(ended) => ended,
+    }
+}
+
+/// Whether the map of a file is good for the instance of the topology of another.
 pub fn check_files<F: Shelf>(alloc: Global, files: &mut F, topology: &str, map: &str) -> Ended
     ensures noted { BothTell (F.told files.old) (F.told files.new) (AreLoadsOf (loads_of_check topology.now map.now)) }
     ensures loaded { EndsBy (λ _. BothTell (F.told files.old) (F.told files.new) (AreLoaded (loads_of_check topology.now map.now))) result }
     ensures due { EndsBy (IsCheckDue topology.now map.now (F.told files.old)) result }
-    ensures text { EndsBy (λ due. HasText due.status) result }
+    ensures said { EndsBy IsSaid result }
     ensures later { F.faults files.old ≤ F.faults files.new }
     ensures cause { result ≡ Ended.SourceFault → Rose (F.faults files.old) (F.faults files.new) }
 {
-    match try_check(alloc, files, topology, map) {
-        Ok(report) => Ended::Said(report),
+    match load_topology(alloc, files, topology) {
+        Ok(topology) => check_map(alloc, files, &topology, map),
         Err(ended) => ended,
     }
 }

@@ -1,8 +1,8 @@
-ghost use Rattle.std.specs.Prelude.{◌≡◌, ◌≤◌, [], ◌∷◌, IfSome, IfErr, OnErr, OnOk, MatchResult};
+ghost use Rattle.std.specs.Prelude.{◌≡◌, ◌≢◌, ◌≤◌, [], ◌∷◌, Ok, IfSome, IfErr, OnErr, OnOk, MatchResult};
 ghost use Rattle.outside.specs.Faults.{BothTell, Rose};
 ghost use Rattle.outside.specs.Shelf.{IsLoad};
 ghost use Rattle.glb_program.specs.Outcome.{AreLoaded, AreLoadsOf, IsSaid};
-ghost use Rattle.glb_program.specs.Files.{IsRefused, Says, refused, topology_file, map_file};
+ghost use Rattle.glb_program.specs.Files.{IsRefused, IsRefusedBy, Says, mapped_of, refused, topology_file, topology_of, map_file};
 ghost use Rattle.glb_program.specs.Reports.{AreBytes, EndsBy, IsTooLong, mapped};
 ghost use Rattle.glb_program.specs.Texts as text;
 
@@ -25,7 +25,7 @@ const MAP_LIMIT: usize = 256 * 1024 * 1024;
 /// A refusal, with its text where there was memory for that.
 fn refuse(text: Result<Vec<u8>, NoMemory>) -> Ended
     ensures said { EndsBy (λ due. MatchResult text (λ t. due ≡ refused t.items) (λ _. ⊥)) result }
-    ensures source { result ≡ Ended.SourceFault → ⊥ }
+    ensures source { result ≢ Ended.SourceFault }
 {
     match text {
         Ok(text) => Ended::Said(Report {
@@ -33,6 +33,48 @@ fn refuse(text: Result<Vec<u8>, NoMemory>) -> Ended
             text,
         }),
         Err(NoMemory) => Ended::NoMemory,
+    }
+}
+
+fn refuse_topology(alloc: Global, fault: TopologyFault) -> Ended
+    ensures said { EndsBy (λ due. (fault ≢ TopologyFault.NoMemory) × (due ≡ refused (text.topology_fault fault))) result }
+    ensures source { result ≢ Ended.SourceFault }
+{
+    match fault {
+        TopologyFault::NoMemory => Ended::NoMemory,
+        _ => refuse(topology_fault_text(alloc, fault)),
+    }
+}
+
+/// What the bytes of a topology say.
+fn parse_topology(alloc: Global, bytes: &[u8]) -> Result<Topology, Ended>
+    ensures said { MatchResult result (λ t. topology_of bytes.now ≡ Ok t) (EndsBy (IsRefusedBy (topology_of bytes.now))) }
+    ensures source { IfErr result (λ e. e ≢ Ended.SourceFault) }
+{
+    match read_topology(alloc, bytes) {
+        Ok(topology) => Ok(topology),
+        Err(fault) => Err(refuse_topology(alloc, fault)),
+    }
+}
+
+fn refuse_map(alloc: Global, fault: MapFault) -> Ended
+    ensures said { EndsBy (λ due. (fault ≢ MapFault.NoMemory) × (due ≡ refused (text.map_fault fault))) result }
+    ensures source { result ≢ Ended.SourceFault }
+{
+    match fault {
+        MapFault::NoMemory => Ended::NoMemory,
+        _ => refuse(map_fault_text(alloc, fault)),
+    }
+}
+
+/// What the bytes of a map say over a topology.
+fn parse_map(alloc: Global, topology: &Topology, bytes: &[u8]) -> Result<MapLines, Ended>
+    ensures said { MatchResult result (λ m. mapped_of topology.now bytes.now ≡ Ok (mapped m)) (EndsBy (IsRefusedBy (mapped_of topology.now bytes.now))) }
+    ensures source { IfErr result (λ e. e ≢ Ended.SourceFault) }
+{
+    match read_map(alloc, topology, bytes) {
+        Ok(map) => Ok(map),
+        Err(fault) => Err(refuse_map(alloc, fault)),
     }
 }
 
@@ -69,11 +111,7 @@ pub fn load_topology<F: Shelf>(alloc: Global, files: &mut F, name: &str) -> Resu
 {
     let too_long = b"refused topology too long";
     let bytes = load_file(alloc, files, name, TOPOLOGY_LIMIT, too_long)?;
-    match read_topology(alloc, bytes.as_slice()) {
-        Ok(topology) => Ok(topology),
-        Err(TopologyFault::NoMemory) => Err(Ended::NoMemory),
-        Err(fault) => Err(refuse(topology_fault_text(alloc, fault))),
-    }
+    parse_topology(alloc, bytes.as_slice())
 }
 
 /// The map of that name, over a topology.
@@ -91,9 +129,5 @@ pub fn load_map<F: Shelf>(
     ensures cause { IfErr result (λ e. e ≡ Ended.SourceFault → Rose (F.faults files.old) (F.faults files.new)) }
 {
     let bytes = load_file(alloc, files, name, MAP_LIMIT, b"refused map too long")?;
-    match read_map(alloc, topology, bytes.as_slice()) {
-        Ok(map) => Ok(map),
-        Err(MapFault::NoMemory) => Err(Ended::NoMemory),
-        Err(fault) => Err(refuse(map_fault_text(alloc, fault))),
-    }
+    parse_map(alloc, topology, bytes.as_slice())
 }

@@ -1,6 +1,6 @@
 ghost use Rattle.std.specs.Prelude.{◌≡◌, ◌≢◌, ◌≤◌, ◌⊎◌, IsSomeAnd};
 ghost use Rattle.outside.specs.Faults.{BothTell, Rose};
-ghost use Rattle.glb_program.specs.Outcome.{AreLoaded, AreLoadsOf, HasCauses, HasText};
+ghost use Rattle.glb_program.specs.Outcome.{AreLoaded, AreLoadsOf, HasCauses, IsSaid};
 ghost use Rattle.glb_program.specs.Run.{IsDue, IsGoodRun, IsRun, IsSound, loads_of, loads_of_ask};
 ghost use Rattle.glb_program.specs.Commands.{ask_of};
 ghost use Rattle.glb_program.specs.Reports.{EndsBy};
@@ -20,7 +20,7 @@ fn run_command<F: Shelf>(alloc: Global, files: &mut F, command: Command<'_>) -> 
     ensures noted { BothTell (F.told files.old) (F.told files.new) (AreLoadsOf (loads_of_ask (ask_of command.entry))) }
     ensures loaded { EndsBy (λ _. BothTell (F.told files.old) (F.told files.new) (AreLoaded (loads_of_ask (ask_of command.entry)))) result }
     ensures due { EndsBy (IsDue (ask_of command.entry) (F.told files.old)) result }
-    ensures text { EndsBy (λ due. HasText due.status) result }
+    ensures said { EndsBy IsSaid result }
     ensures later { F.faults files.old ≤ F.faults files.new }
     ensures cause { result ≡ Ended.SourceFault → Rose (F.faults files.old) (F.faults files.new) }
 {

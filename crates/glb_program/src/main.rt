@@ -39,3 +39,6 @@ fn main(rt: HostRuntime) -> ExitCode {
     };
     ExitCode::from(status as u8)
 }
+
+#[cfg(test)]
+mod tests;

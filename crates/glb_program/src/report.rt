@@ -1,6 +1,6 @@
 ghost use Rattle.std.specs.Prelude.{◌≡◌, ◌⊎◌, ◌≤◌, [], ◌∷◌};
 ghost use Rattle.outside.specs.Faults.{BothTell, Rose};
-ghost use Rattle.glb_program.specs.Outcome.{HasText, RunsBy, Speaks};
+ghost use Rattle.glb_program.specs.Outcome.{HasText, IsSaid, RunsBy, Speaks};
 ghost use Rattle.glb_program.specs.Reports.{EndsBy, IsReport};
 
 use crate::status::Status;
@@ -37,7 +37,7 @@ pub fn say<K: Sink>(out: &mut K, status: Status, text: &[u8]) -> Status
 
 /// Puts what a command has to say.
 pub fn finish<K: Sink>(out: &mut K, ended: Ended) -> Status
-    requires { EndsBy (λ due. HasText due.status) ended }
+    requires { EndsBy IsSaid ended }
     ensures run { RunsBy (IsReport ended) (K.told out.old) (K.told out.new) result }
     ensures later { K.faults out.old ≤ K.faults out.new }
     ensures cause { result ≡ Status.SinkFault → Rose (K.faults out.old) (K.faults out.new) }

@@ -1,5 +1,5 @@
 -- The reading of a text, line by line.
-use Rattle.std.proofs.Common.{◌≡◌, ℕ, suc, zero, ◌+◌, ◌||◌, Bool, false, List, [], ◌∷◌, ◌++◌, length, take, get_or, map, Option, None, Some, Result, Ok, Err, refl, ap, sym, ◌∙◌, subst, arith, append-nil, append_assoc, length-append}
+use Rattle.std.proofs.Common.{◌≡◌, ℕ, ◌+◌, ◌||◌, Bool, List, [], ◌∷◌, ◌++◌, length, map, Option, None, Some, Result, Err, refl, ap, sym, ◌∙◌, subst, append-nil, append_assoc, length-append}
 use Rattle.std.proofs.Math.Seq.{take-append_seam, get_or-append_seam}
 use Rattle.std.proofs.lemmas.List.Elements.{filter_map-append}
 use Rattle.std.proofs.lemmas.List.Recursion.{or_push}
@@ -8,7 +8,7 @@ use Rattle.std.specs.Option.{option_to_list}
 use Rattle.topology_text.specs.Plan.{Plan}
 use Rattle.map_text.specs.Parts.{but_last, last_of, parts, unfinished}
 use Rattle.map_text.specs.Lines.{line_of}
-use Rattle.map_text.specs.Reading.{Mapped, SoFar, fault_at, fault_of, faults_of, finished, first_of, is_end, lines_of, map_of, named_by, placed_by, so_far}
+use Rattle.map_text.specs.Reading.{Mapped, SoFar, fault_at, fault_of, finished, first_of, is_end, lines_of, map_of, named_by, placed_by, so_far}
 use Rattle.map_text.specs.Reader.{with_line}
 use Rattle.map_text.specs.declared.fault.MapFault.{MapFault}
 use Rattle.map_text.specs.declared.line.Line.{Line}

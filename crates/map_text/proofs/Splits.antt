@@ -1,8 +1,8 @@
 -- The parts of a text round an octet, one after another.
-use Rattle.std.proofs.Common.{◌≡◌, ℕ, ◌+◌, ◌≤◌, ◌<◌, suc, zero, Bool, true, false, cond, List, [], ◌∷◌, length, take, drop, Option, None, Some, refl, arith, count_by, ◌==◌}
+use Rattle.std.proofs.Common.{◌≡◌, ℕ, ◌+◌, ◌≤◌, suc, zero, Bool, true, false, cond, List, [], ◌∷◌, length, take, drop, None, Some, refl, arith, count_by, ◌==◌}
 use Rattle.std.proofs.lemmas.List.Splits.{length-slice_split}
 use Rattle.std.specs.List.{onto_first, position_from, slice_split}
-use Rattle.map_text.specs.Parts.{Words, four_of, parts, but_last, last_of}
+use Rattle.map_text.specs.Parts.{four_of, parts, but_last, last_of}
 
 position_ge : {X : Type 0} (p : X → Bool) (n : ℕ) (xs : List X) (m : ℕ) → position_from p n xs ≡ Some m → n ≤ m
 position_ge p n [] m h = cc

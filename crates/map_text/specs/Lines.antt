@@ -1,5 +1,5 @@
 -- What one line of a map's text says, over a topology.
-use Rattle.std.specs.Prelude.{◌≡◌, ℕ, ◌<◌, Bool, ◌||◌, ◌==◌, if◌then◌else◌, List, length, Option, None, Some, codes, position, option_map, option_and_then}
+use Rattle.std.specs.Prelude.{ℕ, ◌<◌, Bool, ◌||◌, ◌==◌, if◌then◌else◌, List, length, Option, None, Some, codes, position, option_map, option_and_then}
 use Rattle.std.specs.Str.{bytes_eq}
 use Rattle.map_model.specs.declared.instance.Offer.{Offer}
 use Rattle.map_model.specs.Market.{Market, choices_of}

@@ -1,5 +1,5 @@
 -- What a reader of a map's text keeps: what the lines so far come to.
-use Rattle.std.specs.Prelude.{ℕ, ◌+◌, ◌||◌, ◌++◌}
+use Rattle.std.specs.Prelude.{◌+◌, ◌||◌, ◌++◌}
 use Rattle.std.specs.Option.{option_to_list}
 use Rattle.map_text.specs.Reading.{SoFar, is_end, named_by, placed_by}
 use Rattle.map_text.specs.declared.line.Line.{Line}

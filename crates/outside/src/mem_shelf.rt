@@ -106,6 +106,7 @@ impl Shelf for MemShelf {
     ghost faults = { λ s. s.calls.faults };
 
     fn load(&mut self, alloc: Global, name: &str, limit: usize) -> Result<Vec<u8>, LoadFault>
+        ensures within { IfOk result (λ bytes. vec_len bytes ≤ limit) }
         ensures load { BothTell (Some (shelved self.old)) (Some (shelved self.new)) (IsLoad name.now limit result) }
         ensures later { self.old.calls.faults ≤ self.new.calls.faults }
         ensures cause { IsErrOf result LoadFault.Failed → Rose self.old.calls.faults self.new.calls.faults }

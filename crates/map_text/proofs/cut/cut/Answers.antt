@@ -1,5 +1,4 @@
-use Rattle.std.proofs.Common.{sym, ◌∙◌, ap, ◌∷◌}
-use Rattle.map_text.specs.Parts.{parts}
+use Rattle.std.proofs.Common.{sym, ◌∙◌}
 use Rattle.map_text.proofs.Splits.{parts_cut, parts_whole}
 use Rattle.map_text.proofs.cut.cut.Goals as goal
 

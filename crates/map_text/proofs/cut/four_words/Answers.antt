@@ -1,5 +1,5 @@
 use Rattle.std.proofs.Common.{◌∙◌, ap, ◌∷◌}
-use Rattle.map_text.specs.Parts.{four_of, parts}
+use Rattle.map_text.specs.Parts.{four_of}
 use Rattle.map_text.proofs.Splits.{five_parts}
 use Rattle.map_text.proofs.cut.four_words.Goals as goal
 

@@ -1,6 +1,6 @@
-use Rattle.std.proofs.Common.{◌≡◌, ℕ, ◌+◌, ◌*◌, ◌≤◌, drop, get_or, ap, sym, ◌∙◌, arith, subst}
+use Rattle.std.proofs.Common.{◌+◌, ◌*◌, drop, get_or, ap, sym, ◌∙◌, arith}
 use Rattle.std.proofs.lemmas.List.{drop_more}
-use Rattle.std.specs.Char.{digit_value, is_ascii_digit}
+use Rattle.std.specs.Char.{digit_value}
 use Rattle.std.specs.Str.Parse.{digits_value_after}
 use Rattle.map_text.proofs.Digits.{digit_here, digits_more}
 use Rattle.map_text.proofs.number.value_of.Goals as goal

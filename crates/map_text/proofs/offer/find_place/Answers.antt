@@ -1,5 +1,5 @@
-use Rattle.std.proofs.Common.{◌≡◌, ◌∙◌, ap, sym, nat_eq, length, arith, ◌<◌}
-use Rattle.map_model.specs.Market.{choices_of, pool_of}
+use Rattle.std.proofs.Common.{◌∙◌, ap, sym, nat_eq, length, arith, ◌<◌}
+use Rattle.map_model.specs.Market.{choices_of}
 use Rattle.map_text.proofs.Firsts.{position_here, position_nowhere}
 use Rattle.map_text.proofs.offer.find_place.Goals as goal
 

@@ -1,7 +1,7 @@
-use Rattle.std.proofs.Common.{◌≡◌, ap, sym, ◌∙◌, subst, arith}
+use Rattle.std.proofs.Common.{ap, ◌∙◌, arith}
 use Rattle.std.proofs.lemmas.Result.{err_from_is_err_and}
 use Rattle.map_text.specs.Reading.{SoFar}
-use Rattle.map_text.specs.Reader.{kept, with_line}
+use Rattle.map_text.specs.Reader.{kept}
 use Rattle.map_text.proofs.Readings.{read_all, read_fault, read_more, read_text}
 use Rattle.map_text.proofs.Forms.{form_more, form_next, form_none}
 use Rattle.map_text.proofs.read.read_map.Goals as goal

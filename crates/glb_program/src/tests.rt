@@ -1,0 +1,628 @@
+use crate::{Status, glb};
+use outside::{File, MemShelf, MemSink};
+use std::process::Abort;
+use std::test::Fail;
+
+/// What stands under a name.
+#[derive(Clone, Copy)]
+enum Held {
+    /// The zone and both default prefixes, and then these nodes and groups.
+    Topology(&'static str),
+    /// These octets.
+    Bytes(&'static [u8]),
+    /// So many octets 0.
+    Zeros(usize),
+    /// No file.
+    Missing,
+}
+
+use Held::{Bytes, Missing, Topology, Zeros};
+
+const ZONE: &str = "[zone]
+apex = \"cdn.example\"
+mname = \"ns1.ops.example\"
+rname = \"admin.ops.example\"
+serial = 1
+refresh = 3600
+retry = 600
+expire = 86400
+minimum = 60
+ttl = 20
+ns = [\"ns1.ops.example\", \"ns2.ops.example\"]
+services = [\"www\"]
+";
+
+/// One pool of 10 units, and one group that asks for 4.
+const FLAT: &str = "[[node]]
+name = \"A\"
+capacity = 10
+pool = true
+a = [\"192.0.2.1\"]
+[[group]]
+name = \"g\"
+demand = 4
+pools = [\"A\"]
+scores = [1]
+prefixes = [\"0.0.0.0/0\", \"::/0\"]
+";
+
+/// One pool of no units, and one group that asks for 1.
+const EMPTY_POOL: &str = "[[node]]
+name = \"A\"
+capacity = 0
+pool = true
+[[group]]
+name = \"g\"
+demand = 1
+pools = [\"A\"]
+scores = [1]
+prefixes = [\"0.0.0.0/0\", \"::/0\"]
+";
+
+/// Two groups that each like the other's pool better than that likes them.
+const TWO_GOOD: &str = "[[node]]
+name = \"P\"
+capacity = 1
+pool = true
+[[node]]
+name = \"Q\"
+capacity = 1
+pool = true
+[[node]]
+name = \"Z\"
+capacity = 5
+pool = true
+[[group]]
+name = \"a\"
+demand = 1
+pools = [\"P\", \"Q\"]
+scores = [2, 1]
+prefixes = [\"0.0.0.0/0\", \"::/0\"]
+[[group]]
+name = \"b\"
+demand = 1
+pools = [\"Q\", \"P\"]
+scores = [2, 1]
+prefixes = []
+[[group]]
+name = \"c\"
+demand = 1
+pools = [\"Z\"]
+scores = [1]
+prefixes = []
+";
+
+/// Two pools in one region of 15 units.
+const REGION: &str = "[[node]]
+name = \"R\"
+capacity = 15
+[[node]]
+name = \"A\"
+parent = \"R\"
+capacity = 10
+pool = true
+a = [\"192.0.2.1\"]
+aaaa = [\"2001:db8::1\"]
+[[node]]
+name = \"B\"
+parent = \"R\"
+capacity = 10
+pool = true
+a = [\"192.0.2.2\"]
+[[group]]
+name = \"g1\"
+demand = 8
+pools = [\"A\", \"B\"]
+scores = [1, 2]
+prefixes = [\"0.0.0.0/0\", \"::/0\"]
+[[group]]
+name = \"g2\"
+demand = 8
+pools = [\"A\", \"B\"]
+scores = [3, 4]
+prefixes = [\"198.51.100.0/24\"]
+";
+
+/// A region whose pool A was full and is not any more.
+const NO_LONGER_FULL: &str = "[[node]]
+name = \"R\"
+capacity = 10
+[[node]]
+name = \"A\"
+parent = \"R\"
+capacity = 6
+pool = true
+[[node]]
+name = \"B\"
+parent = \"R\"
+capacity = 10
+pool = true
+[[group]]
+name = \"a\"
+demand = 6
+pools = [\"A\"]
+scores = [5]
+prefixes = [\"0.0.0.0/0\", \"::/0\"]
+[[group]]
+name = \"b\"
+demand = 4
+pools = [\"A\"]
+scores = [6]
+prefixes = []
+[[group]]
+name = \"c\"
+demand = 8
+pools = [\"B\"]
+scores = [1]
+prefixes = []
+";
+
+/// Eight nodes on one path, of which the root is full.
+const EIGHT_LEVELS: &str = "node = [
+{name = \"n0\", capacity = 3},
+{name = \"n1\", parent = \"n0\", capacity = 9},
+{name = \"n2\", parent = \"n1\", capacity = 9},
+{name = \"n3\", parent = \"n2\", capacity = 9},
+{name = \"n4\", parent = \"n3\", capacity = 9},
+{name = \"n5\", parent = \"n4\", capacity = 9},
+{name = \"n6\", parent = \"n5\", capacity = 9},
+{name = \"n7\", parent = \"n6\", capacity = 9, pool = true},
+]
+group = [{name = \"g\", demand = 4, pools = [\"n7\"], scores = [0], prefixes = [\"0.0.0.0/0\", \"::/0\"]}]
+";
+
+/// Nine nodes on one path.
+const NINE_LEVELS: &str = "node = [
+{name = \"n0\", capacity = 3},
+{name = \"n1\", parent = \"n0\", capacity = 9},
+{name = \"n2\", parent = \"n1\", capacity = 9},
+{name = \"n3\", parent = \"n2\", capacity = 9},
+{name = \"n4\", parent = \"n3\", capacity = 9},
+{name = \"n5\", parent = \"n4\", capacity = 9},
+{name = \"n6\", parent = \"n5\", capacity = 9},
+{name = \"n7\", parent = \"n6\", capacity = 9},
+{name = \"n8\", parent = \"n7\", capacity = 9, pool = true},
+]
+group = [{name = \"g\", demand = 4, pools = [\"n8\"], scores = [0], prefixes = [\"0.0.0.0/0\", \"::/0\"]}]
+";
+
+/// A child before its parent.
+const CHILD_FIRST: &str = "node = [
+{name = \"A\", parent = \"R\", capacity = 10, pool = true},
+{name = \"R\", capacity = 15},
+]
+group = [{name = \"g\", demand = 4, pools = [\"A\"], scores = [0], prefixes = [\"0.0.0.0/0\", \"::/0\"]}]
+";
+
+/// No group has the prefix of all IPv6 addresses.
+const NO_DEFAULT: &str = "node = [{name = \"A\", capacity = 10, pool = true}]
+group = [{name = \"g\", demand = 4, pools = [\"A\"], scores = [0], prefixes = [\"0.0.0.0/0\"]}]
+";
+
+fn held_file<R: Abort + AllocGlobal>(rt: &R, name: &str, held: Held) -> Result<Option<File>, Fail> {
+    assert!(rt; name.len() < 256);
+    let alloc = rt.alloc();
+    Ok(match held {
+        Topology(rest) => {
+            // A table that is written as inline values stands above the header of the zone.
+            let text = if rest.starts_with("node") {
+                format!(in alloc; "{rest}{ZONE}")?
+            } else {
+                format!(in alloc; "{ZONE}{rest}")?
+            };
+            Some(File::new(name, text.into_bytes()))
+        }
+        Bytes(bytes) => Some(File::new(name, bytes.to_vec(alloc)?)),
+        Zeros(count) => Some(File::zeros(name, count)),
+        Missing => None,
+    })
+}
+
+fn shelf<R: Abort + AllocGlobal>(
+    rt: &R,
+    topology: Held,
+    map: Held,
+    fails: &[u64],
+) -> Result<MemShelf, Fail> {
+    let alloc = rt.alloc();
+    let mut files = Vec::new(alloc);
+    if let Some(file) = held_file(rt, "t", topology)? {
+        files.push(file)?;
+    }
+    if let Some(file) = held_file(rt, "m", map)? {
+        files.push(file)?;
+    }
+    let fails = fails.to_vec(alloc)?;
+    Ok(MemShelf::new(alloc, files, 8, fails)?)
+}
+
+fn texts<R: AllocGlobal>(rt: &R, words: &[&str]) -> Result<Vec<String>, Fail> {
+    let mut texts = Vec::new(rt.alloc());
+    for word in words {
+        texts.push(String::from_str(rt.alloc(), word)?)?;
+    }
+    Ok(texts)
+}
+
+const GOOD_FLAT: &[u8] = b"glb map 1\nplace g A 4\nend\n";
+
+const GOOD_REGION: &[u8] =
+    b"glb map 1\nplace g1 A 8\nplace g2 A 2\nplace g2 B 5\nfull g2 A A\nfull g2 B R\nend\n";
+
+const USAGE: &[u8] = b"usage: glb check, answer, map, repair, serve or large\n";
+
+/// `check` over two files: the status, what the output got, and how many files were asked for.
+fn check_rows<R: Abort + AllocGlobal>(
+    rt: &R,
+    rows: &[(Held, Held, Status, &'static str, usize)],
+) -> Result<(), Fail> {
+    let words = texts(rt, &["glb", "check", "t", "m"])?;
+    for (topology, map, wanted, text, loads) in rows {
+        let mut files = shelf(rt, *topology, *map, &[])?;
+        let mut out = MemSink::new(rt.alloc(), 1024, Vec::new(rt.alloc()))?;
+        let status = glb(rt, rt.alloc(), words.as_slice(), &mut files, &mut out);
+        assert_eq!(rt; status, *wanted, "for {text}");
+        assert_eq!(rt; out.bytes(), text.as_bytes(), "for {text}");
+        assert_eq!(rt;
+            out.puts(),
+            if text.is_empty() { 0 } else { 1 },
+            "for {text}"
+        );
+        assert_eq!(rt; files.asked().len(), *loads, "for {text}");
+    }
+    Ok(())
+}
+
+#[test]
+fn verdicts(rt: HostRuntime) -> Result<(), Fail> {
+    check_rows(
+        &rt,
+        &[
+            (Topology(FLAT), Bytes(GOOD_FLAT), Status::Ok, "good\n", 2),
+            (
+                Topology(FLAT),
+                Bytes(b"glb map 1\nplace g A 3\nend\n"),
+                Status::NotGood,
+                "blocking g A\n",
+                2,
+            ),
+            (
+                Topology(FLAT),
+                Bytes(b"glb map 1\nplace g A 5\nend\n"),
+                Status::NotGood,
+                "over demand g 5\n",
+                2,
+            ),
+            (
+                Topology(FLAT),
+                Bytes(b"glb map 1\nplace g A 4294967295\nend\n"),
+                Status::NotGood,
+                "over demand g 4294967295\n",
+                2,
+            ),
+            (
+                Topology(EMPTY_POOL),
+                Bytes(b"glb map 1\nfull g A A\nend\n"),
+                Status::Ok,
+                "good\n",
+                2,
+            ),
+            (
+                Topology(TWO_GOOD),
+                Bytes(
+                    b"glb map 1\nplace a Q 1\nplace b P 1\nplace c Z 1\nfull a P P\nfull b Q Q\nend\n",
+                ),
+                Status::Ok,
+                "good\n",
+                2,
+            ),
+            (
+                Topology(TWO_GOOD),
+                Bytes(b"glb map 1\nplace a P 1\nplace b Q 1\nplace c Z 1\nend\n"),
+                Status::Ok,
+                "good\n",
+                2,
+            ),
+            (
+                Topology(REGION),
+                Bytes(GOOD_REGION),
+                Status::Ok,
+                "good\n",
+                2,
+            ),
+            (
+                Topology(NO_LONGER_FULL),
+                Bytes(b"glb map 1\nplace a A 2\nplace c B 8\nfull a A R\nfull b A R\nend\n"),
+                Status::Ok,
+                "good\n",
+                2,
+            ),
+            (
+                Topology(REGION),
+                Bytes(
+                    b"glb map 1\nplace g1 A 8\nplace g2 A 2\nplace g2 B 4\nfull g2 A A\nfull g2 B R\nend\n",
+                ),
+                Status::NotGood,
+                "blocking g2 B\n",
+                2,
+            ),
+            (
+                Topology(REGION),
+                Bytes(
+                    b"glb map 1\nplace g1 A 9\nplace g2 A 2\nplace g2 B 5\nfull g2 A A\nfull g2 B R\nend\n",
+                ),
+                Status::NotGood,
+                "over demand g1 9\n",
+                2,
+            ),
+            (
+                Topology(REGION),
+                Bytes(b"glb map 1\nplace g1 A 8\nplace g2 B 8\nend\n"),
+                Status::NotGood,
+                "over capacity R 16\n",
+                2,
+            ),
+            (
+                Topology(REGION),
+                Bytes(b"glb map 1\nplace g1 A 6\nplace g2 A 5\nend\n"),
+                Status::NotGood,
+                "over capacity A 11\n",
+                2,
+            ),
+            (
+                Topology(REGION),
+                Bytes(b"glb map 1\nplace g1 A 8\nplace g2 A 2\nplace g2 B 5\nfull g2 A A\nend\n"),
+                Status::NotGood,
+                "bad name 1\n",
+                2,
+            ),
+            (
+                Topology(REGION),
+                Bytes(
+                    b"glb map 1\nplace g1 A 8\nplace g2 A 2\nplace g2 B 5\nfull g2 A R\nfull g2 B R\nend\n",
+                ),
+                Status::NotGood,
+                "bad name 0\n",
+                2,
+            ),
+            (
+                Topology(EIGHT_LEVELS),
+                Bytes(b"glb map 1\nplace g n7 3\nfull g n7 n0\nend\n"),
+                Status::Ok,
+                "good\n",
+                2,
+            ),
+        ],
+    )
+}
+
+#[test]
+fn refusals(rt: HostRuntime) -> Result<(), Fail> {
+    check_rows(
+        &rt,
+        &[
+            (
+                Zeros(67_108_865),
+                Bytes(GOOD_FLAT),
+                Status::Refused,
+                "refused topology too long\n",
+                1,
+            ),
+            (
+                Topology(FLAT),
+                Zeros(268_435_457),
+                Status::Refused,
+                "refused map too long\n",
+                2,
+            ),
+            (
+                Bytes(b"name = \"\xff\"\n"),
+                Bytes(GOOD_FLAT),
+                Status::Refused,
+                "refused topology 1 not toml\n",
+                1,
+            ),
+            (
+                Bytes(b"node ="),
+                Missing,
+                Status::Refused,
+                "refused topology 1 not toml\n",
+                1,
+            ),
+            (
+                Bytes(b""),
+                Bytes(b""),
+                Status::Refused,
+                "refused topology 2 missing key at top zone\n",
+                1,
+            ),
+            (
+                Topology(CHILD_FIRST),
+                Bytes(GOOD_FLAT),
+                Status::Refused,
+                "refused topology 8 parent order at node 0 parent\n",
+                1,
+            ),
+            (
+                Topology(NINE_LEVELS),
+                Bytes(GOOD_FLAT),
+                Status::Refused,
+                "refused topology 9 too deep at node 8 parent\n",
+                1,
+            ),
+            (
+                Topology(NO_DEFAULT),
+                Bytes(GOOD_FLAT),
+                Status::Refused,
+                "refused topology 14 no default at family 6\n",
+                1,
+            ),
+            (
+                Topology(FLAT),
+                Bytes(b"glb map 1\nplace g9 A 1\n"),
+                Status::Refused,
+                "refused map unknown name at line 2\n",
+                2,
+            ),
+            (Missing, Bytes(GOOD_FLAT), Status::SourceFault, "", 1),
+            (Topology(FLAT), Missing, Status::SourceFault, "", 2),
+        ],
+    )
+}
+
+#[test]
+fn map_texts(rt: HostRuntime) -> Result<(), Fail> {
+    let words = texts(&rt, &["glb", "check", "t", "m"])?;
+    let rows: [(&[u8], &str); 27] = [
+        (b"", "truncated"),
+        (b"glb map 1", "truncated"),
+        (b"glb map 1\n", "truncated"),
+        (b"glb map 1\nend", "truncated"),
+        (b"glb map 1\nend\n\xff", "truncated"),
+        (b"glb map 1\nplace g1 A 8\nnonsense", "truncated"),
+        (
+            b"glb map 1\nplace g1 A 8\nplace g2 A 2\nplace g2 B 5\nfull g2 A A\n",
+            "truncated",
+        ),
+        (b"\n", "bad line at line 1"),
+        (b"end\n", "bad line at line 1"),
+        (b"glb map 2\nend\n", "bad line at line 1"),
+        (b"place g9 A 1\n", "bad line at line 1"),
+        (b"glb map 1\nglb map 1\nend\n", "bad line at line 2"),
+        (b"glb map 1\nend\n\n", "bad line at line 3"),
+        (b"glb map 1\r\nend\r\n", "bad line at line 1"),
+        (b"glb map 1\nplaces g1 A 8\nend\n", "bad line at line 2"),
+        (b"glb map 1\nplace g1 A 8 \nend\n", "bad line at line 2"),
+        (b"glb map 1\nplace g1  8\nend\n", "bad line at line 2"),
+        (b"glb map 1\nplace g1 A\nend\n", "bad line at line 2"),
+        (b"glb map 1\nplace g1 A 0\nend\n", "bad line at line 2"),
+        (b"glb map 1\nplace g9 A 08\nend\n", "bad line at line 2"),
+        (
+            b"glb map 1\nplace g1 A 8\nplace g2 A 4294967296\nend\n",
+            "bad line at line 3",
+        ),
+        (b"glb map 1\nplace g1 A +8\nend\n", "bad line at line 2"),
+        (
+            b"glb map 1\nplace g1 A 8\nfull g2 A C\nend\n",
+            "unknown name at line 3",
+        ),
+        (b"glb map 1\nplace g1 R 8\nend\n", "unknown name at line 2"),
+        (
+            b"glb map 1\nplace g1 A 8\nplace g2 A 2\nplace g1 B 8\nplace g2 B 5\nend\n",
+            "order at line 4",
+        ),
+        (
+            b"glb map 1\nplace g1 A 8\nplace g1 A 8\nend\n",
+            "order at line 3",
+        ),
+        (
+            b"glb map 1\nfull g1 A A\nplace g2 A 8\nend\n",
+            "order at line 3",
+        ),
+    ];
+    for (map, wanted) in rows {
+        let mut files = shelf(&rt, Topology(REGION), Bytes(map), &[])?;
+        let mut out = MemSink::new(rt.alloc(), 1024, Vec::new(rt.alloc()))?;
+        let status = glb(&rt, rt.alloc(), words.as_slice(), &mut files, &mut out);
+        let text = format!(in rt.alloc(); "refused map {wanted}\n")?;
+        assert_eq!(rt; status, Status::Refused, "for {wanted}");
+        assert_eq!(rt; out.bytes(), text.as_bytes(), "for {map:?}");
+    }
+    Ok(())
+}
+
+#[test]
+fn usage(rt: HostRuntime) -> Result<(), Fail> {
+    let rows: [&[&str]; 14] = [
+        &[],
+        &["glb"],
+        &["glb", "check"],
+        &["glb", "check", "t"],
+        &["glb", "check", "t", "m", "m"],
+        &["glb", "check", "-t", "m"],
+        &["glb", "check", "t", "-"],
+        &["glb", "check", "--", "t", "m"],
+        &["glb", "chec", "t", "m"],
+        &["glb", "t", "m", "check"],
+        &["glb", "map", "t"],
+        &["glb", "answer", "t", "m"],
+        &["glb", "--help"],
+        &["check", "t", "m"],
+    ];
+    for words in rows {
+        let words = texts(&rt, words)?;
+        let mut files = shelf(&rt, Topology(FLAT), Bytes(GOOD_FLAT), &[])?;
+        let mut out = MemSink::new(rt.alloc(), 1024, Vec::new(rt.alloc()))?;
+        let status = glb(&rt, rt.alloc(), words.as_slice(), &mut files, &mut out);
+        assert_eq!(rt; status, Status::Usage, "for {words:?}");
+        assert_eq!(rt; out.bytes(), USAGE, "for {words:?}");
+        assert_eq!(rt; files.asked().len(), 0, "for {words:?}");
+    }
+    Ok(())
+}
+
+#[test]
+fn faults_outside(rt: HostRuntime) -> Result<(), Fail> {
+    // The words, the loads that are to fail, the puts that are to fail, the room of the output, and what comes of it.
+    let rows: [(&[&str], &[u64], &[u64], usize, Status, &[u8]); 7] = [
+        (
+            &["glb", "check", "t", "m"],
+            &[0],
+            &[],
+            99,
+            Status::SourceFault,
+            b"",
+        ),
+        (
+            &["glb", "check", "t", "m"],
+            &[1],
+            &[],
+            99,
+            Status::SourceFault,
+            b"",
+        ),
+        (
+            &["glb", "check", "t", "m"],
+            &[2],
+            &[],
+            99,
+            Status::Ok,
+            b"good\n",
+        ),
+        (
+            &["glb", "check", "t", "m"],
+            &[],
+            &[0],
+            99,
+            Status::SinkFault,
+            b"",
+        ),
+        (
+            &["glb", "check", "t", "m"],
+            &[],
+            &[],
+            3,
+            Status::SinkFault,
+            b"goo",
+        ),
+        (&["glb"], &[], &[], 5, Status::SinkFault, b"usage"),
+        (
+            &["glb", "check", "m", "t"],
+            &[],
+            &[],
+            99,
+            Status::Refused,
+            b"refused topology 1 not toml\n",
+        ),
+    ];
+    for (words, loads, puts, room, wanted, text) in rows {
+        let words = texts(&rt, words)?;
+        let mut files = shelf(&rt, Topology(FLAT), Bytes(GOOD_FLAT), loads)?;
+        let puts = puts.to_vec(rt.alloc())?;
+        let mut out = MemSink::new(rt.alloc(), room, puts)?;
+        let status = glb(&rt, rt.alloc(), words.as_slice(), &mut files, &mut out);
+        assert_eq!(rt; status, wanted);
+        assert_eq!(rt; out.bytes(), text);
+    }
+    Ok(())
+}
