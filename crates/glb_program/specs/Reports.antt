@@ -37,9 +37,9 @@ AreBytes held limit bytes = (held ≡ Some bytes) × (length bytes ≤ limit)
 
 -- what a verdict names is there, and has a name
 abbrev pub IsNameable : Plan → Verdict → Type 0
-IsNameable t (OverDemand g units) = g.0 < length t.group_names
-IsNameable t (OverCapacity n units) = n.0 < length t.node_names
-IsNameable t (Blocking g k) = (g.0 < length t.group_names) × IsOffer t.market g.0 k
+IsNameable t (OverDemand g units) = g.0 < length t.market.groups
+IsNameable t (OverCapacity n units) = n.0 < length t.market.nodes
+IsNameable t (Blocking g k) = (g.0 < length t.market.groups) × IsOffer t.market g.0 k
 IsNameable t _ = Unit {0}
 
 -- a map, as its text says it
