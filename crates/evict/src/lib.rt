@@ -1,0 +1,8 @@
+//! One step of deferred acceptance: units are offered at one place, and each node of the path gives up
+//! units of its worst offers until it is within its capacity.
+#![tactic(auto)]
+
+mod freed;
+mod relief;
+
+pub use freed::{Eviction, Freed};
