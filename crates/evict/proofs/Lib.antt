@@ -5,3 +5,5 @@ pub mod Shaped
 pub mod Turned
 pub mod Relieving
 pub mod Climbing
+pub mod Refusals
+pub mod Settled

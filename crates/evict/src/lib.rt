@@ -4,5 +4,6 @@
 
 mod freed;
 mod relief;
+mod settle;
 
 pub use freed::{Eviction, Freed};
