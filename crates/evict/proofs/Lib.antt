@@ -5,5 +5,7 @@ pub mod Shaped
 pub mod Turned
 pub mod Relieving
 pub mod Climbing
+pub mod Placing
 pub mod Refusals
 pub mod Settled
+pub mod Done

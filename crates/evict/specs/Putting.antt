@@ -1,4 +1,4 @@
-use Rattle.std.specs.Prelude.{◌≡◌, ℕ, ◌+◌, ◌≤◌, ◌<◌, Bool, true, false, not, ◌&&◌, ◌==◌, if◌then◌else◌, length, List, [], Option, None, Some, All, slice_index}
+use Rattle.std.specs.Prelude.{◌≡◌, ℕ, ◌+◌, ◌^◌, ◌≤◌, ◌<◌, Bool, true, false, not, ◌&&◌, ◌==◌, if◌then◌else◌, length, List, [], Option, None, Some, All, slice_index}
 use Rattle.capacity_tree.specs.Loads.{AreTreesOf, Loads}
 use Rattle.map_model.specs.declared.instance.Key.{Key}
 use Rattle.map_model.specs.declared.instance.NodeId.{NodeId}
@@ -70,3 +70,15 @@ pub record IsRelieved (m : Market) (origin : Origin) (g k : ℕ) (held : Holding
 abbrev pub IsClimbing : Market → Origin → ℕ → ℕ → Option NodeId → ℕ → Holdings → Loads → List Eviction → Type 0
 IsClimbing m origin g k None r held tree freed = IsRelieved m origin g k held tree freed
 IsClimbing m origin g k (Some c) r held tree freed = IsRelieving m origin g k c.0 r held tree freed
+
+-- what a put needs of what is held and of the loads, at its start
+pub record IsPlacing (m : Market) (origin : Origin) (g k units : ℕ) (held : Holdings) (tree : Loads) (freed : List Eviction) : Type 0 where
+  pub market : IsMarket m
+  pub offer : IsOffer m g k
+  pub start : origin ≡ record { lines = held.lines; units = units }
+  pub shape : IsSameShape held.market m
+  pub form : AreLines m held.lines
+  pub agrees : AgreesWith m held.lines tree
+  pub room : amount_at held.lines g k + units < 2 ^ 32
+  pub fits : (n : ℕ) → n < length m.nodes → load m held.lines n ≤ capacity_of m n
+  pub nothing : freed ≡ []

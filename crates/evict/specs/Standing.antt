@@ -1,4 +1,4 @@
-use Rattle.std.specs.Prelude.{◌≡◌, ℕ, ◌+◌, ◌<◌, ◌≤◌, Bool, true, ◌&&◌, ◌==◌, if◌then◌else◌, List, length, All, IsTrue, slice_index}
+use Rattle.std.specs.Prelude.{◌≡◌, ℕ, ◌+◌, ◌<◌, ◌≤◌, Bool, true, ◌&&◌, ◌==◌, if◌then◌else◌, List, [], length, All, IsTrue, slice_index}
 use Rattle.map_model.specs.declared.instance.Key.{Key}
 use Rattle.map_model.specs.declared.lines.MapLine.{MapLine}
 use Rattle.map_model.specs.Market.{Market, IsMarket, IsSameShape}
@@ -17,6 +17,7 @@ pub record Standing : Type 0 where
 
 -- a whole state that is resumable for an instance, which differs from its own in demands and capacities alone
 pub record IsReady (m : Market) (state : Standing) : Type 0 where
+  pub market : IsMarket m
   pub whole : IsTrue state.is_whole
   pub shape : IsSameShape state.market m
   pub resumable : IsResumable m state.lines state.pointers state.free
@@ -40,3 +41,9 @@ pub record IsPut (m : Market) (old new : Standing) (g k units : ℕ) (freed : Li
   pub free : (h : ℕ) → h < length m.groups → slice_index new.free h + (if g == h then units else 0) ≡ slice_index old.free h + freed_units (λ x _. x == h) freed
   pub pointers : (h : ℕ) → h < length m.groups → slice_index new.pointers h ≡ (if gave_up freed h (slice_index old.pointers h) then slice_index old.pointers h + 1 else slice_index old.pointers h)
   pub refusals : KeepsRefusals m old.lines new.lines
+
+-- a fresh state: whole and resumable, with nothing held and all pointers at the first place, so that all units are free
+pub record IsFresh (m : Market) (state : Standing) : Type 0 where
+  pub ready : IsReady m state
+  pub nothing : state.lines ≡ []
+  pub pointers : (g : ℕ) → g < length m.groups → slice_index state.pointers g ≡ 0

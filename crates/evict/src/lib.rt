@@ -5,5 +5,7 @@
 mod freed;
 mod relief;
 mod settle;
+mod state;
 
 pub use freed::{Eviction, Freed};
+pub use state::State;

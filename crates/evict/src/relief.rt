@@ -3,7 +3,7 @@
 ghost use Rattle.std.specs.Prelude.{◌≡◌, ◌<◌, ◌≤◌, [], IfOk, OnOk};
 ghost use Rattle.map_model.specs.Market.{capacity_of, pool_of};
 ghost use Rattle.map_model.specs.Allocation.{load};
-ghost use Rattle.evict.specs.Putting.{IsRelieved, IsRelieving, Origin};
+ghost use Rattle.evict.specs.Putting.{IsPlacing, IsRelieved, IsRelieving, Origin};
 
 use crate::freed::Freed;
 use capacity_tree::Tree;
@@ -26,6 +26,7 @@ fn relieve(
     requires { IsRelieving instance.now origin put.group.0 put.place node.0 left held.old tree.old freed.old }
     ensures relieving { IfOk result (λ rest. IsRelieving instance.now origin put.group.0 put.place node.0 rest held.new tree.new freed.new) }
     ensures fits { OnOk result (load instance.now held.new.lines node.0 ≤ capacity_of instance.now node.0) }
+    ensures market { OnOk result (held.new.market ≡ held.old.market) }
 {
     let capacity = instance.capacity(node);
     let mut left = left;
@@ -54,7 +55,8 @@ pub fn relieve_path(
 ) -> Result<(), NoMemory>
     ghost origin: { Origin }
     requires { IsRelieving instance.now origin put.group.0 put.place (pool_of instance.now put.group.0 put.place) units held.old tree.old freed.old }
-    ensures { OnOk result (IsRelieved instance.now origin put.group.0 put.place held.new tree.new freed.new) }
+    ensures relieved { OnOk result (IsRelieved instance.now origin put.group.0 put.place held.new tree.new freed.new) }
+    ensures market { OnOk result (held.new.market ≡ held.old.market) }
 {
     let mut at = Some(instance.pool_at(put));
     let mut left = units;
@@ -63,4 +65,23 @@ pub fn relieve_path(
         at = instance.parent(node);
     }
     Ok(())
+}
+
+/// Holds units of an offer, and brings each node of its path within its capacity.
+pub fn place(
+    instance: &Instance,
+    held: &mut Held,
+    tree: &mut Tree,
+    offer: Offer,
+    units: Units,
+    freed: &mut Freed,
+) -> Result<(), NoMemory>
+    ghost origin: { Origin }
+    requires { IsPlacing instance.now origin offer.group.0 offer.place units held.old tree.old freed.old }
+    ensures relieved { OnOk result (IsRelieved instance.now origin offer.group.0 offer.place held.new tree.new freed.new) }
+    ensures market { OnOk result (held.new.market ≡ held.old.market) }
+{
+    held.put(offer, units)?;
+    tree.add(instance.pool_at(offer), units);
+    relieve_path(instance, held, tree, offer, units, freed)
 }
