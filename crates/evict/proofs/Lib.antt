@@ -9,3 +9,5 @@ pub mod Placing
 pub mod Refusals
 pub mod Settled
 pub mod Done
+pub mod Worst
+pub mod Fresh

@@ -22,6 +22,13 @@ pub record IsReady (m : Market) (state : Standing) : Type 0 where
   pub shape : IsSameShape state.market m
   pub resumable : IsResumable m state.lines state.pointers state.free
 
+-- who refuses an offer may be asked: the state is whole, and the instance differs from its own in demands and capacities alone
+pub record CanAsk (m : Market) (state : Standing) (g k : ℕ) : Type 0 where
+  pub market : IsMarket m
+  pub whole : IsTrue state.is_whole
+  pub shape : IsSameShape state.market m
+  pub offer : IsOffer m g k
+
 -- some units may be offered: a place of the group's list at its pointer, and no more units than are free
 pub record CanPut (m : Market) (state : Standing) (g k units : ℕ) : Type 0 where
   pub ready : IsReady m state

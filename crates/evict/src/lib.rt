@@ -3,6 +3,7 @@
 #![tactic(auto)]
 
 mod freed;
+mod refuser;
 mod relief;
 mod settle;
 mod state;

@@ -1,8 +1,12 @@
-ghost use Rattle.std.specs.Prelude.{◌≡◌, ◌+◌, ◌-◌, ◌<◌, ◌^◌, ◌==◌, IfOk, OnOk, length, slice_index, if◌then◌else◌};
-ghost use Rattle.map_model.specs.Allocation.{IsOffer, amount_at, load};
-ghost use Rattle.evict.specs.Standing.{CanPut, IsFresh, IsPut, IsReady, Standing};
+ghost use Rattle.std.specs.Prelude.{◌≡◌, ℕ, ◌+◌, ◌-◌, ◌<◌, ◌^◌, ◌==◌, IfOk, OnOk, IsTrue, MatchOption, length, slice_index, if◌then◌else◌};
+ghost use Rattle.std.specs.Option.{option_map};
+ghost use Rattle.map_model.specs.Market.{demand_of};
+ghost use Rattle.map_model.specs.Allocation.{AreLines, IsOffer, amount_at, load, refuser_of};
+ghost use Rattle.map_model.specs.Holding.{IsWorst};
+ghost use Rattle.evict.specs.Standing.{CanAsk, CanPut, IsFresh, IsPut, Standing};
 
 use crate::freed::Freed;
+use crate::refuser::refuser;
 use crate::relief::place;
 use crate::settle::settle;
 use capacity_tree::Tree;
@@ -36,7 +40,95 @@ impl Model for State {
     ghost invariant = { λ s. IsTrue s.whole → AgreesWith s.held.market s.held.lines s.tree };
 }
 
+/// The demand of each group.
+fn demands(alloc: Global, instance: &Instance) -> Result<Vec<Units>, NoMemory>
+    ensures count { IfOk result (λ demands. length demands.items ≡ length instance.now.groups) }
+    ensures each { IfOk result (λ demands. (g : ℕ) → g < length instance.now.groups → slice_index demands.items g ≡ demand_of instance.now g) }
+{
+    let mut demands = Vec::new(alloc);
+    for g in 0..instance.groups() {
+        demands.push(u64::from(instance.demand(GroupId(g))))?;
+    }
+    Ok(demands)
+}
+
 impl State {
+    /// Nothing is held, each pointer is at the first place, and all demand is free.
+    pub fn fresh(alloc: Global, instance: &Instance) -> Result<State, NoMemory>
+        ensures fresh { IfOk result (λ state. IsFresh instance.now state) }
+        ensures market { IfOk result (λ state. state.market ≡ instance.now) }
+    {
+        let nothing = MapLines {
+            lines: Vec::new(alloc),
+            names: Vec::new(alloc),
+        };
+        Ok(State {
+            held: Held::build(alloc, instance, &nothing)?,
+            tree: Tree::build(alloc, instance)?,
+            pointers: vec![in alloc; 0; instance.groups() as usize]?,
+            free: demands(alloc, instance)?,
+            whole: true,
+        })
+    }
+
+    /// The place of a group's list at which it offers next; at the list's end none is left.
+    pub fn pointer(&self, group: GroupId) -> u8
+        requires { group.0 < length self.now.pointers }
+        ensures { result ≡ slice_index self.now.pointers group.0 }
+    {
+        self.pointers[group.0 as usize]
+    }
+
+    /// The units of a group that are not held.
+    pub fn free(&self, group: GroupId) -> Units
+        requires { group.0 < length self.now.free }
+        ensures { result ≡ slice_index self.now.free group.0 }
+    {
+        self.free[group.0 as usize]
+    }
+
+    /// The units that an offer holds.
+    pub fn units(&self, offer: Offer) -> Units
+        requires { IsOffer self.now.market offer.group.0 offer.place }
+        ensures { result ≡ amount_at self.now.lines offer.group.0 offer.place }
+    {
+        self.held.units(offer)
+    }
+
+    /// The units that are held under a node.
+    pub fn load(&self, node: NodeId) -> Units
+        requires whole { IsTrue self.now.is_whole }
+        requires node { node.0 < length self.now.market.nodes }
+        ensures { result ≡ load self.now.market self.now.lines node.0 }
+    {
+        self.tree.load(node)
+    }
+
+    /// The worst offer that is held under a node, with all its units; none exactly where nothing is
+    /// held there.
+    pub fn worst_under(&self, node: NodeId) -> Option<(Offer, Units)>
+        requires { node.0 < length self.now.market.nodes }
+        ensures { MatchOption result (load self.now.market self.now.lines node.0 ≡ 0) (λ worst. IsWorst self.now.market self.now.lines node.0 worst.0.group.0 worst.0.place worst.1) }
+    {
+        self.held.worst_under(node)
+    }
+
+    /// What is held, in the form of a map's lines.
+    pub fn lines(&self) -> Result<Vec<MapLine>, NoMemory>
+        ensures lines { IfOk result (λ lines. lines.items ≡ self.now.lines) }
+        ensures form { AreLines self.now.market self.now.lines }
+    {
+        self.held.lines()
+    }
+
+    /// The refusing node nearest to an offer's pool; none exactly where no node refuses it.
+    pub fn refuser(&self, instance: &Instance, offer: Offer) -> Option<NodeId>
+        requires { CanAsk instance.now self.now offer.group.0 offer.place }
+        ensures { option_map (λ n. n.0) result ≡ refuser_of instance.now self.now.lines offer.group.0 offer.place }
+    {
+        refuser(instance, &self.held, &self.tree, offer)
+    }
+
     /// Units are offered at a group's pointer: one proposal. Each node of the path then gives up units
     /// of its worst offers until it is within its capacity; `freed` tells which.
     pub fn put<L>(
