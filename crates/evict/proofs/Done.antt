@@ -31,7 +31,7 @@ agrees-shape m m' s lines tree a = record {
 }
 
 -- the units at one place are among those of the group
-amount-le-placed : (lines : List MapLine) (g k : ℕ) → amount_at lines g k ≤ placed lines g
+pub amount-le-placed : (lines : List MapLine) (g k : ℕ) → amount_at lines g k ≤ placed lines g
 amount-le-placed lines g k = units_of-le (λ h j. (h == g) && (j == k)) (λ h _. h == g) (λ h j t. (and_parts (h == g) (j == k) t).0) lines
 
 -- a state as it is seen

@@ -1,10 +1,12 @@
-use Rattle.std.proofs.Common.{◌≡◌, ℕ, zero, suc, ◌+◌, ◌<◌, ◌≤◌, true, List, [], length, replicate, slice_index, refl, sym, ap, ◌∙◌, subst, arith}
+use Rattle.std.proofs.Common.{◌≡◌, ℕ, zero, suc, ◌+◌, ◌<◌, ◌≤◌, ◌^◌, true, List, [], length, replicate, slice_index, refl, sym, ap, ◌∙◌, subst, arith}
 use Rattle.std.proofs.Math.ListN.{length-replicate}
 use Rattle.capacity_tree.specs.Loads.{AreTreesOf, Loads}
 use Rattle.map_model.specs.Market.{Market, IsMarket, demand_of}
 use Rattle.map_model.specs.Allocation.{placed}
 use Rattle.map_model.proofs.Shapes.{shape_itself}
-use Rattle.evict.specs.Putting.{AgreesWith}
+use Rattle.offer_pool.specs.Holdings.{Holdings}
+use Rattle.evict.proofs.Settled.{small_demand}
+use Rattle.evict.specs.Putting.{AgreesWith, IsSound}
 use Rattle.evict.specs.Standing.{IsFresh, Standing}
 
 zeros : (n k : ℕ) → slice_index (replicate n 0) k ≡ 0
@@ -42,3 +44,17 @@ fresh m market pointers free none count each = record {
   nothing = refl;
   pointers = λ g l. ap (λ xs. slice_index xs g) none ∙ zeros (length m.groups) g;
 }
+
+-- and it is a whole one
+pub sound_fresh : (m own : Market) (held : Holdings) (tree : Loads) (free totals : List ℕ) → IsMarket m → own ≡ m → held ≡ record { market = m; lines = [] } → AreTreesOf m tree.trees → tree.units ≡ replicate (length m.nodes) 0
+    → length free ≡ length m.groups → ((g : ℕ) → g < length m.groups → slice_index free g ≡ demand_of m g) → length totals ≡ length m.groups → ((g : ℕ) → g < length m.groups → slice_index totals g ≡ demand_of m g) → IsSound own held tree free totals
+sound_fresh m own held tree free totals market same nothing are empty count each count' each' =
+    let start : IsSound m (record { market = m; lines = [] }) tree free totals = record {
+      market = market;
+      same = refl;
+      agrees = agrees-nothing m tree are empty;
+      count = count' ∙ sym count;
+      sums = λ g l. let none : placed [] g ≡ 0 = refl in omega (arith, each g (omega (arith, count)), each' g (omega (arith, count)), none);
+      small = λ g l. omega (arith, each' g (omega (arith, count)), small_demand m market g (omega (arith, count)));
+    } in
+    subst (λ (x : Market). IsSound x held tree free totals) (sym same) (subst (λ (x : Holdings). IsSound m x tree free totals) (sym nothing) start)

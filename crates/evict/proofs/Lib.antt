@@ -9,5 +9,6 @@ pub mod Placing
 pub mod Refusals
 pub mod Settled
 pub mod Done
+pub mod Sound
 pub mod Worst
 pub mod Fresh

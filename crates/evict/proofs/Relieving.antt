@@ -37,7 +37,7 @@ pub freed_units-push : (test : ℕ → ℕ → Bool) (freed : List Eviction) (e 
 freed_units-push test freed e = sum_by_push (λ (x : Eviction). if test x.offer.group.0 x.offer.place then x.units else 0) freed e
 
 -- the loads after some units of an offer went
-agrees-take : (m : Market) (old new : List MapLine) (tree tree' : Loads) (h j t : ℕ) → AgreesWith m old tree → Takes old new h j t → TakesUnits tree tree' (pool_of m h j) t → AgreesWith m new tree'
+pub agrees-take : (m : Market) (old new : List MapLine) (tree tree' : Loads) (h j t : ℕ) → AgreesWith m old tree → Takes old new h j t → TakesUnits tree tree' (pool_of m h j) t → AgreesWith m new tree'
 agrees-take m old new tree tree' h j t agrees takes taken = record {
   trees = subst (λ (x : Market). AreTreesOf m x) (sym taken.trees) agrees.trees;
   size = taken.count ∙ agrees.size;
@@ -94,7 +94,7 @@ relieving_step m origin g k c r h j t held held' tree tree' freed freed' e befor
     let pool = pool_there m before.market h j d.offer in
     let eviction : IsEviction m e = record { offer = subst (λ x. IsOffer m e.offer.group.0 x) (sym ej) (subst (λ x. IsOffer m x j) (sym eh) d.offer); some = omega (arith, d.some) } in
     let here : IsTurnedAway m held'.lines c e = turned_here m held.lines held'.lines c e (λ test. ap (λ x. units_of test held'.lines + x) (again test) ∙ takes test) (at_offer (λ x y. counts_at m c x y ≡ true) d.under)
-        (at_offer (λ x y. units_of (under_worse m c (key_of m x y)) held.lines ≡ 0) d.worst) (omega (arith, d.over, et)) in
+    (at_offer (λ x y. units_of (under_worse m c (key_of m x y)) held.lines ≡ 0) d.worst) (omega (arith, d.over, et)) in
     record {
       market = before.market;
       offer = before.offer;
@@ -107,8 +107,10 @@ relieving_step m origin g k c r h j t held held' tree tree' freed freed' e befor
   where
     again : (test : ℕ → ℕ → Bool) → (if test e.offer.group.0 e.offer.place then e.units else 0) ≡ (if test h j then t else 0)
     again test = ap (λ x. if test x e.offer.place then e.units else 0) eh ∙ ap (λ x. if test h x then e.units else 0) ej ∙ ap (λ x. if test h j then x else 0) et
+
     at_offer : (P : ℕ → ℕ → Type 0) → P h j → P e.offer.group.0 e.offer.place
     at_offer P p = subst (λ x. P e.offer.group.0 x) (sym ej) (subst (λ x. P x j) (sym eh) p)
+
     still : (xs : List Eviction) → All (λ e. IsEviction m e) xs → All (λ e. IsTurnedAway m held.lines c e) xs → All (λ e. IsTurnedAway m held'.lines c e) xs
     still xs all turned k d' l =
         let e' : Eviction = slice_index_or xs k d' in

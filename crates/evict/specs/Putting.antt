@@ -4,7 +4,7 @@ use Rattle.map_model.specs.declared.instance.Key.{Key}
 use Rattle.map_model.specs.declared.instance.NodeId.{NodeId}
 use Rattle.map_model.specs.declared.lines.MapLine.{MapLine}
 use Rattle.map_model.specs.Market.{Market, IsMarket, IsSameShape, capacity_of, key_of, pool_of}
-use Rattle.map_model.specs.Allocation.{AreLines, IsOffer, amount_at, counts_at, is_under, key_le, load, units_of}
+use Rattle.map_model.specs.Allocation.{AreLines, IsOffer, amount_at, counts_at, is_under, key_le, load, placed, units_of}
 use Rattle.map_model.specs.Holding.{IsSaturated, under_within}
 use Rattle.offer_pool.specs.Holdings.{Holdings}
 use Rattle.evict.specs.declared.freed.Eviction.{Eviction}
@@ -82,3 +82,12 @@ pub record IsPlacing (m : Market) (origin : Origin) (g k units : ℕ) (held : Ho
   pub room : amount_at held.lines g k + units < 2 ^ 32
   pub fits : (n : ℕ) → n < length m.nodes → load m held.lines n ≤ capacity_of m n
   pub nothing : freed ≡ []
+
+-- A state that is whole: what is held is of its own instance, the loads are those of what is held, and what a group holds and has free is its total.
+pub record IsSound (own : Market) (held : Holdings) (tree : Loads) (free totals : List ℕ) : Type 0 where
+  pub market : IsMarket own
+  pub same : held.market ≡ own
+  pub agrees : AgreesWith held.market held.lines tree
+  pub count : length totals ≡ length free
+  pub sums : (g : ℕ) → g < length free → placed held.lines g + slice_index free g ≡ slice_index totals g
+  pub small : (g : ℕ) → g < length free → slice_index totals g < 2 ^ 32

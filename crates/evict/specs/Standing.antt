@@ -1,8 +1,9 @@
-use Rattle.std.specs.Prelude.{◌≡◌, ℕ, ◌+◌, ◌<◌, ◌≤◌, Bool, true, ◌&&◌, ◌==◌, if◌then◌else◌, List, [], length, All, IsTrue, slice_index}
+use Rattle.std.specs.Prelude.{◌≡◌, ℕ, ◌+◌, ◌<◌, ◌≤◌, Bool, true, ◌&&◌, ◌==◌, if◌then◌else◌, List, [], length, All, IsTrue, slice_index, slice_set}
 use Rattle.map_model.specs.declared.instance.Key.{Key}
 use Rattle.map_model.specs.declared.lines.MapLine.{MapLine}
 use Rattle.map_model.specs.Market.{Market, IsMarket, IsSameShape}
-use Rattle.map_model.specs.Allocation.{IsOffer, is_full_of_better, is_under, units_of}
+use Rattle.map_model.specs.Allocation.{AreLines, IsOffer, amount_at, is_full_of_better, is_under, units_of}
+use Rattle.map_model.specs.Holding.{Takes}
 use Rattle.map_model.specs.Progress.{IsResumable}
 use Rattle.evict.specs.declared.freed.Eviction.{Eviction}
 use Rattle.evict.specs.Evictions.{IsEviction, freed_units, gave_up}
@@ -54,3 +55,19 @@ pub record IsFresh (m : Market) (state : Standing) : Type 0 where
   pub ready : IsReady m state
   pub nothing : state.lines ≡ []
   pub pointers : (g : ℕ) → g < length m.groups → slice_index state.pointers g ≡ 0
+
+-- held units may be released: the state is whole, and the offer holds them
+pub record CanRelease (state : Standing) (g k units : ℕ) : Type 0 where
+  pub whole : IsTrue state.is_whole
+  pub offer : IsOffer state.market g k
+  pub group : g < length state.free
+  pub held : units ≤ amount_at state.lines g k
+
+-- held units of an offer are free, and nothing else changed
+pub record IsReleased (old new : Standing) (g k units : ℕ) : Type 0 where
+  pub market : new.market ≡ old.market
+  pub whole : IsTrue new.is_whole
+  pub form : AreLines new.market new.lines
+  pub lines : Takes old.lines new.lines g k units
+  pub free : new.free ≡ slice_set old.free g (slice_index old.free g + units)
+  pub pointers : new.pointers ≡ old.pointers

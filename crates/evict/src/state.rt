@@ -1,9 +1,9 @@
-ghost use Rattle.std.specs.Prelude.{◌≡◌, ℕ, ◌+◌, ◌-◌, ◌<◌, ◌^◌, ◌==◌, IfOk, OnOk, IsTrue, MatchOption, length, slice_index, if◌then◌else◌};
+ghost use Rattle.std.specs.Prelude.{◌≡◌, ℕ, ◌+◌, ◌-◌, ◌<◌, ◌≤◌, ◌^◌, ◌==◌, IfOk, OnOk, IsTrue, MatchOption, length, slice_index, slice_set, if◌then◌else◌};
 ghost use Rattle.std.specs.Option.{option_map};
 ghost use Rattle.map_model.specs.Market.{demand_of};
-ghost use Rattle.map_model.specs.Allocation.{AreLines, IsOffer, amount_at, load, refuser_of};
+ghost use Rattle.map_model.specs.Allocation.{AreLines, IsOffer, amount_at, load, placed, refuser_of};
 ghost use Rattle.map_model.specs.Holding.{IsWorst};
-ghost use Rattle.evict.specs.Standing.{CanAsk, CanPut, IsFresh, IsPut, Standing};
+ghost use Rattle.evict.specs.Standing.{CanAsk, CanPut, CanRelease, IsFresh, IsPut, IsReleased, Standing};
 
 use crate::freed::Freed;
 use crate::refuser::refuser;
@@ -21,23 +21,27 @@ use std::marker::Model;
 /// state that met want of memory is no longer whole: no call takes it, and it is only to be dropped.
 #[derive(Debug, Drop)]
 pub struct State {
+    // Of the instance's numbers only its lists and trees count here.
+    own: Instance,
     tree: Tree,
     held: Held,
     pointers: Vec<u8>,
     free: Vec<Units>,
+    // What each group holds and has free.
+    totals: Vec<Units>,
     whole: bool,
 }
 
 impl Model for State {
     ghost use Rattle.std.specs.Prelude.{IsTrue};
-    ghost use Rattle.evict.specs.Putting.{AgreesWith};
+    ghost use Rattle.evict.specs.Putting.{IsSound};
     ghost use Rattle.evict.specs.Standing.{Standing};
 
     ghost Value = { Standing };
 
     ghost view = { λ s. record { market = s.held.market; lines = s.held.lines; pointers = s.pointers.items; free = s.free.items; is_whole = s.whole } };
 
-    ghost invariant = { λ s. IsTrue s.whole → AgreesWith s.held.market s.held.lines s.tree };
+    ghost invariant = { λ s. IsTrue s.whole → IsSound s.own s.held s.tree s.free.items s.totals.items };
 }
 
 /// The demand of each group.
@@ -63,10 +67,12 @@ impl State {
             names: Vec::new(alloc),
         };
         Ok(State {
+            own: instance.try_clone()?,
             held: Held::build(alloc, instance, &nothing)?,
             tree: Tree::build(alloc, instance)?,
             pointers: vec![in alloc; 0; instance.groups() as usize]?,
             free: demands(alloc, instance)?,
+            totals: demands(alloc, instance)?,
             whole: true,
         })
     }
@@ -147,7 +153,14 @@ impl State {
         steps.tick();
         freed.clear();
         self.whole = false;
-        place(instance, &mut self.held, &mut self.tree, offer, units, freed)?;
+        place(
+            instance,
+            &mut self.held,
+            &mut self.tree,
+            offer,
+            units,
+            freed,
+        )?;
         settle(
             self.free.as_mut_slice(),
             self.pointers.as_mut_slice(),
@@ -157,5 +170,37 @@ impl State {
         );
         self.whole = true;
         Ok(())
+    }
+
+    /// Makes held units of an offer free.
+    pub fn release(&mut self, offer: Offer, units: Units)
+        requires { CanRelease self.old offer.group.0 offer.place units }
+        ensures { IsReleased self.old self.new offer.group.0 offer.place units }
+    {
+        let pool = self.own.pool_at(offer);
+        self.held.take(offer, units);
+        self.tree.take(pool, units);
+        self.free[offer.group.0 as usize] += units;
+    }
+
+    /// Makes what a group holds and has free add up to a number.
+    pub fn set_total(&mut self, group: GroupId, total: u32)
+        requires whole { IsTrue self.old.is_whole }
+        requires group { group.0 < length self.old.free }
+        requires held { placed self.old.lines group.0 ≤ total }
+        ensures { self.new ≡ record self.old { free = slice_set self.old.free group.0 (total - placed self.old.lines group.0) } }
+    {
+        let g = group.0 as usize;
+        self.free[g] = u64::from(total) - (self.totals[g] - self.free[g]);
+        self.totals[g] = u64::from(total);
+    }
+
+    /// Moves a group's pointer. Nothing may be held past it.
+    pub fn set_pointer(&mut self, group: GroupId, place: u8)
+        requires group { group.0 < length self.old.pointers }
+        requires nothing_past { (j : ℕ) → IsOffer self.old.market group.0 j → place < j → amount_at self.old.lines group.0 j ≡ 0 }
+        ensures { self.new ≡ record self.old { pointers = slice_set self.old.pointers group.0 place } }
+    {
+        self.pointers[group.0 as usize] = place;
     }
 }

@@ -10,4 +10,3 @@ invariant-loop-step l = record {
   there : IfSome l.at (λ n. n.0 < length l.instance.nodes);
   found : find (λ n. is_full_of_better l.instance l.held.lines n (key_of l.instance l.fn.offer.group.0 l.fn.offer.place)) (climb (8 - l._step) l.instance l.at) ≡ refuser_of l.instance l.held.lines l.fn.offer.group.0 l.fn.offer.place;
 }
-

@@ -1,18 +1,18 @@
 use Rattle.std.proofs.Common.{◌≡◌, ℕ, ◌+◌, ◌<◌, ◌==◌, true, List, if◌then◌else◌, slice_index, refl, sym, ap, ◌∙◌, subst, length}
 use Rattle.std.specs.Vec.{with_items}
 use Rattle.std.proofs.lemmas.List.{with_items_is}
-use Rattle.map_model.proofs.Shapes.{shape_sym}
 use Rattle.evict.specs.Evictions.{CanSettle, freed_units, gave_up}
 use Rattle.evict.specs.Standing.{CanPut, IsPut}
 use Rattle.evict.specs.declared.freed.Eviction.{Eviction}
-use Rattle.evict.proofs.Done.{agrees-shape, placing, put_done, seen, settling}
+use Rattle.evict.proofs.Done.{placing, put_done, seen, settling}
+use Rattle.evict.proofs.Sound.{sound_put}
 use Rattle.evict.proofs.state.State.put.Goals as goal
 
 pub place-requires : goal.place-requires
 place-requires g c =
     let s = c.self.inside in
     let can : CanPut c.args.instance.now (seen s.held s.pointers.items s.free.items s.whole) c.args.offer.group.0 c.args.offer.place c.args.units = rw c.self.view_is c.requires in
-    placing c.args.instance.now c.args.offer.group.0 c.args.offer.place c.args.units s.held s.tree s.pointers.items s.free.items s.whole c.clear.new.self can c.self.invariant c.clear.ensures
+    placing c.args.instance.now c.args.offer.group.0 c.args.offer.place c.args.units s.held s.tree s.pointers.items s.free.items s.whole c.clear.new.self can (λ w. (c.self.invariant w).agrees) c.clear.ensures
 
 pub settle-requires : goal.settle-requires
 settle-requires g c =
@@ -23,8 +23,15 @@ settle-requires g c =
 
 pub invariant_of-self-2 : goal.invariant_of-self-2
 invariant_of-self-2 g c = λ _.
-    let a = c.in_ok-place.ensures.relieved.accounted in
-    agrees-shape c.args.instance.now c.place.new.held.market (shape_sym c.place.new.held.market c.args.instance.now a.shape) c.place.new.held.lines c.place.new.tree a.agrees
+    let s = c.self.inside in
+    let can : CanPut c.args.instance.now (seen s.held s.pointers.items s.free.items s.whole) c.args.offer.group.0 c.args.offer.place c.args.units = rw c.self.view_is c.requires in
+    let free : (h : ℕ) → h < length c.settle.new.free → slice_index c.settle.new.free h + (if c.args.offer.group.0 == h then c.args.units else 0) ≡ slice_index s.free.items h + freed_units (λ x _. x == h) c.place.new.freed
+    = subst (λ (f : List Eviction). (h : ℕ) → h < length c.settle.new.free → slice_index c.settle.new.free h + (if c.args.offer.group.0 == h then c.args.units else 0) ≡ slice_index s.free.items h + freed_units (λ x _. x == h) f) c.evictions.ensures
+    (subst (λ (xs : List ℕ). (h : ℕ) → h < length c.settle.new.free → slice_index c.settle.new.free h + (if c.args.offer.group.0 == h then c.args.units else 0) ≡ slice_index xs h + freed_units (λ x _. x == h) c.evictions.result.now) c.as_mut_slice.ensures.value c.settle.ensures.free) in
+    let sound = sound_put c.args.instance.now s.own c.args.offer.group.0 c.args.offer.place c.args.units s.held c.place.new.held s.tree c.place.new.tree s.free.items c.settle.new.free s.totals.items c.place.new.freed (c.self.invariant can.ready.whole)
+        c.in_ok-place.ensures.relieved c.in_ok-place.ensures.market (c.settle.auto.free ∙ ap length c.as_mut_slice.ensures.value) free in
+    let free_are = with_items_is s.free c.settle.new.free (c.settle.auto.free ∙ c.as_mut_slice.ensures.len) in
+    rw free_are sound
 
 pub returns-clause-put : goal.returns-clause-put
 returns-clause-put g c =
