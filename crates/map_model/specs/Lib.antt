@@ -3,3 +3,4 @@ pub mod Allocation
 pub mod Progress
 pub mod Batch
 pub mod Rows
+pub mod Holding

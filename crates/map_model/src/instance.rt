@@ -67,6 +67,7 @@ impl Model for GroupRow {
 }
 
 impl GroupRow {
+    /// A group of that demand and list.
     pub fn new(demand: u32, choices: Vec<Choice>) -> GroupRow
         ensures { result ≡ record { demand = demand; choices = choices.items } }
     {

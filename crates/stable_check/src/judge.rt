@@ -34,6 +34,7 @@ impl Model for CheckRoom {
 }
 
 impl CheckRoom {
+    /// The room for checks of maps for this instance, and for each of as many groups and nodes.
     pub fn new(alloc: Global, instance: &Instance) -> Result<CheckRoom, NoMemory>
         ensures { IfOk result (λ r. r ≡ record { groups = length instance.now.groups; nodes = length instance.now.nodes }) }
     {
