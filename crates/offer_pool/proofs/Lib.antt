@@ -1,2 +1,4 @@
 pub mod Turns
 pub mod Queues
+pub mod Refiled
+pub mod Tables

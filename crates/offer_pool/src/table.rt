@@ -1,25 +1,60 @@
 //! Putting and taking units, over the table of amounts and the queues.
-ghost use Rattle.std.specs.Prelude.{◌≡◌, ℕ, ◌+◌, ◌-◌, ◌<◌, ◌≤◌, ◌^◌, length, take, IfOk, OnOk, OnErr, slice_index, slice_set};
-ghost use Rattle.map_model.specs.Allocation.{IsOffer};
+ghost use Rattle.std.specs.Prelude.{◌≡◌, ◌==◌, true, ℕ, ◌+◌, ◌-◌, ◌<◌, ◌≤◌, ◌^◌, length, take, IfOk, OnOk, OnErr, slice_index, slice_set};
+ghost use Rattle.map_model.specs.Market.{IsMarket};
+ghost use Rattle.map_model.specs.Allocation.{IsOffer, counts_at};
+ghost use Rattle.std.specs.List.{list_any};
+ghost use Rattle.offer_pool.specs.Seats.{seat_at};
 ghost use Rattle.offer_pool.specs.Table.{amount_in, lines_in, place_at};
 ghost use Rattle.offer_pool.specs.Filed.{IsHeld};
 
 use crate::filing::{clean_all, place_at, push_all};
 use crate::queue::{Queue, Seat};
 use crate::walk::path;
-use map_model::{GroupId, Instance, MapLine, Offer};
+use arrayvec::ArrayVec;
+use map_model::{GroupId, Instance, MapLine, NodeId, Offer};
 use no_memory::NoMemory;
 use std::alloc::Global;
 
-/// Files the seat of an offer that holds nothing yet, where units are to come to it.
-fn file(instance: &Instance, amounts: &[u32], queues: &mut [Queue], offer: Offer) -> Result<(), NoMemory> {
+/// The seat of an offer.
+fn seat_of(instance: &Instance, offer: Offer) -> Seat
+    requires { IsOffer instance.now offer.group.0 offer.place }
+    ensures { result ≡ seat_at instance.now offer.group.0 offer.place }
+{
     let key = instance.key(offer);
-    let seat = Seat { score: key.score, group: key.group, pool: key.pool, place: offer.place };
-    let nodes = path(instance, key.pool);
-    let filed = push_all(queues, nodes.as_slice(), seat);
-    if filed.is_err() {
-        clean_all(queues, nodes.as_slice(), amounts);
+    Seat {
+        score: key.score,
+        group: key.group,
+        pool: key.pool,
+        place: offer.place,
     }
+}
+
+/// The nodes under which an offer stands.
+fn nodes_above(instance: &Instance, offer: Offer) -> ArrayVec<NodeId, 8>
+    requires market { IsMarket instance.now }
+    requires offer { IsOffer instance.now offer.group.0 offer.place }
+    ensures among { (n : ℕ) → list_any (λ x. x.0 == n) result.items ≡ counts_at instance.now n offer.group.0 offer.place }
+    ensures there { (n : ℕ) → list_any (λ x. x.0 == n) result.items ≡ true → n < length instance.now.nodes }
+{
+    path(instance, instance.pool_at(offer))
+}
+
+/// Files an offer that holds nothing, and gives it units. Where memory is wanted, a seat that was filed in vain is cleaned away where it is the worst, and else does no harm.
+fn seat_units(instance: &Instance, amounts: &mut [u32], queues: &mut [Queue], offer: Offer, units: u32) -> Result<(), NoMemory>
+    requires held { IsHeld instance.now amounts.old queues.old }
+    requires offer { IsOffer instance.now offer.group.0 offer.place }
+    requires none { amount_in amounts.old offer.group.0 offer.place ≡ 0 }
+    requires some { 0 < units }
+    ensures held { IsHeld instance.now amounts.new queues.new }
+    ensures ok { OnOk result (amounts.new ≡ slice_set amounts.old (place_at offer.group.0 offer.place) units) }
+    ensures err { OnErr result (amounts.new ≡ amounts.old) }
+{
+    let nodes = nodes_above(instance, offer);
+    let filed = push_all(queues, nodes.as_slice(), seat_of(instance, offer));
+    if filed.is_ok() {
+        amounts[place_at(offer.group, offer.place)] = units;
+    }
+    clean_all(queues, nodes.as_slice(), amounts);
     filed
 }
 
@@ -34,7 +69,7 @@ pub fn put_units(instance: &Instance, amounts: &mut [u32], queues: &mut [Queue],
 {
     let at = place_at(offer.group, offer.place);
     if units > 0 && amounts[at] == 0 {
-        file(instance, amounts, queues, offer)?;
+        return seat_units(instance, amounts, queues, offer, units);
     }
     amounts[at] += units;
     Ok(())
@@ -48,12 +83,9 @@ pub fn take_units(instance: &Instance, amounts: &mut [u32], queues: &mut [Queue]
     ensures held { IsHeld instance.now amounts.new queues.new }
     ensures taken { amounts.new ≡ slice_set amounts.old (place_at offer.group.0 offer.place) (amount_in amounts.old offer.group.0 offer.place - units) }
 {
-    let at = place_at(offer.group, offer.place);
-    amounts[at] -= units;
-    if amounts[at] == 0 {
-        let nodes = path(instance, instance.pool_at(offer));
-        clean_all(queues, nodes.as_slice(), amounts);
-    }
+    let nodes = nodes_above(instance, offer);
+    amounts[place_at(offer.group, offer.place)] -= units;
+    clean_all(queues, nodes.as_slice(), amounts);
 }
 
 /// The lines of a table.

@@ -11,9 +11,9 @@ loop-step-preserved c =
     let m : Market = c.args.instance.now in
     elim c.match-at.branch [
       | in-Some w ↦ record {
-        there = walk_there m c.groups.ensures.market w.in-Some.node c.loop-step.at c.match-at.at w.in-Some.is ? c.loop-step.invariant.there;
+        there = walk_there m c.nodes-count.ensures.market w.in-Some.node c.loop-step.at c.match-at.at w.in-Some.is (w.at-is ∙ w.parent-at.ensures) c.loop-step.invariant.there;
         few = rw w.path-is (omega (arith, w.push.ensures.len));
-        so_far = rw (w.path-is, w.push.ensures.items) (path_turn m c.loop-step._step w.in-Some.node c.loop-step.at c.match-at.at c.loop-step.path.items _ c.loop-step-test.true w.in-Some.is ? c.loop-step.invariant.so_far);
+        so_far = rw (w.path-is, w.push.ensures.items) (path_turn m c.loop-step._step w.in-Some.node c.loop-step.at c.match-at.at c.loop-step.path.items _ c.loop-step-test.true w.in-Some.is (w.at-is ∙ w.parent-at.ensures) c.loop-step.invariant.so_far);
       }
       | in_default w ↦ record {
         there = subst (λ x. IfSome x (λ p. p.0 < length c.args.instance.now.nodes)) (sym w.at-is) c.loop-step.invariant.there;
