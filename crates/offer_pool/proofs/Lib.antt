@@ -2,3 +2,5 @@ pub mod Turns
 pub mod Queues
 pub mod Refiled
 pub mod Tables
+pub mod Worst
+pub mod Views

@@ -1,12 +1,12 @@
 -- The lines of a table, and what they sum up to.
-use Rattle.std.proofs.Common.{◌≡◌, ◌≢◌, ℕ, zero, suc, ◌+◌, ◌-◌, ◌*◌, ◌/◌, ◌%◌, ◌<◌, ◌≤◌, ◌==◌, Bool, true, false, ◌&&◌, ◌||◌, if◌then◌else◌, cond, nat_lt, List, [], ◌∷◌, ◌++◌, length, take, replicate, slice_index, slice_set, IsTrue, refl, sym, ap, ◌∙◌, subst, arith, ◌⊎◌, inl, inr}
-use Rattle.std.proofs.lemmas.Bool.{cases_eq, eq-eqb, eqb-true, false≢true, lt-ltb, ne_eqb}
+use Rattle.std.proofs.Common.{◌≡◌, ◌≢◌, ℕ, zero, suc, ◌+◌, ◌-◌, ◌*◌, ◌/◌, ◌%◌, ◌<◌, ◌≤◌, ◌==◌, Bool, true, false, ◌&&◌, ◌||◌, if◌then◌else◌, cond, nat_lt, List, [], ◌∷◌, ◌++◌, length, take, replicate, slice_index, slice_set, get_or-set_other, IsTrue, refl, sym, ap, ◌∙◌, subst, arith, ◌⊎◌, inl, inr}
+use Rattle.std.proofs.lemmas.Bool.{and_parts, cases_eq, eq-eqb, eqb-true, false≢true, lt-ltb, ltb-true, ne_eqb, or_cases}
 use Rattle.std.proofs.lemmas.List.{length-take-le, take_more}
 use Rattle.std.proofs.lemmas.List.Sums.{sum_by-cons}
 use Rattle.map_model.specs.declared.lines.MapLine.{MapLine}
 use Rattle.map_model.specs.Market.{IsMarket, Market, choices_of}
 use Rattle.map_model.specs.Allocation.{AreLines, IsOffer, amount_at, is_before, is_line, line_at, units_of}
-use Rattle.map_model.proofs.MapForm.{few_places}
+use Rattle.map_model.proofs.MapForm.{IsLineAt-from, few_places}
 use Rattle.offer_pool.specs.Table.{amount_in, line_of, lines_from, lines_in, place_at}
 use Rattle.offer_pool.specs.Filed.{AreAmounts}
 
@@ -146,7 +146,7 @@ pub lines_empty : (n : ℕ) → lines_in (replicate n 0) ≡ []
 lines_empty n = lines-zeros n 0
 
 -- lines of which nothing is left from a place on
-lines-none : (xs : List ℕ) (base : ℕ) → ((j : ℕ) → slice_index xs j ≡ 0) → lines_from base xs ≡ []
+pub lines-none : (xs : List ℕ) (base : ℕ) → ((j : ℕ) → slice_index xs j ≡ 0) → lines_from base xs ≡ []
 unfolding lines_from
 lines-none [] base none = refl
 lines-none (x ∷ xs) base none = ap (λ b. cond b (lines_from (base + 1) xs) (line_of base x ∷ lines_from (base + 1) xs)) (eq-eqb x 0 (none 0)) ∙ lines-none xs (base + 1) (λ j. none (suc j))
@@ -254,3 +254,46 @@ pub lines_form : (m : Market) (amounts : List ℕ) → IsMarket m → AreAmounts
 lines_form m amounts market table i h =
     let rise = lines-rise m amounts 0 (λ j some. let e : 0 + j ≡ j = omega arith in subst (λ n. IsOffer m (n / 16) (n % 16)) (sym e) (table.offers j some)) in
     in_form m market (lines_in amounts) i h (Rises-at m 0 (lines_in amounts) rise i h) (λ j l. (Rises-at m 0 (lines_in amounts) rise j l).range)
+
+-- a line of a map, put behind those before it
+pub line_room : (m : Market) (lines : List MapLine) (a : List ℕ) (i : ℕ) → IsMarket m → AreLines m lines → i < length lines → ((j : ℕ) → (0 < i → rank (line_at lines (i - 1)) < j) → slice_index a j ≡ 0) → (j : ℕ) → rank (line_at lines i) ≤ j → slice_index a j ≡ 0
+line_room m lines a i market form within clear j behind = clear j (λ some.
+    let here = IsLineAt-from m lines i (form i within) in
+    let last = IsLineAt-from m lines (i - 1) (form (i - 1) (omega arith)) in
+    let rises : rank (line_at lines (i - 1)) < rank (line_at lines i) = rank_rises (line_at lines (i - 1)) (line_at lines i) (here.above some) (few_places m market _ _ last.offer) in
+    omega arith)
+  where
+    rank_rises : (x y : MapLine) → is_before x y ≡ true → x.place < 16 → rank x < rank y
+    rank_rises x y h small = elim (or_cases _ _ h) [
+      | inl l ↦ omega (arith, ltb-true x.group.0 y.group.0 l)
+      | inr e ↦ let p = and_parts _ _ e in omega (arith, eqb-true x.group.0 y.group.0 p.0, ltb-true x.place y.place p.1)
+    ]
+
+pub line_put : (m : Market) (lines : List MapLine) (a b : List ℕ) (i : ℕ) → IsMarket m → AreLines m lines → i < length lines → AreAmounts m a → ((j : ℕ) → rank (line_at lines i) ≤ j → slice_index a j ≡ 0) → lines_in a ≡ take i lines
+    → b ≡ slice_set a (rank (line_at lines i)) (slice_index a (rank (line_at lines i)) + (line_at lines i).amount) → (rank (line_at lines i) < length a) → lines_in b ≡ take (i + 1) lines
+line_put m lines a b i market form within table clear so_far is there =
+    let l = line_at lines i in
+    let here = IsLineAt-from m lines i (form i within) in
+    let small = few_places m market _ _ here.offer in
+    let none : slice_index a (rank (line_at lines i)) ≡ 0 = clear (rank (line_at lines i)) (omega arith) in
+    let amount : slice_index a (rank (line_at lines i)) + (line_at lines i).amount ≡ (line_at lines i).amount = omega arith in
+    let itself : line_of (rank (line_at lines i)) (line_at lines i).amount ≡ line_at lines i = line-back (line_at lines i) small in
+    ap lines_in is ∙ ap (λ (v : ℕ). lines_in (slice_set a (rank (line_at lines i)) v)) amount
+    ∙ lines_behind a (rank (line_at lines i)) (line_at lines i).amount there here.some clear
+    ∙ ap (λ (ls : List MapLine). ls ++ line_of (rank (line_at lines i)) (line_at lines i).amount ∷ []) so_far
+    ∙ ap (λ (x : MapLine). take i lines ++ x ∷ []) itself
+    ∙ sym (take_more lines i (record { group = record { 0 = 0 }; place = 0; amount = 0 }) within)
+  where
+    line-back : (x : MapLine) → x.place < 16 → line_of (rank x) x.amount ≡ x
+    line-back x small =
+        let q : rank x / 16 ≡ x.group.0 = omega arith in
+        let r : rank x % 16 ≡ x.place = omega arith in
+        ap (λ (g : ℕ). record { group = record { 0 = g }; place = rank x % 16; amount = x.amount }) q ∙ ap (λ (k : ℕ). record { group = x.group; place = k; amount = x.amount }) r
+
+-- behind the line that came, nothing is held
+pub line_clear : (m : Market) (lines : List MapLine) (a b : List ℕ) (i : ℕ) (v : ℕ) → ((j : ℕ) → rank (line_at lines i) ≤ j → slice_index a j ≡ 0) → b ≡ slice_set a (rank (line_at lines i)) v
+    → (j : ℕ) → (0 < i + 1 → rank (line_at lines (i + 1 - 1)) < j) → slice_index b j ≡ 0
+line_clear m lines a b i v clear is j behind =
+    let e : i + 1 - 1 ≡ i = omega arith in
+    let past : rank (line_at lines i) < j = subst (λ (n : ℕ). rank (line_at lines n) < j) e (behind (omega arith)) in
+    ap (λ (l : List ℕ). slice_index l j) is ∙ get_or-set_other a (rank (line_at lines i)) j v 0 (λ f. absurd (omega arith)) ∙ clear j (omega arith)

@@ -1,5 +1,5 @@
 //! The seats of offers in the queues of the nodes above them.
-ghost use Rattle.std.specs.Prelude.{◌≡◌, ◌≢◌, ◌==◌, ℕ, ◌+◌, ◌*◌, ◌<◌, ◌⊎◌, true, false, length, Contains, OnOk, slice_index_or};
+ghost use Rattle.std.specs.Prelude.{◌≡◌, ◌≢◌, ◌==◌, ℕ, ◌+◌, ◌*◌, ◌<◌, ◌⊎◌, true, false, [], length, Contains, IfOk, OnOk, slice_index_or};
 ghost use Rattle.std.specs.List.{list_any};
 ghost use Rattle.offer_pool.specs.declared.queue.Seat.{Seat};
 ghost use Rattle.offer_pool.specs.Table.{amount_in, place_at};
@@ -8,12 +8,25 @@ ghost use Rattle.offer_pool.specs.Filed.{IsLive, queue_at};
 use crate::queue::{Queue, Seat};
 use map_model::{GroupId, NodeId};
 use no_memory::NoMemory;
+use std::alloc::Global;
 
 /// Where the amount of an offer stands in a table of 16 places for each group.
 pub fn place_at(group: GroupId, place: u8) -> usize
     ensures { result ≡ place_at group.0 place }
 {
     group.0 as usize * 16 + usize::from(place)
+}
+
+/// So many queues with no seat.
+pub fn empty_queues(alloc: Global, count: u32) -> Result<Vec<Queue>, NoMemory>
+    ensures len { IfOk result (λ queues. length queues.items ≡ count) }
+    ensures empty { IfOk result (λ queues. (n : ℕ) → queue_at queues.items n ≡ []) }
+{
+    let mut queues = Vec::new(alloc);
+    for _node in 0..count {
+        queues.push(Queue::new(alloc))?;
+    }
+    Ok(queues)
 }
 
 /// Takes out seats of offers that hold nothing, until the worst is one that holds something.

@@ -4,10 +4,10 @@ ghost use Rattle.map_model.specs.Allocation.{AreLines, IsOffer, amount_at, load}
 ghost use Rattle.map_model.specs.Holding.{IsWorst, Puts, Takes};
 ghost use Rattle.offer_pool.specs.Holdings.{Holdings};
 
-use crate::filing::place_at;
+use crate::filing::{empty_queues, place_at};
 use crate::queue::Queue;
-use crate::table::{lines_of, put_units, take_units};
-use map_model::{GroupId, Instance, MapLine, MapLines, NodeId, Offer, Units};
+use crate::table::{lines_of, put_lines, put_units, take_units};
+use map_model::{Instance, MapLine, MapLines, NodeId, Offer, Units};
 use no_memory::NoMemory;
 use std::alloc::Global;
 use std::marker::Model;
@@ -39,15 +39,13 @@ impl Held {
         ensures { IfOk result (λ held. held ≡ record { market = instance.now; lines = map.now.lines.items }) }
     {
         let mut amounts = vec![in alloc; 0u32; instance.groups() as usize * 16]?;
-        let mut queues = Vec::new(alloc);
-        for _node in 0..instance.nodes() {
-            queues.push(Queue::new(alloc))?;
-        }
-        for line in map.lines.as_slice() {
-            let offer = Offer { group: line.group, place: line.place };
-            put_units(instance, amounts.as_mut_slice(), queues.as_mut_slice(), offer, line.amount)?;
-        }
-        Ok(Held { instance: instance.try_clone()?, amounts, queues })
+        let mut queues = empty_queues(alloc, instance.nodes())?;
+        put_lines(instance, amounts.as_mut_slice(), queues.as_mut_slice(), map.lines.as_slice())?;
+        Ok(Held {
+            instance: instance.try_clone()?,
+            amounts,
+            queues,
+        })
     }
 
     /// Adds units to an offer. Where memory is wanted, nothing has changed.
@@ -70,7 +68,7 @@ impl Held {
         ensures takes { Takes self.old.lines self.new.lines offer.group.0 offer.place units }
         ensures form { AreLines self.new.market self.new.lines }
     {
-        take_units(&self.instance, self.amounts.as_mut_slice(), self.queues.as_mut_slice(), offer, units as u32);
+        take_units(&self.instance, self.amounts.as_mut_slice(), self.queues.as_mut_slice(), offer, units);
     }
 
     /// The units that an offer holds.
@@ -88,9 +86,16 @@ impl Held {
         ensures worst { MatchOption result (load self.now.market self.now.lines node.0 ≡ 0) (λ w. IsWorst self.now.market self.now.lines node.0 w.0.group.0 w.0.place w.1) }
         ensures form { AreLines self.now.market self.now.lines }
     {
-        let seat = self.queues[node.0 as usize].worst()?;
-        let offer = Offer { group: seat.group, place: seat.place };
-        Some((offer, self.units(offer)))
+        match self.queues[node.0 as usize].worst() {
+            Some(seat) => {
+                let offer = Offer {
+                    group: seat.group,
+                    place: seat.place,
+                };
+                Some((offer, self.units(offer)))
+            }
+            None => None,
+        }
     }
 
     /// The lines of what is held, in a map's form.

@@ -1,7 +1,7 @@
 //! Putting and taking units, over the table of amounts and the queues.
 ghost use Rattle.std.specs.Prelude.{◌≡◌, ◌==◌, true, ℕ, ◌+◌, ◌-◌, ◌<◌, ◌≤◌, ◌^◌, length, take, IfOk, OnOk, OnErr, slice_index, slice_set};
 ghost use Rattle.map_model.specs.Market.{IsMarket};
-ghost use Rattle.map_model.specs.Allocation.{IsOffer, counts_at};
+ghost use Rattle.map_model.specs.Allocation.{AreLines, IsOffer, counts_at};
 ghost use Rattle.std.specs.List.{list_any};
 ghost use Rattle.offer_pool.specs.Seats.{seat_at};
 ghost use Rattle.offer_pool.specs.Table.{amount_in, lines_in, place_at};
@@ -11,7 +11,7 @@ use crate::filing::{clean_all, place_at, push_all};
 use crate::queue::{Queue, Seat};
 use crate::walk::path;
 use arrayvec::ArrayVec;
-use map_model::{GroupId, Instance, MapLine, NodeId, Offer};
+use map_model::{GroupId, Instance, MapLine, NodeId, Offer, Units};
 use no_memory::NoMemory;
 use std::alloc::Global;
 
@@ -75,8 +75,27 @@ pub fn put_units(instance: &Instance, amounts: &mut [u32], queues: &mut [Queue],
     Ok(())
 }
 
+/// Puts the lines of a map into an empty table.
+pub fn put_lines(instance: &Instance, amounts: &mut [u32], queues: &mut [Queue], lines: &[MapLine]) -> Result<(), NoMemory>
+    requires held { IsHeld instance.now amounts.old queues.old }
+    requires empty { (i : ℕ) → slice_index amounts.old i ≡ 0 }
+    requires form { AreLines instance.now lines.now }
+    ensures held { IsHeld instance.now amounts.new queues.new }
+    ensures lines { OnOk result (lines_in amounts.new ≡ lines.now) }
+{
+    for line in lines {
+        let units = line.amount;
+        let offer = Offer {
+            group: line.group,
+            place: line.place,
+        };
+        put_units(instance, amounts, queues, offer, units)?;
+    }
+    Ok(())
+}
+
 /// Takes units of an offer.
-pub fn take_units(instance: &Instance, amounts: &mut [u32], queues: &mut [Queue], offer: Offer, units: u32)
+pub fn take_units(instance: &Instance, amounts: &mut [u32], queues: &mut [Queue], offer: Offer, units: Units)
     requires held { IsHeld instance.now amounts.old queues.old }
     requires offer { IsOffer instance.now offer.group.0 offer.place }
     requires enough { units ≤ amount_in amounts.old offer.group.0 offer.place }
@@ -84,7 +103,7 @@ pub fn take_units(instance: &Instance, amounts: &mut [u32], queues: &mut [Queue]
     ensures taken { amounts.new ≡ slice_set amounts.old (place_at offer.group.0 offer.place) (amount_in amounts.old offer.group.0 offer.place - units) }
 {
     let nodes = nodes_above(instance, offer);
-    amounts[place_at(offer.group, offer.place)] -= units;
+    amounts[place_at(offer.group, offer.place)] -= units as u32;
     clean_all(queues, nodes.as_slice(), amounts);
 }
 
