@@ -1,15 +1,14 @@
 -- Reading gives back what was written.
-use Rattle.std.proofs.Common.{◌≡◌, ℕ, zero, suc, ◌+◌, ◌-◌, ◌<◌, ◌≤◌, ◌^◌, ◌==◌, Bool, true, false, cond, ◌&&◌, nat_le, nat_lt, List, [], ◌∷◌, ◌++◌, length, map, take, drop, replicate, get_or, Option, None, Some, option_map, refl, ap, sym, ◌∙◌, arith, length-append, append_assoc, append-nil, length-drop, length-take}
+use Rattle.std.proofs.Common.{◌≡◌, ℕ, zero, suc, ◌+◌, ◌-◌, ◌<◌, ◌≤◌, ◌^◌, ◌==◌, Bool, true, false, cond, ◌&&◌, nat_le, List, [], ◌∷◌, ◌++◌, length, map, take, drop, replicate, get_or, Option, None, Some, option_map, refl, ap, sym, ◌∙◌, arith, length-append, append_assoc, append-nil, length-drop, length-take}
 use Rattle.std.proofs.lemmas.Bool.Decides.{nat_tests}
 use Rattle.std.proofs.lemmas.List.{drop-drop, take-append-drop}
-use Rattle.std.specs.List.{flat_map, fold, join_with_byte, onto_first, prefix_len, slice_split}
+use Rattle.std.specs.List.{flat_map, join_with_byte, onto_first, prefix_len, slice_split}
 use Rattle.std.specs.Option.{option_or}
-use Rattle.addr_text.specs.declared.address.Addr.{Addr}
 use Rattle.addr_text.specs.declared.address.Addr.TheVariants.{V4, V6}
 use Rattle.addr_text.specs.Numbers.{all_of, digits_in, in_base, number_of, only_if, together}
-use Rattle.addr_text.specs.Groups.{begins_double, filled, group_of, groups_by, joined_groups, on_left, parts, side_groups, sides, v4_numbers, v6_groups}
-use Rattle.addr_text.specs.Addresses.{addr_of, v4_of, v6_of}
-use Rattle.addr_text.specs.Written.{coloned, colon_text, decimal_text, digit_char, dot_text, dotted, hex_text, run_at}
+use Rattle.addr_text.specs.Groups.{begins_double, filled, group_of, groups_by, joined_groups, on_left, side_groups, sides, v4_numbers, v6_groups}
+use Rattle.addr_text.specs.Addresses.{addr_of, v6_of}
+use Rattle.addr_text.specs.Written.{coloned, colon_text, decimal_text, dotted, hex_text, run_at}
 use Rattle.addr_text.proofs.Bases.{AllBelow, digits_below, length-digits, value_digits}
 use Rattle.addr_text.proofs.Chars.{Lacks, decimal_again, group_again, lacks-append, no_colon_hex, no_dot_decimal, no_dot_hex, some_hex}
 use Rattle.addr_text.proofs.Sides.{behind}
@@ -144,6 +143,7 @@ zeros_front (x ∷ xs) = go (x == 0) refl (λ is. more (prefix_len (λ g. g == 0
   where
     more : (k : ℕ) → take k xs ≡ replicate k 0 → x ≡ 0 → take (1 + k) (x ∷ xs) ≡ replicate (1 + k) 0
     more k front is = let e : 1 + k ≡ suc k = omega arith in rw e (ap (λ (n : ℕ). n ∷ take k xs) is ∙ ap (λ (l : List ℕ). 0 ∷ l) front)
+
     go : (b : Bool) → (x == 0) ≡ b → (x ≡ 0 → take (1 + prefix_len (λ g. g == 0) xs) (x ∷ xs) ≡ replicate (1 + prefix_len (λ g. g == 0) xs) 0) → take (cond b (1 + prefix_len (λ g. g == 0) xs) 0) (x ∷ xs) ≡ replicate (cond b (1 + prefix_len (λ g. g == 0) xs) 0) 0
     go true t longer = longer (grind (arith, nat_tests))
     go false t longer = refl
@@ -182,7 +182,7 @@ filled_again gs i size fits two =
 pub short_again : (gs : List ℕ) (i : ℕ) → length gs ≡ 8 → AllBelow 65536 gs → i + run_at gs i ≤ 8 → 2 ≤ run_at gs i → v6_groups (coloned (take i gs) ++ 58 ∷ 58 ∷ coloned (drop (i + run_at gs i) gs)) ≡ Some gs
 short_again gs i size below fits two =
     let there : sides (coloned (take i gs) ++ 58 ∷ 58 ∷ coloned (drop (i + run_at gs i) gs)) ≡ Some (coloned (take i gs), coloned (drop (i + run_at gs i) gs)) =
-      sides_joined (take i gs) (58 ∷ 58 ∷ coloned (drop (i + run_at gs i) gs)) ∙ ap (λ (l : List ℕ). Some (l, coloned (drop (i + run_at gs i) gs))) (append-nil (coloned (take i gs))) in
+    sides_joined (take i gs) (58 ∷ 58 ∷ coloned (drop (i + run_at gs i) gs)) ∙ ap (λ (l : List ℕ). Some (l, coloned (drop (i + run_at gs i) gs))) (append-nil (coloned (take i gs))) in
     ap (λ (o : Option (List ℕ × List ℕ)). groups_by o (coloned (take i gs) ++ 58 ∷ 58 ∷ coloned (drop (i + run_at gs i) gs))) there
     ∙ ap (λ (o : Option (List ℕ)). filled o (side_groups (coloned (drop (i + run_at gs i) gs)))) (side_again (take i gs) (below_take 65536 i gs below))
     ∙ ap (λ (o : Option (List ℕ)). filled (Some (take i gs)) o) (side_again (drop (i + run_at gs i) gs) (below_drop 65536 (i + run_at gs i) gs below))

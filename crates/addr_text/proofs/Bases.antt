@@ -3,7 +3,6 @@ use Rattle.std.proofs.Common.{◌≡◌, ◌≢◌, ◌==◌, false, true, ℕ, 
 use Rattle.std.proofs.lemmas.Bool.Decides.{nat_tests}
 use Rattle.std.proofs.Math.Nat.{div-add-mod, mod-lt, mul_comm, pow-succ', pow-zero}
 use Rattle.std.proofs.lemmas.Nat.{row_below_turned}
-use Rattle.std.specs.List.{fold}
 use Rattle.addr_text.specs.Numbers.{digits_in, in_base}
 use Rattle.addr_text.proofs.Counted.{onto}
 

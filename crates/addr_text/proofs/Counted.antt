@@ -1,9 +1,9 @@
 -- Digits one after another.
-use Rattle.std.proofs.Common.{◌≡◌, ℕ, zero, suc, ◌+◌, ◌-◌, ◌*◌, ◌/◌, ◌%◌, ◌<◌, ◌≤◌, ◌^◌, Bool, true, false, cond, nat_le, List, [], ◌∷◌, ◌++◌, length, drop, get_or, Option, None, Some, option_map, refl, ap, sym, ◌∙◌, arith, length-append, append_assoc}
+use Rattle.std.proofs.Common.{◌≡◌, ℕ, zero, suc, ◌+◌, ◌*◌, ◌<◌, ◌≤◌, false, cond, nat_le, List, [], ◌∷◌, length, drop, get_or, Option, None, Some, option_map, refl, ap, sym, ◌∙◌, arith}
 use Rattle.std.proofs.lemmas.Bool.Decides.{nat_tests}
 use Rattle.std.proofs.lemmas.List.{drop_more}
 use Rattle.std.specs.List.{fold}
-use Rattle.addr_text.specs.Numbers.{all_of, in_base, only_if, together}
+use Rattle.addr_text.specs.Numbers.{all_of, only_if, together}
 
 -- digits after a number that stands for those before them
 abbrev pub onto : ℕ → ℕ → List ℕ → ℕ

@@ -91,6 +91,7 @@ filled_at_most (Some ls) (Some rs) = both (nat_le (length ls) 8) (nat_le (length
   where
     none : nat_le (length ls + length rs) 7 ≡ false → None ≡ filled (Some ls) (Some rs)
     none over = sym (ap (λ b. cond b (Some (ls ++ replicate (8 - (length ls + length rs)) 0 ++ rs)) None) over)
+
     both : (a b : Bool) → nat_le (length ls) 8 ≡ a → nat_le (length rs) 8 ≡ b → filled (cond a (Some ls) None) (cond b (Some rs) None) ≡ filled (Some ls) (Some rs)
     both true true la lb = refl
     both true false la lb = none (grind (arith, nat_tests))

@@ -6,3 +6,4 @@ pub mod Powers
 pub mod Bases
 pub mod Chars
 pub mod Again
+pub mod Prefixed

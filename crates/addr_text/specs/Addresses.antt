@@ -1,5 +1,5 @@
 -- Addresses, prefixes and listen texts.
-use Rattle.std.specs.Prelude.{ℕ, ◌-◌, ◌%◌, ◌^◌, List, length, Bool, ◌&&◌, ◌==◌, if◌then◌else◌, Option, None, Some, option_map, slice_index, slice_range}
+use Rattle.std.specs.Prelude.{◌≡◌, ℕ, ◌≤◌, ◌-◌, ◌%◌, ◌^◌, List, length, Bool, true, ◌&&◌, ◌==◌, if◌then◌else◌, Option, None, Some, option_map, slice_index, slice_range}
 use Rattle.std.specs.List.{before_first, after_first, before_last, after_last}
 use Rattle.std.specs.Option.{option_and_then, option_or}
 use Rattle.addr_text.specs.declared.address.Addr.{Addr}
@@ -34,6 +34,11 @@ value_of (V6 n) = n
 -- no bit of the address is set beyond its first so many
 abbrev pub is_clear : Addr → ℕ → Bool
 is_clear addr len = value_of addr % 2 ^ (bits_of addr - len) == 0
+
+-- a length within the address's family, and no bit set beyond it
+pub record IsPrefix (p : Prefix) : Type 0 where
+  pub len : p.len ≤ bits_of p.addr
+  pub clear : is_clear p.addr p.len ≡ true
 
 -- a prefix of so many bits
 abbrev pub prefix_at : Addr → ℕ → Prefix

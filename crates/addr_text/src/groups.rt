@@ -43,7 +43,11 @@ pub fn v4_numbers(text: &[u8]) -> Option<ArrayVec<u8, 4>>
     ensures { option_map (λ v. v.items) result ≡ v4_numbers text.now }
 {
     let numbers = joined_numbers(text)?;
-    if numbers.is_full() { Some(numbers) } else { None }
+    if numbers.is_full() {
+        Some(numbers)
+    } else {
+        None
+    }
 }
 
 /// Adds a group, where there is one and room for it.

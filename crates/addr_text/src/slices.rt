@@ -40,7 +40,11 @@ pub fn split_first(text: &[u8], octet: u8) -> (&[u8], &[u8])
     ensures back { result.1.now ≡ after_first (λ b. b == octet) text.now }
 {
     let start = start_of_first(text, octet);
-    let back = if start < text.len() { after(text, start + 1) } else { &[] };
+    let back = if start < text.len() {
+        after(text, start + 1)
+    } else {
+        &[]
+    };
     (before(text, start), back)
 }
 

@@ -1,11 +1,11 @@
 -- The labels that the dots of a text part, one after another.
 use Rattle.std.proofs.Common.{◌≡◌, ◌≢◌, ℕ, ◌+◌, ◌<◌, ◌≤◌, Bool, true, false, cond, nat_le, ◌==◌, List, [], ◌∷◌, ◌++◌, length, take, drop, Option, None, Some, refl, ap, sym, ◌∙◌, arith, length-append, append_assoc}
 use Rattle.std.proofs.lemmas.Bool.Decides.{nat_tests}
-use Rattle.std.specs.List.{list_all, position_from, slice_split}
+use Rattle.std.specs.List.{position_from, slice_split}
 use Rattle.std.specs.Option.{option_or}
 use Rattle.name_text.specs.declared.fault.NameFault.{NameFault}
-use Rattle.name_text.specs.Wire.{wire, AreLabels}
-use Rattle.name_text.specs.Names.{first_fault, label_fault, short_wire, is_label_byte}
+use Rattle.name_text.specs.Wire.{wire}
+use Rattle.name_text.specs.Names.{first_fault, label_fault, short_wire}
 use Rattle.name_text.proofs.Splits.{split_at_hit, split_no_hit}
 
 -- the labels of a text whose first dot is known

@@ -1,5 +1,5 @@
 -- The parts between separators, one after another.
-use Rattle.std.proofs.Common.{◌≡◌, ℕ, ◌+◌, ◌≤◌, suc, zero, Bool, true, false, cond, List, [], ◌∷◌, length, take, drop, Option, None, Some, refl, arith}
+use Rattle.std.proofs.Common.{◌≡◌, ℕ, ◌+◌, ◌≤◌, suc, zero, Bool, true, false, cond, List, [], ◌∷◌, take, drop, None, Some, refl, arith}
 use Rattle.std.specs.List.{onto_first, position_from, slice_split}
 
 position_ge : {X : Type 0} (p : X → Bool) (n : ℕ) (xs : List X) (m : ℕ) → position_from p n xs ≡ Some m → n ≤ m

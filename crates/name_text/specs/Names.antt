@@ -1,5 +1,5 @@
 -- DNS name texts, and comparing names on the wire.
-use Rattle.std.specs.Prelude.{ℕ, zero, suc, ◌+◌, ◌-◌, List, [], ◌∷◌, ◌++◌, length, take, Bool, ◌&&◌, ◌||◌, ◌==◌, nat_le, nat_lt, not, if◌then◌else◌, Option, None, Some, Result, Ok, Err, nat_eq}
+use Rattle.std.specs.Prelude.{ℕ, zero, suc, ◌-◌, List, [], ◌∷◌, ◌++◌, length, take, Bool, ◌&&◌, ◌||◌, ◌==◌, nat_le, nat_lt, not, if◌then◌else◌, Option, None, Some, Result, Err, nat_eq}
 use Rattle.std.specs.List.{ends_with, list_all, list_any, slice_split}
 use Rattle.std.specs.Option.{ok_or, option_or}
 use Rattle.std.specs.Str.{str_eq_ignore_ascii_case}

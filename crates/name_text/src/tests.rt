@@ -79,9 +79,15 @@ fn bounds_sizes(rt: HostRuntime) {
         (labels(&[63, 63, 63, 61], b"."), None),
         (labels(&[63, 63, 63, 62], b""), Some(NameFault::LongName)),
         (labels(&[63, 63, 63, 62], b"."), Some(NameFault::LongName)),
-        (labels(&[63, 63, 63, 63], b"..a"), Some(NameFault::EmptyLabel)),
+        (
+            labels(&[63, 63, 63, 63], b"..a"),
+            Some(NameFault::EmptyLabel),
+        ),
         (labels(&[63, 63, 63, 63], b".!"), Some(NameFault::BadByte)),
-        (labels(&[63, 63, 63, 63, 1, 30], b""), Some(NameFault::LongName)),
+        (
+            labels(&[63, 63, 63, 63, 1, 30], b""),
+            Some(NameFault::LongName),
+        ),
     ];
     for (text, fault) in rows {
         let name = read_name(text.as_slice());

@@ -1,5 +1,5 @@
-use Rattle.std.proofs.Common.{◌≡◌, ◌≤◌, drop, nat_le}
-use Rattle.addr_text.specs.Numbers.{decimal_digit, only_if}
+use Rattle.std.proofs.Common.{◌≡◌, ◌≤◌, drop}
+use Rattle.addr_text.specs.Numbers.{decimal_digit}
 use Rattle.addr_text.proofs.Counted.{value_from}
 use Rattle.addr_text.proofs.digits.digits_value.Given as goal
 

@@ -12,8 +12,8 @@ pub loop-colon-preserved : goal.loop-colon-preserved
 loop-colon-preserved c =
     let (v, is, pushed) = c.if-not-push_group.ensures.pushed refl in
     rw c.after-rest.ensures
-      (values_step group_of (λ b. b == 58) c.loop-colon.rest.now c.in-Some.colon v c.loop-colon.groups.items c.push_group.new.groups.items _ (sym c.position_of.ensures.first ∙ c.in-Some.is)
-      (ap group_of (sym c.before-in-Some.ensures) ∙ is) pushed c.loop-colon.invariant)
+    (values_step group_of (λ b. b == 58) c.loop-colon.rest.now c.in-Some.colon v c.loop-colon.groups.items c.push_group.new.groups.items _ (sym c.position_of.ensures.first ∙ c.in-Some.is)
+    (ap group_of (sym c.before-in-Some.ensures) ∙ is) pushed c.loop-colon.invariant)
 
 pub returns-then-push_group : goal.returns-then-push_group
 returns-then-push_group c =

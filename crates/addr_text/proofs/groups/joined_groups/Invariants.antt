@@ -1,4 +1,4 @@
-use Rattle.std.proofs.Common.{◌≡◌, ◌≤◌, length}
+use Rattle.std.proofs.Common.{◌≡◌, length}
 use Rattle.addr_text.specs.Numbers.{all_of}
 use Rattle.addr_text.specs.Groups.{group_of, joined_groups, parts}
 use Rattle.addr_text.proofs.Joined.{with_front}

@@ -12,8 +12,8 @@ pub loop-dot-preserved : goal.loop-dot-preserved
 loop-dot-preserved c =
     let (v, is, pushed) = c.if-not-push_number.ensures.pushed refl in
     rw c.after-rest.ensures
-      (values_step (number_of 255) (λ b. b == 46) c.loop-dot.rest.now c.in-Some.dot v c.loop-dot.numbers.items c.push_number.new.numbers.items _ (sym c.position_of.ensures.first ∙ c.in-Some.is)
-      (ap (number_of 255) (sym c.before-in-Some.ensures) ∙ is) pushed c.loop-dot.invariant)
+    (values_step (number_of 255) (λ b. b == 46) c.loop-dot.rest.now c.in-Some.dot v c.loop-dot.numbers.items c.push_number.new.numbers.items _ (sym c.position_of.ensures.first ∙ c.in-Some.is)
+    (ap (number_of 255) (sym c.before-in-Some.ensures) ∙ is) pushed c.loop-dot.invariant)
 
 pub returns-then-push_number : goal.returns-then-push_number
 returns-then-push_number c =

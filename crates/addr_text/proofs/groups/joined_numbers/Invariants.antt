@@ -1,4 +1,4 @@
-use Rattle.std.proofs.Common.{◌≡◌, ◌≤◌, length}
+use Rattle.std.proofs.Common.{◌≡◌, length}
 use Rattle.addr_text.specs.Numbers.{all_of, number_of}
 use Rattle.addr_text.specs.Groups.{parts}
 use Rattle.addr_text.proofs.Joined.{with_front}

@@ -1,6 +1,6 @@
-use Rattle.std.proofs.Common.{sym, ap, ◌∙◌, Some, List, ℕ}
+use Rattle.std.proofs.Common.{sym, ap, ◌∙◌}
 use Rattle.addr_text.specs.Groups.{begins_double, sides}
-use Rattle.addr_text.proofs.Sides.{sides_end, sides_here, sides_on, sides_start}
+use Rattle.addr_text.proofs.Sides.{sides_here, sides_on}
 use Rattle.addr_text.proofs.groups.sides.Goals as goal
 
 pub returns-then-begins_double : goal.returns-then-begins_double

@@ -1,4 +1,4 @@
-use Rattle.std.proofs.Common.{◌≡◌, option_map, take, drop}
+use Rattle.std.proofs.Common.{◌≡◌, take, drop}
 use Rattle.addr_text.specs.Groups.{sides}
 use Rattle.addr_text.proofs.Sides.{behind}
 use Rattle.addr_text.proofs.groups.sides.Given as goal

@@ -12,6 +12,6 @@ returns-in-Some-Some c =
 pub returns-in_default : goal.returns-in_default
 returns-in_default c =
     elim c.in_default.branch [
-      in_default-via-in-Some+in_default w ↦ no_right (side_groups c.args.before.now) (side_groups c.args.after.now) w.in_default.ensures'
+      | in_default-via-in-Some+in_default w ↦ no_right (side_groups c.args.before.now) (side_groups c.args.after.now) w.in_default.ensures'
       | in_default-via-in_default w ↦ no_left (side_groups c.args.before.now) (side_groups c.args.after.now) w.in_default.ensures-1
     ]

@@ -1,4 +1,4 @@
-use Rattle.std.proofs.Common.{◌≡◌, ◌<◌, ◌^◌, ◌*◌, drop, take}
+use Rattle.std.proofs.Common.{◌≡◌, ◌<◌, ◌*◌, take}
 use Rattle.addr_text.specs.Numbers.{in_base}
 use Rattle.addr_text.proofs.read.v4_value.Given as goal
 

@@ -1,4 +1,4 @@
-use Rattle.std.proofs.Common.{◌≡◌, ℕ, ◌+◌, ◌*◌, ◌<◌, arith}
+use Rattle.std.proofs.Common.{◌+◌, ◌*◌, ◌<◌, arith}
 use Rattle.addr_text.proofs.Powers.{below_all, below_next}
 use Rattle.addr_text.proofs.read.v6_value.Goals as goal
 

@@ -1,5 +1,4 @@
-use Rattle.std.proofs.Common.{◌≡◌, ◌<◌, ◌-◌, ◌==◌, ◌≢◌, suc, length, false, sym, ◌∙◌, arith}
-use Rattle.std.proofs.lemmas.Bool.Decides.{nat_tests}
+use Rattle.std.proofs.Common.{◌<◌, ◌-◌, suc, length, sym, arith}
 use Rattle.addr_text.proofs.Bases.{all_moved, digit_moved, is_full, not_full}
 use Rattle.addr_text.proofs.write.numbers_of.Goals as goal
 

@@ -1,5 +1,4 @@
-use Rattle.std.proofs.Common.{◌≡◌, ◌++◌, List, ℕ, Some, length, ap, sym, ◌∙◌}
-use Rattle.addr_text.specs.Groups.{v6_groups}
+use Rattle.std.proofs.Common.{◌++◌, List, ℕ, Some, length, ap, sym, ◌∙◌}
 use Rattle.addr_text.specs.Written.{dotted}
 use Rattle.addr_text.proofs.Bases.{length-digits}
 use Rattle.addr_text.proofs.Again.{v4_again, v6_again}

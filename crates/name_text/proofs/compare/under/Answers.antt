@@ -1,4 +1,4 @@
-use Rattle.std.proofs.Common.{sym, ap, ◌∙◌}
+use Rattle.std.proofs.Common.{sym, ◌∙◌}
 use Rattle.std.proofs.lemmas.List.{take_rest}
 use Rattle.name_text.proofs.Rests.{by_labels, found, goes_on, past_all}
 use Rattle.name_text.proofs.compare.under.Goals as goal

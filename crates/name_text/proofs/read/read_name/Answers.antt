@@ -1,4 +1,4 @@
-use Rattle.std.proofs.Common.{ap, sym, ◌∙◌}
+use Rattle.std.proofs.Common.{sym}
 use Rattle.name_text.proofs.Forms.{is_name}
 use Rattle.name_text.proofs.read.read_name.Goals as goal
 

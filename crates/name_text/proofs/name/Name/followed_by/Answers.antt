@@ -1,4 +1,3 @@
-use Rattle.std.proofs.Common.{ap, sym, ◌∙◌}
 use Rattle.name_text.proofs.Forms.{is_joined, some_octet}
 use Rattle.name_text.proofs.name.Name.followed_by.Goals as goal
 
