@@ -120,11 +120,11 @@ impl State {
     }
 
     /// What is held, in the form of a map's lines.
-    pub fn lines(&self) -> Result<Vec<MapLine>, NoMemory>
+    pub fn lines(&self, alloc: Global) -> Result<Vec<MapLine>, NoMemory>
         ensures lines { IfOk result (λ lines. lines.items ≡ self.now.lines) }
         ensures form { AreLines self.now.market self.now.lines }
     {
-        self.held.lines()
+        self.held.lines(alloc)
     }
 
     /// The refusing node nearest to an offer's pool; none exactly where no node refuses it.
