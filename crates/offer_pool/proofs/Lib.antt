@@ -1,0 +1,6 @@
+pub mod Turns
+pub mod Queues
+pub mod Refiled
+pub mod Tables
+pub mod Worst
+pub mod Views

@@ -1,0 +1,14 @@
+use Rattle.std.proofs.Common.{◌≡◌, ◌==◌, ℕ, ◌<◌, true, false, Contains, length, take}
+use Rattle.std.specs.List.{list_any}
+use Rattle.offer_pool.specs.declared.queue.Seat.{Seat}
+use Rattle.offer_pool.specs.Table.{amount_in}
+use Rattle.offer_pool.specs.Filed.{IsLive, queue_at}
+use Rattle.offer_pool.proofs.filing.clean_all.Given as goal
+
+abbrev pub invariant-loop-node : goal.invariant-loop-node
+invariant-loop-node l = record {
+  kept : (n : ℕ) (s : Seat) → Contains (queue_at l.initial.queues n) s → 0 < amount_in l.amounts s.group.0 s.place → Contains (queue_at l.queues n) s;
+  from : (n : ℕ) (s : Seat) → Contains (queue_at l.queues n) s → Contains (queue_at l.initial.queues n) s;
+  live : (n : ℕ) → list_any (λ x. x.0 == n) (take l.node-index l.nodes) ≡ true → IsLive l.amounts (queue_at l.queues n);
+  others : (n : ℕ) → list_any (λ x. x.0 == n) (take l.node-index l.nodes) ≡ false → queue_at l.queues n ≡ queue_at l.initial.queues n;
+}

@@ -1,0 +1,4 @@
+pub mod Holdings
+pub mod Seats
+pub mod Table
+pub mod Filed

@@ -1,0 +1,10 @@
+//! The units that offers hold, with the worst offer under each node at hand.
+#![tactic(auto)]
+
+mod filing;
+mod held;
+mod queue;
+mod table;
+mod walk;
+
+pub use held::Held;

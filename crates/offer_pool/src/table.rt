@@ -1,0 +1,126 @@
+//! Putting and taking units, over the table of amounts and the queues.
+ghost use Rattle.std.specs.Prelude.{◌≡◌, ◌==◌, true, ℕ, ◌+◌, ◌-◌, ◌<◌, ◌≤◌, ◌^◌, length, take, IfOk, OnOk, OnErr, slice_index, slice_set};
+ghost use Rattle.map_model.specs.Market.{IsMarket};
+ghost use Rattle.map_model.specs.Allocation.{AreLines, IsOffer, counts_at};
+ghost use Rattle.std.specs.List.{list_any};
+ghost use Rattle.offer_pool.specs.Seats.{seat_at};
+ghost use Rattle.offer_pool.specs.Table.{amount_in, lines_in, place_at};
+ghost use Rattle.offer_pool.specs.Filed.{IsHeld};
+
+use crate::filing::{clean_all, place_at, push_all};
+use crate::queue::{Queue, Seat};
+use crate::walk::path;
+use arrayvec::ArrayVec;
+use map_model::{GroupId, Instance, MapLine, NodeId, Offer, Units};
+use no_memory::NoMemory;
+use std::alloc::Global;
+
+/// The seat of an offer.
+fn seat_of(instance: &Instance, offer: Offer) -> Seat
+    requires { IsOffer instance.now offer.group.0 offer.place }
+    ensures { result ≡ seat_at instance.now offer.group.0 offer.place }
+{
+    let key = instance.key(offer);
+    Seat {
+        score: key.score,
+        group: key.group,
+        pool: key.pool,
+        place: offer.place,
+    }
+}
+
+/// The nodes under which an offer stands.
+fn nodes_above(instance: &Instance, offer: Offer) -> ArrayVec<NodeId, 8>
+    requires market { IsMarket instance.now }
+    requires offer { IsOffer instance.now offer.group.0 offer.place }
+    ensures among { (n : ℕ) → list_any (λ x. x.0 == n) result.items ≡ counts_at instance.now n offer.group.0 offer.place }
+    ensures there { (n : ℕ) → list_any (λ x. x.0 == n) result.items ≡ true → n < length instance.now.nodes }
+{
+    path(instance, instance.pool_at(offer))
+}
+
+/// Files an offer that holds nothing, and gives it units. Where memory is wanted, a seat that was filed in vain is cleaned away where it is the worst, and else does no harm.
+fn seat_units(instance: &Instance, amounts: &mut [u32], queues: &mut [Queue], offer: Offer, units: u32) -> Result<(), NoMemory>
+    requires held { IsHeld instance.now amounts.old queues.old }
+    requires offer { IsOffer instance.now offer.group.0 offer.place }
+    requires none { amount_in amounts.old offer.group.0 offer.place ≡ 0 }
+    requires some { 0 < units }
+    ensures held { IsHeld instance.now amounts.new queues.new }
+    ensures ok { OnOk result (amounts.new ≡ slice_set amounts.old (place_at offer.group.0 offer.place) units) }
+    ensures err { OnErr result (amounts.new ≡ amounts.old) }
+{
+    let nodes = nodes_above(instance, offer);
+    let filed = push_all(queues, nodes.as_slice(), seat_of(instance, offer));
+    if filed.is_ok() {
+        amounts[place_at(offer.group, offer.place)] = units;
+    }
+    clean_all(queues, nodes.as_slice(), amounts);
+    filed
+}
+
+/// Adds units to an offer. Where memory is wanted the amounts stay.
+pub fn put_units(instance: &Instance, amounts: &mut [u32], queues: &mut [Queue], offer: Offer, units: u32) -> Result<(), NoMemory>
+    requires held { IsHeld instance.now amounts.old queues.old }
+    requires offer { IsOffer instance.now offer.group.0 offer.place }
+    requires room { amount_in amounts.old offer.group.0 offer.place + units < 2 ^ 32 }
+    ensures held { IsHeld instance.now amounts.new queues.new }
+    ensures ok { OnOk result (amounts.new ≡ slice_set amounts.old (place_at offer.group.0 offer.place) (amount_in amounts.old offer.group.0 offer.place + units)) }
+    ensures err { OnErr result (amounts.new ≡ amounts.old) }
+{
+    let at = place_at(offer.group, offer.place);
+    if units > 0 && amounts[at] == 0 {
+        return seat_units(instance, amounts, queues, offer, units);
+    }
+    amounts[at] += units;
+    Ok(())
+}
+
+/// Puts the lines of a map into an empty table.
+pub fn put_lines(instance: &Instance, amounts: &mut [u32], queues: &mut [Queue], lines: &[MapLine]) -> Result<(), NoMemory>
+    requires held { IsHeld instance.now amounts.old queues.old }
+    requires empty { (i : ℕ) → slice_index amounts.old i ≡ 0 }
+    requires form { AreLines instance.now lines.now }
+    ensures held { IsHeld instance.now amounts.new queues.new }
+    ensures lines { OnOk result (lines_in amounts.new ≡ lines.now) }
+{
+    for line in lines {
+        let units = line.amount;
+        let offer = Offer {
+            group: line.group,
+            place: line.place,
+        };
+        put_units(instance, amounts, queues, offer, units)?;
+    }
+    Ok(())
+}
+
+/// Takes units of an offer.
+pub fn take_units(instance: &Instance, amounts: &mut [u32], queues: &mut [Queue], offer: Offer, units: Units)
+    requires held { IsHeld instance.now amounts.old queues.old }
+    requires offer { IsOffer instance.now offer.group.0 offer.place }
+    requires enough { units ≤ amount_in amounts.old offer.group.0 offer.place }
+    ensures held { IsHeld instance.now amounts.new queues.new }
+    ensures taken { amounts.new ≡ slice_set amounts.old (place_at offer.group.0 offer.place) (amount_in amounts.old offer.group.0 offer.place - units) }
+{
+    let nodes = nodes_above(instance, offer);
+    amounts[place_at(offer.group, offer.place)] -= units as u32;
+    clean_all(queues, nodes.as_slice(), amounts);
+}
+
+/// The lines of a table.
+pub fn lines_of(alloc: Global, amounts: &[u32]) -> Result<Vec<MapLine>, NoMemory>
+    requires { length amounts.now ≤ 2 ^ 20 }
+    ensures { IfOk result (λ v. v.items ≡ lines_in amounts.now) }
+{
+    let mut lines = Vec::new(alloc);
+    for (i, amount) in amounts.iter().enumerate() {
+        if *amount > 0 {
+            lines.push(MapLine {
+                group: GroupId((i / 16) as u32),
+                place: (i % 16) as u8,
+                amount: *amount,
+            })?;
+        }
+    }
+    Ok(lines)
+}
