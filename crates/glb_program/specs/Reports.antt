@@ -1,8 +1,8 @@
 -- How a command ended, as an outcome.
 use Rattle.std.specs.Prelude.{◌≡◌, ℕ, ◌<◌, ◌≤◌, List, [], ◌∷◌, length, Option, Some, IsSomeAnd}
+use Rattle.map_model.specs.Market.{Market}
 use Rattle.map_model.specs.Allocation.{IsOffer}
 use Rattle.map_model.specs.declared.lines.MapLines.{MapLines}
-use Rattle.topology_text.specs.Plan.{Plan}
 use Rattle.map_text.specs.Reading.{Mapped}
 use Rattle.stable_check.specs.declared.verdict.Verdict.{Verdict}
 use Rattle.stable_check.specs.declared.verdict.Verdict.TheVariants.{Blocking, OverCapacity, OverDemand}
@@ -35,12 +35,12 @@ IsTooLong held limit text due = IsSomeAnd held (λ bytes. limit < length bytes) 
 abbrev pub AreBytes : Option (List ℕ) → ℕ → List ℕ → Type 0
 AreBytes held limit bytes = (held ≡ Some bytes) × (length bytes ≤ limit)
 
--- what a verdict names is there, and has a name
-abbrev pub IsNameable : Plan → Verdict → Type 0
-IsNameable t (OverDemand g units) = g.0 < length t.market.groups
-IsNameable t (OverCapacity n units) = n.0 < length t.market.nodes
-IsNameable t (Blocking g k) = (g.0 < length t.market.groups) × IsOffer t.market g.0 k
-IsNameable t _ = Unit {0}
+-- what a verdict names is there
+abbrev pub IsNameable : Market → Verdict → Type 0
+IsNameable m (OverDemand g units) = g.0 < length m.groups
+IsNameable m (OverCapacity n units) = n.0 < length m.nodes
+IsNameable m (Blocking g k) = IsOffer m g.0 k
+IsNameable m _ = Unit {0}
 
 -- a map, as its text says it
 abbrev pub mapped : MapLines → Mapped

@@ -26,10 +26,10 @@ fn status_of(verdict: Verdict) -> Status
     }
 }
 
-/// The verdict on a map. What it names has a name.
+/// The verdict on a map. What it names is there.
 fn judge(alloc: Global, topology: &Topology, map: &MapLines) -> Result<Verdict, NoMemory>
     ensures judged { IfOk result (Judges topology.now.market map.now.lines.items map.now.names.items) }
-    ensures nameable { IfOk result (IsNameable topology.now) }
+    ensures nameable { IfOk result (IsNameable topology.now.market) }
 {
     let mut room = CheckRoom::new(alloc, topology.instance())?;
     Ok(check(topology.instance(), map, &mut room))

@@ -70,7 +70,7 @@ pub fn verdict_text(
     topology: &Topology,
     verdict: Verdict,
 ) -> Result<Vec<u8>, NoMemory>
-    requires { IsNameable topology.now verdict }
+    requires { IsNameable topology.now.market verdict }
     ensures { IfOk result (λ t. t.items ≡ text.verdict topology.now verdict) }
 {
     let words = match verdict {
