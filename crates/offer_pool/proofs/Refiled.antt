@@ -1,15 +1,12 @@
 -- A table and its queues stay as they should be, as units come and go.
-use Rattle.std.proofs.Common.{◌≡◌, ◌≢◌, ℕ, ◌+◌, ◌*◌, ◌/◌, ◌%◌, ◌<◌, ◌≤◌, ◌==◌, ◌^◌, Bool, true, false, ◌||◌, List, [], ◌∷◌, length, map, Contains, All, slice_index, slice_index_or, slice_set, get_or-set_same, get_or-set_other, length-set, Option, None, Some, IfSome, slice_get, refl, sym, ap, ◌∙◌, subst, arith, ◌⊎◌, inl, inr}
+use Rattle.std.proofs.Common.{◌≡◌, ◌≢◌, ℕ, ◌/◌, ◌%◌, ◌<◌, ◌==◌, Bool, true, false, ◌||◌, List, [], ◌∷◌, length, map, Contains, slice_index, slice_set, get_or-set_same, get_or-set_other, length-set, Option, None, Some, IfSome, slice_get, refl, sym, ap, ◌∙◌, subst, arith, ◌⊎◌, inl, inr}
 use Rattle.std.specs.List.{list_any}
 use Rattle.std.specs.Prelude.{Result, Ok, Err, OnOk, is_ok}
 use Rattle.std.proofs.lemmas.Bool.{cases_eq}
-use Rattle.std.proofs.lemmas.List.Elements.{All-contains}
 use Rattle.map_model.specs.declared.instance.NodeId.{NodeId}
-use Rattle.map_model.specs.declared.instance.Choice.{Choice}
-use Rattle.map_model.specs.Market.{IsGroup, IsMarket, Market, choices_of, group_at, path, pool_of}
+use Rattle.map_model.specs.Market.{IsGroup, IsMarket, Market, group_at, path, pool_of}
 use Rattle.map_model.specs.Allocation.{IsOffer, counts_at, is_under}
 use Rattle.map_model.proofs.MapForm.{few_places}
-use Rattle.map_model.proofs.Trees.{under_there}
 use Rattle.offer_pool.specs.declared.queue.Seat.{Seat}
 use Rattle.offer_pool.specs.Seats.{IsSeatUnder, seat_at}
 use Rattle.offer_pool.specs.Table.{amount_in, place_at}
@@ -95,9 +92,11 @@ pushed_seats m a q0 q1 g k nodes old offer among from others n s h = by (bool_ca
   where
     its_own : is_among n nodes ≡ true → s ≡ seat_at m g k → IsSeatUnder m n s
     its_own above e = subst (IsSeatUnder m n) (sym e) (record { offer = offer; seat = refl; under = sym (among n) ∙ above })
+
     came : is_among n nodes ≡ true → Contains (queue_at q0 n) s ⊎ (s ≡ seat_at m g k) → IsSeatUnder m n s
     came above (inl before) = old.seats n s before
     came above (inr e) = its_own above e
+
     by : (is_among n nodes ≡ true) ⊎ (is_among n nodes ≡ false) → IsSeatUnder m n s
     by (inl above) = came above (from n s h)
     by (inr not) = old.seats n s (subst (λ (q : List Seat). Contains q s) (others n not) h)
@@ -113,20 +112,24 @@ refiled m a b q0 q1 q2 g k nodes old r = record {
     came : (n : ℕ) → counts_at m n g k ≡ true → (0 < amount_in a g k) ⊎ ((o : ℕ) → is_among o nodes ≡ true → Contains (queue_at q1 o) (seat_at m g k)) → Contains (queue_at q1 n) (seat_at m g k)
     came n under (inl held) = r.kept1 n (seat_at m g k) (old.filed g k n r.offer held under)
     came n under (inr all) = all n (r.among n ∙ under)
+
     there : (h j n : ℕ) → IsOffer m h j → 0 < amount_in b h j → counts_at m n h j ≡ true → ((h ≡ g) × (k ≡ j)) ⊎ ((h ≡ g) × (k ≡ j) → ⊥) → Contains (queue_at q1 n) (seat_at m h j)
     there h j n offer some under (inl (e, f)) =
         let some_here : 0 < amount_in b g k = subst (λ (x : ℕ). 0 < amount_in b g x) (sym f) (subst (λ (x : ℕ). 0 < amount_in b x j) e some) in
         let under_here : counts_at m n g k ≡ true = ap (λ (x : ℕ). counts_at m n g x) f ∙ ap (λ (x : ℕ). counts_at m n x j) (sym e) ∙ under in
         subst (λ (x : ℕ). Contains (queue_at q1 n) (seat_at m x j)) (sym e) (subst (λ (x : ℕ). Contains (queue_at q1 n) (seat_at m g x)) f (came n under_here (r.filed some_here)))
     there h j n offer some under (inr ne) = r.kept1 n (seat_at m h j) (old.filed h j n offer (omega (arith, r.stays h j offer ne)) under)
+
     still : (n : ℕ) (s : Seat) → is_among n nodes ≡ false → IsSeatUnder m n s → 0 < amount_in a s.group.0 s.place → ((s.group.0 ≡ g) × (k ≡ s.place)) ⊎ ((s.group.0 ≡ g) × (k ≡ s.place) → ⊥) → 0 < amount_in b s.group.0 s.place
     still n s not seat some (inr ne) = omega (arith, r.stays s.group.0 s.place seat.offer ne)
     still n s not seat some (inl (e, f)) =
         let under : counts_at m n g k ≡ true = ap (λ (x : ℕ). counts_at m n g x) f ∙ ap (λ (x : ℕ). counts_at m n x s.place) (sym e) ∙ seat.under in
         let clash : true ≡ false = sym under ∙ sym (r.among n) ∙ not in cc
+
     first : (n : ℕ) → is_among n nodes ≡ false → (o : Option Seat) → slice_get (queue_at q0 n) 0 ≡ o → IfSome o (λ s. 0 < amount_in a s.group.0 s.place) → IfSome o (λ s. 0 < amount_in b s.group.0 s.place)
     first n not None e some = tt
     first n not (Some s) e some = still n s not (old.seats n s (Contains-first (queue_at q0 n) s e)) some (which g k s.group.0 s.place)
+
     alive : (n : ℕ) → (is_among n nodes ≡ true) ⊎ (is_among n nodes ≡ false) → IsLive b (queue_at q2 n)
     alive n (inl above) = r.live2 n above
     alive n (inr not) = subst (λ (q : List Seat). IsLive b q) (sym (r.others2 n not ∙ r.others1 n not)) (first n not (slice_get (queue_at q0 n) 0) refl (old.live n))

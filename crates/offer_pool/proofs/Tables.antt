@@ -1,10 +1,10 @@
 -- The lines of a table, and what they sum up to.
-use Rattle.std.proofs.Common.{◌≡◌, ◌≢◌, ℕ, zero, suc, ◌+◌, ◌-◌, ◌*◌, ◌/◌, ◌%◌, ◌<◌, ◌≤◌, ◌==◌, Bool, true, false, ◌&&◌, ◌||◌, if◌then◌else◌, cond, nat_lt, List, [], ◌∷◌, ◌++◌, length, take, replicate, slice_index, slice_set, get_or-set_other, IsTrue, refl, sym, ap, ◌∙◌, subst, arith, ◌⊎◌, inl, inr}
+use Rattle.std.proofs.Common.{◌≡◌, ◌≢◌, ℕ, zero, suc, ◌+◌, ◌-◌, ◌/◌, ◌%◌, ◌<◌, ◌≤◌, ◌==◌, Bool, true, false, ◌&&◌, ◌||◌, if◌then◌else◌, cond, nat_lt, List, [], ◌∷◌, ◌++◌, length, take, replicate, slice_index, slice_set, get_or-set_other, IsTrue, refl, sym, ap, ◌∙◌, subst, arith, ◌⊎◌, inl, inr}
 use Rattle.std.proofs.lemmas.Bool.{and_parts, cases_eq, eq-eqb, eqb-true, false≢true, lt-ltb, ltb-true, ne_eqb, or_cases}
 use Rattle.std.proofs.lemmas.List.{length-take-le, take_more}
 use Rattle.std.proofs.lemmas.List.Sums.{sum_by-cons}
 use Rattle.map_model.specs.declared.lines.MapLine.{MapLine}
-use Rattle.map_model.specs.Market.{IsMarket, Market, choices_of}
+use Rattle.map_model.specs.Market.{IsMarket, Market}
 use Rattle.map_model.specs.Allocation.{AreLines, IsOffer, amount_at, is_before, is_line, line_at, units_of}
 use Rattle.map_model.proofs.MapForm.{IsLineAt-from, few_places}
 use Rattle.offer_pool.specs.Table.{amount_in, line_of, lines_from, lines_in, place_at}
@@ -196,6 +196,7 @@ lines-rise m (x ∷ xs) base offers = go (x == 0) refl (lines-rise m xs (base + 
   where
     here : 0 < x → IsOffer m (base / 16) (base % 16)
     here some = let e : base + 0 ≡ base = omega arith in subst (λ n. IsOffer m (n / 16) (n % 16)) e (offers 0 some)
+
     go : (b : Bool) → (x == 0) ≡ b → Rises m (base + 1) (lines_from (base + 1) xs) → Rises m base (cond b (lines_from (base + 1) xs) (line_of base x ∷ lines_from (base + 1) xs))
     go true t later = Rises-lower m base (base + 1) (lines_from (base + 1) xs) (omega arith) later
     go false t later =

@@ -1,7 +1,7 @@
 -- What contracts see of a table and its queues.
-use Rattle.std.proofs.Common.{◌≡◌, ℕ, ◌+◌, ◌-◌, ◌<◌, ◌≤◌, List, [], ◌∷◌, ◌++◌, length, take, drop, slice_set, sym, ap, ◌∙◌, subst, arith, if◌then◌else◌, refl, suc, zero, Some, None, All, true, slice_get}
+use Rattle.std.proofs.Common.{◌≡◌, ℕ, ◌+◌, ◌-◌, ◌<◌, ◌≤◌, List, [], ◌∷◌, ◌++◌, length, take, drop, slice_set, sym, ap, ◌∙◌, subst, arith, if◌then◌else◌, refl, Some, None, All, true, slice_get}
 use Rattle.std.specs.Prelude.{Result, Ok, Err, OnOk}
-use Rattle.map_model.specs.Market.{IsMarket, Market}
+use Rattle.map_model.specs.Market.{Market}
 use Rattle.map_model.specs.Allocation.{AreLines, IsOffer, amount_at, load, units_of}
 use Rattle.map_model.specs.Holding.{IsWorst, Puts, Takes}
 use Rattle.map_model.proofs.MapForm.{few_places}

@@ -1,17 +1,17 @@
 -- The worst seat of a queue is the worst offer that is held.
-use Rattle.std.proofs.Common.{◌≡◌, ℕ, ◌+◌, ◌*◌, ◌/◌, ◌%◌, ◌<◌, Bool, true, false, ◌&&◌, not, List, [], ◌∷◌, length, Contains, All, slice_index, Option, None, Some, IfSome, slice_get, refl, sym, ap, ◌∙◌, subst, arith, ◌⊎◌, inl, inr}
+use Rattle.std.proofs.Common.{◌≡◌, ℕ, ◌/◌, ◌%◌, ◌<◌, Bool, true, false, ◌&&◌, not, List, [], ◌∷◌, Contains, All, slice_index, Option, None, Some, IfSome, slice_get, refl, sym, ap, ◌∙◌, subst, arith, ◌⊎◌, inl, inr}
 use Rattle.std.specs.declared.cmp.Ordering.{Ordering}
 use Rattle.std.specs.declared.cmp.Ordering.TheVariants.{Less, Equal, Greater}
 use Rattle.std.specs.Ordering.{nat_cmp, ordering_then, is_le}
 use Rattle.std.proofs.lemmas.List.Elements.{All-contains}
-use Rattle.map_model.specs.Market.{IsMarket, Market, key_of}
+use Rattle.map_model.specs.Market.{Market, key_of}
 use Rattle.map_model.specs.Allocation.{IsOffer, amount_at, counts_at, key_le, load}
 use Rattle.map_model.specs.Holding.{IsWorst, under_worse}
 use Rattle.map_model.proofs.MapForm.{few_places}
 use Rattle.offer_pool.specs.declared.queue.Seat.{Seat}
 use Rattle.offer_pool.specs.Seats.{IsSeatUnder, seat_at, seat_le}
 use Rattle.offer_pool.specs.Table.{amount_in, lines_in, place_at}
-use Rattle.offer_pool.specs.Filed.{AreAmounts, IsHeld, IsLive, queue_at}
+use Rattle.offer_pool.specs.Filed.{IsHeld, queue_at}
 use Rattle.offer_pool.proofs.Queues.{Contains-first}
 use Rattle.offer_pool.proofs.Refiled.{place_there}
 use Rattle.offer_pool.proofs.Tables.{amount_is, units_none}
@@ -52,6 +52,7 @@ worst_none m amounts queues held n none = units_none (counts_at m n) amounts (λ
     empty : (q : List Seat) (s : Seat) → slice_get q 0 ≡ None → Contains q s → ⊥
     empty [] s e (k, l, f) = omega arith
     empty (t ∷ q) s e h = cc
+
     out : (i : ℕ) → 0 < slice_index amounts i → (counts_at m n (i / 16) (i % 16) ≡ true) ⊎ (counts_at m n (i / 16) (i % 16) ≡ false) → counts_at m n (i / 16) (i % 16) ≡ false
     out i some (inl under) = absurd (empty (queue_at queues n) (seat_at m (i / 16) (i % 16)) none (filed_at m amounts queues held n i some under))
     out i some (inr outside) = outside
@@ -69,9 +70,11 @@ worst_some m amounts queues held n s first all = record {
   where
     seat : IsSeatUnder m n s
     seat = held.filing.seats n s (Contains-first (queue_at queues n) s first)
+
     live : (o : Option Seat) → o ≡ Some s → IfSome o (λ t. 0 < amount_in amounts t.group.0 t.place) → 0 < amount_in amounts s.group.0 s.place
     live None e h = cc
     live (Some t) e h = let same : t ≡ s = cc in subst (λ (x : Seat). 0 < amount_in amounts x.group.0 x.place) same h
+
     better : (i : ℕ) → 0 < slice_index amounts i → (counts_at m n (i / 16) (i % 16) ≡ true) ⊎ (counts_at m n (i / 16) (i % 16) ≡ false) → under_worse m n (key_of m s.group.0 s.place) (i / 16) (i % 16) ≡ false
     better i some (inr outside) = ap (λ b. b && not (key_le (key_of m (i / 16) (i % 16)) (key_of m s.group.0 s.place))) outside
     better i some (inl under) =

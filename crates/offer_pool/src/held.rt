@@ -40,7 +40,12 @@ impl Held {
     {
         let mut amounts = vec![in alloc; 0u32; instance.groups() as usize * 16]?;
         let mut queues = empty_queues(alloc, instance.nodes())?;
-        put_lines(instance, amounts.as_mut_slice(), queues.as_mut_slice(), map.lines.as_slice())?;
+        put_lines(
+            instance,
+            amounts.as_mut_slice(),
+            queues.as_mut_slice(),
+            map.lines.as_slice(),
+        )?;
         Ok(Held {
             instance: instance.try_clone()?,
             amounts,
@@ -57,7 +62,13 @@ impl Held {
         ensures form { AreLines self.new.market self.new.lines }
         ensures err { OnErr result (self.new ≡ self.old) }
     {
-        put_units(&self.instance, self.amounts.as_mut_slice(), self.queues.as_mut_slice(), offer, units as u32)
+        put_units(
+            &self.instance,
+            self.amounts.as_mut_slice(),
+            self.queues.as_mut_slice(),
+            offer,
+            units as u32,
+        )
     }
 
     /// Takes units that an offer holds. It takes no memory.
@@ -68,7 +79,13 @@ impl Held {
         ensures takes { Takes self.old.lines self.new.lines offer.group.0 offer.place units }
         ensures form { AreLines self.new.market self.new.lines }
     {
-        take_units(&self.instance, self.amounts.as_mut_slice(), self.queues.as_mut_slice(), offer, units);
+        take_units(
+            &self.instance,
+            self.amounts.as_mut_slice(),
+            self.queues.as_mut_slice(),
+            offer,
+            units,
+        );
     }
 
     /// The units that an offer holds.

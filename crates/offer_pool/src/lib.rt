@@ -5,6 +5,8 @@ mod filing;
 mod held;
 mod queue;
 mod table;
+#[cfg(test)]
+mod tests;
 mod walk;
 
 pub use held::Held;

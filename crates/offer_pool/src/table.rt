@@ -40,7 +40,13 @@ fn nodes_above(instance: &Instance, offer: Offer) -> ArrayVec<NodeId, 8>
 }
 
 /// Files an offer that holds nothing, and gives it units. Where memory is wanted, a seat that was filed in vain is cleaned away where it is the worst, and else does no harm.
-fn seat_units(instance: &Instance, amounts: &mut [u32], queues: &mut [Queue], offer: Offer, units: u32) -> Result<(), NoMemory>
+fn seat_units(
+    instance: &Instance,
+    amounts: &mut [u32],
+    queues: &mut [Queue],
+    offer: Offer,
+    units: u32,
+) -> Result<(), NoMemory>
     requires held { IsHeld instance.now amounts.old queues.old }
     requires offer { IsOffer instance.now offer.group.0 offer.place }
     requires none { amount_in amounts.old offer.group.0 offer.place ≡ 0 }
@@ -59,7 +65,13 @@ fn seat_units(instance: &Instance, amounts: &mut [u32], queues: &mut [Queue], of
 }
 
 /// Adds units to an offer. Where memory is wanted the amounts stay.
-pub fn put_units(instance: &Instance, amounts: &mut [u32], queues: &mut [Queue], offer: Offer, units: u32) -> Result<(), NoMemory>
+pub fn put_units(
+    instance: &Instance,
+    amounts: &mut [u32],
+    queues: &mut [Queue],
+    offer: Offer,
+    units: u32,
+) -> Result<(), NoMemory>
     requires held { IsHeld instance.now amounts.old queues.old }
     requires offer { IsOffer instance.now offer.group.0 offer.place }
     requires room { amount_in amounts.old offer.group.0 offer.place + units < 2 ^ 32 }
@@ -76,7 +88,12 @@ pub fn put_units(instance: &Instance, amounts: &mut [u32], queues: &mut [Queue],
 }
 
 /// Puts the lines of a map into an empty table.
-pub fn put_lines(instance: &Instance, amounts: &mut [u32], queues: &mut [Queue], lines: &[MapLine]) -> Result<(), NoMemory>
+pub fn put_lines(
+    instance: &Instance,
+    amounts: &mut [u32],
+    queues: &mut [Queue],
+    lines: &[MapLine],
+) -> Result<(), NoMemory>
     requires held { IsHeld instance.now amounts.old queues.old }
     requires empty { (i : ℕ) → slice_index amounts.old i ≡ 0 }
     requires form { AreLines instance.now lines.now }
@@ -95,16 +112,22 @@ pub fn put_lines(instance: &Instance, amounts: &mut [u32], queues: &mut [Queue],
 }
 
 /// Takes units of an offer.
-pub fn take_units(instance: &Instance, amounts: &mut [u32], queues: &mut [Queue], offer: Offer, units: Units)
+pub fn take_units(
+    instance: &Instance,
+    amounts: &mut [u32],
+    queues: &mut [Queue],
+    offer: Offer,
+    units: Units,
+)
     requires held { IsHeld instance.now amounts.old queues.old }
     requires offer { IsOffer instance.now offer.group.0 offer.place }
     requires enough { units ≤ amount_in amounts.old offer.group.0 offer.place }
     ensures held { IsHeld instance.now amounts.new queues.new }
     ensures taken { amounts.new ≡ slice_set amounts.old (place_at offer.group.0 offer.place) (amount_in amounts.old offer.group.0 offer.place - units) }
 {
-    let nodes = nodes_above(instance, offer);
+    let above = nodes_above(instance, offer);
     amounts[place_at(offer.group, offer.place)] -= units as u32;
-    clean_all(queues, nodes.as_slice(), amounts);
+    clean_all(queues, above.as_slice(), amounts);
 }
 
 /// The lines of a table.

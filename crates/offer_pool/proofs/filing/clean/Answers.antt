@@ -1,8 +1,8 @@
-use Rattle.std.proofs.Common.{◌≡◌, ◌<◌, ◌∷◌, length, slice_index, sym, ap, ◌∙◌, subst, arith}
+use Rattle.std.proofs.Common.{◌≡◌, ◌∷◌, slice_index, sym, ap, ◌∙◌, arith}
 use Rattle.std.specs.List.Sorted.{IsPermutation}
 use Rattle.std.proofs.lemmas.Option.{MatchOption-at_some}
 use Rattle.offer_pool.specs.declared.queue.Seat.{Seat}
-use Rattle.offer_pool.specs.Table.{amount_in, place_at}
+use Rattle.offer_pool.specs.Table.{amount_in}
 use Rattle.offer_pool.proofs.Queues.{Contains-first, Contains-left, Contains-without}
 use Rattle.offer_pool.proofs.filing.clean.Goals as goal
 

@@ -1,7 +1,7 @@
-use Rattle.std.proofs.Common.{◌≡◌, ◌+◌, ◌<◌, length, ℕ, List, Contains, sym, ◌∙◌, subst, arith, inl, inr}
+use Rattle.std.proofs.Common.{List, ◌∙◌, arith}
 use Rattle.map_model.specs.declared.instance.NodeId.{NodeId}
 use Rattle.offer_pool.specs.declared.queue.Seat.{Seat}
-use Rattle.offer_pool.specs.Filed.{IsLive, queue_at}
+use Rattle.offer_pool.specs.Filed.{IsLive}
 use Rattle.offer_pool.proofs.Queues.{among_itself, live_step, not_among}
 use Rattle.offer_pool.proofs.filing.clean_all.Goals as goal
 

@@ -1,4 +1,4 @@
-use Rattle.std.proofs.Common.{◌≡◌, ◌==◌, ℕ, ◌<◌, true, false, Contains, length, take}
+use Rattle.std.proofs.Common.{◌≡◌, ◌==◌, ℕ, ◌<◌, true, false, Contains, take}
 use Rattle.std.specs.List.{list_any}
 use Rattle.offer_pool.specs.declared.queue.Seat.{Seat}
 use Rattle.offer_pool.specs.Table.{amount_in}

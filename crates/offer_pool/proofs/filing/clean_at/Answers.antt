@@ -1,7 +1,6 @@
-use Rattle.std.proofs.Common.{◌≡◌, ◌<◌, ℕ, List, Contains, sym, ◌∙◌, subst}
+use Rattle.std.proofs.Common.{List, Contains, sym, subst}
 use Rattle.offer_pool.specs.declared.queue.Seat.{Seat}
-use Rattle.offer_pool.specs.Table.{amount_in, place_at}
-use Rattle.offer_pool.specs.Filed.{IsLive, queue_at}
+use Rattle.offer_pool.specs.Filed.{IsLive}
 use Rattle.offer_pool.proofs.Queues.{everywhere, queue-same, queue-set, queue-set_other}
 use Rattle.offer_pool.proofs.filing.clean_at.Goals as goal
 

@@ -1,4 +1,4 @@
-use Rattle.std.proofs.Common.{◌≡◌, ◌⊎◌, inl, inr, ◌+◌, ◌<◌, length, ℕ, List, Contains, sym, ◌∙◌, arith}
+use Rattle.std.proofs.Common.{◌≡◌, List, Contains, ◌∙◌, arith}
 use Rattle.map_model.specs.declared.instance.NodeId.{NodeId}
 use Rattle.offer_pool.specs.declared.queue.Seat.{Seat}
 use Rattle.offer_pool.proofs.Queues.{among_itself, came_from, live_step, not_among, not_among_all}

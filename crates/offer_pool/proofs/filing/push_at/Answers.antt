@@ -1,5 +1,4 @@
-use Rattle.std.proofs.Common.{◌≡◌, ◌∷◌, ◌⊎◌, inl, ℕ, List, Contains, sym, ◌∙◌, subst}
-use Rattle.std.specs.List.Sorted.{IsPermutation}
+use Rattle.std.proofs.Common.{◌≡◌, ◌⊎◌, inl, List, Contains, sym, subst}
 use Rattle.offer_pool.specs.declared.queue.Seat.{Seat}
 use Rattle.offer_pool.proofs.Queues.{Contains-came, came_cases, came_itself, everywhere, queue-same, queue-set, queue-set_other}
 use Rattle.offer_pool.proofs.filing.push_at.Goals as goal

@@ -1,7 +1,7 @@
-use Rattle.std.proofs.Common.{◌≡◌, ◌++◌, ◌∷◌, List, [], take, slice_index, sym, ap, ◌∙◌, arith, append-nil}
+use Rattle.std.proofs.Common.{◌++◌, ◌∷◌, List, [], take, slice_index, sym, ap, ◌∙◌, arith, append-nil}
 use Rattle.std.proofs.lemmas.List.{take_all}
 use Rattle.map_model.specs.declared.lines.MapLine.{MapLine}
-use Rattle.offer_pool.specs.Table.{line_of, lines_from, lines_in}
+use Rattle.offer_pool.specs.Table.{line_of, lines_in}
 use Rattle.offer_pool.proofs.Tables.{line_none, line_some, lines_empty, lines_more}
 use Rattle.offer_pool.proofs.table.lines_of.Goals as goal
 use Rattle.offer_pool.proofs.table.lines_of.Goals.{then-amount-gt0+in_ok-push, else-amount-gt0}

@@ -1,7 +1,6 @@
-use Rattle.std.proofs.Common.{◌≡◌, ◌<◌, ℕ, length, sym, ap, ◌∙◌, arith}
+use Rattle.std.proofs.Common.{sym, ap, ◌∙◌, arith}
 use Rattle.map_model.specs.declared.instance.NodeId.{NodeId}
 use Rattle.map_model.specs.Market.{path, pool_of}
-use Rattle.map_model.specs.Allocation.{is_under}
 use Rattle.map_model.proofs.Trees.{under_there}
 use Rattle.offer_pool.proofs.Refiled.{among-path, pool_there}
 use Rattle.offer_pool.proofs.table.nodes_above.Goals as goal
@@ -17,4 +16,4 @@ returns-clause-there c = λ n h.
     let m = c.args.instance.now in
     let pool = pool_of m c.args.offer.group.0 c.args.offer.place in
     under_there m c.requires.market n pool (pool_there m c.requires.market c.args.offer.group.0 c.args.offer.place c.requires.offer)
-      (sym (among-path c.path.result.items m pool (c.path.ensures ∙ ap (λ (p : NodeId). path m p.0) c.pool_at.ensures) n) ∙ h)
+    (sym (among-path c.path.result.items m pool (c.path.ensures ∙ ap (λ (p : NodeId). path m p.0) c.pool_at.ensures) n) ∙ h)

@@ -1,4 +1,4 @@
-use Rattle.std.proofs.Common.{◌≡◌, ◌+◌, ◌-◌, ◌<◌, ◌≤◌, ℕ, List, length, slice_index, slice_set, ap, sym, ◌∙◌, arith}
+use Rattle.std.proofs.Common.{◌≡◌, ◌+◌, ◌<◌, length, slice_index, slice_set, arith}
 use Rattle.map_model.specs.Market.{Market}
 use Rattle.map_model.specs.Allocation.{line_at}
 use Rattle.map_model.proofs.MapForm.{IsLineAt-from}
@@ -18,7 +18,7 @@ put_units-requires-clause-room c =
     let i = c.loop-line.line-index in
     let l = line_at c.args.lines.now i in
     let none : slice_index c.loop-line.amounts (place_at l.group.0 l.place) ≡ 0 =
-      line_room c.args.instance.now c.args.lines.now c.loop-line.amounts i c.requires.held.market c.requires.form c.loop-line-test.true c.loop-line.invariant.clear (place_at l.group.0 l.place) (omega arith) in omega arith
+    line_room c.args.instance.now c.args.lines.now c.loop-line.amounts i c.requires.held.market c.requires.form c.loop-line-test.true c.loop-line.invariant.clear (place_at l.group.0 l.place) (omega arith) in omega arith
 
 pub loop-line-preserved : goal.loop-line-preserved
 loop-line-preserved c =

@@ -1,4 +1,4 @@
-use Rattle.std.proofs.Common.{◌≡◌, ◌-◌, ◌<◌, ◌≤◌, ℕ, take, slice_index}
+use Rattle.std.proofs.Common.{◌≡◌, ◌-◌, ◌<◌, ℕ, take, slice_index}
 use Rattle.map_model.specs.Allocation.{line_at}
 use Rattle.offer_pool.specs.Table.{lines_in, place_at}
 use Rattle.offer_pool.specs.Filed.{IsHeld}

@@ -1,12 +1,11 @@
-use Rattle.std.proofs.Common.{◌≡◌, ◌<◌, ◌⊎◌, ℕ, List, true, false, length, length-set, slice_index, slice_set, Contains, inl, inr, sym, ap, ◌∙◌, subst, arith, refl}
+use Rattle.std.proofs.Common.{◌≡◌, ◌⊎◌, ℕ, List, true, false, slice_set, Contains, inl, inr, sym, ap, ◌∙◌, subst, arith}
 use Rattle.map_model.specs.declared.instance.NodeId.{NodeId}
 use Rattle.map_model.specs.Market.{Market}
 use Rattle.offer_pool.specs.declared.queue.Seat.{Seat}
-use Rattle.offer_pool.specs.Seats.{IsSeatUnder, seat_at}
-use Rattle.offer_pool.specs.Table.{amount_in, place_at}
-use Rattle.offer_pool.specs.Filed.{AreAmounts, IsHeld, queue_at}
+use Rattle.offer_pool.specs.Table.{amount_in}
+use Rattle.offer_pool.specs.Filed.{AreAmounts, queue_at}
 use Rattle.offer_pool.proofs.Queues.{is_among}
-use Rattle.offer_pool.proofs.Refiled.{held_again, on_ok, others-set, place_there, pushed_seats, seat_place, table-set}
+use Rattle.offer_pool.proofs.Refiled.{held_again, on_ok, others-set, pushed_seats, seat_place, table-set}
 use Rattle.offer_pool.proofs.table.seat_units.Goals as goal
 use Rattle.offer_pool.proofs.table.seat_units.Goals.{then-is_ok, else-is_ok}
 
@@ -16,8 +15,8 @@ clean_all-requires-clause-seats c = λ n s h.
     let same = c.as_slice.ensures.value in
     let nodes = c.nodes_above-nodes.result.items in
     let seat = pushed_seats m c.args.amounts.now c.args.queues.now c.push_all-filed.new.queues c.args.offer.group.0 c.args.offer.place nodes c.requires.held.filing c.requires.offer c.nodes_above-nodes.ensures.among
-        (λ n s h. subst (λ (t : Seat). Contains (queue_at c.args.queues.now n) s ⊎ (s ≡ t)) c.seat_of.ensures (c.push_all-filed.ensures.from n s h))
-        (λ n h. c.push_all-filed.ensures.others n (subst (λ (ns : List NodeId). is_among n ns ≡ false) (sym same) h)) n s h in
+    (λ n s h. subst (λ (t : Seat). Contains (queue_at c.args.queues.now n) s ⊎ (s ≡ t)) c.seat_of.ensures (c.push_all-filed.ensures.from n s h))
+    (λ n h. c.push_all-filed.ensures.others n (subst (λ (ns : List NodeId). is_among n ns ≡ false) (sym same) h)) n s h in
     let there = seat_place m c.args.amounts.now n s c.requires.held.market c.requires.held.table seat in
     omega (arith, there, c.if-is_ok.auto.amounts)
 

@@ -1,9 +1,7 @@
-use Rattle.std.proofs.Common.{◌≡◌, ◌-◌, ◌<◌, ◌⊎◌, ℕ, List, true, false, length, length-set, slice_index, slice_set, inl, sym, ap, ◌∙◌, subst, arith, refl}
+use Rattle.std.proofs.Common.{◌≡◌, ◌-◌, ℕ, List, true, false, length-set, slice_index, slice_set, inl, sym, ap, ◌∙◌, subst, arith, refl}
 use Rattle.map_model.specs.declared.instance.NodeId.{NodeId}
 use Rattle.map_model.specs.Market.{Market}
-use Rattle.offer_pool.specs.declared.queue.Seat.{Seat}
 use Rattle.offer_pool.specs.Table.{amount_in, place_at}
-use Rattle.offer_pool.specs.Filed.{queue_at}
 use Rattle.offer_pool.proofs.Queues.{is_among}
 use Rattle.offer_pool.proofs.Refiled.{amount-set, held_again, others-set, place_there, seat_place, table-set}
 use Rattle.offer_pool.proofs.table.take_units.Goals as goal
@@ -22,12 +20,12 @@ returns-clause-held c =
     let v = slice_index a c.place_at.result - c.args.units in
     let b = slice_set a c.place_at.result v in
     let is : b ≡ slice_set a (place_at g k) v = ap (λ (p : ℕ). slice_set a p v) c.place_at.ensures in
-    let nodes = c.nodes_above-nodes.result.items in
+    let nodes = c.nodes_above-above.result.items in
     let same = c.as_slice.ensures.value in
     let was : slice_index a c.place_at.result ≡ amount_in a g k = ap (λ (p : ℕ). slice_index a p) c.place_at.ensures in
     held_again m a b c.args.queues.now c.args.queues.now c.clean_all.new.queues g k nodes c.requires.held (table-set m a b c.requires.held.market c.requires.held.table g k v c.requires.offer is) (record {
       offer = c.requires.offer;
-      among = c.nodes_above-nodes.ensures.among;
+      among = c.nodes_above-above.ensures.among;
       count = c.clean_all.auto.queues;
       stays = others-set m c.requires.held.market a b g k v c.requires.offer is;
       filed = λ some. inl (let now : amount_in b g k ≡ v = ap (λ (l : List ℕ). amount_in l g k) is ∙ amount-set a g k v (place_there m a c.requires.held.market c.requires.held.table g k c.requires.offer) in omega (arith, now, was, some));

@@ -1,4 +1,4 @@
-use Rattle.std.proofs.Common.{◌≡◌, ◌+◌, ◌<◌, length, sym, ◌∙◌, subst, arith, rules}
+use Rattle.std.proofs.Common.{◌+◌, ◌<◌, length, sym, ◌∙◌, subst, arith, rules}
 use Rattle.std.specs.Option.{IfSome}
 use Rattle.map_model.specs.Market.{Market}
 use Rattle.map_model.proofs.Paths.{walk_there}

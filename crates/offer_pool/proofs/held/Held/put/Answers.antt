@@ -1,4 +1,4 @@
-use Rattle.std.proofs.Common.{◌≡◌, ◌+◌, ◌<◌, ℕ, List, length, slice_set, ap, sym, ◌∙◌, arith}
+use Rattle.std.proofs.Common.{◌≡◌, ◌+◌, ℕ, List, slice_set, ap, sym, ◌∙◌, arith}
 use Rattle.offer_pool.specs.Table.{amount_in, place_at}
 use Rattle.offer_pool.proofs.Views.{form_again, on_ok_map, vec_back, view_amount, view_puts}
 use Rattle.offer_pool.proofs.held.Held.put.Goals as goal
@@ -17,12 +17,12 @@ returns-clause-puts c =
     let k = c.args.offer.place in
     let a = c.self.inside.amounts.items in
     on_ok_map c.put_units.result _ _
-      (λ set. view_puts c.self.inside.instance a c.put_units.new.amounts _ c.self.inside.queues.items c.args.self.now g k c.args.units c.self.invariant c.self.view_is c.requires.offer
-        (vec_back c.self.inside.amounts.len c.put_units.new.amounts a (sym (c.put_units.auto.amounts ∙ c.as_mut_slice.ensures.len)))
-        (set ∙ ap (λ (l : List ℕ). slice_set l (place_at g k) (amount_in l g k + c.args.units)) c.as_mut_slice.ensures.value))
-      c.put_units.ensures.ok
+    (λ set. view_puts c.self.inside.instance a c.put_units.new.amounts _ c.self.inside.queues.items c.args.self.now g k c.args.units c.self.invariant c.self.view_is c.requires.offer
+    (vec_back c.self.inside.amounts.len c.put_units.new.amounts a (sym (c.put_units.auto.amounts ∙ c.as_mut_slice.ensures.len)))
+    (set ∙ ap (λ (l : List ℕ). slice_set l (place_at g k) (amount_in l g k + c.args.units)) c.as_mut_slice.ensures.value))
+    c.put_units.ensures.ok
 
 pub returns-clause-form : goal.returns-clause-form
 returns-clause-form c =
     form_again c.self.inside.instance c.put_units.new.amounts _ c.put_units.new.queues c.put_units.ensures.held
-      (vec_back c.self.inside.amounts.len c.put_units.new.amounts c.self.inside.amounts.items (sym (c.put_units.auto.amounts ∙ c.as_mut_slice.ensures.len)))
+    (vec_back c.self.inside.amounts.len c.put_units.new.amounts c.self.inside.amounts.items (sym (c.put_units.auto.amounts ∙ c.as_mut_slice.ensures.len)))

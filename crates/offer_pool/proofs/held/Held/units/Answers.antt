@@ -1,6 +1,5 @@
-use Rattle.std.proofs.Common.{◌≡◌, ◌<◌, ℕ, length, slice_index, ap, sym, ◌∙◌, arith}
+use Rattle.std.proofs.Common.{ℕ, slice_index, ap, ◌∙◌, arith}
 use Rattle.std.proofs.lemmas.List.{get_or_default}
-use Rattle.offer_pool.specs.Table.{place_at}
 use Rattle.offer_pool.proofs.Refiled.{place_there}
 use Rattle.offer_pool.proofs.Views.{view_amount, view_form, view_offer}
 use Rattle.offer_pool.proofs.held.Held.units.Goals as goal

@@ -1,4 +1,4 @@
-use Rattle.std.proofs.Common.{◌≡◌, ◌<◌, ℕ, List, [], length, All, Some, None, true, slice_get, ap, sym, ◌∙◌, subst}
+use Rattle.std.proofs.Common.{◌≡◌, ℕ, List, [], All, true, slice_get, ap, sym, ◌∙◌, subst}
 use Rattle.std.proofs.lemmas.List.{get_or_default}
 use Rattle.map_model.specs.Holding.{IsWorst}
 use Rattle.offer_pool.specs.declared.queue.Seat.{Seat}
@@ -16,7 +16,7 @@ units-requires c =
     let n = c.args.node.0 in
     let same : c.index.result.now ≡ queue_at q n = c.index.ensures ∙ get_or_default q n c.index.result.now [] (view_node m a q h n c.self.invariant c.self.view_is c.requires) in
     (view_worst m a q h n c.in-Some.seat c.self.invariant c.self.view_is (ap (λ (l : List Seat). slice_get l 0) (sym same) ∙ sym c.worst.ensures.first ∙ c.in-Some.is)
-      (subst (λ (l : List Seat). All (λ t. seat_le t c.in-Some.seat ≡ true) l) same c.in-Some.ensures.worst)).offer
+    (subst (λ (l : List Seat). All (λ t. seat_le t c.in-Some.seat ≡ true) l) same c.in-Some.ensures.worst)).offer
 
 pub returns-in-Some-clause-worst : goal.returns-in-Some-clause-worst
 returns-in-Some-clause-worst c =
@@ -28,8 +28,8 @@ returns-in-Some-clause-worst c =
     let s = c.in-Some.seat in
     let same : c.index.result.now ≡ queue_at q n = c.index.ensures ∙ get_or_default q n c.index.result.now [] (view_node m a q h n c.self.invariant c.self.view_is c.requires) in
     let worst =
-      view_worst m a q h n s c.self.invariant c.self.view_is (ap (λ (l : List Seat). slice_get l 0) (sym same) ∙ sym c.worst.ensures.first ∙ c.in-Some.is)
-        (subst (λ (l : List Seat). All (λ t. seat_le t s ≡ true) l) same c.in-Some.ensures.worst) in
+    view_worst m a q h n s c.self.invariant c.self.view_is (ap (λ (l : List Seat). slice_get l 0) (sym same) ∙ sym c.worst.ensures.first ∙ c.in-Some.is)
+    (subst (λ (l : List Seat). All (λ t. seat_le t s ≡ true) l) same c.in-Some.ensures.worst) in
     subst (λ (u : ℕ). IsWorst h.market h.lines n s.group.0 s.place u) (view_amount m a q h s.group.0 s.place c.self.invariant c.self.view_is worst.offer ∙ sym c.units.ensures.units) worst
 
 pub returns-in-None-clause-worst : goal.returns-in-None-clause-worst
