@@ -84,7 +84,7 @@ settling m g k units held held' tree' pointers free whole freed can done =
     }
 
 -- what holds of each eviction holds of an offer that gave up units
-gave_up_each : (P : ℕ → ℕ → Type 0) (freed : List Eviction) (h k : ℕ) → All (λ e. P e.offer.group.0 e.offer.place) freed → gave_up freed h k ≡ true → P h k
+pub gave_up_each : (P : ℕ → ℕ → Type 0) (freed : List Eviction) (h k : ℕ) → All (λ e. P e.offer.group.0 e.offer.place) freed → gave_up freed h k ≡ true → P h k
 gave_up_each P [] h k all some = absurd (false≢true some)
 gave_up_each P (e ∷ es) h k all some = elim (or_cases ((e.offer.group.0 == h) && (e.offer.place == k)) (gave_up es h k) some) [
   | inl here ↦
