@@ -1,0 +1,29 @@
+use Rattle.std.proofs.Common.{◌≡◌, ℕ, ◌+◌, ◌<◌, ◌||◌, ◌++◌, ◌∷◌, [], ap, ◌∙◌, arith}
+use Rattle.map_model.specs.Market.{Market}
+use Rattle.deferred_accept.specs.Work.{gave_any, names}
+use Rattle.deferred_accept.proofs.Turns.{can_put, counted_step, covers_step, run_step, worth-le, worth_less}
+use Rattle.deferred_accept.proofs.running.run.Goals as goal
+
+pub loop-offer-smaller : goal.loop-offer-smaller
+loop-offer-smaller g c =
+    let m : Market = c.args.instance.now in
+    let o = c.in-Some.offer in
+    let can = can_put m c.loop-offer.state o c.free-units.result c.loop-offer.invariant.run.ready c.in-Some.ensures.due c.free-units.ensures in
+    worth_less m c.loop-offer.state c.put.new.self o.group.0 o.place c.free-units.result c.put.new.freed can c.in_ok-put.ensures.put (omega (arith, c.in-Some.ensures.due.waiting.free, c.free-units.ensures))
+
+pub loop-offer-preserved : goal.loop-offer-preserved
+loop-offer-preserved g c =
+    let m : Market = c.args.instance.now in
+    let o = c.in-Some.offer in
+    let can = can_put m c.loop-offer.state o c.free-units.result c.loop-offer.invariant.run.ready c.in-Some.ensures.due c.free-units.ensures in
+    let less = worth_less m c.loop-offer.state c.put.new.self o.group.0 o.place c.free-units.result c.put.new.freed can c.in_ok-put.ensures.put (omega (arith, c.in-Some.ensures.due.waiting.free, c.free-units.ensures)) in
+    record {
+      run = run_step m c.args.state.now c.loop-offer.state c.put.new.self o.group.0 o.place c.free-units.result c.put.new.freed c.loop-offer.invariant.run can c.in_ok-put.ensures.put;
+      covered = covers_step m c.loop-offer.state c.put.new.self o.group o.place c.free-units.result c.put.new.freed c.next_offer.new.work.items c.wake.new.work.items c.in-Some.ensures.covered c.in_ok-put.ensures.put c.in-Some.ensures.due.waiting.group
+          (λ h. c.in_ok-wake.ensures.named h ∙ ap (λ ws. names ws h || gave_any c.evictions.result.now h) c.in_ok-push.ensures.items ∙ ap (λ f. names (c.next_offer.new.work.items ++ o.group ∷ []) h || gave_any f h) c.evictions.ensures)
+          (λ n all each. c.in_ok-wake.ensures.groups n (rw c.in_ok-push.ensures.items all) (rw c.evictions.ensures each));
+      counted = counted_step _ _ c.loop-offer.steps c.put.new.steps _ _ _ c.in_ok-put.ensures.steps less c.loop-offer.invariant.counted;
+    }
+
+pub returns-clause-steps : goal.returns-clause-steps
+returns-clause-steps g c = omega (arith, c.loop-offer.invariant.counted, worth-le c.args.instance.now c.args.state.now)

@@ -1,0 +1,14 @@
+use Rattle.std.proofs.Common.{◌≡◌, ℕ, ◌+◌, ◌≤◌}
+use Rattle.deferred_accept.specs.Runs.{HasRun, worth}
+use Rattle.deferred_accept.specs.Work.{CoversWork}
+use Rattle.deferred_accept.proofs.running.run.Given as goal
+
+abbrev pub invariant-loop-offer : goal.invariant-loop-offer
+invariant-loop-offer g l = record {
+  run : HasRun l.instance l.fn.state l.state;
+  covered : CoversWork l.instance l.state l.work.items;
+  counted : l.steps + worth l.instance l.state ≤ l.fn.steps + worth l.instance l.fn.state;
+}
+
+abbrev pub decreases-loop-offer : goal.decreases-loop-offer
+decreases-loop-offer g l = worth l.instance l.state

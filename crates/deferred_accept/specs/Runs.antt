@@ -1,0 +1,27 @@
+use Rattle.std.specs.Prelude.{◌≡◌, ℕ, ◌+◌, ◌-◌, ◌*◌, ◌<◌, ◌≤◌, List, length, slice_index, sum_by}
+use Rattle.std.specs.List.{range_with_len}
+use Rattle.map_model.specs.Market.{Market, choices_of, demand_of}
+use Rattle.map_model.specs.Allocation.{IsOffer, amount_at, first}
+use Rattle.evict.specs.Standing.{IsReady, Standing}
+
+-- how often a group may still offer: once for each unit of its demand and once more, at each place from its pointer on
+abbrev pub proposals_of : Market → List ℕ → ℕ → ℕ
+proposals_of m pointers g = (length (choices_of m g) - slice_index pointers g) * (demand_of m g + 1)
+
+-- how many proposals there may still be
+abbrev pub most_proposals : Market → List ℕ → ℕ
+most_proposals m pointers = sum_by (proposals_of m pointers) (range_with_len 0 (length m.groups))
+
+-- Offers were made from one state to another: the later one is resumable too, no pointer falls, and no group has more at its places up to one that is before its old pointer.
+pub record HasRun (m : Market) (old new : Standing) : Type 0 where
+  pub ready : IsReady m new
+  pub pointers : (g : ℕ) → g < length m.groups → slice_index old.pointers g ≤ slice_index new.pointers g
+  pub firsts : (g k : ℕ) → IsOffer m g k → k < slice_index old.pointers g → first new.lines g k ≤ first old.lines g k
+
+-- what a group may still offer, less what it holds at its pointer
+abbrev pub worth_of : Market → Standing → ℕ → ℕ
+worth_of m state g = proposals_of m state.pointers g - amount_at state.lines g (slice_index state.pointers g)
+
+-- the sum of that over all groups: it falls with each proposal
+abbrev pub worth : Market → Standing → ℕ
+worth m state = sum_by (worth_of m state) (range_with_len 0 (length m.groups))

@@ -1,0 +1,35 @@
+ghost use Rattle.std.specs.Prelude.{◌≡◌, ◌+◌, ◌≤◌, OnOk};
+ghost use Rattle.map_model.specs.Progress.{IsEnded};
+ghost use Rattle.evict.specs.Standing.{IsReady};
+ghost use Rattle.deferred_accept.specs.Runs.{HasRun, most_proposals};
+
+use crate::work::{all_groups, next_offer, wake};
+use evict::{Freed, State};
+use map_model::Instance;
+use no_memory::NoMemory;
+use outside::Steps;
+use std::alloc::Global;
+
+/// Offers free units until no group has any before the end of its list. After `NoMemory` the state
+/// is only to be dropped.
+pub fn run<L>(
+    alloc: Global,
+    instance: &Instance,
+    state: &mut State,
+    steps: &mut Steps<L>,
+) -> Result<(), NoMemory>
+    requires { IsReady instance.now state.old }
+    ensures run { OnOk result (HasRun instance.now state.old state.new) }
+    ensures ended { OnOk result (IsEnded instance.now state.new.pointers state.new.free) }
+    ensures steps { OnOk result (steps.new ≤ steps.old + most_proposals instance.now state.old.pointers) }
+{
+    let mut freed = Freed::new(alloc);
+    let mut work = all_groups(alloc, instance)?;
+    while let Some(offer) = next_offer(instance, state, &mut work) {
+        work.push(offer.group)?;
+        let units = state.free(offer.group);
+        state.put(instance, offer, units, &mut freed, steps)?;
+        wake(&mut work, freed.evictions())?;
+    }
+    Ok(())
+}

@@ -1,0 +1,14 @@
+pub mod Evictions
+pub mod Putting
+pub mod Bridge
+pub mod Shaped
+pub mod Turned
+pub mod Relieving
+pub mod Climbing
+pub mod Placing
+pub mod Refusals
+pub mod Settled
+pub mod Done
+pub mod Sound
+pub mod Worst
+pub mod Fresh

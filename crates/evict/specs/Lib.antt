@@ -1,0 +1,3 @@
+pub mod Evictions
+pub mod Putting
+pub mod Standing

@@ -1,0 +1,73 @@
+use Rattle.std.specs.Prelude.{◌≡◌, ℕ, ◌+◌, ◌<◌, ◌≤◌, Bool, true, ◌&&◌, ◌==◌, if◌then◌else◌, List, [], length, All, IsTrue, slice_index, slice_set}
+use Rattle.map_model.specs.declared.instance.Key.{Key}
+use Rattle.map_model.specs.declared.lines.MapLine.{MapLine}
+use Rattle.map_model.specs.Market.{Market, IsMarket, IsSameShape}
+use Rattle.map_model.specs.Allocation.{AreLines, IsOffer, amount_at, is_full_of_better, is_under, units_of}
+use Rattle.map_model.specs.Holding.{Takes}
+use Rattle.map_model.specs.Progress.{IsResumable}
+use Rattle.evict.specs.declared.freed.Eviction.{Eviction}
+use Rattle.evict.specs.Evictions.{IsEviction, freed_units, gave_up}
+
+-- A state of deferred acceptance: the instance on whose lists and trees it rests, what is held, the pointer and the free units of each group, and whether it is whole. A state that met want of memory is not, and is only to be dropped.
+pub record Standing : Type 0 where
+  pub market : Market
+  pub lines : List MapLine
+  pub pointers : List ℕ
+  pub free : List ℕ
+  pub is_whole : Bool
+
+-- a whole state that is resumable for an instance, which differs from its own in demands and capacities alone
+pub record IsReady (m : Market) (state : Standing) : Type 0 where
+  pub market : IsMarket m
+  pub whole : IsTrue state.is_whole
+  pub shape : IsSameShape state.market m
+  pub resumable : IsResumable m state.lines state.pointers state.free
+
+-- who refuses an offer may be asked: the state is whole, and the instance differs from its own in demands and capacities alone
+pub record CanAsk (m : Market) (state : Standing) (g k : ℕ) : Type 0 where
+  pub market : IsMarket m
+  pub whole : IsTrue state.is_whole
+  pub shape : IsSameShape state.market m
+  pub offer : IsOffer m g k
+
+-- some units may be offered: a place of the group's list at its pointer, and no more units than are free
+pub record CanPut (m : Market) (state : Standing) (g k units : ℕ) : Type 0 where
+  pub ready : IsReady m state
+  pub offer : IsOffer m g k
+  pub pointer : k ≡ slice_index state.pointers g
+  pub free : units ≤ slice_index state.free g
+
+-- what a node refused before is refused after by it or by a node above it
+abbrev pub KeepsRefusals : Market → List MapLine → List MapLine → Type 0
+KeepsRefusals m old new = (n : ℕ) (key : Key) → n < length m.nodes → IsTrue (is_full_of_better m old n key) → (o : ℕ) × IsTrue (is_under m o n) × IsTrue (is_full_of_better m new o key)
+
+-- Some units were offered at (g, k), and some offers gave up what is listed: the state is resumable again; what is held is what was held and the units, less what was given up, which is free again; a group that gave up units at its pointer's place has its pointer moved on by one, and all other pointers stay.
+pub record IsPut (m : Market) (old new : Standing) (g k units : ℕ) (freed : List Eviction) : Type 0 where
+  pub ready : IsReady m new
+  pub evictions : All (λ e. IsEviction m e) freed
+  pub held : (test : ℕ → ℕ → Bool) → units_of test new.lines + freed_units test freed ≡ units_of test old.lines + (if test g k then units else 0)
+  pub free : (h : ℕ) → h < length m.groups → slice_index new.free h + (if g == h then units else 0) ≡ slice_index old.free h + freed_units (λ x _. x == h) freed
+  pub pointers : (h : ℕ) → h < length m.groups → slice_index new.pointers h ≡ (if gave_up freed h (slice_index old.pointers h) then slice_index old.pointers h + 1 else slice_index old.pointers h)
+  pub refusals : KeepsRefusals m old.lines new.lines
+
+-- a fresh state: whole and resumable, with nothing held and all pointers at the first place, so that all units are free
+pub record IsFresh (m : Market) (state : Standing) : Type 0 where
+  pub ready : IsReady m state
+  pub nothing : state.lines ≡ []
+  pub pointers : (g : ℕ) → g < length m.groups → slice_index state.pointers g ≡ 0
+
+-- held units may be released: the state is whole, and the offer holds them
+pub record CanRelease (state : Standing) (g k units : ℕ) : Type 0 where
+  pub whole : IsTrue state.is_whole
+  pub offer : IsOffer state.market g k
+  pub group : g < length state.free
+  pub held : units ≤ amount_at state.lines g k
+
+-- held units of an offer are free, and nothing else changed
+pub record IsReleased (old new : Standing) (g k units : ℕ) : Type 0 where
+  pub market : new.market ≡ old.market
+  pub whole : IsTrue new.is_whole
+  pub form : AreLines new.market new.lines
+  pub lines : Takes old.lines new.lines g k units
+  pub free : new.free ≡ slice_set old.free g (slice_index old.free g + units)
+  pub pointers : new.pointers ≡ old.pointers

@@ -1,0 +1,87 @@
+//! The evictions of one put, node by node up the path.
+
+ghost use Rattle.std.specs.Prelude.{◌≡◌, ◌<◌, ◌≤◌, [], IfOk, OnOk};
+ghost use Rattle.map_model.specs.Market.{capacity_of, pool_of};
+ghost use Rattle.map_model.specs.Allocation.{load};
+ghost use Rattle.evict.specs.Putting.{IsPlacing, IsRelieved, IsRelieving, Origin};
+
+use crate::freed::Freed;
+use capacity_tree::Tree;
+use map_model::{Instance, NodeId, Offer, Units};
+use no_memory::NoMemory;
+use offer_pool::Held;
+
+/// Brings a node within its capacity, the worst offer first. Answers what is left to be given up of
+/// the units that were put.
+fn relieve(
+    instance: &Instance,
+    held: &mut Held,
+    tree: &mut Tree,
+    put: Offer,
+    node: NodeId,
+    left: Units,
+    freed: &mut Freed,
+) -> Result<Units, NoMemory>
+    ghost origin: { Origin }
+    requires { IsRelieving instance.now origin put.group.0 put.place node.0 left held.old tree.old freed.old }
+    ensures relieving { IfOk result (λ rest. IsRelieving instance.now origin put.group.0 put.place node.0 rest held.new tree.new freed.new) }
+    ensures fits { OnOk result (load instance.now held.new.lines node.0 ≤ capacity_of instance.now node.0) }
+    ensures market { OnOk result (held.new.market ≡ held.old.market) }
+{
+    let capacity = instance.capacity(node);
+    let mut left = left;
+    while tree.load(node) > capacity {
+        let over = tree.load(node) - capacity;
+        let Some((offer, most)) = held.worst_under(node) else {
+            unreachable!()
+        };
+        let units = over.min(most);
+        freed.push(offer, units)?;
+        held.take(offer, units);
+        tree.take(instance.pool_at(offer), units);
+        left -= units;
+    }
+    Ok(left)
+}
+
+/// Brings each node of a pool's path within its capacity, from the pool up.
+pub fn relieve_path(
+    instance: &Instance,
+    held: &mut Held,
+    tree: &mut Tree,
+    put: Offer,
+    units: Units,
+    freed: &mut Freed,
+) -> Result<(), NoMemory>
+    ghost origin: { Origin }
+    requires { IsRelieving instance.now origin put.group.0 put.place (pool_of instance.now put.group.0 put.place) units held.old tree.old freed.old }
+    ensures relieved { OnOk result (IsRelieved instance.now origin put.group.0 put.place held.new tree.new freed.new) }
+    ensures market { OnOk result (held.new.market ≡ held.old.market) }
+{
+    let mut at = Some(instance.pool_at(put));
+    let mut left = units;
+    while let Some(node) = at {
+        left = relieve(instance, held, tree, put, node, left, freed)?;
+        at = instance.parent(node);
+    }
+    Ok(())
+}
+
+/// Holds units of an offer, and brings each node of its path within its capacity.
+pub fn place(
+    instance: &Instance,
+    held: &mut Held,
+    tree: &mut Tree,
+    offer: Offer,
+    units: Units,
+    freed: &mut Freed,
+) -> Result<(), NoMemory>
+    ghost origin: { Origin }
+    requires { IsPlacing instance.now origin offer.group.0 offer.place units held.old tree.old freed.old }
+    ensures relieved { OnOk result (IsRelieved instance.now origin offer.group.0 offer.place held.new tree.new freed.new) }
+    ensures market { OnOk result (held.new.market ≡ held.old.market) }
+{
+    held.put(offer, units)?;
+    tree.add(instance.pool_at(offer), units);
+    relieve_path(instance, held, tree, offer, units, freed)
+}

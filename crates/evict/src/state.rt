@@ -1,0 +1,206 @@
+ghost use Rattle.std.specs.Prelude.{◌≡◌, ℕ, ◌+◌, ◌-◌, ◌<◌, ◌≤◌, ◌^◌, ◌==◌, IfOk, OnOk, IsTrue, MatchOption, length, slice_index, slice_set, if◌then◌else◌};
+ghost use Rattle.std.specs.Option.{option_map};
+ghost use Rattle.map_model.specs.Market.{demand_of};
+ghost use Rattle.map_model.specs.Allocation.{AreLines, IsOffer, amount_at, load, placed, refuser_of};
+ghost use Rattle.map_model.specs.Holding.{IsWorst};
+ghost use Rattle.evict.specs.Standing.{CanAsk, CanPut, CanRelease, IsFresh, IsPut, IsReleased, Standing};
+
+use crate::freed::Freed;
+use crate::refuser::refuser;
+use crate::relief::place;
+use crate::settle::settle;
+use capacity_tree::Tree;
+use map_model::{GroupId, Instance, MapLine, MapLines, NodeId, Offer, Units};
+use no_memory::NoMemory;
+use offer_pool::Held;
+use outside::Steps;
+use std::alloc::Global;
+use std::marker::Model;
+
+/// A state of deferred acceptance: what is held, and a pointer and free units for each group. A
+/// state that met want of memory is no longer whole: no call takes it, and it is only to be dropped.
+#[derive(Debug, Drop)]
+pub struct State {
+    // Of the instance's numbers only its lists and trees count here.
+    own: Instance,
+    tree: Tree,
+    held: Held,
+    pointers: Vec<u8>,
+    free: Vec<Units>,
+    // What each group holds and has free.
+    totals: Vec<Units>,
+    whole: bool,
+}
+
+impl Model for State {
+    ghost use Rattle.std.specs.Prelude.{IsTrue};
+    ghost use Rattle.evict.specs.Putting.{IsSound};
+    ghost use Rattle.evict.specs.Standing.{Standing};
+
+    ghost Value = { Standing };
+
+    ghost view = { λ s. record { market = s.held.market; lines = s.held.lines; pointers = s.pointers.items; free = s.free.items; is_whole = s.whole } };
+
+    ghost invariant = { λ s. IsTrue s.whole → IsSound s.own s.held s.tree s.free.items s.totals.items };
+}
+
+/// The demand of each group.
+fn demands(alloc: Global, instance: &Instance) -> Result<Vec<Units>, NoMemory>
+    ensures count { IfOk result (λ demands. length demands.items ≡ length instance.now.groups) }
+    ensures each { IfOk result (λ demands. (g : ℕ) → g < length instance.now.groups → slice_index demands.items g ≡ demand_of instance.now g) }
+{
+    let mut demands = Vec::new(alloc);
+    for g in 0..instance.groups() {
+        demands.push(u64::from(instance.demand(GroupId(g))))?;
+    }
+    Ok(demands)
+}
+
+impl State {
+    /// Nothing is held, each pointer is at the first place, and all demand is free.
+    pub fn fresh(alloc: Global, instance: &Instance) -> Result<State, NoMemory>
+        ensures fresh { IfOk result (λ state. IsFresh instance.now state) }
+        ensures market { IfOk result (λ state. state.market ≡ instance.now) }
+    {
+        let nothing = MapLines {
+            lines: Vec::new(alloc),
+            names: Vec::new(alloc),
+        };
+        Ok(State {
+            own: instance.try_clone()?,
+            held: Held::build(alloc, instance, &nothing)?,
+            tree: Tree::build(alloc, instance)?,
+            pointers: vec![in alloc; 0; instance.groups() as usize]?,
+            free: demands(alloc, instance)?,
+            totals: demands(alloc, instance)?,
+            whole: true,
+        })
+    }
+
+    /// The place of a group's list at which it offers next; at the list's end none is left.
+    pub fn pointer(&self, group: GroupId) -> u8
+        requires { group.0 < length self.now.pointers }
+        ensures { result ≡ slice_index self.now.pointers group.0 }
+    {
+        self.pointers[group.0 as usize]
+    }
+
+    /// The units of a group that are not held.
+    pub fn free(&self, group: GroupId) -> Units
+        requires { group.0 < length self.now.free }
+        ensures { result ≡ slice_index self.now.free group.0 }
+    {
+        self.free[group.0 as usize]
+    }
+
+    /// The units that an offer holds.
+    pub fn units(&self, offer: Offer) -> Units
+        requires { IsOffer self.now.market offer.group.0 offer.place }
+        ensures { result ≡ amount_at self.now.lines offer.group.0 offer.place }
+    {
+        self.held.units(offer)
+    }
+
+    /// The units that are held under a node.
+    pub fn load(&self, node: NodeId) -> Units
+        requires whole { IsTrue self.now.is_whole }
+        requires node { node.0 < length self.now.market.nodes }
+        ensures { result ≡ load self.now.market self.now.lines node.0 }
+    {
+        self.tree.load(node)
+    }
+
+    /// The worst offer that is held under a node, with all its units; none exactly where nothing is
+    /// held there.
+    pub fn worst_under(&self, node: NodeId) -> Option<(Offer, Units)>
+        requires { node.0 < length self.now.market.nodes }
+        ensures { MatchOption result (load self.now.market self.now.lines node.0 ≡ 0) (λ worst. IsWorst self.now.market self.now.lines node.0 worst.0.group.0 worst.0.place worst.1) }
+    {
+        self.held.worst_under(node)
+    }
+
+    /// What is held, in the form of a map's lines.
+    pub fn lines(&self, alloc: Global) -> Result<Vec<MapLine>, NoMemory>
+        ensures lines { IfOk result (λ lines. lines.items ≡ self.now.lines) }
+        ensures form { AreLines self.now.market self.now.lines }
+    {
+        self.held.lines(alloc)
+    }
+
+    /// The refusing node nearest to an offer's pool; none exactly where no node refuses it.
+    pub fn refuser(&self, instance: &Instance, offer: Offer) -> Option<NodeId>
+        requires { CanAsk instance.now self.now offer.group.0 offer.place }
+        ensures { option_map (λ n. n.0) result ≡ refuser_of instance.now self.now.lines offer.group.0 offer.place }
+    {
+        refuser(instance, &self.held, &self.tree, offer)
+    }
+
+    /// Units are offered at a group's pointer: one proposal. Each node of the path then gives up units
+    /// of its worst offers until it is within its capacity; `freed` tells which.
+    pub fn put<L>(
+        &mut self,
+        instance: &Instance,
+        offer: Offer,
+        units: Units,
+        freed: &mut Freed,
+        steps: &mut Steps<L>,
+    ) -> Result<(), NoMemory>
+        requires { CanPut instance.now self.old offer.group.0 offer.place units }
+        ensures put { OnOk result (IsPut instance.now self.old self.new offer.group.0 offer.place units freed.new) }
+        ensures steps { OnOk result (steps.new ≡ (if steps.old == 2 ^ 64 - 1 then steps.old else steps.old + 1)) }
+        ensures market { OnOk result (self.new.market ≡ self.old.market) }
+    {
+        steps.tick();
+        freed.clear();
+        self.whole = false;
+        place(
+            instance,
+            &mut self.held,
+            &mut self.tree,
+            offer,
+            units,
+            freed,
+        )?;
+        settle(
+            self.free.as_mut_slice(),
+            self.pointers.as_mut_slice(),
+            offer,
+            units,
+            freed.evictions(),
+        );
+        self.whole = true;
+        Ok(())
+    }
+
+    /// Makes held units of an offer free.
+    pub fn release(&mut self, offer: Offer, units: Units)
+        requires { CanRelease self.old offer.group.0 offer.place units }
+        ensures { IsReleased self.old self.new offer.group.0 offer.place units }
+    {
+        let pool = self.own.pool_at(offer);
+        self.held.take(offer, units);
+        self.tree.take(pool, units);
+        self.free[offer.group.0 as usize] += units;
+    }
+
+    /// Makes what a group holds and has free add up to a number.
+    pub fn set_total(&mut self, group: GroupId, total: u32)
+        requires whole { IsTrue self.old.is_whole }
+        requires group { group.0 < length self.old.free }
+        requires held { placed self.old.lines group.0 ≤ total }
+        ensures { self.new ≡ record self.old { free = slice_set self.old.free group.0 (total - placed self.old.lines group.0) } }
+    {
+        let g = group.0 as usize;
+        self.free[g] = u64::from(total) - (self.totals[g] - self.free[g]);
+        self.totals[g] = u64::from(total);
+    }
+
+    /// Moves a group's pointer. Nothing may be held past it.
+    pub fn set_pointer(&mut self, group: GroupId, place: u8)
+        requires group { group.0 < length self.old.pointers }
+        requires nothing_past { (j : ℕ) → IsOffer self.old.market group.0 j → place < j → amount_at self.old.lines group.0 j ≡ 0 }
+        ensures { self.new ≡ record self.old { pointers = slice_set self.old.pointers group.0 place } }
+    {
+        self.pointers[group.0 as usize] = place;
+    }
+}
