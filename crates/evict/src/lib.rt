@@ -10,3 +10,6 @@ mod state;
 
 pub use freed::{Eviction, Freed};
 pub use state::State;
+
+#[cfg(test)]
+mod tests;
