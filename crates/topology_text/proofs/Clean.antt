@@ -7,7 +7,7 @@ use Rattle.topology_text.specs.Texts.{is_name, zone_name}
 use Rattle.topology_text.specs.Walk.{items_at, items_of_value, places_of, table_in, value_at, walk}
 use Rattle.topology_text.specs.Values.{failing, is_bad_name, is_out_of_range, missing, too_many, wrong_in, wrong_kind}
 use Rattle.topology_text.specs.Names.{ascend, count_at, duplicate_name, entries_of, entry_at, flag_in, has_repeat, is_inside, is_pool, is_taken, names_in, repeats_in, zone_items, zone_text, is_unknown_name, list_shape, number_of, parent_of, parent_order, text_at, texts_of, too_deep}
-use Rattle.topology_text.specs.Faults.{failures, faults_of, list_faults, name_faults, prefix_faults, shape_faults, value_faults}
+use Rattle.topology_text.specs.Faults.{failures, faults_of, name_faults, prefix_faults, shape_faults, value_faults}
 use Rattle.topology_text.specs.Prefixes.{all_prefixes, duplicate_prefixes, no_default, passing}
 use Rattle.topology_text.specs.Topology.{AreSoundNames, IsSound, IsSoundGroup, IsSoundZone, hosts_of, number_at, zone_name_at, zone_of}
 use Rattle.name_text.specs.Names.{is_under}

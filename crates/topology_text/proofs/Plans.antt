@@ -1,5 +1,5 @@
 -- What sound entries and prefixes say is a topology.
-use Rattle.std.proofs.Common.{◌≡◌, ℕ, ◌^◌, ◌<◌, ◌≤◌, false, List, [], length, get_or, map, IsTrue, All, AllPairs, refl, ap, sym, ◌∙◌, subst, arith}
+use Rattle.std.proofs.Common.{◌≡◌, ℕ, ◌^◌, ◌<◌, ◌≤◌, false, List, [], length, get_or, map, IsTrue, All, refl, ap, sym, ◌∙◌, subst, arith}
 use Rattle.std.proofs.lemmas.List.{get_or-map, length-map}
 use Rattle.toml.specs.Data.{Data, boolean}
 use Rattle.addr_text.specs.declared.address.Prefix.{Prefix}
@@ -7,7 +7,7 @@ use Rattle.map_model.specs.declared.instance.GroupId.{GroupId}
 use Rattle.map_model.specs.Market.{Market}
 use Rattle.topology_text.specs.Hosts.{HostLists, IsHosts, addresses_at}
 use Rattle.topology_text.specs.Names.{Entries}
-use Rattle.topology_text.specs.Plan.{AreNames, ArePrefixes, IsPlan, Plan}
+use Rattle.topology_text.specs.Plan.{AreNames, ArePrefixes, IsPlan}
 use Rattle.topology_text.specs.Texts.{is_name}
 use Rattle.topology_text.specs.Topology.{AreSoundNames, IsSound, group_of, hosts_of, market_of, name_of, node_of, owned, plan_of, zone_of}
 use Rattle.topology_text.specs.declared.prefixes.PrefixAt.{PrefixAt}

@@ -9,7 +9,6 @@ use Rattle.toml.specs.declared.value.Value.{Value}
 use Rattle.topology_text.proofs.Firsts.{first-map}
 use Rattle.topology_text.specs.Names.{folds_of, is_among, is_seen, name_in, names_in, repeats_in}
 use Rattle.topology_text.specs.Walk.{first, marked, marked_from}
-use Rattle.topology_text.specs.declared.schema.At.{At}
 use Rattle.topology_text.specs.declared.schema.At.TheVariants.{Item}
 use Rattle.topology_text.specs.declared.schema.Key.{Key}
 

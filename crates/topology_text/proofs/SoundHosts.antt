@@ -1,5 +1,5 @@
 -- The addresses of an entry, each in the list of its family.
-use Rattle.std.proofs.Common.{◌≡◌, ℕ, ◌+◌, ◌<◌, ◌≤◌, suc, zero, Bool, true, false, not, ◌&&◌, nat_lt, cond, List, [], ◌∷◌, length, Option, None, Some, IsTrue, All, refl, ap, sym, ◌∙◌, subst, arith}
+use Rattle.std.proofs.Common.{◌≡◌, ℕ, ◌≤◌, suc, Bool, true, false, not, ◌&&◌, nat_lt, cond, List, [], ◌∷◌, length, Option, None, Some, IsTrue, All, refl, subst, arith}
 use Rattle.std.proofs.lemmas.Bool.Decides.{nat_tests}
 use Rattle.std.proofs.lemmas.List.Elements.{All-cons, All-nil}
 use Rattle.std.specs.List.{cons_option, filter_map}
@@ -7,7 +7,7 @@ use Rattle.addr_text.specs.declared.address.Addr.{Addr}
 use Rattle.addr_text.specs.Addresses.{addr_of}
 use Rattle.toml.specs.Data.{Data, string, integer, float, boolean, datetime, array, table}
 use Rattle.topology_text.specs.Hosts.{IsHosts, is_v4, is_v6}
-use Rattle.topology_text.specs.Texts.{address_if, v4_address, v6_address}
+use Rattle.topology_text.specs.Texts.{address_if}
 use Rattle.topology_text.specs.Topology.{address_in, hosts_of, items_in}
 use Rattle.topology_text.specs.declared.schema.Key.TheVariants.{A, Aaaa}
 

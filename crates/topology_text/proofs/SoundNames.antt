@@ -1,10 +1,9 @@
 -- A table without faults is sound: what the rules say of names.
-use Rattle.std.proofs.Common.{◌≡◌, ℕ, ◌+◌, ◌<◌, ◌≤◌, suc, zero, Bool, true, false, not, ◌==◌, cond, List, [], ◌∷◌, length, get_or, map, Option, None, Some, is_some, unwrap_or, AllPairs, refl, ap, sym, ◌∙◌, subst, arith}
+use Rattle.std.proofs.Common.{◌≡◌, ℕ, ◌+◌, ◌<◌, ◌≤◌, suc, zero, Bool, true, false, not, ◌==◌, cond, List, [], ◌∷◌, length, get_or, map, Option, None, Some, is_some, unwrap_or, refl, ap, sym, ◌∙◌, arith}
 use Rattle.std.proofs.lemmas.Bool.Decides.{nat_tests}
 use Rattle.std.proofs.lemmas.List.{get_or-map, length-map}
 use Rattle.std.proofs.lemmas.Slice.Eq.{bytes_eq-Decides}
 use Rattle.std.specs.List.{position_from}
-use Rattle.std.specs.Str.{bytes_eq}
 use Rattle.toml.specs.Data.{Data, string, integer, float, boolean, datetime, array, table}
 use Rattle.topology_text.specs.Names.{entry_at, is_called, is_other, is_taken, number_of, text_at, text_in}
 use Rattle.topology_text.specs.Texts.{is_name}

@@ -1,13 +1,13 @@
 -- A table without faults is sound: what the rules say of its prefixes.
-use Rattle.std.proofs.Common.{◌≡◌, ℕ, ◌+◌, ◌<◌, ◌≤◌, suc, zero, Bool, true, false, not, ◌&&◌, ◌||◌, ◌==◌, nat_lt, cond, List, [], ◌∷◌, ◌++◌, length, get_or, map, take, drop, Option, None, Some, option_map, All, AllPairs, Contains, if◌then◌else◌, refl, ap, sym, ◌∙◌, subst, arith}
+use Rattle.std.proofs.Common.{◌≡◌, ℕ, ◌+◌, ◌<◌, ◌≤◌, suc, zero, Bool, true, false, not, ◌&&◌, ◌||◌, ◌==◌, nat_lt, List, [], ◌∷◌, ◌++◌, length, get_or, map, take, Option, None, Some, option_map, All, AllPairs, Contains, refl, ap, sym, ◌∙◌, subst, arith}
 use Rattle.std.proofs.lemmas.Bool.{and_parts}
 use Rattle.std.proofs.lemmas.Bool.Decides.{nat_tests}
-use Rattle.std.proofs.lemmas.List.{drop_more, get_or-map, get_or-take, length-append, length-map, length-take-le}
+use Rattle.std.proofs.lemmas.List.{get_or-map, get_or-take, length-append, length-map, length-take-le}
 use Rattle.std.proofs.Math.Seq.{take-length}
 use Rattle.std.proofs.lemmas.List.Concat.{flat_map-append}
 use Rattle.std.proofs.lemmas.List.Sums.{sum_by-append}
 use Rattle.std.proofs.lemmas.List.Elements.{All-append, All-cons, All-nil}
-use Rattle.std.specs.List.{cons_option, enumerate_from, filter_map, flat_map, list_any}
+use Rattle.std.specs.List.{cons_option}
 use Rattle.addr_text.specs.declared.address.Addr.{Addr}
 use Rattle.addr_text.specs.declared.address.Addr.TheVariants.{V4, V6}
 use Rattle.addr_text.specs.declared.address.Prefix.{Prefix}
@@ -17,15 +17,14 @@ use Rattle.toml.specs.Data.{Data, Members, no_members, string, integer, float, b
 use Rattle.topology_text.specs.Faults.{faults_of}
 use Rattle.topology_text.specs.Names.{entries_of}
 use Rattle.topology_text.specs.Plan.{ArePrefixes, default_v4, default_v6}
-use Rattle.topology_text.specs.Prefixes.{all_prefixes, count_at, duplicate_prefixes, has_prefix, is_past, is_same_addr, is_same_prefix, lacking, no_default, passing, place_of, prefix_in, prefixes_at, prefixes_from, total}
+use Rattle.topology_text.specs.Prefixes.{all_prefixes, count_at, duplicate_prefixes, has_prefix, is_past, is_same_addr, is_same_prefix, lacking, passing, prefix_in, prefixes_at, prefixes_from, total}
 use Rattle.topology_text.specs.Topology.{owned}
-use Rattle.topology_text.specs.Walk.{Visit, entries_from, entry_spot, items_at, marked, marked_from, value_at, visit_of, walk, zone_visits}
+use Rattle.topology_text.specs.Walk.{Visit, entries_from, items_at, value_at, walk, zone_visits}
 use Rattle.topology_text.specs.declared.prefixes.PrefixAt.{PrefixAt}
-use Rattle.topology_text.specs.declared.schema.Key.{Key}
 use Rattle.topology_text.specs.declared.schema.Key.TheVariants.{Zone, Node, Group, Prefixes}
 use Rattle.topology_text.specs.declared.schema.Spot.{Spot}
 use Rattle.topology_text.specs.declared.schema.Spot.TheVariants.{Top, ZoneTable, NodeTable, GroupTable, Family}
-use Rattle.topology_text.proofs.Clean.{IsQuiet, quiet}
+use Rattle.topology_text.proofs.Clean.{quiet}
 use Rattle.topology_text.proofs.Quiet.{empty_first, empty_map, empty_second}
 use Rattle.topology_text.proofs.Repeats.{none_marked}
 use Rattle.topology_text.proofs.Totals.{passes}

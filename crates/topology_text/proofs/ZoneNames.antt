@@ -1,5 +1,5 @@
 -- A table without faults is sound: what the rules say of the zone's lists of names.
-use Rattle.std.proofs.Common.{◌≡◌, ℕ, ◌+◌, ◌<◌, ◌≤◌, suc, zero, Bool, true, false, not, ◌&&◌, ◌||◌, ◌==◌, nat_le, cond, List, [], ◌∷◌, ◌++◌, length, get_or, map, take, Option, None, Some, is_some, option_and_then, unwrap_or, Result, Ok, Err, All, AllPairs, refl, ap, sym, ◌∙◌, subst, arith}
+use Rattle.std.proofs.Common.{◌≡◌, ℕ, ◌+◌, ◌<◌, ◌≤◌, suc, zero, Bool, true, false, not, ◌&&◌, ◌||◌, ◌==◌, nat_le, cond, List, [], ◌∷◌, ◌++◌, length, get_or, take, Option, None, Some, is_some, option_and_then, unwrap_or, Result, Ok, Err, All, AllPairs, refl, ap, sym, ◌∙◌, subst, arith}
 use Rattle.std.proofs.Math.Seq.{take-length}
 use Rattle.std.proofs.lemmas.Bool.Decides.{nat_tests}
 use Rattle.std.proofs.lemmas.List.{append-nil, take_more}
@@ -18,7 +18,7 @@ use Rattle.topology_text.specs.Names.{Entries, is_among, is_inside, is_under_ape
 use Rattle.topology_text.specs.Schema.{is_item_kind, kind_of}
 use Rattle.topology_text.specs.Values.{is_bad_name}
 use Rattle.topology_text.specs.Plan.{IsService}
-use Rattle.topology_text.specs.Texts.{good_name, service_name, short_name, zone_name}
+use Rattle.topology_text.specs.Texts.{good_name, short_name, zone_name}
 use Rattle.topology_text.specs.declared.schema.Key.{Key}
 use Rattle.topology_text.specs.declared.schema.Key.TheVariants.{Apex, Ns, Services}
 use Rattle.topology_text.proofs.Quiet.{empty_map}

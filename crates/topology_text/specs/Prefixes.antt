@@ -1,5 +1,5 @@
 -- The prefixes of a topology's groups, all of them in the order of the file.
-use Rattle.std.specs.Prelude.{ℕ, ◌+◌, List, [], ◌∷◌, ◌++◌, length, map, sum_by, take, Bool, not, ◌&&◌, ◌==◌, nat_le, nat_lt, false, if◌then◌else◌, Option, None, Some, option_map}
+use Rattle.std.specs.Prelude.{ℕ, ◌+◌, List, [], ◌∷◌, ◌++◌, length, map, sum_by, take, Bool, not, ◌&&◌, ◌==◌, nat_lt, false, if◌then◌else◌, Option, None, Some, option_map}
 use Rattle.std.specs.List.{enumerate_from, filter_map, flat_map, list_any}
 use Rattle.addr_text.specs.declared.address.Addr.{Addr}
 use Rattle.addr_text.specs.declared.address.Addr.TheVariants.{V4, V6}

@@ -1,4 +1,4 @@
-use Rattle.std.proofs.Common.{◌≡◌, ◌∙◌, ap, map, refl, subst, sym}
+use Rattle.std.proofs.Common.{◌≡◌, ◌∙◌, ap, map, subst, sym}
 use Rattle.toml.specs.View.{view}
 use Rattle.topology_text.specs.Code.{entries}
 use Rattle.topology_text.specs.Plan.{IsPlan, Plan}

@@ -1,4 +1,3 @@
-use Rattle.std.proofs.Common.{Some, sym, ◌∙◌}
 use Rattle.topology_text.proofs.Twice.{noted_here, noted_on}
 use Rattle.topology_text.proofs.prefixes.first_duplicate.Goals as goal
 

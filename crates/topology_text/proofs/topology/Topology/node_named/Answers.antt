@@ -1,4 +1,4 @@
-use Rattle.std.proofs.Common.{◌∙◌, ap, sym, refl, option_map, List, ℕ}
+use Rattle.std.proofs.Common.{◌∙◌, ap, sym, option_map}
 use Rattle.std.specs.Str.{bytes_eq}
 use Rattle.topology_text.specs.Plan.{Plan, number_in}
 use Rattle.topology_text.proofs.Named.{position-map}
