@@ -83,7 +83,7 @@ lowered_region-good : IsGood (region 3) (line 0 0 3 ∷ line 1 0 7 ∷ []) (name
 unfolding climb
 lowered_region-good = IsGood-computed (region 3) (line 0 0 3 ∷ line 1 0 7 ∷ []) (name 0 0 1 ∷ name 1 0 0 ∷ []) refl refl
 
--- two good maps: roots P 1, Q 1, Z 5; a 1 [P,Q] 2,1; b 1 [Q,P] 2,1; c [Z] 1, of demand 1 and then 2
+-- two good maps: three roots, P and Q of capacity one and Z of capacity five; a ranks P before Q, b ranks Q before P, and c asks Z, for one unit and then for two
 abbrev crossed : ℕ → Market
 crossed demand = record {
   groups = record { demand = 1; choices = choice 0 2 ∷ choice 1 1 ∷ [] } ∷ record { demand = 1; choices = choice 1 2 ∷ choice 0 1 ∷ [] } ∷ record { demand = demand; choices = choice 2 1 ∷ [] } ∷ [];

@@ -300,7 +300,7 @@ const CROSSED_LINES: &[(u32, u8, u32)] = &[(0, 1, 1), (1, 1, 1), (2, 0, 1)];
 
 const CROSSED_NAMES: &[(u32, u8, u32)] = &[(0, 0, 0), (1, 0, 1)];
 
-// Roots P 1, Q 1, Z 5; a 1 [P,Q] 2,1; b 1 [Q,P] 2,1; c [Z] 1, of demand 1 and then 2.
+// Three roots; the first two groups rank the first two pools crosswise, and the third asks for one unit and then for two.
 #[test]
 fn judges_two_good_maps(rt: HostRuntime) -> Result<(), Fail> {
     let alloc = rt.alloc();
