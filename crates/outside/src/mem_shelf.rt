@@ -114,6 +114,9 @@ impl Shelf for MemShelf {
         ensures failed { IsErrOf result LoadFault.Failed ↔ FailsNext self.old name.now }
         ensures too_long { ¬ FailsNext self.old name.now → IsSomeAnd (held self.old.files name.now) (λ bytes. limit < length bytes) → IsErrOf result LoadFault.TooLong }
 
+        // It notes each load for which it has room, also one that fails.
+        ensures noted { length self.old.loads < self.old.room → length name.now ≤ 255 → self.new.loads ≡ self.old.loads ++ record { name = name.now; limit = limit } ∷ [] }
+
         ensures counted { self.new.calls ≡ counted self.old.calls (is_failed result) }
         ensures files { self.new.files ≡ self.old.files }
         ensures room { self.new.room ≡ self.old.room }
