@@ -1,0 +1,43 @@
+-- What the words of a command line ask for.
+use Rattle.std.specs.Prelude.{List, Option, None, Some, codes, if◌then◌else◌, map, String, option_and_then}
+use Rattle.std.specs.Str.{bytes_eq}
+use Rattle.std.specs.String.{string_bytes}
+use Rattle.std.specs.declared.alloc.Global.{Global}
+use Rattle.clap.specs.Words.{Row, Text, first_of, subcommand_of, fault_of}
+use Rattle.clap.specs.Walk.{is_empty}
+use Rattle.command_line.specs.Declaration.{declared}
+
+-- a command with its words, none of which is looked into here
+pub data Ask : Type 0 where
+  check : Text → Text → Ask
+  answer : Text → Text → Text → Text → Ask
+  map_of : Text → Ask
+
+-- the words, as texts
+abbrev pub texts : List (String Global) → List Text
+texts words = map string_bytes words
+
+-- the value of an argument, and what it leads to
+abbrev pub with_value : Text → List Row → (Text → Option Ask) → Option Ask
+with_value id rows next = option_and_then next (first_of id rows)
+
+abbrev pub check_of : List Row → Option Ask
+check_of rows = with_value (codes "TOPOLOGY") rows (λ t. with_value (codes "MAP") rows (λ m. Some (check t m)))
+
+abbrev pub answer_of : List Row → Option Ask
+answer_of rows = with_value (codes "TOPOLOGY") rows (λ t. with_value (codes "MAP") rows (λ m. with_value (codes "ADDR") rows (λ a. with_value (codes "HEX") rows (λ h. Some (answer t m a h)))))
+
+abbrev pub map_command_of : List Row → Option Ask
+map_command_of rows = with_value (codes "TOPOLOGY") rows (λ t. Some (map_of t))
+
+-- what a command with these values asks for
+abbrev pub asked_by : Text → List Row → Option Ask
+asked_by name rows =
+    if bytes_eq name (codes "check") then check_of rows
+    else (if bytes_eq name (codes "answer") then answer_of rows
+    else (if bytes_eq name (codes "map") then map_command_of rows
+    else None))
+
+-- what the words ask for, where the declaration takes them; the first word is the program's name
+abbrev pub asked : List Text → Option Ask
+asked words = if is_empty (fault_of declared words) then option_and_then (λ s. asked_by s.0 s.1) (subcommand_of declared words) else None

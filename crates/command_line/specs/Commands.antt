@@ -1,0 +1,10 @@
+-- A command of the code, as what its words ask for.
+use Rattle.command_line.specs.Asked.{Ask, check, answer, map_of}
+use Rattle.command_line.specs.declared.command.Command.{Command}
+use Rattle.command_line.specs.declared.command.Command.TheVariants.{Check, Answer, Map}
+
+-- a command, as what it asks for
+abbrev pub ask_of : Command → Ask
+ask_of (Check topology map) = check topology.now map.now
+ask_of (Answer topology map addr hex) = answer topology.now map.now addr.now hex.now
+ask_of (Map topology) = map_of topology.now

@@ -1,0 +1,17 @@
+/// A command line that is taken. Its words are as they were given, and none is looked into yet.
+#[derive(Clone, Copy)]
+pub enum Command<'a> {
+    Check {
+        topology: &'a str,
+        map: &'a str,
+    },
+    Answer {
+        topology: &'a str,
+        map: &'a str,
+        addr: &'a str,
+        hex: &'a str,
+    },
+    Map {
+        topology: &'a str,
+    },
+}

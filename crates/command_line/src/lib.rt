@@ -1,0 +1,15 @@
+//! The words of the command line, read with `clap`.
+//!
+//! One command, `glb`, with a subcommand that has to be there. Each subcommand has so many words behind it, all of
+//! them positional. Nothing else is declared: no option, no help and no version.
+#![tactic(auto)]
+
+mod command;
+mod declared;
+mod reading;
+
+pub use command::Command;
+pub use reading::read_words;
+
+#[cfg(test)]
+mod tests;
