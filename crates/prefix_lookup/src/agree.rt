@@ -1,9 +1,26 @@
 //! Which addresses have the same first bits.
 ghost use Rattle.std.specs.Prelude.{◌≡◌, ◌<◌, ◌≤◌, ◌/◌, ◌-◌, ◌^◌, ◌==◌};
 ghost use Rattle.addr_text.specs.Addresses.{bits_of};
-ghost use Rattle.prefix_lookup.specs.Longest.{agrees, holds};
+ghost use Rattle.prefix_lookup.specs.Longest.{IsAddress, agrees, holds};
 
 use addr_text::{Addr, Prefix};
+
+/// How many bits an address has, beyond which its number has none.
+pub fn width(addr: Addr) -> u8
+    ensures bits { result ≡ bits_of addr }
+    ensures fits { IsAddress addr }
+{
+    match addr {
+        Addr::V4(bits) => {
+            let _ = bits;
+            32
+        }
+        Addr::V6(bits) => {
+            let _ = bits;
+            128
+        }
+    }
+}
 
 /// Whether two numbers of so many bits have the same first `len` bits.
 fn agree_in(bits: u8, len: u8, a: u128, b: u128) -> bool

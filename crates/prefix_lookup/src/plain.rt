@@ -1,10 +1,11 @@
 //! The longest prefix and the scope, by looking at all prefixes. It is slow, and says plainly what they are.
-ghost use Rattle.std.specs.Prelude.{◌≡◌, ◌≤◌, All, IfSome};
+ghost use Rattle.std.specs.Prelude.{◌≡◌, ◌≤◌, All, IfSome, IsSome};
 ghost use Rattle.addr_text.specs.Addresses.{IsPrefix, bits_of};
 ghost use Rattle.prefix_lookup.specs.Longest.{IsLongest, longer, longest};
 ghost use Rattle.prefix_lookup.specs.Scope.{IsScope, is_undivided, scope_of};
+ghost use Rattle.prefix_lookup.specs.Table.{IsTable};
 
-use crate::agree::{agree, holds};
+use crate::agree::{agree, holds, width};
 use addr_text::{Addr, Prefix};
 use map_model::GroupId;
 
@@ -25,12 +26,15 @@ fn longer(
 }
 
 /// The entry of the longest prefix that holds an address.
+#[tactic(auto, unfolding(crate::specs::Longest::longest))]
 pub fn longest(table: &[(Prefix, GroupId)], addr: Addr) -> Option<(Prefix, GroupId)>
     requires { All (λ e. IsPrefix e.0) table.now }
     ensures exact { result ≡ longest table.now addr }
     ensures most { IfSome result (IsLongest table.now addr) }
+    ensures some { IsTable table.now → IsSome result }
 {
     let mut best = None;
+    let _ = width(addr);
     for entry in table {
         best = longer(addr, best, *entry);
     }
@@ -56,7 +60,7 @@ pub fn scope(table: &[(Prefix, GroupId)], addr: Addr) -> u8
     ensures exact { result ≡ scope_of table.now addr }
     ensures least { IsScope table.now addr result }
 {
-    let bits = addr.bits();
+    let bits = width(addr);
     for len in 0..bits {
         if is_undivided(table, addr, len) {
             return len;
