@@ -3,7 +3,7 @@ ghost use Rattle.std.specs.Arc.{arc_value};
 ghost use Rattle.addr_text.specs.Addresses.{bits_of};
 ghost use Rattle.map_model.specs.Market.{IsSameShape, choice_at};
 ghost use Rattle.map_model.specs.Allocation.{IsGood, IsOffer, placed};
-ghost use Rattle.topology_text.specs.Plan.{IsZone, addresses_of};
+ghost use Rattle.topology_text.specs.Plan.{IsPlan, IsZone, addresses_of};
 ghost use Rattle.topology_text.specs.Hosts.{is_v4, is_v6};
 ghost use Rattle.prefix_lookup.specs.Longest.{HasLongest, group_of};
 ghost use Rattle.prefix_lookup.specs.Scope.{IsScope, scope_of};
@@ -42,6 +42,14 @@ impl Model for MapVersion {
     ghost invariant = { IsKept };
 }
 
+/// What is always so of the topology.
+fn check_shared(shared: &Arc<Shared>)
+    ensures { IsPlan (plan_of (arc_value shared.now)) }
+{
+    let shared: &Shared = shared;
+    let _ = shared.topology.instance();
+}
+
 impl MapVersion {
     /// A version of these parts, with room for 16 lines and 16 names of each group.
     ///
@@ -60,6 +68,7 @@ impl MapVersion {
         requires lookup { LooksUp (arc_value shared) }
         ensures { IfOk result (λ v. v ≡ record { serial = serial; market = instance; lines = map.lines.items; names = map.names.items; plan = plan_of (arc_value shared) }) }
     {
+        check_shared(&shared);
         let room = 16 * instance.groups() as usize;
         let mut map = map;
         map.lines.reserve(room)?;
