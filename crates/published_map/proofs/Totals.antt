@@ -1,15 +1,14 @@
 -- The amounts of a group, and their sum.
-use Rattle.std.proofs.Common.{zero, suc, ◌≡◌, ℕ, ◌+◌, ◌-◌, ◌<◌, ◌≤◌, ◌^◌, ◌==◌, ◌&&◌, Bool, true, false, nat_lt, cond, List, [], ◌∷◌, length, take, get_or, refl, sym, ap, subst, ◌∙◌, arith}
+use Rattle.std.proofs.Common.{zero, suc, ◌≡◌, ℕ, ◌+◌, ◌<◌, ◌≤◌, ◌^◌, ◌==◌, ◌&&◌, Bool, true, false, nat_lt, cond, List, [], ◌∷◌, length, take, get_or, refl, sym, subst, ◌∙◌, arith}
 use Rattle.std.specs.Prelude.{map, sum, if◌then◌else◌, All}
-use Rattle.std.specs.List.{range_with_len, sum_by}
-use Rattle.std.proofs.lemmas.Bool.{and_parts, ltb-true}
+use Rattle.std.specs.List.{range_with_len}
 use Rattle.std.proofs.lemmas.Bool.Decides.{nat_tests}
 use Rattle.std.proofs.lemmas.List.FromFn.{sum_by-map-range_with_len_more}
 use Rattle.std.proofs.lemmas.List.Sums.{sum_by-cons, sum_by_more_le, sum_by-le-sum_by}
 use Rattle.std.proofs.lemmas.List.Elements.{All-head, All-tail}
 use Rattle.map_model.specs.declared.lines.MapLine.{MapLine}
-use Rattle.map_model.specs.Market.{Market, IsMarket, choices_of, demand_of}
-use Rattle.map_model.specs.Allocation.{AreLines, IsGood, IsOffer, amount_at, first, placed, units_of}
+use Rattle.map_model.specs.Market.{Market, choices_of, demand_of}
+use Rattle.map_model.specs.Allocation.{IsOffer, amount_at, placed}
 use Rattle.map_model.proofs.MapForm.{offers-AreLines}
 use Rattle.map_model.proofs.Units.{first_below, first_is, first_more}
 use Rattle.published_map.specs.Version.{Version, IsVersion, amounts_of}

@@ -1,5 +1,5 @@
 -- What a kept version stands for, and what is always so of it.
-use Rattle.std.specs.Prelude.{ℕ, ◌*◌, ◌≤◌, length, vec_capacity}
+use Rattle.std.specs.Prelude.{◌*◌, ◌≤◌, length, vec_capacity}
 use Rattle.std.specs.Arc.{arc_value}
 use Rattle.published_map.specs.declared.version.MapVersion.TheInside.{Inside}
 use Rattle.published_map.specs.Shared.{LooksUp, plan_of}

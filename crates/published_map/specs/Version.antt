@@ -1,5 +1,5 @@
 -- A version: a map that is good for its instance, over a topology.
-use Rattle.std.specs.Prelude.{◌≡◌, ℕ, List, length, map}
+use Rattle.std.specs.Prelude.{ℕ, List, length, map}
 use Rattle.std.specs.List.{range_with_len}
 use Rattle.map_model.specs.declared.lines.MapLine.{MapLine}
 use Rattle.map_model.specs.declared.lines.NameLine.{NameLine}

@@ -1,7 +1,8 @@
-ghost use Rattle.std.specs.Prelude.{◌≡◌, ◌<◌, ◌≤◌, ◌^◌, ◌==◌, ◌&&◌, if◌then◌else◌, length, map};
+ghost use Rattle.std.specs.Prelude.{◌≡◌, ℕ, ◌<◌, ◌≤◌, ◌^◌, ◌==◌, ◌&&◌, if◌then◌else◌, length, map};
 ghost use Rattle.std.specs.List.{range_with_len};
+ghost use Rattle.std.specs.List.Sorted.{IsNonDecreasingBy};
 ghost use Rattle.map_model.specs.Market.{IsMarket, choices_of};
-ghost use Rattle.map_model.specs.Allocation.{amount_at, placed};
+ghost use Rattle.map_model.specs.Allocation.{AreLines, amount_at, placed};
 
 use arrayvec::ArrayVec;
 use map_model::{GroupId, Instance, MapLine};
@@ -15,6 +16,18 @@ fn units_in(line: &MapLine, group: GroupId, place: u8) -> u32
     } else {
         0
     }
+}
+
+/// The lines of a group, which stand together.
+fn lines_of(lines: &[MapLine], group: GroupId) -> &[MapLine]
+    requires { IsNonDecreasingBy (λ l. l.group.0) lines.now }
+    ensures amounts { (k : ℕ) → amount_at result.now group.0 k ≡ amount_at lines.now group.0 k }
+    ensures placed { placed result.now group.0 ≡ placed lines.now group.0 }
+{
+    let start = lines.partition_point(|line| line.group.0 < group.0);
+    let rest = &lines[start..];
+    let end = rest.partition_point(|line| line.group.0 <= group.0);
+    &rest[..end]
 }
 
 /// The units of a group at one place.
@@ -33,12 +46,14 @@ fn amount_at(lines: &[MapLine], group: GroupId, place: u8) -> u32
 pub fn amounts(instance: &Instance, lines: &[MapLine], group: GroupId) -> ArrayVec<u32, 16>
     requires market { IsMarket instance.now }
     requires group { group.0 < length instance.now.groups }
+    requires form { AreLines instance.now lines.now }
     requires fits { placed lines.now group.0 < 2 ^ 32 }
     ensures { result.items ≡ map (amount_at lines.now group.0) (range_with_len 0 (length (choices_of instance.now group.0))) }
 {
+    let own = lines_of(lines, group);
     let mut amounts = ArrayVec::new();
     for place in 0..instance.list_len(group) {
-        amounts.push(amount_at(lines, group, place));
+        amounts.push(amount_at(own, group, place));
     }
     amounts
 }

@@ -7,6 +7,3 @@ mod version;
 
 pub use shared::Shared;
 pub use version::MapVersion;
-
-#[cfg(test)]
-mod tests;

@@ -1,8 +1,8 @@
-use Rattle.std.proofs.Common.{◌≡◌, ◌<◌, ◌^◌, length, sym, ap, subst, ◌∙◌, arith, rules}
+use Rattle.std.proofs.Common.{◌≡◌, ◌<◌, length, sym, ap, subst, ◌∙◌, arith}
 use Rattle.std.specs.Prelude.{sum}
 use Rattle.map_model.specs.Allocation.{placed}
 use Rattle.published_map.specs.Kept.{version}
-use Rattle.published_map.specs.Version.{Version, IsVersion, amounts_of}
+use Rattle.published_map.specs.Version.{Version, amounts_of}
 use Rattle.published_map.proofs.Totals.{placed_fits, total}
 use Rattle.published_map.proofs.version.MapVersion.amounts.Goals as goal
 

@@ -1,4 +1,4 @@
-use Rattle.std.proofs.Common.{arith, rules}
+use Rattle.std.proofs.Common.{arith}
 use Rattle.published_map.proofs.version.MapVersion.make.Goals as goal
 
 pub invariant_of-result : goal.invariant_of-result
