@@ -1,3 +1,4 @@
 pub mod Sums
 pub mod Worth
 pub mod Turns
+pub mod Finished

@@ -1,7 +1,9 @@
 //! Deferred acceptance: groups offer their free units place by place until no offer is left.
 #![tactic(auto)]
 
+mod finishing;
 mod running;
 mod work;
 
+pub use finishing::finish;
 pub use running::run;
