@@ -1,6 +1,7 @@
-use Rattle.std.proofs.Common.{◌≡◌, ℕ, ◌+◌, ◌-◌, ◌<◌, ◌≤◌, ◌==◌, Bool, true, false, ◌&&◌, nat_le, nat_lt, if◌then◌else◌, List, [], ◌∷◌, ◌++◌, length, Option, None, Some, IsTrue, IsSome, slice_index, append_assoc, append-nil, refl, sym, ap, ◌∙◌, subst, inl, inr, ◌⊎◌, arith}
-use Rattle.std.specs.List.{cons_option, sum_by}
-use Rattle.std.proofs.lemmas.Bool.{and_parts, and_from, cases_Bool, cases_eq, ltb-true, ltb-false, leb-true, false≢true}
+use Rattle.std.proofs.Common.{◌≡◌, ℕ, ◌+◌, ◌-◌, ◌<◌, ◌≤◌, ◌==◌, Bool, true, false, ◌&&◌, nat_le, nat_lt, if◌then◌else◌, List, [], ◌∷◌, ◌++◌, append_assoc, length, Option, None, Some, All, IsTrue, IsSome, slice_index, refl, sym, ap, ◌∙◌, subst, inl, inr, ◌⊎◌, arith}
+use Rattle.std.specs.List.{cons_option}
+use Rattle.std.proofs.lemmas.List.Elements.{All-head, All-tail}
+use Rattle.std.proofs.lemmas.Bool.{and_parts, and_from, cases_Bool, cases_eq, cases_lt, eq-eqb, eqb-true, ltb-true, leb-false, false≢true}
 use Rattle.std.proofs.lemmas.Bool.Decides.{nat_tests}
 use Rattle.std.proofs.lemmas.List.Sums.{sum_by-cons}
 use Rattle.map_model.specs.declared.lines.MapLine.{MapLine}
@@ -8,7 +9,7 @@ use Rattle.map_model.specs.declared.lines.NameLine.{NameLine}
 use Rattle.map_model.specs.Market.{Market, choices_of, demand_of}
 use Rattle.map_model.specs.Allocation.{IsFeasible, IsGood, IsOffer, IsStable, amount_at, first, is_wanted, names_of, placed, units_of}
 use Rattle.map_model.specs.Progress.{IsEnded, IsResumable}
-use Rattle.map_model.proofs.Units.{first_below, first_is, first_more}
+use Rattle.map_model.proofs.MapForm.{offers-AreLines}
 use Rattle.evict.proofs.Evictions.{units_of-le}
 use Rattle.evict.specs.Standing.{IsReady, Standing}
 
@@ -42,15 +43,24 @@ placed-le-first m (l ∷ ls) g k offers none =
 
 -- the lines of an ended state with their names are a good map
 pub finished : (m : Market) (state : Standing) (names : List NameLine) → IsReady m state → IsEnded m state.pointers state.free → names ≡ names_of m state.lines → IsGood m state.lines names
-finished m state names ready ended named = record { form = r.form; feasible = record { demands = λ g l. omega (arith, r.totals g l); capacities = r.capacities }; stable = λ g k o w. r.refused g k o (before g k o (ltb-true _ _ w)); named = named }
+finished m state names ready ended named =
+    let r = ready.resumable in
+    record { form = r.form; feasible = record { demands = λ g l. omega (arith, r.totals g l); capacities = r.capacities }; stable = λ g k o w. r.refused g k o (before g k o (ltb-true _ _ w)); named = named }
   where
-    r = ready.resumable
-
     before : (g k : ℕ) → IsOffer m g k → first state.lines g k < demand_of m g → k < slice_index state.pointers g
-    before g k o wanted = elim (nat_cases k (slice_index state.pointers g)) [
+    before g k o wanted = elim (cases_lt k (slice_index state.pointers g)) [
       | inl l ↦ l
       | inr past ↦
+          let r = ready.resumable in
           let none : slice_index state.free g ≡ 0 = ended g o.group (omega (arith, o.place)) in
           let all = placed-le-first m state.lines g k (offers-AreLines m state.lines r.form) (λ j oj lj. r.none_past g j oj (omega arith)) in
           absurd (omega (arith, r.totals g o.group))
     ]
+
+-- a name that is due comes behind those so far
+pub push_turn : (names here next all : List NameLine) (due_now : Option NameLine) (name : NameLine) → names ++ here ≡ all → here ≡ cons_option due_now next → due_now ≡ Some name → (names ++ name ∷ []) ++ next ≡ all
+push_turn names here next all due_now name so_far is some = append_assoc names (name ∷ []) next ∙ ap (λ ys. names ++ ys) (sym (is ∙ ap (λ o. cons_option o next) some)) ∙ so_far
+
+-- and where none is due, they stay
+pub skip_turn : (names here next all : List NameLine) (due_now : Option NameLine) → names ++ here ≡ all → here ≡ cons_option due_now next → due_now ≡ None → names ++ next ≡ all
+skip_turn names here next all due_now so_far is none = ap (λ ys. names ++ ys) (sym (is ∙ ap (λ o. cons_option o next) none)) ∙ so_far

@@ -2,3 +2,5 @@ pub mod Sums
 pub mod Worth
 pub mod Turns
 pub mod Finished
+pub mod Roots
+pub mod Within

@@ -27,7 +27,7 @@ pub worth-le : (m : Market) (state : Standing) → worth m state ≤ most_propos
 worth-le m state = sum-le (worth_of m state) (proposals_of m state.pointers) (length m.groups) 0 (λ i low high. omega arith)
 
 -- no pointer falls by a proposal
-pointer_rises : (m : Market) (old new : Standing) (g k units : ℕ) (freed : List Eviction) → IsPut m old new g k units freed → (h : ℕ) → h < length m.groups → slice_index old.pointers h ≤ slice_index new.pointers h
+pub pointer_rises : (m : Market) (old new : Standing) (g k units : ℕ) (freed : List Eviction) → IsPut m old new g k units freed → (h : ℕ) → h < length m.groups → slice_index old.pointers h ≤ slice_index new.pointers h
 pointer_rises m old new g k units freed put h l = one (gave_up freed h (slice_index old.pointers h)) (slice_index old.pointers h) (slice_index new.pointers h) (put.pointers h l)
   where
     one : (b : Bool) (p q : ℕ) → q ≡ (if b then p + 1 else p) → p ≤ q
@@ -63,7 +63,7 @@ or_false true b h = absurd (false≢true (sym h))
 or_false false b h = (refl, h)
 
 -- a group that gave up nothing gave up nothing at any place
-none_freed : (freed : List Eviction) (h : ℕ) → gave_any freed h ≡ false → freed_units (λ x _. x == h) freed ≡ 0
+pub none_freed : (freed : List Eviction) (h : ℕ) → gave_any freed h ≡ false → freed_units (λ x _. x == h) freed ≡ 0
 none_freed [] h none = refl
 none_freed (e ∷ es) h none =
     let p = or_false (e.offer.group.0 == h) (gave_any es h) none in
@@ -71,14 +71,14 @@ none_freed (e ∷ es) h none =
     let z : f e ≡ 0 = rw p.0 refl in
     omega (arith, sum_by-cons f e es, z, none_freed es h p.1)
 
-none_at : (freed : List Eviction) (h k : ℕ) → gave_any freed h ≡ false → gave_up freed h k ≡ false
+pub none_at : (freed : List Eviction) (h k : ℕ) → gave_any freed h ≡ false → gave_up freed h k ≡ false
 none_at [] h k none = refl
 none_at (e ∷ es) h k none =
     let p = or_false (e.offer.group.0 == h) (gave_any es h) none in
     rw p.0 (none_at es h k p.1)
 
 -- a group that waits after a proposal waited before it, or gave up units
-waited : (m : Market) (old new : Standing) (g k units : ℕ) (freed : List Eviction) → IsPut m old new g k units freed → (h : ℕ) → IsWaiting m new h → gave_any freed h ≡ false → IsWaiting m old h
+pub waited : (m : Market) (old new : Standing) (g k units : ℕ) (freed : List Eviction) → IsPut m old new g k units freed → (h : ℕ) → IsWaiting m new h → gave_any freed h ≡ false → IsWaiting m old h
 waited m old new g k units freed put h w none =
     let same : slice_index new.pointers h ≡ slice_index old.pointers h = put.pointers h w.group ∙ ap (λ b. if b then slice_index old.pointers h + 1 else slice_index old.pointers h) (none_at freed h (slice_index old.pointers h) none) in
     record { group = w.group; free = omega (arith, put.free h w.group, none_freed freed h none, w.free); place = omega (arith, same, w.place) }
