@@ -1,14 +1,13 @@
-use Rattle.std.proofs.Common.{◌≡◌, ℕ, ◌+◌, ◌-◌, ◌<◌, ◌≤◌, ◌==◌, Bool, true, false, ◌&&◌, nat_le, nat_lt, if◌then◌else◌, List, [], ◌∷◌, ◌++◌, append_assoc, length, Option, None, Some, All, IsTrue, IsSome, slice_index, refl, sym, ap, ◌∙◌, subst, inl, inr, ◌⊎◌, arith}
+use Rattle.std.proofs.Common.{◌≡◌, ℕ, ◌+◌, ◌<◌, ◌≤◌, ◌==◌, Bool, true, false, ◌&&◌, nat_le, if◌then◌else◌, List, [], ◌∷◌, ◌++◌, append_assoc, Option, None, Some, All, slice_index, refl, sym, ap, ◌∙◌, subst, inl, inr, arith}
 use Rattle.std.specs.List.{cons_option}
 use Rattle.std.proofs.lemmas.List.Elements.{All-head, All-tail}
-use Rattle.std.proofs.lemmas.Bool.{and_parts, and_from, cases_Bool, cases_eq, cases_lt, eq-eqb, eqb-true, ltb-true, leb-false, false≢true}
-use Rattle.std.proofs.lemmas.Bool.Decides.{nat_tests}
+use Rattle.std.proofs.lemmas.Bool.{and_parts, cases_lt, eq-eqb, eqb-true, ltb-true, leb-false}
 use Rattle.std.proofs.lemmas.List.Sums.{sum_by-cons}
 use Rattle.map_model.specs.declared.lines.MapLine.{MapLine}
 use Rattle.map_model.specs.declared.lines.NameLine.{NameLine}
-use Rattle.map_model.specs.Market.{Market, choices_of, demand_of}
-use Rattle.map_model.specs.Allocation.{IsFeasible, IsGood, IsOffer, IsStable, amount_at, first, is_wanted, names_of, placed, units_of}
-use Rattle.map_model.specs.Progress.{IsEnded, IsResumable}
+use Rattle.map_model.specs.Market.{Market, demand_of}
+use Rattle.map_model.specs.Allocation.{IsGood, IsOffer, amount_at, first, names_of, placed}
+use Rattle.map_model.specs.Progress.{IsEnded}
 use Rattle.map_model.proofs.MapForm.{offers-AreLines}
 use Rattle.evict.proofs.Evictions.{units_of-le}
 use Rattle.evict.specs.Standing.{IsReady, Standing}

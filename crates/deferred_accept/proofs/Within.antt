@@ -1,20 +1,20 @@
-use Rattle.std.proofs.Common.{◌≡◌, ℕ, ◌+◌, ◌-◌, ◌<◌, ◌≤◌, ◌==◌, Bool, true, false, ◌&&◌, ◌||◌, if◌then◌else◌, List, [], ◌∷◌, length, All, IsTrue, IsFalse, slice_index, slice_index_or, refl, sym, ap, ◌∙◌, subst, inl, inr, ◌⊎◌, arith}
-use Rattle.std.specs.List.{list_any, range_with_len, sum_by}
+use Rattle.std.proofs.Common.{◌≡◌, ℕ, ◌+◌, ◌-◌, ◌<◌, ◌≤◌, ◌==◌, Bool, true, false, ◌&&◌, if◌then◌else◌, List, [], ◌∷◌, length, All, IsFalse, slice_index, slice_index_or, refl, sym, ap, ◌∙◌, subst, inl, inr, arith}
+use Rattle.std.specs.List.{range_with_len, sum_by}
 use Rattle.std.proofs.lemmas.Bool.{and_from, and_parts, cases_Bool, cases_order, eq-eqb, eqb-true, ne_eqb, or_cases, false≢true}
 use Rattle.std.proofs.lemmas.List.Folds.{list_any_at}
 use Rattle.std.proofs.lemmas.List.Elements.{All-head, All-tail}
-use Rattle.map_model.specs.Market.{Market, IsMarket, capacity_of, choices_of, pool_of}
-use Rattle.map_model.specs.Allocation.{IsOffer, amount_at, counts_at, is_full_of_better, load, none_worse, refuser_of}
-use Rattle.map_model.specs.Progress.{root_of, tree_of}
+use Rattle.map_model.specs.Market.{Market, IsMarket, capacity_of, pool_of}
+use Rattle.map_model.specs.Allocation.{amount_at, counts_at, load, none_worse}
+use Rattle.map_model.specs.Progress.{tree_of}
 use Rattle.map_model.proofs.Trees.{under_there}
 use Rattle.evict.specs.declared.freed.Eviction.{Eviction}
-use Rattle.evict.specs.Evictions.{IsEviction, freed_units, gave_up}
-use Rattle.evict.specs.Standing.{CanPut, IsPut, IsReady, Standing}
+use Rattle.evict.specs.Evictions.{gave_up}
+use Rattle.evict.specs.Standing.{CanPut, IsPut, Standing}
 use Rattle.evict.proofs.Refusals.{refused_by}
 use Rattle.evict.proofs.Relieving.{pool_there}
 use Rattle.evict.proofs.Settled.{freed_more}
 use Rattle.deferred_accept.specs.Runs.{proposals_of, worth_of}
-use Rattle.deferred_accept.specs.Spreading.{HoldsWork, IsSameFor, StaysInside, is_inside, proposals_inside}
+use Rattle.deferred_accept.specs.Spreading.{HoldsWork, IsSameFor, StaysInside, is_inside}
 use Rattle.deferred_accept.specs.Work.{IsWaiting, gave_any}
 use Rattle.deferred_accept.proofs.Roots.{root-under}
 use Rattle.deferred_accept.proofs.Sums.{sum-le, sum-lt}

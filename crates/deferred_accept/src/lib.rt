@@ -4,6 +4,7 @@
 mod finishing;
 mod running;
 mod work;
+mod work_list;
 
 pub use finishing::finish;
 pub use running::run;

@@ -4,7 +4,8 @@ ghost use Rattle.evict.specs.Standing.{IsReady};
 ghost use Rattle.deferred_accept.specs.Runs.{HasRun, most_proposals};
 ghost use Rattle.deferred_accept.specs.Spreading.{HoldsWork, StaysInside};
 
-use crate::work::{all_groups, next_offer, wake};
+use crate::work::{next_offer, wake};
+use crate::work_list::WorkList;
 use evict::{Freed, State};
 use map_model::Instance;
 use no_memory::NoMemory;
@@ -27,9 +28,9 @@ pub fn run<L>(
     ensures inside { OnOk result ((trees : ℕ → Bool) → HoldsWork instance.now trees state.old → StaysInside instance.now trees state.old state.new steps.old steps.new) }
 {
     let mut freed = Freed::new(alloc);
-    let mut work = all_groups(alloc, instance)?;
+    let mut work = WorkList::all(alloc, instance)?;
     while let Some(offer) = next_offer(instance, state, &mut work) {
-        work.push(offer.group)?;
+        work.add(offer.group)?;
         let units = state.free(offer.group);
         state.put(instance, offer, units, &mut freed, steps)?;
         wake(&mut work, freed.evictions())?;

@@ -1,7 +1,6 @@
-use Rattle.std.proofs.Common.{◌≡◌, ◌+◌, ◌<◌, ◌≤◌, ◌++◌, ◌∷◌, [], length, append-nil, sym, ap, ◌∙◌, refl, arith}
+use Rattle.std.proofs.Common.{◌≡◌, ◌+◌, ◌<◌, ◌++◌, length, append-nil, sym, ap, ◌∙◌, refl, arith}
 use Rattle.map_model.specs.Market.{choices_of}
-use Rattle.map_model.specs.Allocation.{IsOffer, first as units_upto}
-use Rattle.stable_check.specs.Due.{due}
+use Rattle.map_model.specs.Allocation.{first as units_upto}
 use Rattle.stable_check.proofs.Blocking.{first_below-zero, so_far_more, so_far_next}
 use Rattle.stable_check.proofs.Names.{due_step, due_done}
 use Rattle.evict.proofs.Settled.{small_demand}

@@ -1,4 +1,4 @@
-use Rattle.std.proofs.Common.{◌≡◌, ◌+◌, ◌++◌, [], append_assoc, append-nil, sym, ap, ◌∙◌, arith}
+use Rattle.std.proofs.Common.{◌+◌, ◌++◌, append_assoc, append-nil, sym, ap, ◌∙◌, arith}
 use Rattle.stable_check.specs.Due.{due, due_from}
 use Rattle.stable_check.proofs.Names.{due_from_start, due_from_step, due_from_done}
 use Rattle.deferred_accept.proofs.finishing.all_names.Goals as goal

@@ -1,6 +1,3 @@
-use Rattle.std.proofs.Common.{◌≡◌, ◌∙◌, sym, ap, subst, List}
-use Rattle.map_model.specs.declared.lines.MapLine.{MapLine}
-use Rattle.map_model.specs.Allocation.{IsGood}
 use Rattle.deferred_accept.proofs.Finished.{finished}
 use Rattle.deferred_accept.proofs.finishing.finish.Goals as goal
 
