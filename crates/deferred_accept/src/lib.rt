@@ -8,3 +8,6 @@ mod work_list;
 
 pub use finishing::finish;
 pub use running::run;
+
+#[cfg(test)]
+mod tests;
