@@ -1,4 +1,4 @@
-ghost use Rattle.std.specs.Prelude.{◌≡◌, ◌++◌, ◌<◌, [], length, take, map, codes, Ok, IfOk};
+ghost use Rattle.std.specs.Prelude.{◌≡◌, ◌++◌, ◌<◌, ◌^◌, length, All, Ok, IfOk};
 ghost use Rattle.std.specs.List.{flat_map};
 ghost use Rattle.map_model.specs.Allocation.{AreLines, AreNames, IsMapForm, IsOffer};
 ghost use Rattle.map_model.specs.Market.{pool_of};
@@ -47,7 +47,8 @@ fn push_place(
     line: MapLine,
 ) -> Result<(), NoMemory>
     requires { IsOffer topology.now.market line.group.0 line.place }
-    ensures { IfOk result (λ _. text.new.items ≡ text.old.items ++ ended (place_row topology.now line)) }
+    ensures text { IfOk result (λ _. text.new.items ≡ text.old.items ++ ended (place_row topology.now line)) }
+    ensures fits { line.amount < 2 ^ 32 }
 {
     let MapLine {
         group,
@@ -88,7 +89,8 @@ fn push_places(
     lines: &[MapLine],
 ) -> Result<(), NoMemory>
     requires { AreLines topology.now.market lines.now }
-    ensures { IfOk result (λ _. text.new.items ≡ text.old.items ++ flat_map ended (map (place_row topology.now) lines.now)) }
+    ensures text { IfOk result (λ _. text.new.items ≡ text.old.items ++ flat_map (λ x. ended (place_row topology.now x)) lines.now) }
+    ensures fits { IfOk result (λ _. All (λ x. x.amount < 2 ^ 32) lines.now) }
 {
     for line in lines {
         push_place(alloc, text, topology, *line)?;
@@ -98,7 +100,7 @@ fn push_places(
 
 fn push_fulls(text: &mut Vec<u8>, topology: &Topology, names: &[NameLine]) -> Result<(), NoMemory>
     requires { AreNames topology.now.market names.now }
-    ensures { IfOk result (λ _. text.new.items ≡ text.old.items ++ flat_map ended (map (full_row topology.now) names.now)) }
+    ensures { IfOk result (λ _. text.new.items ≡ text.old.items ++ flat_map (λ x. ended (full_row topology.now x)) names.now) }
 {
     for name in names {
         push_full(text, topology, *name)?;
@@ -111,9 +113,11 @@ pub fn write_map(alloc: Global, topology: &Topology, map: &MapLines) -> Result<V
     requires { IsMapForm topology.now.market map.now.lines.items map.now.names.items }
     ensures text { IfOk result (λ text. text.items ≡ text_of_map topology.now (mapped map.now)) }
 
-    // What is written of a map is read as that map.
-    ensures again { map_of topology.now (text_of_map topology.now (mapped map.now)) ≡ Ok (mapped map.now) }
+    // What is written is read as the same map.
+    ensures again { IfOk result (λ text. map_of topology.now text.items ≡ Ok (mapped map.now)) }
 {
+    // What each topology keeps: its names are distinct words. The proof of `again` takes it from here.
+    let _instance = topology.instance();
     let mut text = Vec::from_slice(alloc, b"glb map 1\n")?;
     push_places(alloc, &mut text, topology, map.lines.as_slice())?;
     push_fulls(&mut text, topology, map.names.as_slice())?;
