@@ -4,5 +4,6 @@ pub mod Texts
 pub mod Outcome
 pub mod Files
 pub mod Check
+pub mod Map
 pub mod Run
 pub mod Reports

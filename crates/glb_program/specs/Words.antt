@@ -7,6 +7,7 @@ use Rattle.std.specs.declared.alloc.Global.{Global}
 -- a command, with the names of its files
 pub data Ask : Type 0 where
   check : List ℕ → List ℕ → Ask
+  map_from : List ℕ → Ask
 
 -- the words, as texts
 abbrev pub texts : List (String Global) → List (List ℕ)
@@ -17,11 +18,16 @@ abbrev pub is_dashed : List ℕ → Bool
 is_dashed [] = false
 is_dashed (first ∷ rest) = first == 45
 
+-- a command with one file
+abbrev pub asked_of_one : List ℕ → List ℕ → Option Ask
+asked_of_one command a = if bytes_eq command (codes "map") && not (is_dashed a) then Some (map_from a) else None
+
 -- a command with two files
 abbrev pub asked_of_two : List ℕ → List ℕ → List ℕ → Option Ask
 asked_of_two command a b = if bytes_eq command (codes "check") && not (is_dashed a) && not (is_dashed b) then Some (check a b) else None
 
 -- What the words ask for, if they are taken: the first is the program's name, the second a command, as many follow as the command has, and none of these begins with `-`.
 abbrev pub asked : List (List ℕ) → Option Ask
+asked (program ∷ command ∷ a ∷ []) = asked_of_one command a
 asked (program ∷ command ∷ a ∷ b ∷ []) = asked_of_two command a b
 asked _ = None

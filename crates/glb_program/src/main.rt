@@ -4,6 +4,7 @@
 mod check;
 mod files;
 mod glb;
+mod map;
 mod real;
 mod report;
 mod status;
