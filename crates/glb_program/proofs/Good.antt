@@ -75,8 +75,9 @@ whole_run Due P before after result (inr (inl cut)) ok well = let other = cut.st
 whole_run Due P before after result (inr (inr silent)) ok well = elim silent.status [ inl other ↦ cc | inr other ↦ cc ]
 
 pub good_run : (ask : Option Ask) (before after : Outside) (result : Status) → IsRun ask before after result → result ≡ status.Ok → IsGoodRun ask before after
-good_run None before after result (inl whole) ok = let usage : whole.due.status ≡ status.Usage = ap (λ (o : Outcome). o.status) whole.is_due in let same = whole.status in absurd (cc)
-good_run None before after result (inr cut) ok = let other = cut.status in absurd (cc)
+good_run None before after result (inl (inl whole)) ok = let usage : whole.due.status ≡ status.Usage = ap (λ (o : Outcome). o.status) whole.is_due in let same = whole.status in absurd (cc)
+good_run None before after result (inl (inr cut)) ok = let other = cut.status in absurd (cc)
+good_run None before after result (inr unread) ok = let other = unread.status in absurd (cc)
 good_run (Some (check topology map)) before after result run ok =
     (whole_run (IsCheckDue topology map before.files) (λ _. IsGoodRun (Some (check topology map)) before after) before.out after.out result run ok
     (λ due is_due well puts.

@@ -1,8 +1,10 @@
 -- What a run of the program does, by what its words ask for.
-use Rattle.std.specs.Prelude.{◌≡◌, ℕ, List, [], ◌∷◌, Option, None, Some}
+use Rattle.std.specs.Prelude.{◌≡◌, ◌⊎◌, ℕ, List, [], ◌∷◌, Option, None, Some}
+use Rattle.outside.specs.Faults.{BothTell}
 use Rattle.outside.specs.Shelf.{Load, Shelved}
+use Rattle.outside.specs.Sink.{Written}
 use Rattle.glb_program.specs.declared.status.Status.{Status}
-use Rattle.glb_program.specs.declared.status.Status.TheVariants.{Usage}
+use Rattle.glb_program.specs.declared.status.Status.TheVariants.{Usage, NoMemory}
 use Rattle.glb_program.specs.Words.{Ask, check, map_from}
 use Rattle.glb_program.specs.Outcome.{Outcome, Outside, RunsBy, Speaks}
 use Rattle.glb_program.specs.Check.{HoldsGoodMap, IsCheckDue, IsCheckSaid, IsCheckedRun, loads_of_check}
@@ -23,10 +25,15 @@ abbrev pub IsSaidBy : Ask → Outcome → Type 0
 IsSaidBy (check topology map) due = IsCheckSaid due
 IsSaidBy (map_from topology) due = IsMapSaid due
 
+-- memory was wanting for the reading of the words, and nothing was put
+pub record IsUnread (before after : Option Written) (result : Status) : Type 0 where
+  pub status : result ≡ NoMemory
+  pub puts : BothTell before after (λ b a. a ≡ b)
+
 -- what a run does
 abbrev pub IsRun : Option Ask → Outside → Outside → Status → Type 0
-IsRun None before after = Speaks IsUsage before.out after.out
-IsRun (Some ask) before after = RunsBy (IsDue ask before.files) before.out after.out
+IsRun None before after result = Speaks IsUsage before.out after.out result ⊎ IsUnread before.out after.out result
+IsRun (Some ask) before after result = RunsBy (IsDue ask before.files) before.out after.out result
 
 -- the loads that are due to a command over the files: in the order of its words with their limits, each where all before it say something
 abbrev pub loads_of_ask : Ask → (List ℕ → Option (List ℕ)) → List Load

@@ -1,33 +1,18 @@
 -- What the words of a command line ask for.
-use Rattle.std.specs.Prelude.{ℕ, Bool, false, not, ◌==◌, ◌&&◌, List, [], ◌∷◌, Option, None, Some, codes, if◌then◌else◌, map, String}
-use Rattle.std.specs.Str.{bytes_eq}
-use Rattle.std.specs.String.{string_bytes}
-use Rattle.std.specs.declared.alloc.Global.{Global}
+use Rattle.std.specs.Prelude.{ℕ, List, Option, None, Some, option_and_then}
+use Rattle.command_line.specs.Asked as line
 
 -- a command, with the names of its files
 pub data Ask : Type 0 where
   check : List ℕ → List ℕ → Ask
   map_from : List ℕ → Ask
 
--- the words, as texts
-abbrev pub texts : List (String Global) → List (List ℕ)
-texts words = map string_bytes words
+-- a command line, as a command
+abbrev pub asked_by : line.Ask → Option Ask
+asked_by (line.check topology map) = Some (check topology map)
+asked_by (line.map_of topology) = Some (map_from topology)
+asked_by (line.answer topology map addr hex) = None
 
--- a word that begins with `-`
-abbrev pub is_dashed : List ℕ → Bool
-is_dashed [] = false
-is_dashed (first ∷ rest) = first == 45
-
--- a command with one file
-abbrev pub asked_of_one : List ℕ → List ℕ → Option Ask
-asked_of_one command a = if bytes_eq command (codes "map") && not (is_dashed a) then Some (map_from a) else None
-
--- a command with two files
-abbrev pub asked_of_two : List ℕ → List ℕ → List ℕ → Option Ask
-asked_of_two command a b = if bytes_eq command (codes "check") && not (is_dashed a) && not (is_dashed b) then Some (check a b) else None
-
--- What the words ask for, if they are taken: the first is the program's name, the second a command, as many follow as the command has, and none of these begins with `-`.
-abbrev pub asked : List (List ℕ) → Option Ask
-asked (program ∷ command ∷ a ∷ []) = asked_of_one command a
-asked (program ∷ command ∷ a ∷ b ∷ []) = asked_of_two command a b
-asked _ = None
+-- What the words ask for, if they are taken: the first is the program's name, and the declaration of the command line takes them.
+unfoldable pub asked : List (List ℕ) → Option Ask
+asked words = option_and_then asked_by (line.asked words)

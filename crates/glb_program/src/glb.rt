@@ -4,13 +4,15 @@ ghost use Rattle.glb_program.specs.Outcome.{AreLoaded, AreLoadsOf, HasCauses};
 ghost use Rattle.glb_program.specs.Run.{IsDue, IsGoodRun, IsRun, IsSaidBy, IsSound, loads_of, loads_of_ask};
 ghost use Rattle.glb_program.specs.Commands.{ask_of};
 ghost use Rattle.glb_program.specs.Reports.{EndsBy};
-ghost use Rattle.glb_program.specs.Words.{asked, texts};
+ghost use Rattle.command_line.specs.Asked.{texts};
+ghost use Rattle.glb_program.specs.Words.{asked};
 
 use crate::check::check_files;
 use crate::map::map_files;
 use crate::report::{Ended, finish, say};
 use crate::status::Status;
 use crate::words::{Command, read_words};
+use no_memory::NoMemory;
 use outside::{Shelf, Sink};
 use std::alloc::Global;
 
@@ -57,11 +59,12 @@ pub fn glb<R, F: Shelf, K: Sink>(
     // Where the files are told to hold a topology, and for `check` a map that is good, and no count of faults rises, there is no other answer but want of memory.
     ensures complete { IsSomeAnd (F.told files.old) (λ shelf. IsSound (asked (texts words.now)) shelf.holds) → ¬ Rose (F.faults files.old) (F.faults files.new) → ¬ Rose (K.faults out.old) (K.faults out.new) → (result ≡ Status.Ok) ⊎ (result ≡ Status.NoMemory) }
 {
-    match read_words(words) {
-        Some(command) => {
+    match read_words(alloc, words) {
+        Ok(Some(command)) => {
             let ended = run_command(alloc, files, command);
             finish(out, ended)
         }
-        None => say(out, Status::Usage, USAGE),
+        Ok(None) => say(out, Status::Usage, USAGE),
+        Err(NoMemory) => Status::NoMemory,
     }
 }

@@ -644,15 +644,16 @@ fn map_texts(rt: HostRuntime) -> Result<(), Fail> {
 
 #[test]
 fn usage(rt: HostRuntime) -> Result<(), Fail> {
-    let rows: [&[&str]; 16] = [
+    let rows: [&[&str]; 17] = [
         &[],
         &["glb"],
         &["glb", "check"],
         &["glb", "check", "t"],
         &["glb", "check", "t", "m", "m"],
         &["glb", "check", "-t", "m"],
-        &["glb", "check", "t", "-"],
-        &["glb", "check", "--", "t", "m"],
+        &["glb", "check", "t", "-m"],
+        &["glb", "--", "check", "t", "m"],
+        &["glb", "check", "t", "m", "--version"],
         &["glb", "chec", "t", "m"],
         &["glb", "t", "m", "check"],
         &["glb", "map"],
