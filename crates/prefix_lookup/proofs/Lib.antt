@@ -1,0 +1,5 @@
+pub mod Numbers
+pub mod Longest
+pub mod Blocks
+pub mod Scopes
+pub mod Defaults

@@ -1,0 +1,3 @@
+pub mod Longest
+pub mod Scope
+pub mod Table

@@ -1,0 +1,12 @@
+//! A version of the map: a map that is good for its instance, with all that replies are made from.
+#![tactic(auto)]
+
+mod amounts;
+mod shared;
+mod version;
+
+pub use shared::Shared;
+pub use version::MapVersion;
+
+#[cfg(test)]
+mod tests;
