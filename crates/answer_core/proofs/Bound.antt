@@ -1,0 +1,110 @@
+-- No reply is over 512 octets.
+use Rattle.std.proofs.Common.{◌≡◌, ℕ, ◌+◌, ◌*◌, ◌≤◌, false, List, [], ◌∷◌, ◌++◌, length, take, Option, Some, None, refl, arith, length-append, length-take}
+use Rattle.std.specs.Prelude.{map, min, All, IfSome}
+use Rattle.std.specs.List.{flat_map}
+use Rattle.byteorder.specs.Endian.{big_bytes}
+use Rattle.std.proofs.lemmas.List.Elements.{All-head, All-tail}
+use Rattle.addr_text.specs.declared.address.Addr.{Addr}
+use Rattle.addr_text.specs.declared.address.Addr.TheVariants.{V4, V6}
+use Rattle.client_subnet.specs.declared.subnet.SubnetOpt.{SubnetOpt}
+use Rattle.client_subnet.specs.Spelling.{octets_for, option_for}
+use Rattle.client_subnet.specs.View.{IsSubnet}
+use Rattle.dns_wire.specs.Message.{Extension}
+use Rattle.dns_wire.specs.Spelling.{header, question, u16}
+use Rattle.topology_text.specs.declared.topology.Zone.{Zone}
+use Rattle.topology_text.specs.Plan.{IsZone}
+use Rattle.answer_core.specs.Columns.{is_authoritative, rcode, scope_told}
+use Rattle.answer_core.specs.Grammar.{Request}
+use Rattle.answer_core.specs.Outcome.{Outcome, BadVers, FormErr, Refused, ServFail, NxDomain, NoData, Soa, NameServers, Addresses}
+use Rattle.answer_core.specs.Sections.{resource, server, address, soa, negative_soa, numbers_of, apex_name, question_name, answers, authority, additional, repeated, count_of_opt}
+use Rattle.answer_core.specs.Reply.{full}
+use Rattle.answer_core.specs.View.{outcome_view, HasFew, IsTold}
+use Rattle.answer_core.specs.declared.outcome.Outcome as code
+use Rattle.answer_core.specs.declared.outcome.Outcome.TheVariants as variants
+
+-- few addresses, and servers under a short name
+abbrev pub Fits : ℕ → Outcome → Type 0
+Fits size BadVers = Unit {0}
+Fits size FormErr = Unit {0}
+Fits size Refused = Unit {0}
+Fits size ServFail = Unit {0}
+Fits size NxDomain = Unit {0}
+Fits size NoData = Unit {0}
+Fits size Soa = Unit {0}
+Fits size NameServers = size ≤ 64
+Fits size (Addresses kind addresses scope) = length addresses ≤ 6
+
+servers_len : (ttl : ℕ) (ns : List (List ℕ)) → All (λ n. length n ≤ 64) ns → length (flat_map resource (map (server ttl) ns)) ≤ 76 * length ns
+servers_len ttl [] all = omega arith
+servers_len ttl (n ∷ ns) all =
+    let rest : length (flat_map resource (map (server ttl) ns)) ≤ 76 * length ns = servers_len ttl ns (All-tail (λ n. length n ≤ 64) n ns all) in
+    let here : length n ≤ 64 = All-head (λ n. length n ≤ 64) n ns all in
+    omega (arith, length-append (resource (server ttl n)) (flat_map resource (map (server ttl) ns)))
+
+address_len : (ttl kind : ℕ) (a : Addr) → length (resource (address ttl kind a)) ≤ 28
+address_len ttl kind (V4 n) = omega arith
+address_len ttl kind (V6 n) = omega arith
+
+addresses_len : (ttl kind : ℕ) (several : List Addr) → length (flat_map resource (map (address ttl kind) several)) ≤ 28 * length several
+addresses_len ttl kind [] = omega arith
+addresses_len ttl kind (a ∷ others) =
+    let rest : length (flat_map resource (map (address ttl kind) others)) ≤ 28 * length others = addresses_len ttl kind others in
+    let here : length (resource (address ttl kind a)) ≤ 28 = address_len ttl kind a in
+    omega (arith, length-append (resource (address ttl kind a)) (flat_map resource (map (address ttl kind) others)))
+
+soa_len : (z : Zone) (owner ttl : ℕ) → IsZone z → length (flat_map resource (soa z owner ttl ∷ [])) ≤ 160
+soa_len z owner ttl zone =
+    omega (arith, zone.mname, zone.rname, length-append (resource (soa z owner ttl)) [], length-append (z.mname ++ z.rname) (numbers_of z), length-append z.mname z.rname)
+
+taken : (size : ℕ) (address : List ℕ) (all : ℕ) → length address ≡ all → all ≤ 16 → 8 + length (take size address) ≤ 24
+taken size address all e le = omega (arith, length-take size address)
+
+option_len : (a : Addr) (source scope : ℕ) → length (option_for a source scope) ≤ 24
+option_len (V4 n) source scope = let t : 8 + length (take (octets_for source) (big_bytes 4 n)) ≤ 24 = taken (octets_for source) (big_bytes 4 n) 4 refl (omega arith) in omega arith
+option_len (V6 n) source scope = let t : 8 + length (take (octets_for source) (big_bytes 16 n)) ≤ 24 = taken (octets_for source) (big_bytes 16 n) 16 refl (omega arith) in omega arith
+
+repeated_len : (subnet : Option SubnetOpt) (told : Option ℕ) → length (repeated subnet told) ≤ 24
+repeated_len (Some s) (Some scope) = option_len s.addr s.source scope
+repeated_len (Some s) None = omega arith
+repeated_len None told = omega arith
+
+additional_len : (o : Option Extension) (subnet : Option SubnetOpt) (outcome : Outcome) → length (additional o subnet outcome) ≤ 35
+additional_len None subnet outcome = omega arith
+additional_len (Some e) subnet outcome = omega (arith, repeated_len subnet (scope_told outcome))
+
+-- a name and the records behind it
+name_and_records : (z : Zone) (name : List ℕ) (o : Outcome) → IsZone z → length name ≤ 255 → Fits (length name) o → length name + length (flat_map resource (answers z o)) + length (flat_map resource (authority z name o)) ≤ 423
+name_and_records z name Soa zone short fit = let a : length (flat_map resource (answers z Soa)) ≤ 160 = soa_len z question_name z.ttl zone in omega arith
+name_and_records z name NameServers zone short fit =
+    let a : length (flat_map resource (answers z NameServers)) ≤ 76 * length z.ns = servers_len z.ttl z.ns zone.short_ns in omega (arith, zone.few_ns)
+name_and_records z name (Addresses kind addresses scope) zone short fit =
+    let some : length (flat_map resource (answers z (Addresses kind addresses scope))) ≤ 28 * length addresses = addresses_len z.ttl kind addresses in omega arith
+name_and_records z name NxDomain zone short fit = let a : length (flat_map resource (authority z name NxDomain)) ≤ 160 = soa_len z (apex_name z name) (min z.ttl z.minimum) zone in omega arith
+name_and_records z name NoData zone short fit = let a : length (flat_map resource (authority z name NoData)) ≤ 160 = soa_len z (apex_name z name) (min z.ttl z.minimum) zone in omega arith
+name_and_records z name BadVers zone short fit = omega arith
+name_and_records z name FormErr zone short fit = omega arith
+name_and_records z name Refused zone short fit = omega arith
+name_and_records z name ServFail zone short fit = omega arith
+
+five : (head name a b c : List ℕ) (n : ℕ) → length head ≡ 12 → length name ≡ n + 4 → n + length a + length b ≤ 423 → length c ≤ 35 → length (head ++ name ++ a ++ b ++ c) ≤ 512
+five head name a b c n h1 h2 h3 h4 = omega (arith, length-append (head ++ name ++ a ++ b) c, length-append (head ++ name ++ a) b, length-append (head ++ name) a, length-append head name)
+
+question_len : (name : List ℕ) (kind class : ℕ) → length (question name kind class) ≡ length name + 4
+question_len name kind class = omega (arith, length-append (name ++ u16 kind) (u16 class), length-append name (u16 kind))
+
+pub bound : (z : Zone) (r : Request) (o : Outcome) → IsZone z → length r.asked.name ≤ 255 → Fits (length r.asked.name) o → length (full z r o) ≤ 512
+bound z r o zone short fit =
+    let q = r.asked in
+    five (header q.head (is_authoritative o) false (rcode o) (1 ∷ length (answers z o) ∷ length (authority z q.name o) ∷ count_of_opt q.opt ∷ [])) (question q.name q.kind q.class) (flat_map resource (answers z o)) (flat_map resource (authority z q.name o)) (additional q.opt r.subnet o) (length q.name)
+    refl (question_len q.name q.kind q.class) (name_and_records z q.name o zone short fit) (additional_len q.opt r.subnet o)
+
+pub view_fits : (size : ℕ) (o : code.Outcome) → HasFew o → IsTold size o → Fits size (outcome_view o)
+view_fits size variants.BadVers few told = tt
+view_fits size variants.FormErr few told = tt
+view_fits size variants.Refused few told = tt
+view_fits size variants.ServFail few told = tt
+view_fits size variants.NxDomain few told = tt
+view_fits size variants.NoData few told = tt
+view_fits size variants.Soa few told = tt
+view_fits size variants.NameServers few told = told
+view_fits size (variants.Addresses kind addresses scope) few told = few

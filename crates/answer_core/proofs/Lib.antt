@@ -1,0 +1,5 @@
+pub mod Ends
+pub mod Laid
+pub mod Labels
+pub mod Records
+pub mod Bound

@@ -1,0 +1,14 @@
+use Rattle.std.proofs.Common.{◌≡◌, ℕ, List, ap, ◌∙◌}
+use Rattle.std.specs.Prelude.{sum}
+use Rattle.map_model.specs.Allocation.{placed}
+use Rattle.published_map.specs.Version.{amounts_of}
+use Rattle.answer_core.specs.Pick.{slot_of}
+use Rattle.answer_core.proofs.Laid.{picked}
+use Rattle.answer_core.proofs.picking.pick.Goals as goal
+
+pub returns-clause-picked : goal.returns-clause-picked
+returns-clause-picked c =
+    let v = c.args.version.now in
+    let items : c.deref.result.now ≡ amounts_of v c.args.group.0 = c.deref.ensures.0 ∙ c.amounts-amounts.ensures.amounts in
+    let units : c.total.result ≡ placed v.lines c.args.group.0 = c.total.ensures ∙ ap sum c.deref-2.ensures.0 ∙ c.amounts-amounts.ensures.total in
+    picked v c.args.group.0 c.args.draw c.slot.result c.deref.result.now c.place.result c.requires items (c.slot.ensures.exact ∙ ap (slot_of c.args.draw) units) c.place.ensures.there c.place.ensures.from c.place.ensures.to

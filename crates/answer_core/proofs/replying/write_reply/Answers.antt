@@ -1,0 +1,22 @@
+use Rattle.std.proofs.Common.{◌≡◌, ◌≤◌, ℕ, length, ap, arith}
+use Rattle.dns_wire.specs.View.{asked}
+use Rattle.answer_core.specs.Reply.{full}
+use Rattle.answer_core.specs.View.{outcome_view, request_view}
+use Rattle.answer_core.proofs.Bound.{bound, view_fits}
+use Rattle.answer_core.proofs.replying.write_reply.Goals as goal
+
+pub write_full-requires-clause-room : goal.write_full-requires-clause-room
+write_full-requires-clause-room c =
+    let request = c.read_request-request.result in
+    let outcome = c.decide-outcome.result in
+    bound c.zone.result.now (request_view request) (outcome_view outcome) c.zone.ensures.form c.read_request-request.ensures.name.fits
+    (view_fits (length request.query.name.now) outcome c.decide-outcome.ensures.few c.decide-outcome.ensures.told)
+
+pub returns-clause-short : goal.returns-clause-short
+returns-clause-short c =
+    let request = c.read_request-request.result in
+    let outcome = c.decide-outcome.result in
+    let short : length (full c.zone.result.now (request_view request) (outcome_view outcome)) ≤ 512 =
+    bound c.zone.result.now (request_view request) (outcome_view outcome) c.zone.ensures.form c.read_request-request.ensures.name.fits
+    (view_fits (length request.query.name.now) outcome c.decide-outcome.ensures.few c.decide-outcome.ensures.told) in
+    rw c.write_full.ensures short

@@ -1,0 +1,99 @@
+-- What is replied to a query that can be read: by the first of these steps that decides.
+use Rattle.std.specs.Prelude.{ℕ, Bool, ◌||◌, ◌==◌, not, if◌then◌else◌, List, [], ◌∷◌, ◌++◌, Option, None, Some, option_map}
+use Rattle.std.specs.List.{list_any}
+use Rattle.std.specs.Option.{option_and_then}
+use Rattle.addr_text.specs.declared.address.Addr.{Addr}
+use Rattle.client_subnet.specs.declared.subnet.SubnetOpt.{SubnetOpt}
+use Rattle.map_model.specs.Market.{pool_of}
+use Rattle.name_text.specs.Names.{is_same, is_under, labels_part}
+use Rattle.prefix_lookup.specs.Longest.{group_of}
+use Rattle.prefix_lookup.specs.Scope.{scope_of}
+use Rattle.published_map.specs.Version.{Version}
+use Rattle.topology_text.specs.declared.topology.Zone.{Zone}
+use Rattle.topology_text.specs.Plan.{addresses_of}
+use Rattle.answer_core.specs.declared.request.QueryFault.{QueryFault}
+use Rattle.answer_core.specs.declared.request.QueryFault.TheVariants as fault
+use Rattle.answer_core.specs.Grammar.{Request}
+use Rattle.answer_core.specs.Pick.{pick_of}
+
+pub data Outcome : Type 0 where
+  -- an EDNS version that is not spoken here (RFC 6891 6.1.3)
+  BadVers : Outcome
+  -- options that break their format
+  FormErr : Outcome
+  Refused : Outcome
+  ServFail : Outcome
+  -- no such name (RFC 2308 2.1), and no record of the type (2.2)
+  NxDomain : Outcome
+  NoData : Outcome
+  -- the zone's start of authority, and its name servers
+  Soa : Outcome
+  NameServers : Outcome
+  -- records of a type, A or AAAA, and the scope that is told where a subnet was given
+  Addresses : (kind : ℕ) (addresses : List Addr) (scope : ℕ) → Outcome
+
+-- the client's address: that of the subnet, where some of its bits are given, else the sender's
+abbrev pub client_of : Option SubnetOpt → Addr → Addr
+client_of None from = from
+client_of (Some s) from = if s.source == 0 then from else s.addr
+
+-- how many bits of the client's address decide the answer; 0 where none of them was given
+abbrev pub told_scope : Version → Option SubnetOpt → ℕ
+told_scope v None = 0
+told_scope v (Some s) = if s.source == 0 then 0 else scope_of v.plan.prefixes s.addr
+
+-- the pool on which the draw falls for a group, and for the group of a client's address; none where nothing is placed for it
+abbrev pub pool_for_group : Version → ℕ → ℕ → Option ℕ
+pool_for_group v draw g = option_map (λ k. pool_of v.market g k) (pick_of v g draw)
+
+abbrev pub pool_for : Version → Addr → ℕ → Option ℕ
+pool_for v client draw = option_and_then (λ g. pool_for_group v draw g.0) (group_of v.plan.prefixes client)
+
+-- all addresses of the pool, in the file's order
+abbrev pub of_addresses : ℕ → List Addr → ℕ → Outcome
+of_addresses kind [] scope = NoData
+of_addresses kind (a ∷ more) scope = Addresses kind (a ∷ more) scope
+
+abbrev pub of_pool : Version → ℕ → ℕ → Option ℕ → Outcome
+of_pool v kind scope None = ServFail
+of_pool v kind scope (Some pool) = of_addresses kind (addresses_of v.plan pool kind) scope
+
+-- types: A 1, NS 2, SOA 6, AAAA 28, ANY 255, which counts as A
+abbrev pub is_address_kind : ℕ → Bool
+is_address_kind kind = (kind == 1) || (kind == 28) || (kind == 255)
+
+abbrev pub answered_kind : ℕ → ℕ
+answered_kind kind = if kind == 28 then 28 else 1
+
+-- a service's name
+abbrev pub at_service : Version → Request → Addr → ℕ → Outcome
+at_service v r from draw =
+    if not (is_address_kind r.asked.kind) then NoData
+    else of_pool v (answered_kind r.asked.kind) (told_scope v r.subnet) (pool_for v (client_of r.subnet from) draw)
+
+-- the apex
+abbrev pub at_apex : ℕ → Outcome
+at_apex kind = if kind == 6 then Soa else if kind == 2 then NameServers else NoData
+
+-- the name is that of a service in the zone: its label and the apex
+abbrev pub is_service : Zone → List ℕ → Bool
+is_service z name = list_any (λ service. is_same name (labels_part service ++ z.apex)) z.services
+
+-- class IN is 1
+abbrev pub by_name : Version → Request → Addr → ℕ → Outcome
+by_name v r from draw =
+    let zone = v.plan.zone in
+    if not (r.asked.class == 1) then Refused
+    else if not (is_under r.asked.name zone.apex) then Refused
+    else if is_same r.asked.name zone.apex then at_apex r.asked.kind
+    else if not (is_service zone r.asked.name) then NxDomain
+    else at_service v r from draw
+
+-- what is at fault comes before class and name
+abbrev pub by_fault : Option QueryFault → Outcome → Outcome
+by_fault (Some fault.Version) other = BadVers
+by_fault (Some fault.Options) other = FormErr
+by_fault None other = other
+
+abbrev pub outcome_of : Version → Request → Addr → ℕ → Outcome
+outcome_of v r from draw = by_fault r.fault (by_name v r from draw)

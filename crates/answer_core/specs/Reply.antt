@@ -1,0 +1,47 @@
+-- The stated reply of a version to a datagram.
+use Rattle.std.specs.Prelude.{◌≡◌, ℕ, false, List, [], ◌∷◌, ◌++◌, length, Option, None, Some}
+use Rattle.std.specs.List.{flat_map}
+use Rattle.addr_text.specs.declared.address.Addr.{Addr}
+use Rattle.dns_wire.specs.declared.message.Head.{Head}
+use Rattle.dns_wire.specs.Spelling.{header, question}
+use Rattle.published_map.specs.Version.{Version}
+use Rattle.topology_text.specs.declared.topology.Zone.{Zone}
+use Rattle.answer_core.specs.declared.replying.Answer.{Answer}
+use Rattle.answer_core.specs.declared.replying.Answer.TheVariants as answer
+use Rattle.answer_core.specs.Columns.{is_authoritative, rcode}
+use Rattle.answer_core.specs.Grammar.{Request, Datagram, datagram_of, Silent, NotImp, Form, Query}
+use Rattle.answer_core.specs.Outcome.{Outcome, outcome_of}
+use Rattle.answer_core.specs.Sections.{resource, answers, authority, additional, count_of_opt}
+
+-- the header alone, with no counts
+abbrev pub alone : Head → ℕ → List ℕ
+alone h code = header h false false code (0 ∷ 0 ∷ 0 ∷ 0 ∷ [])
+
+-- a reply that repeats the question
+abbrev pub full : Zone → Request → Outcome → List ℕ
+full z r outcome =
+    let q = r.asked in
+    header q.head (is_authoritative outcome) false (rcode outcome) (1 ∷ length (answers z outcome) ∷ length (authority z q.name outcome) ∷ count_of_opt q.opt ∷ [])
+    ++ question q.name q.kind q.class
+    ++ flat_map resource (answers z outcome)
+    ++ flat_map resource (authority z q.name outcome)
+    ++ additional q.opt r.subnet outcome
+
+-- the reply to a query that can be read
+abbrev pub reply_to_query : Version → Addr → Request → ℕ → List ℕ
+reply_to_query v from r draw = full v.plan.zone r (outcome_of v r from draw)
+
+-- what is no query is not implemented (RCODE 4) or a format error (1)
+abbrev pub reply_to : Version → Addr → Datagram → ℕ → Option (List ℕ)
+reply_to v from Silent draw = None
+reply_to v from (NotImp h) draw = Some (alone h 4)
+reply_to v from (Form h) draw = Some (alone h 1)
+reply_to v from (Query r) draw = Some (reply_to_query v from r draw)
+
+abbrev pub reply_of : Version → Addr → List ℕ → ℕ → Option (List ℕ)
+reply_of v from octets draw = reply_to v from (datagram_of octets) draw
+
+-- sent: these octets are the stated reply; silent: there is none, and no octets
+abbrev pub Replies : Answer → List ℕ → Option (List ℕ) → Type 0
+Replies answer.Sent octets stated = stated ≡ Some octets
+Replies answer.Silent octets stated = (stated ≡ None) × (octets ≡ [])

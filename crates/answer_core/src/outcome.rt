@@ -1,0 +1,158 @@
+//! What is replied to a query that can be read.
+ghost use Rattle.std.specs.Prelude.{◌≡◌, ◌<◌, ◌≤◌, ℕ, if◌then◌else◌, length, option_map, IfSome, Some, None};
+ghost use Rattle.answer_core.specs.Outcome.{answered_kind, at_apex, at_service, by_name, client_of, is_address_kind, outcome_of, pool_for, told_scope};
+ghost use Rattle.answer_core.specs.View.{HasFew, IsTold, outcome_view, request_view};
+
+use crate::kinds::{A, AAAA, ANY, IN, NS, SOA};
+use crate::picking::pick;
+use crate::request::{QueryFault, Request};
+use crate::services::is_service;
+use addr_text::Addr;
+use client_subnet::SubnetOpt;
+use map_model::{NodeId, Offer};
+use name_text::{same_name, under};
+use published_map::MapVersion;
+
+/// What is replied to a query that can be read.
+#[derive(Clone, Copy)]
+pub(crate) enum Outcome<'a> {
+    BadVers,
+    FormErr,
+    Refused,
+    ServFail,
+    NxDomain,
+    NoData,
+    /// The zone's start of authority.
+    Soa,
+    NameServers,
+    Addresses {
+        kind: u16,
+        addresses: &'a [Addr],
+        scope: u8,
+    },
+}
+
+/// The client's address: that of the subnet, where some of its bits are given, else the sender's.
+fn client_of(subnet: Option<SubnetOpt>, from: Addr) -> Addr
+    ensures { result ≡ client_of subnet from }
+{
+    match subnet {
+        Some(subnet) if subnet.source != 0 => subnet.addr,
+        _ => from,
+    }
+}
+
+/// The scope that a reply tells: how many bits of the client's address decide it.
+fn told_scope(version: &MapVersion, subnet: Option<SubnetOpt>) -> u8
+    ensures { result ≡ told_scope version.now subnet }
+{
+    match subnet {
+        Some(subnet) if subnet.source != 0 => version.scope(subnet.addr),
+        _ => 0,
+    }
+}
+
+/// The pool on which a draw falls for a client's group; None where nothing is placed for it.
+fn pool_for(version: &MapVersion, client: Addr, draw: u64) -> Option<NodeId>
+    ensures exact { option_map (λ n. n.0) result ≡ pool_for version.now client draw }
+    ensures there { IfSome result (λ n. n.0 < length version.now.plan.market.nodes) }
+{
+    let group = version.group_of_addr(client);
+    let place = pick(version, group, draw)?;
+    Some(version.pool_at(Offer { group, place }))
+}
+
+/// The type of the records that answer for a service; None where it has no such records.
+fn answered_kind(kind: u16) -> Option<u16>
+    ensures { result ≡ if is_address_kind kind then Some (answered_kind kind) else None }
+{
+    match kind {
+        A | ANY => Some(A),
+        AAAA => Some(AAAA),
+        _ => None,
+    }
+}
+
+/// A service's name.
+fn at_service<'v>(
+    version: &'v MapVersion,
+    request: &Request,
+    from: Addr,
+    draw: u64,
+) -> Outcome<'v>
+    ensures exact { outcome_view result ≡ at_service version.now (request_view request.now) from draw }
+    ensures few { HasFew result }
+    ensures told { (size : ℕ) → IsTold size result }
+{
+    let Some(kind) = answered_kind(request.query.kind) else {
+        return Outcome::NoData;
+    };
+    let client = client_of(request.subnet, from);
+    let Some(pool) = pool_for(version, client, draw) else {
+        return Outcome::ServFail;
+    };
+    let addresses = version.addresses(pool, kind);
+    if addresses.is_empty() {
+        return Outcome::NoData;
+    }
+    Outcome::Addresses {
+        kind,
+        addresses,
+        scope: told_scope(version, request.subnet),
+    }
+}
+
+/// The apex.
+fn at_apex<'v>(kind: u16) -> Outcome<'v>
+    ensures exact { outcome_view result ≡ at_apex kind }
+    ensures few { HasFew result }
+{
+    match kind {
+        SOA => Outcome::Soa,
+        NS => Outcome::NameServers,
+        _ => Outcome::NoData,
+    }
+}
+
+/// The class and the name.
+fn by_name<'v>(
+    version: &'v MapVersion,
+    request: &Request,
+    from: Addr,
+    draw: u64,
+) -> Outcome<'v>
+    ensures exact { outcome_view result ≡ by_name version.now (request_view request.now) from draw }
+    ensures few { HasFew result }
+    ensures told { IsTold (length request.now.query.name.now) result }
+{
+    let zone = version.zone();
+    let query = &request.query;
+    if query.class != IN || !under(query.name, zone.apex.wire()) {
+        return Outcome::Refused;
+    }
+    if same_name(query.name, zone.apex.wire()) {
+        return at_apex(query.kind);
+    }
+    if !is_service(zone, query.name) {
+        return Outcome::NxDomain;
+    }
+    at_service(version, request, from, draw)
+}
+
+/// What is replied to a query.
+pub(crate) fn decide<'v>(
+    version: &'v MapVersion,
+    request: &Request,
+    from: Addr,
+    draw: u64,
+) -> Outcome<'v>
+    ensures exact { outcome_view result ≡ outcome_of version.now (request_view request.now) from draw }
+    ensures few { HasFew result }
+    ensures told { IsTold (length request.now.query.name.now) result }
+{
+    match request.fault {
+        Some(QueryFault::Version) => Outcome::BadVers,
+        Some(QueryFault::Options) => Outcome::FormErr,
+        None => by_name(version, request, from, draw),
+    }
+}

@@ -1,0 +1,81 @@
+//! The options of an OPT record, one after the other.
+ghost use Rattle.std.specs.Prelude.{◌≡◌, ◌<◌, length, IfSome};
+ghost use Rattle.std.specs.Option.{option_map};
+ghost use Rattle.client_subnet.specs.Options.{option_in, first_in, subnet_of};
+ghost use Rattle.client_subnet.specs.Steps.{kept};
+ghost use Rattle.client_subnet.specs.View.{option_view, HasForm};
+
+use crate::ClientSubnet;
+use crate::field::u16_in;
+use crate::subnet::read_subnet;
+
+/// The code of a client subnet.
+pub(crate) const CLIENT_SUBNET: u16 = 8;
+
+/// An option (RFC 6891 section 6.1.2): its code, and its octets.
+#[derive(Clone, Copy)]
+pub(crate) struct EdnsOption<'a> {
+    code: u16,
+    octets: &'a [u8],
+}
+
+/// An option, and what follows it.
+fn read_option(octets: &[u8]) -> Option<(EdnsOption<'_>, &[u8])>
+    ensures exact { option_map (λ x. (option_view x.0, x.1.now)) result ≡ option_in octets.now }
+    ensures shorter { IfSome result (λ x. length x.1.now < length octets.now) }
+{
+    if octets.len() < 4 {
+        return None;
+    }
+    let size = u16_in(octets, 2) as usize;
+    if octets.len() < 4 + size {
+        return None;
+    }
+    let (content, rest) = octets[4..].split_at(size);
+    let code = u16_in(octets, 0);
+    Some((
+        EdnsOption {
+            code,
+            octets: content,
+        },
+        rest,
+    ))
+}
+
+/// The first client subnet, with one more option.
+fn kept<'a>(first: Option<&'a [u8]>, next: EdnsOption<'a>) -> Option<&'a [u8]>
+    ensures { option_map (λ x. x.now) result ≡ kept (option_map (λ x. x.now) first.entry) (option_view next.entry) }
+{
+    if first.is_none() && next.code == CLIENT_SUBNET {
+        return Some(next.octets);
+    }
+    first
+}
+
+/// The octets of the first client subnet, where there is one; None where the options do not fill the octets exactly.
+fn first_subnet(octets: &[u8]) -> Option<Option<&[u8]>>
+    ensures { option_map (option_map (λ x. x.now)) result ≡ first_in octets.now }
+{
+    let mut first = None;
+    let mut rest = octets;
+    while !rest.is_empty() {
+        let (next, after) = read_option(rest)?;
+        first = kept(first, next);
+        rest = after;
+    }
+    Some(first)
+}
+
+/// What the options of a query say of the client's subnet (RFC 7871 section 6): the first option of code 8 decides, and later ones are ignored.
+///
+/// `Bad` also comes where the options do not fill the octets exactly. A subnet that is given is a prefix: its length is within the family's, and no bit is set beyond it.
+pub fn read_options(options: &[u8]) -> ClientSubnet
+    ensures exact { result ≡ subnet_of options.now }
+    ensures form { HasForm result }
+{
+    match first_subnet(options) {
+        None => ClientSubnet::Bad,
+        Some(None) => ClientSubnet::None,
+        Some(Some(octets)) => read_subnet(octets),
+    }
+}

@@ -1,0 +1,5 @@
+pub mod Wire
+pub mod Message
+pub mod Steps
+pub mod View
+pub mod Spelling

@@ -1,0 +1,16 @@
+//! DNS messages as octets (RFC 1035 section 4.1, RFC 6891 section 6.1): what a datagram asks, and the fields of a reply.
+//!
+//! Reading looks at the datagram in place and stops at the first field that is not whole, so it takes no memory and no more steps than the datagram has octets, whatever its counts say.
+#![tactic(auto)]
+
+mod message;
+mod name;
+mod reading;
+mod record;
+#[cfg(test)]
+mod tests;
+mod writing;
+
+pub use message::{Head, Message, Opt, Query};
+pub use reading::read_query;
+pub use writing::{write_head, write_opt, write_question, write_record};
