@@ -1,19 +1,18 @@
-use Rattle.std.proofs.Common.{◌≡◌, ℕ, ◌+◌, ◌-◌, ◌*◌, ◌<◌, ◌≤◌, ◌==◌, Bool, true, false, ◌&&◌, ◌||◌, nat_le, nat_lt, if◌then◌else◌, List, [], ◌∷◌, ◌++◌, length, take, get_or, All, IsTrue, slice_index, refl, sym, ap, ◌∙◌, subst, inl, inr, ◌⊎◌, arith}
-use Rattle.std.specs.List.{list_any, range_with_len, sum_by}
+use Rattle.std.proofs.Common.{◌≡◌, ℕ, ◌+◌, ◌<◌, ◌≤◌, ◌==◌, Bool, true, false, ◌&&◌, ◌||◌, nat_le, if◌then◌else◌, List, [], ◌∷◌, length, take, get_or, slice_index, slice_set, refl, sym, ap, ◌∙◌, subst, inl, inr, arith}
 use Rattle.std.proofs.lemmas.Bool.{and_parts, cases_Bool, cases_eq, eq-eqb, eqb-true, ne_eqb, or_cases, false≢true, leb-true}
-use Rattle.std.proofs.lemmas.List.Folds.{list_any-append}
-use Rattle.std.proofs.lemmas.List.{get_or_append_left, length-append, take_more}
+use Rattle.std.proofs.lemmas.List.Folds.{list_any_more}
+use Rattle.std.proofs.lemmas.List.{get_or-set_other, length-set}
+use Rattle.std.proofs.lemmas.Grind.{get_or-set_at}
 use Rattle.std.proofs.lemmas.List.Sums.{sum_by-cons}
-use Rattle.std.proofs.lemmas.List.Elements.{All-push}
-use Rattle.map_model.specs.declared.instance.GroupId.{GroupId}
 use Rattle.map_model.specs.declared.instance.Offer.{Offer}
-use Rattle.map_model.specs.Market.{Market, choices_of, demand_of}
+use Rattle.map_model.specs.Market.{Market, choices_of}
 use Rattle.map_model.specs.Allocation.{IsOffer, first}
+use Rattle.map_model.specs.Progress.{IsEnded}
 use Rattle.evict.specs.declared.freed.Eviction.{Eviction}
 use Rattle.evict.specs.Evictions.{freed_units, gave_up}
 use Rattle.evict.specs.Standing.{CanPut, IsPut, IsReady, Standing}
 use Rattle.deferred_accept.specs.Runs.{HasRun, most_proposals, proposals_of, worth, worth_of}
-use Rattle.deferred_accept.specs.Work.{CoversRest, CoversWork, IsDueOffer, IsWaiting, gave_any, names}
+use Rattle.deferred_accept.specs.Work.{CoversRest, CoversWork, IsDueOffer, IsWaiting, gave_any, is_on}
 use Rattle.deferred_accept.proofs.Sums.{sum-le, sum-lt}
 use Rattle.deferred_accept.proofs.Worth.{worth_falls}
 
@@ -27,7 +26,7 @@ pub worth-le : (m : Market) (state : Standing) → worth m state ≤ most_propos
 worth-le m state = sum-le (worth_of m state) (proposals_of m state.pointers) (length m.groups) 0 (λ i low high. omega arith)
 
 -- no pointer falls by a proposal
-pointer_rises : (m : Market) (old new : Standing) (g k units : ℕ) (freed : List Eviction) → IsPut m old new g k units freed → (h : ℕ) → h < length m.groups → slice_index old.pointers h ≤ slice_index new.pointers h
+pub pointer_rises : (m : Market) (old new : Standing) (g k units : ℕ) (freed : List Eviction) → IsPut m old new g k units freed → (h : ℕ) → h < length m.groups → slice_index old.pointers h ≤ slice_index new.pointers h
 pointer_rises m old new g k units freed put h l = one (gave_up freed h (slice_index old.pointers h)) (slice_index old.pointers h) (slice_index new.pointers h) (put.pointers h l)
   where
     one : (b : Bool) (p q : ℕ) → q ≡ (if b then p + 1 else p) → p ≤ q
@@ -63,7 +62,7 @@ or_false true b h = absurd (false≢true (sym h))
 or_false false b h = (refl, h)
 
 -- a group that gave up nothing gave up nothing at any place
-none_freed : (freed : List Eviction) (h : ℕ) → gave_any freed h ≡ false → freed_units (λ x _. x == h) freed ≡ 0
+pub none_freed : (freed : List Eviction) (h : ℕ) → gave_any freed h ≡ false → freed_units (λ x _. x == h) freed ≡ 0
 none_freed [] h none = refl
 none_freed (e ∷ es) h none =
     let p = or_false (e.offer.group.0 == h) (gave_any es h) none in
@@ -71,81 +70,89 @@ none_freed (e ∷ es) h none =
     let z : f e ≡ 0 = rw p.0 refl in
     omega (arith, sum_by-cons f e es, z, none_freed es h p.1)
 
-none_at : (freed : List Eviction) (h k : ℕ) → gave_any freed h ≡ false → gave_up freed h k ≡ false
+pub none_at : (freed : List Eviction) (h k : ℕ) → gave_any freed h ≡ false → gave_up freed h k ≡ false
 none_at [] h k none = refl
 none_at (e ∷ es) h k none =
     let p = or_false (e.offer.group.0 == h) (gave_any es h) none in
     rw p.0 (none_at es h k p.1)
 
 -- a group that waits after a proposal waited before it, or gave up units
-waited : (m : Market) (old new : Standing) (g k units : ℕ) (freed : List Eviction) → IsPut m old new g k units freed → (h : ℕ) → IsWaiting m new h → gave_any freed h ≡ false → IsWaiting m old h
+pub waited : (m : Market) (old new : Standing) (g k units : ℕ) (freed : List Eviction) → IsPut m old new g k units freed → (h : ℕ) → IsWaiting m new h → gave_any freed h ≡ false → IsWaiting m old h
 waited m old new g k units freed put h w none =
     let same : slice_index new.pointers h ≡ slice_index old.pointers h = put.pointers h w.group ∙ ap (λ b. if b then slice_index old.pointers h + 1 else slice_index old.pointers h) (none_at freed h (slice_index old.pointers h) none) in
     record { group = w.group; free = omega (arith, put.free h w.group, none_freed freed h none, w.free); place = omega (arith, same, w.place) }
 
-or_true : (b : Bool) → (b || true) ≡ true
-or_true true = refl
-or_true false = refl
+or_right : (a b : Bool) → b ≡ true → (a || b) ≡ true
+or_right true b e = refl
+or_right false b e = e
 
--- the list of work after a proposal
-pub covers_step : (m : Market) (old new : Standing) (g : GroupId) (k units : ℕ) (freed : List Eviction) (rest work : List GroupId) → CoversRest m old g.0 rest → IsPut m old new g.0 k units freed → g.0 < length m.groups
-    → ((h : ℕ) → names work h ≡ (names (rest ++ g ∷ []) h || gave_any freed h)) → ((n : ℕ) → All (λ x. x.0 < n) (rest ++ g ∷ []) → All (λ e. e.offer.group.0 < n) freed → All (λ x. x.0 < n) work) → CoversWork m new work
-covers_step m old new g k units freed rest work covered put there named groups = record {
-  groups = groups (length m.groups) (All-push (λ (x : GroupId). x.0 < length m.groups) rest g covered.groups there) (λ i d l. (put.evictions i d l).offer.group);
-  waiting = λ h w. elim (cases_Bool (gave_any freed h)) [
-    | inl e ↦ named h ∙ ap (λ b. names (rest ++ g ∷ []) h || b) e ∙ or_true (names (rest ++ g ∷ []) h)
-    | inr e ↦
-        let on : names (rest ++ g ∷ []) h ≡ true = list_any-append (λ (x : GroupId). x.0 == h) rest (g ∷ []) ∙ ap (λ b. names rest h || b) (or_false_right (g.0 == h)) ∙ covered.waiting h (waited m old new g.0 k units freed put h w e) in
-        named h ∙ ap (λ b. b || gave_any freed h) on
+or_left : (a b : Bool) → a ≡ true → (a || b) ≡ true
+or_left true b e = refl
+or_left false b e = absurd (false≢true e)
+
+-- the list of work after a proposal: the group of the offer is on it again, and so are those that gave up units
+pub covers_step : (m : Market) (old new : Standing) (g k units : ℕ) (freed : List Eviction) (rest work : List Bool) → CoversRest m old g rest → IsPut m old new g k units freed → g < length m.groups → length work ≡ length rest
+    → ((h : ℕ) → h < length rest → is_on work h ≡ (is_on (slice_set rest g true) h || gave_any freed h)) → CoversWork m new work
+covers_step m old new g k units freed rest work covered put there count each = record {
+  count = count ∙ covered.count;
+  waiting = λ h w. each h (omega (arith, covered.count, w.group)) ∙ on h w;
+}
+  where
+    on : (h : ℕ) → IsWaiting m new h → (is_on (slice_set rest g true) h || gave_any freed h) ≡ true
+    on h w = elim (cases_Bool (gave_any freed h)) [
+      | inl gave ↦ or_right (is_on (slice_set rest g true) h) (gave_any freed h) gave
+      | inr none ↦ or_left (is_on (slice_set rest g true) h) (gave_any freed h) (elim (cases_eq h g) [
+        | inl e ↦ get_or-set_at rest g h true false e (omega (arith, covered.count, there))
+        | inr ne ↦ get_or-set_other rest g h true false ne ∙ still h ne (covered.waiting h (waited m old new g k units freed put h w none))
+      ])
+    ]
+      where
+        still : (h : ℕ) → (h ≡ g → ⊥) → (is_on rest h || (g == h)) ≡ true → is_on rest h ≡ true
+        still h ne both = elim (or_cases (is_on rest h) (g == h) both) [ inl e ↦ e | inr e ↦ absurd (ne (sym (eqb-true g h e))) ]
+
+-- the list of work without one of its groups
+pub covers_rest : (m : Market) (state : Standing) (work : List Bool) (g : ℕ) → CoversWork m state work → CoversRest m state g (slice_set work g false)
+covers_rest m state work g covered = record {
+  count = length-set work g false ∙ covered.count;
+  waiting = λ h w. elim (cases_eq g h) [
+    | inl e ↦ or_right (is_on (slice_set work g false) h) (g == h) (eq-eqb g h e)
+    | inr ne ↦ or_left (is_on (slice_set work g false) h) (g == h) (get_or-set_other work g h false false (λ e. ne (sym e)) ∙ covered.waiting h w)
   ];
 }
+
+-- where that group does not wait, all others still stand on the list
+pub covers_less : (m : Market) (state : Standing) (work : List Bool) (g : ℕ) → CoversWork m state work → (IsWaiting m state g → ⊥) → CoversWork m state (slice_set work g false)
+covers_less m state work g covered idle = record {
+  count = length-set work g false ∙ covered.count;
+  waiting = λ h w. elim (cases_eq h g) [
+    | inl e ↦ absurd (idle (subst (λ x. IsWaiting m state x) e w))
+    | inr ne ↦ get_or-set_other work g h false false ne ∙ covered.waiting h w
+  ];
+}
+
+-- where no group is on the list, none waits
+pub covers_none : (m : Market) (state : Standing) (work : List Bool) → IsReady m state → CoversWork m state work → ((h : ℕ) → h < length work → is_on work h ≡ false) → IsEnded m state.pointers state.free
+covers_none m state work ready covered none g l place = elim (cases_eq (slice_index state.free g) 0) [
+  | inl e ↦ e
+  | inr some ↦ absurd (false≢true (sym (none g (omega (arith, covered.count, l))) ∙ covered.waiting g (record { group = l; free = omega arith; place = place })))
+]
+
+-- one group more that gave up units
+pub on_more : (old work : List Bool) (freed : List Eviction) (i : ℕ) (d : Eviction) (h : ℕ) → i < length freed → h < length work → is_on work h ≡ (is_on old h || gave_any (take i freed) h)
+    → is_on (slice_set work (get_or freed i d).offer.group.0 true) h ≡ (is_on old h || gave_any (take (i + 1) freed) h)
+on_more old work freed i d h l there before =
+    let e : Eviction = get_or freed i d in
+    let more : gave_any (take (i + 1) freed) h ≡ (gave_any (take i freed) h || (e.offer.group.0 == h)) = list_any_more (λ (x : Eviction). x.offer.group.0 == h) freed i d l in
+    elim (cases_eq h e.offer.group.0) [
+      | inl same ↦ get_or-set_at work e.offer.group.0 h true false same (omega (arith, there, same))
+          ∙ sym (or_right (is_on old h) (gave_any (take (i + 1) freed) h) (more ∙ or_right (gave_any (take i freed) h) (e.offer.group.0 == h) (eq-eqb e.offer.group.0 h (sym same))))
+      | inr ne ↦ get_or-set_other work e.offer.group.0 h true false ne ∙ before
+          ∙ ap (λ b. is_on old h || b) (sym (more ∙ ap (λ b. gave_any (take i freed) h || b) (ne_eqb e.offer.group.0 h (λ x. ne (sym x))) ∙ or_false_right (gave_any (take i freed) h)))
+    ]
   where
     or_false_right : (b : Bool) → (b || false) ≡ b
     or_false_right true = refl
     or_false_right false = refl
-
-names_push : (rest : List GroupId) (g : GroupId) (h : ℕ) → names (rest ++ g ∷ []) h ≡ (names rest h || (g.0 == h))
-names_push rest g h = list_any-append (λ (x : GroupId). x.0 == h) rest (g ∷ []) ∙ ap (λ b. names rest h || b) (right (g.0 == h))
-  where
-    right : (b : Bool) → (b || false) ≡ b
-    right true = refl
-    right false = refl
-
-front_groups : (n : ℕ) (rest : List GroupId) (g : GroupId) → All (λ x. x.0 < n) (rest ++ g ∷ []) → All (λ x. x.0 < n) rest
-front_groups n rest g all i d l = subst (λ (x : GroupId). x.0 < n) (get_or_append_left rest (g ∷ []) d i l) (all i d (omega (arith, length-append rest (g ∷ []))))
-
--- the list of work without its last group
-pub covers_rest : (m : Market) (state : Standing) (work rest : List GroupId) (g : GroupId) → work ≡ rest ++ g ∷ [] → CoversWork m state work → CoversRest m state g.0 rest
-covers_rest m state work rest g is covered =
-    let all : All (λ x. x.0 < length m.groups) (rest ++ g ∷ []) = subst (λ (ws : List GroupId). All (λ x. x.0 < length m.groups) ws) is covered.groups in
-    record { groups = front_groups (length m.groups) rest g all; waiting = λ h w. sym (ap (λ ws. names ws h) is ∙ names_push rest g h) ∙ covered.waiting h w }
-
--- where that group does not wait, all others still stand on the list
-pub covers_less : (m : Market) (state : Standing) (work rest : List GroupId) (g : GroupId) → work ≡ rest ++ g ∷ [] → CoversWork m state work → (IsWaiting m state g.0 → ⊥) → CoversWork m state rest
-covers_less m state work rest g is covered idle =
-    let r = covers_rest m state work rest g is covered in
-    record {
-      groups = r.groups;
-      waiting = λ h w. elim (or_cases (names rest h) (g.0 == h) (r.waiting h w)) [
-        | inl e ↦ e
-        | inr e ↦ absurd (idle (let same : g.0 ≡ h = eqb-true g.0 h e in subst (λ x. IsWaiting m state x) (sym same) w))
-      ];
-    }
-
--- one group more that gave up units
-pub named_more : (old work : List GroupId) (freed : List Eviction) (i : ℕ) (d : Eviction) (h : ℕ) → i < length freed → names work h ≡ (names old h || gave_any (take i freed) h) → names (work ++ (get_or freed i d).offer.group ∷ []) h ≡ (names old h || gave_any (take (i + 1) freed) h)
-named_more old work freed i d h l before =
-    let e : Eviction = get_or freed i d in
-    let more : gave_any (take (i + 1) freed) h ≡ (gave_any (take i freed) h || (e.offer.group.0 == h)) = ap (λ es. gave_any es h) (take_more freed i d l) ∙ list_any-append (λ (x : Eviction). x.offer.group.0 == h) (take i freed) (e ∷ []) ∙ ap (λ b. gave_any (take i freed) h || b) (right (e.offer.group.0 == h)) in
-    names_push work e.offer.group h ∙ ap (λ b. b || (e.offer.group.0 == h)) before ∙ assoc (names old h) (gave_any (take i freed) h) (e.offer.group.0 == h) ∙ ap (λ b. names old h || b) (sym more)
-  where
-    right : (b : Bool) → (b || false) ≡ b
-    right true = refl
-    right false = refl
-
-    assoc : (a b c : Bool) → ((a || b) || c) ≡ (a || (b || c))
-    assoc true b c = refl
-    assoc false b c = refl
 
 -- an offer that is due may be put, with all the free units of its group
 pub can_put : (m : Market) (state : Standing) (o : Offer) (units : ℕ) → IsReady m state → IsDueOffer m state o → units ≡ slice_index state.free o.group.0 → CanPut m state o.group.0 o.place units

@@ -1,10 +1,10 @@
-use Rattle.std.proofs.Common.{◌≡◌, ℕ, ◌+◌, ◌-◌, ◌*◌, ◌<◌, ◌≤◌, ◌==◌, Bool, true, false, ◌&&◌, ◌||◌, nat_le, if◌then◌else◌, List, [], ◌∷◌, length, All, IsTrue, slice_index, refl, sym, ap, ◌∙◌, subst, inl, inr, arith}
-use Rattle.std.proofs.lemmas.Bool.{and_parts, cases_Bool, eq-eqb, eqb-true, or_cases, false≢true}
+use Rattle.std.proofs.Common.{◌≡◌, ℕ, ◌+◌, ◌-◌, ◌*◌, ◌<◌, ◌≤◌, ◌==◌, Bool, true, false, ◌&&◌, ◌||◌, if◌then◌else◌, List, [], ◌∷◌, length, slice_index, refl, sym, ap, ◌∙◌, subst, arith}
+use Rattle.std.proofs.lemmas.Bool.{eq-eqb, false≢true}
 use Rattle.std.proofs.lemmas.List.Sums.{sum_by-cons}
 use Rattle.map_model.specs.Market.{Market, choices_of, demand_of}
-use Rattle.map_model.specs.Allocation.{IsOffer, amount_at, placed}
+use Rattle.map_model.specs.Allocation.{IsOffer, amount_at}
 use Rattle.evict.specs.declared.freed.Eviction.{Eviction}
-use Rattle.evict.specs.Evictions.{IsEviction, freed_units, gave_up}
+use Rattle.evict.specs.Evictions.{freed_units, gave_up}
 use Rattle.evict.specs.Standing.{CanPut, IsPut, IsReady, Standing}
 use Rattle.evict.proofs.Done.{amount-le-placed, gave_up_each}
 use Rattle.deferred_accept.specs.Runs.{proposals_of, worth_of}

@@ -1,15 +1,23 @@
-use Rattle.std.specs.Prelude.{◌≡◌, ℕ, ◌<◌, Bool, ◌||◌, ◌==◌, List, length, All, IsTrue, slice_index}
+use Rattle.std.specs.Prelude.{◌≡◌, ℕ, ◌<◌, Bool, false, ◌||◌, ◌==◌, if◌then◌else◌, List, length, All, IsTrue, slice_index, slice_index_or, sum_by}
 use Rattle.std.specs.List.{list_any}
 use Rattle.map_model.specs.declared.instance.GroupId.{GroupId}
 use Rattle.map_model.specs.declared.instance.Offer.{Offer}
 use Rattle.map_model.specs.Market.{Market, choices_of}
-use Rattle.map_model.specs.Allocation.{IsOffer}
 use Rattle.evict.specs.Standing.{Standing}
 use Rattle.evict.specs.declared.freed.Eviction.{Eviction}
 
--- a list of groups names a group
-abbrev pub names : List GroupId → ℕ → Bool
-names work h = list_any (λ (x : GroupId). x.0 == h) work
+-- whether a group is on the list of work, by what that tells of each group
+abbrev pub is_on : List Bool → ℕ → Bool
+is_on work h = slice_index_or work h false
+
+-- how often a list of groups names a group
+abbrev pub times : List GroupId → ℕ → ℕ
+times groups h = sum_by (λ (x : GroupId). if x.0 == h then 1 else 0) groups
+
+-- a list of groups that names once each group that is on, and no other
+pub record HoldsEachOnce (groups : List GroupId) (on : List Bool) : Type 0 where
+  pub there : All (λ x. x.0 < length on) groups
+  pub once : (h : ℕ) → h < length on → times groups h ≡ (if is_on on h then 1 else 0)
 
 -- the group has free units, and a place left at which to offer them
 pub record IsWaiting (m : Market) (state : Standing) (h : ℕ) : Type 0 where
@@ -17,15 +25,15 @@ pub record IsWaiting (m : Market) (state : Standing) (h : ℕ) : Type 0 where
   pub free : 0 < slice_index state.free h
   pub place : slice_index state.pointers h < length (choices_of m h)
 
--- a list of work: groups of the instance, each waiting one among them
-pub record CoversWork (m : Market) (state : Standing) (work : List GroupId) : Type 0 where
-  pub groups : All (λ x. x.0 < length m.groups) work
-  pub waiting : (h : ℕ) → IsWaiting m state h → IsTrue (names work h)
+-- a list of work for the groups of the instance, with each waiting one on it
+pub record CoversWork (m : Market) (state : Standing) (work : List Bool) : Type 0 where
+  pub count : length work ≡ length m.groups
+  pub waiting : (h : ℕ) → IsWaiting m state h → IsTrue (is_on work h)
 
 -- the same, but for one group that was taken off
-pub record CoversRest (m : Market) (state : Standing) (g : ℕ) (work : List GroupId) : Type 0 where
-  pub groups : All (λ x. x.0 < length m.groups) work
-  pub waiting : (h : ℕ) → IsWaiting m state h → IsTrue (names work h || (g == h))
+pub record CoversRest (m : Market) (state : Standing) (g : ℕ) (work : List Bool) : Type 0 where
+  pub count : length work ≡ length m.groups
+  pub waiting : (h : ℕ) → IsWaiting m state h → IsTrue (is_on work h || (g == h))
 
 -- an offer that is due: a waiting group at its pointer
 pub record IsDueOffer (m : Market) (state : Standing) (o : Offer) : Type 0 where

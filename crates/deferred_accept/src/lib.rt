@@ -1,7 +1,13 @@
 //! Deferred acceptance: groups offer their free units place by place until no offer is left.
 #![tactic(auto)]
 
+mod finishing;
 mod running;
 mod work;
+mod work_list;
 
+pub use finishing::finish;
 pub use running::run;
+
+#[cfg(test)]
+mod tests;

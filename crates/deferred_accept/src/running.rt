@@ -1,17 +1,20 @@
-ghost use Rattle.std.specs.Prelude.{◌≡◌, ◌+◌, ◌≤◌, OnOk};
+ghost use Rattle.std.specs.Prelude.{◌≡◌, ◌+◌, ◌≤◌, ℕ, Bool, OnOk};
 ghost use Rattle.map_model.specs.Progress.{IsEnded};
 ghost use Rattle.evict.specs.Standing.{IsReady};
 ghost use Rattle.deferred_accept.specs.Runs.{HasRun, most_proposals};
+ghost use Rattle.deferred_accept.specs.Spreading.{HoldsWork, StaysInside};
 
-use crate::work::{all_groups, next_offer, wake};
+use crate::work::{next_offer, wake};
+use crate::work_list::WorkList;
 use evict::{Freed, State};
 use map_model::Instance;
 use no_memory::NoMemory;
 use outside::Steps;
 use std::alloc::Global;
 
-/// Offers free units until no group has any before the end of its list. After `NoMemory` the state
-/// is only to be dropped.
+/// Offers free units until no group has any before the end of its list. Each offer is one step, and
+/// only trees that hold the pools of a waiting group's list are touched, or of lists that lead on from
+/// there. After `NoMemory` the state is only to be dropped.
 pub fn run<L>(
     alloc: Global,
     instance: &Instance,
@@ -22,11 +25,12 @@ pub fn run<L>(
     ensures run { OnOk result (HasRun instance.now state.old state.new) }
     ensures ended { OnOk result (IsEnded instance.now state.new.pointers state.new.free) }
     ensures steps { OnOk result (steps.new ≤ steps.old + most_proposals instance.now state.old.pointers) }
+    ensures inside { OnOk result ((trees : ℕ → Bool) → HoldsWork instance.now trees state.old → StaysInside instance.now trees state.old state.new steps.old steps.new) }
 {
     let mut freed = Freed::new(alloc);
-    let mut work = all_groups(alloc, instance)?;
+    let mut work = WorkList::all(alloc, instance)?;
     while let Some(offer) = next_offer(instance, state, &mut work) {
-        work.push(offer.group)?;
+        work.add(offer.group)?;
         let units = state.free(offer.group);
         state.put(instance, offer, units, &mut freed, steps)?;
         wake(&mut work, freed.evictions())?;

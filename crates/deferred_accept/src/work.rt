@@ -1,34 +1,22 @@
-//! The groups that may still have to offer.
+//! The groups that may still have to offer, and what they offer next.
 
-ghost use Rattle.std.specs.Prelude.{◌≡◌, ℕ, ◌<◌, ◌||◌, [], IfOk, OnOk, IsTrue, All, length, MatchOption};
+ghost use Rattle.std.specs.Prelude.{◌≡◌, ℕ, ◌<◌, ◌||◌, All, IfSome, MatchOption, OnOk, length};
 ghost use Rattle.map_model.specs.Progress.{IsEnded};
-ghost use Rattle.evict.specs.Evictions.{IsEviction};
-ghost use Rattle.evict.specs.Standing.{IsReady, Standing};
-ghost use Rattle.deferred_accept.specs.Work.{CoversRest, CoversWork, IsDueOffer, gave_any, names};
+ghost use Rattle.evict.specs.Standing.{IsReady};
+ghost use Rattle.deferred_accept.specs.Work.{CoversRest, CoversWork, IsDueOffer, gave_any, is_on};
 
+use crate::work_list::WorkList;
 use evict::{Eviction, State};
-use map_model::{GroupId, Instance, Offer};
+use map_model::{Instance, Offer};
 use no_memory::NoMemory;
-use std::alloc::Global;
-
-/// All groups.
-pub fn all_groups(alloc: Global, instance: &Instance) -> Result<Vec<GroupId>, NoMemory>
-    ensures { IfOk result (λ work. (state : Standing) → CoversWork instance.now state work.items) }
-{
-    let mut work = Vec::new(alloc);
-    for g in 0..instance.groups() {
-        work.push(GroupId(g))?;
-    }
-    Ok(work)
-}
 
 /// The next offer that is due. Groups that are not waiting are taken off the list, and so is the
 /// group of the offer.
-pub fn next_offer(instance: &Instance, state: &State, work: &mut Vec<GroupId>) -> Option<Offer>
+pub fn next_offer(instance: &Instance, state: &State, work: &mut WorkList) -> Option<Offer>
     requires ready { IsReady instance.now state.now }
-    requires covered { CoversWork instance.now state.now work.old.items }
+    requires covered { CoversWork instance.now state.now work.old }
     ensures due { MatchOption result (IsEnded instance.now state.now.pointers state.now.free) (IsDueOffer instance.now state.now) }
-    ensures covered { MatchOption result (work.new.items ≡ []) (λ o. CoversRest instance.now state.now o.group.0 work.new.items) }
+    ensures covered { IfSome result (λ o. CoversRest instance.now state.now o.group.0 work.new) }
 {
     while let Some(group) = work.pop() {
         let place = state.pointer(group);
@@ -39,13 +27,14 @@ pub fn next_offer(instance: &Instance, state: &State, work: &mut Vec<GroupId>) -
     None
 }
 
-/// Puts the groups that gave up units back on the list.
-pub fn wake(work: &mut Vec<GroupId>, freed: &[Eviction]) -> Result<(), NoMemory>
-    ensures named { OnOk result ((h : ℕ) → names work.new.items h ≡ (names work.old.items h || gave_any freed.now h)) }
-    ensures groups { OnOk result ((n : ℕ) → All (λ x. x.0 < n) work.old.items → All (λ e. e.offer.group.0 < n) freed.now → All (λ x. x.0 < n) work.new.items) }
+/// Puts the groups that gave up units on the list again.
+pub fn wake(work: &mut WorkList, freed: &[Eviction]) -> Result<(), NoMemory>
+    requires { All (λ e. e.offer.group.0 < length work.old) freed.now }
+    ensures count { OnOk result (length work.new ≡ length work.old) }
+    ensures each { OnOk result ((h : ℕ) → h < length work.old → is_on work.new h ≡ (is_on work.old h || gave_any freed.now h)) }
 {
     for eviction in freed {
-        work.push(eviction.offer.group)?;
+        work.add(eviction.offer.group)?;
     }
     Ok(())
 }

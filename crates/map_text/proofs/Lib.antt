@@ -3,3 +3,6 @@ mod Digits
 mod Firsts
 mod Readings
 mod Forms
+mod Rows
+mod Spelled
+mod Again

@@ -11,7 +11,12 @@ mod line;
 mod number;
 mod offer;
 mod read;
+mod write;
 
 pub use fault::MapFault;
 pub use line::Line;
 pub use read::read_map;
+pub use write::write_map;
+
+#[cfg(test)]
+mod tests;

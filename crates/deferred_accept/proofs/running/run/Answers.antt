@@ -1,7 +1,9 @@
-use Rattle.std.proofs.Common.{◌≡◌, ℕ, ◌+◌, ◌<◌, ◌||◌, ◌++◌, ◌∷◌, [], ap, ◌∙◌, arith}
+use Rattle.std.proofs.Common.{◌||◌, true, length, slice_set, ap, ◌∙◌, arith}
+use Rattle.std.proofs.lemmas.List.{length-set}
 use Rattle.map_model.specs.Market.{Market}
-use Rattle.deferred_accept.specs.Work.{gave_any, names}
+use Rattle.deferred_accept.specs.Work.{gave_any, is_on}
 use Rattle.deferred_accept.proofs.Turns.{can_put, counted_step, covers_step, run_step, worth-le, worth_less}
+use Rattle.deferred_accept.proofs.Within.{spread_end, spread_step}
 use Rattle.deferred_accept.proofs.running.run.Goals as goal
 
 pub loop-offer-smaller : goal.loop-offer-smaller
@@ -19,11 +21,16 @@ loop-offer-preserved g c =
     let less = worth_less m c.loop-offer.state c.put.new.self o.group.0 o.place c.free-units.result c.put.new.freed can c.in_ok-put.ensures.put (omega (arith, c.in-Some.ensures.due.waiting.free, c.free-units.ensures)) in
     record {
       run = run_step m c.args.state.now c.loop-offer.state c.put.new.self o.group.0 o.place c.free-units.result c.put.new.freed c.loop-offer.invariant.run can c.in_ok-put.ensures.put;
-      covered = covers_step m c.loop-offer.state c.put.new.self o.group o.place c.free-units.result c.put.new.freed c.next_offer.new.work.items c.wake.new.work.items c.in-Some.ensures.covered c.in_ok-put.ensures.put c.in-Some.ensures.due.waiting.group
-          (λ h. c.in_ok-wake.ensures.named h ∙ ap (λ ws. names ws h || gave_any c.evictions.result.now h) c.in_ok-push.ensures.items ∙ ap (λ f. names (c.next_offer.new.work.items ++ o.group ∷ []) h || gave_any f h) c.evictions.ensures)
-          (λ n all each. c.in_ok-wake.ensures.groups n (rw c.in_ok-push.ensures.items all) (rw c.evictions.ensures each));
+      covered = covers_step m c.loop-offer.state c.put.new.self o.group.0 o.place c.free-units.result c.put.new.freed c.next_offer.new.work c.wake.new.work c.in-Some.ensures.covered c.in_ok-put.ensures.put c.in-Some.ensures.due.waiting.group
+          (c.in_ok-wake.ensures.count ∙ ap length c.in_ok-add.ensures ∙ length-set c.next_offer.new.work o.group.0 true)
+          (λ h l. c.in_ok-wake.ensures.each h (omega (arith, ap length c.in_ok-add.ensures, length-set c.next_offer.new.work o.group.0 true)) ∙ ap (λ ws. is_on ws h || gave_any c.evictions.result.now h) c.in_ok-add.ensures ∙ ap (λ f. is_on (slice_set c.next_offer.new.work o.group.0 true) h || gave_any f h) c.evictions.ensures);
       counted = counted_step _ _ c.loop-offer.steps c.put.new.steps _ _ _ c.in_ok-put.ensures.steps less c.loop-offer.invariant.counted;
+      spread = λ trees work. spread_step m trees c.args.state.now c.loop-offer.state c.put.new.self o.group.0 o.place c.free-units.result c.put.new.freed _ c.loop-offer.steps c.put.new.steps _ (c.loop-offer.invariant.spread trees work) can c.in_ok-put.ensures.put
+          c.in-Some.ensures.due.waiting (omega (arith, c.in-Some.ensures.due.waiting.free, c.free-units.ensures)) c.in_ok-put.ensures.steps;
     }
 
 pub returns-clause-steps : goal.returns-clause-steps
 returns-clause-steps g c = omega (arith, c.loop-offer.invariant.counted, worth-le c.args.instance.now c.args.state.now)
+
+pub returns-clause-inside : goal.returns-clause-inside
+returns-clause-inside g c = λ trees work. spread_end c.args.instance.now trees c.args.state.now c.loop-offer.state c.args.steps.now c.loop-offer.steps (c.loop-offer.invariant.spread trees work)

@@ -1,13 +1,16 @@
-use Rattle.std.proofs.Common.{◌≡◌, ℕ, ◌+◌, ◌≤◌}
+use Rattle.std.proofs.Common.{ℕ, ◌+◌, ◌≤◌, Bool}
 use Rattle.deferred_accept.specs.Runs.{HasRun, worth}
+use Rattle.deferred_accept.specs.Spreading.{HoldsWork}
 use Rattle.deferred_accept.specs.Work.{CoversWork}
+use Rattle.deferred_accept.proofs.Within.{IsSpreading}
 use Rattle.deferred_accept.proofs.running.run.Given as goal
 
 abbrev pub invariant-loop-offer : goal.invariant-loop-offer
 invariant-loop-offer g l = record {
   run : HasRun l.instance l.fn.state l.state;
-  covered : CoversWork l.instance l.state l.work.items;
+  covered : CoversWork l.instance l.state l.work;
   counted : l.steps + worth l.instance l.state ≤ l.fn.steps + worth l.instance l.fn.state;
+  spread : (trees : ℕ → Bool) → HoldsWork l.instance trees l.fn.state → IsSpreading l.instance trees l.fn.state l.state l.fn.steps l.steps;
 }
 
 abbrev pub decreases-loop-offer : goal.decreases-loop-offer

@@ -1,9 +1,9 @@
-use Rattle.std.proofs.Common.{ℕ, vec_len}
 use Rattle.deferred_accept.specs.Work.{CoversWork}
+use Rattle.deferred_accept.proofs.Listed.{how_many}
 use Rattle.deferred_accept.proofs.work.next_offer.Given as goal
 
 abbrev pub invariant-loop-group : goal.invariant-loop-group
-invariant-loop-group l = CoversWork l.instance l.state l.work.items
+invariant-loop-group l = CoversWork l.instance l.state l.work
 
 abbrev pub decreases-loop-group : goal.decreases-loop-group
-decreases-loop-group l = vec_len l.work
+decreases-loop-group l = how_many l.work

@@ -1,0 +1,65 @@
+use Rattle.std.proofs.Common.{◌≡◌, ℕ, ◌+◌, ◌<◌, ◌≤◌, ◌==◌, Bool, true, false, ◌&&◌, nat_le, if◌then◌else◌, List, [], ◌∷◌, ◌++◌, append_assoc, Option, None, Some, All, slice_index, refl, sym, ap, ◌∙◌, subst, inl, inr, arith}
+use Rattle.std.specs.List.{cons_option}
+use Rattle.std.proofs.lemmas.List.Elements.{All-head, All-tail}
+use Rattle.std.proofs.lemmas.Bool.{and_parts, cases_lt, eq-eqb, eqb-true, ltb-true, leb-false}
+use Rattle.std.proofs.lemmas.List.Sums.{sum_by-cons}
+use Rattle.map_model.specs.declared.lines.MapLine.{MapLine}
+use Rattle.map_model.specs.declared.lines.NameLine.{NameLine}
+use Rattle.map_model.specs.Market.{Market, demand_of}
+use Rattle.map_model.specs.Allocation.{IsGood, IsOffer, amount_at, first, names_of, placed}
+use Rattle.map_model.specs.Progress.{IsEnded}
+use Rattle.map_model.proofs.MapForm.{offers-AreLines}
+use Rattle.evict.proofs.Evictions.{units_of-le}
+use Rattle.evict.specs.Standing.{IsReady, Standing}
+
+-- what a group has at places 0 to k is among all that it has
+pub first-le-placed : (lines : List MapLine) (g k : ℕ) → first lines g k ≤ placed lines g
+first-le-placed lines g k = units_of-le (λ h j. (h == g) && nat_le j k) (λ h _. h == g) (λ h j t. (and_parts (h == g) (nat_le j k) t).0) lines
+
+-- where a group holds nothing at places after one, all its units stand up to there
+pub placed-le-first : (m : Market) (lines : List MapLine) (g k : ℕ) → All (λ l. IsOffer m l.group.0 l.place) lines → ((j : ℕ) → IsOffer m g j → k < j → amount_at lines g j ≡ 0) → placed lines g ≤ first lines g k
+placed-le-first m [] g k offers none = omega arith
+placed-le-first m (l ∷ ls) g k offers none =
+    omega (
+      arith,
+      sum_by-cons (λ (x : MapLine). if x.group.0 == g then x.amount else 0) l ls,
+      sum_by-cons (λ (x : MapLine). if (x.group.0 == g) && nat_le x.place k then x.amount else 0) l ls,
+      here (l.group.0 == g) (nat_le l.place k) refl refl,
+      placed-le-first m ls g k (All-tail (λ (x : MapLine). IsOffer m x.group.0 x.place) l ls offers) (λ j o past. omega (arith, more j, none j o past)),
+    )
+  where
+    more : (j : ℕ) → amount_at (l ∷ ls) g j ≡ (if (l.group.0 == g) && (l.place == j) then l.amount else 0) + amount_at ls g j
+    more j = sum_by-cons (λ (x : MapLine). if (x.group.0 == g) && (x.place == j) then x.amount else 0) l ls
+
+    here : (of_group up_to : Bool) → (l.group.0 == g) ≡ of_group → nat_le l.place k ≡ up_to → (if of_group then l.amount else 0) ≤ (if of_group && up_to then l.amount else 0)
+    here false up_to eg ek = omega arith
+    here true true eg ek = omega arith
+    here true false eg ek =
+        let same : l.group.0 ≡ g = eqb-true l.group.0 g eg in
+        let o : IsOffer m g l.place = subst (λ x. IsOffer m x l.place) same (All-head (λ (x : MapLine). IsOffer m x.group.0 x.place) l ls offers) in
+        let this : (if (l.group.0 == g) && (l.place == l.place) then l.amount else 0) ≡ l.amount = rw (eg, eq-eqb l.place l.place refl) refl in
+        omega (arith, more l.place, none l.place o (leb-false l.place k ek), this)
+
+-- the lines of an ended state with their names are a good map
+pub finished : (m : Market) (state : Standing) (names : List NameLine) → IsReady m state → IsEnded m state.pointers state.free → names ≡ names_of m state.lines → IsGood m state.lines names
+finished m state names ready ended named =
+    let r = ready.resumable in
+    record { form = r.form; feasible = record { demands = λ g l. omega (arith, r.totals g l); capacities = r.capacities }; stable = λ g k o w. r.refused g k o (before g k o (ltb-true _ _ w)); named = named }
+  where
+    before : (g k : ℕ) → IsOffer m g k → first state.lines g k < demand_of m g → k < slice_index state.pointers g
+    before g k o wanted = elim (cases_lt k (slice_index state.pointers g)) [
+      | inl l ↦ l
+      | inr past ↦
+          let r = ready.resumable in
+          let none : slice_index state.free g ≡ 0 = ended g o.group (omega (arith, o.place)) in
+          let all = placed-le-first m state.lines g k (offers-AreLines m state.lines r.form) (λ j oj lj. r.none_past g j oj (omega arith)) in
+          absurd (omega (arith, r.totals g o.group))
+    ]
+
+-- a name that is due comes behind those so far
+pub push_turn : (names here next all : List NameLine) (due_now : Option NameLine) (name : NameLine) → names ++ here ≡ all → here ≡ cons_option due_now next → due_now ≡ Some name → (names ++ name ∷ []) ++ next ≡ all
+push_turn names here next all due_now name so_far is some = append_assoc names (name ∷ []) next ∙ ap (λ ys. names ++ ys) (sym (is ∙ ap (λ o. cons_option o next) some)) ∙ so_far
+
+-- and where none is due, they stay
+pub skip_turn : (names here next all : List NameLine) (due_now : Option NameLine) → names ++ here ≡ all → here ≡ cons_option due_now next → due_now ≡ None → names ++ next ≡ all
+skip_turn names here next all due_now so_far is none = ap (λ ys. names ++ ys) (sym (is ∙ ap (λ o. cons_option o next) none)) ∙ so_far

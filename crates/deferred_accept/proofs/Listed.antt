@@ -1,0 +1,129 @@
+use Rattle.std.proofs.Common.{◌≡◌, ℕ, ◌+◌, ◌<◌, ◌≤◌, ◌==◌, Bool, true, false, if◌then◌else◌, List, [], ◌∷◌, ◌++◌, length, replicate, All, slice_set, refl, sym, ap, ◌∙◌, subst, inl, inr, arith}
+use Rattle.std.specs.List.{sum_by}
+use Rattle.std.proofs.lemmas.Bool.{cases_Bool, cases_eq, eq-eqb, ne_eqb}
+use Rattle.std.proofs.lemmas.Grind.{get_or-set_at}
+use Rattle.std.proofs.lemmas.List.{get_or-replicate, get_or-set_other, get_or_append_left, length-append, length-replicate, length-set}
+use Rattle.std.proofs.lemmas.List.Elements.{All-head, All-push, All-tail}
+use Rattle.std.proofs.lemmas.List.Sums.{sum_by-cons, sum_by-set, sum_by_push}
+use Rattle.map_model.specs.declared.instance.GroupId.{GroupId}
+use Rattle.deferred_accept.specs.Work.{HoldsEachOnce, is_on, times}
+
+-- 1 for what is so
+abbrev one_if : Bool → ℕ
+one_if b = if b then 1 else 0
+
+-- one group more is named once more, and the others as often as before
+pub times_more : (groups : List GroupId) (g : GroupId) (h : ℕ) → times (groups ++ g ∷ []) h ≡ times groups h + (if g.0 == h then 1 else 0)
+times_more groups g h = sum_by_push (λ (x : GroupId). if x.0 == h then 1 else 0) groups g
+
+-- a group that is not there yet is put on the list
+pub listed_more : (groups : List GroupId) (on : List Bool) (g : GroupId) → HoldsEachOnce groups on → g.0 < length on → is_on on g.0 ≡ false → HoldsEachOnce (groups ++ g ∷ []) (slice_set on g.0 true)
+listed_more groups on g listed l off =
+    let same : length (slice_set on g.0 true) ≡ length on = length-set on g.0 true in
+    record {
+      there = subst (λ n. All (λ (x : GroupId). x.0 < n) (groups ++ g ∷ [])) (sym same) (All-push (λ (x : GroupId). x.0 < length on) groups g listed.there l);
+      once = λ h lh. elim (cases_eq h g.0) [
+        | inl e ↦
+            let before : times groups h ≡ 0 = listed.once h (omega (arith, same)) ∙ ap one_if (ap (is_on on) e ∙ off) in
+            let now : (if is_on (slice_set on g.0 true) h then 1 else 0) ≡ 1 = ap one_if (get_or-set_at on g.0 h true false e l) in
+            let this : (if g.0 == h then 1 else 0) ≡ 1 = ap one_if (eq-eqb g.0 h (sym e)) in
+            omega (arith, times_more groups g h, before, now, this)
+        | inr ne ↦
+            let now : (if is_on (slice_set on g.0 true) h then 1 else 0) ≡ (if is_on on h then 1 else 0) = ap one_if (get_or-set_other on g.0 h true false ne) in
+            let this : (if g.0 == h then 1 else 0) ≡ 0 = ap one_if (ne_eqb g.0 h (λ e. ne (sym e))) in
+            omega (arith, times_more groups g h, listed.once h (omega (arith, same)), now, this)
+      ];
+    }
+
+-- the last group of a list is there
+pub last_there : (groups rest : List GroupId) (on : List Bool) (g : GroupId) → groups ≡ rest ++ g ∷ [] → HoldsEachOnce groups on → g.0 < length on
+last_there groups rest on g is listed =
+    let all : All (λ (x : GroupId). x.0 < length on) (rest ++ g ∷ []) = subst (λ (gs : List GroupId). All (λ x. x.0 < length on) gs) is listed.there in
+    last rest all
+  where
+    last : (xs : List GroupId) → All (λ (x : GroupId). x.0 < length on) (xs ++ g ∷ []) → g.0 < length on
+    last [] all = All-head (λ (x : GroupId). x.0 < length on) g [] all
+    last (x ∷ xs) all = last xs (All-tail (λ (y : GroupId). y.0 < length on) x (xs ++ g ∷ []) all)
+
+-- and on, by what is told of each group
+pub last_on : (groups rest : List GroupId) (on : List Bool) (g : GroupId) → groups ≡ rest ++ g ∷ [] → HoldsEachOnce groups on → is_on on g.0 ≡ true
+last_on groups rest on g is listed = elim (cases_Bool (is_on on g.0)) [
+  | inl e ↦ e
+  | inr off ↦
+      let none : times (rest ++ g ∷ []) g.0 ≡ 0 = ap (λ gs. times gs g.0) (sym is) ∙ listed.once g.0 (last_there groups rest on g is listed) ∙ ap one_if off in
+      let this : (if g.0 == g.0 then 1 else 0) ≡ 1 = ap one_if (eq-eqb g.0 g.0 refl) in
+      absurd (omega (arith, times_more rest g g.0, none, this))
+]
+
+-- that group is taken off
+pub listed_less : (groups rest : List GroupId) (on : List Bool) (g : GroupId) → groups ≡ rest ++ g ∷ [] → HoldsEachOnce groups on → HoldsEachOnce rest (slice_set on g.0 false)
+listed_less groups rest on g is listed =
+    let l = last_there groups rest on g is listed in
+    let same : length (slice_set on g.0 false) ≡ length on = length-set on g.0 false in
+    let all : All (λ (x : GroupId). x.0 < length on) (rest ++ g ∷ []) = subst (λ (gs : List GroupId). All (λ x. x.0 < length on) gs) is listed.there in
+    record {
+      there = λ i d li. omega (arith, same, subst (λ (x : GroupId). x.0 < length on) (get_or_append_left rest (g ∷ []) d i li) (all i d (omega (arith, length-append rest (g ∷ [])))));
+      once = λ h lh.
+          let before : times (rest ++ g ∷ []) h ≡ (if is_on on h then 1 else 0) = ap (λ gs. times gs h) (sym is) ∙ listed.once h (omega (arith, same)) in
+          elim (cases_eq h g.0) [
+            | inl e ↦
+                let was : (if is_on on h then 1 else 0) ≡ 1 = ap one_if (ap (is_on on) e ∙ last_on groups rest on g is listed) in
+                let now : (if is_on (slice_set on g.0 false) h then 1 else 0) ≡ 0 = ap one_if (get_or-set_at on g.0 h false false e l) in
+                let this : (if g.0 == h then 1 else 0) ≡ 1 = ap one_if (eq-eqb g.0 h (sym e)) in
+                omega (arith, times_more rest g h, before, was, now, this)
+            | inr ne ↦
+                let now : (if is_on (slice_set on g.0 false) h then 1 else 0) ≡ (if is_on on h then 1 else 0) = ap one_if (get_or-set_other on g.0 h false false ne) in
+                let this : (if g.0 == h then 1 else 0) ≡ 0 = ap one_if (ne_eqb g.0 h (λ e. ne (sym e))) in
+                omega (arith, times_more rest g h, before, now, this)
+          ];
+    }
+
+-- nothing is on where the list is empty
+pub listed_none : (groups : List GroupId) (on : List Bool) → groups ≡ [] → HoldsEachOnce groups on → (h : ℕ) → h < length on → is_on on h ≡ false
+listed_none groups on is listed h l = elim (cases_Bool (is_on on h)) [
+  | inr e ↦ e
+  | inl e ↦
+      let once : times groups h ≡ 1 = listed.once h l ∙ ap one_if e in
+      let none : times groups h ≡ 0 = ap (λ gs. times gs h) is in
+      absurd (omega arith)
+]
+
+-- a list that names each of so many groups once
+pub listed_all : (groups : List GroupId) (n : ℕ) → All (λ x. x.0 < n) groups → ((h : ℕ) → h < n → times groups h ≡ 1) → HoldsEachOnce groups (replicate n true)
+listed_all groups n there once =
+    let size : length (replicate n true) ≡ n = length-replicate n true in
+    record {
+      there = subst (λ k. All (λ (x : GroupId). x.0 < k) groups) (sym size) there;
+      once = λ h l. once h (omega (arith, size)) ∙ sym (ap one_if (get_or-replicate n h true false (omega (arith, size))));
+    }
+
+-- a group past all that a list names is not named
+times_none : (groups : List GroupId) (n h : ℕ) → All (λ x. x.0 < n) groups → n ≤ h → times groups h ≡ 0
+times_none [] n h there le = refl
+times_none (x ∷ xs) n h there le =
+    let here : (if x.0 == h then 1 else 0) ≡ 0 = ap one_if (ne_eqb x.0 h (λ e. omega (arith, All-head (λ (y : GroupId). y.0 < n) x xs there))) in
+    omega (arith, sum_by-cons (λ (y : GroupId). if y.0 == h then 1 else 0) x xs, here, times_none xs n h (All-tail (λ (y : GroupId). y.0 < n) x xs there) le)
+
+-- the first so many groups, and one more
+pub first_more : (groups : List GroupId) (g : ℕ) → All (λ x. x.0 < g) groups → ((h : ℕ) → h < g → times groups h ≡ 1) → (h : ℕ) → h < g + 1 → times (groups ++ record { 0 = g } ∷ []) h ≡ 1
+first_more groups g there once h l = elim (cases_eq h g) [
+  | inl e ↦
+      let this : (if g == h then 1 else 0) ≡ 1 = ap one_if (eq-eqb g h (sym e)) in
+      omega (arith, times_more groups (record { 0 = g }) h, times_none groups g h there (omega arith), this)
+  | inr ne ↦
+      let this : (if g == h then 1 else 0) ≡ 0 = ap one_if (ne_eqb g h (λ e. ne (sym e))) in
+      omega (arith, times_more groups (record { 0 = g }) h, once h (omega arith), this)
+]
+
+pub there_more : (groups : List GroupId) (g : ℕ) → All (λ x. x.0 < g) groups → All (λ x. x.0 < g + 1) (groups ++ record { 0 = g } ∷ [])
+there_more groups g there = All-push (λ (x : GroupId). x.0 < g + 1) groups (record { 0 = g }) (λ i d l. omega (arith, there i d l)) (omega arith)
+
+-- how many groups are on a list of work
+abbrev pub how_many : List Bool → ℕ
+how_many work = sum_by (λ (b : Bool). if b then 1 else 0) work
+
+-- one fewer, where one is taken off
+pub one_fewer : (work : List Bool) (g : ℕ) → g < length work → is_on work g ≡ true → how_many (slice_set work g false) < how_many work
+one_fewer work g l e =
+    let was : (if is_on work g then 1 else 0) ≡ 1 = ap one_if e in
+    omega (arith, sum_by-set (λ (b : Bool). if b then 1 else 0) work g false false l, was)

@@ -1,0 +1,171 @@
+ghost use Rattle.std.specs.Prelude.{OnOk};
+
+use crate::{finish, run};
+use evict::State;
+use map_model::{Choice, GroupId, GroupRow, Instance, MapLine, MapLines, NameLine, Node, NodeId};
+use no_memory::NoMemory;
+use outside::Steps;
+use std::alloc::Global;
+use std::test::Fail;
+
+/// What the proposals of these tests are counted as.
+#[derive(Clone, Copy, Debug)]
+struct Proposals;
+
+/// Whether a node is a pool.
+const POOL: bool = true;
+const INNER: bool = false;
+
+/// An instance with the map that is expected of it.
+struct World {
+    name: &'static str,
+    /// Capacity, parent and whether it is a pool.
+    nodes: &'static [(u64, Option<u32>, bool)],
+    /// Demand, and the list of pools with their scores.
+    groups: &'static [(u32, &'static [(u32, u32)])],
+    /// Group, place and units.
+    lines: &'static [(u32, u8, u32)],
+    /// Group, place and the refusing node.
+    names: &'static [(u32, u8, u32)],
+}
+
+const WORLDS: &[World] = &[
+    // Worked out by hand. g2 is turned away in part by its better pool and then by the root.
+    World {
+        name: "two-level eviction",
+        nodes: &[(15, None, INNER), (10, Some(0), POOL), (10, Some(0), POOL)],
+        groups: &[(8, &[(1, 1), (2, 2)]), (8, &[(1, 3), (2, 4)])],
+        lines: &[(0, 0, 8), (1, 0, 2), (1, 1, 5)],
+        names: &[(1, 0, 1), (1, 1, 0)],
+    },
+    // The pool refuses the second group while it is full, and is not full at the end.
+    World {
+        name: "refuser no longer full",
+        nodes: &[(10, None, INNER), (6, Some(0), POOL), (10, Some(0), POOL)],
+        groups: &[(6, &[(1, 5)]), (4, &[(1, 6)]), (8, &[(2, 1)])],
+        lines: &[(0, 0, 2), (2, 0, 8)],
+        names: &[(0, 0, 0), (1, 0, 0)],
+    },
+    World {
+        name: "full region",
+        nodes: &[(10, None, INNER), (10, Some(0), POOL), (10, Some(0), POOL)],
+        groups: &[(8, &[(1, 1)]), (8, &[(2, 2)])],
+        lines: &[(0, 0, 8), (1, 0, 2)],
+        names: &[(1, 0, 0)],
+    },
+    // Each of the first two groups has its better pool: the other good map is worse for both.
+    World {
+        name: "two good maps",
+        nodes: &[(1, None, POOL), (1, None, POOL), (5, None, POOL)],
+        groups: &[(1, &[(0, 2), (1, 1)]), (1, &[(1, 2), (0, 1)]), (2, &[(2, 1)])],
+        lines: &[(0, 0, 1), (1, 0, 1), (2, 0, 2)],
+        names: &[],
+    },
+    World {
+        name: "empty pool",
+        nodes: &[(0, None, POOL)],
+        groups: &[(1, &[(0, 1)])],
+        lines: &[],
+        names: &[(0, 0, 0)],
+    },
+    // Computed by bench/smallest_worlds.py, which tries every map and makes no proposals.
+    World {
+        name: "three levels, the middle one closed",
+        nodes: &[(4, None, INNER), (0, Some(0), INNER), (3, Some(0), POOL), (2, Some(1), POOL)],
+        groups: &[(1, &[(3, 1)]), (2, &[(2, 3)])],
+        lines: &[(1, 0, 2)],
+        names: &[(0, 0, 1)],
+    },
+    World {
+        name: "three levels",
+        nodes: &[(3, None, INNER), (4, Some(0), INNER), (2, Some(0), POOL), (4, Some(1), POOL)],
+        groups: &[(1, &[(3, 3), (2, 2)]), (1, &[(2, 2)]), (2, &[(3, 2), (2, 1)])],
+        lines: &[(0, 1, 1), (2, 0, 1), (2, 1, 1)],
+        names: &[(0, 0, 0), (1, 0, 2), (2, 0, 0)],
+    },
+    World {
+        name: "two trees, two stable maps",
+        nodes: &[(3, None, INNER), (4, None, POOL), (1, Some(0), POOL)],
+        groups: &[(2, &[(2, 2), (1, 2)]), (2, &[(1, 3), (2, 1)]), (1, &[(2, 2), (1, 2)])],
+        lines: &[(0, 0, 1), (0, 1, 1), (1, 0, 2), (2, 1, 1)],
+        names: &[(0, 0, 2), (2, 0, 2)],
+    },
+    World {
+        name: "one region, two stable maps",
+        nodes: &[(3, None, INNER), (2, Some(0), POOL), (2, Some(0), POOL)],
+        groups: &[(2, &[(2, 3), (1, 3)]), (1, &[(2, 3), (1, 1)]), (2, &[(2, 1), (1, 1)])],
+        lines: &[(1, 1, 1), (2, 0, 2)],
+        names: &[(0, 0, 2), (0, 1, 0), (1, 0, 2)],
+    },
+    World {
+        name: "all at their first place",
+        nodes: &[(4, None, INNER), (4, Some(0), INNER), (2, Some(0), POOL), (4, Some(1), POOL)],
+        groups: &[(3, &[(3, 3), (2, 2)]), (1, &[(2, 2), (3, 2)])],
+        lines: &[(0, 0, 3), (1, 0, 1)],
+        names: &[],
+    },
+];
+
+/// The instance of a world.
+fn instance_of(alloc: Global, world: &World) -> Result<Instance, Fail> {
+    let mut groups = Vec::new(alloc);
+    for &(demand, list) in world.groups {
+        let mut choices = Vec::new(alloc);
+        for &(pool, score) in list {
+            choices.push(Choice {
+                pool: NodeId(pool),
+                score,
+            })?;
+        }
+        groups.push(GroupRow::new(demand, choices))?;
+    }
+    let mut nodes = Vec::new(alloc);
+    for &(capacity, parent, is_pool) in world.nodes {
+        nodes.push(Node {
+            capacity,
+            parent: parent.map(NodeId),
+            is_pool,
+        })?;
+    }
+    Ok(Instance::try_from_rows(groups, nodes).ok_or("no instance")?)
+}
+
+/// The map of an instance from scratch.
+fn map_of(alloc: Global, instance: &Instance) -> Result<MapLines, NoMemory> {
+    let mut state = State::fresh(alloc, instance)?;
+    let mut steps: Steps<Proposals> = Steps::new();
+    run(alloc, instance, &mut state, &mut steps)?;
+    finish(alloc, instance, state)
+}
+
+/// The lines as the table has them.
+fn plain_lines(alloc: Global, lines: &[MapLine]) -> Result<Vec<(u32, u8, u32)>, NoMemory> {
+    let mut plain = Vec::new(alloc);
+    for line in lines {
+        plain.push((line.group.0, line.place, line.amount))?;
+    }
+    Ok(plain)
+}
+
+/// The names as the table has them.
+fn plain_names(alloc: Global, names: &[NameLine]) -> Result<Vec<(u32, u8, u32)>, NoMemory> {
+    let mut plain = Vec::new(alloc);
+    for name in names {
+        plain.push((name.group.0, name.place, name.node.0))?;
+    }
+    Ok(plain)
+}
+
+#[test]
+fn maps_small_worlds(rt: HostRuntime) -> Result<(), Fail> {
+    let alloc = rt.alloc();
+    for world in WORLDS {
+        let instance = instance_of(alloc, world)?;
+        let map = map_of(alloc, &instance)?;
+        let lines = plain_lines(alloc, map.lines.as_slice())?;
+        assert_eq!(rt; lines.as_slice(), world.lines, "lines of {}", world.name);
+        let names = plain_names(alloc, map.names.as_slice())?;
+        assert_eq!(rt; names.as_slice(), world.names, "names of {}", world.name);
+    }
+    Ok(())
+}

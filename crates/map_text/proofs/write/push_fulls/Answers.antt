@@ -1,0 +1,24 @@
+use Rattle.std.proofs.Common.{◌++◌, List, ℕ, take, get_or, ap, sym, ◌∙◌}
+use Rattle.std.proofs.lemmas.List.{flat_map_more, take_more}
+use Rattle.std.specs.List.{flat_map}
+use Rattle.map_model.specs.declared.lines.NameLine.{NameLine}
+use Rattle.map_text.specs.Writing.{ended, full_row}
+use Rattle.map_text.proofs.Again.{named_at}
+use Rattle.map_text.proofs.write.push_fulls.Goals as goal
+
+pub push_full-requires-clause-offer : goal.push_full-requires-clause-offer
+push_full-requires-clause-offer c = (named_at c.args.topology.now.market c.args.names.now c.requires c.loop-name.name-index c.loop-name-test.true).offer
+
+pub push_full-requires-clause-node : goal.push_full-requires-clause-node
+push_full-requires-clause-node c = (named_at c.args.topology.now.market c.args.names.now c.requires c.loop-name.name-index c.loop-name-test.true).node
+
+pub loop-name-preserved : goal.loop-name-preserved
+loop-name-preserved c =
+    let i = c.loop-name.name-index in
+    let names = c.args.names.now in
+    let x = get_or names i (record { group = record { 0 = 0 }; place = 0; node = record { 0 = 0 } }) in
+    let row = λ (y : NameLine). ended (full_row c.args.topology.now y) in
+    c.in_ok-push_full.ensures
+    ∙ ap (λ (ys : List ℕ). ys ++ row x) c.loop-name.invariant
+    ∙ flat_map_more row c.args.text.now.items (take i names) x
+    ∙ ap (λ (ls : List NameLine). c.args.text.now.items ++ flat_map row ls) (sym (take_more names i (record { group = record { 0 = 0 }; place = 0; node = record { 0 = 0 } }) c.loop-name-test.true))
