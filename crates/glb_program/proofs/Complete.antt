@@ -12,10 +12,11 @@ use Rattle.stable_check.specs.declared.verdict.Verdict.{Verdict}
 use Rattle.stable_check.specs.declared.verdict.Verdict.TheVariants.{Good, BadLine, OverDemand, OverCapacity, Blocking, BadName}
 use Rattle.glb_program.specs.declared.status.Status.{Status}
 use Rattle.glb_program.specs.declared.status.Status.TheVariants as status
-use Rattle.glb_program.specs.Words.{Ask, check}
+use Rattle.glb_program.specs.Words.{Ask, check, map_from}
 use Rattle.glb_program.specs.Outcome.{Faults, HasCauses, Outcome, Outside, RunsBy}
 use Rattle.glb_program.specs.Files.{Kind, Reads, Says, refused, map_file, topology_file}
 use Rattle.glb_program.specs.Check.{HoldsGoodMap, IsCheck, IsCheckDue, IsJudged, status_of}
+use Rattle.glb_program.specs.Map.{HoldsTopology, IsMapDue, IsMapped}
 use Rattle.glb_program.specs.Run.{IsRun, IsSound}
 
 -- a good map has no other verdict
@@ -60,3 +61,9 @@ complete_run (Some (check topology map)) before after counts later result run ca
     well : (files : Option Shelved) → IsSomeAnd files (λ shelf. HoldsGoodMap topology map shelf.holds) → (due : Outcome) → IsCheckDue topology map files due → due.status ≡ status.Ok
     well None held due h = absurd held
     well (Some shelf) held due h = well_due topology map shelf.holds due held h
+complete_run (Some (map_from topology)) before after counts later result run causes sound files out =
+    ends_well (IsMapDue topology before.files) before after counts later result run (well before.files sound) causes files out
+  where
+    well : (files : Option Shelved) → IsSomeAnd files (λ shelf. HoldsTopology topology shelf.holds) → (due : Outcome) → IsMapDue topology files due → due.status ≡ status.Ok
+    well None held due h = absurd held
+    well (Some shelf) held due h = (reads_on topology_file (shelf.holds topology) IsMapped due held.0 held.1 h).status

@@ -12,10 +12,11 @@ use Rattle.topology_text.specs.Plan.{Plan}
 use Rattle.map_text.specs.Reading.{Mapped}
 use Rattle.glb_program.specs.declared.status.Status.{Status}
 use Rattle.glb_program.specs.declared.status.Status.TheVariants as status
-use Rattle.glb_program.specs.Words.{Ask, check}
+use Rattle.glb_program.specs.Words.{Ask, check, map_from}
 use Rattle.glb_program.specs.Outcome.{IsPrinted, Outcome, Outside, RunsBy}
 use Rattle.glb_program.specs.Files.{Kind, Reads, Says, refused, says, map_file, topology_file}
 use Rattle.glb_program.specs.Check.{HoldsGoodMap, IsCheck, IsCheckDue, IsJudged, status_of}
+use Rattle.glb_program.specs.Map.{AreGoodMap, IsMapDue, IsMapped, IsMappedRun}
 use Rattle.glb_program.specs.Run.{IsGoodRun, IsRun}
 use Rattle.glb_program.specs.Texts as text
 
@@ -59,6 +60,13 @@ printed_good pieces None (Some a) is h = absurd h
 printed_good pieces (Some b) None is h = absurd h
 printed_good pieces (Some b) (Some a) is h = h.bytes ∙ ap (λ ps. b.bytes ++ concat ps) is ∙ ap (λ bytes. b.bytes ++ bytes) (append-nil text.good)
 
+-- what is said of a good map, by a file that is told or is not
+mapped_well : (topology : List ℕ) (files : Option Shelved) (due : Outcome) → IsMapDue topology files due → due.status ≡ status.Ok → (t : Plan) × IfSome files (λ shelf. Says topology_file (shelf.holds topology) t) × AreGoodMap t due.pieces
+mapped_well topology None due h ok = let said = h.good ok in (said.0, tt, said.2)
+mapped_well topology (Some shelf) due h ok =
+    let read = well_read topology_file (shelf.holds topology) IsMapped due h ok in
+    (read.0, read.1, read.2.text)
+
 -- a run with status 0 comes out well
 whole_run : (Due : Outcome → Type 0) (P : Outcome → Type 0) (before after : Option Written) (result : Status) → RunsBy Due before after result → result ≡ status.Ok
     → ((due : Outcome) → Due due → due.status ≡ status.Ok → BothTell before after (IsPrinted due.pieces) → P due) → (due : Outcome) × P due
@@ -74,3 +82,8 @@ good_run (Some (check topology map)) before after result run ok =
     (λ due is_due well puts.
     let said = due_well topology map before.files due is_due well in
     record { files = said.0; out = printed_good due.pieces before.out after.out said.1 puts })).1
+good_run (Some (map_from topology)) before after result run ok =
+    (whole_run (IsMapDue topology before.files) (λ _. IsMappedRun topology before after) before.out after.out result run ok
+    (λ due is_due well puts.
+    let said = mapped_well topology before.files due is_due well in
+    (said.0, due.pieces, said.1, said.2, puts))).1

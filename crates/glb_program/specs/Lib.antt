@@ -1,8 +1,11 @@
+pub mod Datagram
 pub mod Words
 pub mod Commands
 pub mod Texts
 pub mod Outcome
 pub mod Files
 pub mod Check
+pub mod Map
+pub mod Answer
 pub mod Run
 pub mod Reports

@@ -1,12 +1,11 @@
 -- How a run comes out, and what it leaves outside.
-use Rattle.std.specs.Prelude.{◌≡◌, ℕ, ◌+◌, ◌<◌, ◌≤◌, ◌⊎◌, List, [], ◌∷◌, ◌++◌, length, take, slice_index_or, Option}
+use Rattle.std.specs.Prelude.{◌≡◌, ℕ, ◌+◌, ◌<◌, ◌≤◌, ◌⊎◌, List, [], ◌++◌, length, take, slice_index_or, Option}
 use Rattle.std.specs.List.{concat}
 use Rattle.outside.specs.Faults.{BothTell, Rose, raised}
 use Rattle.outside.specs.Shelf.{Load, Shelved}
 use Rattle.outside.specs.Sink.{Written}
 use Rattle.glb_program.specs.declared.status.Status.{Status}
 use Rattle.glb_program.specs.declared.status.Status.TheVariants.{Ok, Usage, Refused, SourceFault, SinkFault, NotGood, NoMemory}
-use Rattle.glb_program.specs.Texts as text
 
 -- how a command comes out where nothing outside fails: its status, and the pieces that it puts on the output
 pub record Outcome : Type 0 where
@@ -20,10 +19,9 @@ IsSaidStatus Refused = Unit {0}
 IsSaidStatus NotGood = Unit {0}
 IsSaidStatus _ = ⊥
 
--- an outcome that says something of files; where all is well it says that the map is good
-pub record IsSaid (due : Outcome) : Type 0 where
-  pub status : IsSaidStatus due.status
-  pub good : due.status ≡ Ok → due.pieces ≡ text.good ∷ []
+-- an outcome that says something of files
+abbrev pub IsSaid : Outcome → Type 0
+IsSaid due = IsSaidStatus due.status
 
 -- a status that comes with a text
 abbrev pub HasText : Status → Type 0

@@ -2,8 +2,6 @@
 use Rattle.std.specs.Prelude.{◌≡◌, ℕ, ◌<◌, ◌≤◌, List, [], ◌∷◌, length, Option, Some, IsSomeAnd}
 use Rattle.map_model.specs.Market.{Market}
 use Rattle.map_model.specs.Allocation.{IsOffer}
-use Rattle.map_model.specs.declared.lines.MapLines.{MapLines}
-use Rattle.map_text.specs.Reading.{Mapped}
 use Rattle.stable_check.specs.declared.verdict.Verdict.{Verdict}
 use Rattle.stable_check.specs.declared.verdict.Verdict.TheVariants.{Blocking, OverCapacity, OverDemand}
 use Rattle.glb_program.specs.declared.report.Report.{Report}
@@ -41,7 +39,3 @@ IsNameable m (OverDemand g units) = g.0 < length m.groups
 IsNameable m (OverCapacity n units) = n.0 < length m.nodes
 IsNameable m (Blocking g k) = IsOffer m g.0 k
 IsNameable m _ = Unit {0}
-
--- a map, as its text says it
-abbrev pub mapped : MapLines → Mapped
-mapped m = record { lines = m.lines.items; names = m.names.items }

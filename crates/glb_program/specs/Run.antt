@@ -1,12 +1,13 @@
 -- What a run of the program does, by what its words ask for.
-use Rattle.std.specs.Prelude.{◌≡◌, ℕ, List, [], ◌∷◌, ◌++◌, Option, None, Some, IfSome}
-use Rattle.outside.specs.Faults.{BothTell}
+use Rattle.std.specs.Prelude.{◌≡◌, ℕ, List, [], ◌∷◌, Option, None, Some}
 use Rattle.outside.specs.Shelf.{Load, Shelved}
 use Rattle.glb_program.specs.declared.status.Status.{Status}
 use Rattle.glb_program.specs.declared.status.Status.TheVariants.{Usage}
-use Rattle.glb_program.specs.Words.{Ask, check}
+use Rattle.glb_program.specs.Words.{Ask, check, map_from, answer}
 use Rattle.glb_program.specs.Outcome.{Outcome, Outside, RunsBy, Speaks}
-use Rattle.glb_program.specs.Check.{HoldsGoodMap, IsCheckDue, loads_of_check}
+use Rattle.glb_program.specs.Check.{HoldsGoodMap, IsCheckDue, IsCheckSaid, IsCheckedRun, loads_of_check}
+use Rattle.glb_program.specs.Map.{HoldsTopology, IsMapDue, IsMapSaid, IsMappedRun, loads_of_map}
+use Rattle.glb_program.specs.Answer.{IsAnswerDue, IsAnswerSaid, IsAnsweredRun}
 use Rattle.glb_program.specs.Texts as text
 
 -- what is due to words that are not taken
@@ -16,6 +17,14 @@ IsUsage due = due ≡ record { status = Usage; pieces = text.usage ∷ [] }
 -- what is due to a command over what the shelf tells
 abbrev pub IsDue : Ask → Option Shelved → Outcome → Type 0
 IsDue (check topology map) files = IsCheckDue topology map files
+IsDue (map_from topology) files = IsMapDue topology files
+IsDue (answer topology map datagram) files = IsAnswerDue topology map datagram files
+
+-- what is said by a command of any files
+abbrev pub IsSaidBy : Ask → Outcome → Type 0
+IsSaidBy (check topology map) due = IsCheckSaid due
+IsSaidBy (map_from topology) due = IsMapSaid due
+IsSaidBy (answer topology map datagram) due = IsAnswerSaid datagram due
 
 -- what a run does
 abbrev pub IsRun : Option Ask → Outside → Outside → Status → Type 0
@@ -25,6 +34,8 @@ IsRun (Some ask) before after = RunsBy (IsDue ask before.files) before.out after
 -- the loads that are due to a command over the files: in the order of its words with their limits, each where all before it say something
 abbrev pub loads_of_ask : Ask → (List ℕ → Option (List ℕ)) → List Load
 loads_of_ask (check topology map) = loads_of_check topology map
+loads_of_ask (map_from topology) = loads_of_map topology
+loads_of_ask (answer topology map datagram) = loads_of_check topology map
 
 -- the loads that are due to a run
 abbrev pub loads_of : Option Ask → (List ℕ → Option (List ℕ)) → List Load
@@ -35,8 +46,12 @@ loads_of (Some ask) files = loads_of_ask ask files
 abbrev pub IsSound : Option Ask → (List ℕ → Option (List ℕ)) → Type 0
 IsSound None files = ⊥
 IsSound (Some (check topology map)) files = HoldsGoodMap topology map files
+IsSound (Some (map_from topology)) files = HoldsTopology topology files
+IsSound (Some (answer topology map datagram)) files = HoldsGoodMap topology map files
 
--- what status 0 says of the files and the output: a good map, and `good`
-pub record IsGoodRun (ask : Option Ask) (before after : Outside) : Type 0 where
-  pub files : IfSome before.files (λ shelf. IsSound ask shelf.holds)
-  pub out : BothTell before.out after.out (λ b a. a.bytes ≡ b.bytes ++ text.good)
+-- what status 0 says of the files and the output
+abbrev pub IsGoodRun : Option Ask → Outside → Outside → Type 0
+IsGoodRun None before after = ⊥
+IsGoodRun (Some (check topology map)) before after = IsCheckedRun topology map before after
+IsGoodRun (Some (map_from topology)) before after = IsMappedRun topology before after
+IsGoodRun (Some (answer topology map datagram)) before after = IsAnsweredRun topology map datagram before after

@@ -32,11 +32,7 @@ use topology_text::Topology;
 const DRAW: u64 = 0;
 
 /// A map over a topology as it was read, as version 0.
-fn first_version(
-    alloc: Global,
-    topology: Topology,
-    map: MapLines,
-) -> Result<MapVersion, NoMemory>
+fn first_version(alloc: Global, topology: Topology, map: MapLines) -> Result<MapVersion, NoMemory>
     requires { IsGood topology.market map.lines.items map.names.items }
     ensures { IfOk result (λ v. v ≡ version_of topology (mapped map)) }
 {
@@ -111,13 +107,7 @@ fn try_report(
     }
 }
 
-fn report(
-    alloc: Global,
-    topology: Topology,
-    map: MapLines,
-    from: Addr,
-    octets: &[u8],
-) -> Ended
+fn report(alloc: Global, topology: Topology, map: MapLines, from: Addr, octets: &[u8]) -> Ended
     ensures answered { EndsBy (IsAnswered (record { from = from; octets = octets.now }) topology (mapped map)) result }
     ensures said { EndsBy (IsAnswerSaid (record { from = from; octets = octets.now })) result }
     ensures source { result ≢ Ended.SourceFault }

@@ -1,10 +1,11 @@
 ghost use Rattle.std.specs.Prelude.{◌≡◌, ◌≢◌, ◌≤◌, [], ◌∷◌, IfOk, IfSome};
 ghost use Rattle.outside.specs.Faults.{BothTell, Rose};
 ghost use Rattle.stable_check.specs.Judgement.{Judges};
-ghost use Rattle.glb_program.specs.Outcome.{AreLoaded, AreLoadsOf, HasText, IsSaid};
-ghost use Rattle.glb_program.specs.Check.{IsCheckDue, IsJudged, loads_of_check, status_of};
+ghost use Rattle.map_text.specs.Writing.{mapped};
+ghost use Rattle.glb_program.specs.Outcome.{AreLoaded, AreLoadsOf, HasText};
+ghost use Rattle.glb_program.specs.Check.{IsCheckDue, IsCheckSaid, IsJudged, loads_of_check, status_of};
 ghost use Rattle.glb_program.specs.Files.{Reads, load_of, map_file};
-ghost use Rattle.glb_program.specs.Reports.{EndsBy, IsNameable, mapped, outcome_of};
+ghost use Rattle.glb_program.specs.Reports.{EndsBy, IsNameable, outcome_of};
 
 use crate::files::{load_map, load_topology};
 use crate::report::{Ended, Report};
@@ -27,7 +28,7 @@ fn status_of(verdict: Verdict) -> Status
 }
 
 /// The verdict on a map. What it names is there.
-fn judge(alloc: Global, topology: &Topology, map: &MapLines) -> Result<Verdict, NoMemory>
+pub fn judge(alloc: Global, topology: &Topology, map: &MapLines) -> Result<Verdict, NoMemory>
     ensures judged { IfOk result (Judges topology.now.market map.now.lines.items map.now.names.items) }
     ensures nameable { IfOk result (IsNameable topology.now.market) }
 {
@@ -64,7 +65,7 @@ fn check_map<F: Shelf>(alloc: Global, files: &mut F, topology: &Topology, map: &
     ensures noted { BothTell (F.told files.old) (F.told files.new) (AreLoadsOf (λ _. load_of (map_file topology.now) map.now ∷ [])) }
     ensures loaded { EndsBy (λ _. BothTell (F.told files.old) (F.told files.new) (AreLoaded (λ _. load_of (map_file topology.now) map.now ∷ []))) result }
     ensures due { IfSome (F.told files.old) (λ shelf. EndsBy (Reads (map_file topology.now) (shelf.holds map.now) (IsJudged topology.now)) result) }
-    ensures said { EndsBy IsSaid result }
+    ensures said { EndsBy IsCheckSaid result }
     ensures later { F.faults files.old ≤ F.faults files.new }
     ensures cause { result ≡ Ended.SourceFault → Rose (F.faults files.old) (F.faults files.new) }
 {
@@ -79,7 +80,7 @@ pub fn check_files<F: Shelf>(alloc: Global, files: &mut F, topology: &str, map: 
     ensures noted { BothTell (F.told files.old) (F.told files.new) (AreLoadsOf (loads_of_check topology.now map.now)) }
     ensures loaded { EndsBy (λ _. BothTell (F.told files.old) (F.told files.new) (AreLoaded (loads_of_check topology.now map.now))) result }
     ensures due { EndsBy (IsCheckDue topology.now map.now (F.told files.old)) result }
-    ensures said { EndsBy IsSaid result }
+    ensures said { EndsBy IsCheckSaid result }
     ensures later { F.faults files.old ≤ F.faults files.new }
     ensures cause { result ≡ Ended.SourceFault → Rose (F.faults files.old) (F.faults files.new) }
 {

@@ -1,7 +1,7 @@
 //! Hexadecimal digits.
-ghost use Rattle.std.specs.Prelude.{◌≡◌, ◌%◌, ◌==◌, ◌&&◌, length};
-ghost use Rattle.std.specs.List.{list_all};
+ghost use Rattle.std.specs.Prelude.{◌≡◌, is_some};
 ghost use Rattle.hex.specs.Hex.{is_hex_digit};
+ghost use Rattle.glb_program.specs.Datagram.{hex_of};
 
 /// Whether an octet is a hexadecimal digit of either case.
 fn is_digit(octet: u8) -> bool
@@ -10,9 +10,9 @@ fn is_digit(octet: u8) -> bool
     matches!(octet, b'0'..=b'9' | b'A'..=b'F' | b'a'..=b'f')
 }
 
-/// Whether a word is an even number of hexadecimal digits.
+/// Whether a word says octets: it is an even number of hexadecimal digits of either case.
 pub fn is_hex(word: &str) -> bool
-    ensures { result ≡ (length word.now % 2 == 0) && list_all is_hex_digit word.now }
+    ensures { result ≡ is_some (hex_of word.now) }
 {
     word.len() % 2 == 0 && word.as_bytes().iter().all(|octet| is_digit(*octet))
 }

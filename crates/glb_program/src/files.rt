@@ -1,9 +1,10 @@
 ghost use Rattle.std.specs.Prelude.{◌≡◌, ◌≢◌, ◌≤◌, [], ◌∷◌, Ok, IfSome, IfErr, OnErr, OnOk, MatchResult};
 ghost use Rattle.outside.specs.Faults.{BothTell, Rose};
 ghost use Rattle.outside.specs.Shelf.{IsLoad};
-ghost use Rattle.glb_program.specs.Outcome.{AreLoaded, AreLoadsOf, IsSaid};
+ghost use Rattle.glb_program.specs.Outcome.{AreLoaded, AreLoadsOf};
 ghost use Rattle.glb_program.specs.Files.{IsRefused, IsRefusedBy, Says, mapped_of, refused, topology_file, topology_of, map_file};
-ghost use Rattle.glb_program.specs.Reports.{AreBytes, EndsBy, IsTooLong, mapped};
+ghost use Rattle.map_text.specs.Writing.{mapped};
+ghost use Rattle.glb_program.specs.Reports.{AreBytes, EndsBy, IsTooLong};
 ghost use Rattle.glb_program.specs.Texts as text;
 
 use crate::report::{Ended, Report};

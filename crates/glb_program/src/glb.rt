@@ -1,12 +1,14 @@
 ghost use Rattle.std.specs.Prelude.{◌≡◌, ◌≢◌, ◌≤◌, ◌⊎◌, IsSomeAnd};
 ghost use Rattle.outside.specs.Faults.{BothTell, Rose};
-ghost use Rattle.glb_program.specs.Outcome.{AreLoaded, AreLoadsOf, HasCauses, IsSaid};
-ghost use Rattle.glb_program.specs.Run.{IsDue, IsGoodRun, IsRun, IsSound, loads_of, loads_of_ask};
+ghost use Rattle.glb_program.specs.Outcome.{AreLoaded, AreLoadsOf, HasCauses};
+ghost use Rattle.glb_program.specs.Run.{IsDue, IsGoodRun, IsRun, IsSaidBy, IsSound, loads_of, loads_of_ask};
 ghost use Rattle.glb_program.specs.Commands.{ask_of};
 ghost use Rattle.glb_program.specs.Reports.{EndsBy};
 ghost use Rattle.glb_program.specs.Words.{asked, texts};
 
+use crate::answer::answer_files;
 use crate::check::check_files;
+use crate::map::map_files;
 use crate::report::{Ended, finish, say};
 use crate::status::Status;
 use crate::words::{Command, read_words};
@@ -20,12 +22,19 @@ fn run_command<F: Shelf>(alloc: Global, files: &mut F, command: Command<'_>) -> 
     ensures noted { BothTell (F.told files.old) (F.told files.new) (AreLoadsOf (loads_of_ask (ask_of command.entry))) }
     ensures loaded { EndsBy (λ _. BothTell (F.told files.old) (F.told files.new) (AreLoaded (loads_of_ask (ask_of command.entry)))) result }
     ensures due { EndsBy (IsDue (ask_of command.entry) (F.told files.old)) result }
-    ensures said { EndsBy IsSaid result }
+    ensures said { EndsBy (IsSaidBy (ask_of command.entry)) result }
     ensures later { F.faults files.old ≤ F.faults files.new }
     ensures cause { result ≡ Ended.SourceFault → Rose (F.faults files.old) (F.faults files.new) }
 {
     match command {
         Command::Check { topology, map } => check_files(alloc, files, topology, map),
+        Command::Map { topology } => map_files(alloc, files, topology),
+        Command::Answer {
+            topology,
+            map,
+            from,
+            digits,
+        } => answer_files(alloc, files, topology, map, from, digits),
     }
 }
 
@@ -49,10 +58,10 @@ pub fn glb<R, F: Shelf, K: Sink>(
     // A fault outside is answered only where its count rose.
     ensures causes { HasCauses (record { files = F.faults files.old; out = K.faults out.old }) (record { files = F.faults files.new; out = K.faults out.new }) result }
 
-    // Status 0 says that the files hold a map that is good, and that the output got `good`.
+    // Status 0 says of `check` that the files hold a map that is good, and that the output got `good`; and of `map` that the output got the text of a map that is good for the topology of the file.
     ensures good { result ≡ Status.Ok → IsGoodRun (asked (texts words.now)) (record { files = F.told files.old; out = K.told out.old }) (record { files = F.told files.new; out = K.told out.new }) }
 
-    // Where the files are told to hold a map that is good, and no count of faults rises, there is no other answer but want of memory.
+    // Where the files are told to hold a topology, and for `check` a map that is good, and no count of faults rises, there is no other answer but want of memory.
     ensures complete { IsSomeAnd (F.told files.old) (λ shelf. IsSound (asked (texts words.now)) shelf.holds) → ¬ Rose (F.faults files.old) (F.faults files.new) → ¬ Rose (K.faults out.old) (K.faults out.new) → (result ≡ Status.Ok) ⊎ (result ≡ Status.NoMemory) }
 {
     match read_words(words) {

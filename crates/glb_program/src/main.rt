@@ -1,9 +1,12 @@
 //! `glb`, the mapping system of a content delivery network.
 #![tactic(auto)]
 
+mod answer;
 mod check;
+mod digits;
 mod files;
 mod glb;
+mod map;
 mod real;
 mod report;
 mod status;

@@ -1,0 +1,70 @@
+ghost use Rattle.std.specs.Prelude.{◌≡◌, ◌≢◌, ◌≤◌, IfOk};
+ghost use Rattle.map_model.specs.Allocation.{IsGood, IsMapForm};
+ghost use Rattle.outside.specs.Faults.{BothTell, Rose};
+ghost use Rattle.glb_program.specs.Outcome.{AreLoaded, AreLoadsOf};
+ghost use Rattle.glb_program.specs.Map.{IsMapDue, IsMapSaid, IsMapped, loads_of_map};
+ghost use Rattle.glb_program.specs.Reports.{EndsBy, outcome_of};
+
+use crate::files::load_topology;
+use crate::report::{Ended, Report};
+use crate::status::Status;
+use deferred_accept::{finish, run};
+use evict::State;
+use map_model::{Instance, MapLines};
+use map_text::write_map;
+use no_memory::NoMemory;
+use outside::{Shelf, Steps};
+use std::alloc::Global;
+use topology_text::Topology;
+
+/// The proposals of a mapping, as what is counted.
+struct Proposals;
+
+/// A good map for an instance, from scratch.
+fn map_afresh(alloc: Global, instance: &Instance) -> Result<MapLines, NoMemory>
+    ensures good { IfOk result (λ map. IsGood instance.now map.lines.items map.names.items) }
+    ensures form { IfOk result (λ map. IsMapForm instance.now map.lines.items map.names.items) }
+{
+    let mut state = State::fresh(alloc, instance)?;
+    let mut steps = Steps::<Proposals>::new();
+    run(alloc, instance, &mut state, &mut steps)?;
+    finish(alloc, instance, state)
+}
+
+/// The text of a good map, as what is to be said.
+fn try_report(alloc: Global, topology: &Topology) -> Result<Report, NoMemory>
+    ensures { IfOk result (λ r. IsMapped topology.now (outcome_of r)) }
+{
+    let map = map_afresh(alloc, topology.instance())?;
+    let text = write_map(alloc, topology, &map)?;
+    Ok(Report {
+        status: Status::Ok,
+        text,
+    })
+}
+
+fn report(alloc: Global, topology: &Topology) -> Ended
+    ensures mapped { EndsBy (IsMapped topology.now) result }
+    ensures said { EndsBy IsMapSaid result }
+    ensures source { result ≢ Ended.SourceFault }
+{
+    match try_report(alloc, topology) {
+        Ok(report) => Ended::Said(report),
+        Err(NoMemory) => Ended::NoMemory,
+    }
+}
+
+/// A good map for the instance of the topology of a file.
+pub fn map_files<F: Shelf>(alloc: Global, files: &mut F, topology: &str) -> Ended
+    ensures noted { BothTell (F.told files.old) (F.told files.new) (AreLoadsOf (loads_of_map topology.now)) }
+    ensures loaded { EndsBy (λ _. BothTell (F.told files.old) (F.told files.new) (AreLoaded (loads_of_map topology.now))) result }
+    ensures due { EndsBy (IsMapDue topology.now (F.told files.old)) result }
+    ensures said { EndsBy IsMapSaid result }
+    ensures later { F.faults files.old ≤ F.faults files.new }
+    ensures cause { result ≡ Ended.SourceFault → Rose (F.faults files.old) (F.faults files.new) }
+{
+    match load_topology(alloc, files, topology) {
+        Ok(topology) => report(alloc, &topology),
+        Err(ended) => ended,
+    }
+}
