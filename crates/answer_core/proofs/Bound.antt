@@ -1,6 +1,6 @@
 -- No reply is over 512 octets.
 use Rattle.std.proofs.Common.{◌≡◌, ℕ, ◌+◌, ◌*◌, ◌≤◌, false, List, [], ◌∷◌, ◌++◌, length, take, Option, Some, None, refl, arith, length-append, length-take}
-use Rattle.std.specs.Prelude.{map, min, All, IfSome}
+use Rattle.std.specs.Prelude.{map, min, All}
 use Rattle.std.specs.List.{flat_map}
 use Rattle.byteorder.specs.Endian.{big_bytes}
 use Rattle.std.proofs.lemmas.List.Elements.{All-head, All-tail}
@@ -8,7 +8,6 @@ use Rattle.addr_text.specs.declared.address.Addr.{Addr}
 use Rattle.addr_text.specs.declared.address.Addr.TheVariants.{V4, V6}
 use Rattle.client_subnet.specs.declared.subnet.SubnetOpt.{SubnetOpt}
 use Rattle.client_subnet.specs.Spelling.{octets_for, option_for}
-use Rattle.client_subnet.specs.View.{IsSubnet}
 use Rattle.dns_wire.specs.Message.{Extension}
 use Rattle.dns_wire.specs.Spelling.{header, question, u16}
 use Rattle.topology_text.specs.declared.topology.Zone.{Zone}
@@ -16,7 +15,7 @@ use Rattle.topology_text.specs.Plan.{IsZone}
 use Rattle.answer_core.specs.Columns.{is_authoritative, rcode, scope_told}
 use Rattle.answer_core.specs.Grammar.{Request}
 use Rattle.answer_core.specs.Outcome.{Outcome, BadVers, FormErr, Refused, ServFail, NxDomain, NoData, Soa, NameServers, Addresses}
-use Rattle.answer_core.specs.Sections.{resource, server, address, soa, negative_soa, numbers_of, apex_name, question_name, answers, authority, additional, repeated, count_of_opt}
+use Rattle.answer_core.specs.Sections.{resource, server, address, soa, numbers_of, apex_name, question_name, answers, authority, additional, repeated, count_of_opt}
 use Rattle.answer_core.specs.Reply.{full}
 use Rattle.answer_core.specs.View.{outcome_view, HasFew, IsTold}
 use Rattle.answer_core.specs.declared.outcome.Outcome as code

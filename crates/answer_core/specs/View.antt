@@ -1,7 +1,5 @@
 -- What the code's types stand for, and what they keep.
-use Rattle.std.specs.Prelude.{ℕ, ◌<◌, ◌≤◌, length, IfSome, Option, Some, None}
-use Rattle.name_text.specs.Wire.{IsName}
-use Rattle.client_subnet.specs.View.{IsSubnet}
+use Rattle.std.specs.Prelude.{ℕ, ◌≤◌, length}
 use Rattle.dns_wire.specs.View.{asked}
 use Rattle.answer_core.specs.declared.outcome.Outcome as code
 use Rattle.answer_core.specs.declared.outcome.Outcome.TheVariants as variants

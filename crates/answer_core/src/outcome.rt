@@ -74,12 +74,7 @@ fn answered_kind(kind: u16) -> Option<u16>
 }
 
 /// A service's name.
-fn at_service<'v>(
-    version: &'v MapVersion,
-    request: &Request,
-    from: Addr,
-    draw: u64,
-) -> Outcome<'v>
+fn at_service<'v>(version: &'v MapVersion, request: &Request, from: Addr, draw: u64) -> Outcome<'v>
     ensures exact { outcome_view result ≡ at_service version.now (request_view request.now) from draw }
     ensures few { HasFew result }
     ensures told { (size : ℕ) → IsTold size result }
@@ -115,12 +110,7 @@ fn at_apex<'v>(kind: u16) -> Outcome<'v>
 }
 
 /// The class and the name.
-fn by_name<'v>(
-    version: &'v MapVersion,
-    request: &Request,
-    from: Addr,
-    draw: u64,
-) -> Outcome<'v>
+fn by_name<'v>(version: &'v MapVersion, request: &Request, from: Addr, draw: u64) -> Outcome<'v>
     ensures exact { outcome_view result ≡ by_name version.now (request_view request.now) from draw }
     ensures few { HasFew result }
     ensures told { IsTold (length request.now.query.name.now) result }

@@ -140,7 +140,12 @@ pub(crate) fn write_answers(out: &mut ArrayVec<u8, 512>, zone: &Zone, outcome: &
 }
 
 /// Writes the authority of a reply to a query for a name: the SOA record of a negative answer (RFC 2308 section 3).
-pub(crate) fn write_authority(out: &mut ArrayVec<u8, 512>, zone: &Zone, name: &[u8], outcome: &Outcome)
+pub(crate) fn write_authority(
+    out: &mut ArrayVec<u8, 512>,
+    zone: &Zone,
+    name: &[u8],
+    outcome: &Outcome,
+)
     requires zone { IsZone zone.now }
     requires name { length name.now ≤ 255 }
     requires room { array_vec_len out.old + length (flat_map spec.resource (spec.authority zone.now name.now (outcome_view outcome.now))) ≤ 512 }

@@ -25,7 +25,12 @@ pub(crate) fn write_alone(out: &mut ArrayVec<u8, 512>, head: &Head, rcode: u8)
 }
 
 /// Writes a reply that repeats the question.
-pub(crate) fn write_full(out: &mut ArrayVec<u8, 512>, zone: &Zone, request: &Request, outcome: &Outcome)
+pub(crate) fn write_full(
+    out: &mut ArrayVec<u8, 512>,
+    zone: &Zone,
+    request: &Request,
+    outcome: &Outcome,
+)
     requires empty { out.old.items ≡ [] }
     requires zone { IsZone zone.now }
     requires name { IsName request.now.query.name.now }

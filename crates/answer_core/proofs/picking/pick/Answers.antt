@@ -1,4 +1,4 @@
-use Rattle.std.proofs.Common.{◌≡◌, ℕ, List, ap, ◌∙◌}
+use Rattle.std.proofs.Common.{◌≡◌, ap, ◌∙◌}
 use Rattle.std.specs.Prelude.{sum}
 use Rattle.map_model.specs.Allocation.{placed}
 use Rattle.published_map.specs.Version.{amounts_of}

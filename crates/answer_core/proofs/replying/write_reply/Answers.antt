@@ -1,5 +1,4 @@
-use Rattle.std.proofs.Common.{◌≡◌, ◌≤◌, ℕ, length, ap, arith}
-use Rattle.dns_wire.specs.View.{asked}
+use Rattle.std.proofs.Common.{◌≤◌, length}
 use Rattle.answer_core.specs.Reply.{full}
 use Rattle.answer_core.specs.View.{outcome_view, request_view}
 use Rattle.answer_core.proofs.Bound.{bound, view_fits}

@@ -1,4 +1,4 @@
-use Rattle.std.proofs.Common.{◌≡◌, ◌≤◌, ◌+◌, ◌++◌, List, ℕ, ap, subst, sym, length, arith}
+use Rattle.std.proofs.Common.{◌≤◌, ◌+◌, length, arith}
 use Rattle.answer_core.specs.Sections as spec
 use Rattle.answer_core.proofs.Records.{has_room, goes_on}
 use Rattle.answer_core.proofs.sections.write_servers.Goals as goal

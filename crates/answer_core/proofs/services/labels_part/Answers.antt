@@ -1,5 +1,5 @@
-use Rattle.std.proofs.Common.{◌≡◌, ℕ, ◌<◌, List, [], ◌∷◌, length, ap, arith}
-use Rattle.name_text.specs.Wire.{wire, IsName}
+use Rattle.std.proofs.Common.{ℕ, ◌<◌, List, [], ◌∷◌, length, ap, arith}
+use Rattle.name_text.specs.Wire.{wire}
 use Rattle.answer_core.proofs.services.labels_part.Goals as goal
 
 some_octet : (labels : List (List ℕ)) → 0 < length (wire labels)
