@@ -1,6 +1,7 @@
 ghost use Rattle.std.specs.Prelude.{◌≡◌, ◌≢◌, ◌≤◌, IfOk};
 ghost use Rattle.map_model.specs.Allocation.{IsGood, IsMapForm};
 ghost use Rattle.outside.specs.Faults.{BothTell, Rose};
+ghost use Rattle.topology_text.specs.Plan.{IsPlan};
 ghost use Rattle.glb_program.specs.Outcome.{AreLoaded, AreLoadsOf};
 ghost use Rattle.glb_program.specs.Map.{IsMapDue, IsMapSaid, IsMapped, loads_of_map};
 ghost use Rattle.glb_program.specs.Reports.{EndsBy, outcome_of};
@@ -33,7 +34,8 @@ fn map_afresh(alloc: Global, instance: &Instance) -> Result<MapLines, NoMemory>
 
 /// The text of a good map, as what is to be said.
 fn try_report(alloc: Global, topology: &Topology) -> Result<Report, NoMemory>
-    ensures { IfOk result (λ r. IsMapped topology.now (outcome_of r)) }
+    ensures mapped { IfOk result (λ r. IsMapped topology.now (outcome_of r)) }
+    ensures plan { IsPlan topology.now }
 {
     let map = map_afresh(alloc, topology.instance())?;
     let text = write_map(alloc, topology, &map)?;

@@ -159,6 +159,44 @@ scores = [1]
 prefixes = []
 ";
 
+/// The same, where the third group asks for one unit more.
+const TWO_GOOD_CHANGED: &str = "node = [
+{name = \"P\", capacity = 1, pool = true},
+{name = \"Q\", capacity = 1, pool = true},
+{name = \"Z\", capacity = 5, pool = true},
+]
+group = [
+{name = \"a\", demand = 1, pools = [\"P\", \"Q\"], scores = [2, 1], prefixes = [\"0.0.0.0/0\", \"::/0\"]},
+{name = \"b\", demand = 1, pools = [\"Q\", \"P\"], scores = [2, 1], prefixes = []},
+{name = \"c\", demand = 2, pools = [\"Z\"], scores = [1], prefixes = []},
+]
+";
+
+/// A region that holds less than its two pools.
+const FULL_REGION: &str = "node = [
+{name = \"R\", capacity = 10},
+{name = \"A\", parent = \"R\", capacity = 10, pool = true},
+{name = \"B\", parent = \"R\", capacity = 10, pool = true},
+]
+group = [
+{name = \"a\", demand = 8, pools = [\"A\"], scores = [1], prefixes = [\"0.0.0.0/0\", \"::/0\"]},
+{name = \"b\", demand = 8, pools = [\"B\"], scores = [2], prefixes = []},
+]
+";
+
+/// A pool of five units in a region of none.
+const EMPTY_REGION: &str = "node = [
+{name = \"R\", capacity = 0},
+{name = \"A\", parent = \"R\", capacity = 5, pool = true},
+]
+group = [{name = \"g\", demand = 1, pools = [\"A\"], scores = [1], prefixes = [\"0.0.0.0/0\", \"::/0\"]}]
+";
+
+/// The most that a group may ask for, of the most that a pool may hold.
+const LARGEST: &str = "node = [{name = \"A\", capacity = 281474976710656, pool = true}]
+group = [{name = \"g\", demand = 4294967295, pools = [\"A\"], scores = [1], prefixes = [\"0.0.0.0/0\", \"::/0\"]}]
+";
+
 /// Eight nodes on one path, of which the root is full.
 const EIGHT_LEVELS: &str = "node = [
 {name = \"n0\", capacity = 3},
@@ -253,12 +291,13 @@ const GOOD_REGION: &[u8] =
 
 const USAGE: &[u8] = b"usage: glb check, answer, map, repair, serve or large\n";
 
-/// `check` over two files: the status, what the output got, and how many files were asked for.
-fn check_rows<R: Abort + AllocGlobal>(
+/// A command over two files: the status, what the output got, and how many files were asked for.
+fn assert_rows<R: Abort + AllocGlobal>(
     rt: &R,
+    words: &[&str],
     rows: &[(Held, Held, Status, &'static str, usize)],
 ) -> Result<(), Fail> {
-    let words = texts(rt, &["glb", "check", "t", "m"])?;
+    let words = texts(rt, words)?;
     for (topology, map, wanted, text, loads) in rows {
         let mut files = shelf(rt, *topology, *map, &[])?;
         let mut out = MemSink::new(rt.alloc(), 1024, Vec::new(rt.alloc()))?;
@@ -277,8 +316,9 @@ fn check_rows<R: Abort + AllocGlobal>(
 
 #[test]
 fn verdicts(rt: HostRuntime) -> Result<(), Fail> {
-    check_rows(
+    assert_rows(
         &rt,
+        &["glb", "check", "t", "m"],
         &[
             (Topology(FLAT), Bytes(GOOD_FLAT), Status::Ok, "good\n", 2),
             (
@@ -400,8 +440,9 @@ fn verdicts(rt: HostRuntime) -> Result<(), Fail> {
 
 #[test]
 fn refusals(rt: HostRuntime) -> Result<(), Fail> {
-    check_rows(
+    assert_rows(
         &rt,
+        &["glb", "check", "t", "m"],
         &[
             (
                 Zeros(67_108_865),
@@ -472,6 +513,76 @@ fn refusals(rt: HostRuntime) -> Result<(), Fail> {
     )
 }
 
+/// Topologies, and the map that is written of each. It is good by `check`.
+const MAPS: &[(Held, &str)] = &[
+    (
+        Topology(REGION),
+        "glb map 1\nplace g1 A 8\nplace g2 A 2\nplace g2 B 5\nfull g2 A A\nfull g2 B R\nend\n",
+    ),
+    (
+        Topology(NO_LONGER_FULL),
+        "glb map 1\nplace a A 2\nplace c B 8\nfull a A R\nfull b A R\nend\n",
+    ),
+    (
+        Topology(FULL_REGION),
+        "glb map 1\nplace a A 8\nplace b B 2\nfull b B R\nend\n",
+    ),
+    (
+        Topology(TWO_GOOD_CHANGED),
+        "glb map 1\nplace a P 1\nplace b Q 1\nplace c Z 2\nend\n",
+    ),
+    (Topology(EMPTY_POOL), "glb map 1\nfull g A A\nend\n"),
+    (Topology(EMPTY_REGION), "glb map 1\nfull g A R\nend\n"),
+    (
+        Topology(EIGHT_LEVELS),
+        "glb map 1\nplace g n7 3\nfull g n7 n0\nend\n",
+    ),
+    (Topology(LARGEST), "glb map 1\nplace g A 4294967295\nend\n"),
+];
+
+#[test]
+fn maps(rt: HostRuntime) -> Result<(), Fail> {
+    for (topology, map) in MAPS {
+        assert_rows(
+            &rt,
+            &["glb", "map", "t"],
+            &[(*topology, Missing, Status::Ok, *map, 1)],
+        )?;
+        let written = Bytes(map.as_bytes());
+        assert_rows(
+            &rt,
+            &["glb", "check", "t", "m"],
+            &[(*topology, written, Status::Ok, "good\n", 2)],
+        )?;
+    }
+    Ok(())
+}
+
+#[test]
+fn topologies_without_a_map(rt: HostRuntime) -> Result<(), Fail> {
+    assert_rows(
+        &rt,
+        &["glb", "map", "t"],
+        &[
+            (
+                Zeros(67_108_865),
+                Missing,
+                Status::Refused,
+                "refused topology too long\n",
+                1,
+            ),
+            (
+                Topology(NO_DEFAULT),
+                Missing,
+                Status::Refused,
+                "refused topology 14 no default at family 6\n",
+                1,
+            ),
+            (Missing, Bytes(GOOD_FLAT), Status::SourceFault, "", 1),
+        ],
+    )
+}
+
 #[test]
 fn map_texts(rt: HostRuntime) -> Result<(), Fail> {
     let words = texts(&rt, &["glb", "check", "t", "m"])?;
@@ -535,7 +646,7 @@ fn map_texts(rt: HostRuntime) -> Result<(), Fail> {
 
 #[test]
 fn usage(rt: HostRuntime) -> Result<(), Fail> {
-    let rows: [&[&str]; 14] = [
+    let rows: [&[&str]; 16] = [
         &[],
         &["glb"],
         &["glb", "check"],
@@ -546,7 +657,9 @@ fn usage(rt: HostRuntime) -> Result<(), Fail> {
         &["glb", "check", "--", "t", "m"],
         &["glb", "chec", "t", "m"],
         &["glb", "t", "m", "check"],
-        &["glb", "map", "t"],
+        &["glb", "map"],
+        &["glb", "map", "-t"],
+        &["glb", "map", "t", "m"],
         &["glb", "answer", "t", "m"],
         &["glb", "--help"],
         &["check", "t", "m"],
@@ -566,7 +679,7 @@ fn usage(rt: HostRuntime) -> Result<(), Fail> {
 #[test]
 fn faults_outside(rt: HostRuntime) -> Result<(), Fail> {
     // The words, the loads that are to fail, the puts that are to fail, the room of the output, and what comes of it.
-    let rows: [(&[&str], &[u64], &[u64], usize, Status, &[u8]); 7] = [
+    let rows: [(&[&str], &[u64], &[u64], usize, Status, &[u8]); 8] = [
         (
             &["glb", "check", "t", "m"],
             &[0],
@@ -606,6 +719,14 @@ fn faults_outside(rt: HostRuntime) -> Result<(), Fail> {
             3,
             Status::SinkFault,
             b"goo",
+        ),
+        (
+            &["glb", "map", "t"],
+            &[],
+            &[],
+            14,
+            Status::SinkFault,
+            b"glb map 1\nplac",
         ),
         (&["glb"], &[], &[], 5, Status::SinkFault, b"usage"),
         (

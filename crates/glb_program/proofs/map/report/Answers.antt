@@ -1,0 +1,13 @@
+use Rattle.std.proofs.Common.{◌≡◌, sym, subst}
+use Rattle.glb_program.specs.declared.status.Status.{Status}
+use Rattle.glb_program.specs.declared.status.Status.TheVariants.{Ok}
+use Rattle.glb_program.specs.Outcome.{IsSaidStatus}
+use Rattle.glb_program.proofs.map.report.Goals as goal
+
+pub returns-in-Ok-clause-said : goal.returns-in-Ok-clause-said
+returns-in-Ok-clause-said c =
+    let mapped = c.in-Ok.ensures.mapped in
+    record {
+      said = subst (λ (s : Status). IsSaidStatus s) (sym mapped.status) tt;
+      good = λ _. (c.args.topology.now, c.try_report.ensures.plan, mapped.text);
+    }
