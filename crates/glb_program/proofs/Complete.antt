@@ -12,11 +12,13 @@ use Rattle.stable_check.specs.declared.verdict.Verdict.{Verdict}
 use Rattle.stable_check.specs.declared.verdict.Verdict.TheVariants.{Good, BadLine, OverDemand, OverCapacity, Blocking, BadName}
 use Rattle.glb_program.specs.declared.status.Status.{Status}
 use Rattle.glb_program.specs.declared.status.Status.TheVariants as status
-use Rattle.glb_program.specs.Words.{Ask, check, map_from}
+use Rattle.glb_program.specs.Words.{Ask, check, map_from, answer}
 use Rattle.glb_program.specs.Outcome.{Faults, HasCauses, Outcome, Outside, RunsBy}
 use Rattle.glb_program.specs.Files.{Kind, Reads, Says, refused, map_file, topology_file}
 use Rattle.glb_program.specs.Check.{HoldsGoodMap, IsCheck, IsCheckDue, IsJudged, status_of}
 use Rattle.glb_program.specs.Map.{HoldsTopology, IsMapDue, IsMapped}
+use Rattle.glb_program.specs.Answer.{IsAnswer, IsAnswerDue, IsAnswered}
+use Rattle.glb_program.specs.Datagram.{Datagram}
 use Rattle.glb_program.specs.Run.{IsRun, IsSound}
 
 -- a good map has no other verdict
@@ -39,6 +41,16 @@ well_due topology map files due held h =
     let first = reads_on topology_file (files topology) (λ x. Reads (map_file x) (files map) (IsJudged x)) due t held.2 h in
     let judged = reads_on (map_file t) (files map) (IsJudged t) due m held.3 first in
     ap (λ (o : Outcome). o.status) judged.2 ∙ ap status_of (only_good t.market m.lines m.names judged.0 judged.1 held.4)
+
+well_answered : (topology map : List ℕ) (d : Datagram) (files : List ℕ → Option (List ℕ)) (due : Outcome) → HoldsGoodMap topology map files → IsAnswer topology map d files due → due.status ≡ status.Ok
+well_answered topology map d files due held h =
+    let t = held.0 in
+    let m = held.1 in
+    let first = reads_on topology_file (files topology) (λ x. Reads (map_file x) (files map) (IsAnswered d x)) due t held.2 h in
+    elim (reads_on (map_file t) (files map) (IsAnswered d t) due m held.3 first) [
+      | inl replied ↦ replied.status
+      | inr other ↦ absurd (other.not_good (only_good t.market m.lines m.names other.verdict other.judged held.4))
+    ]
 
 -- the end of a run whose outcome is status 0
 ends_well : (Due : Outcome → Type 0) (before after : Outside) (counts later : Faults) (result : Status) → RunsBy Due before.out after.out result → ((due : Outcome) → Due due → due.status ≡ status.Ok)
@@ -67,3 +79,9 @@ complete_run (Some (map_from topology)) before after counts later result run cau
     well : (files : Option Shelved) → IsSomeAnd files (λ shelf. HoldsTopology topology shelf.holds) → (due : Outcome) → IsMapDue topology files due → due.status ≡ status.Ok
     well None held due h = absurd held
     well (Some shelf) held due h = (reads_on topology_file (shelf.holds topology) IsMapped due held.0 held.1 h).status
+complete_run (Some (answer topology map datagram)) before after counts later result run causes sound files out =
+    ends_well (IsAnswerDue topology map datagram before.files) before after counts later result run (well before.files sound) causes files out
+  where
+    well : (files : Option Shelved) → IsSomeAnd files (λ shelf. HoldsGoodMap topology map shelf.holds) → (due : Outcome) → IsAnswerDue topology map datagram files due → due.status ≡ status.Ok
+    well None held due h = absurd held
+    well (Some shelf) held due h = well_answered topology map datagram shelf.holds due held h

@@ -12,11 +12,13 @@ use Rattle.topology_text.specs.Plan.{Plan}
 use Rattle.map_text.specs.Reading.{Mapped}
 use Rattle.glb_program.specs.declared.status.Status.{Status}
 use Rattle.glb_program.specs.declared.status.Status.TheVariants as status
-use Rattle.glb_program.specs.Words.{Ask, check, map_from}
+use Rattle.glb_program.specs.Words.{Ask, check, map_from, answer}
 use Rattle.glb_program.specs.Outcome.{IsPrinted, Outcome, Outside, RunsBy}
 use Rattle.glb_program.specs.Files.{Kind, Reads, Says, refused, says, map_file, topology_file}
 use Rattle.glb_program.specs.Check.{HoldsGoodMap, IsCheck, IsCheckDue, IsJudged, status_of}
 use Rattle.glb_program.specs.Map.{AreGoodMap, IsMapDue, IsMapped, IsMappedRun}
+use Rattle.glb_program.specs.Answer.{AreReply, IsAnswerDue, IsAnswered, IsAnsweredRun}
+use Rattle.glb_program.specs.Datagram.{Datagram}
 use Rattle.glb_program.specs.Run.{IsGoodRun, IsRun}
 use Rattle.glb_program.specs.Texts as text
 
@@ -67,6 +69,19 @@ mapped_well topology (Some shelf) due h ok =
     let read = well_read topology_file (shelf.holds topology) IsMapped due h ok in
     (read.0, read.1, read.2.text)
 
+replied : (t : Plan) (m : Mapped) (d : Datagram) (due : Outcome) → IsAnswered d t m due → due.status ≡ status.Ok → AreReply t m d due.pieces
+replied t m d due (inl reply) ok = reply.reply
+replied t m d due (inr other) ok = let same : due.status ≡ status.NotGood = ap (λ (o : Outcome). o.status) other.outcome in absurd (cc)
+
+-- the reply of a good map, by files that are told or are not
+replied_well : (topology map : List ℕ) (d : Datagram) (files : Option Shelved) (due : Outcome) → IsAnswerDue topology map d files due → due.status ≡ status.Ok
+    → (t : Plan) × (m : Mapped) × IfSome files (λ shelf. Says topology_file (shelf.holds topology) t × Says (map_file t) (shelf.holds map) m) × AreReply t m d due.pieces
+replied_well topology map d None due h ok = let said = h.good ok in (said.0, said.1, tt, said.3)
+replied_well topology map d (Some shelf) due h ok =
+    let first = well_read topology_file (shelf.holds topology) (λ t. Reads (map_file t) (shelf.holds map) (IsAnswered d t)) due h ok in
+    let second = well_read (map_file first.0) (shelf.holds map) (IsAnswered d first.0) due first.2 ok in
+    (first.0, second.0, (first.1, second.1), replied first.0 second.0 d due second.2 ok)
+
 -- a run with status 0 comes out well
 whole_run : (Due : Outcome → Type 0) (P : Outcome → Type 0) (before after : Option Written) (result : Status) → RunsBy Due before after result → result ≡ status.Ok
     → ((due : Outcome) → Due due → due.status ≡ status.Ok → BothTell before after (IsPrinted due.pieces) → P due) → (due : Outcome) × P due
@@ -88,3 +103,8 @@ good_run (Some (map_from topology)) before after result run ok =
     (λ due is_due well puts.
     let said = mapped_well topology before.files due is_due well in
     (said.0, due.pieces, said.1, said.2, puts))).1
+good_run (Some (answer topology map datagram)) before after result run ok =
+    (whole_run (IsAnswerDue topology map datagram before.files) (λ _. IsAnsweredRun topology map datagram before after) before.out after.out result run ok
+    (λ due is_due well puts.
+    let said = replied_well topology map datagram before.files due is_due well in
+    (said.0, said.1, due.pieces, said.2, said.3, puts))).1

@@ -1,3 +1,4 @@
 mod Loads
 mod Good
 mod Complete
+pub mod Datagrams

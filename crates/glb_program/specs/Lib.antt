@@ -1,3 +1,4 @@
+pub mod Datagram
 pub mod Words
 pub mod Commands
 pub mod Texts
@@ -5,5 +6,6 @@ pub mod Outcome
 pub mod Files
 pub mod Check
 pub mod Map
+pub mod Answer
 pub mod Run
 pub mod Reports

@@ -5,10 +5,11 @@ use Rattle.outside.specs.Shelf.{Load, Shelved}
 use Rattle.outside.specs.Sink.{Written}
 use Rattle.glb_program.specs.declared.status.Status.{Status}
 use Rattle.glb_program.specs.declared.status.Status.TheVariants.{Usage, NoMemory}
-use Rattle.glb_program.specs.Words.{Ask, check, map_from}
+use Rattle.glb_program.specs.Words.{Ask, check, map_from, answer}
 use Rattle.glb_program.specs.Outcome.{Outcome, Outside, RunsBy, Speaks}
 use Rattle.glb_program.specs.Check.{HoldsGoodMap, IsCheckDue, IsCheckSaid, IsCheckedRun, loads_of_check}
 use Rattle.glb_program.specs.Map.{HoldsTopology, IsMapDue, IsMapSaid, IsMappedRun, loads_of_map}
+use Rattle.glb_program.specs.Answer.{IsAnswerDue, IsAnswerSaid, IsAnsweredRun}
 use Rattle.glb_program.specs.Texts as text
 
 -- what is due to words that are not taken
@@ -19,11 +20,13 @@ IsUsage due = due ≡ record { status = Usage; pieces = text.usage ∷ [] }
 abbrev pub IsDue : Ask → Option Shelved → Outcome → Type 0
 IsDue (check topology map) files = IsCheckDue topology map files
 IsDue (map_from topology) files = IsMapDue topology files
+IsDue (answer topology map datagram) files = IsAnswerDue topology map datagram files
 
 -- what is said by a command of any files
 abbrev pub IsSaidBy : Ask → Outcome → Type 0
 IsSaidBy (check topology map) due = IsCheckSaid due
 IsSaidBy (map_from topology) due = IsMapSaid due
+IsSaidBy (answer topology map datagram) due = IsAnswerSaid datagram due
 
 -- memory was wanting for the reading of the words, and nothing was put
 pub record IsUnread (before after : Option Written) (result : Status) : Type 0 where
@@ -39,6 +42,7 @@ IsRun (Some ask) before after result = RunsBy (IsDue ask before.files) before.ou
 abbrev pub loads_of_ask : Ask → (List ℕ → Option (List ℕ)) → List Load
 loads_of_ask (check topology map) = loads_of_check topology map
 loads_of_ask (map_from topology) = loads_of_map topology
+loads_of_ask (answer topology map datagram) = loads_of_check topology map
 
 -- the loads that are due to a run
 abbrev pub loads_of : Option Ask → (List ℕ → Option (List ℕ)) → List Load
@@ -50,9 +54,11 @@ abbrev pub IsSound : Option Ask → (List ℕ → Option (List ℕ)) → Type 0
 IsSound None files = ⊥
 IsSound (Some (check topology map)) files = HoldsGoodMap topology map files
 IsSound (Some (map_from topology)) files = HoldsTopology topology files
+IsSound (Some (answer topology map datagram)) files = HoldsGoodMap topology map files
 
 -- what status 0 says of the files and the output
 abbrev pub IsGoodRun : Option Ask → Outside → Outside → Type 0
 IsGoodRun None before after = ⊥
 IsGoodRun (Some (check topology map)) before after = IsCheckedRun topology map before after
 IsGoodRun (Some (map_from topology)) before after = IsMappedRun topology before after
+IsGoodRun (Some (answer topology map datagram)) before after = IsAnsweredRun topology map datagram before after

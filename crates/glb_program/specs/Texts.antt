@@ -1,6 +1,7 @@
 -- The texts that the program puts on its output.
-use Rattle.std.specs.Prelude.{ℕ, List, [], ◌∷◌, ◌++◌, codes, slice_index_or}
+use Rattle.std.specs.Prelude.{ℕ, List, [], ◌∷◌, ◌++◌, Option, None, Some, codes, slice_index_or}
 use Rattle.std.specs.Fmt.{decimal}
+use Rattle.hex.specs.Hex.{encode_lower}
 use Rattle.map_model.specs.Market.{pool_of}
 use Rattle.stable_check.specs.declared.verdict.Verdict.{Verdict}
 use Rattle.stable_check.specs.declared.verdict.Verdict.TheVariants.{Good, BadLine, OverDemand, OverCapacity, Blocking, BadName}
@@ -50,3 +51,8 @@ verdict t (OverDemand g units) = line (codes "over demand " ++ group_name t g.0 
 verdict t (OverCapacity n units) = line (codes "over capacity " ++ node_name t n.0 ++ 32 ∷ [] ++ decimal units)
 verdict t (Blocking g k) = line (codes "blocking " ++ group_name t g.0 ++ 32 ∷ [] ++ node_name t (pool_of t.market g.0 k))
 verdict t (BadName i) = line (codes "bad name " ++ decimal i)
+
+-- the line for a reply: its octets as hexadecimal digits in lower case, or that there is none
+abbrev pub answer : Option (List ℕ) → List ℕ
+answer None = line (codes "answer -")
+answer (Some octets) = line (codes "answer " ++ encode_lower octets)

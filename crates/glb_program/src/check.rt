@@ -28,7 +28,7 @@ fn status_of(verdict: Verdict) -> Status
 }
 
 /// The verdict on a map. What it names is there.
-fn judge(alloc: Global, topology: &Topology, map: &MapLines) -> Result<Verdict, NoMemory>
+pub fn judge(alloc: Global, topology: &Topology, map: &MapLines) -> Result<Verdict, NoMemory>
     ensures judged { IfOk result (Judges topology.now.market map.now.lines.items map.now.names.items) }
     ensures nameable { IfOk result (IsNameable topology.now.market) }
 {

@@ -7,6 +7,7 @@ ghost use Rattle.glb_program.specs.Reports.{EndsBy};
 ghost use Rattle.command_line.specs.Asked.{texts};
 ghost use Rattle.glb_program.specs.Words.{asked};
 
+use crate::answer::answer_files;
 use crate::check::check_files;
 use crate::map::map_files;
 use crate::report::{Ended, finish, say};
@@ -30,6 +31,12 @@ fn run_command<F: Shelf>(alloc: Global, files: &mut F, command: Command<'_>) -> 
     match command {
         Command::Check { topology, map } => check_files(alloc, files, topology, map),
         Command::Map { topology } => map_files(alloc, files, topology),
+        Command::Answer {
+            topology,
+            map,
+            from,
+            digits,
+        } => answer_files(alloc, files, topology, map, from, digits),
     }
 }
 

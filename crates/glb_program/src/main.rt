@@ -1,7 +1,9 @@
 //! `glb`, the mapping system of a content delivery network.
 #![tactic(auto)]
 
+mod answer;
 mod check;
+mod digits;
 mod files;
 mod glb;
 mod map;

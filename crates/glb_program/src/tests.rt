@@ -16,6 +16,8 @@ enum Held {
     Missing,
 }
 
+mod answers;
+
 use Held::{Bytes, Missing, Topology, Zeros};
 
 const ZONE: &str = "[zone]

@@ -1,4 +1,4 @@
-ghost use Rattle.std.specs.Prelude.{◌≡◌, ◌++◌, [], ◌∷◌, IfOk};
+ghost use Rattle.std.specs.Prelude.{◌≡◌, ◌++◌, [], ◌∷◌, IfOk, Some};
 ghost use Rattle.std.specs.Fmt.{decimal};
 ghost use Rattle.map_model.specs.Market.{pool_of};
 ghost use Rattle.map_model.specs.Allocation.{IsOffer};
@@ -91,5 +91,15 @@ pub fn verdict_text(
         }
         Verdict::BadName { index } => numbered(alloc, b"bad name ", index as u64)?,
     };
+    line(alloc, words.as_slice())
+}
+
+/// What is written of a reply.
+pub fn answer_text(alloc: Global, octets: &[u8]) -> Result<Vec<u8>, NoMemory>
+    ensures { IfOk result (λ t. t.items ≡ text.answer (Some octets.now)) }
+{
+    let digits = hex::encode(alloc, octets)?;
+    let mut words = Vec::from_slice(alloc, b"answer ")?;
+    words.extend_from_slice(digits.as_bytes())?;
     line(alloc, words.as_slice())
 }

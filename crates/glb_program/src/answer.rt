@@ -1,0 +1,188 @@
+ghost use Rattle.std.specs.Prelude.{◌≡◌, ◌≢◌, ◌≤◌, [], ◌∷◌, IfOk, IfSome};
+ghost use Rattle.map_model.specs.Allocation.{IsGood};
+ghost use Rattle.outside.specs.Faults.{BothTell, Rose};
+ghost use Rattle.map_text.specs.Writing.{mapped};
+ghost use Rattle.glb_program.specs.Outcome.{AreLoaded, AreLoadsOf};
+ghost use Rattle.glb_program.specs.Answer.{IsAnswerDue, IsAnswerSaid, IsAnswered, IsReplied, answer_of, version_of};
+ghost use Rattle.glb_program.specs.Check.{loads_of_check};
+ghost use Rattle.glb_program.specs.Commands.{octets_of};
+ghost use Rattle.glb_program.specs.Files.{Reads, load_of, map_file};
+ghost use Rattle.glb_program.specs.Reports.{EndsBy, IsNameable, outcome_of};
+ghost use Rattle.glb_program.specs.Texts as text;
+
+use crate::check::judge;
+use crate::files::{load_map, load_topology};
+use crate::report::{Ended, Report};
+use crate::status::Status;
+use crate::text::{answer_text, line, verdict_text};
+use addr_text::Addr;
+use answer_core::{Answer, reply};
+use arrayvec::ArrayVec;
+use map_model::MapLines;
+use no_memory::NoMemory;
+use outside::Shelf;
+use prefix_lookup::Lookup;
+use published_map::{MapVersion, Shared};
+use stable_check::Verdict;
+use std::alloc::Global;
+use std::sync::Arc;
+use topology_text::Topology;
+
+/// The draw by which `answer` picks a pool.
+const DRAW: u64 = 0;
+
+/// A map over a topology as it was read, as version 0.
+fn first_version(alloc: Global, topology: Topology, map: MapLines) -> Result<MapVersion, NoMemory>
+    requires { IsGood topology.market map.lines.items map.names.items }
+    ensures { IfOk result (λ v. v ≡ version_of topology (mapped map)) }
+{
+    let instance = topology.instance().try_clone()?;
+    let lookup = Lookup::build(alloc, topology.prefixes())?;
+    let topology = Arc::new(alloc, topology)?;
+    let shared = Arc::new(alloc, Shared { topology, lookup })?;
+    MapVersion::make(alloc, 0, instance, map, shared)
+}
+
+/// The text of a version's reply to octets from an address.
+#[tactic(auto, unfolding(crate::specs::Answer::answer_of))]
+fn reply_text(
+    alloc: Global,
+    version: &MapVersion,
+    from: Addr,
+    octets: &[u8],
+) -> Result<Vec<u8>, NoMemory>
+    ensures { IfOk result (λ t. t.items ≡ text.answer (answer_of version.now (record { from = from; octets = octets.now }))) }
+{
+    let mut out = ArrayVec::new();
+    match reply(version, from, octets, DRAW, &mut out) {
+        Answer::Sent => answer_text(alloc, out.as_slice()),
+        Answer::Silent => line(alloc, b"answer -"),
+    }
+}
+
+/// The reply of a good map, as what is to be said.
+fn replied(
+    alloc: Global,
+    topology: Topology,
+    map: MapLines,
+    from: Addr,
+    octets: &[u8],
+) -> Result<Report, NoMemory>
+    requires { IsGood topology.market map.lines.items map.names.items }
+    ensures { IfOk result (λ r. IsReplied topology (mapped map) (record { from = from; octets = octets.now }) (outcome_of r)) }
+{
+    let version = first_version(alloc, topology, map)?;
+    let text = reply_text(alloc, &version, from, octets)?;
+    Ok(Report {
+        status: Status::Ok,
+        text,
+    })
+}
+
+/// A verdict other than good, as what is to be said.
+fn not_good(alloc: Global, topology: &Topology, verdict: Verdict) -> Result<Report, NoMemory>
+    requires { IsNameable topology.now.market verdict }
+    ensures { IfOk result (λ r. outcome_of r ≡ record { status = Status.NotGood; pieces = text.verdict topology.now verdict ∷ [] }) }
+{
+    let text = verdict_text(alloc, topology, verdict)?;
+    Ok(Report {
+        status: Status::NotGood,
+        text,
+    })
+}
+
+/// The reply of a map, or the verdict on it where it is not good.
+fn try_report(
+    alloc: Global,
+    topology: Topology,
+    map: MapLines,
+    from: Addr,
+    octets: &[u8],
+) -> Result<Report, NoMemory>
+    ensures { IfOk result (λ r. IsAnswered (record { from = from; octets = octets.now }) topology (mapped map) (outcome_of r)) }
+{
+    match judge(alloc, &topology, &map)? {
+        Verdict::Good => replied(alloc, topology, map, from, octets),
+        verdict => not_good(alloc, &topology, verdict),
+    }
+}
+
+fn report(alloc: Global, topology: Topology, map: MapLines, from: Addr, octets: &[u8]) -> Ended
+    ensures answered { EndsBy (IsAnswered (record { from = from; octets = octets.now }) topology (mapped map)) result }
+    ensures said { EndsBy (IsAnswerSaid (record { from = from; octets = octets.now })) result }
+    ensures source { result ≢ Ended.SourceFault }
+{
+    let _ = topology.instance();
+    match try_report(alloc, topology, map, from, octets) {
+        Ok(report) => Ended::Said(report),
+        Err(NoMemory) => Ended::NoMemory,
+    }
+}
+
+/// The reply of the map of a file over a topology.
+fn answer_map<F: Shelf>(
+    alloc: Global,
+    files: &mut F,
+    topology: Topology,
+    map: &str,
+    from: Addr,
+    octets: &[u8],
+) -> Ended
+    ensures noted { BothTell (F.told files.old) (F.told files.new) (AreLoadsOf (λ _. load_of (map_file topology) map.now ∷ [])) }
+    ensures loaded { EndsBy (λ _. BothTell (F.told files.old) (F.told files.new) (AreLoaded (λ _. load_of (map_file topology) map.now ∷ []))) result }
+    ensures due { IfSome (F.told files.old) (λ shelf. EndsBy (Reads (map_file topology) (shelf.holds map.now) (IsAnswered (record { from = from; octets = octets.now }) topology)) result) }
+    ensures said { EndsBy (IsAnswerSaid (record { from = from; octets = octets.now })) result }
+    ensures later { F.faults files.old ≤ F.faults files.new }
+    ensures cause { result ≡ Ended.SourceFault → Rose (F.faults files.old) (F.faults files.new) }
+{
+    match load_map(alloc, files, map, &topology) {
+        Ok(map) => report(alloc, topology, map, from, octets),
+        Err(ended) => ended,
+    }
+}
+
+/// The reply of the map of a file, over the topology of another, to octets from an address.
+fn answer_octets<F: Shelf>(
+    alloc: Global,
+    files: &mut F,
+    topology: &str,
+    map: &str,
+    from: Addr,
+    octets: &[u8],
+) -> Ended
+    ensures noted { BothTell (F.told files.old) (F.told files.new) (AreLoadsOf (loads_of_check topology.now map.now)) }
+    ensures loaded { EndsBy (λ _. BothTell (F.told files.old) (F.told files.new) (AreLoaded (loads_of_check topology.now map.now))) result }
+    ensures due { EndsBy (IsAnswerDue topology.now map.now (record { from = from; octets = octets.now }) (F.told files.old)) result }
+    ensures said { EndsBy (IsAnswerSaid (record { from = from; octets = octets.now })) result }
+    ensures later { F.faults files.old ≤ F.faults files.new }
+    ensures cause { result ≡ Ended.SourceFault → Rose (F.faults files.old) (F.faults files.new) }
+{
+    match load_topology(alloc, files, topology) {
+        Ok(topology) => answer_map(alloc, files, topology, map, from, octets),
+        Err(ended) => ended,
+    }
+}
+
+/// The reply of the map of a file, over the topology of another, to the octets from an address that
+/// hexadecimal digits say.
+pub fn answer_files<F: Shelf>(
+    alloc: Global,
+    files: &mut F,
+    topology: &str,
+    map: &str,
+    from: Addr,
+    digits: &str,
+) -> Ended
+    ensures noted { BothTell (F.told files.old) (F.told files.new) (AreLoadsOf (loads_of_check topology.now map.now)) }
+    ensures loaded { EndsBy (λ _. BothTell (F.told files.old) (F.told files.new) (AreLoaded (loads_of_check topology.now map.now))) result }
+    ensures due { EndsBy (IsAnswerDue topology.now map.now (record { from = from; octets = octets_of digits.now }) (F.told files.old)) result }
+    ensures said { EndsBy (IsAnswerSaid (record { from = from; octets = octets_of digits.now })) result }
+    ensures later { F.faults files.old ≤ F.faults files.new }
+    ensures cause { result ≡ Ended.SourceFault → Rose (F.faults files.old) (F.faults files.new) }
+{
+    match hex::decode(alloc, digits) {
+        Ok(octets) => answer_octets(alloc, files, topology, map, from, octets.as_slice()),
+        // Digits that were taken are an even number of them: only memory can be wanting.
+        Err(_) => Ended::NoMemory,
+    }
+}
