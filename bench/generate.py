@@ -1,7 +1,7 @@
 #!/usr/bin/env python3
 """Writes a topology and a good map of it, for benchmarks.
 
-    generate.py GROUPS POOLS LEVELS PERCENT TOPOLOGY MAP
+    generate.py GROUPS POOLS LEVELS PERCENT TOPOLOGY [MAP]
 
 GROUPS groups each rank sixteen of POOLS pools. With LEVELS 1 every pool is a
 root; with more, each node of a level has two children on the level below, and
@@ -183,8 +183,10 @@ class World:
 def main():
     groups, pools, levels, percent = map(int, sys.argv[1:5])
     world = World(groups, pools, levels, percent)
-    proposals = world.accept()
     world.write_topology(sys.argv[5])
+    if len(sys.argv) == 6:
+        return
+    proposals = world.accept()
     world.write_map(sys.argv[6])
     unplaced = sum(world.demand) - sum(map(sum, world.amount))
     print("%d proposals, %d units unplaced" % (proposals, unplaced))

@@ -25,21 +25,33 @@ expect() {
 usage='usage: glb check, answer, map, repair, serve or large'
 expect 0 'good' check flat.toml flat.map
 expect 0 'good' check tree.toml tree.map
+expect 0 "$(cat tree.map)" map tree.toml
 expect 1 "$usage"
 expect 1 "$usage" check flat.toml
 expect 1 "$usage" check --quick flat.map
 expect 1 "$usage" guess flat.toml flat.map
+expect 1 "$usage" map
+expect 1 "$usage" map flat.toml flat.map
 expect 1 "$usage" check $'\xff' flat.map
 expect 2 'refused topology 2 missing key at zone ttl' check refused.toml flat.map
 expect 2 'refused topology 1 not toml' check flat.map flat.map
+expect 2 'refused topology 2 missing key at zone ttl' map refused.toml
 expect 2 'refused map bad line at line 1' check flat.toml flat.toml
 expect 2 'refused map unknown name at line 2' check tree.toml flat.map
 expect 3 '' check nowhere.toml flat.map
 expect 3 '' check flat.toml nowhere.map
+expect 3 '' map nowhere.toml
 expect 7 'blocking gamma zurich' check flat.toml flat-bad.map
 expect 7 'blocking g2 B' check tree.toml tree-bad.map
 # a full device in the place of the output
 "$glb" check flat.toml flat.map >/dev/full
 if [ $? = 4 ]; then passed=$((passed + 1)); else failed=$((failed + 1)) && echo 'a full device: wanted 4'; fi
+# what is written of a map is good for the same topology
+map=$(mktemp)
+for topology in flat.toml tree.toml; do
+    "$glb" map "$topology" >"$map"
+    expect 0 good check "$topology" "$map"
+done
+rm "$map"
 echo "$passed passed, $failed failed"
 [ "$failed" = 0 ]

@@ -1,12 +1,12 @@
 -- What is due to `map`.
-use Rattle.std.specs.Prelude.{◌≡◌, ℕ, List, [], ◌∷◌, Option, None, Some, IfSome}
+use Rattle.std.specs.Prelude.{◌≡◌, ◌≢◌, ℕ, List, [], ◌∷◌, Option, None, Some, IfSome}
 use Rattle.map_model.specs.Allocation.{IsGood}
 use Rattle.outside.specs.Faults.{BothTell}
 use Rattle.outside.specs.Shelf.{Load, Shelved}
 use Rattle.topology_text.specs.Plan.{IsPlan, Plan}
 use Rattle.map_text.specs.Reading.{Mapped}
 use Rattle.map_text.specs.Writing.{text_of_map}
-use Rattle.glb_program.specs.declared.status.Status.TheVariants.{Ok}
+use Rattle.glb_program.specs.declared.status.Status.TheVariants.{Ok, NotGood}
 use Rattle.glb_program.specs.Outcome.{IsPrinted, IsSaid, Outcome, Outside}
 use Rattle.glb_program.specs.Files.{Reads, Says, load_of, topology_file}
 
@@ -23,9 +23,10 @@ pub record IsMapped (t : Plan) (due : Outcome) : Type 0 where
 abbrev pub IsMap : List ℕ → (List ℕ → Option (List ℕ)) → Outcome → Type 0
 IsMap topology files = Reads topology_file (files topology) IsMapped
 
--- what is said by `map` of any files: where all is well, a map that is good for some topology's instance
+-- what is said by `map` of any files: where all is well, a map that is good for some topology's instance; and never a verdict
 pub record IsMapSaid (due : Outcome) : Type 0 where
   pub said : IsSaid due
+  pub no_verdict : due.status ≢ NotGood
   pub good : due.status ≡ Ok → (t : Plan) × IsPlan t × AreGoodMap t due.pieces
 
 -- what is due to `map`; where the shelf doesn't tell its files, no more than what is said of any files

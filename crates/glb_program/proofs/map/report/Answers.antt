@@ -1,6 +1,5 @@
-use Rattle.std.proofs.Common.{◌≡◌, sym, subst}
+use Rattle.std.proofs.Common.{sym, subst}
 use Rattle.glb_program.specs.declared.status.Status.{Status}
-use Rattle.glb_program.specs.declared.status.Status.TheVariants.{Ok}
 use Rattle.glb_program.specs.Outcome.{IsSaidStatus}
 use Rattle.glb_program.proofs.map.report.Goals as goal
 
@@ -9,5 +8,6 @@ returns-in-Ok-clause-said c =
     let mapped = c.in-Ok.ensures.mapped in
     record {
       said = subst (λ (s : Status). IsSaidStatus s) (sym mapped.status) tt;
+      no_verdict = λ other. let well = mapped.status in cc;
       good = λ _. (c.args.topology.now, c.try_report.ensures.plan, mapped.text);
     }
