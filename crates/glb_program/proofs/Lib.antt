@@ -1,4 +1,6 @@
 mod Loads
 mod Good
 mod Complete
-pub mod Datagrams
+mod Datagrams
+mod Answered
+mod WordLists

@@ -1,4 +1,8 @@
 use Rattle.std.proofs.Common.{rules}
+use Rattle.glb_program.specs.Outcome.{Faults, Outside}
+use Rattle.command_line.specs.Asked.{texts}
+use Rattle.glb_program.specs.Words.{asked}
+use Rattle.glb_program.proofs.Complete.{complete_run}
 use Rattle.glb_program.proofs.Good.{good_run}
 use Rattle.glb_program.proofs.glb.glb.Goals as goal
 
@@ -7,3 +11,11 @@ returns-in-Ok-Some-clause-noted g c = search rules
 
 pub returns-in-Ok-Some-clause-good : goal.returns-in-Ok-Some-clause-good
 returns-in-Ok-Some-clause-good g c = good_run _ _ _ _ (search rules)
+
+pub returns-in-Ok-Some-clause-complete : goal.returns-in-Ok-Some-clause-complete
+returns-in-Ok-Some-clause-complete g c =
+    let before : Outside = record { files = g.F.Shelf.told c.args.files.now; out = g.K.Sink.told c.args.out.now } in
+    let after : Outside = record { files = g.F.Shelf.told c.run_command-ended.new.files; out = g.K.Sink.told c.finish.new.out } in
+    let counts : Faults = record { files = g.F.Shelf.faults c.args.files.now; out = g.K.Sink.faults c.args.out.now } in
+    let later : Faults = record { files = g.F.Shelf.faults c.run_command-ended.new.files; out = g.K.Sink.faults c.finish.new.out } in
+    complete_run (asked (texts c.args.words.now)) before after counts later c.finish.result (search rules) (search rules)

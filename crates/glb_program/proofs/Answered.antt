@@ -1,0 +1,15 @@
+-- What is said of an answer.
+use Rattle.std.proofs.Common.{◌≡◌, ap, sym, subst, inl, inr}
+use Rattle.topology_text.specs.Plan.{IsPlan, Plan}
+use Rattle.map_text.specs.Reading.{Mapped}
+use Rattle.glb_program.specs.declared.status.Status.{Status}
+use Rattle.glb_program.specs.declared.status.Status.TheVariants as status
+use Rattle.glb_program.specs.Outcome.{IsSaidStatus, Outcome}
+use Rattle.glb_program.specs.Datagram.{Datagram}
+use Rattle.glb_program.specs.Answer.{IsAnswerSaid, IsAnswered}
+
+pub said_of : (t : Plan) (m : Mapped) (d : Datagram) (due : Outcome) → IsPlan t → IsAnswered d t m due → IsAnswerSaid d due
+said_of t m d due plan (inl replied) = record { said = subst IsSaidStatus (sym replied.status) tt; good = λ _. (t, m, plan, replied.reply) }
+said_of t m d due plan (inr other) =
+    let same : due.status ≡ status.NotGood = ap (λ (o : Outcome). o.status) other.outcome in
+    record { said = subst IsSaidStatus (sym same) tt; good = λ ok. absurd (cc) }
