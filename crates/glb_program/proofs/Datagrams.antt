@@ -1,5 +1,5 @@
 -- Octets and datagrams, as words say them.
-use Rattle.std.proofs.Common.{◌≡◌, ℕ, ◌%◌, Bool, true, false, List, length, Option, None, Some, Result, Ok, Err, refl, ap, sym, ◌∙◌, arith}
+use Rattle.std.proofs.Common.{◌≡◌, ℕ, ◌%◌, Bool, true, false, List, length, Option, None, Some, Result, Ok, Err, refl, ap, sym}
 use Rattle.std.specs.Prelude.{option_map, is_some}
 use Rattle.std.specs.List.{AllPass, list_all}
 use Rattle.std.proofs.lemmas.List.Sums.{AllPass-from_list_all, list_all-from_AllPass}
@@ -9,7 +9,7 @@ use Rattle.hex.specs.declared.error.FromHexError.{FromHexError}
 use Rattle.hex.specs.Hex.{decode_of, is_hex_digit}
 use Rattle.hex.proofs.HexLemmas.{decode_of-digits, decode_of-ok}
 use Rattle.addr_text.specs.Addresses.{addr_of}
-use Rattle.glb_program.specs.Datagram.{Datagram, datagram_from, datagram_of, hex_of}
+use Rattle.glb_program.specs.Datagram.{datagram_from, datagram_of, hex_of}
 use Rattle.glb_program.specs.Commands.{octets_of}
 
 digits_say : (s : List ℕ) → length s % 2 ≡ 0 → AllPass is_hex_digit s → is_some (hex_of s) ≡ true

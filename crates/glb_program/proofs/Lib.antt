@@ -3,4 +3,3 @@ mod Good
 mod Complete
 mod Datagrams
 mod Answered
-mod WordLists

@@ -1,13 +1,19 @@
-use Rattle.std.proofs.Common.{rules}
-use Rattle.glb_program.specs.Outcome.{Faults, Outside}
+use Rattle.std.proofs.Common.{rules, ◌≡◌, ◌∙◌, ap, sym, subst, Option, Some}
+use Rattle.std.specs.Option.{option_map}
+use Rattle.outside.specs.Faults.{BothTell}
+use Rattle.glb_program.specs.Commands.{ask_of}
+use Rattle.glb_program.specs.Outcome.{AreLoadsOf, Faults, Outside}
+use Rattle.glb_program.specs.Run.{loads_of}
 use Rattle.command_line.specs.Asked.{texts}
-use Rattle.glb_program.specs.Words.{asked}
+use Rattle.glb_program.specs.Words.{Ask, asked}
 use Rattle.glb_program.proofs.Complete.{complete_run}
 use Rattle.glb_program.proofs.Good.{good_run}
 use Rattle.glb_program.proofs.glb.glb.Goals as goal
 
 pub returns-in-Ok-Some-clause-noted : goal.returns-in-Ok-Some-clause-noted
-returns-in-Ok-Some-clause-noted g c = search rules
+returns-in-Ok-Some-clause-noted g c =
+    let is : Some (ask_of c.in-Ok-Some.command) ≡ asked (texts c.args.words.now) = ap (option_map ask_of) (sym c.in-Ok-Some.field-0-is) ∙ c.in-Ok-Some.ensures in
+    subst (λ (a : Option Ask). BothTell (g.F.Shelf.told c.args.files.now) (g.F.Shelf.told c.run_command-ended.new.files) (AreLoadsOf (loads_of a))) is c.run_command-ended.ensures.noted
 
 pub returns-in-Ok-Some-clause-good : goal.returns-in-Ok-Some-clause-good
 returns-in-Ok-Some-clause-good g c = good_run _ _ _ _ (search rules)
