@@ -2,8 +2,10 @@
 # Time and memory of `glb map` on generated topologies, and of `glb check` on what it
 # wrote beside it. Both read the topology; `check` also reads the map, and `map` makes and
 # writes it. So mapping itself, with writing, is about the one less the other.
-# Lists of sixteen places; overloaded (the pools hold 95 % of the demand), balanced (105 %)
-# and roomy (200 %). Needs python3, which writes the topologies.
+# Lists of sixteen places, eight levels of which each holds 95 % of the one below it, so that
+# the roots hold about 70 % of what the pools do: overloaded (the roots hold half of the
+# demand), balanced (95 % and 105 %) and roomy (twice the demand). Needs python3, which
+# writes the topologies.
 #
 #   bench/map.sh            all sizes
 #   bench/map.sh 1024       one number of groups
@@ -27,7 +29,7 @@ measure() {
 }
 
 for groups in ${1:-1024 16384 65536}; do
-    for percent in 95 105 200; do
+    for percent in 75 136 150 300; do
         measure "$groups" 2048 8 "$percent"
     done
 done
