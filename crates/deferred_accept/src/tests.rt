@@ -14,6 +14,7 @@ struct Proposals;
 
 /// Whether a node is a pool.
 const POOL: bool = true;
+
 const INNER: bool = false;
 
 /// An instance with the map that is expected of it.
@@ -57,7 +58,11 @@ const WORLDS: &[World] = &[
     World {
         name: "two good maps",
         nodes: &[(1, None, POOL), (1, None, POOL), (5, None, POOL)],
-        groups: &[(1, &[(0, 2), (1, 1)]), (1, &[(1, 2), (0, 1)]), (2, &[(2, 1)])],
+        groups: &[
+            (1, &[(0, 2), (1, 1)]),
+            (1, &[(1, 2), (0, 1)]),
+            (2, &[(2, 1)]),
+        ],
         lines: &[(0, 0, 1), (1, 0, 1), (2, 0, 2)],
         names: &[],
     },
@@ -71,35 +76,62 @@ const WORLDS: &[World] = &[
     // Computed by bench/smallest_worlds.py, which tries every map and makes no proposals.
     World {
         name: "three levels, the middle one closed",
-        nodes: &[(4, None, INNER), (0, Some(0), INNER), (3, Some(0), POOL), (2, Some(1), POOL)],
+        nodes: &[
+            (4, None, INNER),
+            (0, Some(0), INNER),
+            (3, Some(0), POOL),
+            (2, Some(1), POOL),
+        ],
         groups: &[(1, &[(3, 1)]), (2, &[(2, 3)])],
         lines: &[(1, 0, 2)],
         names: &[(0, 0, 1)],
     },
     World {
         name: "three levels",
-        nodes: &[(3, None, INNER), (4, Some(0), INNER), (2, Some(0), POOL), (4, Some(1), POOL)],
-        groups: &[(1, &[(3, 3), (2, 2)]), (1, &[(2, 2)]), (2, &[(3, 2), (2, 1)])],
+        nodes: &[
+            (3, None, INNER),
+            (4, Some(0), INNER),
+            (2, Some(0), POOL),
+            (4, Some(1), POOL),
+        ],
+        groups: &[
+            (1, &[(3, 3), (2, 2)]),
+            (1, &[(2, 2)]),
+            (2, &[(3, 2), (2, 1)]),
+        ],
         lines: &[(0, 1, 1), (2, 0, 1), (2, 1, 1)],
         names: &[(0, 0, 0), (1, 0, 2), (2, 0, 0)],
     },
     World {
         name: "two trees, two stable maps",
         nodes: &[(3, None, INNER), (4, None, POOL), (1, Some(0), POOL)],
-        groups: &[(2, &[(2, 2), (1, 2)]), (2, &[(1, 3), (2, 1)]), (1, &[(2, 2), (1, 2)])],
+        groups: &[
+            (2, &[(2, 2), (1, 2)]),
+            (2, &[(1, 3), (2, 1)]),
+            (1, &[(2, 2), (1, 2)]),
+        ],
         lines: &[(0, 0, 1), (0, 1, 1), (1, 0, 2), (2, 1, 1)],
         names: &[(0, 0, 2), (2, 0, 2)],
     },
     World {
         name: "one region, two stable maps",
         nodes: &[(3, None, INNER), (2, Some(0), POOL), (2, Some(0), POOL)],
-        groups: &[(2, &[(2, 3), (1, 3)]), (1, &[(2, 3), (1, 1)]), (2, &[(2, 1), (1, 1)])],
+        groups: &[
+            (2, &[(2, 3), (1, 3)]),
+            (1, &[(2, 3), (1, 1)]),
+            (2, &[(2, 1), (1, 1)]),
+        ],
         lines: &[(1, 1, 1), (2, 0, 2)],
         names: &[(0, 0, 2), (0, 1, 0), (1, 0, 2)],
     },
     World {
         name: "all at their first place",
-        nodes: &[(4, None, INNER), (4, Some(0), INNER), (2, Some(0), POOL), (4, Some(1), POOL)],
+        nodes: &[
+            (4, None, INNER),
+            (4, Some(0), INNER),
+            (2, Some(0), POOL),
+            (4, Some(1), POOL),
+        ],
         groups: &[(3, &[(3, 3), (2, 2)]), (1, &[(2, 2), (3, 2)])],
         lines: &[(0, 0, 3), (1, 0, 1)],
         names: &[],

@@ -1,8 +1,8 @@
-ghost use Rattle.std.specs.Prelude.{◌≡◌, OnOk};
+ghost use Rattle.std.specs.Prelude.{OnOk};
 ghost use Rattle.evict.specs.Standing.{IsReady};
 
-use crate::{Freed, State};
-use map_model::{Choice, GroupId, GroupRow, Instance, MapLine, Node, NodeId, Offer};
+use crate::{Eviction, Freed, State};
+use map_model::{Choice, GroupId, GroupRow, Instance, MapLine, Node, NodeId, Offer, Units};
 use outside::Steps;
 use std::alloc::Global;
 use std::test::Fail;
@@ -11,68 +11,152 @@ use std::test::Fail;
 #[derive(Clone, Copy, Debug)]
 struct Proposals;
 
-fn root(capacity: u64) -> Node {
-    Node {
-        capacity,
-        parent: None,
-        is_pool: false,
-    }
+const POOL: bool = true;
+
+const INNER: bool = false;
+
+/// A group offers all its free units at its pointer, and what is so afterwards.
+struct Turn {
+    group: u32,
+    /// The place and the units that are offered.
+    offered: (u8, u64),
+    /// Group, place and units of what is given up.
+    freed: &'static [(u32, u8, u64)],
+    /// Of each node.
+    loads: &'static [u64],
+    /// Of each group.
+    pointers: &'static [u8],
+    free: &'static [u64],
+    /// Group, place and the node that refuses it, if any.
+    refusers: &'static [(u32, u8, Option<u32>)],
 }
 
-fn pool(parent: u32, capacity: u64) -> Node {
-    Node {
-        capacity,
-        parent: Some(NodeId(parent)),
-        is_pool: true,
-    }
+/// Turns on an instance, worked out by hand.
+struct Play {
+    name: &'static str,
+    /// Capacity, parent and whether it is a pool.
+    nodes: &'static [(u64, Option<u32>, bool)],
+    /// Demand, and the list of pools with their scores.
+    groups: &'static [(u32, &'static [(u32, u32)])],
+    turns: &'static [Turn],
+    /// What is held at the end: group, place and units.
+    lines: &'static [(u32, u8, u32)],
 }
 
-fn group(alloc: Global, demand: u32, list: &[(u32, u32)]) -> Result<GroupRow, Fail> {
-    let mut choices = Vec::new(alloc);
-    for &(pool, score) in list {
-        choices.push(Choice {
-            pool: NodeId(pool),
-            score,
+const PLAYS: &[Play] = &[
+    // The worse group comes first. It is turned away in part at its better pool and then at the root.
+    Play {
+        name: "two-level eviction",
+        nodes: &[(15, None, INNER), (10, Some(0), POOL), (10, Some(0), POOL)],
+        groups: &[(8, &[(1, 1), (2, 2)]), (8, &[(1, 3), (2, 4)])],
+        turns: &[
+            Turn {
+                group: 1,
+                offered: (0, 8),
+                freed: &[],
+                loads: &[8, 8, 0],
+                pointers: &[0, 0],
+                free: &[8, 0],
+                refusers: &[(1, 0, None)],
+            },
+            Turn {
+                group: 0,
+                offered: (0, 8),
+                freed: &[(1, 0, 6)],
+                loads: &[10, 10, 0],
+                pointers: &[0, 1],
+                free: &[0, 6],
+                refusers: &[(1, 0, Some(1)), (1, 1, None)],
+            },
+            Turn {
+                group: 1,
+                offered: (1, 6),
+                freed: &[(1, 1, 1)],
+                loads: &[15, 10, 5],
+                pointers: &[0, 2],
+                free: &[0, 1],
+                refusers: &[(1, 0, Some(1)), (1, 1, Some(0)), (0, 1, None)],
+            },
+        ],
+        lines: &[(0, 0, 8), (1, 0, 2), (1, 1, 5)],
+    },
+    // The second group gives back all that it offers. Its pool is full then and refuses it, and is not
+    // full once the third group has come: the root refuses then.
+    Play {
+        name: "refuser no longer full",
+        nodes: &[(10, None, INNER), (6, Some(0), POOL), (10, Some(0), POOL)],
+        groups: &[(6, &[(1, 5)]), (4, &[(1, 6)]), (8, &[(2, 1)])],
+        turns: &[
+            Turn {
+                group: 0,
+                offered: (0, 6),
+                freed: &[],
+                loads: &[6, 6, 0],
+                pointers: &[0, 0, 0],
+                free: &[0, 4, 8],
+                refusers: &[(2, 0, None)],
+            },
+            Turn {
+                group: 1,
+                offered: (0, 4),
+                freed: &[(1, 0, 4)],
+                loads: &[6, 6, 0],
+                pointers: &[0, 1, 0],
+                free: &[0, 4, 8],
+                refusers: &[(1, 0, Some(1))],
+            },
+            Turn {
+                group: 2,
+                offered: (0, 8),
+                freed: &[(0, 0, 4)],
+                loads: &[10, 2, 8],
+                pointers: &[1, 1, 0],
+                free: &[4, 4, 0],
+                refusers: &[(0, 0, Some(0)), (1, 0, Some(0)), (2, 0, None)],
+            },
+        ],
+        lines: &[(0, 0, 2), (2, 0, 8)],
+    },
+    // The pool, the node above it and the root each turn some away.
+    Play {
+        name: "three levels",
+        nodes: &[(5, None, INNER), (7, Some(0), INNER), (9, Some(1), POOL)],
+        groups: &[(12, &[(2, 1)])],
+        turns: &[Turn {
+            group: 0,
+            offered: (0, 12),
+            freed: &[(0, 0, 3), (0, 0, 2), (0, 0, 2)],
+            loads: &[5, 5, 5],
+            pointers: &[1],
+            free: &[7],
+            refusers: &[(0, 0, Some(0))],
+        }],
+        lines: &[(0, 0, 5)],
+    },
+];
+
+/// The instance of a play.
+fn instance_of(alloc: Global, play: &Play) -> Result<Instance, Fail> {
+    let mut groups = Vec::new(alloc);
+    for &(demand, list) in play.groups {
+        let mut choices = Vec::new(alloc);
+        for &(pool, score) in list {
+            choices.push(Choice {
+                pool: NodeId(pool),
+                score,
+            })?;
+        }
+        groups.push(GroupRow::new(demand, choices))?;
+    }
+    let mut nodes = Vec::new(alloc);
+    for &(capacity, parent, is_pool) in play.nodes {
+        nodes.push(Node {
+            capacity,
+            parent: parent.map(NodeId),
+            is_pool,
         })?;
     }
-    Ok(GroupRow::new(demand, choices))
-}
-
-fn line(group: u32, place: u8, amount: u32) -> MapLine {
-    MapLine {
-        group: GroupId(group),
-        place,
-        amount,
-    }
-}
-
-// R 15; A 10 and B 10 under R; g1 8 [A,B] 1,2; g2 8 [A,B] 3,4. Each group offers all its free units
-// at its pointer: g2 is turned away at A and then, in part, at R.
-#[test]
-fn evicts_at_two_levels(rt: HostRuntime) -> Result<(), Fail> {
-    let alloc = rt.alloc();
-    let groups = vec![in alloc;
-        group(alloc, 8, &[(1, 1), (2, 2)])?,
-        group(alloc, 8, &[(1, 3), (2, 4)])?,
-    ]?;
-    let nodes = vec![in alloc; root(15), pool(0, 10), pool(0, 10)]?;
-    let instance = Instance::try_from_rows(groups, nodes).ok_or("no instance")?;
-    let mut state = State::fresh(alloc, &instance)?;
-    let mut freed = Freed::new(alloc);
-    let mut steps: Steps<Proposals> = Steps::new();
-    // The worse group comes first, and is turned away in part by the better one.
-    let offered = offer_all(&instance, &mut state, GroupId(1), &mut freed, &mut steps)?;
-    assert_eq!(rt; offered, (0, 8));
-    offer_all(&instance, &mut state, GroupId(0), &mut freed, &mut steps)?;
-    let offered = offer_all(&instance, &mut state, GroupId(1), &mut freed, &mut steps)?;
-    assert_eq!(rt; offered, (1, 6));
-    assert_eq!(rt; steps.count(), 3);
-    let lines = state.lines(alloc)?;
-    assert_eq!(rt;
-        lines.as_slice(),
-        [line(0, 0, 8), line(1, 0, 2), line(1, 1, 5)].as_slice()
-    );
-    Ok(())
+    Ok(Instance::try_from_rows(groups, nodes).ok_or("no instance")?)
 }
 
 /// Offers all the free units of a group at its pointer, where it has both. Answers them.
@@ -82,7 +166,7 @@ fn offer_all(
     group: GroupId,
     freed: &mut Freed,
     steps: &mut Steps<Proposals>,
-) -> Result<(u8, u64), Fail>
+) -> Result<(u8, Units), Fail>
     requires { IsReady instance.now state.old }
     ensures { OnOk result (IsReady instance.now state.new) }
 {
@@ -98,69 +182,147 @@ fn offer_all(
     Ok((place, units))
 }
 
-// R 10; A 6 and B 10 under R; a 6 [A] 5; b 4 [A] 6; c 8 [B] 1: A was full when b was turned away, and
-// is not when c has come: R refuses b then.
-#[test]
-fn moves_a_refusal_up(rt: HostRuntime) -> Result<(), Fail> {
-    let alloc = rt.alloc();
-    let groups = vec![in alloc;
-        group(alloc, 6, &[(1, 5)])?,
-        group(alloc, 4, &[(1, 6)])?,
-        group(alloc, 8, &[(2, 1)])?,
-    ]?;
-    let nodes = vec![in alloc; root(10), pool(0, 6), pool(0, 10)]?;
-    let instance = Instance::try_from_rows(groups, nodes).ok_or("no instance")?;
-    let mut state = State::fresh(alloc, &instance)?;
-    let mut freed = Freed::new(alloc);
-    let mut steps: Steps<Proposals> = Steps::new();
-    offer_all(&instance, &mut state, GroupId(0), &mut freed, &mut steps)?;
-    offer_all(&instance, &mut state, GroupId(1), &mut freed, &mut steps)?;
-    // b gives back all of its own units.
-    assert_eq!(rt; freed.evictions().len(), 1);
-    assert_eq!(rt; freed.evictions()[0].units, 4);
-    assert_eq!(rt; refuser(&instance, &state, GroupId(1)), Some(NodeId(1)));
-    offer_all(&instance, &mut state, GroupId(2), &mut freed, &mut steps)?;
-    assert_eq!(rt; refuser(&instance, &state, GroupId(1)), Some(NodeId(0)));
-    assert_eq!(rt; refuser(&instance, &state, GroupId(2)), None);
-    assert_eq!(rt;
-        state.lines(alloc)?.as_slice(),
-        [line(0, 0, 2), line(2, 0, 8)].as_slice()
-    );
-    Ok(())
+/// Whether that was given up, in that order.
+fn has_freed(freed: &[Eviction], expected: &[(u32, u8, u64)]) -> bool {
+    for i in 0..freed.len() {
+        let eviction = freed[i];
+        let plain = (eviction.offer.group.0, eviction.offer.place, eviction.units);
+        if i >= expected.len() || plain != expected[i] {
+            return false;
+        }
+    }
+    freed.len() == expected.len()
 }
 
-/// The refusing node of a group's first offer.
-fn refuser(instance: &Instance, state: &State, group: GroupId) -> Option<NodeId>
+/// Whether that is held.
+fn has_lines(lines: &[MapLine], expected: &[(u32, u8, u32)]) -> bool {
+    for i in 0..lines.len() {
+        let line = lines[i];
+        if i >= expected.len() || (line.group.0, line.place, line.amount) != expected[i] {
+            return false;
+        }
+    }
+    lines.len() == expected.len()
+}
+
+/// Whether the nodes have those loads.
+fn has_loads(instance: &Instance, state: &State, loads: &[u64]) -> bool
     requires { IsReady instance.now state.now }
 {
-    if group.0 >= instance.groups() || instance.list_len(group) == 0 {
-        return None;
+    for n in 0..instance.nodes() {
+        if n as usize >= loads.len() || state.load(NodeId(n)) != loads[n as usize] {
+            return false;
+        }
     }
-    state.refuser(instance, Offer { group, place: 0 })
+    true
 }
 
-// R 5; S 7 under R; A 9 under S; x 12 [A] 1: A, S and R each turn some away. Then two units are
-// released.
-#[test]
-fn evicts_at_three_levels(rt: HostRuntime) -> Result<(), Fail> {
-    let alloc = rt.alloc();
-    let groups = vec![in alloc; group(alloc, 12, &[(2, 1)])?]?;
-    let middle = Node {
-        capacity: 7,
-        parent: Some(NodeId(0)),
-        is_pool: false,
-    };
-    let nodes = vec![in alloc; root(5), middle, pool(1, 9)]?;
-    let instance = Instance::try_from_rows(groups, nodes).ok_or("no instance")?;
-    let mut state = State::fresh(alloc, &instance)?;
-    let mut freed = Freed::new(alloc);
-    let mut steps: Steps<Proposals> = Steps::new();
-    offer_all(&instance, &mut state, GroupId(0), &mut freed, &mut steps)?;
-    let mut given = Vec::new(alloc);
-    for eviction in freed.evictions() {
-        given.push(eviction.units)?;
+/// Whether the groups have those pointers and free units.
+fn has_groups(instance: &Instance, state: &State, pointers: &[u8], free: &[u64]) -> bool
+    requires { IsReady instance.now state.now }
+{
+    for g in 0..instance.groups() {
+        let i = g as usize;
+        if i >= pointers.len() || state.pointer(GroupId(g)) != pointers[i] {
+            return false;
+        }
+        if i >= free.len() || state.free(GroupId(g)) != free[i] {
+            return false;
+        }
     }
-    assert_eq!(rt; given.as_slice(), [3, 2, 2].as_slice());
-    assert_eq!(rt; state.lines(alloc)?.as_slice(), [line(0, 0, 5)].as_slice());
+    true
+}
+
+/// Whether that node refuses an offer, or none does.
+fn has_refuser(instance: &Instance, state: &State, offer: Offer, node: Option<u32>) -> bool
+    requires { IsReady instance.now state.now }
+{
+    if offer.group.0 >= instance.groups() || offer.place >= instance.list_len(offer.group) {
+        return false;
+    }
+    state.refuser(instance, offer) == node.map(NodeId)
+}
+
+/// Whether those nodes refuse those offers.
+fn has_refusers(instance: &Instance, state: &State, refusers: &[(u32, u8, Option<u32>)]) -> bool
+    requires { IsReady instance.now state.now }
+{
+    for &(group, place, node) in refusers {
+        let offer = Offer {
+            group: GroupId(group),
+            place,
+        };
+        if !has_refuser(instance, state, offer, node) {
+            return false;
+        }
+    }
+    true
+}
+
+/// What is wrong after a turn, if anything is.
+fn wrong_after(
+    instance: &Instance,
+    state: &State,
+    freed: &Freed,
+    turn: &Turn,
+) -> Option<&'static str>
+    requires { IsReady instance.now state.now }
+{
+    if !has_freed(freed.evictions(), turn.freed) {
+        return Some("freed");
+    }
+    if !has_loads(instance, state, turn.loads) {
+        return Some("loads");
+    }
+    if !has_groups(instance, state, turn.pointers, turn.free) {
+        return Some("pointers or free units");
+    }
+    if !has_refusers(instance, state, turn.refusers) {
+        return Some("refusers");
+    }
+    None
+}
+
+/// What is wrong after the first turn that is not as expected, if one is not.
+fn first_wrong(
+    instance: &Instance,
+    state: &mut State,
+    steps: &mut Steps<Proposals>,
+    freed: &mut Freed,
+    turns: &[Turn],
+) -> Result<Option<&'static str>, Fail>
+    requires { IsReady instance.now state.old }
+{
+    for turn in turns {
+        let offered = offer_all(instance, state, GroupId(turn.group), freed, steps)?;
+        if offered != turn.offered {
+            return Ok(Some("offered"));
+        }
+        let wrong = wrong_after(instance, state, freed, turn);
+        if wrong.is_some() {
+            return Ok(wrong);
+        }
+    }
+    Ok(None)
+}
+
+#[test]
+fn plays_by_hand(rt: HostRuntime) -> Result<(), Fail> {
+    let alloc = rt.alloc();
+    for play in PLAYS {
+        let instance = instance_of(alloc, play)?;
+        let mut state = State::fresh(alloc, &instance)?;
+        let mut freed = Freed::new(alloc);
+        let mut steps: Steps<Proposals> = Steps::new();
+        let wrong = first_wrong(&instance, &mut state, &mut steps, &mut freed, play.turns)?;
+        assert_eq!(rt; wrong, None, "in {}", play.name);
+        assert_eq!(rt; steps.count(), play.turns.len() as u64);
+        let lines = state.lines(alloc)?;
+        assert!(rt;
+            has_lines(lines.as_slice(), play.lines),
+            "lines of {}",
+            play.name
+        );
+    }
     Ok(())
 }
