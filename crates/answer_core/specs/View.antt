@@ -33,7 +33,7 @@ HasFew variants.Soa = Unit {0}
 HasFew variants.NameServers = Unit {0}
 HasFew (variants.Addresses kind addresses scope) = length addresses.now ≤ 6
 
--- addresses are told under a service's name, of at most 128 octets, and name servers under the apex, of at most 64
+-- name servers are told under the apex alone, of at most 64 octets
 abbrev pub IsTold : ℕ → code.Outcome → Type 0
 IsTold size variants.BadVers = Unit {0}
 IsTold size variants.FormErr = Unit {0}

@@ -16,15 +16,23 @@ use published_map::MapVersion;
 /// What is replied to a query that can be read.
 #[derive(Clone, Copy)]
 pub(crate) enum Outcome<'a> {
+    /// An EDNS version that is not spoken here (RFC 6891 section 6.1.3).
     BadVers,
+    /// Options that break their format.
     FormErr,
+    /// Not a name of the zone.
     Refused,
+    /// Nothing is placed for the client's group.
     ServFail,
+    /// No such name in the zone (RFC 2308 section 2.1).
     NxDomain,
+    /// No record of that type (RFC 2308 section 2.2).
     NoData,
     /// The zone's start of authority.
     Soa,
+    /// The zone's name servers.
     NameServers,
+    /// The addresses of the picked pool, of one type.
     Addresses {
         kind: u16,
         addresses: &'a [Addr],
