@@ -1,149 +1,211 @@
-#!/usr/bin/env python3
-"""Puts queries of dig, kdig, drill and dnspython to `glb answer`, and lets them read the replies.
+#!/usr/bin/python3
+"""Lets independent DNS tools ask `glb answer`, and compares what they make of the replies.
 
-usage: interop.py GLB TOPOLOGY MAP EMPTY_TOPOLOGY EMPTY_MAP PORT
+Each datagram that a tool sends to a port of 127.0.0.1 is handed, as hexadecimal text, to one run of
+`glb answer` over examples/tree.toml and examples/tree.map, as if it came from 198.51.100.7; the octets that
+glb writes go back. Needs dig, kdig, drill and python3-dnspython:
 
-A relay on 127.0.0.1 hands each datagram to `glb answer`, as from 127.0.0.1, and sends back what it writes.
+    apt-get install bind9-dnsutils knot-dnsutils ldnsutils python3-dnspython
+    bench/interop.py
+
+Every wanted value below comes from the example topology and the RFCs. The last line counts, and the status
+is 0 where nothing failed.
 """
+
+import re
+import shutil
 import socket
 import subprocess
 import sys
 import threading
+from pathlib import Path
 
-import dns.edns
-import dns.flags
-import dns.message
-import dns.opcode
-import dns.rcode
+TOP = Path(__file__).resolve().parent.parent
+GLB = TOP / "crates/glb_program/out/glb_program"
+FILES = [str(TOP / "examples/tree.toml"), str(TOP / "examples/tree.map")]
+# a group of which nothing is placed, since its only pool holds nothing
+EMPTY = [str(TOP / "crates/glb_program/data/topology.toml"), str(TOP / "crates/glb_program/data/map.txt")]
+SENDER = "198.51.100.7"
+MOST_DATAGRAMS = 400
 
+SOA = "ns1.ops.example. admin.ops.example. 1 3600 600 86400 60"
+A, AAAA = "192.0.2.1", "2001:db8::1"
+NS = {"ns1.ops.example.", "ns2.ops.example."}
 
-class Relay(threading.Thread):
-    """Answers each datagram of a port by one run of the program."""
+# what is asked: name, type, words for dig and kdig, and what the reply has to be: RCODE, the data of its
+# answers, whether it is authoritative, and whether the SOA stands in authority
+ROWS = [
+    ("www.cdn.example", "A", [], ("NOERROR", {A}, True, False)),
+    ("WwW.cDn.ExAmPlE", "A", [], ("NOERROR", {A}, True, False)),
+    ("www.cdn.example", "AAAA", [], ("NOERROR", {AAAA}, True, False)),
+    ("www.cdn.example", "ANY", ["+notcp"], ("NOERROR", {A}, True, False)),
+    ("www.cdn.example", "TXT", [], ("NOERROR", set(), True, True)),
+    ("www.cdn.example", "SOA", [], ("NOERROR", set(), True, True)),
+    ("cdn.example", "NS", [], ("NOERROR", NS, True, False)),
+    ("cdn.example", "SOA", [], ("NOERROR", {SOA}, True, False)),
+    ("cdn.example", "A", [], ("NOERROR", set(), True, True)),
+    ("x.cdn.example", "A", [], ("NXDOMAIN", set(), True, True)),
+    ("x.www.cdn.example", "A", [], ("NXDOMAIN", set(), True, True)),
+    ("example", "A", [], ("REFUSED", set(), False, False)),
+    ("ns1.ops.example", "A", [], ("REFUSED", set(), False, False)),
+]
 
-    def __init__(self, glb, topology, map_, port):
-        super().__init__(daemon=True)
-        self.words = [glb, "answer", topology, map_]
-        self.socket = socket.socket(socket.AF_INET, socket.SOCK_DGRAM)
-        self.socket.bind(("127.0.0.1", port))
-
-    def answer(self, datagram, sender="127.0.0.1"):
-        run = subprocess.run(self.words + [sender, datagram.hex()], capture_output=True, check=True, text=True)
-        word, reply = run.stdout.split()
-        assert word == "answer", run.stdout
-        return None if reply == "-" else bytes.fromhex(reply)
-
-    def run(self):
-        while True:
-            datagram, peer = self.socket.recvfrom(4096)
-            reply = self.answer(datagram)
-            if reply is not None:
-                self.socket.sendto(reply, peer)
-
-
-def tool_rows(port, empty_port):
-    """The words of dig and kdig, the port, and what their output has to have."""
-    www, apex = "www.cdn.example", "cdn.example"
-    soa = "ns1.ops.example. admin.ops.example. 1 3600 600 86400 60"
-    return [
-        ([www, "A"], port, ["NOERROR", " aa", "192.0.2.1"]),
-        ([www, "A", "+noedns"], port, ["NOERROR", " aa", "192.0.2.1"]),
-        ([www, "A", "+dnssec"], port, ["NOERROR", " aa", "192.0.2.1", " do"]),
-        ([www, "AAAA"], port, ["NOERROR", " aa", "2001:db8::1"]),
-        ([www, "ANY", "+notcp"], port, ["NOERROR", " aa", "192.0.2.1"]),
-        ([www, "TXT"], port, ["NOERROR", " aa", soa]),
-        ([www, "A", "+subnet=198.51.100.0/24"], port, ["NOERROR", " aa", "192.0.2.1", "198.51.100.0/24/24"]),
-        ([www, "A", "+subnet=0.0.0.0/0"], port, ["NOERROR", " aa", "192.0.2.1"]),
-        ([www, "A", "+subnet=2001:db8::/56"], port, ["NOERROR", " aa", "192.0.2.1", "2001:db8::/56/0"]),
-        ([apex, "NS"], port, ["NOERROR", " aa", "ns1.ops.example.", "ns2.ops.example."]),
-        ([apex, "SOA"], port, ["NOERROR", " aa", soa]),
-        ([apex, "A"], port, ["NOERROR", " aa", soa]),
-        (["x." + apex, "A"], port, ["NXDOMAIN", " aa", soa]),
-        (["x." + www, "A"], port, ["NXDOMAIN", " aa", soa]),
-        (["example", "A"], port, ["REFUSED"]),
-        ([www, "A"], empty_port, ["SERVFAIL"]),
-    ]
+failures = []
+passed = 0
 
 
-COMPLAINTS = ["malformed", "warning", "bad packet", "mismatch", "unexpected", "no servers", "timed out", "error:"]
+def expect(what, got, wanted):
+    global passed
+    if got == wanted:
+        passed += 1
+    else:
+        failures.append(f"{what}: {got!r}, wanted {wanted!r}")
 
 
-def check_tool(command, wanted):
-    run = subprocess.run(command, capture_output=True, text=True)
-    text = run.stdout + run.stderr
-    low = text.lower()
-    missing = [w for w in wanted if w.lower() not in low]
-    complaints = [c for c in COMPLAINTS if c in low]
-    if run.returncode != 0 or missing or complaints:
-        print("FAILED", " ".join(command), "status", run.returncode, "missing", missing, "complaints", complaints)
-        print(text)
-        return 1
-    return 0
+def complaints(text):
+    """Warnings of a tool, but for the one that no recursion is to be had, which is meant."""
+    return [l for l in text.splitlines() if ("warning" in l.lower() or "malformed" in l) and "recursion requested" not in l]
 
 
-def datagrams():
-    """Queries as octets, and what dnspython has to read in each reply: rcode, AA, and how many records each section has."""
-    qn = bytes.fromhex("037777770363646e076578616d706c650000010001")
-    opt = bytes.fromhex("00002904d000000000000b0008000700011800c63364")
-
-    def head(flags="0100", counts="0001000000000000"):
-        return bytes.fromhex("1234" + flags + counts)
-
-    one = "0001000000000001"
-    return [
-        ("answer", head() + qn, "NOERROR", True, (1, 1, 0), None),
-        ("answer with a subnet", head(counts=one) + qn + opt, "NOERROR", True, (1, 1, 0), (24, 24)),
-        ("bits beyond the source", head(counts=one) + qn + opt.replace(b"\x01\x18\x00", b"\x01\x14\x00"), "FORMERR", False, (1, 0, 0), None),
-        ("another version", head(counts=one) + qn + opt.replace(b"\x04\xd0\x00\x00", b"\x04\xd0\x00\x01"), "BADVERS", False, (1, 0, 0), None),
-        ("two OPT records", head(counts="0001000000000002") + qn + opt + opt, "FORMERR", False, (0, 0, 0), None),
-        ("twelve octets 0", bytes(12), "FORMERR", False, (0, 0, 0), None),
-        ("another opcode", head(flags="1100") + qn, "NOTIMP", False, (0, 0, 0), None),
-        ("no such type", head() + qn[:-4] + bytes.fromhex("00100001"), "NOERROR", True, (1, 0, 1), None),
-        ("no such name", head(counts=one) + b"\x01x" + qn[4:] + opt, "NXDOMAIN", True, (1, 0, 1), (24, 0)),
-        ("another class", head() + qn[:-2] + b"\x00\x03", "REFUSED", False, (1, 0, 0), None),
-        ("name servers", head() + qn[4:-4] + bytes.fromhex("00020001"), "NOERROR", True, (1, 2, 0), None),
-        ("start of authority", head() + qn[4:-4] + bytes.fromhex("00060001"), "NOERROR", True, (1, 1, 0), None),
-    ]
+def answer(files, octets):
+    """The reply of `glb answer` to a datagram, or none."""
+    run = subprocess.run([str(GLB), "answer", *files, SENDER, octets.hex()], capture_output=True, timeout=20)
+    if run.returncode != 0:
+        failures.append(f"glb answer ended with {run.returncode} on {octets.hex()}")
+        return None
+    text = run.stdout.decode().split()[1]
+    return None if text == "-" else bytes.fromhex(text)
 
 
-def check_reply(relay, name, datagram, rcode, is_authoritative, counts, subnet):
-    reply = relay.answer(datagram)
-    message = dns.message.from_wire(reply)
-    got = (
-        dns.rcode.to_text(message.rcode()),
-        bool(message.flags & dns.flags.AA),
-        (len(message.question), sum(map(len, message.answer)), sum(map(len, message.authority))),
-        next(((o.srclen, o.scopelen) for o in message.options if o.otype == dns.edns.ECS), None),
-    )
-    wanted = (rcode, is_authoritative, counts, subnet)
-    if got != wanted or message.id != int.from_bytes(datagram[:2], "big"):
-        print("FAILED dnspython:", name, "read", got, "wanted", wanted, reply.hex())
-        return 1
-    return 0
+def serve(port, files):
+    for _ in range(MOST_DATAGRAMS):
+        octets, peer = port.recvfrom(4096)
+        if octets == b"stop":
+            return
+        reply = answer(files, octets)
+        if reply is not None:
+            port.sendto(reply, peer)
+
+
+def parse_dig(text):
+    """RCODE, data of the answers, AA, and whether authority has an SOA, of what dig or kdig prints."""
+    rcode = re.search(r"status: (\w+)", text)
+    flags = re.search(r"[Ff]lags: ([a-z ]*);", text)
+    answers, authority, section = set(), False, None
+    for line in text.splitlines():
+        if line.startswith(";;"):
+            section = line.strip("; :").split()[0] if line.strip("; :") else section
+        elif line and not line.startswith(";"):
+            fields = line.split(None, 4)
+            if section == "ANSWER":
+                answers.add(fields[4])
+            if section == "AUTHORITY":
+                authority = fields[3] == "SOA" and fields[4] == SOA
+    return (rcode.group(1) if rcode else None, answers, flags is not None and "aa" in flags.group(1).split(), authority)
+
+
+def run_tool(*words):
+    return subprocess.run(words, capture_output=True, text=True, timeout=30).stdout
+
+
+def ask_dig(tool, port):
+    for name, kind, words, wanted in ROWS:
+        text = run_tool(tool, "@127.0.0.1", "-p", str(port), *words, "+tries=1" if tool == "dig" else "+retry=0", name, kind)
+        expect(f"{tool} {name} {kind}", parse_dig(text), wanted)
+        expect(f"{tool} {name} {kind} complains", complaints(text), [])
+
+
+def ask_subnets(port):
+    base = ["dig", "@127.0.0.1", "-p", str(port), "+tries=1", "www.cdn.example", "A"]
+    for subnet, told in [("198.51.100.0/24", "198.51.100.0/24/24"), ("198.51.100.0/25", "198.51.100.0/25/24"), ("203.0.113.0/24", "203.0.113.0/24/5"), ("2001:db8::/48", "2001:db8::/48/0")]:
+        text = run_tool(*base, f"+subnet={subnet}")
+        found = re.search(r"CLIENT-SUBNET: (\S+)", text)
+        expect(f"dig +subnet={subnet}", found and found.group(1), told)
+        expect(f"dig +subnet={subnet} answer", parse_dig(text)[1], {A})
+    # SOURCE 0 with a family is repeated with scope 0
+    text = run_tool(*base, "+ednsopt=8:00010000")
+    expect("dig source 0", re.search(r"CLIENT-SUBNET: (\S+)", text) is not None, True)
+    # a bit beyond SOURCE 20
+    text = run_tool(*base, "+ednsopt=8:00011400c63364")
+    expect("dig bits beyond", re.search(r"status: (\w+)", text).group(1), "FORMERR")
+    text = run_tool(*base, "+edns=1", "+noednsnegotiation")
+    expect("dig +edns=1", re.search(r"status: (\w+)", text).group(1), "BADVERS")
+    text = run_tool(*base, "+dnssec")
+    expect("dig +dnssec", re.search(r"; EDNS: version: 0, flags: do; udp: 1232", text) is not None, True)
+    text = run_tool(*base, "+opcode=2")
+    expect("dig +opcode=2", re.search(r"status: (\w+)", text).group(1), "NOTIMP")
+    text = run_tool("dig", "@127.0.0.1", "-p", str(port), "+tries=1", "-c", "CH", "www.cdn.example", "A")
+    expect("dig class CH", re.search(r"status: (\w+)", text).group(1), "REFUSED")
+
+
+def ask_drill(port):
+    for name, kind, _, wanted in ROWS:
+        text = run_tool("drill", "-p", str(port), name, "@127.0.0.1", kind)
+        rcode = re.search(r"rcode: (\w+)", text)
+        expect(f"drill {name} {kind}", rcode and rcode.group(1), wanted[0])
+
+
+def ask_dnspython(port):
+    import dns.flags
+    import dns.message
+    import dns.query
+    import dns.rcode
+
+    for name, kind, _, wanted in ROWS:
+        for edns in (False, 0):
+            query = dns.message.make_query(name, kind, use_edns=edns)
+            reply = dns.query.udp(query, "127.0.0.1", timeout=10, port=port, ignore_trailing=False)
+            data = {item.to_text() for rrset in reply.answer for item in rrset}
+            authority = [item.to_text() for rrset in reply.authority for item in rrset] == [SOA]
+            got = (dns.rcode.to_text(reply.rcode()), data, bool(reply.flags & dns.flags.AA), authority)
+            expect(f"dnspython {name} {kind} edns {edns}", got, wanted)
+            expect(f"dnspython {name} {kind} edns {edns}: OPT", reply.edns, -1 if edns is False else 0)
+
+
+def ask_empty(port):
+    text = run_tool("dig", "@127.0.0.1", "-p", str(port), "+tries=1", "www.cdn.example", "A")
+    expect("dig where nothing is placed", parse_dig(text), ("SERVFAIL", set(), False, False))
+
+
+def open_port():
+    port = socket.socket(socket.AF_INET, socket.SOCK_DGRAM)
+    port.bind(("127.0.0.1", 0))
+    port.settimeout(120)
+    return port
+
+
+def while_served(files, ask):
+    """Lets tools ask a port that answers by these files."""
+    port = open_port()
+    number = port.getsockname()[1]
+    server = threading.Thread(target=serve, args=(port, files))
+    server.start()
+    try:
+        ask(number)
+    finally:
+        socket.socket(socket.AF_INET, socket.SOCK_DGRAM).sendto(b"stop", ("127.0.0.1", number))
+        server.join()
+
+
+def ask_all(port):
+    ask_dig("dig", port)
+    ask_dig("kdig", port)
+    ask_subnets(port)
+    ask_drill(port)
+    ask_dnspython(port)
 
 
 def main():
-    glb, topology, map_, empty_topology, empty_map, port = sys.argv[1:]
-    port = int(port)
-    relay = Relay(glb, topology, map_, port)
-    relay.start()
-    Relay(glb, empty_topology, empty_map, port + 1).start()
-    failed = done = 0
-    for tool, once in (("dig", ["+tries=1", "+timeout=5", "+qr"]), ("kdig", ["+retry=0", "+timeout=5"])):
-        for words, at, wanted in tool_rows(port, port + 1):
-            failed += check_tool([tool, "@127.0.0.1", "-p", str(at)] + words + once, wanted)
-            done += 1
-    for words, at, wanted in tool_rows(port, port + 1):
-        if not any(word.startswith("+") for word in words):
-            wanted = [w for w in wanted if w != " aa"]
-            failed += check_tool(["drill", "-p", str(at), words[0], "@127.0.0.1", words[1]], wanted)
-            done += 1
-    failed += check_tool(["dig", "@127.0.0.1", "-p", str(port), "www.cdn.example", "A", "+edns=1", "+noednsneg", "+tries=1"], ["BADVERS"])
-    failed += check_tool(["dig", "@127.0.0.1", "-p", str(port), "www.cdn.example", "A", "+opcode=STATUS", "+tries=1"], ["NOTIMP"])
-    for row in datagrams():
-        failed += check_reply(relay, *row)
-        done += 1
-    print(f"{done + 2} queries, {failed} failed")
-    sys.exit(1 if failed else 0)
+    missing = [tool for tool in ("dig", "kdig", "drill") if shutil.which(tool) is None]
+    if missing:
+        sys.exit(f"not installed: {' '.join(missing)}")
+    subprocess.run(["rt", "run", "--", "check", *FILES], cwd=TOP / "crates/glb_program", capture_output=True)
+    while_served(FILES, ask_all)
+    while_served(EMPTY, ask_empty)
+    for failure in failures:
+        print(failure)
+    print(f"{passed} passed, {len(failures)} failed")
+    sys.exit(1 if failures else 0)
 
 
 main()
