@@ -1,3 +1,5 @@
+ghost use Rattle.std.specs.Prelude.{◌<◌};
+
 use crate::{Answer, pick, reply, silent};
 use addr_text::Addr;
 use arrayvec::ArrayVec;
@@ -127,15 +129,17 @@ fn version_of(alloc: Global, text: &str, map: MapLines) -> Result<MapVersion, Fa
     Ok(MapVersion::make(alloc, 0, instance, map, shared)?)
 }
 
+/// The example and its map.
+fn example(alloc: Global) -> Result<MapVersion, Fail> {
+    let lines = [(0, 0, 8), (1, 0, 2), (1, 1, 5)];
+    let map = map_of(alloc, &lines, &[(1, 0, 1), (1, 1, 0)])?;
+    version_of(alloc, EXAMPLE, map)
+}
+
 /// The first two of seven units are at the first pool.
 #[test]
 fn picks_by_draw(rt: HostRuntime) -> Result<(), Fail> {
-    let map = map_of(
-        rt.alloc(),
-        &[(0, 0, 8), (1, 0, 2), (1, 1, 5)],
-        &[(1, 0, 1), (1, 1, 0)],
-    )?;
-    let version = version_of(rt.alloc(), EXAMPLE, map)?;
+    let version = example(rt.alloc())?;
     assert_eq!(rt; version.instance().groups(), 2);
     let rows = [
         (0, 0),
@@ -153,12 +157,7 @@ fn picks_by_draw(rt: HostRuntime) -> Result<(), Fail> {
 
 #[test]
 fn replies(rt: HostRuntime) -> Result<(), Fail> {
-    let map = map_of(
-        rt.alloc(),
-        &[(0, 0, 8), (1, 0, 2), (1, 1, 5)],
-        &[(1, 0, 1), (1, 1, 0)],
-    )?;
-    let version = version_of(rt.alloc(), EXAMPLE, map)?;
+    let version = example(rt.alloc())?;
     let rows = [
         // The address of the pool that a draw picks.
         (
@@ -195,6 +194,45 @@ fn replies(rt: HostRuntime) -> Result<(), Fail> {
         assert_eq!(rt; reply(&version, from, octets, draw, &mut out), answer);
         assert_eq!(rt; out.as_slice(), reply_octets);
     }
+    Ok(())
+}
+
+/// The code of a reply; 15 where there is none.
+fn code_of(out: &ArrayVec<u8, 512>) -> usize
+    ensures { result < 16 }
+{
+    match out.as_slice().get(3) {
+        Some(flags) => usize::from(*flags % 16),
+        None => 15,
+    }
+}
+
+/// Each octet of a query with a subnet set to each value: how often each code comes, and how many octets are replied in all, was counted by another program.
+#[test]
+fn replies_to_each_change(rt: HostRuntime) -> Result<(), Fail> {
+    let query = *b"\x12\x34\x01\0\0\x01\0\0\0\0\0\x01\x03www\x03cdn\x07example\0\0\x01\0\x01\
+        \0\0\x29\x04\xd0\0\0\0\0\0\x0b\0\x08\0\x07\0\x01\x18\0\xc6\x33\x64";
+    let version = example(rt.alloc())?;
+    let mut out = ArrayVec::new();
+    let mut counts = [0u32; 16];
+    let mut octets = 0usize;
+    for at in 0..55usize {
+        for value in 0..=255u8 {
+            let mut changed = query;
+            changed[at] = value;
+            let _ = reply(&version, Addr::V4(0xc633_6407), &changed, 0, &mut out);
+            octets = octets.wrapping_add(out.len());
+            let code = code_of(&out);
+            counts[code] = counts[code].wrapping_add(1);
+        }
+    }
+    assert_eq!(rt;
+        counts,
+        [
+            4671, 5334, 0, 762, 120, 3065, 0, 0, 0, 0, 0, 0, 0, 0, 0, 128
+        ]
+    );
+    assert_eq!(rt; octets, 677_457);
     Ok(())
 }
 
