@@ -12,9 +12,12 @@ use no_memory::NoMemory;
 use outside::Steps;
 use std::alloc::Global;
 
-/// Offers free units until no group has any before the end of its list. Each offer is one step, and
-/// only trees that hold the pools of a waiting group's list are touched, or of lists that lead on from
-/// there. After `NoMemory` the state is only to be dropped.
+/// Offers free units until no group has any before the end of its list. Each offer is one step: a
+/// group makes at most one for each unit of its demand and one more, at each place from its pointer on.
+///
+/// Where a set of trees holds all or none of the pools of each group's list, and each group that is
+/// still to offer stands in it, groups outside stay as they are. After `NoMemory` the state is only to
+/// be dropped.
 pub fn run<L>(
     alloc: Global,
     instance: &Instance,

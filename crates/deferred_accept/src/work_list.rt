@@ -1,6 +1,6 @@
 //! A list of groups that holds each at most once.
 
-ghost use Rattle.std.specs.Prelude.{◌≡◌, ℕ, ◌<◌, true, false, if◌then◌else◌, nat_lt, All, IfOk, MatchOption, OnOk, length, slice_set};
+ghost use Rattle.std.specs.Prelude.{◌≡◌, ℕ, ◌<◌, true, false, All, IfOk, MatchOption, OnOk, length, slice_set};
 ghost use Rattle.deferred_accept.specs.Work.{is_on, times};
 
 use map_model::{GroupId, Instance};
