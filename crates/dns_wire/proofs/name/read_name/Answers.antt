@@ -1,4 +1,4 @@
-use Rattle.std.proofs.Common.{◌≡◌, ℕ, Bool, false, Option, Some, sym, ap, subst, ◌∙◌, arith}
+use Rattle.std.proofs.Common.{◌≡◌, Bool, false, Some, sym, ap, subst, ◌∙◌, arith}
 use Rattle.name_text.specs.Wire.{IsName}
 use Rattle.dns_wire.specs.Wire.{name_len}
 use Rattle.dns_wire.proofs.Spelled.{is_name}
