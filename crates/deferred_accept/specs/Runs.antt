@@ -1,8 +1,10 @@
-use Rattle.std.specs.Prelude.{ℕ, ◌+◌, ◌-◌, ◌*◌, ◌<◌, ◌≤◌, List, length, slice_index, sum_by}
+use Rattle.std.specs.Prelude.{◌≡◌, ℕ, ◌+◌, ◌-◌, ◌*◌, ◌^◌, ◌<◌, ◌≤◌, nat_lt, if◌then◌else◌, zero, suc, List, length, slice_index, sum_by}
 use Rattle.std.specs.List.{range_with_len}
 use Rattle.map_model.specs.Market.{Market, choices_of, demand_of}
 use Rattle.map_model.specs.Allocation.{IsOffer, amount_at, first}
-use Rattle.evict.specs.Standing.{IsReady, Standing}
+use Rattle.evict.specs.declared.freed.Eviction.{Eviction}
+use Rattle.evict.specs.Standing.{IsPut, IsReady, Standing}
+use Rattle.deferred_accept.specs.Work.{IsWaiting}
 
 -- how often a group may still offer: once for each unit of its demand and once more, at each place from its pointer on
 abbrev pub proposals_of : Market → List ℕ → ℕ → ℕ
@@ -17,6 +19,24 @@ pub record HasRun (m : Market) (old new : Standing) : Type 0 where
   pub ready : IsReady m new
   pub pointers : (g : ℕ) → g < length m.groups → slice_index old.pointers g ≤ slice_index new.pointers g
   pub firsts : (g k : ℕ) → IsOffer m g k → k < slice_index old.pointers g → first new.lines g k ≤ first old.lines g k
+
+-- one proposal: a waiting group offered all its free units at its pointer, and offers lost what is listed
+pub record IsProposal (m : Market) (old new : Standing) : Type 0 where
+  pub group : ℕ
+  pub freed : List Eviction
+  pub waiting : IsWaiting m old group
+  pub put : IsPut m old new group (slice_index old.pointers group) (slice_index old.free group) freed
+
+-- so many proposals lead from one state to the other
+abbrev pub AreProposals : Market → ℕ → Standing → Standing → Type 0
+AreProposals m zero old new = new ≡ old
+AreProposals m (suc n) old new = (last : Standing) × AreProposals m n old last × IsProposal m last new
+
+-- Proposals lead from one state to the other, and a counter rose by their number. It stands still at 2^64 - 1.
+pub record HasProposed (m : Market) (old new : Standing) (before after : ℕ) : Type 0 where
+  pub count : ℕ
+  pub proposals : AreProposals m count old new
+  pub counted : before < 2 ^ 64 → after ≡ (if nat_lt (before + count) (2 ^ 64) then before + count else 2 ^ 64 - 1)
 
 -- what a group may still offer, less what it holds at its pointer
 abbrev pub worth_of : Market → Standing → ℕ → ℕ

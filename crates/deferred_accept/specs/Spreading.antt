@@ -11,7 +11,7 @@ use Rattle.deferred_accept.specs.Work.{IsWaiting}
 abbrev pub is_inside : Market → (ℕ → Bool) → ℕ → Bool
 is_inside m trees g = trees (tree_of m g 0)
 
--- a set of trees that holds all or none of the pools of each group's list, and in which each waiting group is
+-- no list has pools both in the set of trees and out of it, and only groups whose lists are in it are waiting
 pub record HoldsWork (m : Market) (trees : ℕ → Bool) (state : Standing) : Type 0 where
   pub lists : (g k : ℕ) → IsOffer m g k → trees (tree_of m g k) ≡ is_inside m trees g
   pub waiting : (g : ℕ) → IsWaiting m state g → IsTrue (is_inside m trees g)

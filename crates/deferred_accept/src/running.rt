@@ -1,7 +1,7 @@
 ghost use Rattle.std.specs.Prelude.{◌≡◌, ◌+◌, ◌≤◌, ℕ, Bool, OnOk};
 ghost use Rattle.map_model.specs.Progress.{IsEnded};
 ghost use Rattle.evict.specs.Standing.{IsReady};
-ghost use Rattle.deferred_accept.specs.Runs.{HasRun, most_proposals};
+ghost use Rattle.deferred_accept.specs.Runs.{HasProposed, HasRun, most_proposals};
 ghost use Rattle.deferred_accept.specs.Spreading.{HoldsWork, StaysInside};
 
 use crate::work::{next_offer, wake};
@@ -15,9 +15,10 @@ use std::alloc::Global;
 /// Offers free units until no group has any before the end of its list. Each offer is one step: a
 /// group makes at most one for each unit of its demand and one more, at each place from its pointer on.
 ///
-/// Where a set of trees holds all or none of the pools of each group's list, and each group that is
-/// still to offer stands in it, groups outside stay as they are. After `NoMemory` the state is only to
-/// be dropped.
+/// Take a set of trees such that no list has pools both in it and out of it, and let only groups whose
+/// lists are in it be waiting. Then all other groups keep what they hold, their pointers and their free
+/// units, and the steps are bounded by what the groups in the set may offer. After `NoMemory` the state
+/// is only to be dropped, and the count has not fallen.
 pub fn run<L>(
     alloc: Global,
     instance: &Instance,
@@ -28,6 +29,8 @@ pub fn run<L>(
     ensures run { OnOk result (HasRun instance.now state.old state.new) }
     ensures ended { OnOk result (IsEnded instance.now state.new.pointers state.new.free) }
     ensures steps { OnOk result (steps.new ≤ steps.old + most_proposals instance.now state.old.pointers) }
+    ensures counted { OnOk result (HasProposed instance.now state.old state.new steps.old steps.new) }
+    ensures later { steps.old ≤ steps.new }
     ensures inside { OnOk result ((trees : ℕ → Bool) → HoldsWork instance.now trees state.old → StaysInside instance.now trees state.old state.new steps.old steps.new) }
 {
     let mut freed = Freed::new(alloc);

@@ -8,7 +8,7 @@ use Rattle.map_model.specs.Progress.{IsResumable}
 use Rattle.evict.specs.declared.freed.Eviction.{Eviction}
 use Rattle.evict.specs.Evictions.{IsEviction, freed_units, gave_up}
 
--- A state of deferred acceptance: the instance on whose lists and trees it rests, what is held, the pointer and the free units of each group, and whether it is whole. A state that met want of memory is not, and is only to be dropped.
+-- A state of deferred acceptance: the instance on whose lists and trees it rests, what is held, the pointer and the free units of each group, and whether it is whole. Want of memory in the middle of a put leaves one that is not whole: no call that changes its loads or tells them takes it, and it is only to be dropped.
 pub record Standing : Type 0 where
   pub market : Market
   pub lines : List MapLine
@@ -41,7 +41,7 @@ pub record CanPut (m : Market) (state : Standing) (g k units : ℕ) : Type 0 whe
 abbrev pub KeepsRefusals : Market → List MapLine → List MapLine → Type 0
 KeepsRefusals m old new = (n : ℕ) (key : Key) → n < length m.nodes → IsTrue (is_full_of_better m old n key) → (o : ℕ) × IsTrue (is_under m o n) × IsTrue (is_full_of_better m new o key)
 
--- Some units were offered at (g, k), and some offers gave up what is listed: the state is resumable again; what is held is what was held and the units, less what was given up, which is free again; a group that gave up units at its pointer's place has its pointer moved on by one, and all other pointers stay.
+-- A put of units at (g, k), with a list of what offers lost by it. What is held now and what is listed make up what was held before and the units put. Each group's free units count what it lost, and no longer what was put. A pointer goes to the next place where its group lost units at the place before it, and nowhere else. The new state is resumable, and no refusal is taken back.
 pub record IsPut (m : Market) (old new : Standing) (g k units : ℕ) (freed : List Eviction) : Type 0 where
   pub ready : IsReady m new
   pub evictions : All (λ e. IsEviction m e) freed

@@ -17,7 +17,7 @@ fn free_again(free: &mut [Units], freed: &[Eviction])
     }
 }
 
-/// Moves the pointer of each group that gave up units at its pointer's place on by one.
+/// Where a group lost units of the offer at its pointer, the pointer goes to the next place.
 fn move_pointers(pointers: &mut [u8], freed: &[Eviction])
     requires groups { All (λ e. e.offer.group.0 < length pointers.old) freed.now }
     requires places { All (λ e. (e.offer.place ≤ slice_index pointers.old e.offer.group.0) × (e.offer.place < 16)) freed.now }

@@ -17,8 +17,9 @@ use outside::Steps;
 use std::alloc::Global;
 use std::marker::Model;
 
-/// A state of deferred acceptance: what is held, and a pointer and free units for each group. A
-/// state that met want of memory is no longer whole: no call takes it, and it is only to be dropped.
+/// A state of deferred acceptance: what is held, and a pointer and free units for each group. Want of
+/// memory in the middle of a put leaves a state that is not whole: no call that changes its loads or
+/// tells them takes it, and it is only to be dropped.
 #[derive(Debug, Drop)]
 pub struct State {
     // Of the instance's numbers only its lists and trees count here.
@@ -149,6 +150,7 @@ impl State {
         ensures put { OnOk result (IsPut instance.now self.old self.new offer.group.0 offer.place units freed.new) }
         ensures steps { OnOk result (steps.new ≡ (if steps.old == 2 ^ 64 - 1 then steps.old else steps.old + 1)) }
         ensures market { OnOk result (self.new.market ≡ self.old.market) }
+        ensures later { steps.old ≤ steps.new }
     {
         steps.tick();
         freed.clear();

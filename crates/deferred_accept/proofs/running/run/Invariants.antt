@@ -1,5 +1,5 @@
 use Rattle.std.proofs.Common.{ℕ, ◌+◌, ◌≤◌, Bool}
-use Rattle.deferred_accept.specs.Runs.{HasRun, worth}
+use Rattle.deferred_accept.specs.Runs.{HasProposed, HasRun, worth}
 use Rattle.deferred_accept.specs.Spreading.{HoldsWork}
 use Rattle.deferred_accept.specs.Work.{CoversWork}
 use Rattle.deferred_accept.proofs.Within.{IsSpreading}
@@ -10,6 +10,8 @@ invariant-loop-offer g l = record {
   run : HasRun l.instance l.fn.state l.state;
   covered : CoversWork l.instance l.state l.work;
   counted : l.steps + worth l.instance l.state ≤ l.fn.steps + worth l.instance l.fn.state;
+  proposed : HasProposed l.instance l.fn.state l.state l.fn.steps l.steps;
+  later : l.fn.steps ≤ l.steps;
   spread : (trees : ℕ → Bool) → HoldsWork l.instance trees l.fn.state → IsSpreading l.instance trees l.fn.state l.state l.fn.steps l.steps;
 }
 
