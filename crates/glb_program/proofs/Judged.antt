@@ -1,5 +1,5 @@
 -- What is said of a verdict.
-use Rattle.std.proofs.Common.{◌≡◌, length, ap, sym, subst}
+use Rattle.std.proofs.Common.{length, ap, sym, subst}
 use Rattle.stable_check.specs.declared.verdict.Verdict.{Verdict}
 use Rattle.stable_check.specs.declared.verdict.Verdict.TheVariants.{Good, BadLine, OverDemand, OverCapacity, Blocking, BadName}
 use Rattle.topology_text.specs.Plan.{IsPlan, Plan}
