@@ -20,7 +20,7 @@ pub(crate) enum Outcome<'a> {
     BadVers,
     /// Options that break their format.
     FormErr,
-    /// Not a name of the zone.
+    /// Another class than IN, or not a name of the zone.
     Refused,
     /// Nothing is placed for the client's group.
     ServFail,

@@ -32,7 +32,7 @@ well_read {T = T} kind held Next due h ok = go (says kind held) refl h
     go (Some (Err text)) e h = let same : due.status ≡ status.Refused = ap (λ (o : Outcome). o.status) h in cc
 
 -- a verdict with status 0 is that the map is good
-well_judged : (t : Plan) (m : Mapped) (due : Outcome) → IsJudged t m due → due.status ≡ status.Ok → IsGood t.market m.lines m.names × (due.pieces ≡ text.good ∷ [])
+pub well_judged : (t : Plan) (m : Mapped) (due : Outcome) → IsJudged t m due → due.status ≡ status.Ok → IsGood t.market m.lines m.names × (due.pieces ≡ text.good ∷ [])
 well_judged t m due j ok = go j.0 j.1 j.2 (sym (ap (λ (o : Outcome). o.status) j.2) ∙ ok)
   where
     go : (v : Verdict) → Judges t.market m.lines m.names v → due ≡ record { status = status_of v; pieces = text.verdict t v ∷ [] } → status_of v ≡ status.Ok → IsGood t.market m.lines m.names × (due.pieces ≡ text.good ∷ [])

@@ -1,5 +1,6 @@
 mod Loads
 mod Good
+mod Judged
 mod Complete
 mod Datagrams
 mod Answered

@@ -6,7 +6,7 @@ use Rattle.outside.specs.Shelf.{Load, Shelved}
 use Rattle.stable_check.specs.Judgement.{Judges}
 use Rattle.stable_check.specs.declared.verdict.Verdict.{Verdict}
 use Rattle.stable_check.specs.declared.verdict.Verdict.TheVariants.{Good}
-use Rattle.topology_text.specs.Plan.{Plan}
+use Rattle.topology_text.specs.Plan.{IsPlan, Plan}
 use Rattle.map_text.specs.Reading.{Mapped}
 use Rattle.glb_program.specs.declared.status.Status.{Status}
 use Rattle.glb_program.specs.declared.status.Status.TheVariants.{Ok, NotGood}
@@ -26,10 +26,11 @@ IsJudged t m due = (v : Verdict) × Judges t.market m.lines m.names v × (due �
 abbrev pub IsCheck : List ℕ → List ℕ → (List ℕ → Option (List ℕ)) → Outcome → Type 0
 IsCheck topology map files = Reads topology_file (files topology) (λ t. Reads (map_file t) (files map) (IsJudged t))
 
--- what is said by `check` of any files: where all is well, that the map is good
+-- what is said by `check` of any files: where all is well, the text `good`, and that some map is good for the instance of some topology
 pub record IsCheckSaid (due : Outcome) : Type 0 where
   pub said : IsSaid due
   pub good : due.status ≡ Ok → due.pieces ≡ text.good ∷ []
+  pub map : due.status ≡ Ok → (t : Plan) × (m : Mapped) × IsPlan t × IsGood t.market m.lines m.names
 
 -- what is due to `check`; where the shelf doesn't tell its files, no more than what is said of any files
 abbrev pub IsCheckDue : List ℕ → List ℕ → Option Shelved → Outcome → Type 0

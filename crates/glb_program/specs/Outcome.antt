@@ -19,9 +19,10 @@ IsSaidStatus Refused = Unit {0}
 IsSaidStatus NotGood = Unit {0}
 IsSaidStatus _ = ⊥
 
--- an outcome that says something of files
-abbrev pub IsSaid : Outcome → Type 0
-IsSaid due = IsSaidStatus due.status
+-- an outcome that says something of files, in one piece
+pub record IsSaid (due : Outcome) : Type 0 where
+  pub status : IsSaidStatus due.status
+  pub one : length due.pieces ≡ 1
 
 -- a status that comes with a text
 abbrev pub HasText : Status → Type 0

@@ -2,7 +2,7 @@ ghost use Rattle.std.specs.Prelude.{◌≡◌, ◌≢◌, ◌≤◌, [], ◌∷�
 ghost use Rattle.outside.specs.Faults.{BothTell, Rose};
 ghost use Rattle.stable_check.specs.Judgement.{Judges};
 ghost use Rattle.map_text.specs.Writing.{mapped};
-ghost use Rattle.glb_program.specs.Outcome.{AreLoaded, AreLoadsOf, HasText};
+ghost use Rattle.glb_program.specs.Outcome.{AreLoaded, AreLoadsOf};
 ghost use Rattle.glb_program.specs.Check.{IsCheckDue, IsCheckSaid, IsJudged, loads_of_check, status_of};
 ghost use Rattle.glb_program.specs.Files.{Reads, load_of, map_file};
 ghost use Rattle.glb_program.specs.Reports.{EndsBy, IsNameable, outcome_of};
@@ -39,7 +39,6 @@ pub fn judge(alloc: Global, topology: &Topology, map: &MapLines) -> Result<Verdi
 /// The verdict on a map, as what is to be said.
 fn try_report(alloc: Global, topology: &Topology, map: &MapLines) -> Result<Report, NoMemory>
     ensures judged { IfOk result (λ r. IsJudged topology.now (mapped map.now) (outcome_of r)) }
-    ensures text { IfOk result (λ r. HasText r.status) }
 {
     let verdict = judge(alloc, topology, map)?;
     let text = verdict_text(alloc, topology, verdict)?;
@@ -51,9 +50,10 @@ fn try_report(alloc: Global, topology: &Topology, map: &MapLines) -> Result<Repo
 
 fn report(alloc: Global, topology: &Topology, map: &MapLines) -> Ended
     ensures judged { EndsBy (IsJudged topology.now (mapped map.now)) result }
-    ensures text { EndsBy (λ due. HasText due.status) result }
+    ensures said { EndsBy IsCheckSaid result }
     ensures source { result ≢ Ended.SourceFault }
 {
+    let _ = topology.instance();
     match try_report(alloc, topology, map) {
         Ok(report) => Ended::Said(report),
         Err(NoMemory) => Ended::NoMemory,

@@ -60,10 +60,10 @@ pub fn glb<R, F: Shelf, K: Sink>(
     // A fault outside is answered only where its count rose.
     ensures causes { HasCauses (record { files = F.faults files.old; out = K.faults out.old }) (record { files = F.faults files.new; out = K.faults out.new }) result }
 
-    // Status 0 says of `check` that the files hold a map that is good, and that the output got `good`; and of `map` that the output got the text of a map that is good for the topology of the file.
+    // Status 0 says of `check` that the files hold a map that is good, and that the output got `good`; of `map` that the output got the text of a map that is good for the topology of the file; and of `answer` that the files hold a map that is good, and that the output got the text of its reply.
     ensures good { result ≡ Status.Ok → IsGoodRun (asked (texts words.now)) (record { files = F.told files.old; out = K.told out.old }) (record { files = F.told files.new; out = K.told out.new }) }
 
-    // Where the files are told to hold a topology, and for `check` a map that is good, and no count of faults rises, there is no other answer but want of memory.
+    // Where the files are told to hold a topology, and for `check` and `answer` a map that is good, and no count of faults rises, there is no other answer but want of memory.
     ensures complete { IsSomeAnd (F.told files.old) (λ shelf. IsSound (asked (texts words.now)) shelf.holds) → ¬ Rose (F.faults files.old) (F.faults files.new) → ¬ Rose (K.faults out.old) (K.faults out.new) → (result ≡ Status.Ok) ⊎ (result ≡ Status.NoMemory) }
 {
     match read_words(alloc, words) {

@@ -6,7 +6,7 @@ use std::test::Fail;
 /// What stands under a name.
 #[derive(Clone, Copy)]
 enum Held {
-    /// The zone and both default prefixes, and then these nodes and groups.
+    /// The zone, and these nodes and groups.
     Topology(&'static str),
     /// These octets.
     Bytes(&'static [u8]),
@@ -17,6 +17,7 @@ enum Held {
 }
 
 mod answers;
+mod example;
 
 use Held::{Bytes, Missing, Topology, Zeros};
 
@@ -159,7 +160,7 @@ scores = [1]
 prefixes = []
 ";
 
-/// The same, where the third group asks for one unit more.
+/// The groups of TWO_GOOD, where the third one asks for one unit more.
 const TWO_GOOD_CHANGED: &str = "node = [
 {name = \"P\", capacity = 1, pool = true},
 {name = \"Q\", capacity = 1, pool = true},
@@ -291,12 +292,10 @@ const GOOD_REGION: &[u8] =
 
 const USAGE: &[u8] = b"usage: glb check, answer, map, repair, serve or large\n";
 
-/// A command over two files: the status, what the output got, and how many files were asked for.
-fn assert_rows<R: Abort + AllocGlobal>(
-    rt: &R,
-    words: &[&str],
-    rows: &[(Held, Held, Status, &'static str, usize)],
-) -> Result<(), Fail> {
+/// Two files, and what comes of a command over them: the status, what the output got, and how many files were asked for.
+type Row = (Held, Held, Status, &'static str, usize);
+
+fn assert_rows<R: Abort + AllocGlobal>(rt: &R, words: &[&str], rows: &[Row]) -> Result<(), Fail> {
     let words = texts(rt, words)?;
     for (topology, map, wanted, text, loads) in rows {
         let mut files = shelf(rt, *topology, *map, &[])?;
@@ -314,203 +313,199 @@ fn assert_rows<R: Abort + AllocGlobal>(
     Ok(())
 }
 
+/// Topologies and maps, and what `check` says of them.
+const VERDICTS: &[Row] = &[
+    (Topology(FLAT), Bytes(GOOD_FLAT), Status::Ok, "good\n", 2),
+    (
+        Topology(FLAT),
+        Bytes(b"glb map 1\nplace g A 3\nend\n"),
+        Status::NotGood,
+        "blocking g A\n",
+        2,
+    ),
+    (
+        Topology(FLAT),
+        Bytes(b"glb map 1\nplace g A 5\nend\n"),
+        Status::NotGood,
+        "over demand g 5\n",
+        2,
+    ),
+    (
+        Topology(FLAT),
+        Bytes(b"glb map 1\nplace g A 4294967295\nend\n"),
+        Status::NotGood,
+        "over demand g 4294967295\n",
+        2,
+    ),
+    (
+        Topology(EMPTY_POOL),
+        Bytes(b"glb map 1\nfull g A A\nend\n"),
+        Status::Ok,
+        "good\n",
+        2,
+    ),
+    (
+        Topology(TWO_GOOD),
+        Bytes(b"glb map 1\nplace a Q 1\nplace b P 1\nplace c Z 1\nfull a P P\nfull b Q Q\nend\n"),
+        Status::Ok,
+        "good\n",
+        2,
+    ),
+    (
+        Topology(TWO_GOOD),
+        Bytes(b"glb map 1\nplace a P 1\nplace b Q 1\nplace c Z 1\nend\n"),
+        Status::Ok,
+        "good\n",
+        2,
+    ),
+    (
+        Topology(REGION),
+        Bytes(GOOD_REGION),
+        Status::Ok,
+        "good\n",
+        2,
+    ),
+    (
+        Topology(NO_LONGER_FULL),
+        Bytes(b"glb map 1\nplace a A 2\nplace c B 8\nfull a A R\nfull b A R\nend\n"),
+        Status::Ok,
+        "good\n",
+        2,
+    ),
+    (
+        Topology(REGION),
+        Bytes(
+            b"glb map 1\nplace g1 A 8\nplace g2 A 2\nplace g2 B 4\nfull g2 A A\nfull g2 B R\nend\n",
+        ),
+        Status::NotGood,
+        "blocking g2 B\n",
+        2,
+    ),
+    (
+        Topology(REGION),
+        Bytes(
+            b"glb map 1\nplace g1 A 9\nplace g2 A 2\nplace g2 B 5\nfull g2 A A\nfull g2 B R\nend\n",
+        ),
+        Status::NotGood,
+        "over demand g1 9\n",
+        2,
+    ),
+    (
+        Topology(REGION),
+        Bytes(b"glb map 1\nplace g1 A 8\nplace g2 B 8\nend\n"),
+        Status::NotGood,
+        "over capacity R 16\n",
+        2,
+    ),
+    (
+        Topology(REGION),
+        Bytes(b"glb map 1\nplace g1 A 6\nplace g2 A 5\nend\n"),
+        Status::NotGood,
+        "over capacity A 11\n",
+        2,
+    ),
+    (
+        Topology(REGION),
+        Bytes(b"glb map 1\nplace g1 A 8\nplace g2 A 2\nplace g2 B 5\nfull g2 A A\nend\n"),
+        Status::NotGood,
+        "bad name 1\n",
+        2,
+    ),
+    (
+        Topology(REGION),
+        Bytes(
+            b"glb map 1\nplace g1 A 8\nplace g2 A 2\nplace g2 B 5\nfull g2 A R\nfull g2 B R\nend\n",
+        ),
+        Status::NotGood,
+        "bad name 0\n",
+        2,
+    ),
+    (
+        Topology(EIGHT_LEVELS),
+        Bytes(b"glb map 1\nplace g n7 3\nfull g n7 n0\nend\n"),
+        Status::Ok,
+        "good\n",
+        2,
+    ),
+];
+
 #[test]
 fn verdicts(rt: HostRuntime) -> Result<(), Fail> {
-    assert_rows(
-        &rt,
-        &["glb", "check", "t", "m"],
-        &[
-            (Topology(FLAT), Bytes(GOOD_FLAT), Status::Ok, "good\n", 2),
-            (
-                Topology(FLAT),
-                Bytes(b"glb map 1\nplace g A 3\nend\n"),
-                Status::NotGood,
-                "blocking g A\n",
-                2,
-            ),
-            (
-                Topology(FLAT),
-                Bytes(b"glb map 1\nplace g A 5\nend\n"),
-                Status::NotGood,
-                "over demand g 5\n",
-                2,
-            ),
-            (
-                Topology(FLAT),
-                Bytes(b"glb map 1\nplace g A 4294967295\nend\n"),
-                Status::NotGood,
-                "over demand g 4294967295\n",
-                2,
-            ),
-            (
-                Topology(EMPTY_POOL),
-                Bytes(b"glb map 1\nfull g A A\nend\n"),
-                Status::Ok,
-                "good\n",
-                2,
-            ),
-            (
-                Topology(TWO_GOOD),
-                Bytes(
-                    b"glb map 1\nplace a Q 1\nplace b P 1\nplace c Z 1\nfull a P P\nfull b Q Q\nend\n",
-                ),
-                Status::Ok,
-                "good\n",
-                2,
-            ),
-            (
-                Topology(TWO_GOOD),
-                Bytes(b"glb map 1\nplace a P 1\nplace b Q 1\nplace c Z 1\nend\n"),
-                Status::Ok,
-                "good\n",
-                2,
-            ),
-            (
-                Topology(REGION),
-                Bytes(GOOD_REGION),
-                Status::Ok,
-                "good\n",
-                2,
-            ),
-            (
-                Topology(NO_LONGER_FULL),
-                Bytes(b"glb map 1\nplace a A 2\nplace c B 8\nfull a A R\nfull b A R\nend\n"),
-                Status::Ok,
-                "good\n",
-                2,
-            ),
-            (
-                Topology(REGION),
-                Bytes(
-                    b"glb map 1\nplace g1 A 8\nplace g2 A 2\nplace g2 B 4\nfull g2 A A\nfull g2 B R\nend\n",
-                ),
-                Status::NotGood,
-                "blocking g2 B\n",
-                2,
-            ),
-            (
-                Topology(REGION),
-                Bytes(
-                    b"glb map 1\nplace g1 A 9\nplace g2 A 2\nplace g2 B 5\nfull g2 A A\nfull g2 B R\nend\n",
-                ),
-                Status::NotGood,
-                "over demand g1 9\n",
-                2,
-            ),
-            (
-                Topology(REGION),
-                Bytes(b"glb map 1\nplace g1 A 8\nplace g2 B 8\nend\n"),
-                Status::NotGood,
-                "over capacity R 16\n",
-                2,
-            ),
-            (
-                Topology(REGION),
-                Bytes(b"glb map 1\nplace g1 A 6\nplace g2 A 5\nend\n"),
-                Status::NotGood,
-                "over capacity A 11\n",
-                2,
-            ),
-            (
-                Topology(REGION),
-                Bytes(b"glb map 1\nplace g1 A 8\nplace g2 A 2\nplace g2 B 5\nfull g2 A A\nend\n"),
-                Status::NotGood,
-                "bad name 1\n",
-                2,
-            ),
-            (
-                Topology(REGION),
-                Bytes(
-                    b"glb map 1\nplace g1 A 8\nplace g2 A 2\nplace g2 B 5\nfull g2 A R\nfull g2 B R\nend\n",
-                ),
-                Status::NotGood,
-                "bad name 0\n",
-                2,
-            ),
-            (
-                Topology(EIGHT_LEVELS),
-                Bytes(b"glb map 1\nplace g n7 3\nfull g n7 n0\nend\n"),
-                Status::Ok,
-                "good\n",
-                2,
-            ),
-        ],
-    )
+    assert_rows(&rt, &["glb", "check", "t", "m"], VERDICTS)
 }
+
+/// Files of which `check` says nothing: they are at fault, or are not there.
+const REFUSALS: &[Row] = &[
+    (
+        Zeros(67_108_865),
+        Bytes(GOOD_FLAT),
+        Status::Refused,
+        "refused topology too long\n",
+        1,
+    ),
+    (
+        Topology(FLAT),
+        Zeros(268_435_457),
+        Status::Refused,
+        "refused map too long\n",
+        2,
+    ),
+    (
+        Bytes(b"name = \"\xff\"\n"),
+        Bytes(GOOD_FLAT),
+        Status::Refused,
+        "refused topology 1 not toml\n",
+        1,
+    ),
+    (
+        Bytes(b"node ="),
+        Missing,
+        Status::Refused,
+        "refused topology 1 not toml\n",
+        1,
+    ),
+    (
+        Bytes(b""),
+        Bytes(b""),
+        Status::Refused,
+        "refused topology 2 missing key at top zone\n",
+        1,
+    ),
+    (
+        Topology(CHILD_FIRST),
+        Bytes(GOOD_FLAT),
+        Status::Refused,
+        "refused topology 8 parent order at node 0 parent\n",
+        1,
+    ),
+    (
+        Topology(NINE_LEVELS),
+        Bytes(GOOD_FLAT),
+        Status::Refused,
+        "refused topology 9 too deep at node 8 parent\n",
+        1,
+    ),
+    (
+        Topology(NO_DEFAULT),
+        Bytes(GOOD_FLAT),
+        Status::Refused,
+        "refused topology 14 no default at family 6\n",
+        1,
+    ),
+    (
+        Topology(FLAT),
+        Bytes(b"glb map 1\nplace g9 A 1\n"),
+        Status::Refused,
+        "refused map unknown name at line 2\n",
+        2,
+    ),
+    (Missing, Bytes(GOOD_FLAT), Status::SourceFault, "", 1),
+    (Topology(FLAT), Missing, Status::SourceFault, "", 2),
+];
 
 #[test]
 fn refusals(rt: HostRuntime) -> Result<(), Fail> {
-    assert_rows(
-        &rt,
-        &["glb", "check", "t", "m"],
-        &[
-            (
-                Zeros(67_108_865),
-                Bytes(GOOD_FLAT),
-                Status::Refused,
-                "refused topology too long\n",
-                1,
-            ),
-            (
-                Topology(FLAT),
-                Zeros(268_435_457),
-                Status::Refused,
-                "refused map too long\n",
-                2,
-            ),
-            (
-                Bytes(b"name = \"\xff\"\n"),
-                Bytes(GOOD_FLAT),
-                Status::Refused,
-                "refused topology 1 not toml\n",
-                1,
-            ),
-            (
-                Bytes(b"node ="),
-                Missing,
-                Status::Refused,
-                "refused topology 1 not toml\n",
-                1,
-            ),
-            (
-                Bytes(b""),
-                Bytes(b""),
-                Status::Refused,
-                "refused topology 2 missing key at top zone\n",
-                1,
-            ),
-            (
-                Topology(CHILD_FIRST),
-                Bytes(GOOD_FLAT),
-                Status::Refused,
-                "refused topology 8 parent order at node 0 parent\n",
-                1,
-            ),
-            (
-                Topology(NINE_LEVELS),
-                Bytes(GOOD_FLAT),
-                Status::Refused,
-                "refused topology 9 too deep at node 8 parent\n",
-                1,
-            ),
-            (
-                Topology(NO_DEFAULT),
-                Bytes(GOOD_FLAT),
-                Status::Refused,
-                "refused topology 14 no default at family 6\n",
-                1,
-            ),
-            (
-                Topology(FLAT),
-                Bytes(b"glb map 1\nplace g9 A 1\n"),
-                Status::Refused,
-                "refused map unknown name at line 2\n",
-                2,
-            ),
-            (Missing, Bytes(GOOD_FLAT), Status::SourceFault, "", 1),
-            (Topology(FLAT), Missing, Status::SourceFault, "", 2),
-        ],
-    )
+    assert_rows(&rt, &["glb", "check", "t", "m"], REFUSALS)
 }
 
 /// Topologies, and the map that is written of each. It is good by `check`.
@@ -583,58 +578,61 @@ fn topologies_without_a_map(rt: HostRuntime) -> Result<(), Fail> {
     )
 }
 
+/// Texts over REGION that are no maps, and why.
+const MAP_FAULTS: &[(&[u8], &str)] = &[
+    (b"", "truncated"),
+    (b"glb map 1", "truncated"),
+    (b"glb map 1\n", "truncated"),
+    (b"glb map 1\nend", "truncated"),
+    (b"glb map 1\nend\n\xff", "truncated"),
+    (b"glb map 1\nplace g1 A 8\nnonsense", "truncated"),
+    (
+        b"glb map 1\nplace g1 A 8\nplace g2 A 2\nplace g2 B 5\nfull g2 A A\n",
+        "truncated",
+    ),
+    (b"\n", "bad line at line 1"),
+    (b"end\n", "bad line at line 1"),
+    (b"glb map 2\nend\n", "bad line at line 1"),
+    (b"place g9 A 1\n", "bad line at line 1"),
+    (b"glb map 1\nglb map 1\nend\n", "bad line at line 2"),
+    (b"glb map 1\nend\n\n", "bad line at line 3"),
+    (b"glb map 1\r\nend\r\n", "bad line at line 1"),
+    (b"glb map 1\nplaces g1 A 8\nend\n", "bad line at line 2"),
+    (b"glb map 1\nplace g1 A 8 \nend\n", "bad line at line 2"),
+    (b"glb map 1\nplace g1  8\nend\n", "bad line at line 2"),
+    (b"glb map 1\nplace g1 A\nend\n", "bad line at line 2"),
+    (b"glb map 1\nplace g1 A 0\nend\n", "bad line at line 2"),
+    (b"glb map 1\nplace g9 A 08\nend\n", "bad line at line 2"),
+    (
+        b"glb map 1\nplace g1 A 8\nplace g2 A 4294967296\nend\n",
+        "bad line at line 3",
+    ),
+    (b"glb map 1\nplace g1 A +8\nend\n", "bad line at line 2"),
+    (
+        b"glb map 1\nplace g1 A 8\nfull g2 A C\nend\n",
+        "unknown name at line 3",
+    ),
+    (b"glb map 1\nplace g1 R 8\nend\n", "unknown name at line 2"),
+    (
+        b"glb map 1\nplace g1 A 8\nplace g2 A 2\nplace g1 B 8\nplace g2 B 5\nend\n",
+        "order at line 4",
+    ),
+    (
+        b"glb map 1\nplace g1 A 8\nplace g1 A 8\nend\n",
+        "order at line 3",
+    ),
+    (
+        b"glb map 1\nfull g1 A A\nplace g2 A 8\nend\n",
+        "order at line 3",
+    ),
+    (b"glb map 1\nplace g9 A 1\nend\n", "unknown name at line 2"),
+];
+
 #[test]
 fn map_texts(rt: HostRuntime) -> Result<(), Fail> {
     let words = texts(&rt, &["glb", "check", "t", "m"])?;
-    let rows: [(&[u8], &str); 27] = [
-        (b"", "truncated"),
-        (b"glb map 1", "truncated"),
-        (b"glb map 1\n", "truncated"),
-        (b"glb map 1\nend", "truncated"),
-        (b"glb map 1\nend\n\xff", "truncated"),
-        (b"glb map 1\nplace g1 A 8\nnonsense", "truncated"),
-        (
-            b"glb map 1\nplace g1 A 8\nplace g2 A 2\nplace g2 B 5\nfull g2 A A\n",
-            "truncated",
-        ),
-        (b"\n", "bad line at line 1"),
-        (b"end\n", "bad line at line 1"),
-        (b"glb map 2\nend\n", "bad line at line 1"),
-        (b"place g9 A 1\n", "bad line at line 1"),
-        (b"glb map 1\nglb map 1\nend\n", "bad line at line 2"),
-        (b"glb map 1\nend\n\n", "bad line at line 3"),
-        (b"glb map 1\r\nend\r\n", "bad line at line 1"),
-        (b"glb map 1\nplaces g1 A 8\nend\n", "bad line at line 2"),
-        (b"glb map 1\nplace g1 A 8 \nend\n", "bad line at line 2"),
-        (b"glb map 1\nplace g1  8\nend\n", "bad line at line 2"),
-        (b"glb map 1\nplace g1 A\nend\n", "bad line at line 2"),
-        (b"glb map 1\nplace g1 A 0\nend\n", "bad line at line 2"),
-        (b"glb map 1\nplace g9 A 08\nend\n", "bad line at line 2"),
-        (
-            b"glb map 1\nplace g1 A 8\nplace g2 A 4294967296\nend\n",
-            "bad line at line 3",
-        ),
-        (b"glb map 1\nplace g1 A +8\nend\n", "bad line at line 2"),
-        (
-            b"glb map 1\nplace g1 A 8\nfull g2 A C\nend\n",
-            "unknown name at line 3",
-        ),
-        (b"glb map 1\nplace g1 R 8\nend\n", "unknown name at line 2"),
-        (
-            b"glb map 1\nplace g1 A 8\nplace g2 A 2\nplace g1 B 8\nplace g2 B 5\nend\n",
-            "order at line 4",
-        ),
-        (
-            b"glb map 1\nplace g1 A 8\nplace g1 A 8\nend\n",
-            "order at line 3",
-        ),
-        (
-            b"glb map 1\nfull g1 A A\nplace g2 A 8\nend\n",
-            "order at line 3",
-        ),
-    ];
-    for (map, wanted) in rows {
-        let mut files = shelf(&rt, Topology(REGION), Bytes(map), &[])?;
+    for (map, wanted) in MAP_FAULTS {
+        let mut files = shelf(&rt, Topology(REGION), Bytes(*map), &[])?;
         let mut out = MemSink::new(rt.alloc(), 1024, Vec::new(rt.alloc()))?;
         let status = glb(&rt, rt.alloc(), words.as_slice(), &mut files, &mut out);
         let text = format!(in rt.alloc(); "refused map {wanted}\n")?;
@@ -646,7 +644,7 @@ fn map_texts(rt: HostRuntime) -> Result<(), Fail> {
 
 #[test]
 fn usage(rt: HostRuntime) -> Result<(), Fail> {
-    let rows: [&[&str]; 17] = [
+    let rows: [&[&str]; 22] = [
         &[],
         &["glb"],
         &["glb", "check"],
@@ -662,6 +660,11 @@ fn usage(rt: HostRuntime) -> Result<(), Fail> {
         &["glb", "map", "-t"],
         &["glb", "map", "t", "m"],
         &["glb", "answer", "t", "m"],
+        &["glb", "answer", "t", "m", "198.51.100", "00"],
+        &["glb", "answer", "t", "m", "198.51.100.7", "123"],
+        &["glb", "serve", "t", "--listen", "x"],
+        &["glb", "large", "0"],
+        &["glb", "repair", "t", "m", "c"],
         &["glb", "--help"],
         &["check", "t", "m"],
     ];
@@ -677,76 +680,94 @@ fn usage(rt: HostRuntime) -> Result<(), Fail> {
     Ok(())
 }
 
+/// The words, the loads that are to fail, the puts that are to fail, the room of the output, and what comes of it.
+type Faulty = (
+    &'static [&'static str],
+    &'static [u64],
+    &'static [u64],
+    usize,
+    Status,
+    &'static [u8],
+);
+
+const FAULTS: &[Faulty] = &[
+    (
+        &["glb", "check", "t", "m"],
+        &[0],
+        &[],
+        99,
+        Status::SourceFault,
+        b"",
+    ),
+    (
+        &["glb", "check", "t", "m"],
+        &[1],
+        &[],
+        99,
+        Status::SourceFault,
+        b"",
+    ),
+    (
+        &["glb", "check", "t", "m"],
+        &[2],
+        &[],
+        99,
+        Status::Ok,
+        b"good\n",
+    ),
+    (
+        &["glb", "check", "t", "m"],
+        &[],
+        &[0],
+        99,
+        Status::SinkFault,
+        b"",
+    ),
+    (
+        &["glb", "check", "t", "m"],
+        &[],
+        &[],
+        3,
+        Status::SinkFault,
+        b"goo",
+    ),
+    (
+        &["glb", "map", "t"],
+        &[],
+        &[],
+        14,
+        Status::SinkFault,
+        b"glb map 1\nplac",
+    ),
+    (&["glb"], &[], &[], 5, Status::SinkFault, b"usage"),
+    (
+        &["glb", "check", "m", "t"],
+        &[],
+        &[],
+        99,
+        Status::Refused,
+        b"refused topology 1 not toml\n",
+    ),
+    (
+        &["glb", "answer", "t", "m", "198.51.100.7", "00"],
+        &[1],
+        &[],
+        99,
+        Status::SourceFault,
+        b"",
+    ),
+];
+
 #[test]
 fn faults_outside(rt: HostRuntime) -> Result<(), Fail> {
-    // The words, the loads that are to fail, the puts that are to fail, the room of the output, and what comes of it.
-    let rows: [(&[&str], &[u64], &[u64], usize, Status, &[u8]); 8] = [
-        (
-            &["glb", "check", "t", "m"],
-            &[0],
-            &[],
-            99,
-            Status::SourceFault,
-            b"",
-        ),
-        (
-            &["glb", "check", "t", "m"],
-            &[1],
-            &[],
-            99,
-            Status::SourceFault,
-            b"",
-        ),
-        (
-            &["glb", "check", "t", "m"],
-            &[2],
-            &[],
-            99,
-            Status::Ok,
-            b"good\n",
-        ),
-        (
-            &["glb", "check", "t", "m"],
-            &[],
-            &[0],
-            99,
-            Status::SinkFault,
-            b"",
-        ),
-        (
-            &["glb", "check", "t", "m"],
-            &[],
-            &[],
-            3,
-            Status::SinkFault,
-            b"goo",
-        ),
-        (
-            &["glb", "map", "t"],
-            &[],
-            &[],
-            14,
-            Status::SinkFault,
-            b"glb map 1\nplac",
-        ),
-        (&["glb"], &[], &[], 5, Status::SinkFault, b"usage"),
-        (
-            &["glb", "check", "m", "t"],
-            &[],
-            &[],
-            99,
-            Status::Refused,
-            b"refused topology 1 not toml\n",
-        ),
-    ];
-    for (words, loads, puts, room, wanted, text) in rows {
+    for (words, loads, puts, room, wanted, text) in FAULTS {
         let words = texts(&rt, words)?;
         let mut files = shelf(&rt, Topology(FLAT), Bytes(GOOD_FLAT), loads)?;
         let puts = puts.to_vec(rt.alloc())?;
-        let mut out = MemSink::new(rt.alloc(), room, puts)?;
+        let mut out = MemSink::new(rt.alloc(), *room, puts)?;
         let status = glb(&rt, rt.alloc(), words.as_slice(), &mut files, &mut out);
-        assert_eq!(rt; status, wanted);
-        assert_eq!(rt; out.bytes(), text);
+        assert_eq!(rt; status, *wanted);
+        assert_eq!(rt; out.bytes(), *text);
     }
     Ok(())
 }

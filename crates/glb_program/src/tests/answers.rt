@@ -389,6 +389,15 @@ const ROWS: [Row; 34] = [
     },
 ];
 
+/// The files that are due to be asked for.
+fn due_loads(row: &Row) -> &'static [&'static str] {
+    match row.status {
+        Status::Usage => &[],
+        Status::Refused if row.line.starts_with("refused topology") => &["t"],
+        _ => &["t", "m"],
+    }
+}
+
 fn answer_rows<R: Abort + AllocGlobal>(rt: &R, rows: &[Row]) -> Result<(), Fail> {
     for row in rows {
         let words = texts(rt, &["glb", "answer", "t", "m", row.from, row.query])?;
@@ -398,6 +407,12 @@ fn answer_rows<R: Abort + AllocGlobal>(rt: &R, rows: &[Row]) -> Result<(), Fail>
         assert_eq!(rt; status, row.status);
         let line = format!(in rt.alloc(); "{}\n", row.line)?;
         assert_eq!(rt; out.bytes(), line.as_bytes());
+        assert_eq!(rt; out.puts(), 1);
+        let loads = due_loads(row);
+        assert_eq!(rt; files.asked().len(), loads.len());
+        for (load, name) in files.asked().iter().zip(loads) {
+            assert_eq!(rt; load.name.as_str(), *name);
+        }
     }
     Ok(())
 }
