@@ -44,6 +44,14 @@ pub record IsPrefix (p : Prefix) : Type 0 where
 abbrev pub prefix_at : Addr → ℕ → Prefix
 prefix_at addr len = record { addr = addr; len = len }
 
+-- the prefix that holds all addresses of version 4
+abbrev pub default_v4 : Prefix
+default_v4 = record { addr = V4 0; len = 0 }
+
+-- the prefix that holds all addresses of version 6
+abbrev pub default_v6 : Prefix
+default_v6 = record { addr = V6 0; len = 0 }
+
 -- a length no longer than the address, after which no bit is set
 abbrev pub prefix_with : List ℕ → Addr → Option Prefix
 prefix_with size addr = option_map (prefix_at addr) (only_if (is_clear addr) (number_of (bits_of addr) size))

@@ -1,4 +1,4 @@
--- The first client subnet, found by one option after the other.
+-- Inside this crate alone: the first client subnet, found by one option after the other.
 use Rattle.std.specs.Prelude.{ℕ, List, if◌then◌else◌, Option, None, Some}
 use Rattle.client_subnet.specs.Options.{EdnsOption, is_subnet}
 

@@ -1,3 +1,4 @@
+-- Inside this crate alone: the list of work, and a run between two proposals.
 use Rattle.std.specs.Prelude.{◌≡◌, ℕ, ◌<◌, Bool, false, ◌||◌, ◌==◌, if◌then◌else◌, List, length, All, IsTrue, slice_index, slice_index_or, sum_by}
 use Rattle.std.specs.List.{list_any}
 use Rattle.map_model.specs.declared.instance.GroupId.{GroupId}

@@ -1,4 +1,4 @@
--- The OPT record, found by one record after the other.
+-- Inside this crate alone: the OPT record, found by one record after the other.
 use Rattle.std.specs.Prelude.{◌&&◌, if◌then◌else◌, Option, None, Some, is_none}
 use Rattle.dns_wire.specs.Wire.{Record}
 use Rattle.dns_wire.specs.Message.{Extension, is_opt, is_root, extension_of}

@@ -1,3 +1,4 @@
+-- Inside this crate alone: a put in its middle, at one node of its path.
 use Rattle.std.specs.Prelude.{◌≡◌, ℕ, ◌+◌, ◌^◌, ◌≤◌, ◌<◌, Bool, true, false, not, ◌&&◌, ◌==◌, if◌then◌else◌, length, List, [], Option, None, Some, All, slice_index}
 use Rattle.capacity_tree.specs.Loads.{AreTreesOf, Loads}
 use Rattle.map_model.specs.declared.instance.Key.{Key}

@@ -1,4 +1,4 @@
--- What a reader of a map's text keeps: what the lines so far come to.
+-- Inside this crate alone: what a reader of a map's text keeps, which is what the lines so far come to.
 use Rattle.std.specs.Prelude.{◌+◌, ◌||◌, ◌++◌}
 use Rattle.std.specs.Option.{option_to_list}
 use Rattle.map_text.specs.Reading.{SoFar, is_end, named_by, placed_by}

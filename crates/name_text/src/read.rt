@@ -107,7 +107,7 @@ fn wire_of(text: &[u8]) -> Option<ArrayVec<u8, 255>>
     Some(octets)
 }
 
-/// Reads the text of a name: labels joined by dots, one dot at the end allowed. Letters keep their case.
+/// Reads a name as it is written in zone files (RFC 1035 section 5.1), without escapes: its labels, a dot between each two, and perhaps the dot of the root behind them. Letters keep their case.
 ///
 /// The fault is that of the leftmost label with one, and in a label the first of `EmptyLabel`, `BadByte` and `LongLabel`; `LongName` comes only where no label has a fault.
 #[tactic(auto, unfolding(crate::specs::Names::name_of))]

@@ -1,4 +1,4 @@
--- Queues of seats, one for each node, beside the table of amounts.
+-- Inside this crate alone: queues of seats, one for each node, beside the table of amounts.
 use Rattle.std.specs.Prelude.{◌≡◌, ℕ, ◌*◌, ◌/◌, ◌%◌, ◌<◌, true, List, [], length, Contains, IfSome, slice_get, slice_index, slice_index_or}
 use Rattle.map_model.specs.Market.{Market, IsMarket}
 use Rattle.map_model.specs.Allocation.{IsOffer, counts_at}

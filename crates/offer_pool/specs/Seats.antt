@@ -1,3 +1,4 @@
+-- Inside this crate alone: the seats of the heaps, one for an offer at a node, and their order.
 use Rattle.std.specs.Prelude.{◌≡◌, ℕ, Bool, true}
 use Rattle.std.specs.declared.cmp.Ordering.{Ordering}
 use Rattle.std.specs.Ordering.{nat_cmp, ordering_then, is_le}

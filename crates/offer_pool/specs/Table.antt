@@ -1,4 +1,4 @@
--- Amounts in one list, 16 places for each group.
+-- Inside this crate alone: amounts in one list, 16 places for each group.
 use Rattle.std.specs.Prelude.{ℕ, ◌+◌, ◌*◌, ◌/◌, ◌%◌, ◌==◌, List, [], ◌∷◌, slice_index, if◌then◌else◌}
 use Rattle.map_model.specs.declared.lines.MapLine.{MapLine}
 

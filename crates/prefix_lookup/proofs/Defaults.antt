@@ -6,8 +6,9 @@ use Rattle.std.proofs.Math.Nat.{div-eq_of_lt}
 use Rattle.addr_text.specs.declared.address.Addr.{Addr}
 use Rattle.addr_text.specs.declared.address.Addr.TheVariants.{V4, V6}
 use Rattle.addr_text.specs.declared.address.Prefix.{Prefix}
+use Rattle.addr_text.specs.Addresses.{default_v4, default_v6}
 use Rattle.prefix_lookup.specs.Longest.{IsAddress, holds, longest}
-use Rattle.prefix_lookup.specs.Table.{IsTable, default_v4, default_v6}
+use Rattle.prefix_lookup.specs.Table.{IsTable}
 use Rattle.prefix_lookup.proofs.Longest.{Entry, In, AtLeast, takes_all}
 
 -- a prefix of the table has its entry

@@ -11,12 +11,12 @@ use Rattle.std.specs.List.{cons_option}
 use Rattle.addr_text.specs.declared.address.Addr.{Addr}
 use Rattle.addr_text.specs.declared.address.Addr.TheVariants.{V4, V6}
 use Rattle.addr_text.specs.declared.address.Prefix.{Prefix}
-use Rattle.addr_text.specs.Addresses.{IsPrefix}
+use Rattle.addr_text.specs.Addresses.{IsPrefix, default_v4, default_v6}
 use Rattle.addr_text.proofs.Prefixed.{prefix_is}
 use Rattle.toml.specs.Data.{Data, Members, no_members, string, integer, float, boolean, datetime, array, table}
 use Rattle.topology_text.specs.Faults.{faults_of}
 use Rattle.topology_text.specs.Names.{entries_of}
-use Rattle.topology_text.specs.Plan.{ArePrefixes, default_v4, default_v6}
+use Rattle.topology_text.specs.Plan.{ArePrefixes}
 use Rattle.topology_text.specs.Prefixes.{all_prefixes, count_at, duplicate_prefixes, has_prefix, is_past, is_same_addr, is_same_prefix, lacking, passing, prefix_in, prefixes_at, prefixes_from, total}
 use Rattle.topology_text.specs.Topology.{owned}
 use Rattle.topology_text.specs.Walk.{Visit, entries_from, items_at, value_at, walk, zone_visits}

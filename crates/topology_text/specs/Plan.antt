@@ -2,9 +2,8 @@
 use Rattle.std.specs.Prelude.{◌≡◌, ℕ, ◌<◌, ◌≤◌, ◌^◌, false, List, [], ◌∷◌, length, map, Option, None, IsTrue, IsFalse, All, AllPairs, Contains, position, slice_index_or}
 use Rattle.std.specs.Str.{bytes_eq}
 use Rattle.addr_text.specs.declared.address.Addr.{Addr}
-use Rattle.addr_text.specs.declared.address.Addr.TheVariants.{V4, V6}
 use Rattle.addr_text.specs.declared.address.Prefix.{Prefix}
-use Rattle.addr_text.specs.Addresses.{IsPrefix}
+use Rattle.addr_text.specs.Addresses.{IsPrefix, default_v4, default_v6}
 use Rattle.map_model.specs.declared.instance.GroupId.{GroupId}
 use Rattle.map_model.specs.Market.{Market, IsMarket, is_pool_at}
 use Rattle.name_text.specs.Names.{is_same, is_under, label_fault}
@@ -29,14 +28,6 @@ number_in names text = position (bytes_eq text) names
 -- the addresses of a node for records of a kind, 1 or 28
 abbrev pub addresses_of : Plan → ℕ → ℕ → List Addr
 addresses_of p n kind = addresses_at (slice_index_or p.addresses n (record { v4 = []; v6 = [] })) kind
-
--- the prefix that holds all addresses of version 4
-abbrev pub default_v4 : Prefix
-default_v4 = record { addr = V4 0; len = 0 }
-
--- the prefix that holds all addresses of version 6
-abbrev pub default_v6 : Prefix
-default_v6 = record { addr = V6 0; len = 0 }
 
 -- names for nodes or groups: as many as there are, each by the rule, and no two the same
 pub record AreNames (names : List (List ℕ)) (count : ℕ) : Type 0 where

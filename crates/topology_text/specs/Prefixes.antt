@@ -4,9 +4,8 @@ use Rattle.std.specs.List.{enumerate_from, filter_map, flat_map, list_any}
 use Rattle.addr_text.specs.declared.address.Addr.{Addr}
 use Rattle.addr_text.specs.declared.address.Addr.TheVariants.{V4, V6}
 use Rattle.addr_text.specs.declared.address.Prefix.{Prefix}
-use Rattle.addr_text.specs.Addresses.{prefix_of}
+use Rattle.addr_text.specs.Addresses.{default_v4, default_v6, prefix_of}
 use Rattle.toml.specs.Data.{Data, string}
-use Rattle.topology_text.specs.Plan.{default_v4, default_v6}
 use Rattle.topology_text.specs.Walk.{Visit, items_at, marked}
 use Rattle.topology_text.specs.declared.prefixes.PrefixAt.{PrefixAt}
 use Rattle.topology_text.specs.declared.schema.At.TheVariants.{Whole, Item}

@@ -1,9 +1,9 @@
 //! The prefixes of a topology's groups.
 ghost use Rattle.std.specs.Prelude.{◌≡◌, ◌++◌, map, OnOk, IfOk};
 ghost use Rattle.std.specs.List.{list_any};
+ghost use Rattle.addr_text.specs.Addresses.{default_v4, default_v6};
 ghost use Rattle.toml.specs.View.{table_view, view};
 ghost use Rattle.topology_text.specs.Code.{visit};
-ghost use Rattle.topology_text.specs.Plan.{default_v4, default_v6};
 ghost use Rattle.topology_text.specs.Prefixes.{all_prefixes, count_at, duplicate_prefixes, has_prefix, is_same_prefix, no_default, passing, place_of, prefix_in, prefixes_at, prefixes_from};
 ghost use Rattle.topology_text.specs.Walk.{first, items_at};
 
