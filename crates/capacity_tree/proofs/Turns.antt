@@ -1,43 +1,11 @@
-use Rattle.std.proofs.Common.{◌≡◌, ◌≢◌, ℕ, zero, suc, ◌+◌, ◌-◌, ◌<◌, ◌≤◌, ◌==◌, Bool, true, false, ◌||◌, List, [], ◌∷◌, ◌++◌, length, Option, None, Some, IfSome, IsTrue, map, slice_index, slice_index_or, slice_set, get_or-set_same, get_or-set_other, if◌then◌else◌, append_assoc, append-nil, refl, sym, ap, ◌∙◌, subst, inl, inr, arith}
-use Rattle.std.specs.List.{list_any}
+use Rattle.std.proofs.Common.{◌≡◌, ◌≢◌, ℕ, suc, ◌+◌, ◌-◌, ◌<◌, ◌≤◌, Bool, true, false, List, [], ◌∷◌, length, Option, None, Some, slice_index, slice_set, get_or-set_same, get_or-set_other, if◌then◌else◌, refl, sym, ap, ◌∙◌, subst, inl, inr, arith}
 use Rattle.std.proofs.lemmas.Bool.{cases_eq, ne_eqb}
-use Rattle.std.proofs.lemmas.List.{map-append}
 use Rattle.map_model.specs.declared.instance.NodeId.{NodeId}
 use Rattle.map_model.specs.Market.{Market, IsMarket, climb, parent_of}
 use Rattle.map_model.proofs.Paths.{climb_below, climb_none, climb_step, parent_below, touched, touched_here, touched_none, walk_start}
 use Rattle.map_model.proofs.Trees.{under_there}
+use Rattle.map_model.proofs.Turns.{last_of, last_of-cons}
 use Rattle.map_model.specs.Allocation.{is_under}
-
-number : NodeId → ℕ
-number n = n.0
-
--- the turns of a walk that gathers the nodes it meets
-pub path_turn : (m : Market) (i : ℕ) (p : NodeId) (at at' : Option NodeId) (items : List NodeId) (all : List ℕ) → i < 8 → at ≡ Some p → at' ≡ parent_of m p.0
-    → map (λ n. n.0) items ++ climb (8 - i) m at ≡ all → map (λ n. n.0) (items ++ p ∷ []) ++ climb (8 - (i + 1)) m at' ≡ all
-path_turn m i p at at' items all h is up so_far =
-    let now : map (λ n. n.0) items ++ (p.0 ∷ climb (8 - (i + 1)) m (parent_of m p.0)) ≡ all = ap (λ ns. map (λ n. n.0) items ++ ns) (sym (climb_step m i p h)) ∙ ap (λ x. map (λ n. n.0) items ++ climb (8 - i) m x) (sym is) ∙ so_far in
-    ap (λ x. map (λ n. n.0) (items ++ p ∷ []) ++ climb (8 - (i + 1)) m x) up
-    ∙ ap (λ ns. ns ++ climb (8 - (i + 1)) m (parent_of m p.0)) (map-append (λ n. n.0) items (p ∷ []))
-    ∙ append_assoc (map (λ n. n.0) items) (p.0 ∷ []) (climb (8 - (i + 1)) m (parent_of m p.0)) ∙ now
-
-pub path_over : (m : Market) (i j : ℕ) (at at' : Option NodeId) (before all : List ℕ) → at ≡ None → at' ≡ at → before ++ climb (8 - i) m at ≡ all → before ++ climb (8 - j) m at' ≡ all
-path_over m i j at at' before all is stays so_far =
-    ap (λ x. before ++ climb (8 - j) m x) (stays ∙ is) ∙ ap (λ ns. before ++ ns) (climb_none m (8 - j) ∙ sym (climb_none m (8 - i))) ∙ ap (λ x. before ++ climb (8 - i) m x) (sym is) ∙ so_far
-
-pub path_done : (m : Market) (i : ℕ) (at : Option NodeId) (before all : List ℕ) → 8 ≤ i → before ++ climb (8 - i) m at ≡ all → before ≡ all
-unfolding climb
-path_done m i at before all h so_far = let e : 8 - i ≡ 0 = omega arith in sym (append-nil before) ∙ ap (λ s. before ++ climb s m at) (sym e) ∙ so_far
-
--- the last of some numbers
-last_of : List ℕ → ℕ
-last_of ns = slice_index ns (length ns - 1)
-
-last_of-cons : (x y : ℕ) (ns : List ℕ) → last_of (x ∷ y ∷ ns) ≡ last_of (y ∷ ns)
-unfolding last_of
-last_of-cons x y ns =
-    let e : length (x ∷ y ∷ ns) - 1 ≡ suc (length ns) = omega arith in
-    let f : length (y ∷ ns) - 1 ≡ length ns = omega arith in
-    ap (slice_index (x ∷ y ∷ ns)) e ∙ sym (ap (slice_index (y ∷ ns)) f)
 
 climb_up : (m : Market) (s t : ℕ) (p : NodeId) → s ≡ suc t → climb s m (Some p) ≡ p.0 ∷ climb t m (parent_of m p.0)
 unfolding climb

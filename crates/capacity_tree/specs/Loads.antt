@@ -1,7 +1,7 @@
-use Rattle.std.specs.Prelude.{◌≡◌, ℕ, ◌+◌, ◌<◌, ◌≤◌, ◌^◌, false, List, [], length, Option, map, slice_index, IsTrue, if◌then◌else◌, ◌-◌}
+use Rattle.std.specs.Prelude.{◌≡◌, ℕ, ◌+◌, ◌<◌, false, List, [], length, Option, map, slice_index, IsTrue, if◌then◌else◌, ◌-◌}
 use Rattle.map_model.specs.declared.instance.Node.{Node}
 use Rattle.map_model.specs.declared.instance.NodeId.{NodeId}
-use Rattle.map_model.specs.Market.{Market, IsMarket, parent_of}
+use Rattle.map_model.specs.Market.{Market, parent_of}
 use Rattle.map_model.specs.Allocation.{is_under}
 
 -- trees of nodes, and the units under each node

@@ -1,4 +1,4 @@
-use Rattle.std.proofs.Common.{◌≡◌, ℕ, zero, suc, ◌-◌, ◌<◌, ◌≤◌, ◌==◌, true, List, ◌∷◌, length, Option, None, Some, slice_index, refl, sym, ap, ◌∙◌, subst, inl, inr, arith}
+use Rattle.std.proofs.Common.{◌≡◌, ℕ, zero, suc, ◌<◌, ◌≤◌, ◌==◌, true, ◌∷◌, length, Option, None, Some, refl, sym, ap, ◌∙◌, subst, inl, inr, arith}
 use Rattle.std.specs.Option.{IfSome}
 use Rattle.std.specs.List.{list_any}
 use Rattle.std.proofs.lemmas.Bool.{eqb-true, or_cases, false≢true}
@@ -8,17 +8,7 @@ use Rattle.map_model.specs.Allocation.{is_under}
 use Rattle.map_model.specs.Progress.{root_of}
 use Rattle.map_model.proofs.Paths.{climb_none, parent_there}
 use Rattle.map_model.proofs.Trees.{climb_settled}
-
-last_of : List ℕ → ℕ
-last_of xs = slice_index xs (length xs - 1)
-
--- an element more in front leaves the last one
-last-cons : (x y : ℕ) (ys : List ℕ) → last_of (x ∷ y ∷ ys) ≡ last_of (y ∷ ys)
-unfolding last_of
-last-cons x y ys =
-    let a : length (x ∷ y ∷ ys) - 1 ≡ suc (length ys) = omega arith in
-    let b : length (y ∷ ys) - 1 ≡ length ys = omega arith in
-    ap (slice_index (x ∷ y ∷ ys)) a ∙ ap (slice_index (y ∷ ys)) (sym b)
+use Rattle.map_model.proofs.Turns.{last_of, last_of-cons}
 
 -- a node has the root of the node right above it
 root_up : (m : Market) → IsMarket m → (p q : NodeId) → p.0 < length m.nodes → parent_of m p.0 ≡ Some q → root_of m p.0 ≡ root_of m q.0
@@ -26,7 +16,7 @@ unfolding climb last_of
 root_up m market p q there e =
     let short : length (p.0 ∷ climb 8 m (Some q)) ≤ 8 = subst (λ at. length (p.0 ∷ climb 8 m at) ≤ 8) e (market.shallow p.0 there) in
     let up : path m p.0 ≡ p.0 ∷ path m q.0 = ap (λ at. p.0 ∷ climb 7 m at) e ∙ ap (λ ns. p.0 ∷ ns) (sym (climb_settled m 7 8 (Some q) (omega arith) (omega (arith, short)))) in
-    ap last_of up ∙ last-cons p.0 q.0 (climb 7 m (parent_of m q.0))
+    ap last_of up ∙ last_of-cons p.0 q.0 (climb 7 m (parent_of m q.0))
 
 climb_root : (m : Market) → IsMarket m → (steps : ℕ) (p : NodeId) (n : ℕ) → p.0 < length m.nodes → list_any (λ x. x == n) (climb steps m (Some p)) ≡ true → root_of m p.0 ≡ root_of m n
 unfolding climb

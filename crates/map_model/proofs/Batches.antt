@@ -1,4 +1,4 @@
-use Rattle.std.proofs.Common.{◌≡◌, ℕ, ◌<◌, ◌==◌, Bool, true, false, if◌then◌else◌, List, [], ◌∷◌, ◌++◌, length, Option, None, Some, refl, sym, ap, ◌∙◌, subst, inl, inr, slice_set, unwrap_or, append-nil, arith}
+use Rattle.std.proofs.Common.{◌≡◌, ℕ, ◌<◌, ◌==◌, Bool, true, false, if◌then◌else◌, List, [], ◌∷◌, ◌++◌, length, Option, None, Some, refl, sym, ap, ◌∙◌, inl, inr, slice_set, unwrap_or, append-nil, arith}
 use Rattle.std.specs.List.{filter_map, last_or, cons_option}
 use Rattle.std.proofs.Math.ListN.{length-set}
 use Rattle.std.proofs.lemmas.Bool.{cases_eq, eq-eqb, ne_eqb}
@@ -8,8 +8,8 @@ use Rattle.map_model.specs.declared.change.Change.{Change}
 use Rattle.map_model.specs.declared.change.Change.TheVariants.{Demand, Capacity}
 use Rattle.map_model.specs.declared.instance.GroupId.{GroupId}
 use Rattle.map_model.specs.declared.instance.NodeId.{NodeId}
-use Rattle.map_model.specs.Market.{Market, IsSameShape, capacity_of, choices_of, demand_of, group_at, is_pool_at, node_at, parent_of}
-use Rattle.map_model.specs.Batch.{IsApplied, capacity_by, demand_by, last_capacity, last_demand}
+use Rattle.map_model.specs.Market.{Market, IsSameShape, capacity_of, demand_of, group_at, node_at}
+use Rattle.map_model.specs.Batch.{IsApplied, capacity_by, demand_by}
 use Rattle.map_model.proofs.Shapes.{shape_itself, shape_trans}
 
 -- the instance with another demand of one group

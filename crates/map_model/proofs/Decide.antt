@@ -1,11 +1,11 @@
 use Rattle.std.proofs.Common.{◌≡◌, ℕ, zero, suc, ◌+◌, ◌<◌, Bool, true, ◌&&◌, ◌||◌, not, nat_le, List, length, Option, None, Some, IsTrue, IsSome, refl, subst, inl, inr, arith}
 use Rattle.std.specs.List.{list_all, range_with_len}
 use Rattle.std.specs.Option.{is_some}
-use Rattle.std.proofs.lemmas.Bool.{and_parts, or_cases, leb-true, false≢true, true≢false}
+use Rattle.std.proofs.lemmas.Bool.{and_parts, or_cases, leb-true, false≢true}
 use Rattle.map_model.specs.declared.lines.MapLine.{MapLine}
 use Rattle.map_model.specs.declared.lines.NameLine.{NameLine}
 use Rattle.map_model.specs.Market.{Market, capacity_of, choices_of, demand_of}
-use Rattle.map_model.specs.Allocation.{IsGood, IsOffer, is_line, is_wanted, load, names_of, placed, refuser_of}
+use Rattle.map_model.specs.Allocation.{IsGood, is_line, is_wanted, load, names_of, placed, refuser_of}
 
 -- a test that computes to true at each number below n
 below_all : (test : ℕ → Bool) (a n : ℕ) → list_all test (range_with_len a n) ≡ true → (i : ℕ) → i < n → test (a + i) ≡ true

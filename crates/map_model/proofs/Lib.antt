@@ -10,3 +10,5 @@ pub mod Trees
 pub mod Shapes
 pub mod Batches
 pub mod NameForm
+pub mod Rising
+pub mod Turns

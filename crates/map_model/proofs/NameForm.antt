@@ -1,16 +1,16 @@
-use Rattle.std.proofs.Common.{◌≡◌, ℕ, zero, suc, ◌+◌, ◌-◌, ◌*◌, ◌<◌, ◌≤◌, ◌==◌, Bool, true, false, ◌&&◌, ◌||◌, ◌⊎◌, nat_lt, List, [], ◌∷◌, ◌++◌, length, Option, None, Some, IsTrue, map, slice_index_or, if◌then◌else◌, refl, sym, ap, ◌∙◌, subst, inl, inr, arith}
+use Rattle.std.proofs.Common.{◌≡◌, ℕ, zero, suc, ◌+◌, ◌-◌, ◌*◌, ◌<◌, Bool, List, [], ◌++◌, length, Option, None, Some, IsTrue, map, refl, sym, subst, inl, inr, arith}
 use Rattle.std.specs.List.{cons_option, filter_map, find, flat_map, range_with_len}
 use Rattle.std.specs.Option.{IfSome, option_map}
-use Rattle.std.proofs.lemmas.Bool.{cases_Bool, cases_eq, eq-eqb, false≢true, lt-ltb}
+use Rattle.std.proofs.lemmas.Bool.{cases_Bool, cases_eq, eq-eqb, lt-ltb}
 use Rattle.std.proofs.lemmas.List.Elements.{filter_map-append}
 use Rattle.map_model.specs.declared.instance.NodeId.{NodeId}
-use Rattle.map_model.specs.declared.instance.Offer.{Offer}
 use Rattle.map_model.specs.declared.lines.MapLine.{MapLine}
 use Rattle.map_model.specs.declared.lines.NameLine.{NameLine}
 use Rattle.map_model.specs.Market.{Market, IsMarket, choices_of, climb, parent_of, pool_of}
-use Rattle.map_model.specs.Allocation.{AreNames, IsGood, IsMapForm, IsOffer, is_full_of_better, is_name, is_wanted, name_at, name_of, names_of, offers_from, offers_of, refuser_of}
+use Rattle.map_model.specs.Allocation.{AreNames, IsGood, IsMapForm, IsOffer, is_name, is_wanted, name_at, name_of, names_of, offers_from, refuser_of}
 use Rattle.map_model.proofs.MapForm.{few_places}
 use Rattle.map_model.proofs.Paths.{parent_there}
+use Rattle.map_model.proofs.Rising.{IsRisen, Rises, Rises-at, Rises-lower, before_by_rank, both, either}
 
 -- what a search up a climb finds is there
 find_there : (m : Market) → IsMarket m → (test : ℕ → Bool) (steps : ℕ) (at : Option NodeId) → IfSome at (λ p. p.0 < length m.nodes) → IfSome (find test (climb steps m at)) (λ n. n < length m.nodes)
@@ -35,102 +35,67 @@ record IsInRange (m : Market) (l : NameLine) : Type 0 where
   offer : IsOffer m l.group.0 l.place
   node : l.node.0 < length m.nodes
 
--- names in range whose ranks rise, from one on
-abbrev Rises : Market → ℕ → List NameLine → Type 0
-Rises m from [] = Unit {0}
-Rises m from (l ∷ ls) = (from ≤ rank l) × IsInRange m l × Rises m (rank l + 1) ls
+-- a name that no list holds
+abbrev blank : NameLine
+blank = record { group = record { 0 = 0 }; place = 0; node = record { 0 = 0 } }
 
-Rises-lower : (m : Market) (low from : ℕ) (ls : List NameLine) → low ≤ from → Rises m from ls → Rises m low ls
-Rises-lower m low from [] h r = tt
-Rises-lower m low from (l ∷ ls) h r = let was : from ≤ rank l = r.0 in (omega arith, r.1, r.2)
+-- names in range whose ranks rise, from one on
+abbrev Rise : Market → ℕ → List NameLine → Type 0
+Rise m from names = Rises rank (IsInRange m) from names
 
 -- the name of an offer, before names that rise from the next offer on
-Rises-name : (m : Market) → IsMarket m → (lines : List MapLine) (g k : ℕ) → IsOffer m g k → (rest : List NameLine) → Rises m (g * 16 + k + 1) rest
-    → Rises m (g * 16 + k) (cons_option (name_of m lines (record { group = record { 0 = g }; place = k })) rest)
+Rises-name : (m : Market) → IsMarket m → (lines : List MapLine) (g k : ℕ) → IsOffer m g k → (rest : List NameLine) → Rise m (g * 16 + k + 1) rest
+    → Rise m (g * 16 + k) (cons_option (name_of m lines (record { group = record { 0 = g }; place = k })) rest)
 Rises-name m market lines g k o rest r = elim (cases_Bool (is_wanted m lines g k)) [
   | inl e ↦ rw e (named (refuser_of m lines g k) (refuser_there m market lines g k o))
-  | inr e ↦ rw e (Rises-lower m (g * 16 + k) (g * 16 + k + 1) rest (omega arith) r)
+  | inr e ↦ rw e (Rises-lower rank (IsInRange m) (g * 16 + k) (g * 16 + k + 1) rest (omega arith) r)
 ]
   where
-    named : (refuser : Option ℕ) → IfSome refuser (λ n. n < length m.nodes) → Rises m (g * 16 + k) (cons_option (option_map (λ n. record { group = record { 0 = g }; place = k; node = record { 0 = n } }) refuser) rest)
-    named None h = Rises-lower m (g * 16 + k) (g * 16 + k + 1) rest (omega arith) r
+    named : (refuser : Option ℕ) → IfSome refuser (λ n. n < length m.nodes) → Rise m (g * 16 + k) (cons_option (option_map (λ n. record { group = record { 0 = g }; place = k; node = record { 0 = n } }) refuser) rest)
+    named None h = Rises-lower rank (IsInRange m) (g * 16 + k) (g * 16 + k + 1) rest (omega arith) r
     named (Some n) h = (omega arith, record { offer = o; node = h }, r)
 
 -- the names of a group's offers from one place on, before those of later groups
-Rises-group : (m : Market) → IsMarket m → (lines : List MapLine) (g : ℕ) → g < length m.groups → (rest : List NameLine) → Rises m ((g + 1) * 16) rest → (n k : ℕ) → k + n ≡ length (choices_of m g)
-    → Rises m (g * 16 + k) (filter_map (name_of m lines) (map (λ k. record { group = record { 0 = g }; place = k }) (range_with_len k n)) ++ rest)
-Rises-group m market lines g within rest r zero k e = Rises-lower m (g * 16 + k) ((g + 1) * 16) rest (omega (arith, (market.groups g (record { demand = 0; choices = [] }) within).few)) r
+Rises-group : (m : Market) → IsMarket m → (lines : List MapLine) (g : ℕ) → g < length m.groups → (rest : List NameLine) → Rise m ((g + 1) * 16) rest → (n k : ℕ) → k + n ≡ length (choices_of m g)
+    → Rise m (g * 16 + k) (filter_map (name_of m lines) (map (λ k. record { group = record { 0 = g }; place = k }) (range_with_len k n)) ++ rest)
+Rises-group m market lines g within rest r zero k e = Rises-lower rank (IsInRange m) (g * 16 + k) ((g + 1) * 16) rest (omega (arith, (market.groups g (record { demand = 0; choices = [] }) within).few)) r
 Rises-group m market lines g within rest r (suc n) k e =
     let o : IsOffer m g k = record { group = within; place = omega arith } in
     let later : List NameLine = filter_map (name_of m lines) (map (λ k. record { group = record { 0 = g }; place = k }) (range_with_len (k + 1) n)) in
     let next = Rises-group m market lines g within rest r n (k + 1) (omega arith) in
     let same : g * 16 + (k + 1) ≡ g * 16 + k + 1 = omega arith in
-    subst (λ ls. Rises m (g * 16 + k) ls) (joined (name_of m lines (record { group = record { 0 = g }; place = k })) later) (Rises-name m market lines g k o (later ++ rest) (subst (λ f. Rises m f (later ++ rest)) same next))
+    subst (λ ls. Rise m (g * 16 + k) ls) (joined (name_of m lines (record { group = record { 0 = g }; place = k })) later) (Rises-name m market lines g k o (later ++ rest) (subst (λ f. Rise m f (later ++ rest)) same next))
   where
     joined : (o : Option NameLine) (ls : List NameLine) → cons_option o (ls ++ rest) ≡ cons_option o ls ++ rest
     joined None ls = refl
     joined (Some l) ls = refl
 
 -- the names of the groups from one on
-Rises-groups : (m : Market) → IsMarket m → (lines : List MapLine) (n g : ℕ) → g + n ≡ length m.groups → Rises m (g * 16) (filter_map (name_of m lines) (flat_map (λ g. offers_from m g 0) (range_with_len g n)))
+Rises-groups : (m : Market) → IsMarket m → (lines : List MapLine) (n g : ℕ) → g + n ≡ length m.groups → Rise m (g * 16) (filter_map (name_of m lines) (flat_map (λ g. offers_from m g 0) (range_with_len g n)))
 Rises-groups m market lines zero g e = tt
 Rises-groups m market lines (suc n) g e =
     let within : g < length m.groups = omega arith in
     let next = Rises-groups m market lines n (g + 1) (omega arith) in
     let whole : 0 + (length (choices_of m g) - 0) ≡ length (choices_of m g) = omega arith in
     let same : g * 16 + 0 ≡ g * 16 = omega arith in
-    subst (λ ls. Rises m (g * 16) ls) (sym (filter_map-append (name_of m lines) (offers_from m g 0) (flat_map (λ g. offers_from m g 0) (range_with_len (g + 1) n))))
-    (subst (λ f. Rises m f (filter_map (name_of m lines) (offers_from m g 0) ++ filter_map (name_of m lines) (flat_map (λ g. offers_from m g 0) (range_with_len (g + 1) n)))) same (Rises-group m market lines g within _ next (length (choices_of m g) - 0) 0 whole))
+    subst (λ ls. Rise m (g * 16) ls) (sym (filter_map-append (name_of m lines) (offers_from m g 0) (flat_map (λ g. offers_from m g 0) (range_with_len (g + 1) n))))
+    (subst (λ f. Rise m f (filter_map (name_of m lines) (offers_from m g 0) ++ filter_map (name_of m lines) (flat_map (λ g. offers_from m g 0) (range_with_len (g + 1) n)))) same (Rises-group m market lines g within _ next (length (choices_of m g) - 0) 0 whole))
 
--- what the form asks of the name at a place
-record IsNameAt (m : Market) (from : ℕ) (names : List NameLine) (i : ℕ) : Type 0 where
-  range : IsInRange m (name_at names i)
-  low : from ≤ rank (name_at names i)
-  above : 0 < i → rank (name_at names (i - 1)) < rank (name_at names i)
-
-Rises-at : (m : Market) (from : ℕ) (names : List NameLine) → Rises m from names → (i : ℕ) → i < length names → IsNameAt m from names i
-Rises-at m from [] r i h = absurd (omega arith)
-Rises-at m from (l ∷ ls) r zero h = record { range = r.1; low = r.0; above = λ l. absurd (omega arith) }
-Rises-at m from (l ∷ ls) r (suc i) h =
-    let a = Rises-at m (rank l + 1) ls r.2 i (omega arith) in
-    let start : from ≤ rank l = r.0 in
-    record { range = a.range; low = omega (arith, a.low); above = λ _. next i a }
-  where
-    next : (i : ℕ) → IsNameAt m (rank l + 1) ls i → rank (name_at (l ∷ ls) (suc i - 1)) < rank (name_at ls i)
-    next zero a = omega (arith, a.low)
-    next (suc j) a = let e : suc (suc j) - 1 ≡ suc j = omega arith in let f : suc j - 1 ≡ j = omega arith in
-        let above : rank (name_at ls (suc j - 1)) < rank (name_at ls (suc j)) = a.above (omega arith) in
-        subst (λ x. rank (name_at (l ∷ ls) x) < rank (name_at ls (suc j))) (sym e) (subst (λ x. rank (name_at ls x) < rank (name_at ls (suc j))) f above)
-
-both : (a b : Bool) → a ≡ true → b ≡ true → (a && b) ≡ true
-both a b p q = ap (λ x. x && b) p ∙ q
-
-either : (a b : Bool) → (a ≡ true) ⊎ (b ≡ true) → (a || b) ≡ true
-either true b h = refl
-either false b (inl e) = absurd (false≢true e)
-either false b (inr e) = e
-
-in_form : (m : Market) → IsMarket m → (names : List NameLine) (i : ℕ) → i < length names → IsNameAt m 0 names i → ((j : ℕ) → j < length names → IsInRange m (name_at names j)) → IsTrue (is_name m names i)
+in_form : (m : Market) → IsMarket m → (names : List NameLine) (i : ℕ) → i < length names → IsRisen rank (IsInRange m) blank 0 names i → ((j : ℕ) → j < length names → IsInRange m (name_at names j)) → IsTrue (is_name m names i)
 in_form m market names i h a each =
     let l = name_at names i in
     let b = name_at names (i - 1) in
     both _ _ (both _ _ (both _ _ (lt-ltb _ _ a.range.offer.group) (lt-ltb _ _ a.range.offer.place)) (lt-ltb _ _ a.range.node)) (either _ _ (elim (cases_eq i 0) [
       | inl e ↦ inl (eq-eqb i 0 e)
-      | inr ne ↦ inr (either _ _ (before b l (few_places m market _ _ (each (i - 1) (omega arith)).offer) (few_places m market _ _ a.range.offer) (a.above (omega arith))))
+      | inr ne ↦ inr (before_by_rank b.group.0 b.place l.group.0 l.place (few_places m market _ _ (each (i - 1) (omega arith)).offer) (few_places m market _ _ a.range.offer) (a.above (omega arith)))
     ]))
-  where
-    before : (x y : NameLine) → x.place < 16 → y.place < 16 → rank x < rank y → (nat_lt x.group.0 y.group.0 ≡ true) ⊎ (((x.group.0 == y.group.0) && nat_lt x.place y.place) ≡ true)
-    before x y k j l = elim (cases_eq x.group.0 y.group.0) [
-      | inl e ↦ inr (both _ _ (eq-eqb x.group.0 y.group.0 e) (lt-ltb x.place y.place (omega arith)))
-      | inr ne ↦ inl (lt-ltb x.group.0 y.group.0 (omega arith))
-    ]
 
 -- the names of a map are in the form of a map
 pub AreNames-names_of : (m : Market) → IsMarket m → (lines : List MapLine) → AreNames m (names_of m lines)
 AreNames-names_of m market lines i h =
     let e : 0 * 16 ≡ 0 = omega arith in
-    let a = Rises-at m 0 (names_of m lines) (subst (λ f. Rises m f (names_of m lines)) e (Rises-groups m market lines (length m.groups) 0 (omega arith))) i h in
-    in_form m market (names_of m lines) i h a (λ j l. (Rises-at m 0 (names_of m lines) (subst (λ f. Rises m f (names_of m lines)) e (Rises-groups m market lines (length m.groups) 0 (omega arith))) j l).range)
+    let a = Rises-at rank (IsInRange m) blank 0 (names_of m lines) (subst (λ f. Rise m f (names_of m lines)) e (Rises-groups m market lines (length m.groups) 0 (omega arith))) i h in
+    in_form m market (names_of m lines) i h a (λ j l. (Rises-at rank (IsInRange m) blank 0 (names_of m lines) (subst (λ f. Rise m f (names_of m lines)) e (Rises-groups m market lines (length m.groups) 0 (omega arith))) j l).range)
 
 -- a good map is in the form of a map
 pub IsMapForm-IsGood : (m : Market) → IsMarket m → (lines : List MapLine) (names : List NameLine) → IsGood m lines names → IsMapForm m lines names

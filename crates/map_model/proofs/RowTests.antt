@@ -1,13 +1,12 @@
-use Rattle.std.proofs.Common.{◌≡◌, ℕ, zero, suc, ◌+◌, ◌-◌, ◌<◌, ◌≤◌, ◌^◌, Bool, true, false, not, List, [], ◌∷◌, length, Option, None, Some, IfSome, IsTrue, IsFalse, All, AllPairs, slice_index_or, get_or, take, refl, sym, ap, ◌∙◌, subst, inl, inr, ◌⊎◌, arith}
+use Rattle.std.proofs.Common.{◌≡◌, ℕ, suc, ◌+◌, ◌-◌, ◌<◌, ◌≤◌, ◌^◌, Bool, true, false, not, List, length, Option, None, Some, IfSome, IsTrue, IsFalse, All, AllPairs, slice_index_or, get_or, take, refl, sym, ap, ◌∙◌, subst, inl, inr, arith}
 use Rattle.std.specs.Option.{is_some}
 use Rattle.std.proofs.lemmas.Bool.{false≢true, true≢false, cases_eq}
 use Rattle.std.proofs.lemmas.List.{get_or-take, get_or_default, length-take-le}
-use Rattle.std.proofs.lemmas.Grind.{common_steps}
 use Rattle.map_model.specs.declared.instance.Choice.{Choice}
 use Rattle.map_model.specs.declared.instance.Node.{Node}
 use Rattle.map_model.specs.declared.instance.NodeId.{NodeId}
 use Rattle.map_model.specs.Market.{Group, IsGroup, IsMarket, climb, node_in}
-use Rattle.map_model.specs.Rows.{HasTreeNode, HasTreeNodes, trees_of}
+use Rattle.map_model.specs.Rows.{HasTreeNodes, trees_of}
 use Rattle.map_model.proofs.Paths.{climb_none}
 use Rattle.map_model.proofs.Markets.{climb-same}
 

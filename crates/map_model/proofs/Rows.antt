@@ -1,9 +1,9 @@
-use Rattle.std.proofs.Common.{◌≡◌, ℕ, List, [], ◌∷◌, Bool, true, false, None, Some, refl}
+use Rattle.std.proofs.Common.{◌≡◌, ℕ, [], ◌∷◌, true, false, None, Some, refl}
 use Rattle.map_model.specs.declared.instance.Choice.{Choice}
 use Rattle.map_model.specs.declared.instance.Node.{Node}
 use Rattle.map_model.specs.declared.lines.MapLine.{MapLine}
 use Rattle.map_model.specs.declared.lines.NameLine.{NameLine}
-use Rattle.map_model.specs.Market.{Market, climb, demand_of}
+use Rattle.map_model.specs.Market.{Market, climb}
 use Rattle.map_model.specs.Allocation.{IsGood, is_wanted, load, placed, refuser_of}
 use Rattle.map_model.proofs.Decide.{IsGood-computed}
 

@@ -1,8 +1,8 @@
-use Rattle.std.proofs.Common.{◌≡◌, ℕ, ◌<◌, Bool, refl, sym, ap, ◌∙◌, Some, subst, length, List, slice_index, slice_index_or, ◌==◌, ◌-◌, arith}
+use Rattle.std.proofs.Common.{◌≡◌, ℕ, ◌<◌, refl, sym, ap, ◌∙◌, Some, subst, length, List, slice_index, slice_index_or, ◌==◌, ◌-◌, arith}
 use Rattle.std.specs.List.{list_any}
 use Rattle.map_model.specs.declared.instance.Choice.{Choice}
 use Rattle.map_model.specs.declared.instance.Key.{Key}
-use Rattle.map_model.specs.Market.{Market, IsSameShape, choice_at, choices_of, key_of, path, pool_of}
+use Rattle.map_model.specs.Market.{Market, IsSameShape, choice_at, key_of, path, pool_of}
 use Rattle.map_model.specs.Allocation.{IsOffer, counts_at, is_under}
 use Rattle.map_model.specs.Progress.{root_of, tree_of}
 use Rattle.map_model.proofs.Markets.{climb-same}

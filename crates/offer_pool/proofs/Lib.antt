@@ -1,4 +1,3 @@
-pub mod Turns
 pub mod Queues
 pub mod Refiled
 pub mod Tables

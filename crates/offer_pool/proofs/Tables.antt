@@ -1,12 +1,13 @@
 -- The lines of a table, and what they sum up to.
-use Rattle.std.proofs.Common.{◌≡◌, ◌≢◌, ℕ, zero, suc, ◌+◌, ◌-◌, ◌/◌, ◌%◌, ◌<◌, ◌≤◌, ◌==◌, Bool, true, false, ◌&&◌, ◌||◌, if◌then◌else◌, cond, nat_lt, List, [], ◌∷◌, ◌++◌, length, take, replicate, slice_index, slice_set, get_or-set_other, IsTrue, refl, sym, ap, ◌∙◌, subst, arith, ◌⊎◌, inl, inr}
-use Rattle.std.proofs.lemmas.Bool.{and_parts, cases_eq, eq-eqb, eqb-true, false≢true, lt-ltb, ltb-true, ne_eqb, or_cases}
+use Rattle.std.proofs.Common.{◌≡◌, ◌≢◌, ℕ, zero, suc, ◌+◌, ◌-◌, ◌/◌, ◌%◌, ◌<◌, ◌≤◌, ◌==◌, Bool, true, false, ◌&&◌, if◌then◌else◌, cond, List, [], ◌∷◌, ◌++◌, length, take, replicate, slice_index, slice_set, get_or-set_other, IsTrue, refl, sym, ap, ◌∙◌, subst, arith, ◌⊎◌, inl, inr}
+use Rattle.std.proofs.lemmas.Bool.{cases_eq, eq-eqb, eqb-true, false≢true, lt-ltb, ne_eqb}
 use Rattle.std.proofs.lemmas.List.{length-take-le, take_more}
 use Rattle.std.proofs.lemmas.List.Sums.{sum_by-cons}
 use Rattle.map_model.specs.declared.lines.MapLine.{MapLine}
 use Rattle.map_model.specs.Market.{IsMarket, Market}
-use Rattle.map_model.specs.Allocation.{AreLines, IsOffer, amount_at, is_before, is_line, line_at, units_of}
-use Rattle.map_model.proofs.MapForm.{IsLineAt-from, few_places}
+use Rattle.map_model.specs.Allocation.{AreLines, IsOffer, amount_at, is_line, line_at, units_of}
+use Rattle.map_model.proofs.MapForm.{IsLineAt-from, few_places, rises}
+use Rattle.map_model.proofs.Rising.{IsRisen, Rises, Rises-at, Rises-lower, before_by_rank, both, either}
 use Rattle.offer_pool.specs.Table.{amount_in, line_of, lines_from, lines_in, place_at}
 use Rattle.offer_pool.specs.Filed.{AreAmounts}
 
@@ -180,16 +181,15 @@ record IsInRange (m : Market) (l : MapLine) : Type 0 where
   offer : IsOffer m l.group.0 l.place
   some : 0 < l.amount
 
+-- a line that no list holds
+abbrev blank : MapLine
+blank = record { group = record { 0 = 0 }; place = 0; amount = 0 }
+
 -- lines in range whose ranks rise, from one on
-abbrev Rises : Market → ℕ → List MapLine → Type 0
-Rises m from [] = Unit {0}
-Rises m from (l ∷ ls) = (from ≤ rank l) × IsInRange m l × Rises m (rank l + 1) ls
+abbrev Rise : Market → ℕ → List MapLine → Type 0
+Rise m from lines = Rises rank (IsInRange m) from lines
 
-Rises-lower : (m : Market) (low from : ℕ) (ls : List MapLine) → low ≤ from → Rises m from ls → Rises m low ls
-Rises-lower m low from [] h r = tt
-Rises-lower m low from (l ∷ ls) h r = let was : from ≤ rank l = r.0 in (omega arith, r.1, r.2)
-
-lines-rise : (m : Market) (xs : List ℕ) (base : ℕ) → ((i : ℕ) → 0 < slice_index xs i → IsOffer m ((base + i) / 16) ((base + i) % 16)) → Rises m base (lines_from base xs)
+lines-rise : (m : Market) (xs : List ℕ) (base : ℕ) → ((i : ℕ) → 0 < slice_index xs i → IsOffer m ((base + i) / 16) ((base + i) % 16)) → Rise m base (lines_from base xs)
 unfolding lines_from
 lines-rise m [] base offers = tt
 lines-rise m (x ∷ xs) base offers = go (x == 0) refl (lines-rise m xs (base + 1) (λ i some. let e : base + suc i ≡ base + 1 + i = omega arith in subst (λ n. IsOffer m (n / 16) (n % 16)) e (offers (suc i) some)))
@@ -197,78 +197,38 @@ lines-rise m (x ∷ xs) base offers = go (x == 0) refl (lines-rise m xs (base + 
     here : 0 < x → IsOffer m (base / 16) (base % 16)
     here some = let e : base + 0 ≡ base = omega arith in subst (λ n. IsOffer m (n / 16) (n % 16)) e (offers 0 some)
 
-    go : (b : Bool) → (x == 0) ≡ b → Rises m (base + 1) (lines_from (base + 1) xs) → Rises m base (cond b (lines_from (base + 1) xs) (line_of base x ∷ lines_from (base + 1) xs))
-    go true t later = Rises-lower m base (base + 1) (lines_from (base + 1) xs) (omega arith) later
+    go : (b : Bool) → (x == 0) ≡ b → Rise m (base + 1) (lines_from (base + 1) xs) → Rise m base (cond b (lines_from (base + 1) xs) (line_of base x ∷ lines_from (base + 1) xs))
+    go true t later = Rises-lower rank (IsInRange m) base (base + 1) (lines_from (base + 1) xs) (omega arith) later
     go false t later =
         let some : 0 < x = nonzero t in
         let same : place_at (base / 16) (base % 16) ≡ base = omega arith in
-        (omega arith, record { offer = here some; some = some }, subst (λ n. Rises m (n + 1) (lines_from (base + 1) xs)) (sym same) later)
+        (omega arith, record { offer = here some; some = some }, subst (λ n. Rise m (n + 1) (lines_from (base + 1) xs)) (sym same) later)
       where
         nonzero : (x == 0) ≡ false → 0 < x
         nonzero t = elim (cases_eq x 0) [ inl e ↦ absurd (false≢true (sym t ∙ eq-eqb x 0 e)) | inr ne ↦ omega arith ]
 
--- what the form asks of the line at a place
-record IsPlaced (m : Market) (from : ℕ) (lines : List MapLine) (i : ℕ) : Type 0 where
-  range : IsInRange m (line_at lines i)
-  low : from ≤ rank (line_at lines i)
-  above : 0 < i → rank (line_at lines (i - 1)) < rank (line_at lines i)
-
-Rises-at : (m : Market) (from : ℕ) (lines : List MapLine) → Rises m from lines → (i : ℕ) → i < length lines → IsPlaced m from lines i
-Rises-at m from [] r i h = absurd (omega arith)
-Rises-at m from (l ∷ ls) r zero h = record { range = r.1; low = r.0; above = λ l. absurd (omega arith) }
-Rises-at m from (l ∷ ls) r (suc i) h =
-    let a = Rises-at m (rank l + 1) ls r.2 i (omega arith) in
-    let start : from ≤ rank l = r.0 in
-    record { range = a.range; low = omega (arith, a.low); above = λ _. next i a }
-  where
-    next : (i : ℕ) → IsPlaced m (rank l + 1) ls i → rank (line_at (l ∷ ls) (suc i - 1)) < rank (line_at ls i)
-    next zero a = omega (arith, a.low)
-    next (suc j) a = let e : suc (suc j) - 1 ≡ suc j = omega arith in let f : suc j - 1 ≡ j = omega arith in
-        let above : rank (line_at ls (suc j - 1)) < rank (line_at ls (suc j)) = a.above (omega arith) in
-        subst (λ x. rank (line_at (l ∷ ls) x) < rank (line_at ls (suc j))) (sym e) (subst (λ x. rank (line_at ls x) < rank (line_at ls (suc j))) f above)
-
-both : (a b : Bool) → a ≡ true → b ≡ true → (a && b) ≡ true
-both a b p q = ap (λ x. x && b) p ∙ q
-
-either : (a b : Bool) → (a ≡ true) ⊎ (b ≡ true) → (a || b) ≡ true
-either true b h = refl
-either false b (inl e) = absurd (false≢true e)
-either false b (inr e) = e
-
-in_form : (m : Market) → IsMarket m → (lines : List MapLine) (i : ℕ) → i < length lines → IsPlaced m 0 lines i → ((j : ℕ) → j < length lines → IsInRange m (line_at lines j)) → IsTrue (is_line m lines i)
+in_form : (m : Market) → IsMarket m → (lines : List MapLine) (i : ℕ) → i < length lines → IsRisen rank (IsInRange m) blank 0 lines i → ((j : ℕ) → j < length lines → IsInRange m (line_at lines j)) → IsTrue (is_line m lines i)
 in_form m market lines i h a each =
     let l = line_at lines i in
     let b = line_at lines (i - 1) in
     both _ _ (both _ _ (both _ _ (lt-ltb _ _ a.range.offer.group) (lt-ltb _ _ a.range.offer.place)) (lt-ltb _ _ a.range.some)) (either _ _ (elim (cases_eq i 0) [
       | inl e ↦ inl (eq-eqb i 0 e)
-      | inr ne ↦ inr (either _ _ (before b l (few_places m market _ _ (each (i - 1) (omega arith)).offer) (few_places m market _ _ a.range.offer) (a.above (omega arith))))
+      | inr ne ↦ inr (before_by_rank b.group.0 b.place l.group.0 l.place (few_places m market _ _ (each (i - 1) (omega arith)).offer) (few_places m market _ _ a.range.offer) (a.above (omega arith)))
     ]))
-  where
-    before : (x y : MapLine) → x.place < 16 → y.place < 16 → rank x < rank y → (nat_lt x.group.0 y.group.0 ≡ true) ⊎ (((x.group.0 == y.group.0) && nat_lt x.place y.place) ≡ true)
-    before x y k j l = elim (cases_eq x.group.0 y.group.0) [
-      | inl e ↦ inr (both _ _ (eq-eqb x.group.0 y.group.0 e) (lt-ltb x.place y.place (omega arith)))
-      | inr ne ↦ inl (lt-ltb x.group.0 y.group.0 (omega arith))
-    ]
 
 -- the lines of a table are in the form of a map
 pub lines_form : (m : Market) (amounts : List ℕ) → IsMarket m → AreAmounts m amounts → AreLines m (lines_in amounts)
 lines_form m amounts market table i h =
     let rise = lines-rise m amounts 0 (λ j some. let e : 0 + j ≡ j = omega arith in subst (λ n. IsOffer m (n / 16) (n % 16)) (sym e) (table.offers j some)) in
-    in_form m market (lines_in amounts) i h (Rises-at m 0 (lines_in amounts) rise i h) (λ j l. (Rises-at m 0 (lines_in amounts) rise j l).range)
+    in_form m market (lines_in amounts) i h (Rises-at rank (IsInRange m) blank 0 (lines_in amounts) rise i h) (λ j l. (Rises-at rank (IsInRange m) blank 0 (lines_in amounts) rise j l).range)
 
 -- a line of a map, put behind those before it
 pub line_room : (m : Market) (lines : List MapLine) (a : List ℕ) (i : ℕ) → IsMarket m → AreLines m lines → i < length lines → ((j : ℕ) → (0 < i → rank (line_at lines (i - 1)) < j) → slice_index a j ≡ 0) → (j : ℕ) → rank (line_at lines i) ≤ j → slice_index a j ≡ 0
 line_room m lines a i market form within clear j behind = clear j (λ some.
     let here = IsLineAt-from m lines i (form i within) in
     let last = IsLineAt-from m lines (i - 1) (form (i - 1) (omega arith)) in
-    let rises : rank (line_at lines (i - 1)) < rank (line_at lines i) = rank_rises (line_at lines (i - 1)) (line_at lines i) (here.above some) (few_places m market _ _ last.offer) in
+    let risen : rank (line_at lines (i - 1)) < rank (line_at lines i) = rises (line_at lines (i - 1)) (line_at lines i) (here.above some) (few_places m market _ _ last.offer) in
     omega arith)
-  where
-    rank_rises : (x y : MapLine) → is_before x y ≡ true → x.place < 16 → rank x < rank y
-    rank_rises x y h small = elim (or_cases _ _ h) [
-      | inl l ↦ omega (arith, ltb-true x.group.0 y.group.0 l)
-      | inr e ↦ let p = and_parts _ _ e in omega (arith, eqb-true x.group.0 y.group.0 p.0, ltb-true x.place y.place p.1)
-    ]
 
 pub line_put : (m : Market) (lines : List MapLine) (a b : List ℕ) (i : ℕ) → IsMarket m → AreLines m lines → i < length lines → AreAmounts m a → ((j : ℕ) → rank (line_at lines i) ≤ j → slice_index a j ≡ 0) → lines_in a ≡ take i lines
     → b ≡ slice_set a (rank (line_at lines i)) (slice_index a (rank (line_at lines i)) + (line_at lines i).amount) → (rank (line_at lines i) < length a) → lines_in b ≡ take (i + 1) lines

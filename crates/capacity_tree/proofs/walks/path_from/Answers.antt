@@ -1,10 +1,9 @@
-use Rattle.std.proofs.Common.{◌≡◌, ◌+◌, ◌<◌, length, sym, ◌∙◌, subst, arith, rules}
+use Rattle.std.proofs.Common.{◌+◌, ◌<◌, length, sym, ◌∙◌, subst, arith, rules}
 use Rattle.std.specs.Option.{IfSome}
 use Rattle.map_model.specs.Market.{Market}
-use Rattle.map_model.proofs.Paths.{parent_there}
 use Rattle.capacity_tree.specs.Loads.{trees_of}
-use Rattle.capacity_tree.proofs.Trees.{length-trees, parent_of-trees, there_next}
-use Rattle.capacity_tree.proofs.Turns.{path_turn, path_over, path_done}
+use Rattle.capacity_tree.proofs.Trees.{parent_of-trees, there_next}
+use Rattle.map_model.proofs.Turns.{path_turn, path_over, path_done}
 use Rattle.capacity_tree.proofs.walks.path_from.Goals as goal
 use Rattle.capacity_tree.proofs.walks.path_from.Goals.{in-Some, in_default}
 

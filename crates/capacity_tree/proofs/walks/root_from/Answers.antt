@@ -1,4 +1,4 @@
-use Rattle.std.proofs.Common.{◌≡◌, ◌<◌, length, sym, ◌∙◌, subst, arith, rules}
+use Rattle.std.proofs.Common.{◌<◌, length, ◌∙◌, subst, rules}
 use Rattle.std.specs.Option.{IfSome}
 use Rattle.map_model.specs.Market.{Market}
 use Rattle.capacity_tree.specs.Loads.{trees_of}

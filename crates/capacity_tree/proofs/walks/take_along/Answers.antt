@@ -1,9 +1,7 @@
-use Rattle.std.proofs.Common.{◌≡◌, ℕ, ◌+◌, ◌-◌, ◌<◌, ◌^◌, length, slice_index, cond, Bool, true, false, sym, ap, ◌∙◌, subst, arith, rules}
+use Rattle.std.proofs.Common.{◌+◌, ◌<◌, length, slice_index, sym, ap, ◌∙◌, subst, arith, rules}
 use Rattle.std.specs.Option.{IfSome}
 use Rattle.map_model.specs.Market.{Market}
-use Rattle.map_model.specs.Allocation.{is_under}
-use Rattle.map_model.proofs.Paths.{touched, touched_here, touched_done, walk_there, walk_done, walk_over, walk_start}
-use Rattle.map_model.proofs.Trees.{under_itself, walk_on}
+use Rattle.map_model.proofs.Paths.{touched_done, walk_there}
 use Rattle.capacity_tree.specs.Loads.{trees_of}
 use Rattle.capacity_tree.proofs.Trees.{length-trees, parent_of-trees}
 use Rattle.capacity_tree.proofs.Turns.{taken_here, taken_turn, taken_over, taken_start}

@@ -1,4 +1,4 @@
-use Rattle.std.proofs.Common.{◌≡◌, true, refl, sym, ◌∙◌}
+use Rattle.std.proofs.Common.{sym, ◌∙◌}
 use Rattle.std.proofs.lemmas.Bool.{false≢true}
 use Rattle.map_model.proofs.RowTests.{distinct_more, not_distinct}
 use Rattle.map_model.proofs.validity.are_distinct.Goals as goal

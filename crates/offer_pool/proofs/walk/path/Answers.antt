@@ -2,7 +2,7 @@ use Rattle.std.proofs.Common.{◌+◌, ◌<◌, length, sym, ◌∙◌, subst, a
 use Rattle.std.specs.Option.{IfSome}
 use Rattle.map_model.specs.Market.{Market}
 use Rattle.map_model.proofs.Paths.{walk_there}
-use Rattle.offer_pool.proofs.Turns.{path_turn, path_over, path_done}
+use Rattle.map_model.proofs.Turns.{path_turn, path_over, path_done}
 use Rattle.offer_pool.proofs.walk.path.Goals as goal
 use Rattle.offer_pool.proofs.walk.path.Goals.{in-Some, in_default}
 

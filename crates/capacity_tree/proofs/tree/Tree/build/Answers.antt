@@ -1,6 +1,5 @@
-use Rattle.std.proofs.Common.{◌≡◌, ◌<◌, length, arith}
+use Rattle.std.proofs.Common.{arith}
 use Rattle.std.proofs.lemmas.Grind.{common_steps}
-use Rattle.map_model.specs.Market.{Market}
 use Rattle.capacity_tree.specs.Loads.{AreTreesOf, trees_of}
 use Rattle.capacity_tree.proofs.Trees.{AreTreesOf-made, IsMarket-trees}
 use Rattle.capacity_tree.proofs.tree.Tree.build.Goals as goal

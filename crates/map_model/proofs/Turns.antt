@@ -1,5 +1,5 @@
--- The turns of a walk up a path.
-use Rattle.std.proofs.Common.{◌≡◌, ℕ, ◌+◌, ◌-◌, ◌<◌, ◌≤◌, List, [], ◌∷◌, ◌++◌, Option, None, Some, map, append_assoc, append-nil, sym, ap, ◌∙◌, arith}
+-- The turns of a walk up a path that gathers the nodes it meets, and the last of some numbers.
+use Rattle.std.proofs.Common.{◌≡◌, ℕ, suc, ◌+◌, ◌-◌, ◌<◌, ◌≤◌, List, [], ◌∷◌, ◌++◌, length, Option, None, Some, map, slice_index, append_assoc, append-nil, sym, ap, ◌∙◌, arith}
 use Rattle.std.proofs.lemmas.List.{map-append}
 use Rattle.map_model.specs.declared.instance.NodeId.{NodeId}
 use Rattle.map_model.specs.Market.{Market, climb, parent_of}
@@ -22,3 +22,15 @@ path_over m i j at at' before all is stays so_far =
 pub path_done : (m : Market) (i : ℕ) (at : Option NodeId) (before all : List ℕ) → 8 ≤ i → before ++ climb (8 - i) m at ≡ all → before ≡ all
 unfolding climb
 path_done m i at before all h so_far = let e : 8 - i ≡ 0 = omega arith in sym (append-nil before) ∙ ap (λ s. before ++ climb s m at) (sym e) ∙ so_far
+
+-- the last of some numbers
+unfoldable pub last_of : List ℕ → ℕ
+last_of xs = slice_index xs (length xs - 1)
+
+-- an element more in front leaves the last one
+pub last_of-cons : (x y : ℕ) (ys : List ℕ) → last_of (x ∷ y ∷ ys) ≡ last_of (y ∷ ys)
+unfolding last_of
+last_of-cons x y ys =
+    let a : length (x ∷ y ∷ ys) - 1 ≡ suc (length ys) = omega arith in
+    let b : length (y ∷ ys) - 1 ≡ length ys = omega arith in
+    ap (slice_index (x ∷ y ∷ ys)) a ∙ ap (slice_index (y ∷ ys)) (sym b)
