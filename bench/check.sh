@@ -6,14 +6,7 @@
 #
 #   bench/check.sh            all sizes
 #   bench/check.sh 1024       one number of groups
-set -euo pipefail
-here=$(cd "$(dirname "$0")" && pwd)
-top=$(dirname "$here")
-work=$(mktemp -d)
-trap 'rm -rf "$work"' EXIT
-
-(cd "$top/crates/glb_program" && rt run -- check "$top/examples/flat.toml" "$top/examples/flat.map") >"$work/log" 2>&1
-glb=$top/crates/glb_program/out/glb_program
+source "$(dirname "$0")/set-up.sh"
 
 # the bare reading, as a program of its own outside the repository
 mkdir -p "$work/repository/crates/bare_toml/src"
@@ -60,7 +53,7 @@ touch "$work/nothing"
 measure() {
     python3 "$here/generate.py" "$1" "$2" "$3" "$4" "$work/topology" "$work/map" >"$work/proposals"
     printf '%6d groups, %4d pools, %d levels, %3d %%: topology %3d MB, map %3d MB; ' \
-        "$1" "$2" "$3" "$4" $(($(stat -c %s "$work/topology") >> 20)) $(($(stat -c %s "$work/map") >> 20))
+        "$1" "$2" "$3" "$4" "$(megabytes "$work/topology")" "$(megabytes "$work/map")"
     printf 'bare TOML %s; ' "$(python3 "$here/measure.py" 3 0 "$bare" "$work/topology")"
     # a map of no octets is refused, once the topology is read
     printf 'reading %s; ' "$(python3 "$here/measure.py" 3 2 "$glb" check "$work/topology" "$work/nothing")"

@@ -5,6 +5,7 @@ Each datagram that a tool sends to a port of 127.0.0.1 is handed, as hexadecimal
 `glb answer` over examples/tree.toml and examples/tree.map, as if it came from 198.51.100.7; the octets that
 glb writes go back. Needs dig, kdig, drill and python3-dnspython:
 
+    apt-get update
     apt-get install bind9-dnsutils knot-dnsutils ldnsutils python3-dnspython
     bench/interop.py
 
