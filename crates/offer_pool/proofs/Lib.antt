@@ -1,5 +1,6 @@
 pub mod Turns
 pub mod Queues
+pub mod Firsts
 pub mod Refiled
 pub mod Tables
 pub mod Worst
