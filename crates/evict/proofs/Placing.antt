@@ -1,14 +1,18 @@
-use Rattle.std.proofs.Common.{◌≡◌, ℕ, ◌+◌, ◌<◌, ◌≤◌, ◌^◌, Bool, true, false, if◌then◌else◌, List, [], length, None, All, slice_index, refl, sym, ap, ◌∙◌, subst, arith}
+use Rattle.std.proofs.Common.{◌≡◌, ℕ, ◌+◌, ◌<◌, ◌≤◌, ◌^◌, Bool, true, false, if◌then◌else◌, is_some, List, [], ◌∷◌, ◌++◌, length, None, All, slice_index, refl, sym, ap, ◌∙◌, subst, arith}
+use Rattle.std.proofs.lemmas.List.Elements.{All-cons, All-nil}
+use Rattle.std.proofs.lemmas.List.Sums.{sum_by-cons}
 use Rattle.capacity_tree.specs.Loads.{AddsUnits, AreTreesOf, Loads}
 use Rattle.map_model.specs.declared.lines.MapLine.{MapLine}
-use Rattle.map_model.specs.Market.{Market, IsMarket, IsSameShape, capacity_of, pool_of}
-use Rattle.map_model.specs.Allocation.{AreLines, amount_at, counts_at, is_under, load, units_of}
-use Rattle.map_model.specs.Holding.{Puts}
+use Rattle.map_model.specs.Market.{Market, IsMarket, IsSameShape, capacity_of, key_of, pool_of}
+use Rattle.map_model.specs.Allocation.{AreLines, amount_at, counts_at, is_under, load, refuser_of, units_of}
+use Rattle.map_model.specs.Holding.{IsSaturated, Puts}
+use Rattle.map_model.proofs.Trees.{under_itself}
 use Rattle.offer_pool.specs.Holdings.{Holdings}
 use Rattle.evict.specs.declared.freed.Eviction.{Eviction}
 use Rattle.evict.specs.Evictions.{IsEviction, freed_units}
-use Rattle.evict.specs.Putting.{AgreesWith, IsPlacing, IsRelieving, IsTurnedAway, Origin}
+use Rattle.evict.specs.Putting.{AgreesWith, IsPlacing, IsRelieved, IsRelieving, IsTurnedAway, Origin}
 use Rattle.evict.proofs.Putting.{IsPutting-start}
+use Rattle.evict.proofs.Refusals.{refused_by, saturated_from_full}
 use Rattle.evict.proofs.Relieving.{pool_there}
 use Rattle.evict.proofs.Shaped.{AreLines-shape, is_under-trees}
 
@@ -55,3 +59,25 @@ relieving_start m origin g k units held held' tree tree' freed p same puts form 
       turned = λ i d l. absurd (omega arith);
     } in
     subst (λ (o : Origin). IsRelieving m o g k (pool_of m g k) units held' tree' freed) (sym p.start) (subst (λ (xs : List Eviction). IsRelieving m start g k (pool_of m g k) units held' tree' xs) (sym p.nothing) done)
+
+-- units of an offer that some node refuses are given up as they come
+pub turned_away : (m : Market) (origin : Origin) (g k units : ℕ) (held : Holdings) (tree : Loads) (freed freed' : List Eviction) (e : Eviction) → IsPlacing m origin g k units held tree freed → 0 < units → is_some (refuser_of m held.lines g k) ≡ true
+    → e ≡ record { offer = record { group = record { 0 = g }; place = k }; units = units } → freed' ≡ freed ++ e ∷ [] → IsRelieved m origin g k held tree freed'
+turned_away m origin g k units held tree freed freed' e p some refused itself listed =
+    let start : Origin = record { lines = held.lines; units = units } in
+    let eviction : Eviction = record { offer = record { group = record { 0 = g }; place = k }; units = units } in
+    let by = refused_by m held.lines g k refused in
+    let away : Eviction → Type 0 = λ x. (o : ℕ) × (counts_at m o x.offer.group.0 x.offer.place ≡ true) × IsSaturated m held.lines o (key_of m x.offer.group.0 x.offer.place) in
+    let done : IsRelieved m start g k held tree (eviction ∷ []) = record {
+      accounted = record {
+        shape = p.shape;
+        form = p.form;
+        agrees = p.agrees;
+        accounts = λ test. let one : freed_units test (eviction ∷ []) ≡ (if test g k then units else 0) + freed_units test [] = sum_by-cons (λ x. if test x.offer.group.0 x.offer.place then x.units else 0) eviction [] in let none : freed_units test [] ≡ 0 = refl in omega arith;
+        evictions = All-cons (λ x. IsEviction m x) eviction [] (record { offer = p.offer; some = some }) (All-nil (λ x. IsEviction m x));
+      };
+      settled = record { fits = p.fits; kept = λ n l key full. (n, under_itself m n, full) };
+      turned = All-cons away eviction [] (by.0, by.1, saturated_from_full m held.lines by.0 (key_of m g k) p.form by.2) (All-nil away);
+    } in
+    let is : freed' ≡ eviction ∷ [] = listed ∙ ap (λ xs. xs ++ e ∷ []) p.nothing ∙ ap (λ x. x ∷ []) itself in
+    subst (λ (o : Origin). IsRelieved m o g k held tree freed') (sym p.start) (subst (λ (xs : List Eviction). IsRelieved m start g k held tree xs) (sym is) done)

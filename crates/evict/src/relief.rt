@@ -1,11 +1,12 @@
 //! The evictions of one put, node by node up the path.
 
-ghost use Rattle.std.specs.Prelude.{◌≡◌, ◌<◌, ◌≤◌, [], IfOk, OnOk};
-ghost use Rattle.map_model.specs.Market.{capacity_of, pool_of};
-ghost use Rattle.map_model.specs.Allocation.{load};
-ghost use Rattle.evict.specs.Putting.{IsPlacing, IsRelieved, IsRelieving, Origin};
+ghost use Rattle.std.specs.Prelude.{◌≡◌, ◌<◌, ◌≤◌, [], IfOk, OnOk, is_some};
+ghost use Rattle.map_model.specs.Market.{IsMarket, IsSameShape, capacity_of, pool_of};
+ghost use Rattle.map_model.specs.Allocation.{IsOffer, load, refuser_of};
+ghost use Rattle.evict.specs.Putting.{AgreesWith, IsPlacing, IsRelieved, IsRelieving, Origin};
 
 use crate::freed::Freed;
+use crate::refuser::refuser;
 use capacity_tree::Tree;
 use map_model::{Instance, NodeId, Offer, Units};
 use no_memory::NoMemory;
@@ -67,7 +68,21 @@ pub fn relieve_path(
     Ok(())
 }
 
+/// Whether some node of an offer's path refuses it as things stand.
+fn is_refused(instance: &Instance, held: &Held, tree: &Tree, offer: Offer) -> bool
+    requires market { IsMarket instance.now }
+    requires offer { IsOffer instance.now offer.group.0 offer.place }
+    requires shape { IsSameShape held.now.market instance.now }
+    requires agrees { AgreesWith instance.now held.now.lines tree.now }
+    ensures { result ≡ is_some (refuser_of instance.now held.now.lines offer.group.0 offer.place) }
+{
+    refuser(instance, held, tree, offer).is_some()
+}
+
 /// Holds units of an offer, and brings each node of its path within its capacity.
+///
+/// Where a node of the path refuses the offer already, nothing under it is ranked lower, so each
+/// eviction up to there would take the units that came: they are given up at once.
 pub fn place(
     instance: &Instance,
     held: &mut Held,
@@ -81,6 +96,9 @@ pub fn place(
     ensures relieved { OnOk result (IsRelieved instance.now origin offer.group.0 offer.place held.new tree.new freed.new) }
     ensures market { OnOk result (held.new.market ≡ held.old.market) }
 {
+    if units > 0 && is_refused(instance, held, tree, offer) {
+        return freed.push(offer, units);
+    }
     held.put(offer, units)?;
     tree.add(instance.pool_at(offer), units);
     relieve_path(instance, held, tree, offer, units, freed)

@@ -1,4 +1,5 @@
 pub mod Queues
+pub mod Firsts
 pub mod Refiled
 pub mod Tables
 pub mod Worst

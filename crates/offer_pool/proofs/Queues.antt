@@ -1,5 +1,5 @@
 -- What stands in queues as seats come and go.
-use Rattle.std.proofs.Common.{◌≡◌, ◌≢◌, ℕ, zero, suc, ◌+◌, ◌<◌, ◌==◌, Bool, true, false, ◌||◌, List, [], ◌∷◌, length, take, drop, Contains, slice_index_or, slice_set, get_or-set_same, get_or-set_other, Some, slice_get, refl, sym, ap, ◌∙◌, subst, arith, ◌⊎◌, inl, inr}
+use Rattle.std.proofs.Common.{◌≡◌, ◌≢◌, ℕ, zero, suc, ◌+◌, ◌<◌, ◌==◌, Bool, true, false, ◌||◌, List, [], ◌∷◌, length, take, drop, Contains, slice_index_or, slice_set, get_or-set_same, get_or-set_other, None, Some, slice_get, refl, sym, ap, ◌∙◌, subst, arith, ◌⊎◌, inl, inr}
 use Rattle.std.specs.List.{list_any}
 use Rattle.std.specs.List.Sorted.{IsPermutation}
 use Rattle.std.proofs.lemmas.Bool.{cases_eq, eq-eqb, eqb-true, or_cases}
@@ -43,6 +43,11 @@ came_cases xs ys w s p h = cons_cases xs w s (Contains-permutation ys (w ∷ xs)
 -- the first one is there
 pub Contains-first : {X : Type 0} (xs : List X) (x : X) → slice_get xs 0 ≡ Some x → Contains xs x
 Contains-first xs x is = (0, slice_get_within xs 0 x is, get_or_from_slice_get xs 0 x x is)
+
+-- where none is first, none is there
+pub Contains-none : {X : Type 0} (xs : List X) (x : X) → slice_get xs 0 ≡ None → Contains xs x → ⊥
+Contains-none [] x e (k, l, f) = omega arith
+Contains-none (y ∷ xs) x e h = cc
 
 -- what holds at one place and at all others holds everywhere
 pub everywhere : (P : ℕ → Type 0) (at : ℕ) → P at → ((n : ℕ) → n ≢ at → P n) → (n : ℕ) → P n

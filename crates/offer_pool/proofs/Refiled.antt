@@ -1,14 +1,14 @@
 -- A table and its queues stay as they should be, as units come and go.
 use Rattle.std.proofs.Common.{◌≡◌, ◌≢◌, ℕ, ◌/◌, ◌%◌, ◌<◌, ◌==◌, Bool, true, false, ◌||◌, List, [], ◌∷◌, length, map, Contains, slice_index, slice_set, get_or-set_same, get_or-set_other, length-set, Option, None, Some, IfSome, slice_get, refl, sym, ap, ◌∙◌, subst, arith, ◌⊎◌, inl, inr}
 use Rattle.std.specs.List.{list_any}
-use Rattle.std.specs.Prelude.{Result, Ok, Err, OnOk, is_ok}
+use Rattle.std.specs.Prelude.{Result, Ok, Err, OnOk, is_err}
 use Rattle.std.proofs.lemmas.Bool.{cases_eq}
 use Rattle.map_model.specs.declared.instance.NodeId.{NodeId}
 use Rattle.map_model.specs.Market.{IsGroup, IsMarket, Market, group_at, path, pool_of}
 use Rattle.map_model.specs.Allocation.{IsOffer, counts_at, is_under}
 use Rattle.map_model.proofs.MapForm.{few_places}
 use Rattle.offer_pool.specs.declared.queue.Seat.{Seat}
-use Rattle.offer_pool.specs.Seats.{IsSeatUnder, seat_at}
+use Rattle.offer_pool.specs.Seats.{IsSeatUnder, KeepsFirst, seat_at}
 use Rattle.offer_pool.specs.Table.{amount_in, place_at}
 use Rattle.offer_pool.specs.Filed.{AreAmounts, AreFiled, IsHeld, IsLive, queue_at}
 use Rattle.offer_pool.proofs.Queues.{Contains-first, is_among}
@@ -150,6 +150,28 @@ table-set m a b market table g k v offer is = subst (AreAmounts m) (sym is) (amo
 pub seat_place : (m : Market) (amounts : List ℕ) (n : ℕ) (s : Seat) → IsMarket m → AreAmounts m amounts → IsSeatUnder m n s → place_at s.group.0 s.place < length amounts
 seat_place m amounts n s market table seat = place_there m amounts market table s.group.0 s.place seat.offer
 
-pub on_ok : {T E : Type 0} (r : Result T E) (P : Type 0) → is_ok r ≡ true → OnOk r P → P
-on_ok (Ok x) P h p = p
-on_ok (Err e) P h p = cc
+pub on_not_err : {T E : Type 0} (r : Result T E) (P : Type 0) → is_err r ≡ false → OnOk r P → P
+on_not_err (Ok x) P h p = p
+on_not_err (Err e) P h p = cc
+
+-- a first seat that is live stays so where its offer, or another, holds something now
+live_still : (m : Market) → IsMarket m → (a : List ℕ) → AreAmounts m a → (g k v : ℕ) → IsOffer m g k → 0 < v → (q : List Seat) → IsLive a q → IsLive (slice_set a (place_at g k) v) q
+live_still m market a table g k v offer some q live = go (slice_get q 0) live
+  where
+    at : (s : Seat) → (place_at s.group.0 s.place ≡ place_at g k) ⊎ (place_at s.group.0 s.place ≢ place_at g k) → 0 < amount_in a s.group.0 s.place → 0 < amount_in (slice_set a (place_at g k) v) s.group.0 s.place
+    at s (inl e) held =
+        let same : amount_in (slice_set a (place_at g k) v) s.group.0 s.place ≡ amount_in (slice_set a (place_at g k) v) g k = ap (λ (i : ℕ). slice_index (slice_set a (place_at g k) v) i) e in
+        omega (arith, same, amount-set a g k v (place_there m a market table g k offer), some)
+    at s (inr ne) held = omega (arith, amount-set_other a (place_at g k) v s.group.0 s.place ne, held)
+
+    go : (o : Option Seat) → IfSome o (λ s. 0 < amount_in a s.group.0 s.place) → IfSome o (λ s. 0 < amount_in (slice_set a (place_at g k) v) s.group.0 s.place)
+    go None h = tt
+    go (Some s) h = at s (cases_eq (place_at s.group.0 s.place) (place_at g k)) h
+
+-- a queue to which the seat of an offer came that holds something now
+pub live_came : (m : Market) → IsMarket m → (a b : List ℕ) → AreAmounts m a → (g k v : ℕ) → IsOffer m g k → 0 < v → b ≡ slice_set a (place_at g k) v → (old new : List Seat) → KeepsFirst (seat_at m g k) old new → IsLive a old → IsLive b new
+live_came m market a b table g k v offer some is old new (inl e) live =
+    let here : amount_in b g k ≡ v = ap (λ (l : List ℕ). amount_in l g k) is ∙ amount-set a g k v (place_there m a market table g k offer) in
+    subst (λ (o : Option Seat). IfSome o (λ s. 0 < amount_in b s.group.0 s.place)) (sym e) (omega (arith, here, some))
+live_came m market a b table g k v offer some is old new (inr e) live =
+    subst (λ (o : Option Seat). IfSome o (λ s. 0 < amount_in b s.group.0 s.place)) (sym e) (subst (λ (l : List ℕ). IsLive l old) (sym is) (live_still m market a table g k v offer some old live))

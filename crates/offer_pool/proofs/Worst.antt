@@ -12,7 +12,7 @@ use Rattle.offer_pool.specs.declared.queue.Seat.{Seat}
 use Rattle.offer_pool.specs.Seats.{IsSeatUnder, seat_at, seat_le}
 use Rattle.offer_pool.specs.Table.{amount_in, lines_in, place_at}
 use Rattle.offer_pool.specs.Filed.{IsHeld, queue_at}
-use Rattle.offer_pool.proofs.Queues.{Contains-first}
+use Rattle.offer_pool.proofs.Queues.{Contains-first, Contains-none}
 use Rattle.offer_pool.proofs.Refiled.{place_there}
 use Rattle.offer_pool.proofs.Tables.{amount_is, units_none}
 
@@ -49,12 +49,8 @@ bool_cases false = inr refl
 pub worst_none : (m : Market) (amounts : List ℕ) (queues : List (List Seat)) → IsHeld m amounts queues → (n : ℕ) → slice_get (queue_at queues n) 0 ≡ None → load m (lines_in amounts) n ≡ 0
 worst_none m amounts queues held n none = units_none (counts_at m n) amounts (λ i within some. out i some (bool_cases (counts_at m n (i / 16) (i % 16))))
   where
-    empty : (q : List Seat) (s : Seat) → slice_get q 0 ≡ None → Contains q s → ⊥
-    empty [] s e (k, l, f) = omega arith
-    empty (t ∷ q) s e h = cc
-
     out : (i : ℕ) → 0 < slice_index amounts i → (counts_at m n (i / 16) (i % 16) ≡ true) ⊎ (counts_at m n (i / 16) (i % 16) ≡ false) → counts_at m n (i / 16) (i % 16) ≡ false
-    out i some (inl under) = absurd (empty (queue_at queues n) (seat_at m (i / 16) (i % 16)) none (filed_at m amounts queues held n i some under))
+    out i some (inl under) = absurd (Contains-none (queue_at queues n) (seat_at m (i / 16) (i % 16)) none (filed_at m amounts queues held n i some under))
     out i some (inr outside) = outside
 
 -- the first seat is that of the worst offer

@@ -1,5 +1,5 @@
 -- Inside this crate alone: the seats of the heaps, one for an offer at a node, and their order.
-use Rattle.std.specs.Prelude.{◌≡◌, ℕ, Bool, true}
+use Rattle.std.specs.Prelude.{◌≡◌, ◌⊎◌, ℕ, Bool, true, List, Some, slice_get}
 use Rattle.std.specs.declared.cmp.Ordering.{Ordering}
 use Rattle.std.specs.Ordering.{nat_cmp, ordering_then, is_le}
 use Rattle.map_model.specs.Market.{Market, choice_at}
@@ -13,6 +13,10 @@ seat_cmp a b = ordering_then (nat_cmp a.score b.score) (ordering_then (nat_cmp a
 -- one seat is not behind another
 abbrev pub seat_le : Seat → Seat → Bool
 seat_le a b = is_le (seat_cmp a b)
+
+-- the first seat is the one that came, or the one that was first
+abbrev pub KeepsFirst : Seat → List Seat → List Seat → Type 0
+KeepsFirst seat old new = (slice_get new 0 ≡ Some seat) ⊎ (slice_get new 0 ≡ slice_get old 0)
 
 -- the seat of an offer
 abbrev pub seat_at : Market → ℕ → ℕ → Seat

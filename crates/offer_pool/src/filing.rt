@@ -2,6 +2,7 @@
 ghost use Rattle.std.specs.Prelude.{◌≡◌, ◌≢◌, ◌==◌, ℕ, ◌+◌, ◌*◌, ◌<◌, ◌⊎◌, true, false, [], length, Contains, IfOk, OnOk, slice_index_or};
 ghost use Rattle.std.specs.List.{list_any};
 ghost use Rattle.offer_pool.specs.declared.queue.Seat.{Seat};
+ghost use Rattle.offer_pool.specs.Seats.{KeepsFirst};
 ghost use Rattle.offer_pool.specs.Table.{amount_in, place_at};
 ghost use Rattle.offer_pool.specs.Filed.{IsLive, queue_at};
 
@@ -77,6 +78,7 @@ fn push_at(queues: &mut [Queue], at: usize, seat: Seat) -> Result<(), NoMemory>
     ensures kept { (n : ℕ) (s : Seat) → Contains (queue_at queues.old n) s → Contains (queue_at queues.new n) s }
     ensures from { (n : ℕ) (s : Seat) → Contains (queue_at queues.new n) s → Contains (queue_at queues.old n) s ⊎ (s ≡ seat) }
     ensures filed { OnOk result (Contains (queue_at queues.new at) seat) }
+    ensures first { OnOk result (KeepsFirst seat (queue_at queues.old at) (queue_at queues.new at)) }
     ensures others { (n : ℕ) → n ≢ at → queue_at queues.new n ≡ queue_at queues.old n }
 {
     let queue = &mut queues[at];
@@ -90,6 +92,7 @@ pub fn push_all(queues: &mut [Queue], nodes: &[NodeId], seat: Seat) -> Result<()
     ensures kept { (n : ℕ) (s : Seat) → Contains (queue_at queues.old n) s → Contains (queue_at queues.new n) s }
     ensures from { (n : ℕ) (s : Seat) → Contains (queue_at queues.new n) s → Contains (queue_at queues.old n) s ⊎ (s ≡ seat) }
     ensures filed { OnOk result ((n : ℕ) → list_any (λ x. x.0 == n) nodes.now ≡ true → Contains (queue_at queues.new n) seat) }
+    ensures first { OnOk result ((n : ℕ) → KeepsFirst seat (queue_at queues.old n) (queue_at queues.new n)) }
     ensures others { (n : ℕ) → list_any (λ x. x.0 == n) nodes.now ≡ false → queue_at queues.new n ≡ queue_at queues.old n }
 {
     for node in nodes {

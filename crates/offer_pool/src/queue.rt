@@ -1,7 +1,7 @@
 //! Offers of which the worst is at hand.
 ghost use Rattle.std.specs.Prelude.{◌≡◌, ◌+◌, [], ◌∷◌, length, true, All, IsSome, IfSome, IfNone, OnOk, OnErr, slice_get};
 ghost use Rattle.std.specs.List.Sorted.{IsPermutation};
-ghost use Rattle.offer_pool.specs.Seats.{seat_le};
+ghost use Rattle.offer_pool.specs.Seats.{KeepsFirst, seat_le};
 
 use map_model::{GroupId, NodeId};
 use std::alloc::{AllocError, Global};
@@ -49,6 +49,7 @@ impl Queue {
     /// Adds a seat.
     pub fn push(&mut self, seat: Seat) -> Result<(), AllocError>
         ensures ok { OnOk result (IsPermutation (seat ∷ self.old) self.new) }
+        ensures first { OnOk result (KeepsFirst seat self.old self.new) }
         ensures err { OnErr result (self.new ≡ self.old) }
     {
         self.heap.push(seat)?;

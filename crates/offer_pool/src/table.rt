@@ -56,12 +56,12 @@ fn seat_units(
     ensures err { OnErr result (amounts.new ≡ amounts.old) }
 {
     let nodes = nodes_above(instance, offer);
-    let filed = push_all(queues, nodes.as_slice(), seat_of(instance, offer));
-    if filed.is_ok() {
-        amounts[place_at(offer.group, offer.place)] = units;
+    if push_all(queues, nodes.as_slice(), seat_of(instance, offer)).is_err() {
+        clean_all(queues, nodes.as_slice(), amounts);
+        return Err(NoMemory);
     }
-    clean_all(queues, nodes.as_slice(), amounts);
-    filed
+    amounts[place_at(offer.group, offer.place)] = units;
+    Ok(())
 }
 
 /// Adds units to an offer. Where memory is wanted the amounts stay.
@@ -125,8 +125,13 @@ pub fn take_units(
     ensures held { IsHeld instance.now amounts.new queues.new }
     ensures taken { amounts.new ≡ slice_set amounts.old (place_at offer.group.0 offer.place) (amount_in amounts.old offer.group.0 offer.place - units) }
 {
+    let at = place_at(offer.group, offer.place);
+    amounts[at] -= units as u32;
+    // While the offer holds something its seats are as live as before.
+    if amounts[at] > 0 {
+        return;
+    }
     let above = nodes_above(instance, offer);
-    amounts[place_at(offer.group, offer.place)] -= units as u32;
     clean_all(queues, above.as_slice(), amounts);
 }
 

@@ -9,7 +9,7 @@ use Rattle.offer_pool.proofs.table.take_units.Goals as goal
 pub clean_all-requires-clause-seats : goal.clean_all-requires-clause-seats
 clean_all-requires-clause-seats c = λ n s h.
     let there = seat_place c.args.instance.now c.args.amounts.now n s c.requires.held.market c.requires.held.table (c.requires.held.filing.seats n s h) in
-    omega (arith, there, length-set c.args.amounts.now c.place_at.result (slice_index c.args.amounts.now c.place_at.result - c.args.units))
+    omega (arith, there, length-set c.args.amounts.now c.place_at-at.result (slice_index c.args.amounts.now c.place_at-at.result - c.args.units))
 
 pub returns-clause-held : goal.returns-clause-held
 returns-clause-held c =
@@ -17,12 +17,12 @@ returns-clause-held c =
     let g = c.args.offer.group.0 in
     let k = c.args.offer.place in
     let a = c.args.amounts.now in
-    let v = slice_index a c.place_at.result - c.args.units in
-    let b = slice_set a c.place_at.result v in
-    let is : b ≡ slice_set a (place_at g k) v = ap (λ (p : ℕ). slice_set a p v) c.place_at.ensures in
+    let v = slice_index a c.place_at-at.result - c.args.units in
+    let b = slice_set a c.place_at-at.result v in
+    let is : b ≡ slice_set a (place_at g k) v = ap (λ (p : ℕ). slice_set a p v) c.place_at-at.ensures in
     let nodes = c.nodes_above-above.result.items in
     let same = c.as_slice.ensures.value in
-    let was : slice_index a c.place_at.result ≡ amount_in a g k = ap (λ (p : ℕ). slice_index a p) c.place_at.ensures in
+    let was : slice_index a c.place_at-at.result ≡ amount_in a g k = ap (λ (p : ℕ). slice_index a p) c.place_at-at.ensures in
     held_again m a b c.args.queues.now c.args.queues.now c.clean_all.new.queues g k nodes c.requires.held (table-set m a b c.requires.held.market c.requires.held.table g k v c.requires.offer is) (record {
       offer = c.requires.offer;
       among = c.nodes_above-above.ensures.among;
