@@ -1,34 +1,20 @@
 -- A group's amounts, laid end to end.
-use Rattle.std.proofs.Common.{◌≡◌, ℕ, zero, suc, ◌+◌, ◌-◌, ◌<◌, ◌≤◌, ◌==◌, ◌&&◌, Bool, true, false, nat_lt, cond, List, [], ◌∷◌, length, take, refl, sym, ap, subst, ◌∙◌, arith}
-use Rattle.std.specs.Prelude.{map, sum, if◌then◌else◌, Option, None, Some, IfSome}
-use Rattle.std.specs.List.{range_with_len}
-use Rattle.std.proofs.lemmas.Bool.Decides.{nat_tests}
-use Rattle.std.proofs.lemmas.List.FromFn.{sum_by-map-range_with_len_more, take-map-range_with_len, length-map-range_with_len}
-use Rattle.std.proofs.lemmas.List.Sums.{sum_by-cons}
+use Rattle.std.proofs.Common.{◌≡◌, ℕ, ◌+◌, ◌-◌, ◌<◌, ◌≤◌, Bool, true, false, List, length, get_or, take, sym, ap, subst, ◌∙◌, arith, inl, inr}
+use Rattle.std.specs.Prelude.{map, sum, find, Option, None, Some, IfSome, IsSome}
+use Rattle.std.specs.List.{range_with_len, slice_get}
+use Rattle.std.proofs.lemmas.Bool.{and_from, and_right, le-leb, lt-ltb, le-ltb, cases_lt}
+use Rattle.std.proofs.lemmas.List.{take-take}
+use Rattle.std.proofs.lemmas.List.Folds.{find_at}
+use Rattle.std.proofs.lemmas.List.FromFn.{take-map-range_with_len, length-map-range_with_len, get_or-range_with_len, length-range_with_len}
+use Rattle.std.proofs.lemmas.List.Sums.{sum_by-take-le, position_or_len_is}
+use Rattle.std.proofs.lemmas.Option.{slice_get-get_or, slice_get_past}
 use Rattle.map_model.specs.declared.lines.MapLine.{MapLine}
 use Rattle.map_model.specs.Market.{choices_of}
 use Rattle.map_model.specs.Allocation.{amount_at, first, placed}
 use Rattle.map_model.proofs.Units.{first_below, first_is, first_more}
+use Rattle.published_map.proofs.Totals.{added}
 use Rattle.published_map.specs.Version.{Version, amounts_of}
-use Rattle.answer_core.specs.Pick.{IsPicked, slot_of}
-
-none_below : (lines : List MapLine) (g : ℕ) → first_below lines g 0 ≡ 0
-none_below [] g = refl
-none_below (l ∷ ls) g = omega (arith, sum_by-cons (λ l. if (l.group.0 == g) && nat_lt l.place 0 then l.amount else 0) l ls, none_below ls g, nothing (l.group.0 == g) l.amount)
-  where
-    nothing : (b : Bool) (n : ℕ) → cond (b && nat_lt l.place 0) n 0 ≡ 0
-    nothing true n = grind (arith, nat_tests)
-    nothing false n = refl
-
-one_more : (lines : List MapLine) (g n : ℕ) → sum (map (amount_at lines g) (range_with_len 0 n)) ≡ first_below lines g n → sum (map (amount_at lines g) (range_with_len 0 (n + 1))) ≡ first_below lines g (n + 1)
-one_more lines g n so_far = omega (arith, sum_by-map-range_with_len_more (λ x. x) (amount_at lines g) 0 n n (omega arith), so_far, first_is lines g n, first_more lines g n)
-
--- the amounts at the first places add up
-added : (lines : List MapLine) (g n : ℕ) → sum (map (amount_at lines g) (range_with_len 0 n)) ≡ first_below lines g n
-added lines g zero = sym (none_below lines g)
-added lines g (suc n) =
-    let e : n + 1 ≡ suc n = omega arith in
-    subst (λ (k : ℕ). sum (map (amount_at lines g) (range_with_len 0 k)) ≡ first_below lines g k) e (one_more lines g n (added lines g n))
+use Rattle.answer_core.specs.Pick.{IsPicked, falls_on, pick_of, slot_of}
 
 -- where a place's interval begins, and where it ends
 pub begins : (lines : List MapLine) (g n k : ℕ) → k < n → sum (take k (map (amount_at lines g) (range_with_len 0 n))) ≡ first lines g k - amount_at lines g k
@@ -38,6 +24,27 @@ begins lines g n k lt =
 
 pub ends : (lines : List MapLine) (g n k : ℕ) → k < n → sum (take (k + 1) (map (amount_at lines g) (range_with_len 0 n))) ≡ first lines g k
 ends lines g n k lt = ap sum (take-map-range_with_len (amount_at lines g) 0 n (k + 1) (omega arith)) ∙ added lines g (k + 1) ∙ sym (first_is lines g k)
+
+-- the first of the numbers below n that passes is found
+found_first : (test : ℕ → Bool) (n k : ℕ) → k < n → ((j : ℕ) → j < k → test j ≡ false) → test k ≡ true → find test (range_with_len 0 n) ≡ Some k
+found_first test n k lt before here =
+    let numbers : List ℕ = range_with_len 0 n in
+    let size : length numbers ≡ n = length-range_with_len 0 n in
+    let at : (j : ℕ) → j < n → get_or numbers j 0 ≡ j = λ j l. omega (arith, get_or-range_with_len 0 n j 0 l) in
+    let place = position_or_len_is test numbers k 0 (omega arith) (λ j l. subst (λ (m : ℕ). test m ≡ false) (sym (at j (omega arith))) (before j l)) (λ l. subst (λ (m : ℕ). test m ≡ true) (sym (at k lt)) here) in
+    find_at test numbers ∙ ap (slice_get numbers) place ∙ slice_get-get_or numbers k 0 (omega arith) ∙ ap (λ (m : ℕ). Some m) (at k lt)
+
+-- none is where none passes
+found_none : (test : ℕ → Bool) (n : ℕ) → ((j : ℕ) → j < n → test j ≡ false) → find test (range_with_len 0 n) ≡ None
+found_none test n each =
+    let numbers : List ℕ = range_with_len 0 n in
+    let size : length numbers ≡ n = length-range_with_len 0 n in
+    let place = position_or_len_is test numbers n 0 (omega arith) (λ j l. subst (λ (m : ℕ). test m ≡ false) (sym (omega (arith, get_or-range_with_len 0 n j 0 l))) (each j l)) (λ l. absurd (omega arith)) in
+    find_at test numbers ∙ ap (slice_get numbers) place ∙ slice_get_past numbers n (omega arith)
+
+-- the sum of fewer amounts is not above that of more
+sum_upto : (amounts : List ℕ) (i k : ℕ) → i ≤ k → sum (take i amounts) ≤ sum (take k amounts)
+sum_upto amounts i k le = subst (λ (l : List ℕ). sum l ≤ sum (take k amounts)) (take-take i k amounts le) (sum_by-take-le (λ x. x) (take k amounts) i)
 
 -- the place whose interval holds the slot is the one that is picked
 is_picked : (v : Version) (g draw k slot : ℕ) (amounts : List ℕ) → g < length v.market.groups → amounts ≡ amounts_of v g → slot ≡ slot_of draw (placed v.lines g)
@@ -53,3 +60,27 @@ pub picked : (v : Version) (g draw slot : ℕ) (amounts : List ℕ) (found : Opt
     → IfSome found (λ k. k < length amounts) → IfSome found (λ k. sum (take k amounts) ≤ slot) → IfSome found (λ k. slot < sum (take (k + 1) amounts)) → IfSome found (IsPicked v g draw)
 picked v g draw slot amounts None there items is lt from to = tt
 picked v g draw slot amounts (Some k) there items is lt from to = is_picked v g draw k slot amounts there items is lt from to
+
+-- a slot that is not before the first amounts falls on none of their places
+past : (v : Version) (g slot i j : ℕ) → j < i → i ≤ length (choices_of v.market g) → sum (take i (amounts_of v g)) ≤ slot → falls_on v g slot j ≡ false
+past v g slot i j lt within le =
+    let end : sum (take (j + 1) (amounts_of v g)) ≡ first v.lines g j = ends v.lines g (length (choices_of v.market g)) j (omega arith) in
+    let upto : sum (take (j + 1) (amounts_of v g)) ≤ sum (take i (amounts_of v g)) = sum_upto (amounts_of v g) (j + 1) i (omega arith) in
+    and_right _ _ (le-ltb slot (first v.lines g j) (omega arith))
+
+-- that place, or none where the slot is behind all amounts, is the pick
+pub pick_is : (v : Version) (g draw slot : ℕ) (amounts : List ℕ) (found : Option ℕ) → g < length v.market.groups → amounts ≡ amounts_of v g → slot ≡ slot_of draw (placed v.lines g)
+    → (slot < sum amounts → IsSome found) → IfSome found (λ k. k < length amounts) → IfSome found (λ k. sum (take k amounts) ≤ slot) → IfSome found (λ k. slot < sum (take (k + 1) amounts)) → found ≡ pick_of v g draw
+unfolding pick_of
+pick_is v g draw slot amounts None there items is some lt from to =
+    let n = length (choices_of v.market g) in
+    let size : length (amounts_of v g) ≡ n = length-map-range_with_len (amount_at v.lines g) 0 n in
+    let behind : sum amounts ≤ slot = elim (cases_lt slot (sum amounts)) [ inl l ↦ absurd (some l) | inr ge ↦ ge ] in
+    let all : sum (take n (amounts_of v g)) ≤ slot_of draw (placed v.lines g) = omega (arith, sum_by-take-le (λ x. x) (amounts_of v g) n, ap sum items) in
+    sym (found_none (falls_on v g (slot_of draw (placed v.lines g))) n (λ j l. past v g (slot_of draw (placed v.lines g)) n j l (omega arith) all))
+pick_is v g draw slot amounts (Some k) there items is some lt from to =
+    let n = length (choices_of v.market g) in
+    let size : length amounts ≡ n = ap length items ∙ length-map-range_with_len (amount_at v.lines g) 0 n in
+    let p = is_picked v g draw k slot amounts there items is lt from to in
+    let start : sum (take k (amounts_of v g)) ≤ slot_of draw (placed v.lines g) = omega (arith, ap (λ (l : List ℕ). sum (take k l)) items) in
+    sym (found_first (falls_on v g (slot_of draw (placed v.lines g))) n k (omega arith) (λ j l. past v g (slot_of draw (placed v.lines g)) k j l (omega arith) start) (and_from _ _ (le-leb _ _ p.from) (lt-ltb _ _ p.to)))

@@ -1,4 +1,4 @@
-pub mod Ends
+pub mod Clients
 pub mod Laid
 pub mod Labels
 pub mod Records

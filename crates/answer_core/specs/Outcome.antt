@@ -1,13 +1,14 @@
 -- What is replied to a query that can be read: by the first of these steps that decides.
-use Rattle.std.specs.Prelude.{ℕ, Bool, ◌||◌, ◌==◌, not, if◌then◌else◌, List, [], ◌∷◌, ◌++◌, Option, None, Some, option_map}
+use Rattle.std.specs.Prelude.{◌≡◌, ℕ, Bool, ◌||◌, ◌==◌, not, if◌then◌else◌, List, [], ◌∷◌, ◌++◌, Option, None, Some, option_map}
 use Rattle.std.specs.List.{list_any}
 use Rattle.std.specs.Option.{option_and_then}
 use Rattle.addr_text.specs.declared.address.Addr.{Addr}
 use Rattle.client_subnet.specs.declared.subnet.SubnetOpt.{SubnetOpt}
 use Rattle.map_model.specs.Market.{pool_of}
 use Rattle.name_text.specs.Names.{is_same, is_under, labels_part}
-use Rattle.prefix_lookup.specs.Longest.{group_of}
-use Rattle.prefix_lookup.specs.Scope.{scope_of}
+use Rattle.map_model.specs.declared.instance.GroupId.{GroupId}
+use Rattle.prefix_lookup.specs.Longest.{HasLongest, group_of}
+use Rattle.prefix_lookup.specs.Scope.{IsScope, scope_of}
 use Rattle.published_map.specs.Version.{Version}
 use Rattle.topology_text.specs.declared.topology.Zone.{Zone}
 use Rattle.topology_text.specs.Plan.{addresses_of}
@@ -41,6 +42,11 @@ client_of (Some s) from = if s.source == 0 then from else s.addr
 abbrev pub told_scope : Version → Option SubnetOpt → ℕ
 told_scope v None = 0
 told_scope v (Some s) = if s.source == 0 then 0 else scope_of v.plan.prefixes s.addr
+
+-- the group that the version's table gives to an address is that of its longest prefix, and the scope the least number of bits that decide it
+pub record IsLookedUp (v : Version) (a : Addr) : Type 0 where
+  pub group : (g : GroupId) × (group_of v.plan.prefixes a ≡ Some g) × HasLongest v.plan.prefixes a g
+  pub scope : IsScope v.plan.prefixes a (scope_of v.plan.prefixes a)
 
 -- the pool on which the draw falls for a group, and for the group of a client's address; none where nothing is placed for it
 abbrev pub pool_for_group : Version → ℕ → ℕ → Option ℕ

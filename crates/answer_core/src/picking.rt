@@ -1,7 +1,7 @@
 //! Which place of a group's list a draw falls on.
 ghost use Rattle.std.specs.Prelude.{◌≡◌, ◌<◌, ◌≤◌, ◌^◌, ◌+◌, ◌↔◌, IsNone, IsSome, IfSome, length, sum, take};
 ghost use Rattle.map_model.specs.Allocation.{placed};
-ghost use Rattle.answer_core.specs.Pick.{IsPicked, pick_of, place_from, slot_of};
+ghost use Rattle.answer_core.specs.Pick.{IsPicked, pick_of, slot_of};
 
 use map_model::GroupId;
 use published_map::MapVersion;
@@ -18,7 +18,6 @@ fn slot(draw: u64, units: u32) -> u32
 fn place(amounts: &[u32], slot: u32) -> Option<u8>
     requires few { length amounts.now ≤ 16 }
     requires total { sum amounts.now < 2 ^ 32 }
-    ensures exact { result ≡ place_from 0 slot amounts.now }
     ensures found { slot < sum amounts.now → IsSome result }
     ensures there { IfSome result (λ k. k < length amounts.now) }
     ensures from { IfSome result (λ k. sum (take k amounts.now) ≤ slot) }

@@ -3,8 +3,10 @@ ghost use Rattle.std.specs.Prelude.{◌≡◌, ◌≤◌, ◌↔◌, ℕ, IsTrue
 ghost use Rattle.addr_text.specs.declared.address.Addr.{Addr};
 ghost use Rattle.name_text.specs.Wire.{IsName};
 ghost use Rattle.dns_wire.specs.View.{asked};
-ghost use Rattle.published_map.specs.Version.{Version};
+ghost use Rattle.prefix_lookup.specs.Longest.{IsAddress};
+ghost use Rattle.published_map.specs.Version.{IsVersion, Version};
 ghost use Rattle.answer_core.specs.Grammar.{request_of};
+ghost use Rattle.answer_core.specs.Outcome.{IsLookedUp};
 ghost use Rattle.answer_core.specs.Reply.{Replies, reply_of, reply_to_query};
 
 use crate::outcome::decide;
@@ -45,9 +47,16 @@ fn write_reply(
     write_full(out, version.zone(), &request, &outcome);
 }
 
+/// What is always so of a version.
+fn check_version(version: &MapVersion)
+    ensures { IsVersion version.now }
+{
+    let _ = version.serial();
+}
+
 /// Writes the stated reply of a version to a datagram from an address: all replies are by one table of the version, the sender, the octets and the draw, of at most 512 octets.
 ///
-/// The buffer is cleared first. At `Sent` it holds the reply, at `Silent` there is none and it is empty.
+/// The buffer is cleared first. At `Sent` it holds the reply, at `Silent` there is none and it is empty. What the reply takes from the version's prefixes, the group of an address and its scope, is what the longest prefix says.
 pub fn reply(
     version: &MapVersion,
     from: Addr,
@@ -57,7 +66,9 @@ pub fn reply(
 ) -> Answer
     ensures reply { Replies result out.new.items (reply_of version.now from octets.now draw) }
     ensures short { IfSome (reply_of version.now from octets.now draw) (λ r. length r ≤ 512) }
+    ensures lookup { (a : Addr) → IsAddress a → IsLookedUp version.now a }
 {
+    check_version(version);
     out.clear();
     match read_query(octets) {
         Message::Silent => return Answer::Silent,

@@ -3,7 +3,6 @@ ghost use Rattle.std.specs.Prelude.{◌≡◌, ◌++◌, ◌+◌, ◌≤◌, IfS
 ghost use Rattle.std.specs.List.{flat_map};
 ghost use Rattle.std.specs.Option.{option_map};
 ghost use Rattle.arrayvec.specs.ArrayVec.{array_vec_len};
-ghost use Rattle.byteorder.specs.Endian.{big_bytes};
 ghost use Rattle.client_subnet.specs.View.{IsSubnet};
 ghost use Rattle.dns_wire.specs.Message as message;
 ghost use Rattle.dns_wire.specs.View.{extension};
@@ -18,34 +17,14 @@ use crate::outcome::Outcome;
 use crate::request::Request;
 use addr_text::Addr;
 use arrayvec::ArrayVec;
-use byteorder::{BigEndian, ByteOrder};
 use client_subnet::{SubnetOpt, write_subnet};
+use dns_wire::octets::{ipv4_octets, ipv6_octets, put, put_u32};
 use dns_wire::{write_opt, write_record};
 use name_text::Name;
 use topology_text::Zone;
 
 /// A pointer to the question's name, which stands behind the header's 12 octets (RFC 1035 section 4.1.4).
 const QUESTION_NAME: u16 = 0xc00c;
-
-/// Appends octets.
-fn put(out: &mut ArrayVec<u8, 512>, octets: &[u8])
-    requires { array_vec_len out.old + length octets.now ≤ 512 }
-    ensures items { out.new.items ≡ out.old.items ++ octets.now }
-    ensures len { array_vec_len out.new ≡ array_vec_len out.old + length octets.now }
-{
-    let _ = out.try_extend_from_slice(octets);
-}
-
-/// Appends a number of 32 bits, high octet first.
-fn put_u32(out: &mut ArrayVec<u8, 512>, number: u32)
-    requires { array_vec_len out.old + 4 ≤ 512 }
-    ensures items { out.new.items ≡ out.old.items ++ big_bytes 4 number }
-    ensures len { array_vec_len out.new ≡ array_vec_len out.old + 4 }
-{
-    let mut octets = [0; 4];
-    BigEndian::write_u32(&mut octets, number);
-    put(out, &octets);
-}
 
 /// Appends the numbers of the zone's SOA record (RFC 1035 section 3.3.13).
 fn put_numbers(content: &mut ArrayVec<u8, 512>, zone: &Zone)
@@ -80,24 +59,6 @@ fn write_servers(out: &mut ArrayVec<u8, 512>, ttl: u32, servers: &[Name])
     for server in servers {
         write_record(out, QUESTION_NAME, NS, ttl, server.wire());
     }
-}
-
-/// The octets of an IPv4 address.
-fn ipv4_octets(number: u32) -> [u8; 4]
-    ensures { result ≡ big_bytes 4 number }
-{
-    let mut octets = [0; 4];
-    BigEndian::write_u32(&mut octets, number);
-    octets
-}
-
-/// The octets of an IPv6 address.
-fn ipv6_octets(number: u128) -> [u8; 16]
-    ensures { result ≡ big_bytes 16 number }
-{
-    let mut octets = [0; 16];
-    BigEndian::write_u128(&mut octets, number);
-    octets
 }
 
 /// Writes the record of an address.

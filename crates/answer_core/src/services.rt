@@ -8,6 +8,8 @@ use name_text::{Name, same_name};
 use topology_text::Zone;
 
 /// Whether a name is some octets and then the apex, whatever the case of letters.
+///
+/// The parts are compared where they stand: `Name::followed_by` would write up to 255 octets for each service of each query.
 fn is_joined(name: &[u8], labels: &[u8], apex: &[u8]) -> bool
     ensures { result ≡ is_same name.now (labels.now ++ apex.now) }
 {

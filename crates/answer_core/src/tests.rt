@@ -148,6 +148,10 @@ fn picks_by_draw(rt: HostRuntime) -> Result<(), Fail> {
         (5_270_498_306_774_157_605, 1),
         (1 << 63, 1),
         (u64::MAX, 1),
+        // The first two draws of the first worker, slots 4 and 1, and the first of the second, slot 4.
+        (11_400_714_819_323_198_485, 1),
+        (4_354_685_564_936_845_354, 0),
+        (12_553_636_323_930_045_461, 1),
     ];
     for (draw, place) in rows {
         assert_eq!(rt; pick(&version, GroupId(1), draw), Some(place), "{draw}");
@@ -258,20 +262,21 @@ fn long_query(labels: &[(u8, u8)], kind: u8) -> ArrayVec<u8, 512> {
     octets
 }
 
-/// The longest replies there are: no such name, addresses, name servers.
+/// The longest replies there are, with their codes and sizes: no such name, addresses, name servers.
 #[test]
 fn bounds_replies(rt: HostRuntime) -> Result<(), Fail> {
     let version = version_of(rt.alloc(), LONG, map_of(rt.alloc(), &[(0, 0, 1)], &[])?)?;
     let rows = [
-        (long_query(&[(63, b'x'), (63, b'y'), (62, b'z')], 1), 466),
-        (long_query(&[(63, b's')], 28), 347),
-        (long_query(&[], 2), 419),
+        (long_query(&[(63, b'x'), (63, b'y'), (62, b'z')], 1), 3, 466),
+        (long_query(&[(63, b's')], 28), 0, 347),
+        (long_query(&[], 2), 0, 419),
         // A name of 256 octets is no query.
-        (long_query(&[(63, b'x'), (63, b'y'), (63, b'z')], 1), 12),
+        (long_query(&[(63, b'x'), (63, b'y'), (63, b'z')], 1), 1, 12),
     ];
     let mut out = ArrayVec::new();
-    for (query, size) in rows {
+    for (query, code, size) in rows {
         let _ = reply(&version, Addr::V4(0), query.as_slice(), 0, &mut out);
+        assert_eq!(rt; code_of(&out), code);
         assert_eq!(rt; out.len(), size);
     }
     Ok(())

@@ -1,17 +1,6 @@
-//! Numbers among octets, the high octet first.
-ghost use Rattle.std.specs.Prelude.{◌≡◌, ◌≤◌, ◌+◌, length, slice_index};
+//! Addresses of fewer octets, padded with zeros.
+ghost use Rattle.std.specs.Prelude.{◌≡◌, slice_index};
 ghost use Rattle.byteorder.specs.Endian.{big_number};
-ghost use Rattle.client_subnet.specs.Options.{u16_at};
-
-use byteorder::{BigEndian, ByteOrder};
-
-/// A number of 16 bits.
-pub(crate) fn u16_in(octets: &[u8], at: usize) -> u16
-    requires { at + 2 ≤ length octets.now }
-    ensures { result ≡ u16_at at octets.now }
-{
-    BigEndian::read_u16(&octets[at..at + 2])
-}
 
 /// An octet, or 0 past the end.
 fn octet(octets: &[u8], at: usize) -> u8

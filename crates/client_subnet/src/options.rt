@@ -6,8 +6,8 @@ ghost use Rattle.client_subnet.specs.Steps.{kept};
 ghost use Rattle.client_subnet.specs.View.{option_view, HasForm};
 
 use crate::ClientSubnet;
-use crate::field::u16_in;
 use crate::subnet::read_subnet;
+use dns_wire::octets::u16_in;
 
 /// The code of a client subnet.
 pub(crate) const CLIENT_SUBNET: u16 = 8;

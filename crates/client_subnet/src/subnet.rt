@@ -3,8 +3,9 @@ ghost use Rattle.std.specs.Prelude.{◌≡◌, ◌==◌, ◌≤◌, ◌<◌, ◌
 ghost use Rattle.client_subnet.specs.Options.{subnet_in, is_subnet_of, number_of};
 ghost use Rattle.client_subnet.specs.View.{HasForm};
 
-use crate::field::{u16_in, u32_padded, u128_padded};
+use crate::field::{u32_padded, u128_padded};
 use addr_text::Addr;
+use dns_wire::octets::u16_in;
 
 /// A client's subnet (RFC 7871 section 6).
 #[derive(Clone, Copy, Debug, PartialEq, Eq)]

@@ -5,6 +5,7 @@
 
 mod message;
 mod name;
+pub mod octets;
 mod reading;
 mod record;
 #[cfg(test)]

@@ -6,7 +6,8 @@ ghost use Rattle.dns_wire.specs.Message.{reading, head_of, query_in};
 ghost use Rattle.dns_wire.specs.View.{view, HasName, asked};
 
 use crate::name::read_name;
-use crate::record::{read_opt, u16_in};
+use crate::octets::u16_in;
+use crate::record::read_opt;
 use crate::{Head, Message, Query};
 
 /// What a reply repeats of the header.

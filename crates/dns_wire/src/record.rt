@@ -1,25 +1,17 @@
 //! Reading records, and the OPT among them.
-ghost use Rattle.std.specs.Prelude.{◌≡◌, ◌≤◌, ◌+◌, length};
+ghost use Rattle.std.specs.Prelude.{◌≡◌};
 ghost use Rattle.std.specs.Option.{option_map};
-ghost use Rattle.dns_wire.specs.Wire.{u16_at, fields_in, record_in};
+ghost use Rattle.dns_wire.specs.Wire.{fields_in, record_in};
 ghost use Rattle.dns_wire.specs.Message.{opt_in};
 ghost use Rattle.dns_wire.specs.Steps.{with_record};
 ghost use Rattle.dns_wire.specs.View.{extension, record_view};
 
 use crate::Opt;
 use crate::name::read_name;
-use byteorder::{BigEndian, ByteOrder};
+use crate::octets::u16_in;
 
 /// The TYPE of an OPT record.
 pub(crate) const OPT: u16 = 41;
-
-/// The number of 16 bits that begins at an octet.
-pub(crate) fn u16_in(octets: &[u8], at: usize) -> u16
-    requires { at + 2 ≤ length octets.now }
-    ensures { result ≡ u16_at at octets.now }
-{
-    BigEndian::read_u16(&octets[at..at + 2])
-}
 
 /// A record of a message.
 #[derive(Clone, Copy)]

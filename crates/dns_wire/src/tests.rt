@@ -75,78 +75,86 @@ fn reads_queries(rt: HostRuntime) {
     }
 }
 
+const FORM: Message<'static> = Message::Form(HEAD);
+
+/// Octets that are no query, and what they are.
+const NO_QUERIES: &[(&[u8], Message<'static>)] = &[
+    (b"\x12\x34\x01\0\0\x01\0\0\0\0\0", Message::Silent),
+    (
+        &[0; 12],
+        Message::Form(Head {
+            id: 0,
+            opcode: 0,
+            rd: false,
+        }),
+    ),
+    (
+        b"\x12\x34\x81\0\0\x01\0\0\0\0\0\0\0\0\x01\0\x01",
+        Message::Silent,
+    ),
+    (
+        b"\x12\x34\x11\0\0\x02\0\0\0\0\0\0",
+        Message::NotImp(Head {
+            id: 0x1234,
+            opcode: 2,
+            rd: true,
+        }),
+    ),
+    (
+        b"\x12\x34\x78\0\0\x01\0\0\0\0\0\0",
+        Message::NotImp(Head {
+            id: 0x1234,
+            opcode: 15,
+            rd: false,
+        }),
+    ),
+    // Two questions, an answer, an authority record.
+    (
+        b"\x12\x34\x01\0\0\x02\0\0\0\0\0\0\0\0\x01\0\x01\0\0\x01\0\x01",
+        FORM,
+    ),
+    (b"\x12\x34\x01\0\0\x01\0\x01\0\0\0\0\0\0\x01\0\x01", FORM),
+    (b"\x12\x34\x01\0\0\x01\0\0\x01\0\0\0\0\0\x01\0\x01", FORM),
+    // A pointer, and length octets of either reserved kind.
+    (
+        b"\x12\x34\x01\0\0\x01\0\0\0\0\0\0\x01a\xc0\x0c\0\x01\0\x01",
+        FORM,
+    ),
+    (b"\x12\x34\x01\0\0\x01\0\0\0\0\0\0\x40\0\0\x01\0\x01", FORM),
+    (
+        b"\x12\x34\x01\0\0\x01\0\0\0\0\0\x01\0\0\x01\0\x01\x80\0\0\x01\0\x01\0\0\0\0\0\0",
+        FORM,
+    ),
+    // More records than there are octets.
+    (b"\x12\x34\x01\0\0\x01\0\0\0\0\xff\xff\0\0\x01\0\x01", FORM),
+    (
+        b"\x12\x34\x01\0\0\x01\0\0\0\0\0\x01\0\0\x01\0\x01\0\0\x10\0\x01\0\0\0\0\0\x01",
+        FORM,
+    ),
+    // Two OPT records, and one whose name is a pointer.
+    (
+        b"\x12\x34\x01\0\0\x01\0\0\0\0\0\x02\0\0\x01\0\x01\0\0\x29\x04\xd0\0\0\0\0\0\0\0\0\x29\x04\xd0\0\0\0\0\0\0",
+        FORM,
+    ),
+    (
+        b"\x12\x34\x01\0\0\x01\0\0\0\0\0\x01\0\0\x01\0\x01\xc0\x0c\0\x29\x04\xd0\0\0\0\0\0\0",
+        FORM,
+    ),
+];
+
+/// The first row that is read as something else.
+fn first_misread(rows: &[(&[u8], Message<'_>)]) -> Option<usize> {
+    for (i, (octets, message)) in rows.iter().enumerate() {
+        if read_query(octets) != *message {
+            return Some(i);
+        }
+    }
+    None
+}
+
 #[test]
 fn refuses_what_is_no_query(rt: HostRuntime) {
-    let form = Message::Form(HEAD);
-    let rows = [
-        (
-            b"\x12\x34\x01\0\0\x01\0\0\0\0\0".as_slice(),
-            Message::Silent,
-        ),
-        (
-            &[0; 12],
-            Message::Form(Head {
-                id: 0,
-                opcode: 0,
-                rd: false,
-            }),
-        ),
-        (
-            b"\x12\x34\x81\0\0\x01\0\0\0\0\0\0\0\0\x01\0\x01",
-            Message::Silent,
-        ),
-        (
-            b"\x12\x34\x11\0\0\x02\0\0\0\0\0\0",
-            Message::NotImp(Head {
-                id: 0x1234,
-                opcode: 2,
-                rd: true,
-            }),
-        ),
-        (
-            b"\x12\x34\x78\0\0\x01\0\0\0\0\0\0",
-            Message::NotImp(Head {
-                id: 0x1234,
-                opcode: 15,
-                rd: false,
-            }),
-        ),
-        // Two questions, an answer, an authority record.
-        (
-            b"\x12\x34\x01\0\0\x02\0\0\0\0\0\0\0\0\x01\0\x01\0\0\x01\0\x01",
-            form,
-        ),
-        (b"\x12\x34\x01\0\0\x01\0\x01\0\0\0\0\0\0\x01\0\x01", form),
-        (b"\x12\x34\x01\0\0\x01\0\0\x01\0\0\0\0\0\x01\0\x01", form),
-        // A pointer, and length octets of either reserved kind.
-        (
-            b"\x12\x34\x01\0\0\x01\0\0\0\0\0\0\x01a\xc0\x0c\0\x01\0\x01",
-            form,
-        ),
-        (b"\x12\x34\x01\0\0\x01\0\0\0\0\0\0\x40\0\0\x01\0\x01", form),
-        (
-            b"\x12\x34\x01\0\0\x01\0\0\0\0\0\x01\0\0\x01\0\x01\x80\0\0\x01\0\x01\0\0\0\0\0\0",
-            form,
-        ),
-        // More records than there are octets.
-        (b"\x12\x34\x01\0\0\x01\0\0\0\0\xff\xff\0\0\x01\0\x01", form),
-        (
-            b"\x12\x34\x01\0\0\x01\0\0\0\0\0\x01\0\0\x01\0\x01\0\0\x10\0\x01\0\0\0\0\0\x01",
-            form,
-        ),
-        // Two OPT records, and one whose name is a pointer.
-        (
-            b"\x12\x34\x01\0\0\x01\0\0\0\0\0\x02\0\0\x01\0\x01\0\0\x29\x04\xd0\0\0\0\0\0\0\0\0\x29\x04\xd0\0\0\0\0\0\0",
-            form,
-        ),
-        (
-            b"\x12\x34\x01\0\0\x01\0\0\0\0\0\x01\0\0\x01\0\x01\xc0\x0c\0\x29\x04\xd0\0\0\0\0\0\0",
-            form,
-        ),
-    ];
-    for (octets, message) in rows {
-        assert_eq!(rt; read_query(octets), message);
-    }
+    assert_eq!(rt; first_misread(NO_QUERIES), None);
 }
 
 /// Names of 255 and 256 octets, and datagrams of 4,096 and 4,097.

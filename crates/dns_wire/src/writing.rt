@@ -5,46 +5,15 @@ ghost use Rattle.arrayvec.specs.ArrayVec.{array_vec_len};
 ghost use Rattle.dns_wire.specs.Spelling as spelling;
 
 use crate::Head;
+use crate::octets::{put, put_u16, put_u32};
 use crate::record::OPT;
 use arrayvec::ArrayVec;
-use byteorder::{BigEndian, ByteOrder};
 
 /// The size of a reply that this server takes, in octets.
 const PAYLOAD: u16 = 1232;
 
 /// Class IN.
 const IN: u16 = 1;
-
-/// Appends octets.
-fn put(out: &mut ArrayVec<u8, 512>, octets: &[u8])
-    requires { array_vec_len out.old + length octets.now ≤ 512 }
-    ensures items { out.new.items ≡ out.old.items ++ octets.now }
-    ensures len { array_vec_len out.new ≡ array_vec_len out.old + length octets.now }
-{
-    let _ = out.try_extend_from_slice(octets);
-}
-
-/// Appends a number of 16 bits, high octet first.
-fn put_u16(out: &mut ArrayVec<u8, 512>, number: u16)
-    requires { array_vec_len out.old + 2 ≤ 512 }
-    ensures items { out.new.items ≡ out.old.items ++ spelling.u16 number }
-    ensures len { array_vec_len out.new ≡ array_vec_len out.old + 2 }
-{
-    let mut octets = [0; 2];
-    BigEndian::write_u16(&mut octets, number);
-    put(out, &octets);
-}
-
-/// Appends a number of 32 bits, high octet first.
-fn put_u32(out: &mut ArrayVec<u8, 512>, number: u32)
-    requires { array_vec_len out.old + 4 ≤ 512 }
-    ensures items { out.new.items ≡ out.old.items ++ spelling.u32 number }
-    ensures len { array_vec_len out.new ≡ array_vec_len out.old + 4 }
-{
-    let mut octets = [0; 4];
-    BigEndian::write_u32(&mut octets, number);
-    put(out, &octets);
-}
 
 /// Appends numbers of 16 bits.
 fn put_numbers(out: &mut ArrayVec<u8, 512>, numbers: &[u16])

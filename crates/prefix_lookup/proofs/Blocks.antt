@@ -1,6 +1,6 @@
 -- The addresses that agree in their first bits, and the longest prefixes among them.
-use Rattle.std.proofs.Common.{zero, suc, ◌≡◌, ℕ, ◌+◌, ◌-◌, ◌*◌, ◌/◌, ◌^◌, ◌<◌, ◌≤◌, Bool, true, false, cond, ◌&&◌, ◌||◌, eqb, ltb, leb, List, [], ◌∷◌, Option, Some, None, refl, sym, ap, subst, ◌∙◌, arith, eq-eqb, inl, inr}
-use Rattle.std.specs.Prelude.{not, fold, All, ◌⊎◌}
+use Rattle.std.proofs.Common.{◌≡◌, ℕ, ◌+◌, ◌-◌, ◌*◌, ◌/◌, ◌^◌, ◌<◌, ◌≤◌, Bool, true, false, cond, ◌&&◌, ◌||◌, eqb, ltb, leb, List, [], ◌∷◌, Option, Some, None, refl, sym, ap, subst, ◌∙◌, arith, eq-eqb, inl, inr}
+use Rattle.std.specs.Prelude.{not, fold, All}
 use Rattle.std.specs.List.{list_all}
 use Rattle.std.specs.Option.{option_map_or}
 use Rattle.std.proofs.lemmas.Bool.{not-false, eqb-true, leb-false, le-leb, and_parts, and_cases, and_from}
@@ -8,12 +8,13 @@ use Rattle.std.proofs.lemmas.Nat.{shr_below}
 use Rattle.std.proofs.lemmas.List.Elements.{All-head, All-tail}
 use Rattle.addr_text.specs.declared.address.Addr.{Addr}
 use Rattle.addr_text.specs.declared.address.Addr.TheVariants.{V4, V6}
-use Rattle.addr_text.specs.declared.address.Prefix.{Prefix}
-use Rattle.addr_text.specs.Addresses.{IsPrefix, bits_of, value_of}
-use Rattle.prefix_lookup.specs.Longest.{IsAddress, agrees, holds, longer, longest}
+use Rattle.addr_text.specs.Addresses.{IsPrefix, bits_of}
+use Rattle.prefix_lookup.specs.Longest.{IsAddress, agrees, holds, longest}
 use Rattle.prefix_lookup.specs.Scope.{is_undivided, IsUniform}
-use Rattle.prefix_lookup.proofs.Numbers.{same_above, held_alike, half_of, half_fits, not_both_halves, fits_alike}
-use Rattle.prefix_lookup.proofs.Longest.{Entry, In, AtLeast, Holding, takes_all, holding_all}
+use Rattle.prefix_lookup.specs.Steps.{longer}
+use Rattle.prefix_lookup.proofs.Numbers.{held_alike, half_of, half_fits, not_both_halves, fits_alike}
+use Rattle.prefix_lookup.proofs.Longest.{Entry, In}
+use Rattle.prefix_lookup.proofs.Chosen.{AtLeast, Holding, best_is, takes_all, holding_all}
 
 -- the prefix is no longer than s bits, or does not begin among the addresses that agree with a in s bits
 abbrev pub stays_out : Addr → ℕ → Entry → Bool
@@ -38,8 +39,7 @@ same_fold a b s best (e ∷ es) h same =
 
 -- where nothing divides, there is one longest prefix
 pub uniform : (a : Addr) (s : ℕ) (table : List Entry) → is_undivided table a s ≡ true → IsUniform table a s
-unfolding longest
-uniform a s table h = λ b _ same. same_fold a b s None table h same
+uniform a s table h = λ b _ same. sym (best_is b table) ∙ same_fold a b s None table h same ∙ best_is a table
 
 fails : (t : Entry → Bool) (table : List Entry) → list_all t table ≡ false → (e : Entry) × In e table × (t e ≡ false)
 fails t [] h = absurd cc

@@ -1,15 +1,17 @@
 -- Each address has a longest prefix, where both defaults are there.
-use Rattle.std.proofs.Common.{zero, suc, length, take, ◌≡◌, ℕ, ◌+◌, ◌-◌, ◌/◌, ◌^◌, ◌<◌, ◌≤◌, List, [], ◌∷◌, Option, Some, None, true, false, refl, sym, ap, subst, ◌∙◌, arith, eq-eqb, inl, inr}
-use Rattle.std.specs.Prelude.{map, ◌⊎◌, Contains, IsSome, slice_index_or}
-use Rattle.std.proofs.lemmas.List.{take_all}
+use Rattle.std.proofs.Common.{zero, suc, length, take, ◌≡◌, ℕ, ◌^◌, ◌<◌, ◌≤◌, List, [], ◌∷◌, Option, Some, None, true, refl, sym, ap, subst, arith, eq-eqb, inl, inr}
+use Rattle.std.specs.Prelude.{map, option_map, Contains, IsSome, slice_index_or}
 use Rattle.std.proofs.Math.Nat.{div-eq_of_lt}
 use Rattle.addr_text.specs.declared.address.Addr.{Addr}
 use Rattle.addr_text.specs.declared.address.Addr.TheVariants.{V4, V6}
 use Rattle.addr_text.specs.declared.address.Prefix.{Prefix}
 use Rattle.addr_text.specs.Addresses.{default_v4, default_v6}
-use Rattle.prefix_lookup.specs.Longest.{IsAddress, holds, longest}
+use Rattle.map_model.specs.declared.instance.GroupId.{GroupId}
+use Rattle.prefix_lookup.specs.Longest.{IsAddress, holds, longest, group_of, HasLongest}
 use Rattle.prefix_lookup.specs.Table.{IsTable}
-use Rattle.prefix_lookup.proofs.Longest.{Entry, In, AtLeast, takes_all}
+use Rattle.prefix_lookup.specs.Steps.{best_of}
+use Rattle.prefix_lookup.proofs.Longest.{Entry, In, is_longest_of}
+use Rattle.prefix_lookup.proofs.Chosen.{AtLeast, takes_all, after_all}
 
 -- a prefix of the table has its entry
 entry_of : (table : List Entry) (p : Prefix) (k : ℕ) → k < length (map (λ e. e.0) table) → slice_index_or (map (λ e. e.0) table) k p ≡ p → (e : Entry) × In e table × (e.0 ≡ p)
@@ -38,7 +40,15 @@ pub not_without : (a : Addr) (table : List Entry) → IsAddress a → IsTable ta
 not_without (V4 n) table fits t none = by_default (V4 n) default_v4 table t.all_v4 (default_holds_v4 n fits) none
 not_without (V6 n) table fits t none = by_default (V6 n) default_v6 table t.all_v6 (default_holds_v6 n fits) none
 
+-- so each address has a group, that of its longest prefix
+pub has_group : (a : Addr) (table : List Entry) → IsAddress a → IsTable table → (g : GroupId) × (group_of table a ≡ Some g) × HasLongest table a g
+has_group a table fits t = by (longest table a) refl
+  where
+    by : (o : Option Entry) → longest table a ≡ o → (g : GroupId) × (group_of table a ≡ Some g) × HasLongest table a g
+    by None is = absurd (not_without a table fits t is)
+    by (Some e) is = (e.1, ap (λ (o : Option Entry). option_map (λ f. f.1) o) is, (e.0, is_longest_of a table e is))
+
 -- after the last entry there is one
-pub some_after_all : (a : Addr) (i : ℕ) (table : List Entry) (o : Option Entry) → length table ≤ i → o ≡ longest (take i table) a → IsAddress a → IsTable table → IsSome o
-some_after_all a i table None le e fits t = absurd (not_without a table fits t (sym (ap (λ (l : List Entry). longest l a) (take_all i table le)) ∙ sym e))
+pub some_after_all : (a : Addr) (i : ℕ) (table : List Entry) (o : Option Entry) → length table ≤ i → o ≡ best_of (take i table) a → IsAddress a → IsTable table → IsSome o
+some_after_all a i table None le e fits t = absurd (not_without a table fits t (sym (after_all a i table None le e)))
 some_after_all a i table (Some r) le e fits t = refl

@@ -1,6 +1,6 @@
 -- Numbers of so many bits that have the same first bits.
-use Rattle.std.proofs.Common.{zero, suc, ◌≡◌, ℕ, ◌+◌, ◌-◌, ◌*◌, ◌/◌, ◌^◌, ◌<◌, ◌≤◌, Bool, true, false, ◌||◌, eqb, leb, refl, sym, ap, subst, ◌∙◌, arith, eq-eqb, inl, inr, div-lt_iff_lt-mul}
-use Rattle.std.specs.Prelude.{not, ◌⊎◌}
+use Rattle.std.proofs.Common.{◌≡◌, ℕ, ◌+◌, ◌-◌, ◌*◌, ◌/◌, ◌^◌, ◌<◌, ◌≤◌, Bool, true, false, ◌||◌, eqb, leb, refl, sym, ap, subst, ◌∙◌, arith, eq-eqb, inl, inr, div-lt_iff_lt-mul}
+use Rattle.std.specs.Prelude.{not}
 use Rattle.std.proofs.Math.Pow.{pow_pos}
 use Rattle.std.proofs.lemmas.Bool.{or_cases, not-true, eqb-true, leb-true, cases_lt, both_ways}
 use Rattle.std.proofs.lemmas.Nat.{shr-shr, shl-shr, shl_below, pow-add}

@@ -1,3 +1,4 @@
 pub mod Longest
 pub mod Scope
+pub mod Steps
 pub mod Table

@@ -1,6 +1,6 @@
 -- The longest prefix that holds an address. The addresses of a family are the numbers of so many bits.
-use Rattle.std.specs.Prelude.{◌≡◌, ℕ, ◌-◌, ◌/◌, ◌^◌, ◌<◌, ◌≤◌, Bool, true, false, ◌&&◌, ◌==◌, nat_lt, if◌then◌else◌, List, Option, None, Some, option_map, fold, All, Contains, IsTrue}
-use Rattle.std.specs.Option.{option_map_or}
+use Rattle.std.specs.Prelude.{ℕ, ◌-◌, ◌/◌, ◌^◌, ◌<◌, ◌≤◌, Bool, true, false, ◌&&◌, ◌==◌, nat_lt, not, List, Option, find, option_map, All, Contains, IsTrue}
+use Rattle.std.specs.List.{list_any}
 use Rattle.addr_text.specs.declared.address.Addr.{Addr}
 use Rattle.addr_text.specs.declared.address.Addr.TheVariants.{V4, V6}
 use Rattle.addr_text.specs.declared.address.Prefix.{Prefix}
@@ -29,13 +29,17 @@ agrees s a b = is_of_family a b && (leading s a == leading s b)
 abbrev pub holds : Prefix → Addr → Bool
 holds p a = agrees p.len p.addr a
 
--- the longer of the best entry so far and one more, if that holds the address
-abbrev pub longer : Addr → Option (Prefix × GroupId) → Prefix × GroupId → Option (Prefix × GroupId)
-longer a best e = if holds e.0 a && option_map_or (λ b. nat_lt b.0.len e.0.len) best true then Some e else best
+-- some prefix of the table that holds the address is longer than the entry's
+abbrev pub is_surpassed : List (Prefix × GroupId) → Addr → Prefix × GroupId → Bool
+is_surpassed table a e = list_any (λ f. holds f.0 a && nat_lt e.0.len f.0.len) table
+
+-- the entry's prefix holds the address, and no prefix of the table that holds it is longer
+abbrev pub is_longest : List (Prefix × GroupId) → Addr → Prefix × GroupId → Bool
+is_longest table a e = holds e.0 a && not (is_surpassed table a e)
 
 -- the entry of the longest prefix that holds the address
 unfoldable pub longest : List (Prefix × GroupId) → Addr → Option (Prefix × GroupId)
-longest table a = fold (longer a) None table
+longest table a = find (is_longest table a) table
 
 -- what makes an entry that of the longest prefix: it is of the table, its prefix holds the address, and no prefix of the table that holds it is longer
 pub record IsLongest (table : List (Prefix × GroupId)) (a : Addr) (e : Prefix × GroupId) : Type 0 where

@@ -1,6 +1,6 @@
 -- The scope of an address: how many of its first bits decide its longest prefix.
-use Rattle.std.specs.Prelude.{◌≡◌, ℕ, zero, suc, ◌+◌, ◌<◌, ◌≤◌, Bool, ◌||◌, nat_le, not, if◌then◌else◌, List, IsTrue}
-use Rattle.std.specs.List.{list_all}
+use Rattle.std.specs.Prelude.{◌≡◌, ℕ, ◌<◌, ◌≤◌, Bool, ◌||◌, nat_le, not, List, IsTrue}
+use Rattle.std.specs.List.{list_all, position_or_len, range_with_len}
 use Rattle.addr_text.specs.declared.address.Addr.{Addr}
 use Rattle.addr_text.specs.declared.address.Prefix.{Prefix}
 use Rattle.addr_text.specs.Addresses.{bits_of}
@@ -21,11 +21,6 @@ pub record IsScope (table : List (Prefix × GroupId)) (a : Addr) (s : ℕ) : Typ
 abbrev pub is_undivided : List (Prefix × GroupId) → Addr → ℕ → Bool
 is_undivided table a s = list_all (λ e. nat_le e.0.len s || not (agrees s a e.0.addr)) table
 
--- the least of these numbers of bits, from s on and among so many more, at which nothing divides
-unfoldable pub undivided_from : ℕ → List (Prefix × GroupId) → Addr → ℕ → ℕ
-undivided_from zero table a s = s
-undivided_from (suc more) table a s = if is_undivided table a s then s else undivided_from more table a (s + 1)
-
--- the scope, as a number that computes
-abbrev pub scope_of : List (Prefix × GroupId) → Addr → ℕ
-scope_of table a = undivided_from (bits_of a) table a 0
+-- the scope, as a number that computes: the first of the numbers 0, 1, 2, .. of bits at which nothing divides; all bits of the address where it is none below
+unfoldable pub scope_of : List (Prefix × GroupId) → Addr → ℕ
+scope_of table a = position_or_len (is_undivided table a) (range_with_len 0 (bits_of a))

@@ -1,8 +1,9 @@
 //! The longest prefix and the scope, by looking at all prefixes. It is slow, and says plainly what they are.
 ghost use Rattle.std.specs.Prelude.{◌≡◌, ◌≤◌, All, IfSome, IsSome};
 ghost use Rattle.addr_text.specs.Addresses.{IsPrefix, bits_of};
-ghost use Rattle.prefix_lookup.specs.Longest.{IsLongest, longer, longest};
+ghost use Rattle.prefix_lookup.specs.Longest.{IsLongest, longest};
 ghost use Rattle.prefix_lookup.specs.Scope.{IsScope, is_undivided, scope_of};
+ghost use Rattle.prefix_lookup.specs.Steps.{longer};
 ghost use Rattle.prefix_lookup.specs.Table.{IsTable};
 
 use crate::agree::{agree, holds, width};
@@ -26,7 +27,6 @@ fn longer(
 }
 
 /// The entry of the longest prefix that holds an address.
-#[tactic(auto, unfolding(crate::specs::Longest::longest))]
 pub fn longest(table: &[(Prefix, GroupId)], addr: Addr) -> Option<(Prefix, GroupId)>
     requires { All (λ e. IsPrefix e.0) table.now }
     ensures exact { result ≡ longest table.now addr }

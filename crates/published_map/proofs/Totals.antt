@@ -42,11 +42,11 @@ none_below (l ∷ ls) g = omega (arith, sum_by-cons (λ l. if (l.group.0 == g) &
 one_more : (lines : List MapLine) (g n : ℕ) → sum (map (amount_at lines g) (range_with_len 0 n)) ≡ first_below lines g n → sum (map (amount_at lines g) (range_with_len 0 (n + 1))) ≡ first_below lines g (n + 1)
 one_more lines g n so_far = omega (arith, sum_by-map-range_with_len_more (λ x. x) (amount_at lines g) 0 n n (omega arith), so_far, first_is lines g n, first_more lines g n)
 
-so_far : (lines : List MapLine) (g n : ℕ) → sum (map (amount_at lines g) (range_with_len 0 n)) ≡ first_below lines g n
-so_far lines g zero = sym (none_below lines g)
-so_far lines g (suc n) =
+pub added : (lines : List MapLine) (g n : ℕ) → sum (map (amount_at lines g) (range_with_len 0 n)) ≡ first_below lines g n
+added lines g zero = sym (none_below lines g)
+added lines g (suc n) =
     let e : n + 1 ≡ suc n = omega arith in
-    subst (λ (k : ℕ). sum (map (amount_at lines g) (range_with_len 0 k)) ≡ first_below lines g k) e (one_more lines g n (so_far lines g n))
+    subst (λ (k : ℕ). sum (map (amount_at lines g) (range_with_len 0 k)) ≡ first_below lines g k) e (one_more lines g n (added lines g n))
 
 -- each place of the group's lines is below that number
 abbrev pub IsBelow : ℕ → ℕ → MapLine → Type 0
@@ -65,7 +65,7 @@ places_below m g lines all = λ i d lt is. let o = all i d lt in subst (λ (h : 
 
 -- the amounts of a group add up to what is placed of it
 pub total : (v : Version) (g : ℕ) → IsVersion v → sum (amounts_of v g) ≡ placed v.lines g
-total v g is = so_far v.lines g (length (choices_of v.market g)) ∙ all_below v.lines g _ (places_below v.market g v.lines (offers-AreLines v.market v.lines is.good.form))
+total v g is = added v.lines g (length (choices_of v.market g)) ∙ all_below v.lines g _ (places_below v.market g v.lines (offers-AreLines v.market v.lines is.good.form))
 
 -- which is within its demand, and so a number of 32 bits
 pub placed_fits : (v : Version) (g : ℕ) → IsVersion v → g < length v.market.groups → placed v.lines g < 2 ^ 32

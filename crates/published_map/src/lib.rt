@@ -3,6 +3,8 @@
 
 mod amounts;
 mod shared;
+#[cfg(test)]
+mod tests;
 mod version;
 
 pub use shared::Shared;
