@@ -10,25 +10,14 @@ use Rattle.addr_text.specs.Groups.{begins_double, filled, group_of, groups_by, j
 use Rattle.addr_text.specs.Addresses.{addr_of, v6_of}
 use Rattle.addr_text.specs.Written.{coloned, colon_text, decimal_text, dotted, hex_text, run_at}
 use Rattle.addr_text.proofs.Bases.{AllBelow, digits_below, length-digits, value_digits}
-use Rattle.addr_text.proofs.Chars.{Lacks, decimal_again, group_again, lacks-append, no_colon_hex, no_dot_decimal, no_dot_hex, some_hex}
+use Rattle.addr_text.proofs.Chars.{decimal_again, group_again, no_colon_hex, no_dot_decimal, no_dot_hex, some_hex}
 use Rattle.addr_text.proofs.Sides.{behind}
+use Rattle.addr_text.proofs.Splits.{Lacks, lacks-append, split_alone, split_part}
 
 -- a first part and, behind separators, the others
 pub join-cons : (c : ℕ) (f : ℕ → List ℕ) (n : ℕ) (ns : List ℕ) → join_with_byte c (map f (n ∷ ns)) ≡ f n ++ flat_map (λ m. c ∷ f m) ns
 join-cons c f n [] = sym (append-nil (f n))
 join-cons c f n (m ∷ ms) = ap (λ (l : List ℕ). f n ++ (c ∷ l)) (join-cons c f m ms)
-
-same : (c : ℕ) → (c == c) ≡ true
-same c = grind (arith, nat_tests)
-
-split_part : (c : ℕ) (x rest : List ℕ) → Lacks c x → slice_split (λ b. b == c) (x ++ c ∷ rest) ≡ x ∷ slice_split (λ b. b == c) rest
-split_part c [] rest lacks = ap (λ (t : Bool). cond t ([] ∷ slice_split (λ b. b == c) rest) (onto_first c (slice_split (λ b. b == c) rest))) (same c)
-split_part c (b ∷ bs) rest lacks =
-    ap (λ (t : Bool). cond t ([] ∷ slice_split (λ b. b == c) (bs ++ c ∷ rest)) (onto_first b (slice_split (λ b. b == c) (bs ++ c ∷ rest)))) lacks.0 ∙ ap (onto_first b) (split_part c bs rest lacks.1)
-
-split_alone : (c : ℕ) (x : List ℕ) → Lacks c x → slice_split (λ b. b == c) x ≡ x ∷ []
-split_alone c [] lacks = refl
-split_alone c (b ∷ bs) lacks = ap (λ (t : Bool). cond t ([] ∷ slice_split (λ b. b == c) bs) (onto_first b (slice_split (λ b. b == c) bs))) lacks.0 ∙ ap (onto_first b) (split_alone c bs lacks.1)
 
 split_join : (c : ℕ) (f : ℕ → List ℕ) (n : ℕ) (ns : List ℕ) → ((m : ℕ) → Lacks c (f m)) → slice_split (λ b. b == c) (join_with_byte c (map f (n ∷ ns))) ≡ map f (n ∷ ns)
 split_join c f n [] lacks = split_alone c (f n) (lacks n)

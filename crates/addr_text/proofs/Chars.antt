@@ -5,6 +5,7 @@ use Rattle.std.proofs.lemmas.List.{length-map}
 use Rattle.addr_text.specs.Numbers.{all_of, decimal_digit, digits_in, hex_digit, in_base, is_plain, number_of, only_if, together}
 use Rattle.addr_text.specs.Groups.{group_of}
 use Rattle.addr_text.specs.Written.{decimal_count, decimal_text, digit_char, hex_count, hex_text}
+use Rattle.addr_text.proofs.Splits.{Lacks}
 use Rattle.addr_text.proofs.Bases.{AllBelow, digits_below, length-digits, value_digits}
 
 -- the character of a digit
@@ -67,15 +68,6 @@ hex_counted g small = go (nat_lt g 16) (nat_lt g 256) (nat_lt g 4096) refl refl 
 
 pub group_again : (g : ℕ) → g < 65536 → group_of (hex_text g) ≡ Some g
 group_again g small = let count = hex_counted g small in group_by (hex_count g) g count.some count.few count.holds
-
--- no octet of a text is of one kind
-abbrev pub Lacks : ℕ → List ℕ → Type 0
-Lacks c [] = Unit {0}
-Lacks c (b ∷ bs) = ((b == c) ≡ false) × Lacks c bs
-
-pub lacks-append : (c : ℕ) (xs ys : List ℕ) → Lacks c xs → Lacks c ys → Lacks c (xs ++ ys)
-lacks-append c [] ys left right = right
-lacks-append c (x ∷ xs) ys left right = (left.0, lacks-append c xs ys left.1 right)
 
 -- a dot or a colon is no digit
 apart_low : (c d : ℕ) → (c ≡ 46) ⊎ (c ≡ 58) → d < 10 → (48 + d == c) ≡ false

@@ -25,13 +25,13 @@ pub values_step : (value : List ℕ → Option ℕ) (p : ℕ → Bool) (xs : Lis
 values_step value p xs i v old new all hit is pushed before =
     ap (λ front. with_front front (all_of value (slice_split p (drop (i + 1) xs)))) pushed
     ∙ sym (front_more old v (all_of value (slice_split p (drop (i + 1) xs))))
-    ∙ sym (ap (λ ps. with_front old (all_of value ps)) (split_at_hit p i 0 xs i hit (omega arith)) ∙ ap (λ (o : Option ℕ). with_front old (together o (all_of value (slice_split p (drop (i + 1) xs))))) is)
+    ∙ sym (ap (λ ps. with_front old (all_of value ps)) (split_at_hit p xs i hit) ∙ ap (λ (o : Option ℕ). with_front old (together o (all_of value (slice_split p (drop (i + 1) xs))))) is)
     ∙ before
 
 values_last : (value : List ℕ → Option ℕ) (p : ℕ → Bool) (xs : List ℕ) (v : ℕ) (old new : List ℕ) (all : Option (List ℕ)) → position_from p 0 xs ≡ None → value xs ≡ Some v → new ≡ old ++ v ∷ []
     → with_front old (all_of value (slice_split p xs)) ≡ all → Some new ≡ all
 values_last value p xs v old new all hit is pushed before =
-    ap Some pushed ∙ sym (ap (λ ps. with_front old (all_of value ps)) (split_no_hit p 0 xs hit) ∙ ap (λ (o : Option ℕ). with_front old (together o (Some []))) is) ∙ before
+    ap Some pushed ∙ sym (ap (λ ps. with_front old (all_of value ps)) (split_no_hit p xs hit) ∙ ap (λ (o : Option ℕ). with_front old (together o (Some []))) is) ∙ before
 
 -- the last part has a value, and there is room for it
 pub values_end : (limit : ℕ) (value : List ℕ → Option ℕ) (p : ℕ → Bool) (xs : List ℕ) (v : ℕ) (old new : List ℕ) (all : Option (List ℕ)) → position_from p 0 xs ≡ None → value xs ≡ Some v → new ≡ old ++ v ∷ [] → length new ≤ limit
@@ -59,12 +59,12 @@ by_cause limit value text parts old (inr full) = tail_some limit value text part
 pub refused : (limit : ℕ) (value : List ℕ → Option ℕ) (p : ℕ → Bool) (xs : List ℕ) (i : ℕ) (old : List ℕ) (all : Option (List ℕ)) → position_from p 0 xs ≡ Some i → (value (take i xs) ≡ None) ⊎ (length old ≡ limit)
     → with_front old (all_of value (slice_split p xs)) ≡ all → None ≡ at_most limit all
 refused limit value p xs i old all hit why before =
-    sym (ap (at_most limit) (sym before ∙ ap (λ ps. with_front old (all_of value ps)) (split_at_hit p i 0 xs i hit (omega arith))) ∙ by_cause limit value (take i xs) (slice_split p (drop (i + 1) xs)) old why)
+    sym (ap (at_most limit) (sym before ∙ ap (λ ps. with_front old (all_of value ps)) (split_at_hit p xs i hit)) ∙ by_cause limit value (take i xs) (slice_split p (drop (i + 1) xs)) old why)
 
 pub refused_last : (limit : ℕ) (value : List ℕ → Option ℕ) (p : ℕ → Bool) (xs : List ℕ) (old : List ℕ) (all : Option (List ℕ)) → position_from p 0 xs ≡ None → (value xs ≡ None) ⊎ (length old ≡ limit)
     → with_front old (all_of value (slice_split p xs)) ≡ all → None ≡ at_most limit all
 refused_last limit value p xs old all hit why before =
-    sym (ap (at_most limit) (sym before ∙ ap (λ ps. with_front old (all_of value ps)) (split_no_hit p 0 xs hit)) ∙ by_cause limit value xs [] old why)
+    sym (ap (at_most limit) (sym before ∙ ap (λ ps. with_front old (all_of value ps)) (split_no_hit p xs hit)) ∙ by_cause limit value xs [] old why)
 
 pub front_start : (o : Option (List ℕ)) → with_front [] o ≡ o
 front_start None = refl

@@ -1,41 +1,33 @@
 -- The parts between separators, one after another.
-use Rattle.std.proofs.Common.{◌≡◌, ℕ, ◌+◌, ◌≤◌, suc, zero, Bool, true, false, cond, List, [], ◌∷◌, length, take, drop, Option, None, Some, not, nat_lt, refl, ap, sym, ◌∙◌, arith}
+use Rattle.std.proofs.Common.{◌≡◌, ℕ, ◌+◌, ◌≤◌, ◌==◌, Bool, true, false, cond, List, [], ◌∷◌, ◌++◌, length, take, drop, Option, None, Some, not, nat_lt, refl, ap, sym, subst, ◌∙◌, arith}
 use Rattle.std.proofs.lemmas.Bool.Decides.{nat_tests}
 use Rattle.std.proofs.lemmas.Iterator.Adapters.{position_from-zero}
-use Rattle.std.proofs.lemmas.List.Sums.{prefix_len-le-length}
+use Rattle.std.proofs.lemmas.List.Splits.{slice_split_first, slice_split_none}
+use Rattle.std.proofs.lemmas.List.Sums.{fails_before_first, prefix_len-le-length}
 use Rattle.std.specs.List.{onto_first, position_from, position_or_len, slice_split}
 use Rattle.std.specs.Option.{unwrap_or}
 
-position_ge : {X : Type 0} (p : X → Bool) (n : ℕ) (xs : List X) (m : ℕ) → position_from p n xs ≡ Some m → n ≤ m
-position_ge p n [] m h = cc
-position_ge p n (x ∷ xs) m h = go (p x) h (λ q. position_ge p (n + 1) xs m q)
+-- an element that is found ends the first part
+pub split_at_hit : {X : Type 0} (p : X → Bool) (xs : List X) (i : ℕ) → position_from p 0 xs ≡ Some i → slice_split p xs ≡ take i xs ∷ slice_split p (drop (i + 1) xs)
+split_at_hit p [] i h = cc
+split_at_hit p (x ∷ xs) i h = go (nat_lt (position_or_len p (x ∷ xs)) (length (x ∷ xs))) refl (position_from-zero p (x ∷ xs) ∙ h)
   where
-    go : (b : Bool) → cond b (Some n) (position_from p (n + 1) xs) ≡ Some m → (position_from p (n + 1) xs ≡ Some m → n + 1 ≤ m) → n ≤ m
-    go true q more = let e : n ≡ m = cc in omega arith
-    go false q more = let l = more q in omega arith
+    go : (b : Bool) → nat_lt (position_or_len p (x ∷ xs)) (length (x ∷ xs)) ≡ b → cond b (Some (position_or_len p (x ∷ xs))) None ≡ Some i
+        → slice_split p (x ∷ xs) ≡ take i (x ∷ xs) ∷ slice_split p (drop (i + 1) (x ∷ xs))
+    go true t is =
+        let at : position_or_len p (x ∷ xs) ≡ i = cc in
+        subst (λ j. slice_split p (x ∷ xs) ≡ take j (x ∷ xs) ∷ slice_split p (drop (j + 1) (x ∷ xs))) at (slice_split_first p (x ∷ xs) x (grind (arith, nat_tests)))
+    go false t is = cc
 
--- the part before the first hit, and what follows it
-pub split_at_hit : {X : Type 0} (p : X → Bool) (i n : ℕ) (xs : List X) (m : ℕ) → position_from p n xs ≡ Some m → m ≡ n + i → slice_split p xs ≡ take i xs ∷ slice_split p (drop (i + 1) xs)
-split_at_hit p i n [] m h e = cc
-split_at_hit p zero n (x ∷ xs) m h e = go (p x) h (λ q. position_ge p (n + 1) xs m q)
+-- where none is found there is one part
+pub split_no_hit : {X : Type 0} (p : X → Bool) (xs : List X) → position_from p 0 xs ≡ None → slice_split p xs ≡ xs ∷ []
+split_no_hit p xs h = go (nat_lt (position_or_len p xs) (length xs)) refl (position_from-zero p xs ∙ h)
   where
-    go : (b : Bool) → cond b (Some n) (position_from p (n + 1) xs) ≡ Some m → (position_from p (n + 1) xs ≡ Some m → n + 1 ≤ m) → cond b ([] ∷ slice_split p xs) (onto_first x (slice_split p xs)) ≡ [] ∷ slice_split p xs
-    go true q more = refl
-    go false q more = let l = more q in absurd (omega arith)
-split_at_hit p (suc j) n (x ∷ xs) m h e = let next : suc j + 1 ≡ suc (j + 1) = omega arith in rw next (go (p x) h (λ q. split_at_hit p j (n + 1) xs m q (omega arith)))
-  where
-    go : (b : Bool) → cond b (Some n) (position_from p (n + 1) xs) ≡ Some m → (position_from p (n + 1) xs ≡ Some m → slice_split p xs ≡ take j xs ∷ slice_split p (drop (j + 1) xs))
-        → cond b ([] ∷ slice_split p xs) (onto_first x (slice_split p xs)) ≡ (x ∷ take j xs) ∷ slice_split p (drop (j + 1) xs)
-    go true q more = let same : n ≡ m = cc in absurd (omega arith)
-    go false q more = rw (more q) refl
-
-pub split_no_hit : {X : Type 0} (p : X → Bool) (n : ℕ) (xs : List X) → position_from p n xs ≡ None → slice_split p xs ≡ xs ∷ []
-split_no_hit p n [] h = refl
-split_no_hit p n (x ∷ xs) h = go (p x) h (λ q. split_no_hit p (n + 1) xs q)
-  where
-    go : (b : Bool) → cond b (Some n) (position_from p (n + 1) xs) ≡ None → (position_from p (n + 1) xs ≡ None → slice_split p xs ≡ xs ∷ []) → cond b ([] ∷ slice_split p xs) (onto_first x (slice_split p xs)) ≡ (x ∷ xs) ∷ []
-    go true h more = cc
-    go false h more = rw (more h) refl
+    go : (b : Bool) → nat_lt (position_or_len p xs) (length xs) ≡ b → cond b (Some (position_or_len p xs)) None ≡ None → slice_split p xs ≡ xs ∷ []
+    go true t is = cc
+    go false t is =
+        let past : length xs ≤ position_or_len p xs = grind (arith, nat_tests) in
+        slice_split_none p xs (λ k d within. fails_before_first p xs k d (omega arith))
 
 -- the first hit, or the length
 pub first_or_length : {X : Type 0} (p : X → Bool) (xs : List X) → unwrap_or (position_from p 0 xs) (length xs) ≡ position_or_len p xs
@@ -45,3 +37,25 @@ first_or_length p xs =
     go : (b : Bool) → nat_lt (position_or_len p xs) (length xs) ≡ b → unwrap_or (cond b (Some (position_or_len p xs)) None) (length xs) ≡ position_or_len p xs
     go true h = refl
     go false h = let most = prefix_len-le-length (λ x. not (p x)) xs in let past : length xs ≤ position_or_len p xs = grind (arith, nat_tests) in omega arith
+
+-- no octet of a text is that one
+abbrev pub Lacks : ℕ → List ℕ → Type 0
+Lacks c [] = Unit {0}
+Lacks c (b ∷ bs) = ((b == c) ≡ false) × Lacks c bs
+
+pub lacks-append : (c : ℕ) (xs ys : List ℕ) → Lacks c xs → Lacks c ys → Lacks c (xs ++ ys)
+lacks-append c [] ys left right = right
+lacks-append c (x ∷ xs) ys left right = (left.0, lacks-append c xs ys left.1 right)
+
+same : (c : ℕ) → (c == c) ≡ true
+same c = grind (arith, nat_tests)
+
+-- what was joined is parted again
+pub split_part : (c : ℕ) (x rest : List ℕ) → Lacks c x → slice_split (λ b. b == c) (x ++ c ∷ rest) ≡ x ∷ slice_split (λ b. b == c) rest
+split_part c [] rest lacks = ap (λ (t : Bool). cond t ([] ∷ slice_split (λ b. b == c) rest) (onto_first c (slice_split (λ b. b == c) rest))) (same c)
+split_part c (b ∷ bs) rest lacks =
+    ap (λ (t : Bool). cond t ([] ∷ slice_split (λ b. b == c) (bs ++ c ∷ rest)) (onto_first b (slice_split (λ b. b == c) (bs ++ c ∷ rest)))) lacks.0 ∙ ap (onto_first b) (split_part c bs rest lacks.1)
+
+pub split_alone : (c : ℕ) (x : List ℕ) → Lacks c x → slice_split (λ b. b == c) x ≡ x ∷ []
+split_alone c [] lacks = refl
+split_alone c (b ∷ bs) lacks = ap (λ (t : Bool). cond t ([] ∷ slice_split (λ b. b == c) bs) (onto_first b (slice_split (λ b. b == c) bs))) lacks.0 ∙ ap (onto_first b) (split_alone c bs lacks.1)

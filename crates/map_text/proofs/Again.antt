@@ -27,15 +27,10 @@ use Rattle.map_text.specs.Writing.{ended, full_row, name_at as word_at, place_ro
 use Rattle.map_text.specs.declared.fault.MapFault.{MapFault}
 use Rattle.map_text.specs.declared.line.Line.{Line}
 use Rattle.map_text.specs.declared.line.Line.TheVariants.{Header, Place, Full, End, Bad}
+use Rattle.map_text.proofs.Forms.{no_line, no_name}
 use Rattle.map_text.proofs.Readings.{read_all, read_on, unless}
 use Rattle.map_text.proofs.Rows.{AllLack, all_lack-append, four_lacks, four_parts, unfinished_ended, whole_ended}
 use Rattle.map_text.proofs.Spelled.{IsWord, amount_again, amount_word, name_word, number_again, offer_again, pool_there}
-
-abbrev no_line : MapLine
-no_line = record { group = record { 0 = 0 }; place = 0; amount = 0 }
-
-abbrev no_name : NameLine
-no_name = record { group = record { 0 = 0 }; place = 0; node = record { 0 = 0 } }
 
 -- the amounts fit 32 bits
 abbrev pub Fit : List MapLine → Type 0

@@ -18,10 +18,10 @@ use Rattle.map_text.specs.declared.fault.MapFault.TheVariants.{BadLine, UnknownN
 use Rattle.map_text.specs.declared.line.Line.{Line}
 use Rattle.map_text.specs.declared.line.Line.TheVariants.{Header, Place, Full, End, Unknown, Bad}
 
-abbrev no_line : MapLine
+abbrev pub no_line : MapLine
 no_line = record { group = record { 0 = 0 }; place = 0; amount = 0 }
 
-abbrev no_name : NameLine
+abbrev pub no_name : NameLine
 no_name = record { group = record { 0 = 0 }; place = 0; node = record { 0 = 0 } }
 
 all_four : (a b c d : Bool) → a ≡ true → b ≡ true → c ≡ true → d ≡ true → (a && b && c && d) ≡ true

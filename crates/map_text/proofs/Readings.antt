@@ -6,7 +6,8 @@ use Rattle.std.proofs.lemmas.List.Recursion.{or_push}
 use Rattle.std.specs.List.{cons_option, filter_map, list_any, range_with_len}
 use Rattle.std.specs.Option.{option_to_list}
 use Rattle.topology_text.specs.Plan.{Plan}
-use Rattle.map_text.specs.Parts.{but_last, last_of, parts, unfinished}
+use Rattle.addr_text.specs.Groups.{parts}
+use Rattle.map_text.specs.Parts.{but_last, last_of, unfinished}
 use Rattle.map_text.specs.Lines.{line_of}
 use Rattle.map_text.specs.Reading.{Mapped, SoFar, fault_at, fault_of, finished, first_of, is_end, lines_of, map_of, named_by, placed_by, so_far}
 use Rattle.map_text.specs.Reader.{with_line}

@@ -2,38 +2,19 @@
 use Rattle.std.proofs.Common.{◌≡◌, ℕ, ◌==◌, Bool, true, false, cond, List, [], ◌∷◌, ◌++◌, refl, ap, ◌∙◌, arith, append_assoc}
 use Rattle.std.proofs.lemmas.Bool.Decides.{nat_tests}
 use Rattle.std.specs.List.{flat_map, onto_first}
-use Rattle.map_text.specs.Parts.{but_last, last_of, parts, unfinished, whole_lines}
+use Rattle.addr_text.specs.Groups.{parts}
+use Rattle.addr_text.proofs.Splits.{Lacks, lacks-append, split_alone, split_part}
+use Rattle.map_text.specs.Parts.{but_last, last_of, unfinished, whole_lines}
 use Rattle.map_text.specs.Writing.{ended, four}
 
--- no octet of a text is that one
-abbrev pub Lacks : ℕ → List ℕ → Type 0
-Lacks c [] = Unit {0}
-Lacks c (b ∷ bs) = ((b == c) ≡ false) × Lacks c bs
-
--- and so of each of some texts
+-- each of some texts lacks an octet
 abbrev pub AllLack : ℕ → List (List ℕ) → Type 0
 AllLack c [] = Unit {0}
 AllLack c (x ∷ xs) = Lacks c x × AllLack c xs
 
-pub lacks-append : (c : ℕ) (xs ys : List ℕ) → Lacks c xs → Lacks c ys → Lacks c (xs ++ ys)
-lacks-append c [] ys lx ly = ly
-lacks-append c (x ∷ xs) ys lx ly = (lx.0, lacks-append c xs ys lx.1 ly)
-
 pub all_lack-append : (c : ℕ) (xs ys : List (List ℕ)) → AllLack c xs → AllLack c ys → AllLack c (xs ++ ys)
 all_lack-append c [] ys lx ly = ly
 all_lack-append c (x ∷ xs) ys lx ly = (lx.0, all_lack-append c xs ys lx.1 ly)
-
-same : (c : ℕ) → (c == c) ≡ true
-same c = grind (arith, nat_tests)
-
-part_first : (c : ℕ) (x rest : List ℕ) → Lacks c x → parts c (x ++ c ∷ rest) ≡ x ∷ parts c rest
-part_first c [] rest lacks = ap (λ (t : Bool). cond t ([] ∷ parts c rest) (onto_first c (parts c rest))) (same c)
-part_first c (b ∷ bs) rest lacks =
-    ap (λ (t : Bool). cond t ([] ∷ parts c (bs ++ c ∷ rest)) (onto_first b (parts c (bs ++ c ∷ rest)))) lacks.0 ∙ ap (onto_first b) (part_first c bs rest lacks.1)
-
-part_alone : (c : ℕ) (x : List ℕ) → Lacks c x → parts c x ≡ x ∷ []
-part_alone c [] lacks = refl
-part_alone c (b ∷ bs) lacks = ap (λ (t : Bool). cond t ([] ∷ parts c bs) (onto_first b (parts c bs))) lacks.0 ∙ ap (onto_first b) (part_alone c bs lacks.1)
 
 -- the words of four
 four_apart : (k g p l : List ℕ) → four k g p l ≡ k ++ 32 ∷ (g ++ 32 ∷ (p ++ 32 ∷ l))
@@ -42,10 +23,10 @@ four_apart k g p l = append_assoc (k ++ 32 ∷ g) (32 ∷ p) (32 ∷ l) ∙ appe
 pub four_parts : (k g p l : List ℕ) → Lacks 32 k → Lacks 32 g → Lacks 32 p → Lacks 32 l → parts 32 (four k g p l) ≡ k ∷ g ∷ p ∷ l ∷ []
 four_parts k g p l lk lg lp ll =
     ap (parts 32) (four_apart k g p l)
-    ∙ part_first 32 k (g ++ 32 ∷ (p ++ 32 ∷ l)) lk
-    ∙ ap (λ (ps : List (List ℕ)). k ∷ ps) (part_first 32 g (p ++ 32 ∷ l) lg)
-    ∙ ap (λ (ps : List (List ℕ)). k ∷ g ∷ ps) (part_first 32 p l lp)
-    ∙ ap (λ (ps : List (List ℕ)). k ∷ g ∷ p ∷ ps) (part_alone 32 l ll)
+    ∙ split_part 32 k (g ++ 32 ∷ (p ++ 32 ∷ l)) lk
+    ∙ ap (λ (ps : List (List ℕ)). k ∷ ps) (split_part 32 g (p ++ 32 ∷ l) lg)
+    ∙ ap (λ (ps : List (List ℕ)). k ∷ g ∷ ps) (split_part 32 p l lp)
+    ∙ ap (λ (ps : List (List ℕ)). k ∷ g ∷ p ∷ ps) (split_alone 32 l ll)
 
 -- words without the end of a line make a line without it
 pub four_lacks : (k g p l : List ℕ) → Lacks 10 k → Lacks 10 g → Lacks 10 p → Lacks 10 l → Lacks 10 (four k g p l)
@@ -57,7 +38,7 @@ parts_ended : (rows : List (List ℕ)) → AllLack 10 rows → parts 10 (flat_ma
 parts_ended [] lacks = refl
 parts_ended (r ∷ rs) lacks =
     ap (parts 10) (append_assoc r (10 ∷ []) (flat_map ended rs))
-    ∙ part_first 10 r (flat_map ended rs) lacks.0
+    ∙ split_part 10 r (flat_map ended rs) lacks.0
     ∙ ap (λ (ps : List (List ℕ)). r ∷ ps) (parts_ended rs lacks.1)
 
 but_last_push : (rows : List (List ℕ)) → but_last (rows ++ [] ∷ []) ≡ rows

@@ -20,7 +20,7 @@ use Rattle.map_text.specs.Lines.{offer_of, place_of}
 use Rattle.map_text.specs.Number.{amount_of}
 use Rattle.map_text.specs.Writing.{name_at}
 use Rattle.map_text.proofs.Firsts.{position_here}
-use Rattle.map_text.proofs.Rows.{Lacks}
+use Rattle.addr_text.proofs.Splits.{Lacks}
 
 is_false : (b : Bool) → (b ≡ true → ⊥) → b ≡ false
 is_false true h = absurd (h refl)

@@ -1,10 +1,6 @@
 -- A text in lines, and a line in words.
-use Rattle.std.specs.Prelude.{ℕ, ◌==◌, List, [], ◌∷◌, Option, None, Some}
-use Rattle.std.specs.List.{slice_split}
-
--- the parts of a text round each octet of one kind
-abbrev pub parts : ℕ → List ℕ → List (List ℕ)
-parts octet text = slice_split (λ b. b == octet) text
+use Rattle.std.specs.Prelude.{ℕ, List, [], ◌∷◌, Option, None, Some}
+use Rattle.addr_text.specs.Groups.{parts}
 
 -- all but the last
 abbrev pub but_last : List (List ℕ) → List (List ℕ)

@@ -1,6 +1,7 @@
 ghost use Rattle.std.specs.Prelude.{◌≡◌, ◌==◌, ◌<◌, ◌≤◌, ◌+◌, [], ◌∷◌, None, Some, length, take, drop, MatchOption, IfSome};
 ghost use Rattle.std.specs.List.{position_from};
-ghost use Rattle.map_text.specs.Parts.{four_of, parts};
+ghost use Rattle.addr_text.specs.Groups.{parts};
+ghost use Rattle.map_text.specs.Parts.{four_of};
 
 /// The first place of an octet.
 fn find(text: &[u8], octet: u8) -> Option<usize>

@@ -8,33 +8,29 @@ use Rattle.name_text.specs.Wire.{wire}
 use Rattle.name_text.specs.Names.{first_fault, label_fault, short_wire}
 use Rattle.name_text.proofs.Splits.{split_at_hit, split_no_hit}
 
--- the labels of a text whose first dot is known
-labels_on : (p : ℕ → Bool) (xs : List ℕ) (i : ℕ) → position_from p 0 xs ≡ Some i → slice_split p xs ≡ take i xs ∷ slice_split p (drop (i + 1) xs)
-labels_on p xs i hit = split_at_hit p i 0 xs i hit (omega arith)
-
 -- a fault in the first label is the first fault
 pub fault_here : (p : ℕ → Bool) (xs : List ℕ) (i : ℕ) (fault : NameFault) (all : Option NameFault) → position_from p 0 xs ≡ Some i → label_fault (take i xs) ≡ Some fault → first_fault (slice_split p xs) ≡ all → Some fault ≡ all
 fault_here p xs i fault all hit is before =
-    sym (ap first_fault (labels_on p xs i hit) ∙ ap (λ (o : Option NameFault). option_or o (first_fault (slice_split p (drop (i + 1) xs)))) is) ∙ before
+    sym (ap first_fault (split_at_hit p xs i hit) ∙ ap (λ (o : Option NameFault). option_or o (first_fault (slice_split p (drop (i + 1) xs)))) is) ∙ before
 
 -- else it is that of the others
 pub fault_later : (p : ℕ → Bool) (xs : List ℕ) (i : ℕ) (all : Option NameFault) → position_from p 0 xs ≡ Some i → label_fault (take i xs) ≡ None → first_fault (slice_split p xs) ≡ all → first_fault (slice_split p (drop (i + 1) xs)) ≡ all
 fault_later p xs i all hit is before =
-    sym (ap first_fault (labels_on p xs i hit) ∙ ap (λ (o : Option NameFault). option_or o (first_fault (slice_split p (drop (i + 1) xs)))) is) ∙ before
+    sym (ap first_fault (split_at_hit p xs i hit) ∙ ap (λ (o : Option NameFault). option_or o (first_fault (slice_split p (drop (i + 1) xs)))) is) ∙ before
 
 or_none : (o : Option NameFault) → option_or o None ≡ o
 or_none None = refl
 or_none (Some fault) = refl
 
 pub fault_last : (p : ℕ → Bool) (xs : List ℕ) (all : Option NameFault) → position_from p 0 xs ≡ None → first_fault (slice_split p xs) ≡ all → label_fault xs ≡ all
-fault_last p xs all hit before = sym (or_none (label_fault xs)) ∙ sym (ap first_fault (split_no_hit p 0 xs hit)) ∙ before
+fault_last p xs all hit before = sym (or_none (label_fault xs)) ∙ sym (ap first_fault (split_no_hit p xs hit)) ∙ before
 
 -- one more label on the wire
 pub wire_step : (p : ℕ → Bool) (xs : List ℕ) (i : ℕ) (old new all : List ℕ) → position_from p 0 xs ≡ Some i → new ≡ old ++ length (take i xs) ∷ take i xs → old ++ wire (slice_split p xs) ≡ all → new ++ wire (slice_split p (drop (i + 1) xs)) ≡ all
 wire_step p xs i old new all hit pushed before =
     ap (λ (l : List ℕ). l ++ wire (slice_split p (drop (i + 1) xs))) pushed
     ∙ append_assoc old (length (take i xs) ∷ take i xs) (wire (slice_split p (drop (i + 1) xs)))
-    ∙ sym (ap (λ (ls : List (List ℕ)). old ++ wire ls) (labels_on p xs i hit))
+    ∙ sym (ap (λ (ls : List (List ℕ)). old ++ wire ls) (split_at_hit p xs i hit))
     ∙ before
 
 -- the last label, and the 0 behind it
@@ -42,7 +38,7 @@ pub wire_end : (p : ℕ → Bool) (xs old new all : List ℕ) → position_from 
 wire_end p xs old new all hit pushed before =
     ap (λ (l : List ℕ). l ++ 0 ∷ []) pushed
     ∙ append_assoc old (length xs ∷ xs) (0 ∷ [])
-    ∙ sym (ap (λ (ls : List (List ℕ)). old ++ wire ls) (split_no_hit p 0 xs hit))
+    ∙ sym (ap (λ (ls : List (List ℕ)). old ++ wire ls) (split_no_hit p xs hit))
     ∙ before
 
 -- a name that does not fit
@@ -58,14 +54,14 @@ short_enough labels octets is short =
 -- a label that finds no room
 pub full_at : (p : ℕ → Bool) (xs : List ℕ) (i : ℕ) (old : List ℕ) (labels : List (List ℕ)) → position_from p 0 xs ≡ Some i → 255 < length old + 1 + length (take i xs) → old ++ wire (slice_split p xs) ≡ wire labels → None ≡ short_wire labels
 full_at p xs i old labels hit over before =
-    let e : old ++ length (take i xs) ∷ (take i xs ++ wire (slice_split p (drop (i + 1) xs))) ≡ wire labels = sym (ap (λ (ls : List (List ℕ)). old ++ wire ls) (labels_on p xs i hit)) ∙ before in
+    let e : old ++ length (take i xs) ∷ (take i xs ++ wire (slice_split p (drop (i + 1) xs))) ≡ wire labels = sym (ap (λ (ls : List (List ℕ)). old ++ wire ls) (split_at_hit p xs i hit)) ∙ before in
     let sizes = length-append old (length (take i xs) ∷ (take i xs ++ wire (slice_split p (drop (i + 1) xs)))) in
     let rest = length-append (take i xs) (wire (slice_split p (drop (i + 1) xs))) in
     too_long labels (omega (arith, ap length e))
 
 pub full_last : (p : ℕ → Bool) (xs old : List ℕ) (labels : List (List ℕ)) → position_from p 0 xs ≡ None → 254 < length old + 1 + length xs → old ++ wire (slice_split p xs) ≡ wire labels → None ≡ short_wire labels
 full_last p xs old labels hit over before =
-    let e : old ++ length xs ∷ (xs ++ 0 ∷ []) ≡ wire labels = sym (ap (λ (ls : List (List ℕ)). old ++ wire ls) (split_no_hit p 0 xs hit)) ∙ before in
+    let e : old ++ length xs ∷ (xs ++ 0 ∷ []) ≡ wire labels = sym (ap (λ (ls : List (List ℕ)). old ++ wire ls) (split_no_hit p xs hit)) ∙ before in
     let sizes = length-append old (length xs ∷ (xs ++ 0 ∷ [])) in
     let rest = length-append xs (0 ∷ []) in
     too_long labels (omega (arith, ap length e))

@@ -1,34 +1,29 @@
 -- The parts between separators, one after another.
-use Rattle.std.proofs.Common.{◌≡◌, ℕ, ◌+◌, ◌≤◌, suc, zero, Bool, true, false, cond, List, [], ◌∷◌, take, drop, None, Some, refl, arith}
-use Rattle.std.specs.List.{onto_first, position_from, slice_split}
+use Rattle.std.proofs.Common.{◌≡◌, ℕ, ◌+◌, ◌≤◌, Bool, true, false, cond, List, [], ◌∷◌, length, take, drop, None, Some, nat_lt, refl, subst, ◌∙◌, arith}
+use Rattle.std.proofs.lemmas.Bool.Decides.{nat_tests}
+use Rattle.std.proofs.lemmas.Iterator.Adapters.{position_from-zero}
+use Rattle.std.proofs.lemmas.List.Splits.{slice_split_first, slice_split_none}
+use Rattle.std.proofs.lemmas.List.Sums.{fails_before_first}
+use Rattle.std.specs.List.{position_from, position_or_len, slice_split}
 
-position_ge : {X : Type 0} (p : X → Bool) (n : ℕ) (xs : List X) (m : ℕ) → position_from p n xs ≡ Some m → n ≤ m
-position_ge p n [] m h = cc
-position_ge p n (x ∷ xs) m h = go (p x) h (λ q. position_ge p (n + 1) xs m q)
+-- an element that is found ends the first part
+pub split_at_hit : {X : Type 0} (p : X → Bool) (xs : List X) (i : ℕ) → position_from p 0 xs ≡ Some i → slice_split p xs ≡ take i xs ∷ slice_split p (drop (i + 1) xs)
+split_at_hit p [] i h = cc
+split_at_hit p (x ∷ xs) i h = go (nat_lt (position_or_len p (x ∷ xs)) (length (x ∷ xs))) refl (position_from-zero p (x ∷ xs) ∙ h)
   where
-    go : (b : Bool) → cond b (Some n) (position_from p (n + 1) xs) ≡ Some m → (position_from p (n + 1) xs ≡ Some m → n + 1 ≤ m) → n ≤ m
-    go true q more = let e : n ≡ m = cc in omega arith
-    go false q more = let l = more q in omega arith
+    go : (b : Bool) → nat_lt (position_or_len p (x ∷ xs)) (length (x ∷ xs)) ≡ b → cond b (Some (position_or_len p (x ∷ xs))) None ≡ Some i
+        → slice_split p (x ∷ xs) ≡ take i (x ∷ xs) ∷ slice_split p (drop (i + 1) (x ∷ xs))
+    go true t is =
+        let at : position_or_len p (x ∷ xs) ≡ i = cc in
+        subst (λ j. slice_split p (x ∷ xs) ≡ take j (x ∷ xs) ∷ slice_split p (drop (j + 1) (x ∷ xs))) at (slice_split_first p (x ∷ xs) x (grind (arith, nat_tests)))
+    go false t is = cc
 
--- the part before the first hit, and what follows it
-pub split_at_hit : {X : Type 0} (p : X → Bool) (i n : ℕ) (xs : List X) (m : ℕ) → position_from p n xs ≡ Some m → m ≡ n + i → slice_split p xs ≡ take i xs ∷ slice_split p (drop (i + 1) xs)
-split_at_hit p i n [] m h e = cc
-split_at_hit p zero n (x ∷ xs) m h e = go (p x) h (λ q. position_ge p (n + 1) xs m q)
+-- where none is found there is one part
+pub split_no_hit : {X : Type 0} (p : X → Bool) (xs : List X) → position_from p 0 xs ≡ None → slice_split p xs ≡ xs ∷ []
+split_no_hit p xs h = go (nat_lt (position_or_len p xs) (length xs)) refl (position_from-zero p xs ∙ h)
   where
-    go : (b : Bool) → cond b (Some n) (position_from p (n + 1) xs) ≡ Some m → (position_from p (n + 1) xs ≡ Some m → n + 1 ≤ m) → cond b ([] ∷ slice_split p xs) (onto_first x (slice_split p xs)) ≡ [] ∷ slice_split p xs
-    go true q more = refl
-    go false q more = let l = more q in absurd (omega arith)
-split_at_hit p (suc j) n (x ∷ xs) m h e = let next : suc j + 1 ≡ suc (j + 1) = omega arith in rw next (go (p x) h (λ q. split_at_hit p j (n + 1) xs m q (omega arith)))
-  where
-    go : (b : Bool) → cond b (Some n) (position_from p (n + 1) xs) ≡ Some m → (position_from p (n + 1) xs ≡ Some m → slice_split p xs ≡ take j xs ∷ slice_split p (drop (j + 1) xs))
-        → cond b ([] ∷ slice_split p xs) (onto_first x (slice_split p xs)) ≡ (x ∷ take j xs) ∷ slice_split p (drop (j + 1) xs)
-    go true q more = let same : n ≡ m = cc in absurd (omega arith)
-    go false q more = rw (more q) refl
-
-pub split_no_hit : {X : Type 0} (p : X → Bool) (n : ℕ) (xs : List X) → position_from p n xs ≡ None → slice_split p xs ≡ xs ∷ []
-split_no_hit p n [] h = refl
-split_no_hit p n (x ∷ xs) h = go (p x) h (λ q. split_no_hit p (n + 1) xs q)
-  where
-    go : (b : Bool) → cond b (Some n) (position_from p (n + 1) xs) ≡ None → (position_from p (n + 1) xs ≡ None → slice_split p xs ≡ xs ∷ []) → cond b ([] ∷ slice_split p xs) (onto_first x (slice_split p xs)) ≡ (x ∷ xs) ∷ []
-    go true h more = cc
-    go false h more = rw (more h) refl
+    go : (b : Bool) → nat_lt (position_or_len p xs) (length xs) ≡ b → cond b (Some (position_or_len p xs)) None ≡ None → slice_split p xs ≡ xs ∷ []
+    go true t is = cc
+    go false t is =
+        let past : length xs ≤ position_or_len p xs = grind (arith, nat_tests) in
+        slice_split_none p xs (λ k d within. fails_before_first p xs k d (omega arith))

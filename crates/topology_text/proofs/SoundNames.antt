@@ -10,11 +10,7 @@ use Rattle.topology_text.specs.Texts.{is_name}
 use Rattle.topology_text.specs.Topology.{AreSoundNames, name_of}
 use Rattle.topology_text.specs.Values.{failing, is_bad_name, wrong_in}
 use Rattle.topology_text.specs.declared.schema.Key.TheVariants.{Name}
-use Rattle.topology_text.proofs.Quiet.{not_whole}
-
-flip : (b : Bool) → not b ≡ false → b ≡ true
-flip true h = refl
-flip false h = cc
+use Rattle.topology_text.proofs.Quiet.{flip, not_whole}
 
 -- a name that is there, of its kind and by its rule
 pub name_good : (o : Option Data) → is_some o ≡ true → wrong_in Name o ≡ [] → failing (is_bad_name Name) o ≡ [] → (t : List ℕ) × (text_in o ≡ Some t) × (is_name t ≡ true)

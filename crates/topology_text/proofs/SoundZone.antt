@@ -6,12 +6,8 @@ use Rattle.topology_text.specs.Texts.{zone_name}
 use Rattle.topology_text.specs.Topology.{natural, natural_in}
 use Rattle.topology_text.specs.Values.{failing, is_bad_name, is_out_of_range, wrong_in}
 use Rattle.topology_text.specs.declared.schema.Key.TheVariants.{Apex, Mname, Rname, Serial, Refresh, Retry, Expire, Minimum, Ttl}
-use Rattle.topology_text.proofs.Quiet.{not_whole}
+use Rattle.topology_text.proofs.Quiet.{flip, not_whole}
 use Rattle.topology_text.proofs.Sound.{within_high}
-
-flip : (b : Bool) → not b ≡ false → b ≡ true
-flip true h = refl
-flip false h = cc
 
 pub apex_good : (o : Option Data) → is_some o ≡ true → wrong_in Apex o ≡ [] → failing (is_bad_name Apex) o ≡ [] → is_some (option_and_then zone_name (text_in o)) ≡ true
 apex_good None there kind good = cc
