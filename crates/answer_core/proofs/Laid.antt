@@ -75,7 +75,7 @@ unfolding pick_of
 pick_is v g draw slot amounts None there items is some lt from to =
     let n = length (choices_of v.market g) in
     let size : length (amounts_of v g) ≡ n = length-map-range_with_len (amount_at v.lines g) 0 n in
-    let behind : sum amounts ≤ slot = elim (cases_lt slot (sum amounts)) [ inl l ↦ absurd (some l) | inr ge ↦ ge ] in
+    let behind : sum amounts ≤ slot = elim (cases_lt slot (sum amounts)) [ inl l ↦ let none : false ≡ true = some l in absurd cc | inr ge ↦ ge ] in
     let all : sum (take n (amounts_of v g)) ≤ slot_of draw (placed v.lines g) = omega (arith, sum_by-take-le (λ x. x) (amounts_of v g) n, ap sum items) in
     sym (found_none (falls_on v g (slot_of draw (placed v.lines g))) n (λ j l. past v g (slot_of draw (placed v.lines g)) n j l (omega arith) all))
 pick_is v g draw slot amounts (Some k) there items is some lt from to =

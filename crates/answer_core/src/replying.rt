@@ -4,7 +4,7 @@ ghost use Rattle.addr_text.specs.declared.address.Addr.{Addr};
 ghost use Rattle.name_text.specs.Wire.{IsName};
 ghost use Rattle.dns_wire.specs.View.{asked};
 ghost use Rattle.prefix_lookup.specs.Longest.{IsAddress};
-ghost use Rattle.published_map.specs.Version.{IsVersion, Version};
+ghost use Rattle.published_map.specs.Version.{Version};
 ghost use Rattle.answer_core.specs.Grammar.{request_of};
 ghost use Rattle.answer_core.specs.Outcome.{IsLookedUp};
 ghost use Rattle.answer_core.specs.Reply.{Replies, reply_of, reply_to_query};
@@ -47,9 +47,9 @@ fn write_reply(
     write_full(out, version.zone(), &request, &outcome);
 }
 
-/// What is always so of a version.
-fn check_version(version: &MapVersion)
-    ensures { IsVersion version.now }
+/// What is always so of a version's prefixes.
+fn check_prefixes(version: &MapVersion)
+    ensures { (a : Addr) → IsAddress a → IsLookedUp version.now a }
 {
     let _ = version.serial();
 }
@@ -68,7 +68,7 @@ pub fn reply(
     ensures short { IfSome (reply_of version.now from octets.now draw) (λ r. length r ≤ 512) }
     ensures lookup { (a : Addr) → IsAddress a → IsLookedUp version.now a }
 {
-    check_version(version);
+    check_prefixes(version);
     out.clear();
     match read_query(octets) {
         Message::Silent => return Answer::Silent,
