@@ -1,4 +1,4 @@
-use Rattle.std.proofs.Common.{◌≡◌, ℕ, ◌+◌, ◌<◌, ◌≤◌, ◌==◌, Bool, true, false, if◌then◌else◌, List, [], ◌∷◌, ◌++◌, length, replicate, All, slice_set, refl, sym, ap, ◌∙◌, subst, inl, inr, arith}
+use Rattle.std.proofs.Common.{◌≡◌, ℕ, ◌+◌, ◌<◌, ◌≤◌, ◌==◌, Bool, true, false, if◌then◌else◌, List, [], ◌∷◌, ◌++◌, length, drop, replicate, All, slice_set, refl, sym, ap, ◌∙◌, subst, inl, inr, arith}
 use Rattle.std.specs.List.{sum_by}
 use Rattle.std.proofs.lemmas.Bool.{cases_Bool, cases_eq, eq-eqb, ne_eqb}
 use Rattle.std.proofs.lemmas.Grind.{get_or-set_at}
@@ -35,46 +35,44 @@ listed_more groups on g listed l off =
       ];
     }
 
--- the last group of a list is there
-pub last_there : (groups rest : List GroupId) (on : List Bool) (g : GroupId) → groups ≡ rest ++ g ∷ [] → HoldsEachOnce groups on → g.0 < length on
-last_there groups rest on g is listed =
-    let all : All (λ (x : GroupId). x.0 < length on) (rest ++ g ∷ []) = subst (λ (gs : List GroupId). All (λ x. x.0 < length on) gs) is listed.there in
-    last rest all
-  where
-    last : (xs : List GroupId) → All (λ (x : GroupId). x.0 < length on) (xs ++ g ∷ []) → g.0 < length on
-    last [] all = All-head (λ (x : GroupId). x.0 < length on) g [] all
-    last (x ∷ xs) all = last xs (All-tail (λ (y : GroupId). y.0 < length on) x (xs ++ g ∷ []) all)
+-- one group more at the head is named once more, and the others as often as before
+times_first : (groups : List GroupId) (g : GroupId) (h : ℕ) → times (g ∷ groups) h ≡ (if g.0 == h then 1 else 0) + times groups h
+times_first groups g h = sum_by-cons (λ (x : GroupId). if x.0 == h then 1 else 0) g groups
+
+-- the first group of a list is there
+pub first_there : (groups rest : List GroupId) (on : List Bool) (g : GroupId) → groups ≡ g ∷ rest → HoldsEachOnce groups on → g.0 < length on
+first_there groups rest on g is listed = All-head (λ (x : GroupId). x.0 < length on) g rest (subst (λ (gs : List GroupId). All (λ x. x.0 < length on) gs) is listed.there)
 
 -- and on, by what is told of each group
-pub last_on : (groups rest : List GroupId) (on : List Bool) (g : GroupId) → groups ≡ rest ++ g ∷ [] → HoldsEachOnce groups on → is_on on g.0 ≡ true
-last_on groups rest on g is listed = elim (cases_Bool (is_on on g.0)) [
+pub first_on : (groups rest : List GroupId) (on : List Bool) (g : GroupId) → groups ≡ g ∷ rest → HoldsEachOnce groups on → is_on on g.0 ≡ true
+first_on groups rest on g is listed = elim (cases_Bool (is_on on g.0)) [
   | inl e ↦ e
   | inr off ↦
-      let none : times (rest ++ g ∷ []) g.0 ≡ 0 = ap (λ gs. times gs g.0) (sym is) ∙ listed.once g.0 (last_there groups rest on g is listed) ∙ ap one_if off in
+      let none : times (g ∷ rest) g.0 ≡ 0 = ap (λ gs. times gs g.0) (sym is) ∙ listed.once g.0 (first_there groups rest on g is listed) ∙ ap one_if off in
       let this : (if g.0 == g.0 then 1 else 0) ≡ 1 = ap one_if (eq-eqb g.0 g.0 refl) in
-      absurd (omega (arith, times_more rest g g.0, none, this))
+      absurd (omega (arith, times_first rest g g.0, none, this))
 ]
 
 -- that group is taken off
-pub listed_less : (groups rest : List GroupId) (on : List Bool) (g : GroupId) → groups ≡ rest ++ g ∷ [] → HoldsEachOnce groups on → HoldsEachOnce rest (slice_set on g.0 false)
+pub listed_less : (groups rest : List GroupId) (on : List Bool) (g : GroupId) → groups ≡ g ∷ rest → HoldsEachOnce groups on → HoldsEachOnce rest (slice_set on g.0 false)
 listed_less groups rest on g is listed =
-    let l = last_there groups rest on g is listed in
+    let l = first_there groups rest on g is listed in
     let same : length (slice_set on g.0 false) ≡ length on = length-set on g.0 false in
-    let all : All (λ (x : GroupId). x.0 < length on) (rest ++ g ∷ []) = subst (λ (gs : List GroupId). All (λ x. x.0 < length on) gs) is listed.there in
+    let all : All (λ (x : GroupId). x.0 < length on) (g ∷ rest) = subst (λ (gs : List GroupId). All (λ x. x.0 < length on) gs) is listed.there in
     record {
-      there = λ i d li. omega (arith, same, subst (λ (x : GroupId). x.0 < length on) (get_or_append_left rest (g ∷ []) d i li) (all i d (omega (arith, length-append rest (g ∷ [])))));
+      there = subst (λ n. All (λ (x : GroupId). x.0 < n) rest) (sym same) (All-tail (λ (x : GroupId). x.0 < length on) g rest all);
       once = λ h lh.
-          let before : times (rest ++ g ∷ []) h ≡ (if is_on on h then 1 else 0) = ap (λ gs. times gs h) (sym is) ∙ listed.once h (omega (arith, same)) in
+          let before : times (g ∷ rest) h ≡ (if is_on on h then 1 else 0) = ap (λ gs. times gs h) (sym is) ∙ listed.once h (omega (arith, same)) in
           elim (cases_eq h g.0) [
             | inl e ↦
-                let was : (if is_on on h then 1 else 0) ≡ 1 = ap one_if (ap (is_on on) e ∙ last_on groups rest on g is listed) in
+                let was : (if is_on on h then 1 else 0) ≡ 1 = ap one_if (ap (is_on on) e ∙ first_on groups rest on g is listed) in
                 let now : (if is_on (slice_set on g.0 false) h then 1 else 0) ≡ 0 = ap one_if (get_or-set_at on g.0 h false false e l) in
                 let this : (if g.0 == h then 1 else 0) ≡ 1 = ap one_if (eq-eqb g.0 h (sym e)) in
-                omega (arith, times_more rest g h, before, was, now, this)
+                omega (arith, times_first rest g h, before, was, now, this)
             | inr ne ↦
                 let now : (if is_on (slice_set on g.0 false) h then 1 else 0) ≡ (if is_on on h then 1 else 0) = ap one_if (get_or-set_other on g.0 h false false ne) in
                 let this : (if g.0 == h then 1 else 0) ≡ 0 = ap one_if (ne_eqb g.0 h (λ e. ne (sym e))) in
-                omega (arith, times_more rest g h, before, now, this)
+                omega (arith, times_first rest g h, before, now, this)
           ];
     }
 
@@ -87,6 +85,11 @@ listed_none groups on is listed h l = elim (cases_Bool (is_on on h)) [
       let none : times groups h ≡ 0 = ap (λ gs. times gs h) is in
       absurd (omega arith)
 ]
+
+-- where nothing is left of a list and nothing was taken off, it was empty
+pub none_left : (groups rest : List GroupId) → groups ≡ rest → rest ≡ drop 1 groups → groups ≡ []
+none_left [] rest e f = refl
+none_left (g ∷ groups) rest e f = let one_less : length (g ∷ groups) ≡ length groups = ap length (e ∙ f) in absurd (omega arith)
 
 -- a list that names each of so many groups once
 pub listed_all : (groups : List GroupId) (n : ℕ) → All (λ x. x.0 < n) groups → ((h : ℕ) → h < n → times groups h ≡ 1) → HoldsEachOnce groups (replicate n true)

@@ -6,13 +6,15 @@ ghost use Rattle.deferred_accept.specs.Work.{is_on, times};
 use map_model::{GroupId, Instance};
 use no_memory::NoMemory;
 use std::alloc::Global;
+use std::collections::VecDeque;
 use std::marker::Model;
 
 /// Groups that may still have to offer. Contracts see for each group whether it is on the list.
 #[derive(Debug, Drop)]
 pub struct WorkList {
-    // The last one is taken off first.
-    groups: Vec<GroupId>,
+    // The first one is taken off first: while a group waits, units that it loses are added up, and
+    // are then offered together. By the last one each few units would go on their way at once.
+    groups: VecDeque<GroupId>,
     is_on: Vec<bool>,
 }
 
@@ -28,13 +30,13 @@ impl Model for WorkList {
 }
 
 /// The first so many groups.
-fn first_groups(alloc: Global, count: u32) -> Result<Vec<GroupId>, NoMemory>
+fn first_groups(alloc: Global, count: u32) -> Result<VecDeque<GroupId>, NoMemory>
     ensures there { IfOk result (λ groups. All (λ x. x.0 < count) groups.items) }
     ensures once { IfOk result (λ groups. (h : ℕ) → h < count → times groups.items h ≡ 1) }
 {
-    let mut groups = Vec::new(alloc);
+    let mut groups = VecDeque::new(alloc);
     for g in 0..count {
-        groups.push(GroupId(g))?;
+        groups.push_back(GroupId(g))?;
     }
     Ok(groups)
 }
@@ -61,7 +63,7 @@ impl WorkList {
         if self.is_on[g] {
             return Ok(());
         }
-        self.groups.push(group)?;
+        self.groups.push_back(group)?;
         self.is_on[g] = true;
         Ok(())
     }
@@ -72,7 +74,7 @@ impl WorkList {
             ((h : ℕ) → h < length self.old → is_on self.old h ≡ false)
             (λ g. (g.0 < length self.old) × (is_on self.old g.0 ≡ true) × (self.new ≡ slice_set self.old g.0 false)) }
     {
-        let group = self.groups.pop()?;
+        let group = self.groups.pop_front()?;
         self.is_on[group.0 as usize] = false;
         Some(group)
     }

@@ -7,6 +7,6 @@ loop-g-preserved c =
     let groups = c.loop-g.groups.items in
     record {
       within = omega arith;
-      there = rw c.in_ok-push.ensures.items (there_more groups c.loop-g.g c.loop-g.invariant.there);
-      once = rw c.in_ok-push.ensures.items (first_more groups c.loop-g.g c.loop-g.invariant.there c.loop-g.invariant.once);
+      there = rw c.in_ok-push_back.ensures.items (there_more groups c.loop-g.g c.loop-g.invariant.there);
+      once = rw c.in_ok-push_back.ensures.items (first_more groups c.loop-g.g c.loop-g.invariant.there c.loop-g.invariant.once);
     }
