@@ -100,8 +100,10 @@ fn keeps_its_parts(rt: HostRuntime) -> Result<(), Fail> {
     assert_eq!(rt; version.serial(), 7);
     assert_eq!(rt; version.instance().nodes(), 3);
     let map = version.map();
-    assert!(rt; map.lines.as_slice() == [line(G1, 0, 8), line(G2, 0, 2), line(G2, 1, 5)]);
-    assert!(rt; map.names.as_slice() == [name(G2, 0, A), name(G2, 1, NodeId(0))]);
+    assert!(rt;
+        map.lines.as_slice() == [line(G1, 0, 8), line(G2, 0, 2), line(G2, 1, 5)].as_slice()
+    );
+    assert!(rt; map.names.as_slice() == [name(G2, 0, A), name(G2, 1, NodeId(0))].as_slice());
     assert_eq!(rt; version.zone().ttl, 20);
     assert_eq!(rt; version.topology().prefixes().len(), 3);
     Ok(())
