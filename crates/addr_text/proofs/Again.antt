@@ -2,7 +2,7 @@
 use Rattle.std.proofs.Common.{◌≡◌, ℕ, zero, suc, ◌+◌, ◌-◌, ◌<◌, ◌≤◌, ◌^◌, ◌==◌, Bool, true, false, cond, ◌&&◌, nat_le, List, [], ◌∷◌, ◌++◌, length, map, take, drop, replicate, get_or, Option, None, Some, option_map, refl, ap, sym, ◌∙◌, arith, length-append, append_assoc, append-nil, length-drop, length-take}
 use Rattle.std.proofs.lemmas.Bool.Decides.{nat_tests}
 use Rattle.std.proofs.lemmas.List.{drop-drop, take-append-drop}
-use Rattle.std.specs.List.{flat_map, join_with_byte, onto_first, prefix_len, slice_split}
+use Rattle.std.specs.List.{flat_map, join_with_byte, prefix_len, slice_split}
 use Rattle.std.specs.Option.{option_or}
 use Rattle.addr_text.specs.declared.address.Addr.TheVariants.{V4, V6}
 use Rattle.addr_text.specs.Numbers.{all_of, digits_in, in_base, number_of, only_if, together}

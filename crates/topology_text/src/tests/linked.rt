@@ -86,6 +86,13 @@ const MISPLACED: &[Row] = &[
         &[("\"B\"\nparent = \"R\"", "\"B\"\nparent = \"A\"")],
         "8 parent order at node 2 parent",
     ),
+    (
+        &[(
+            "name = \"R\"\ncapacity = 15\n[[node]]\nname = \"A\"\nparent = \"R\"\ncapacity = 10\npool = true\na = [\"192.0.2.1\"]\naaaa = [\"2001:db8::1\"]\n",
+            "name = \"A\"\nparent = \"R\"\ncapacity = 10\npool = true\na = [\"192.0.2.1\"]\naaaa = [\"2001:db8::1\"]\n[[node]]\nname = \"R\"\ncapacity = 15\n",
+        )],
+        "8 parent order at node 0 parent",
+    ),
 ];
 
 #[test]
