@@ -1,5 +1,5 @@
 -- Where the files hold a good map and nothing outside fails, the answer is status 0.
-use Rattle.std.proofs.Common.{◌≡◌, ◌⊎◌, ℕ, List, Option, None, Some, Result, IsSomeAnd, MatchOption, MatchResult, inl, inr, refl, ap, ◌∙◌, subst, arith}
+use Rattle.std.proofs.Common.{◌≡◌, ◌⊎◌, ℕ, List, Option, None, Some, Result, Ok, Err, IsSome, inl, inr, refl, ap, ◌∙◌, subst, arith}
 use Rattle.std.specs.Prelude.{slice_get}
 use Rattle.map_model.specs.declared.lines.MapLine.{MapLine}
 use Rattle.map_model.specs.declared.lines.NameLine.{NameLine}
@@ -14,10 +14,10 @@ use Rattle.glb_program.specs.declared.status.Status.{Status}
 use Rattle.glb_program.specs.declared.status.Status.TheVariants as status
 use Rattle.glb_program.specs.Words.{Ask, check, map_from, answer}
 use Rattle.glb_program.specs.Outcome.{Faults, HasCauses, Outcome, Outside, RunsBy}
-use Rattle.glb_program.specs.Files.{Kind, Reads, Says, refused, map_file, topology_file}
-use Rattle.glb_program.specs.Check.{HoldsGoodMap, IsCheck, IsCheckDue, IsJudged, status_of}
+use Rattle.glb_program.specs.Files.{Kind, Reads, Says, said, map_file, topology_file}
+use Rattle.glb_program.specs.Check.{HoldsGoodMap, IsCheckDue, IsJudged, status_of}
 use Rattle.glb_program.specs.Map.{HoldsTopology, IsMapDue, IsMapped}
-use Rattle.glb_program.specs.Answer.{IsAnswer, IsAnswerDue, IsAnswered}
+use Rattle.glb_program.specs.Answer.{IsAnswerDue, IsAnswered}
 use Rattle.glb_program.specs.Datagram.{Datagram}
 use Rattle.glb_program.specs.Run.{IsRun, IsSound}
 
@@ -30,24 +30,39 @@ only_good m lines names (OverCapacity n units) judged good = absurd (omega (arit
 only_good m lines names (Blocking g k) judged good = let some = good.stable g.0 k judged.2.offer judged.2.wanted in let none = judged.2.unrefused in absurd (cc)
 only_good m lines names (BadName i) judged good = absurd (judged.3.here (ap (λ ns. slice_get ns i) good.named))
 
--- what a file says decides what is due
-reads_on : {T : Type 0} (kind : Kind T) (held : Option (List ℕ)) (Next : T → Outcome → Type 0) (due : Outcome) (t : T) → Says kind held t → Reads kind held Next due → Next t due
-reads_on {T = T} kind held Next due t is h = subst (λ (r : Option (Result T (List ℕ))). MatchOption r ⊥ (λ x. MatchResult x (λ y. Next y due) (λ text. due ≡ refused text))) is h
+one_content : (held : Option (List ℕ)) (a b : List ℕ) → held ≡ Some a → held ≡ Some b → a ≡ b
+one_content held a b h k = cc
 
-well_due : (topology map : List ℕ) (files : List ℕ → Option (List ℕ)) (due : Outcome) → HoldsGoodMap topology map files → IsCheck topology map files due → due.status ≡ status.Ok
-well_due topology map files due held h =
+one_answer : {T : Type 0} (r : Result T (List ℕ)) (t : T) (text : List ℕ) → r ≡ Ok t → r ≡ Err text → ⊥
+one_answer r t text h k = cc
+
+one_meaning : {T : Type 0} (r : Result T (List ℕ)) (t u : T) → r ≡ Ok t → r ≡ Ok u → t ≡ u
+one_meaning r t u h k = cc
+
+-- what a file says that is told decides what is due
+reads_on : {T : Type 0} (kind : Kind T) (shelf : Shelved) (name : List ℕ) (Next : T → Outcome → Type 0) (due : Outcome) (t : T) → Says kind (Some shelf) name t → Reads kind (Some shelf) name Next due → Next t due
+reads_on kind shelf name Next due t says (inl other) =
+    let same : says.0 ≡ other.0 = one_content (shelf.holds name) says.0 other.0 says.1 other.2 in
+    absurd (one_answer (said kind says.0) t other.1 says.2 (ap (said kind) same ∙ other.3))
+reads_on {T = T} kind shelf name Next due t says (inr read) =
+    let same : says.0 ≡ read.1.0 = one_content (shelf.holds name) says.0 read.1.0 says.1 read.1.1 in
+    let one : read.0 ≡ t = one_meaning (said kind says.0) read.0 t (ap (said kind) same ∙ read.1.2) says.2 in
+    subst (λ (x : T). Next x due) one read.2
+
+well_due : (topology map : List ℕ) (shelf : Shelved) (due : Outcome) → HoldsGoodMap topology map (Some shelf) → IsCheckDue topology map (Some shelf) due → due.status ≡ status.Ok
+well_due topology map shelf due held h =
     let t = held.0 in
     let m = held.1 in
-    let first = reads_on topology_file (files topology) (λ x. Reads (map_file x) (files map) (IsJudged x)) due t held.2 h in
-    let judged = reads_on (map_file t) (files map) (IsJudged t) due m held.3 first in
+    let first = reads_on topology_file shelf topology (λ x. Reads (map_file x) (Some shelf) map (IsJudged x)) due t held.2 h in
+    let judged = reads_on (map_file t) shelf map (IsJudged t) due m held.3 first in
     ap (λ (o : Outcome). o.status) judged.2 ∙ ap status_of (only_good t.market m.lines m.names judged.0 judged.1 held.4)
 
-well_answered : (topology map : List ℕ) (d : Datagram) (files : List ℕ → Option (List ℕ)) (due : Outcome) → HoldsGoodMap topology map files → IsAnswer topology map d files due → due.status ≡ status.Ok
-well_answered topology map d files due held h =
+well_answered : (topology map : List ℕ) (d : Datagram) (shelf : Shelved) (due : Outcome) → HoldsGoodMap topology map (Some shelf) → IsAnswerDue topology map d (Some shelf) due → due.status ≡ status.Ok
+well_answered topology map d shelf due held h =
     let t = held.0 in
     let m = held.1 in
-    let first = reads_on topology_file (files topology) (λ x. Reads (map_file x) (files map) (IsAnswered d x)) due t held.2 h in
-    elim (reads_on (map_file t) (files map) (IsAnswered d t) due m held.3 first) [
+    let first = reads_on topology_file shelf topology (λ x. Reads (map_file x) (Some shelf) map (IsAnswered d x)) due t held.2 h in
+    elim (reads_on (map_file t) shelf map (IsAnswered d t) due m held.3 first) [
       | inl replied ↦ replied.status
       | inr other ↦ absurd (other.not_good (only_good t.market m.lines m.names other.verdict other.judged held.4))
     ]
@@ -60,28 +75,24 @@ ends_well Due before after counts later result (inr (inl cut)) well causes files
 ends_well Due before after counts later result (inr (inr silent)) well causes files out = elim silent.status [ inl source ↦ absurd (files (causes.source source)) | inr memory ↦ inr memory ]
 
 -- a run over a good map
-pub complete_run : (ask : Option Ask) (before after : Outside) (counts later : Faults) (result : Status) → IsRun ask before after result → HasCauses counts later result → IsSomeAnd before.files (λ shelf. IsSound ask shelf.holds)
+pub complete_run : (ask : Option Ask) (before after : Outside) (counts later : Faults) (result : Status) → IsRun ask before after result → HasCauses counts later result → IsSome before.files → IsSound ask before.files
     → (Rose counts.files later.files → ⊥) → (Rose counts.out later.out → ⊥) → (result ≡ status.Ok) ⊎ (result ≡ status.NoMemory)
-complete_run None before after counts later result run causes sound files out = absurd (nowhere before.files sound)
+complete_run None before after counts later result run causes told sound files out = absurd sound
+complete_run (Some (check topology map)) before after counts later result run causes told sound files out =
+    ends_well (IsCheckDue topology map before.files) before after counts later result run (well before.files told sound) causes files out
   where
-    nowhere : (files : Option Shelved) → IsSomeAnd files (λ shelf. ⊥) → ⊥
-    nowhere None h = h
-    nowhere (Some shelf) h = h
-complete_run (Some (check topology map)) before after counts later result run causes sound files out =
-    ends_well (IsCheckDue topology map before.files) before after counts later result run (well before.files sound) causes files out
+    well : (files : Option Shelved) → IsSome files → HoldsGoodMap topology map files → (due : Outcome) → IsCheckDue topology map files due → due.status ≡ status.Ok
+    well None told held due h = absurd (cc)
+    well (Some shelf) told held due h = well_due topology map shelf due held h
+complete_run (Some (map_from topology)) before after counts later result run causes told sound files out =
+    ends_well (IsMapDue topology before.files) before after counts later result run (well before.files told sound) causes files out
   where
-    well : (files : Option Shelved) → IsSomeAnd files (λ shelf. HoldsGoodMap topology map shelf.holds) → (due : Outcome) → IsCheckDue topology map files due → due.status ≡ status.Ok
-    well None held due h = absurd held
-    well (Some shelf) held due h = well_due topology map shelf.holds due held h
-complete_run (Some (map_from topology)) before after counts later result run causes sound files out =
-    ends_well (IsMapDue topology before.files) before after counts later result run (well before.files sound) causes files out
+    well : (files : Option Shelved) → IsSome files → HoldsTopology topology files → (due : Outcome) → IsMapDue topology files due → due.status ≡ status.Ok
+    well None told held due h = absurd (cc)
+    well (Some shelf) told held due h = (reads_on topology_file shelf topology IsMapped due held.0 held.1 h).status
+complete_run (Some (answer topology map datagram)) before after counts later result run causes told sound files out =
+    ends_well (IsAnswerDue topology map datagram before.files) before after counts later result run (well before.files told sound) causes files out
   where
-    well : (files : Option Shelved) → IsSomeAnd files (λ shelf. HoldsTopology topology shelf.holds) → (due : Outcome) → IsMapDue topology files due → due.status ≡ status.Ok
-    well None held due h = absurd held
-    well (Some shelf) held due h = (reads_on topology_file (shelf.holds topology) IsMapped due held.0 held.1 h).status
-complete_run (Some (answer topology map datagram)) before after counts later result run causes sound files out =
-    ends_well (IsAnswerDue topology map datagram before.files) before after counts later result run (well before.files sound) causes files out
-  where
-    well : (files : Option Shelved) → IsSomeAnd files (λ shelf. HoldsGoodMap topology map shelf.holds) → (due : Outcome) → IsAnswerDue topology map datagram files due → due.status ≡ status.Ok
-    well None held due h = absurd held
-    well (Some shelf) held due h = well_answered topology map datagram shelf.holds due held h
+    well : (files : Option Shelved) → IsSome files → HoldsGoodMap topology map files → (due : Outcome) → IsAnswerDue topology map datagram files due → due.status ≡ status.Ok
+    well None told held due h = absurd (cc)
+    well (Some shelf) told held due h = well_answered topology map datagram shelf due held h

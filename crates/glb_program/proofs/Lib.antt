@@ -1,6 +1,6 @@
 mod Loads
+mod Reading
+mod Plans
+mod Said
 mod Good
-mod Judged
 mod Complete
-mod Datagrams
-mod Answered

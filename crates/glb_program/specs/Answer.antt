@@ -1,5 +1,5 @@
 -- What is due to `answer`.
-use Rattle.std.specs.Prelude.{◌≡◌, ◌≢◌, ◌⊎◌, ℕ, List, [], ◌∷◌, Option, None, Some, IfSome}
+use Rattle.std.specs.Prelude.{◌≡◌, ◌≢◌, ◌⊎◌, ℕ, List, [], ◌∷◌, Option}
 use Rattle.map_model.specs.Allocation.{IsGood}
 use Rattle.outside.specs.Faults.{BothTell}
 use Rattle.outside.specs.Shelf.{Shelved}
@@ -12,7 +12,7 @@ use Rattle.published_map.specs.Version.{Version}
 use Rattle.answer_core.specs.Reply.{reply_of}
 use Rattle.glb_program.specs.declared.status.Status.TheVariants as status
 use Rattle.glb_program.specs.Datagram.{Datagram}
-use Rattle.glb_program.specs.Outcome.{IsPrinted, IsSaid, Outcome, Outside}
+use Rattle.glb_program.specs.Outcome.{IsPrinted, Outcome, Outside}
 use Rattle.glb_program.specs.Files.{Reads, Says, map_file, topology_file}
 use Rattle.glb_program.specs.Texts as text
 
@@ -45,22 +45,12 @@ pub record IsNotGood (t : Plan) (m : Mapped) (due : Outcome) : Type 0 where
 abbrev pub IsAnswered : Datagram → Plan → Mapped → Outcome → Type 0
 IsAnswered d t m due = IsReplied t m d due ⊎ IsNotGood t m due
 
--- what is due to `answer` over these files, for a datagram
-abbrev pub IsAnswer : List ℕ → List ℕ → Datagram → (List ℕ → Option (List ℕ)) → Outcome → Type 0
-IsAnswer topology map d files = Reads topology_file (files topology) (λ t. Reads (map_file t) (files map) (IsAnswered d t))
-
--- what is said by `answer` of any files: where all is well, the reply of some good map
-pub record IsAnswerSaid (d : Datagram) (due : Outcome) : Type 0 where
-  pub said : IsSaid due
-  pub good : due.status ≡ status.Ok → (t : Plan) × (m : Mapped) × IsPlan t × AreReply t m d due.pieces
-
--- what is due to `answer` for a datagram; where the shelf doesn't tell its files, no more than what is said of any files
+-- what is due to `answer` for a datagram: the refusal of the topology, or of the map, or the reply of a good map, or the verdict on any other
 abbrev pub IsAnswerDue : List ℕ → List ℕ → Datagram → Option Shelved → Outcome → Type 0
-IsAnswerDue topology map d None due = IsAnswerSaid d due
-IsAnswerDue topology map d (Some shelf) due = IsAnswer topology map d shelf.holds due
+IsAnswerDue topology map d files = Reads topology_file files topology (λ t. Reads (map_file t) files map (IsAnswered d t))
 
 -- What status 0 of `answer` says of the files and the output: the files hold a topology and a map that is good for its instance, and the output got the text of that map's reply, in one put.
 abbrev pub IsAnsweredRun : List ℕ → List ℕ → Datagram → Outside → Outside → Type 0
 IsAnsweredRun topology map d before after =
-    (t : Plan) × (m : Mapped) × (pieces : List (List ℕ)) × IfSome before.files (λ shelf. Says topology_file (shelf.holds topology) t × Says (map_file t) (shelf.holds map) m) × AreReply t m d pieces
+    (t : Plan) × (m : Mapped) × (pieces : List (List ℕ)) × IsPlan t × Says topology_file before.files topology t × Says (map_file t) before.files map m × AreReply t m d pieces
     × BothTell before.out after.out (IsPrinted pieces)

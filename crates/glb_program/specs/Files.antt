@@ -1,6 +1,6 @@
 -- What the files of a command come to.
-use Rattle.std.specs.Prelude.{◌≡◌, ℕ, List, [], ◌∷◌, length, nat_lt, if◌then◌else◌, Option, None, Some, Result, Ok, Err, MatchOption, MatchResult}
-use Rattle.outside.specs.Shelf.{Load}
+use Rattle.std.specs.Prelude.{◌≡◌, ◌⊎◌, ℕ, List, [], ◌∷◌, length, nat_lt, if◌then◌else◌, Option, None, Some, IfSome, option_map, Result, Ok, Err}
+use Rattle.outside.specs.Shelf.{Load, Shelved}
 use Rattle.topology_text.specs.Plan.{Plan}
 use Rattle.topology_text.specs.Faults.{reading}
 use Rattle.map_text.specs.Reading.{Mapped, map_of}
@@ -35,32 +35,31 @@ topology_file = record { limit = 67108864; too_long = text.topology_too_long; re
 abbrev pub map_file : Plan → Kind Mapped
 map_file t = record { limit = 268435456; too_long = text.map_too_long; reading = mapped_of t }
 
--- what a file says, or the text with which it is refused; nothing where it is not there
-abbrev pub says : {T : Type 0} → Kind T → Option (List ℕ) → Option (Result T (List ℕ))
-says kind None = None
-says kind (Some bytes) = Some (if nat_lt kind.limit (length bytes) then Err kind.too_long else kind.reading bytes)
+-- what the octets of a file say, or the text with which they are refused
+abbrev pub said : {T : Type 0} → Kind T → List ℕ → Result T (List ℕ)
+said kind bytes = if nat_lt kind.limit (length bytes) then Err kind.too_long else kind.reading bytes
 
 -- a file is refused, with that text
 abbrev pub refused : List ℕ → Outcome
 refused text = record { status = Refused; pieces = text ∷ [] }
 
--- bytes are refused, with that text
-abbrev pub IsRefusedBy : {T : Type 0} → Result T (List ℕ) → Outcome → Type 0
-IsRefusedBy said due = (text : List ℕ) × (said ≡ Err text) × (due ≡ refused text)
+-- The file of that name holds these octets, where the shelf tells what it holds. Of one that doesn't tell, no more is known than that there are some.
+abbrev pub MayHold : Option Shelved → List ℕ → List ℕ → Type 0
+MayHold files name bytes = IfSome files (λ shelf. shelf.holds name ≡ Some bytes)
 
 -- the file is there and says this
-abbrev pub Says : {T : Type 0} → Kind T → Option (List ℕ) → T → Type 0
-Says kind held t = says kind held ≡ Some (Ok t)
+abbrev pub Says : {T : Type 0} → Kind T → Option Shelved → List ℕ → T → Type 0
+Says kind files name t = (bytes : List ℕ) × MayHold files name bytes × (said kind bytes ≡ Ok t)
 
 -- the file is there and is refused
-abbrev pub IsRefused : {T : Type 0} → Kind T → Option (List ℕ) → Outcome → Type 0
-IsRefused kind held due = (text : List ℕ) × (says kind held ≡ Some (Err text)) × (due ≡ refused text)
+abbrev pub IsRefused : {T : Type 0} → Kind T → Option Shelved → List ℕ → Outcome → Type 0
+IsRefused kind files name due = (bytes : List ℕ) × (text : List ℕ) × MayHold files name bytes × (said kind bytes ≡ Err text) × (due ≡ refused text)
 
 -- the file is refused, or what it says leads on to the outcome
-abbrev pub Reads : {T : Type 0} → Kind T → Option (List ℕ) → (T → Outcome → Type 0) → Outcome → Type 0
-Reads kind held Next due = MatchOption (says kind held) ⊥ (λ r. MatchResult r (λ t. Next t due) (λ text. due ≡ refused text))
+abbrev pub Reads : {T : Type 0} → Kind T → Option Shelved → List ℕ → (T → Outcome → Type 0) → Outcome → Type 0
+Reads {T = T} kind files name Next due = IsRefused kind files name due ⊎ ((t : T) × Says kind files name t × Next t due)
 
--- the loads that follow on a file, where it says something
+-- the loads that follow on a file, where it is there and says something
 abbrev pub loads_behind : {T : Type 0} → Option (Result T (List ℕ)) → (T → List Load) → List Load
 loads_behind None next = []
 loads_behind (Some (Ok t)) next = next t
@@ -72,4 +71,4 @@ load_of kind name = record { name = name; limit = kind.limit }
 
 -- the load of a file, and those that follow on it
 abbrev pub loads_from : {T : Type 0} → Kind T → List ℕ → Option (List ℕ) → (T → List Load) → List Load
-loads_from kind name held next = load_of kind name ∷ loads_behind (says kind held) next
+loads_from kind name held next = load_of kind name ∷ loads_behind (option_map (said kind) held) next

@@ -7,6 +7,16 @@ use Rattle.outside.specs.Sink.{Written}
 use Rattle.glb_program.specs.declared.status.Status.{Status}
 use Rattle.glb_program.specs.declared.status.Status.TheVariants.{Ok, Usage, Refused, SourceFault, SinkFault, NotGood, NoMemory}
 
+-- the number of a status, as a process ends with it
+abbrev pub code_of : Status → ℕ
+code_of Ok = 0
+code_of Usage = 1
+code_of Refused = 2
+code_of SourceFault = 3
+code_of SinkFault = 4
+code_of NotGood = 7
+code_of NoMemory = 8
+
 -- how a command comes out where nothing outside fails: its status, and the pieces that it puts on the output
 pub record Outcome : Type 0 where
   pub status : Status

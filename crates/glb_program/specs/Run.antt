@@ -7,26 +7,20 @@ use Rattle.glb_program.specs.declared.status.Status.{Status}
 use Rattle.glb_program.specs.declared.status.Status.TheVariants.{Usage, NoMemory}
 use Rattle.glb_program.specs.Words.{Ask, check, map_from, answer}
 use Rattle.glb_program.specs.Outcome.{Outcome, Outside, RunsBy, Speaks}
-use Rattle.glb_program.specs.Check.{HoldsGoodMap, IsCheckDue, IsCheckSaid, IsCheckedRun, loads_of_check}
-use Rattle.glb_program.specs.Map.{HoldsTopology, IsMapDue, IsMapSaid, IsMappedRun, loads_of_map}
-use Rattle.glb_program.specs.Answer.{IsAnswerDue, IsAnswerSaid, IsAnsweredRun}
+use Rattle.glb_program.specs.Check.{HoldsGoodMap, IsCheckDue, IsCheckedRun, loads_of_check}
+use Rattle.glb_program.specs.Map.{HoldsTopology, IsMapDue, IsMappedRun, loads_of_map}
+use Rattle.glb_program.specs.Answer.{IsAnswerDue, IsAnsweredRun}
 use Rattle.glb_program.specs.Texts as text
 
 -- what is due to words that are not taken
 abbrev pub IsUsage : Outcome → Type 0
 IsUsage due = due ≡ record { status = Usage; pieces = text.usage ∷ [] }
 
--- what is due to a command over what the shelf tells
+-- what is due to a command over the files
 abbrev pub IsDue : Ask → Option Shelved → Outcome → Type 0
 IsDue (check topology map) files = IsCheckDue topology map files
 IsDue (map_from topology) files = IsMapDue topology files
 IsDue (answer topology map datagram) files = IsAnswerDue topology map datagram files
-
--- what is said by a command of any files
-abbrev pub IsSaidBy : Ask → Outcome → Type 0
-IsSaidBy (check topology map) due = IsCheckSaid due
-IsSaidBy (map_from topology) due = IsMapSaid due
-IsSaidBy (answer topology map datagram) due = IsAnswerSaid datagram due
 
 -- memory was wanting for the reading of the words, and nothing was put
 pub record IsUnread (before after : Option Written) (result : Status) : Type 0 where
@@ -49,8 +43,8 @@ abbrev pub loads_of : Option Ask → (List ℕ → Option (List ℕ)) → List L
 loads_of None files = []
 loads_of (Some ask) files = loads_of_ask ask files
 
--- what status 0 says of the files
-abbrev pub IsSound : Option Ask → (List ℕ → Option (List ℕ)) → Type 0
+-- the files are such that all is well
+abbrev pub IsSound : Option Ask → Option Shelved → Type 0
 IsSound None files = ⊥
 IsSound (Some (check topology map)) files = HoldsGoodMap topology map files
 IsSound (Some (map_from topology)) files = HoldsTopology topology files

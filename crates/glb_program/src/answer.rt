@@ -1,11 +1,10 @@
-ghost use Rattle.std.specs.Prelude.{◌≡◌, ◌≢◌, ◌≤◌, [], ◌∷◌, IfOk, IfSome};
+ghost use Rattle.std.specs.Prelude.{◌≡◌, ◌≢◌, ◌≤◌, [], ◌∷◌, IfOk};
 ghost use Rattle.map_model.specs.Allocation.{IsGood};
 ghost use Rattle.outside.specs.Faults.{BothTell, Rose};
 ghost use Rattle.map_text.specs.Writing.{mapped};
 ghost use Rattle.glb_program.specs.Outcome.{AreLoaded, AreLoadsOf};
-ghost use Rattle.glb_program.specs.Answer.{IsAnswerDue, IsAnswerSaid, IsAnswered, IsReplied, answer_of, version_of};
+ghost use Rattle.glb_program.specs.Answer.{IsAnswerDue, IsAnswered, IsReplied, answer_of, version_of};
 ghost use Rattle.glb_program.specs.Check.{loads_of_check};
-ghost use Rattle.glb_program.specs.Commands.{octets_of};
 ghost use Rattle.glb_program.specs.Files.{Reads, load_of, map_file};
 ghost use Rattle.glb_program.specs.Reports.{EndsBy, IsNameable, outcome_of};
 ghost use Rattle.glb_program.specs.Texts as text;
@@ -109,10 +108,8 @@ fn try_report(
 
 fn report(alloc: Global, topology: Topology, map: MapLines, from: Addr, octets: &[u8]) -> Ended
     ensures answered { EndsBy (IsAnswered (record { from = from; octets = octets.now }) topology (mapped map)) result }
-    ensures said { EndsBy (IsAnswerSaid (record { from = from; octets = octets.now })) result }
     ensures source { result ≢ Ended.SourceFault }
 {
-    let _ = topology.instance();
     match try_report(alloc, topology, map, from, octets) {
         Ok(report) => Ended::Said(report),
         Err(NoMemory) => Ended::NoMemory,
@@ -130,8 +127,7 @@ fn answer_map<F: Shelf>(
 ) -> Ended
     ensures noted { BothTell (F.told files.old) (F.told files.new) (AreLoadsOf (λ _. load_of (map_file topology) map.now ∷ [])) }
     ensures loaded { EndsBy (λ _. BothTell (F.told files.old) (F.told files.new) (AreLoaded (λ _. load_of (map_file topology) map.now ∷ []))) result }
-    ensures due { IfSome (F.told files.old) (λ shelf. EndsBy (Reads (map_file topology) (shelf.holds map.now) (IsAnswered (record { from = from; octets = octets.now }) topology)) result) }
-    ensures said { EndsBy (IsAnswerSaid (record { from = from; octets = octets.now })) result }
+    ensures due { EndsBy (Reads (map_file topology) (F.told files.old) map.now (IsAnswered (record { from = from; octets = octets.now }) topology)) result }
     ensures later { F.faults files.old ≤ F.faults files.new }
     ensures cause { result ≡ Ended.SourceFault → Rose (F.faults files.old) (F.faults files.new) }
 {
@@ -142,7 +138,7 @@ fn answer_map<F: Shelf>(
 }
 
 /// The reply of the map of a file, over the topology of another, to octets from an address.
-fn answer_octets<F: Shelf>(
+pub fn answer_files<F: Shelf>(
     alloc: Global,
     files: &mut F,
     topology: &str,
@@ -153,36 +149,11 @@ fn answer_octets<F: Shelf>(
     ensures noted { BothTell (F.told files.old) (F.told files.new) (AreLoadsOf (loads_of_check topology.now map.now)) }
     ensures loaded { EndsBy (λ _. BothTell (F.told files.old) (F.told files.new) (AreLoaded (loads_of_check topology.now map.now))) result }
     ensures due { EndsBy (IsAnswerDue topology.now map.now (record { from = from; octets = octets.now }) (F.told files.old)) result }
-    ensures said { EndsBy (IsAnswerSaid (record { from = from; octets = octets.now })) result }
     ensures later { F.faults files.old ≤ F.faults files.new }
     ensures cause { result ≡ Ended.SourceFault → Rose (F.faults files.old) (F.faults files.new) }
 {
     match load_topology(alloc, files, topology) {
         Ok(topology) => answer_map(alloc, files, topology, map, from, octets),
         Err(ended) => ended,
-    }
-}
-
-/// The reply of the map of a file, over the topology of another, to the octets from an address that
-/// hexadecimal digits say.
-pub fn answer_files<F: Shelf>(
-    alloc: Global,
-    files: &mut F,
-    topology: &str,
-    map: &str,
-    from: Addr,
-    digits: &str,
-) -> Ended
-    ensures noted { BothTell (F.told files.old) (F.told files.new) (AreLoadsOf (loads_of_check topology.now map.now)) }
-    ensures loaded { EndsBy (λ _. BothTell (F.told files.old) (F.told files.new) (AreLoaded (loads_of_check topology.now map.now))) result }
-    ensures due { EndsBy (IsAnswerDue topology.now map.now (record { from = from; octets = octets_of digits.now }) (F.told files.old)) result }
-    ensures said { EndsBy (IsAnswerSaid (record { from = from; octets = octets_of digits.now })) result }
-    ensures later { F.faults files.old ≤ F.faults files.new }
-    ensures cause { result ≡ Ended.SourceFault → Rose (F.faults files.old) (F.faults files.new) }
-{
-    match hex::decode(alloc, digits) {
-        Ok(octets) => answer_octets(alloc, files, topology, map, from, octets.as_slice()),
-        // Digits that were taken are an even number of them: only memory can be wanting.
-        Err(_) => Ended::NoMemory,
     }
 }

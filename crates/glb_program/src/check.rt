@@ -1,9 +1,9 @@
-ghost use Rattle.std.specs.Prelude.{◌≡◌, ◌≢◌, ◌≤◌, [], ◌∷◌, IfOk, IfSome};
+ghost use Rattle.std.specs.Prelude.{◌≡◌, ◌≢◌, ◌≤◌, [], ◌∷◌, IfOk};
 ghost use Rattle.outside.specs.Faults.{BothTell, Rose};
 ghost use Rattle.stable_check.specs.Judgement.{Judges};
 ghost use Rattle.map_text.specs.Writing.{mapped};
 ghost use Rattle.glb_program.specs.Outcome.{AreLoaded, AreLoadsOf};
-ghost use Rattle.glb_program.specs.Check.{IsCheckDue, IsCheckSaid, IsJudged, loads_of_check, status_of};
+ghost use Rattle.glb_program.specs.Check.{IsCheckDue, IsJudged, loads_of_check, status_of};
 ghost use Rattle.glb_program.specs.Files.{Reads, load_of, map_file};
 ghost use Rattle.glb_program.specs.Reports.{EndsBy, IsNameable, outcome_of};
 
@@ -50,10 +50,8 @@ fn try_report(alloc: Global, topology: &Topology, map: &MapLines) -> Result<Repo
 
 fn report(alloc: Global, topology: &Topology, map: &MapLines) -> Ended
     ensures judged { EndsBy (IsJudged topology.now (mapped map.now)) result }
-    ensures said { EndsBy IsCheckSaid result }
     ensures source { result ≢ Ended.SourceFault }
 {
-    let _ = topology.instance();
     match try_report(alloc, topology, map) {
         Ok(report) => Ended::Said(report),
         Err(NoMemory) => Ended::NoMemory,
@@ -64,8 +62,7 @@ fn report(alloc: Global, topology: &Topology, map: &MapLines) -> Ended
 fn check_map<F: Shelf>(alloc: Global, files: &mut F, topology: &Topology, map: &str) -> Ended
     ensures noted { BothTell (F.told files.old) (F.told files.new) (AreLoadsOf (λ _. load_of (map_file topology.now) map.now ∷ [])) }
     ensures loaded { EndsBy (λ _. BothTell (F.told files.old) (F.told files.new) (AreLoaded (λ _. load_of (map_file topology.now) map.now ∷ []))) result }
-    ensures due { IfSome (F.told files.old) (λ shelf. EndsBy (Reads (map_file topology.now) (shelf.holds map.now) (IsJudged topology.now)) result) }
-    ensures said { EndsBy IsCheckSaid result }
+    ensures due { EndsBy (Reads (map_file topology.now) (F.told files.old) map.now (IsJudged topology.now)) result }
     ensures later { F.faults files.old ≤ F.faults files.new }
     ensures cause { result ≡ Ended.SourceFault → Rose (F.faults files.old) (F.faults files.new) }
 {
@@ -80,7 +77,6 @@ pub fn check_files<F: Shelf>(alloc: Global, files: &mut F, topology: &str, map: 
     ensures noted { BothTell (F.told files.old) (F.told files.new) (AreLoadsOf (loads_of_check topology.now map.now)) }
     ensures loaded { EndsBy (λ _. BothTell (F.told files.old) (F.told files.new) (AreLoaded (loads_of_check topology.now map.now))) result }
     ensures due { EndsBy (IsCheckDue topology.now map.now (F.told files.old)) result }
-    ensures said { EndsBy IsCheckSaid result }
     ensures later { F.faults files.old ≤ F.faults files.new }
     ensures cause { result ≡ Ended.SourceFault → Rose (F.faults files.old) (F.faults files.new) }
 {

@@ -1,10 +1,10 @@
-ghost use Rattle.std.specs.Prelude.{◌≡◌, ◌≢◌, ◌≤◌, [], ◌∷◌, Ok, IfSome, IfErr, OnErr, OnOk, MatchResult};
+ghost use Rattle.std.specs.Prelude.{◌≡◌, ◌≢◌, ◌≤◌, [], ◌∷◌, Ok, IfErr, OnErr, OnOk, MatchResult};
 ghost use Rattle.outside.specs.Faults.{BothTell, Rose};
 ghost use Rattle.outside.specs.Shelf.{IsLoad};
 ghost use Rattle.glb_program.specs.Outcome.{AreLoaded, AreLoadsOf};
-ghost use Rattle.glb_program.specs.Files.{IsRefused, IsRefusedBy, Says, mapped_of, refused, topology_file, topology_of, map_file};
+ghost use Rattle.glb_program.specs.Files.{IsRefused, Says, mapped_of, refused, topology_file, topology_of, map_file};
 ghost use Rattle.map_text.specs.Writing.{mapped};
-ghost use Rattle.glb_program.specs.Reports.{AreBytes, EndsBy, IsTooLong};
+ghost use Rattle.glb_program.specs.Reports.{AreBytes, EndsBy, IsRefusedBy, IsTooLong};
 ghost use Rattle.glb_program.specs.Texts as text;
 
 use crate::report::{Ended, Report};
@@ -88,8 +88,7 @@ fn load_file<F: Shelf>(
 ) -> Result<Vec<u8>, Ended>
     ensures noted { BothTell (F.told files.old) (F.told files.new) (AreLoadsOf (λ _. record { name = name.now; limit = limit } ∷ [])) }
     ensures loaded { MatchResult result (λ _. BothTell (F.told files.old) (F.told files.new) (AreLoaded (λ _. record { name = name.now; limit = limit } ∷ []))) (EndsBy (λ _. BothTell (F.told files.old) (F.told files.new) (AreLoaded (λ _. record { name = name.now; limit = limit } ∷ [])))) }
-    ensures bytes { IfSome (F.told files.old) (λ shelf. MatchResult result (λ b. AreBytes (shelf.holds name.now) limit b.items) (EndsBy (IsTooLong (shelf.holds name.now) limit (text.line too_long.now)))) }
-    ensures status { IfErr result (EndsBy (λ due. due.status ≡ Status.Refused)) }
+    ensures bytes { MatchResult result (λ b. AreBytes (F.told files.old) name.now limit b.items) (EndsBy (IsTooLong (F.told files.old) name.now limit (text.line too_long.now))) }
     ensures later { F.faults files.old ≤ F.faults files.new }
     ensures cause { IfErr result (λ e. e ≡ Ended.SourceFault → Rose (F.faults files.old) (F.faults files.new)) }
 {
@@ -105,8 +104,7 @@ fn load_file<F: Shelf>(
 pub fn load_topology<F: Shelf>(alloc: Global, files: &mut F, name: &str) -> Result<Topology, Ended>
     ensures noted { BothTell (F.told files.old) (F.told files.new) (AreLoadsOf (λ _. record { name = name.now; limit = 67108864 } ∷ [])) }
     ensures loaded { MatchResult result (λ _. BothTell (F.told files.old) (F.told files.new) (AreLoaded (λ _. record { name = name.now; limit = 67108864 } ∷ []))) (EndsBy (λ _. BothTell (F.told files.old) (F.told files.new) (AreLoaded (λ _. record { name = name.now; limit = 67108864 } ∷ [])))) }
-    ensures said { IfSome (F.told files.old) (λ shelf. MatchResult result (Says topology_file (shelf.holds name.now)) (EndsBy (IsRefused topology_file (shelf.holds name.now)))) }
-    ensures status { IfErr result (EndsBy (λ due. due.status ≡ Status.Refused)) }
+    ensures said { MatchResult result (Says topology_file (F.told files.old) name.now) (EndsBy (IsRefused topology_file (F.told files.old) name.now)) }
     ensures later { F.faults files.old ≤ F.faults files.new }
     ensures cause { IfErr result (λ e. e ≡ Ended.SourceFault → Rose (F.faults files.old) (F.faults files.new)) }
 {
@@ -124,8 +122,7 @@ pub fn load_map<F: Shelf>(
 ) -> Result<MapLines, Ended>
     ensures noted { BothTell (F.told files.old) (F.told files.new) (AreLoadsOf (λ _. record { name = name.now; limit = 268435456 } ∷ [])) }
     ensures loaded { MatchResult result (λ _. BothTell (F.told files.old) (F.told files.new) (AreLoaded (λ _. record { name = name.now; limit = 268435456 } ∷ []))) (EndsBy (λ _. BothTell (F.told files.old) (F.told files.new) (AreLoaded (λ _. record { name = name.now; limit = 268435456 } ∷ [])))) }
-    ensures said { IfSome (F.told files.old) (λ shelf. MatchResult result (λ m. Says (map_file topology.now) (shelf.holds name.now) (mapped m)) (EndsBy (IsRefused (map_file topology.now) (shelf.holds name.now)))) }
-    ensures status { IfErr result (EndsBy (λ due. due.status ≡ Status.Refused)) }
+    ensures said { MatchResult result (λ m. Says (map_file topology.now) (F.told files.old) name.now (mapped m)) (EndsBy (IsRefused (map_file topology.now) (F.told files.old) name.now)) }
     ensures later { F.faults files.old ≤ F.faults files.new }
     ensures cause { IfErr result (λ e. e ≡ Ended.SourceFault → Rose (F.faults files.old) (F.faults files.new)) }
 {

@@ -1,7 +1,7 @@
-ghost use Rattle.std.specs.Prelude.{◌≡◌, ◌≢◌, ◌≤◌, ◌⊎◌, IsSomeAnd};
+ghost use Rattle.std.specs.Prelude.{◌≡◌, ◌≢◌, ◌≤◌, ◌⊎◌, IsSome};
 ghost use Rattle.outside.specs.Faults.{BothTell, Rose};
-ghost use Rattle.glb_program.specs.Outcome.{AreLoaded, AreLoadsOf, HasCauses};
-ghost use Rattle.glb_program.specs.Run.{IsDue, IsGoodRun, IsRun, IsSaidBy, IsSound, loads_of, loads_of_ask};
+ghost use Rattle.glb_program.specs.Outcome.{AreLoaded, AreLoadsOf, HasCauses, IsSaid};
+ghost use Rattle.glb_program.specs.Run.{IsDue, IsGoodRun, IsRun, IsSound, loads_of, loads_of_ask};
 ghost use Rattle.glb_program.specs.Commands.{ask_of};
 ghost use Rattle.glb_program.specs.Reports.{EndsBy};
 ghost use Rattle.command_line.specs.Asked.{texts};
@@ -24,7 +24,7 @@ fn run_command<F: Shelf>(alloc: Global, files: &mut F, command: Command<'_>) -> 
     ensures noted { BothTell (F.told files.old) (F.told files.new) (AreLoadsOf (loads_of_ask (ask_of command.entry))) }
     ensures loaded { EndsBy (λ _. BothTell (F.told files.old) (F.told files.new) (AreLoaded (loads_of_ask (ask_of command.entry)))) result }
     ensures due { EndsBy (IsDue (ask_of command.entry) (F.told files.old)) result }
-    ensures said { EndsBy (IsSaidBy (ask_of command.entry)) result }
+    ensures said { EndsBy IsSaid result }
     ensures later { F.faults files.old ≤ F.faults files.new }
     ensures cause { result ≡ Ended.SourceFault → Rose (F.faults files.old) (F.faults files.new) }
 {
@@ -35,8 +35,8 @@ fn run_command<F: Shelf>(alloc: Global, files: &mut F, command: Command<'_>) -> 
             topology,
             map,
             from,
-            digits,
-        } => answer_files(alloc, files, topology, map, from, digits),
+            octets,
+        } => answer_files(alloc, files, topology, map, from, octets.as_slice()),
     }
 }
 
@@ -50,7 +50,7 @@ pub fn glb<R, F: Shelf, K: Sink>(
     files: &mut F,
     out: &mut K,
 ) -> Status
-    // The answer is the one that is due to the words and the files, and its text is on the output; or a beginning of that, where the output failed; or nothing, where a load failed or memory was wanting.
+    // The answer is the one that is due to the words and the files, and its text is on the output; or a beginning of that, where the output failed; or nothing, where a load failed or memory was wanting. Where the shelf doesn't tell what it holds, there are contents of the files to which it is due.
     ensures run { IsRun (asked (texts words.now)) (record { files = F.told files.old; out = K.told out.old }) (record { files = F.told files.new; out = K.told out.new }) result }
 
     // The files of the words are loaded in their order, once each, and each only where all before it say something; and all of these, unless the answer is a fault of the files or want of memory.
@@ -60,11 +60,11 @@ pub fn glb<R, F: Shelf, K: Sink>(
     // A fault outside is answered only where its count rose.
     ensures causes { HasCauses (record { files = F.faults files.old; out = K.faults out.old }) (record { files = F.faults files.new; out = K.faults out.new }) result }
 
-    // Status 0 says of `check` that the files hold a map that is good, and that the output got `good`; of `map` that the output got the text of a map that is good for the topology of the file; and of `answer` that the files hold a map that is good, and that the output got the text of its reply.
+    // Status 0 says that the files hold a topology; of `check` and `answer` also that they hold a map that is good for it; and that the output got, in one put, `good`, or of `map` the text of a map that is good for the topology, or of `answer` the text of the map's reply.
     ensures good { result ≡ Status.Ok → IsGoodRun (asked (texts words.now)) (record { files = F.told files.old; out = K.told out.old }) (record { files = F.told files.new; out = K.told out.new }) }
 
     // Where the files are told to hold a topology, and for `check` and `answer` a map that is good, and no count of faults rises, there is no other answer but want of memory.
-    ensures complete { IsSomeAnd (F.told files.old) (λ shelf. IsSound (asked (texts words.now)) shelf.holds) → ¬ Rose (F.faults files.old) (F.faults files.new) → ¬ Rose (K.faults out.old) (K.faults out.new) → (result ≡ Status.Ok) ⊎ (result ≡ Status.NoMemory) }
+    ensures complete { IsSome (F.told files.old) → IsSound (asked (texts words.now)) (F.told files.old) → ¬ Rose (F.faults files.old) (F.faults files.new) → ¬ Rose (K.faults out.old) (K.faults out.new) → (result ≡ Status.Ok) ⊎ (result ≡ Status.NoMemory) }
 {
     match read_words(alloc, words) {
         Ok(Some(command)) => {

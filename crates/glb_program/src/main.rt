@@ -3,7 +3,6 @@
 
 mod answer;
 mod check;
-mod digits;
 mod files;
 mod glb;
 mod map;
@@ -40,7 +39,7 @@ fn main(rt: HostRuntime) -> ExitCode {
         }
         Err(NoMemory) => Status::NoMemory,
     };
-    ExitCode::from(status as u8)
+    ExitCode::from(status.code())
 }
 
 #[cfg(test)]

@@ -1,9 +1,8 @@
 ghost use Rattle.std.specs.Prelude.{◌≡◌, ◌≢◌, ◌≤◌, IfOk};
 ghost use Rattle.map_model.specs.Allocation.{IsGood, IsMapForm};
 ghost use Rattle.outside.specs.Faults.{BothTell, Rose};
-ghost use Rattle.topology_text.specs.Plan.{IsPlan};
 ghost use Rattle.glb_program.specs.Outcome.{AreLoaded, AreLoadsOf};
-ghost use Rattle.glb_program.specs.Map.{IsMapDue, IsMapSaid, IsMapped, loads_of_map};
+ghost use Rattle.glb_program.specs.Map.{IsMapDue, IsMapped, loads_of_map};
 ghost use Rattle.glb_program.specs.Reports.{EndsBy, outcome_of};
 
 use crate::files::load_topology;
@@ -35,7 +34,6 @@ fn map_afresh(alloc: Global, instance: &Instance) -> Result<MapLines, NoMemory>
 /// The text of a good map, as what is to be said.
 fn try_report(alloc: Global, topology: &Topology) -> Result<Report, NoMemory>
     ensures mapped { IfOk result (λ r. IsMapped topology.now (outcome_of r)) }
-    ensures plan { IsPlan topology.now }
 {
     let map = map_afresh(alloc, topology.instance())?;
     let text = write_map(alloc, topology, &map)?;
@@ -47,7 +45,6 @@ fn try_report(alloc: Global, topology: &Topology) -> Result<Report, NoMemory>
 
 fn report(alloc: Global, topology: &Topology) -> Ended
     ensures mapped { EndsBy (IsMapped topology.now) result }
-    ensures said { EndsBy IsMapSaid result }
     ensures source { result ≢ Ended.SourceFault }
 {
     match try_report(alloc, topology) {
@@ -61,7 +58,6 @@ pub fn map_files<F: Shelf>(alloc: Global, files: &mut F, topology: &str) -> Ende
     ensures noted { BothTell (F.told files.old) (F.told files.new) (AreLoadsOf (loads_of_map topology.now)) }
     ensures loaded { EndsBy (λ _. BothTell (F.told files.old) (F.told files.new) (AreLoaded (loads_of_map topology.now))) result }
     ensures due { EndsBy (IsMapDue topology.now (F.told files.old)) result }
-    ensures said { EndsBy IsMapSaid result }
     ensures later { F.faults files.old ≤ F.faults files.new }
     ensures cause { result ≡ Ended.SourceFault → Rose (F.faults files.old) (F.faults files.new) }
 {

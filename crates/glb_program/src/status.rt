@@ -1,4 +1,7 @@
-/// How a run of the program ended. The number is the status that the process ends with.
+ghost use Rattle.std.specs.Prelude.{◌≡◌};
+ghost use Rattle.glb_program.specs.Outcome.{code_of};
+
+/// How a run of the program ended.
 #[derive(Clone, Copy, Debug, PartialEq, Eq)]
 pub enum Status {
     /// All was read and done.
@@ -15,4 +18,13 @@ pub enum Status {
     NotGood = 7,
     /// There was no memory.
     NoMemory = 8,
+}
+
+impl Status {
+    /// The number that the process ends with.
+    pub fn code(self) -> u8
+        ensures { result ≡ code_of self }
+    {
+        self as u8
+    }
 }

@@ -1,6 +1,7 @@
 use Rattle.std.proofs.Common.{◌≡◌, ◌≢◌, ap}
 use Rattle.map_text.specs.declared.fault.MapFault.TheVariants.{NoMemory}
-use Rattle.glb_program.specs.Files.{IsRefusedBy, refused, mapped_of, with_text}
+use Rattle.glb_program.specs.Files.{refused, mapped_of, with_text}
+use Rattle.glb_program.specs.Reports.{IsRefusedBy}
 use Rattle.glb_program.specs.Texts as text
 use Rattle.glb_program.proofs.Loads.{ends_weaker}
 use Rattle.glb_program.proofs.files.parse_map.Goals as goal

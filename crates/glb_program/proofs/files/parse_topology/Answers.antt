@@ -1,6 +1,7 @@
 use Rattle.std.proofs.Common.{◌≡◌, ◌≢◌, ap}
 use Rattle.topology_text.specs.declared.fault.TopologyFault.TheVariants.{NoMemory}
-use Rattle.glb_program.specs.Files.{IsRefusedBy, refused, topology_of, with_text}
+use Rattle.glb_program.specs.Files.{refused, topology_of, with_text}
+use Rattle.glb_program.specs.Reports.{IsRefusedBy}
 use Rattle.glb_program.specs.Texts as text
 use Rattle.glb_program.proofs.Loads.{ends_weaker}
 use Rattle.glb_program.proofs.files.parse_topology.Goals as goal

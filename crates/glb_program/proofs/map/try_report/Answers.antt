@@ -4,14 +4,16 @@ use Rattle.map_model.specs.Allocation.{IsGood}
 use Rattle.map_text.specs.Writing.{mapped}
 use Rattle.glb_program.proofs.map.try_report.Goals as goal
 
-pub returns-clause-mapped : goal.returns-clause-mapped
-returns-clause-mapped c =
+pub returns : goal.returns
+returns c =
     let map = c.in_ok-map.map in
     record {
-      status = refl;
-      text = (
-        mapped map,
-        subst (λ (m : Market). IsGood m map.lines.items map.names.items) c.instance.ensures.instance c.in_ok-map.ensures.good,
-        ap (λ (text : List ℕ). text ∷ []) c.in_ok-text.ensures.text,
-      );
+      mapped = record {
+        status = refl;
+        text = (
+          mapped map,
+          subst (λ (m : Market). IsGood m map.lines.items map.names.items) c.instance.ensures.instance c.in_ok-map.ensures.good,
+          ap (λ (text : List ℕ). text ∷ []) c.in_ok-text.ensures.text,
+        );
+      };
     }
