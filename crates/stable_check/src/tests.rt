@@ -162,6 +162,14 @@ fn judges_two_level_eviction(rt: HostRuntime) -> Result<(), Fail> {
             names: &[],
             verdict: blocking(1, 0),
         },
+    ];
+    judge_rows(&rt, alloc, &two_level(alloc)?, &rows)
+}
+
+#[test]
+fn judges_names_of_two_level_eviction(rt: HostRuntime) -> Result<(), Fail> {
+    let alloc = rt.alloc();
+    let rows = [
         Row {
             lines: TWO_LEVEL_LINES,
             names: &[(1, 0, 0), (1, 1, 0)],
