@@ -1,7 +1,6 @@
 -- The lines of a text that was written, and the words of such a line.
-use Rattle.std.proofs.Common.{◌≡◌, ℕ, ◌==◌, Bool, true, false, cond, List, [], ◌∷◌, ◌++◌, refl, ap, ◌∙◌, arith, append_assoc}
-use Rattle.std.proofs.lemmas.Bool.Decides.{nat_tests}
-use Rattle.std.specs.List.{flat_map, onto_first}
+use Rattle.std.proofs.Common.{◌≡◌, ℕ, List, [], ◌∷◌, ◌++◌, refl, ap, ◌∙◌, append_assoc}
+use Rattle.std.specs.List.{flat_map}
 use Rattle.addr_text.specs.Groups.{parts}
 use Rattle.addr_text.proofs.Splits.{Lacks, lacks-append, split_alone, split_part}
 use Rattle.map_text.specs.Parts.{but_last, last_of, unfinished, whole_lines}

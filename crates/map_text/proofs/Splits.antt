@@ -1,7 +1,7 @@
 -- The parts of a text round an octet, one after another.
-use Rattle.std.proofs.Common.{◌≡◌, ℕ, ◌+◌, ◌≤◌, suc, zero, Bool, true, false, cond, List, [], ◌∷◌, length, take, drop, None, Some, refl, arith, count_by, ◌==◌}
+use Rattle.std.proofs.Common.{◌≡◌, ℕ, ◌+◌, List, [], ◌∷◌, length, take, drop, None, Some, refl, arith, count_by, ◌==◌}
 use Rattle.std.proofs.lemmas.List.Splits.{length-slice_split}
-use Rattle.std.specs.List.{onto_first, position_from, slice_split}
+use Rattle.std.specs.List.{position_from}
 use Rattle.addr_text.specs.Groups.{parts}
 use Rattle.addr_text.proofs.Splits.{split_at_hit, split_no_hit}
 use Rattle.map_text.specs.Parts.{but_last, four_of, last_of}

@@ -1,5 +1,5 @@
 -- A table without faults is sound: what the rules say of the zone.
-use Rattle.std.proofs.Common.{◌≡◌, ◌^◌, ◌-◌, ◌<◌, ◌≤◌, true, false, not, Bool, [], Option, None, Some, is_some, option_and_then, refl, arith}
+use Rattle.std.proofs.Common.{◌≡◌, ◌^◌, ◌-◌, ◌<◌, ◌≤◌, true, [], Option, None, Some, is_some, option_and_then, arith}
 use Rattle.toml.specs.Data.{Data, string, integer, float, boolean, datetime, array, table}
 use Rattle.topology_text.specs.Names.{text_in}
 use Rattle.topology_text.specs.Texts.{zone_name}
