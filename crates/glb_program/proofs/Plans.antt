@@ -28,9 +28,9 @@ no_plan r f t is h = cc
 
 bytes_are_plan : (bytes : List ℕ) (t : Plan) → reading bytes ≡ Ok t → IsPlan t
 bytes_are_plan bytes t = elim (document bytes) as (λ o. reading_of o ≡ Ok t → IsPlan t) [
-      | None ↦ λ h. absurd (no_plan (Err NotToml) NotToml t refl h)
-      | Some top ↦ λ h. plan_of_sound (plan_of (entries_of top) (all_prefixes (walk top))) (faults_of top) t (λ none. plan_good (entries_of top) (all_prefixes (walk top)) (sound top none) (prefixes_sound top none)) h
-    ]
+  | None ↦ λ h. absurd (no_plan (Err NotToml) NotToml t refl h)
+  | Some top ↦ λ h. plan_of_sound (plan_of (entries_of top) (all_prefixes (walk top))) (faults_of top) t (λ none. plan_good (entries_of top) (all_prefixes (walk top)) (sound top none) (prefixes_sound top none)) h
+]
 
 read_as : (r : Result Plan TopologyFault) (t : Plan) → with_text text.topology_fault r ≡ Ok t → r ≡ Ok t
 read_as (Ok u) t h = let same : u ≡ t = cc in ap Ok same
