@@ -26,13 +26,10 @@ usage='usage: glb check, answer, map, repair, serve or large'
 expect 0 'good' check flat.toml flat.map
 expect 0 'good' check tree.toml tree.map
 expect 0 "$(cat tree.map)" map tree.toml
-# www.cdn.example, type A, from an address of g2 and from one of g1: pool A has the address 192.0.2.1
-query=123401000001000000000000037777770363646e076578616d706c650000010001
-reply=123485000001000100000000037777770363646e076578616d706c650000010001c00c00010001000000140004c0000201
-expect 0 "answer $reply" answer tree.toml tree.map 198.51.100.7 $query
-expect 0 "answer $reply" answer tree.toml tree.map 2001:db8::7 $query
-# fewer than twelve octets have no reply
-expect 0 'answer -' answer tree.toml tree.map 198.51.100.7 1234
+while read -r sender octets reply; do
+    expect 0 "answer $reply" answer tree.toml tree.map "$sender" "$octets"
+done < <(grep -v '^#' queries.txt)
+query=1234
 expect 7 'blocking g2 B' answer tree.toml tree-bad.map 198.51.100.7 $query
 expect 1 "$usage" answer tree.toml tree.map 198.51.100 $query
 expect 1 "$usage" answer tree.toml tree.map 198.51.100.7 123
