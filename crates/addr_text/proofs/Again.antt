@@ -11,7 +11,7 @@ use Rattle.addr_text.specs.Addresses.{addr_of, v6_of}
 use Rattle.addr_text.specs.Written.{coloned, colon_text, decimal_text, dotted, hex_text, run_at}
 use Rattle.addr_text.proofs.Bases.{AllBelow, digits_below, length-digits, value_digits}
 use Rattle.addr_text.proofs.Chars.{decimal_again, group_again, no_colon_hex, no_dot_decimal, no_dot_hex, some_hex}
-use Rattle.addr_text.proofs.Sides.{behind}
+use Rattle.addr_text.proofs.Sides.{behind, behind_none}
 use Rattle.addr_text.proofs.Splits.{Lacks, lacks-append, split_alone, split_part}
 
 -- a first part and, behind separators, the others
@@ -71,11 +71,7 @@ no_second : (b : ℕ) (rest : List ℕ) → (b == 58) ≡ false → begins_doubl
 no_second b rest other = other
 
 sides_block : (x rest : List ℕ) → Lacks 58 x → sides (x ++ rest) ≡ behind x (sides rest)
-sides_block [] rest lacks = sym (behind_nothing (sides rest))
-  where
-    behind_nothing : (o : Option (List ℕ × List ℕ)) → behind [] o ≡ o
-    behind_nothing None = refl
-    behind_nothing (Some s) = refl
+sides_block [] rest lacks = sym (behind_none (sides rest))
 sides_block (b ∷ bs) rest lacks =
     ap (λ (t : Bool). cond t (Some ([], drop 1 (bs ++ rest))) (option_map (on_left b) (sides (bs ++ rest)))) (no_double b (bs ++ rest) lacks.0)
     ∙ ap (option_map (on_left b)) (sides_block bs rest lacks.1) ∙ behind_cons b bs (sides rest)

@@ -4,7 +4,7 @@ use Rattle.std.proofs.lemmas.Bool.Decides.{nat_tests}
 use Rattle.std.specs.List.{position_from, slice_split}
 use Rattle.addr_text.specs.Numbers.{all_of, only_if, together}
 use Rattle.addr_text.specs.Groups.{filled}
-use Rattle.addr_text.proofs.Splits.{split_at_hit, split_no_hit}
+use Rattle.text_parts.proofs.Splits.{split_at_hit, split_no_hit}
 
 -- so many values in front of some, or none
 abbrev pub with_front : List ℕ → Option (List ℕ) → Option (List ℕ)

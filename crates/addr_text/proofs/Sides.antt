@@ -7,7 +7,7 @@ use Rattle.addr_text.specs.Groups.{begins_double, on_left, sides}
 abbrev pub behind : List ℕ → Option (List ℕ × List ℕ) → Option (List ℕ × List ℕ)
 behind front o = option_map (λ s. (front ++ s.0, s.1)) o
 
-behind_none : (o : Option (List ℕ × List ℕ)) → behind [] o ≡ o
+pub behind_none : (o : Option (List ℕ × List ℕ)) → behind [] o ≡ o
 behind_none None = refl
 behind_none (Some s) = refl
 

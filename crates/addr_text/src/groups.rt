@@ -4,8 +4,8 @@ ghost use Rattle.addr_text.specs.Numbers.{all_of, number_of, only_if};
 ghost use Rattle.addr_text.specs.Groups.{begins_double, filled, group_of, joined_groups, parts, side_groups, sides, v4_numbers, v6_groups};
 
 use crate::digits::{read_group, read_number};
-use crate::slices::{after, before, position_of};
 use arrayvec::ArrayVec;
+use text_parts::{after, before, position_of};
 
 /// Adds a number of 0 to 255, where there is one and room for it.
 fn push_number(numbers: &mut ArrayVec<u8, 4>, text: &[u8]) -> bool

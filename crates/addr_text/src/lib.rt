@@ -6,7 +6,6 @@ mod digits;
 mod groups;
 mod read;
 mod runs;
-mod slices;
 #[cfg(test)]
 mod tests;
 mod write;

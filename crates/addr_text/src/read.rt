@@ -5,8 +5,8 @@ ghost use Rattle.addr_text.specs.Addresses.{addr_of, bits_of, host_of, in_bracke
 
 use crate::digits::read_number;
 use crate::groups::{v4_numbers, v6_groups};
-use crate::slices::{split_first, split_last};
 use crate::{Addr, Listen, Prefix};
+use text_parts::{split_first, split_last};
 
 /// The address of four octets, the first the highest.
 fn v4_value(numbers: &[u8]) -> u32

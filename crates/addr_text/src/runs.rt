@@ -3,7 +3,7 @@ ghost use Rattle.std.specs.Prelude.{◌≡◌, ℕ, ◌<◌, ◌≤◌, ◌==◌
 ghost use Rattle.std.specs.List.{prefix_len};
 ghost use Rattle.addr_text.specs.Written.{IsLongest, run_at};
 
-use crate::slices::after;
+use text_parts::after;
 
 /// How many zeros stand at the front.
 fn zeros(groups: &[u16]) -> usize

@@ -8,8 +8,8 @@ ghost use Rattle.addr_text.specs.Written.{IsGroupsText, IsTextOf, colon_text, co
 
 use crate::Addr;
 use crate::runs::shortened;
-use crate::slices::{after, before};
 use arrayvec::ArrayVec;
+use text_parts::{after, before};
 
 /// A digit below 16, a letter in lower case.
 fn digit_char(digit: u16) -> u8

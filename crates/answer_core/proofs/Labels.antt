@@ -1,15 +1,8 @@
 -- A name that is some octets and then an apex, whatever the case of letters.
-use Rattle.std.proofs.Common.{◌≡◌, ℕ, ◌<◌, ◌≤◌, Bool, true, false, ◌&&◌, eqb, List, [], ◌∷◌, ◌++◌, length, take, drop, refl, ap, ◌∙◌, arith}
+use Rattle.std.proofs.Common.{◌≡◌, ℕ, ◌<◌, ◌≤◌, Bool, false, ◌&&◌, eqb, List, [], ◌∷◌, ◌++◌, length, take, drop, refl, ap, ◌∙◌, arith}
 use Rattle.std.specs.Char.{to_ascii_lowercase}
+use Rattle.std.proofs.Math.Bool.{and_assoc, and-false}
 use Rattle.name_text.specs.Names.{is_same}
-
-and_assoc : (a b c : Bool) → ((a && b) && c) ≡ (a && (b && c))
-and_assoc true b c = refl
-and_assoc false b c = refl
-
-and_false : (b : Bool) → (b && false) ≡ false
-and_false true = refl
-and_false false = refl
 
 -- two parts are the same, and so is the whole
 same_parts : (xs labels apex : List ℕ) → length labels ≤ length xs → (is_same (take (length labels) xs) labels && is_same (drop (length labels) xs) apex) ≡ is_same xs (labels ++ apex)
@@ -22,7 +15,7 @@ same_parts (x ∷ xs) (y ∷ ys) apex le =
 pub too_short : (xs labels apex : List ℕ) → length xs < length labels → is_same xs (labels ++ apex) ≡ false
 too_short xs [] apex lt = absurd (omega arith)
 too_short [] (y ∷ ys) apex lt = refl
-too_short (x ∷ xs) (y ∷ ys) apex lt = ap (λ (b : Bool). eqb (to_ascii_lowercase x) (to_ascii_lowercase y) && b) (too_short xs ys apex (omega arith)) ∙ and_false _
+too_short (x ∷ xs) (y ∷ ys) apex lt = ap (λ (b : Bool). eqb (to_ascii_lowercase x) (to_ascii_lowercase y) && b) (too_short xs ys apex (omega arith)) ∙ and-false _
 
 pub joined : (name labels apex front back : List ℕ) (a b : Bool) → length labels ≤ length name → front ≡ take (length labels) name → back ≡ drop (length labels) name → a ≡ is_same front labels → b ≡ is_same back apex → (a && b) ≡ is_same name (labels ++ apex)
 joined name labels apex front back a b le f k p q = rw (p, q, f, k) (same_parts name labels apex le)

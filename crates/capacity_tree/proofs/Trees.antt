@@ -1,6 +1,7 @@
 use Rattle.std.proofs.Common.{◌≡◌, ℕ, ◌<◌, ◌≤◌, ◌^◌, false, List, length, Option, None, Some, IfSome, IsFalse, slice_index_or, get_or, ◌⊎◌, sym, ap, ◌∙◌, subst, inl, inr, arith}
 use Rattle.std.proofs.lemmas.List.{get_or_default}
 use Rattle.std.proofs.Math.ListN.{get_or-map, get_or-eq_default, length-map}
+use Rattle.std.proofs.lemmas.Bool.{cases_lt}
 use Rattle.map_model.specs.declared.instance.Node.{Node}
 use Rattle.map_model.specs.declared.instance.NodeId.{NodeId}
 use Rattle.map_model.specs.Market.{Market, IsMarket, is_pool_at, node_in, parent_of}
@@ -22,12 +23,9 @@ length-trees parents = length-map parents bare_node
 pub AreTreesOf-made : (m : Market) (parents : List (Option NodeId)) → length parents ≡ length m.nodes → ((n : ℕ) → n < length m.nodes → slice_index_or parents n None ≡ parent_of m n) → AreTreesOf m (trees_of parents)
 AreTreesOf-made m parents size same = record {
   nodes = length-trees parents ∙ size;
-  parents = λ n. parent_of-trees parents n ∙ each n (below_or n (length m.nodes));
+  parents = λ n. parent_of-trees parents n ∙ each n (cases_lt n (length m.nodes));
 }
   where
-    below_or : (n k : ℕ) → (n < k) ⊎ (k ≤ n)
-    below_or n k = grind arith
-
     each : (n : ℕ) → (n < length m.nodes) ⊎ (length m.nodes ≤ n) → slice_index_or parents n None ≡ parent_of m n
     each n (inl l) = same n l
     each n (inr g) = get_or-eq_default parents None (omega (arith, size)) ∙ sym (ap (λ (x : Node). x.parent) (get_or-eq_default m.nodes (record { capacity = 0; parent = None; is_pool = false }) g))

@@ -9,7 +9,7 @@ use Rattle.map_model.specs.Market.{Market, demand_of}
 use Rattle.map_model.specs.Allocation.{IsGood, IsOffer, amount_at, first, names_of, placed}
 use Rattle.map_model.specs.Progress.{IsEnded}
 use Rattle.map_model.proofs.MapForm.{offers-AreLines}
-use Rattle.evict.proofs.Evictions.{units_of-le}
+use Rattle.map_model.proofs.Units.{units_of-le}
 use Rattle.evict.specs.Standing.{IsReady, Standing}
 
 -- what a group has at places 0 to k is among all that it has

@@ -1,9 +1,10 @@
 use Rattle.std.proofs.Common.{◌≡◌, ℕ, ◌+◌, ◌<◌, ◌≤◌, ◌==◌, Bool, true, false, ◌&&◌, ◌||◌, nat_le, if◌then◌else◌, List, [], ◌∷◌, length, take, get_or, slice_index, slice_set, refl, sym, ap, ◌∙◌, subst, inl, inr, arith}
-use Rattle.std.proofs.lemmas.Bool.{and_parts, cases_Bool, cases_eq, eq-eqb, eqb-true, ne_eqb, or_cases, false≢true, leb-true}
+use Rattle.std.proofs.lemmas.Bool.{and_parts, cases_Bool, cases_eq, eq-eqb, eqb-true, ne_eqb, or_cases, false≢true, leb-true, or_parts, or_left, or_right}
 use Rattle.std.proofs.lemmas.List.Folds.{list_any_more}
 use Rattle.std.proofs.lemmas.List.{get_or-set_other, length-set}
 use Rattle.std.proofs.lemmas.Grind.{get_or-set_at}
 use Rattle.std.proofs.lemmas.List.Sums.{sum_by-cons}
+use Rattle.std.proofs.Math.Bool.{or-false}
 use Rattle.map_model.specs.declared.instance.Offer.{Offer}
 use Rattle.map_model.specs.Market.{Market, choices_of}
 use Rattle.map_model.specs.Allocation.{IsOffer, first}
@@ -57,15 +58,11 @@ run_step m start old new g k units freed before can put = record {
         let none : (if (g == h) && nat_le k j then units else 0) ≡ 0 = rw (apart h j (omega (arith, before.pointers h o.group))) refl in
         omega (arith, put.held (λ x y. (x == h) && nat_le y j), none, before.firsts h j o past)
 
-or_false : (a b : Bool) → (a || b) ≡ false → (a ≡ false) × (b ≡ false)
-or_false true b h = absurd (false≢true (sym h))
-or_false false b h = (refl, h)
-
 -- a group that gave up nothing gave up nothing at any place
 pub none_freed : (freed : List Eviction) (h : ℕ) → gave_any freed h ≡ false → freed_units (λ x _. x == h) freed ≡ 0
 none_freed [] h none = refl
 none_freed (e ∷ es) h none =
-    let p = or_false (e.offer.group.0 == h) (gave_any es h) none in
+    let p = or_parts (e.offer.group.0 == h) (gave_any es h) none in
     let f : Eviction → ℕ = λ x. if x.offer.group.0 == h then x.units else 0 in
     let z : f e ≡ 0 = rw p.0 refl in
     omega (arith, sum_by-cons f e es, z, none_freed es h p.1)
@@ -73,7 +70,7 @@ none_freed (e ∷ es) h none =
 pub none_at : (freed : List Eviction) (h k : ℕ) → gave_any freed h ≡ false → gave_up freed h k ≡ false
 none_at [] h k none = refl
 none_at (e ∷ es) h k none =
-    let p = or_false (e.offer.group.0 == h) (gave_any es h) none in
+    let p = or_parts (e.offer.group.0 == h) (gave_any es h) none in
     rw p.0 (none_at es h k p.1)
 
 -- a group that waits after a proposal waited before it, or gave up units
@@ -81,14 +78,6 @@ pub waited : (m : Market) (old new : Standing) (g k units : ℕ) (freed : List E
 waited m old new g k units freed put h w none =
     let same : slice_index new.pointers h ≡ slice_index old.pointers h = put.pointers h w.group ∙ ap (λ b. if b then slice_index old.pointers h + 1 else slice_index old.pointers h) (none_at freed h (slice_index old.pointers h) none) in
     record { group = w.group; free = omega (arith, put.free h w.group, none_freed freed h none, w.free); place = omega (arith, same, w.place) }
-
-or_right : (a b : Bool) → b ≡ true → (a || b) ≡ true
-or_right true b e = refl
-or_right false b e = e
-
-or_left : (a b : Bool) → a ≡ true → (a || b) ≡ true
-or_left true b e = refl
-or_left false b e = absurd (false≢true e)
 
 -- the list of work after a proposal: the group of the offer is on it again, and so are those that gave up units
 pub covers_step : (m : Market) (old new : Standing) (g k units : ℕ) (freed : List Eviction) (rest work : List Bool) → CoversRest m old g rest → IsPut m old new g k units freed → g < length m.groups → length work ≡ length rest
@@ -147,12 +136,8 @@ on_more old work freed i d h l there before =
       | inl same ↦ get_or-set_at work e.offer.group.0 h true false same (omega (arith, there, same))
           ∙ sym (or_right (is_on old h) (gave_any (take (i + 1) freed) h) (more ∙ or_right (gave_any (take i freed) h) (e.offer.group.0 == h) (eq-eqb e.offer.group.0 h (sym same))))
       | inr ne ↦ get_or-set_other work e.offer.group.0 h true false ne ∙ before
-          ∙ ap (λ b. is_on old h || b) (sym (more ∙ ap (λ b. gave_any (take i freed) h || b) (ne_eqb e.offer.group.0 h (λ x. ne (sym x))) ∙ or_false_right (gave_any (take i freed) h)))
+          ∙ ap (λ b. is_on old h || b) (sym (more ∙ ap (λ b. gave_any (take i freed) h || b) (ne_eqb e.offer.group.0 h (λ x. ne (sym x))) ∙ or-false (gave_any (take i freed) h)))
     ]
-  where
-    or_false_right : (b : Bool) → (b || false) ≡ b
-    or_false_right true = refl
-    or_false_right false = refl
 
 -- an offer that is due may be put, with all the free units of its group
 pub can_put : (m : Market) (state : Standing) (o : Offer) (units : ℕ) → IsReady m state → IsDueOffer m state o → units ≡ slice_index state.free o.group.0 → CanPut m state o.group.0 o.place units

@@ -7,11 +7,11 @@ use Rattle.map_model.specs.Market.{Market, IsMarket, capacity_of, pool_of}
 use Rattle.map_model.specs.Allocation.{amount_at, counts_at, load, none_worse}
 use Rattle.map_model.specs.Progress.{tree_of}
 use Rattle.map_model.proofs.Trees.{under_there}
+use Rattle.map_model.proofs.Paths.{pool_there}
 use Rattle.evict.specs.declared.freed.Eviction.{Eviction}
 use Rattle.evict.specs.Evictions.{gave_up}
 use Rattle.evict.specs.Standing.{CanPut, IsPut, Standing}
 use Rattle.evict.proofs.Refusals.{refused_by}
-use Rattle.evict.proofs.Relieving.{pool_there}
 use Rattle.evict.proofs.Settled.{freed_more}
 use Rattle.deferred_accept.specs.Runs.{proposals_of, worth_of}
 use Rattle.deferred_accept.specs.Spreading.{HoldsWork, IsSameFor, StaysInside, is_inside}

@@ -1,26 +1,23 @@
-use Rattle.std.proofs.Common.{◌≡◌, ℕ, ◌+◌, ◌-◌, ◌*◌, ◌<◌, ◌≤◌, ◌==◌, Bool, true, false, ◌&&◌, ◌||◌, if◌then◌else◌, List, [], ◌∷◌, length, slice_index, refl, sym, ap, ◌∙◌, subst, arith}
-use Rattle.std.proofs.lemmas.Bool.{eq-eqb, false≢true}
+use Rattle.std.proofs.Common.{◌≡◌, ℕ, ◌+◌, ◌-◌, ◌*◌, ◌<◌, ◌≤◌, ◌==◌, Bool, true, false, ◌&&◌, if◌then◌else◌, List, [], ◌∷◌, length, slice_index, refl, ap, ◌∙◌, subst, arith}
+use Rattle.std.proofs.lemmas.Bool.{eq-eqb, or_parts}
 use Rattle.std.proofs.lemmas.List.Sums.{sum_by-cons}
 use Rattle.map_model.specs.Market.{Market, choices_of, demand_of}
 use Rattle.map_model.specs.Allocation.{IsOffer, amount_at}
+use Rattle.map_model.proofs.Units.{amount-le-placed}
 use Rattle.evict.specs.declared.freed.Eviction.{Eviction}
 use Rattle.evict.specs.Evictions.{freed_units, gave_up}
 use Rattle.evict.specs.Standing.{CanPut, IsPut, IsReady, Standing}
-use Rattle.evict.proofs.Done.{amount-le-placed, gave_up_each}
+use Rattle.evict.proofs.Done.{gave_up_each}
 use Rattle.deferred_accept.specs.Runs.{proposals_of, worth_of}
 
 -- where an offer gave up nothing, none of its units are listed
 pub freed_none : (freed : List Eviction) (h k : ℕ) → gave_up freed h k ≡ false → freed_units (λ x y. (x == h) && (y == k)) freed ≡ 0
 freed_none [] h k none = refl
 freed_none (e ∷ es) h k none =
-    let p = or_false ((e.offer.group.0 == h) && (e.offer.place == k)) (gave_up es h k) none in
+    let p = or_parts ((e.offer.group.0 == h) && (e.offer.place == k)) (gave_up es h k) none in
     let f : Eviction → ℕ = λ x. if (x.offer.group.0 == h) && (x.offer.place == k) then x.units else 0 in
     let z : f e ≡ 0 = rw p.0 refl in
     omega (arith, sum_by-cons f e es, z, freed_none es h k p.1)
-  where
-    or_false : (a b : Bool) → (a || b) ≡ false → (a ≡ false) × (b ≡ false)
-    or_false true b h = absurd (false≢true (sym h))
-    or_false false b h = (refl, h)
 
 -- one place fewer is one demand and one proposal fewer
 place_fewer : (len p d : ℕ) → p < len → (len - p) * (d + 1) ≡ (len - (p + 1)) * (d + 1) + (d + 1)

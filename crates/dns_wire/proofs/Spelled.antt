@@ -4,6 +4,7 @@ use Rattle.std.proofs.lemmas.Bool.{cases_lt, cases_eq}
 use Rattle.std.proofs.lemmas.List.{drop_at, length-drop, length-take}
 use Rattle.dns_wire.specs.Wire.{name_len}
 use Rattle.name_text.specs.Wire.{wire, AreLabels, IsName}
+use Rattle.name_text.proofs.Forms.{some_wire}
 use Rattle.dns_wire.proofs.Names.{later, name_len-label}
 
 -- the first so many octets are the spelling of labels
@@ -63,7 +64,7 @@ last_octet b n octets z one = record { labels = []; form = tt; spelled = ap (λ 
 
 longer : (b n m : ℕ) (octets : List ℕ) → 0 < b → b < 64 → n ≡ 1 + b + m → Spells (drop b octets) m → Spells (b ∷ octets) n
 longer b n m octets some short is rest =
-    let left : 0 < length (wire rest.labels) = some_octet rest.labels in
+    let left : 0 < length (wire rest.labels) = some_wire rest.labels in
     let enough : b ≤ length octets = omega (arith, ap length rest.spelled, length-take m (drop b octets), length-drop b octets) in
     let size : length (take b octets) ≡ b = omega (arith, length-take b octets) in
     let whole : take n (b ∷ octets) ≡ b ∷ (take b octets ++ wire rest.labels) = ap (λ (k : ℕ). take k (b ∷ octets)) (let e : n ≡ suc (b + m) = omega arith in e) ∙ ap (λ (l : List ℕ). b ∷ l) (take-plus b m octets ∙ ap (λ (l : List ℕ). take b octets ++ l) rest.spelled) in
@@ -73,10 +74,6 @@ longer b n m octets some short is rest =
       spelled = whole ∙ ap (λ (k : ℕ). k ∷ (take b octets ++ wire rest.labels)) (sym size);
       size_is = omega (arith, rest.size_is, length-append (take b octets) (wire rest.labels));
     }
-  where
-    some_octet : (labels : List (List ℕ)) → 0 < length (wire labels)
-    some_octet [] = omega arith
-    some_octet (l ∷ labels) = omega arith
 
 found : (fuel : ℕ) (octets : List ℕ) (n : ℕ) → length octets ≤ fuel → name_len false 0 octets ≡ Some n → Spells octets n
 found zero [] n le e = absurd (nothing n e)

@@ -1,17 +1,12 @@
-use Rattle.std.proofs.Common.{◌≡◌, ℕ, ◌+◌, ◌<◌, ◌==◌, Bool, true, false, not, ◌&&◌, ◌⊎◌, if◌then◌else◌, List, [], ◌∷◌, length, Some, All, refl, sym, ap, ◌∙◌, subst, inl, inr, arith}
-use Rattle.std.specs.Option.{IfSome}
-use Rattle.std.specs.List.{list_any}
-use Rattle.std.proofs.lemmas.Bool.{eq-eqb, ne_eqb, eqb-true, or_cases}
+use Rattle.std.proofs.Common.{◌≡◌, ℕ, ◌+◌, ◌<◌, ◌==◌, Bool, true, false, not, ◌&&◌, if◌then◌else◌, List, [], ◌∷◌, All, refl, sym, ap, ◌∙◌, arith}
+use Rattle.std.proofs.lemmas.Bool.{ne_eqb}
 use Rattle.std.proofs.lemmas.List.Sums.{sum_by-cons}
 use Rattle.std.proofs.lemmas.List.Elements.{All-head, All-tail}
-use Rattle.map_model.specs.declared.instance.NodeId.{NodeId}
 use Rattle.map_model.specs.declared.instance.Key.{Key}
 use Rattle.map_model.specs.declared.lines.MapLine.{MapLine}
-use Rattle.map_model.specs.Market.{Market, IsMarket, climb, parent_of}
-use Rattle.map_model.specs.Allocation.{counts_at, is_under, key_le, line_key, none_worse, units_of}
-use Rattle.map_model.proofs.Paths.{climb_below, parent_below}
+use Rattle.map_model.specs.Market.{Market}
+use Rattle.map_model.specs.Allocation.{counts_at, key_le, line_key, none_worse, units_of}
 use Rattle.map_model.specs.Holding.{under_worse}
-use Rattle.map_model.proofs.Trees.{climb_longer, under_trans, or_true}
 
 -- no line is worse exactly where no units are, since each line has some
 pub none_worse-units_of : (m : Market) (n : ℕ) (key : Key) (lines : List MapLine) → All (λ l. 0 < l.amount) lines → none_worse m lines n key ≡ (units_of (under_worse m n key) lines == 0)

@@ -1,19 +1,16 @@
-use Rattle.std.proofs.Common.{◌≡◌, ℕ, ◌+◌, ◌-◌, ◌<◌, ◌≤◌, Bool, true, false, List, length, Option, None, Some, All, slice_index, slice_index_or, refl, sym, ap, ◌∙◌, subst, inl, inr, arith}
+use Rattle.std.proofs.Common.{◌≡◌, ℕ, ◌<◌, ◌≤◌, List, length, Option, None, Some, slice_index_or, refl, sym, subst, inl, inr}
 use Rattle.std.specs.Option.{IfSome}
 use Rattle.std.proofs.lemmas.Bool.{cases_Bool}
 use Rattle.capacity_tree.specs.Loads.{Loads}
 use Rattle.map_model.specs.declared.instance.NodeId.{NodeId}
-use Rattle.map_model.specs.declared.lines.MapLine.{MapLine}
-use Rattle.map_model.specs.Market.{Market, IsMarket, capacity_of, key_of, parent_of, pool_of}
-use Rattle.map_model.specs.Allocation.{counts_at, is_under, load, units_of}
-use Rattle.map_model.specs.Holding.{IsSaturated}
-use Rattle.map_model.proofs.Paths.{parent_there}
+use Rattle.map_model.specs.Market.{Market, capacity_of, parent_of, pool_of}
+use Rattle.map_model.specs.Allocation.{is_under, load}
+use Rattle.map_model.proofs.Paths.{parent_there, pool_there}
 use Rattle.map_model.proofs.Trees.{above_alone, above_parent, above_split, parent_above, parent_apart, under_there, under_trans}
 use Rattle.offer_pool.specs.Holdings.{Holdings}
 use Rattle.evict.specs.declared.freed.Eviction.{Eviction}
-use Rattle.evict.specs.Putting.{IsClimbing, IsPutting, IsRelieved, IsRelieving, IsTurnedAway, Origin}
+use Rattle.evict.specs.Putting.{IsClimbing, IsRelieved, IsRelieving, IsTurnedAway, Origin}
 use Rattle.evict.proofs.Putting.{IsPutting-up}
-use Rattle.evict.proofs.Relieving.{pool_there}
 
 -- on to the parent, once a node is within its capacity
 relieving_up : (m : Market) (origin : Origin) (g k c r : ℕ) (p : NodeId) (held : Holdings) (tree : Loads) (freed : List Eviction) → parent_of m c ≡ Some p → p.0 < length m.nodes → IsRelieving m origin g k c r held tree freed → load m held.lines c ≤ capacity_of m c

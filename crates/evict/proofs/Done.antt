@@ -1,26 +1,25 @@
-use Rattle.std.proofs.Common.{◌≡◌, ℕ, ◌+◌, ◌-◌, ◌<◌, ◌≤◌, ◌^◌, ◌==◌, Bool, true, false, ◌&&◌, nat_lt, if◌then◌else◌, List, [], ◌∷◌, length, IsTrue, IsSome, All, slice_index, slice_index_or, refl, sym, ap, ◌∙◌, subst, inl, inr, ◌⊎◌, arith}
-use Rattle.std.specs.List.{list_any}
-use Rattle.std.proofs.lemmas.Bool.{and_parts, and_from, cases_Bool, cases_eq, eqb-true, eq-eqb, ne_eqb, ltb-true, ltb-false, or_cases, false≢true}
+use Rattle.std.proofs.Common.{◌≡◌, ℕ, ◌+◌, ◌<◌, ◌≤◌, ◌==◌, Bool, true, false, ◌&&◌, nat_lt, if◌then◌else◌, List, [], ◌∷◌, length, IsTrue, IsSome, All, slice_index, refl, sym, ap, ◌∙◌, subst, inl, inr, ◌⊎◌, arith}
+use Rattle.std.proofs.lemmas.Bool.{and_parts, cases_Bool, eqb-true, ltb-true, ltb-false, or_cases, false≢true}
 use Rattle.std.proofs.lemmas.List.Elements.{All-head, All-tail}
-use Rattle.capacity_tree.specs.Loads.{AreTreesOf, Loads}
+use Rattle.capacity_tree.specs.Loads.{Loads}
 use Rattle.map_model.specs.declared.lines.MapLine.{MapLine}
-use Rattle.map_model.specs.Market.{Market, IsMarket, IsSameShape, choices_of, demand_of, key_of, pool_of}
-use Rattle.map_model.specs.Allocation.{IsOffer, amount_at, counts_at, is_full_of_better, placed, refuser_of, units_of}
+use Rattle.map_model.specs.Market.{Market, IsMarket, IsSameShape, choices_of, key_of, pool_of}
+use Rattle.map_model.specs.Allocation.{IsOffer, amount_at, counts_at, refuser_of}
 use Rattle.map_model.specs.Holding.{IsSaturated}
 use Rattle.map_model.specs.Progress.{IsResumable}
 use Rattle.map_model.proofs.MapForm.{few_places}
-use Rattle.map_model.proofs.Shapes.{shape_sym}
 use Rattle.map_model.proofs.Trees.{under_there, under_trans}
+use Rattle.map_model.proofs.Paths.{pool_there}
+use Rattle.map_model.proofs.Units.{amount-le-placed}
 use Rattle.offer_pool.specs.Holdings.{Holdings}
 use Rattle.evict.specs.declared.freed.Eviction.{Eviction}
-use Rattle.evict.specs.Evictions.{CanSettle, IsEviction, freed_units, gave_up}
-use Rattle.evict.specs.Putting.{AgreesWith, IsAccounted, IsPlacing, IsRelieved, Origin}
-use Rattle.evict.specs.Standing.{CanPut, IsPut, IsReady, KeepsRefusals, Standing}
-use Rattle.evict.proofs.Evictions.{units_of-le}
-use Rattle.evict.proofs.Refusals.{full_from_saturated, refusals_kept, refused_at, refused_by, saturated_from_full}
-use Rattle.evict.proofs.Relieving.{pool_there}
+use Rattle.evict.specs.Evictions.{CanSettle, freed_units, gave_up}
+use Rattle.evict.specs.Putting.{AgreesWith, IsPlacing, IsRelieved}
+use Rattle.evict.specs.Standing.{CanPut, IsPut, KeepsRefusals, Standing}
+use Rattle.evict.proofs.Refusals.{full_from_saturated, refusals_kept, refused_at, refused_by}
 use Rattle.evict.proofs.Settled.{places_below, small_demand}
 use Rattle.evict.proofs.Shaped.{load-shape}
+use Rattle.evict.proofs.Putting.{at_most}
 
 -- loads are those of what is held, for each instance of one shape
 pub agrees-shape : (m m' : Market) → IsSameShape m m' → (lines : List MapLine) (tree : Loads) → AgreesWith m lines tree → AgreesWith m' lines tree
@@ -29,10 +28,6 @@ agrees-shape m m' s lines tree a = record {
   size = a.size ∙ sym s.nodes;
   loads = λ n l. a.loads n (omega (arith, s.nodes)) ∙ sym (load-shape m m' s lines n);
 }
-
--- the units at one place are among those of the group
-pub amount-le-placed : (lines : List MapLine) (g k : ℕ) → amount_at lines g k ≤ placed lines g
-amount-le-placed lines g k = units_of-le (λ h j. (h == g) && (j == k)) (λ h _. h == g) (λ h j t. (and_parts (h == g) (j == k) t).0) lines
 
 -- a state as it is seen
 abbrev pub seen : Holdings → List ℕ → List ℕ → Bool → Standing
@@ -52,10 +47,6 @@ placing m g k units held tree pointers free whole freed can agrees nothing = rec
   fits = can.ready.resumable.capacities;
   nothing = nothing;
 }
-
-at_most : (b : Bool) (a : ℕ) → (if b then a else 0) ≤ a
-at_most true a = omega arith
-at_most false a = omega arith
 
 -- and what they cause can be settled
 pub settling : (m : Market) (g k units : ℕ) (held held' : Holdings) (tree' : Loads) (pointers free : List ℕ) (whole : Bool) (freed : List Eviction) → CanPut m (seen held pointers free whole) g k units

@@ -1,12 +1,11 @@
-use Rattle.std.proofs.Common.{◌≡◌, ℕ, ◌+◌, ◌≤◌, Bool, true, false, not, ◌&&◌, if◌then◌else◌, ◌⊎◌, List, [], ◌∷◌, refl, inl, inr, arith}
-use Rattle.std.proofs.lemmas.List.Sums.{sum_by-cons}
+use Rattle.std.proofs.Common.{◌≡◌, ℕ, ◌+◌, ◌≤◌, Bool, true, false, not, ◌&&◌, if◌then◌else◌, ◌⊎◌, List, refl, inl, inr, arith}
 use Rattle.std.proofs.lemmas.Bool.{and_parts, cases_Bool, false≢true}
 use Rattle.map_model.specs.declared.instance.Key.{Key}
 use Rattle.map_model.specs.declared.lines.MapLine.{MapLine}
 use Rattle.map_model.specs.Market.{Market, capacity_of, key_of, pool_of}
 use Rattle.map_model.specs.Allocation.{is_under, key_le, units_of, counts_at}
 use Rattle.map_model.proofs.Keys.{key_le_trans}
-use Rattle.map_model.proofs.Units.{sum_by-add}
+use Rattle.map_model.proofs.Units.{sum_by-add, units_of-le}
 use Rattle.map_model.specs.Holding.{under_within, under_worse, IsSaturated, Takes}
 use Rattle.map_model.proofs.Trees.{comparable}
 
@@ -18,23 +17,6 @@ units_of-split m lines n key = sum_by-add _ _ _ (λ l. each (counts_at m n l.gro
     each true true a = omega arith
     each true false a = omega arith
     each false k a = omega arith
-
--- what a larger test lets through is more
-pub units_of-le : (p q : ℕ → ℕ → Bool) → ((g k : ℕ) → p g k ≡ true → q g k ≡ true) → (lines : List MapLine) → units_of p lines ≤ units_of q lines
-units_of-le p q each [] = omega arith
-units_of-le p q each (l ∷ ls) =
-    omega (
-      arith,
-      sum_by-cons (λ (x : MapLine). if p x.group.0 x.place then x.amount else 0) l ls,
-      sum_by-cons (λ (x : MapLine). if q x.group.0 x.place then x.amount else 0) l ls,
-      one (p l.group.0 l.place) (q l.group.0 l.place) l.amount (each l.group.0 l.place),
-      units_of-le p q each ls,
-    )
-  where
-    one : (b c : Bool) (a : ℕ) → (b ≡ true → c ≡ true) → (if b then a else 0) ≤ (if c then a else 0)
-    one true true a h = omega arith
-    one true false a h = absurd (false≢true (h refl))
-    one false c a h = omega arith
 
 -- a node that is within its capacity and saturated is full, and has nothing worse
 pub full-IsSaturated : (m : Market) (lines : List MapLine) (n : ℕ) (key : Key) → units_of (counts_at m n) lines ≤ capacity_of m n → IsSaturated m lines n key

@@ -1,4 +1,4 @@
-use Rattle.std.proofs.Common.{◌≡◌, ℕ, zero, suc, ◌+◌, ◌<◌, ◌≤◌, ◌^◌, true, List, [], length, replicate, slice_index, refl, sym, ap, ◌∙◌, subst, arith}
+use Rattle.std.proofs.Common.{◌≡◌, ℕ, zero, suc, ◌<◌, true, List, [], length, replicate, slice_index, refl, sym, ap, ◌∙◌, subst, arith}
 use Rattle.std.proofs.Math.ListN.{length-replicate}
 use Rattle.capacity_tree.specs.Loads.{AreTreesOf, Loads}
 use Rattle.map_model.specs.Market.{Market, IsMarket, demand_of}
@@ -7,7 +7,7 @@ use Rattle.map_model.proofs.Shapes.{shape_itself}
 use Rattle.offer_pool.specs.Holdings.{Holdings}
 use Rattle.evict.proofs.Settled.{small_demand}
 use Rattle.evict.specs.Putting.{AgreesWith, IsSound}
-use Rattle.evict.specs.Standing.{IsFresh, Standing}
+use Rattle.evict.specs.Standing.{IsFresh}
 
 zeros : (n k : ℕ) → slice_index (replicate n 0) k ≡ 0
 zeros zero k = refl

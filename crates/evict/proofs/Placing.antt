@@ -1,19 +1,19 @@
-use Rattle.std.proofs.Common.{◌≡◌, ℕ, ◌+◌, ◌<◌, ◌≤◌, ◌^◌, Bool, true, false, if◌then◌else◌, is_some, List, [], ◌∷◌, ◌++◌, length, None, All, slice_index, refl, sym, ap, ◌∙◌, subst, arith}
+use Rattle.std.proofs.Common.{◌≡◌, ℕ, ◌+◌, ◌<◌, ◌≤◌, ◌^◌, Bool, true, false, if◌then◌else◌, is_some, List, [], ◌∷◌, ◌++◌, length, None, slice_index, refl, sym, ap, ◌∙◌, subst, arith}
 use Rattle.std.proofs.lemmas.List.Elements.{All-cons, All-nil}
 use Rattle.std.proofs.lemmas.List.Sums.{sum_by-cons}
 use Rattle.capacity_tree.specs.Loads.{AddsUnits, AreTreesOf, Loads}
 use Rattle.map_model.specs.declared.lines.MapLine.{MapLine}
-use Rattle.map_model.specs.Market.{Market, IsMarket, IsSameShape, capacity_of, key_of, pool_of}
-use Rattle.map_model.specs.Allocation.{AreLines, amount_at, counts_at, is_under, load, refuser_of, units_of}
+use Rattle.map_model.specs.Market.{Market, IsSameShape, capacity_of, key_of, pool_of}
+use Rattle.map_model.specs.Allocation.{AreLines, counts_at, is_under, load, refuser_of}
 use Rattle.map_model.specs.Holding.{IsSaturated, Puts}
 use Rattle.map_model.proofs.Trees.{under_itself}
+use Rattle.map_model.proofs.Paths.{pool_there}
 use Rattle.offer_pool.specs.Holdings.{Holdings}
 use Rattle.evict.specs.declared.freed.Eviction.{Eviction}
 use Rattle.evict.specs.Evictions.{IsEviction, freed_units}
-use Rattle.evict.specs.Putting.{AgreesWith, IsPlacing, IsRelieved, IsRelieving, IsTurnedAway, Origin}
+use Rattle.evict.specs.Putting.{AgreesWith, IsPlacing, IsRelieved, IsRelieving, Origin}
 use Rattle.evict.proofs.Putting.{IsPutting-start}
 use Rattle.evict.proofs.Refusals.{refused_by, saturated_from_full}
-use Rattle.evict.proofs.Relieving.{pool_there}
 use Rattle.evict.proofs.Shaped.{AreLines-shape, is_under-trees}
 
 -- there is room for the units at each node

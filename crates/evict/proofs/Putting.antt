@@ -1,5 +1,5 @@
 use Rattle.std.proofs.Common.{◌≡◌, ℕ, ◌+◌, ◌-◌, ◌<◌, ◌≤◌, ◌==◌, Bool, true, false, not, ◌&&◌, length, if◌then◌else◌, ◌⊎◌, List, refl, sym, ◌∙◌, subst, inl, inr, arith}
-use Rattle.std.proofs.lemmas.Bool.{and_parts, and_from, cases_Bool, cases_eq, false≢true, eq-eqb, ne_eqb, eqb-true}
+use Rattle.std.proofs.lemmas.Bool.{and_parts, and_from, cases_Bool, cases_eq, false≢true, eq-eqb, ne_eqb, eqb-true, not_from_true}
 use Rattle.map_model.specs.declared.instance.Key.{Key}
 use Rattle.map_model.specs.declared.lines.MapLine.{MapLine}
 use Rattle.map_model.specs.Market.{Market, IsMarket, capacity_of, key_of, pool_of}
@@ -8,7 +8,8 @@ use Rattle.map_model.proofs.Keys.{key_le_trans}
 use Rattle.map_model.specs.Holding.{under_within, under_worse, IsSaturated, Takes, Puts}
 use Rattle.evict.specs.Putting.{is_later, IsPutting}
 use Rattle.map_model.proofs.Trees.{under_itself, under_trans}
-use Rattle.evict.proofs.Evictions.{evict_step, full-IsSaturated, within-all, units_of-le}
+use Rattle.map_model.proofs.Units.{units_of-le}
+use Rattle.evict.proofs.Evictions.{evict_step, full-IsSaturated, within-all}
 
 -- the worst offer counts_at a node is no better than another that has units there
 no_better : (m : Market) (lines : List MapLine) (c g k g' k' : ℕ) → units_of (under_worse m c (key_of m g' k')) lines ≡ 0 → counts_at m c g k ≡ true → 0 < units_of (λ h j. (h == g) && (j == k)) lines → key_le (key_of m g k) (key_of m g' k') ≡ true
@@ -27,13 +28,9 @@ no_better m lines c g k g' k' none here some = elim (cases_Bool (key_le (key_of 
 ]
 
 not_later : (m : Market) (c : ℕ) → is_later m c c ≡ true → ⊥
-not_later m c l = false≢true (sym (not_self (c == c) (eq-eqb c c refl)) ∙ (and_parts (is_under m c c) (not (c == c)) l).1)
-  where
-    not_self : (b : Bool) → b ≡ true → not b ≡ false
-    not_self true e = refl
-    not_self false e = absurd (false≢true e)
+not_later m c l = false≢true (sym (not_from_true (c == c) (eq-eqb c c refl)) ∙ (and_parts (is_under m c c) (not (c == c)) l).1)
 
-at_most : (b : Bool) (a : ℕ) → (if b then a else 0) ≤ a
+pub at_most : (b : Bool) (a : ℕ) → (if b then a else 0) ≤ a
 at_most true a = omega arith
 at_most false a = omega arith
 

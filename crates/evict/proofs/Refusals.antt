@@ -1,19 +1,19 @@
-use Rattle.std.proofs.Common.{◌≡◌, ℕ, zero, suc, ◌+◌, ◌<◌, ◌≤◌, ◌==◌, Bool, true, false, not, ◌&&◌, ◌||◌, if◌then◌else◌, List, [], ◌∷◌, length, Option, None, Some, IsTrue, IsSome, All, slice_index_or, refl, sym, ap, ◌∙◌, subst, inl, inr, arith}
+use Rattle.std.proofs.Common.{◌≡◌, ℕ, ◌<◌, ◌≤◌, ◌==◌, Bool, true, List, [], ◌∷◌, IsSome, All, refl, sym, ap, ◌∙◌, inl, inr, arith}
 use Rattle.std.specs.List.{find, list_any}
 use Rattle.std.proofs.lemmas.Bool.{and_parts, and_from, cases_Bool, eqb-true, eq-eqb, or_cases, false≢true}
 use Rattle.std.proofs.lemmas.List.Elements.{All-from_get_or}
+use Rattle.std.proofs.Math.Bool.{or-true}
 use Rattle.map_model.specs.declared.instance.Key.{Key}
 use Rattle.map_model.specs.declared.lines.MapLine.{MapLine}
 use Rattle.map_model.specs.Market.{Market, IsMarket, capacity_of, key_of, path, pool_of}
-use Rattle.map_model.specs.Allocation.{AreLines, IsOffer, counts_at, is_full_of_better, is_under, load, none_worse, refuser_of, units_of}
-use Rattle.map_model.specs.Holding.{IsSaturated, under_within, under_worse}
+use Rattle.map_model.specs.Allocation.{AreLines, counts_at, is_full_of_better, load, none_worse, refuser_of, units_of}
+use Rattle.map_model.specs.Holding.{IsSaturated, under_worse}
 use Rattle.map_model.proofs.MapForm.{IsLineAt-from}
 use Rattle.map_model.proofs.Trees.{under_there}
 use Rattle.evict.specs.Putting.{IsSettled}
 use Rattle.evict.specs.Standing.{KeepsRefusals}
 use Rattle.evict.proofs.Bridge.{none_worse-units_of}
 use Rattle.evict.proofs.Evictions.{full-IsSaturated, units_of-split}
-use Rattle.evict.proofs.Relieving.{pool_there}
 
 -- each line of a map has units
 pub some-AreLines : (m : Market) (lines : List MapLine) → AreLines m lines → All (λ l. 0 < l.amount) lines
@@ -47,12 +47,8 @@ found : (test : ℕ → Bool) (xs : List ℕ) → IsSome (find test xs) → (n :
 found test [] h = absurd (false≢true h)
 found test (x ∷ xs) h = elim (cases_Bool (test x)) [
   | inl e ↦ (x, rw (eq-eqb x x refl) refl, e)
-  | inr e ↦ let r = found test xs (rw e at h) in (r.0, rw r.1 (or_true (x == r.0)), r.2)
+  | inr e ↦ let r = found test xs (rw e at h) in (r.0, rw r.1 (or-true (x == r.0)), r.2)
 ]
-  where
-    or_true : (b : Bool) → (b || true) ≡ true
-    or_true true = refl
-    or_true false = refl
 
 -- an offer is refused where a node of its path is full of units ranked at least as high
 pub refused_at : (m : Market) (lines : List MapLine) (g k n : ℕ) → counts_at m n g k ≡ true → is_full_of_better m lines n (key_of m g k) ≡ true → IsSome (refuser_of m lines g k)

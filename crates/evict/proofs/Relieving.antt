@@ -1,25 +1,21 @@
-use Rattle.std.proofs.Common.{◌≡◌, ℕ, ◌+◌, ◌-◌, ◌<◌, ◌≤◌, ◌==◌, ◌&&◌, min, Bool, true, false, if◌then◌else◌, List, [], ◌∷◌, ◌++◌, length, All, IsTrue, slice_index, slice_index_or, refl, sym, ap, ◌∙◌, subst, arith}
+use Rattle.std.proofs.Common.{◌≡◌, ℕ, ◌+◌, ◌-◌, ◌<◌, ◌≤◌, ◌==◌, ◌&&◌, min, Bool, true, false, if◌then◌else◌, List, [], ◌∷◌, ◌++◌, length, All, slice_index, slice_index_or, sym, ap, ◌∙◌, subst, arith}
 use Rattle.std.proofs.lemmas.Bool.{and_parts, eqb-true}
 use Rattle.std.proofs.lemmas.List.Sums.{sum_by_push}
-use Rattle.std.proofs.lemmas.List.Elements.{All-push, All-weaker}
+use Rattle.std.proofs.lemmas.List.Elements.{All-push}
 use Rattle.capacity_tree.specs.Loads.{AreTreesOf, Loads, TakesUnits}
-use Rattle.map_model.specs.declared.instance.GroupId.{GroupId}
 use Rattle.map_model.specs.declared.lines.MapLine.{MapLine}
-use Rattle.map_model.specs.Market.{Market, IsMarket, IsSameShape, capacity_of, key_of, pool_of}
+use Rattle.map_model.specs.Market.{Market, IsSameShape, capacity_of, key_of, pool_of}
 use Rattle.map_model.specs.Allocation.{AreLines, IsOffer, amount_at, counts_at, is_under, load, units_of}
 use Rattle.map_model.specs.Holding.{IsWorst, Takes, under_worse}
+use Rattle.map_model.proofs.Paths.{pool_there}
+use Rattle.map_model.proofs.Units.{units_of-le}
 use Rattle.offer_pool.specs.Holdings.{Holdings}
 use Rattle.evict.specs.declared.freed.Eviction.{Eviction}
 use Rattle.evict.specs.Evictions.{IsEviction, freed_units}
-use Rattle.evict.specs.Putting.{AgreesWith, IsAccounted, IsPutting, IsRelieving, IsTurnedAway, Origin}
-use Rattle.evict.proofs.Evictions.{units_of-le}
+use Rattle.evict.specs.Putting.{AgreesWith, IsAccounted, IsRelieving, IsTurnedAway, Origin}
 use Rattle.evict.proofs.Putting.{IsPutting-evict}
 use Rattle.evict.proofs.Shaped.{AreLines-shape, IsWorst-shape, is_under-trees}
 use Rattle.evict.proofs.Turned.{turned_here, turned_still}
-
--- the pool of an offer is there
-pub pool_there : (m : Market) → IsMarket m → (g k : ℕ) → IsOffer m g k → pool_of m g k < length m.nodes
-pool_there m market g k o = (market.groups g (record { demand = 0; choices = [] }) o.group).there k (record { pool = record { 0 = 0 }; score = 0 }) o.place
 
 -- what an offer holds is held under each node of its path
 pub amount-le-load : (m : Market) (lines : List MapLine) (n g k : ℕ) → counts_at m n g k ≡ true → amount_at lines g k ≤ load m lines n

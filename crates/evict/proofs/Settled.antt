@@ -1,19 +1,14 @@
-use Rattle.std.proofs.Common.{◌≡◌, ℕ, ◌+◌, ◌-◌, ◌<◌, ◌≤◌, ◌^◌, ◌==◌, Bool, true, false, ◌&&◌, nat_lt, if◌then◌else◌, List, [], ◌∷◌, length, Some, IsTrue, IsSome, All, take, get_or, slice_index, slice_index_or, refl, sym, ap, ◌∙◌, subst, inl, inr, ◌⊎◌, arith}
-use Rattle.std.proofs.lemmas.Bool.{and_parts, and_from, cases_Bool, cases_eq, eqb-true, eq-eqb, ne_eqb, ltb-true, ltb-false, false≢true}
+use Rattle.std.proofs.Common.{◌≡◌, ℕ, ◌+◌, ◌<◌, ◌≤◌, ◌^◌, ◌==◌, Bool, true, false, ◌&&◌, nat_lt, if◌then◌else◌, List, [], length, All, take, slice_index, slice_index_or, refl, ap, ◌∙◌, subst, inl, inr, ◌⊎◌, arith}
+use Rattle.std.proofs.lemmas.Bool.{and_parts, and_from, cases_Bool, eqb-true, eq-eqb, ltb-true, ltb-false}
 use Rattle.std.proofs.lemmas.List.Sums.{sum_by_more_le}
 use Rattle.capacity_tree.specs.Loads.{Loads}
-use Rattle.map_model.specs.Market.{Market, IsMarket, IsSameShape, choices_of, demand_of, key_of, pool_of}
-use Rattle.map_model.specs.Allocation.{IsOffer, amount_at, counts_at, placed, units_of}
-use Rattle.map_model.specs.Progress.{IsResumable}
-use Rattle.map_model.proofs.MapForm.{few_places}
-use Rattle.map_model.proofs.Trees.{under_there, under_trans}
+use Rattle.map_model.specs.Market.{Market, IsMarket, demand_of}
+use Rattle.map_model.specs.Allocation.{IsOffer, amount_at}
 use Rattle.offer_pool.specs.Holdings.{Holdings}
 use Rattle.evict.specs.declared.freed.Eviction.{Eviction}
-use Rattle.evict.specs.Evictions.{IsEviction, freed_units, gave_up}
-use Rattle.evict.specs.Putting.{IsAccounted, IsRelieved, Origin}
-use Rattle.evict.specs.Standing.{CanPut, IsPut, IsReady, Standing}
-use Rattle.evict.proofs.Refusals.{full_from_saturated, refusals_kept, refused_at, refused_by, saturated_from_full}
-use Rattle.evict.proofs.Relieving.{pool_there}
+use Rattle.evict.specs.Evictions.{freed_units}
+use Rattle.evict.specs.Putting.{IsAccounted, Origin}
+use Rattle.evict.specs.Standing.{CanPut, Standing}
 
 -- the evictions so far and the next one are within all of them
 pub freed_more : (test : ℕ → ℕ → Bool) (freed : List Eviction) (i : ℕ) (d : Eviction) → i < length freed → test (slice_index_or freed i d).offer.group.0 (slice_index_or freed i d).offer.place ≡ true

@@ -1,17 +1,19 @@
-use Rattle.std.proofs.Common.{◌≡◌, ℕ, ◌+◌, ◌-◌, ◌<◌, ◌≤◌, ◌^◌, ◌==◌, Bool, true, false, if◌then◌else◌, List, [], length, slice_index, slice_set, get_or-set_same, get_or-set_other, refl, sym, ap, ◌∙◌, subst, inl, inr, arith}
+use Rattle.std.proofs.Common.{◌≡◌, ℕ, ◌+◌, ◌<◌, ◌≤◌, ◌^◌, ◌==◌, true, if◌then◌else◌, List, length, slice_index, slice_set, get_or-set_same, get_or-set_other, refl, sym, ap, ◌∙◌, subst, inl, inr, arith}
 use Rattle.std.proofs.Math.ListN.{length-set}
 use Rattle.std.proofs.lemmas.Bool.{cases_eq, eq-eqb, ne_eqb}
-use Rattle.capacity_tree.specs.Loads.{AreTreesOf, Loads, TakesUnits}
-use Rattle.map_model.specs.Market.{Market, IsMarket, IsSameShape, demand_of, pool_of}
-use Rattle.map_model.specs.Allocation.{AreLines, IsOffer, amount_at, is_under, placed}
+use Rattle.capacity_tree.specs.Loads.{Loads, TakesUnits}
+use Rattle.map_model.specs.Market.{Market, pool_of}
+use Rattle.map_model.specs.Allocation.{IsOffer, amount_at, is_under, placed}
 use Rattle.map_model.specs.Holding.{Takes}
 use Rattle.map_model.proofs.Shapes.{shape_sym}
+use Rattle.map_model.proofs.Paths.{pool_there}
+use Rattle.map_model.proofs.Units.{amount-le-placed}
 use Rattle.offer_pool.specs.Holdings.{Holdings}
 use Rattle.evict.specs.declared.freed.Eviction.{Eviction}
 use Rattle.evict.specs.Evictions.{freed_units}
-use Rattle.evict.specs.Putting.{AgreesWith, IsRelieved, IsSound, Origin}
-use Rattle.evict.proofs.Done.{agrees-shape, amount-le-placed}
-use Rattle.evict.proofs.Relieving.{agrees-take, pool_there, taken_fits}
+use Rattle.evict.specs.Putting.{AgreesWith, IsRelieved, IsSound}
+use Rattle.evict.proofs.Done.{agrees-shape}
+use Rattle.evict.proofs.Relieving.{agrees-take, taken_fits}
 
 -- a whole state after a put
 pub sound_put : (m own : Market) (g k units : ℕ) (held held' : Holdings) (tree tree' : Loads) (free free' totals : List ℕ) (freed : List Eviction) → IsSound own held tree free totals → IsRelieved m (record { lines = held.lines; units = units }) g k held' tree' freed

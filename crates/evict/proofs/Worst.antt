@@ -1,12 +1,13 @@
-use Rattle.std.proofs.Common.{◌≡◌, ℕ, ◌+◌, ◌<◌, ◌≤◌, ◌==◌, Bool, true, false, not, ◌&&◌, List, refl, sym, ap, ◌∙◌, subst, inl, inr, arith}
+use Rattle.std.proofs.Common.{◌≡◌, ℕ, ◌==◌, true, false, not, ◌&&◌, List, refl, sym, ◌∙◌, inl, inr, arith}
 use Rattle.std.proofs.lemmas.Bool.{and_from, and_parts, cases_Bool, eq-eqb, eqb-true, ne_eqb}
 use Rattle.map_model.specs.declared.instance.Key.{Key}
 use Rattle.map_model.specs.declared.lines.MapLine.{MapLine}
 use Rattle.map_model.specs.Market.{Market, IsSameShape, key_of}
 use Rattle.map_model.specs.Allocation.{AreLines, counts_at, key_le, load, none_worse, units_of}
-use Rattle.map_model.specs.Holding.{IsWorst, under_within, under_worse}
+use Rattle.map_model.specs.Holding.{IsWorst, under_worse}
+use Rattle.map_model.proofs.Units.{units_of-le}
 use Rattle.evict.proofs.Bridge.{none_worse-units_of}
-use Rattle.evict.proofs.Evictions.{units_of-le, units_of-split, within-all}
+use Rattle.evict.proofs.Evictions.{units_of-split, within-all}
 use Rattle.evict.proofs.Refusals.{some-AreLines}
 use Rattle.evict.proofs.Shaped.{AreLines-shape, IsWorst-shape, load-shape}
 

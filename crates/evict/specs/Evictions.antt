@@ -1,4 +1,4 @@
-use Rattle.std.specs.Prelude.{◌≡◌, ℕ, ◌+◌, ◌<◌, ◌≤◌, ◌^◌, length, slice_index, Bool, ◌&&◌, ◌==◌, if◌then◌else◌, List, All, IsTrue, sum_by}
+use Rattle.std.specs.Prelude.{◌≡◌, ℕ, ◌+◌, ◌<◌, ◌≤◌, ◌^◌, length, slice_index, Bool, ◌&&◌, ◌==◌, if◌then◌else◌, List, All, sum_by}
 use Rattle.std.specs.List.{list_any}
 use Rattle.map_model.specs.Market.{Market}
 use Rattle.map_model.specs.Allocation.{IsOffer}

@@ -4,7 +4,7 @@ use Rattle.capacity_tree.specs.Loads.{AreTreesOf, Loads}
 use Rattle.map_model.specs.declared.instance.Key.{Key}
 use Rattle.map_model.specs.declared.instance.NodeId.{NodeId}
 use Rattle.map_model.specs.declared.lines.MapLine.{MapLine}
-use Rattle.map_model.specs.Market.{Market, IsMarket, IsSameShape, capacity_of, key_of, pool_of}
+use Rattle.map_model.specs.Market.{Market, IsMarket, IsSameShape, capacity_of, key_of}
 use Rattle.map_model.specs.Allocation.{AreLines, IsOffer, amount_at, counts_at, is_under, key_le, load, placed, units_of}
 use Rattle.map_model.specs.Holding.{IsSaturated, under_within}
 use Rattle.offer_pool.specs.Holdings.{Holdings}

@@ -1,7 +1,7 @@
 use Rattle.std.proofs.Common.{◌≡◌, ℕ, zero, suc, ◌+◌, ◌-◌, ◌*◌, ◌<◌, Bool, List, [], ◌++◌, length, Option, None, Some, IsTrue, map, refl, sym, subst, inl, inr, arith}
 use Rattle.std.specs.List.{cons_option, filter_map, find, flat_map, range_with_len}
 use Rattle.std.specs.Option.{IfSome, option_map}
-use Rattle.std.proofs.lemmas.Bool.{cases_Bool, cases_eq, eq-eqb, lt-ltb}
+use Rattle.std.proofs.lemmas.Bool.{cases_Bool, lt-ltb, and_from}
 use Rattle.std.proofs.lemmas.List.Elements.{filter_map-append}
 use Rattle.map_model.specs.declared.instance.NodeId.{NodeId}
 use Rattle.map_model.specs.declared.lines.MapLine.{MapLine}
@@ -9,8 +9,8 @@ use Rattle.map_model.specs.declared.lines.NameLine.{NameLine}
 use Rattle.map_model.specs.Market.{Market, IsMarket, choices_of, climb, parent_of, pool_of}
 use Rattle.map_model.specs.Allocation.{AreNames, IsGood, IsMapForm, IsOffer, is_name, is_wanted, name_at, name_of, names_of, offers_from, refuser_of}
 use Rattle.map_model.proofs.MapForm.{few_places}
-use Rattle.map_model.proofs.Paths.{parent_there}
-use Rattle.map_model.proofs.Rising.{IsRisen, Rises, Rises-at, Rises-lower, before_by_rank, both, either}
+use Rattle.map_model.proofs.Paths.{parent_there, pool_there}
+use Rattle.map_model.proofs.Rising.{IsRisen, Rises, Rises-at, Rises-lower, before_by_rank, first_or}
 
 -- what a search up a climb finds is there
 find_there : (m : Market) → IsMarket m → (test : ℕ → Bool) (steps : ℕ) (at : Option NodeId) → IfSome at (λ p. p.0 < length m.nodes) → IfSome (find test (climb steps m at)) (λ n. n < length m.nodes)
@@ -24,7 +24,7 @@ find_there m market test (suc steps) (Some p) h = elim (cases_Bool (test p.0)) [
 
 -- the refusing node of an offer is there
 pub refuser_there : (m : Market) → IsMarket m → (lines : List MapLine) (g k : ℕ) → IsOffer m g k → IfSome (refuser_of m lines g k) (λ n. n < length m.nodes)
-refuser_there m market lines g k o = find_there m market _ 8 (Some (record { 0 = pool_of m g k })) ((market.groups g _ o.group).there k _ o.place)
+refuser_there m market lines g k o = find_there m market _ 8 (Some (record { 0 = pool_of m g k })) (pool_there m market g k o)
 
 -- where a name stands in the order
 abbrev rank : NameLine → ℕ
@@ -36,8 +36,8 @@ record IsInRange (m : Market) (l : NameLine) : Type 0 where
   node : l.node.0 < length m.nodes
 
 -- a name that no list holds
-abbrev blank : NameLine
-blank = record { group = record { 0 = 0 }; place = 0; node = record { 0 = 0 } }
+abbrev pub no_name : NameLine
+no_name = record { group = record { 0 = 0 }; place = 0; node = record { 0 = 0 } }
 
 -- names in range whose ranks rise, from one on
 abbrev Rise : Market → ℕ → List NameLine → Type 0
@@ -81,21 +81,18 @@ Rises-groups m market lines (suc n) g e =
     subst (λ ls. Rise m (g * 16) ls) (sym (filter_map-append (name_of m lines) (offers_from m g 0) (flat_map (λ g. offers_from m g 0) (range_with_len (g + 1) n))))
     (subst (λ f. Rise m f (filter_map (name_of m lines) (offers_from m g 0) ++ filter_map (name_of m lines) (flat_map (λ g. offers_from m g 0) (range_with_len (g + 1) n)))) same (Rises-group m market lines g within _ next (length (choices_of m g) - 0) 0 whole))
 
-in_form : (m : Market) → IsMarket m → (names : List NameLine) (i : ℕ) → i < length names → IsRisen rank (IsInRange m) blank 0 names i → ((j : ℕ) → j < length names → IsInRange m (name_at names j)) → IsTrue (is_name m names i)
+in_form : (m : Market) → IsMarket m → (names : List NameLine) (i : ℕ) → i < length names → IsRisen rank (IsInRange m) no_name 0 names i → ((j : ℕ) → j < length names → IsInRange m (name_at names j)) → IsTrue (is_name m names i)
 in_form m market names i h a each =
     let l = name_at names i in
     let b = name_at names (i - 1) in
-    both _ _ (both _ _ (both _ _ (lt-ltb _ _ a.range.offer.group) (lt-ltb _ _ a.range.offer.place)) (lt-ltb _ _ a.range.node)) (either _ _ (elim (cases_eq i 0) [
-      | inl e ↦ inl (eq-eqb i 0 e)
-      | inr ne ↦ inr (before_by_rank b.group.0 b.place l.group.0 l.place (few_places m market _ _ (each (i - 1) (omega arith)).offer) (few_places m market _ _ a.range.offer) (a.above (omega arith)))
-    ]))
+    and_from _ _ (and_from _ _ (and_from _ _ (lt-ltb _ _ a.range.offer.group) (lt-ltb _ _ a.range.offer.place)) (lt-ltb _ _ a.range.node)) (first_or i _ (λ some. before_by_rank b.group.0 b.place l.group.0 l.place (few_places m market _ _ (each (i - 1) (omega arith)).offer) (few_places m market _ _ a.range.offer) (a.above some)))
 
 -- the names of a map are in the form of a map
 pub AreNames-names_of : (m : Market) → IsMarket m → (lines : List MapLine) → AreNames m (names_of m lines)
 AreNames-names_of m market lines i h =
     let e : 0 * 16 ≡ 0 = omega arith in
-    let a = Rises-at rank (IsInRange m) blank 0 (names_of m lines) (subst (λ f. Rise m f (names_of m lines)) e (Rises-groups m market lines (length m.groups) 0 (omega arith))) i h in
-    in_form m market (names_of m lines) i h a (λ j l. (Rises-at rank (IsInRange m) blank 0 (names_of m lines) (subst (λ f. Rise m f (names_of m lines)) e (Rises-groups m market lines (length m.groups) 0 (omega arith))) j l).range)
+    let a = Rises-at rank (IsInRange m) no_name 0 (names_of m lines) (subst (λ f. Rise m f (names_of m lines)) e (Rises-groups m market lines (length m.groups) 0 (omega arith))) i h in
+    in_form m market (names_of m lines) i h a (λ j l. (Rises-at rank (IsInRange m) no_name 0 (names_of m lines) (subst (λ f. Rise m f (names_of m lines)) e (Rises-groups m market lines (length m.groups) 0 (omega arith))) j l).range)
 
 -- a good map is in the form of a map
 pub IsMapForm-IsGood : (m : Market) → IsMarket m → (lines : List MapLine) (names : List NameLine) → IsGood m lines names → IsMapForm m lines names

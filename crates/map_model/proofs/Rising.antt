@@ -1,6 +1,6 @@
 -- Lists whose ranks rise: so do the lines and the names in the form of a map, by group and place.
-use Rattle.std.proofs.Common.{◌≡◌, ℕ, zero, suc, ◌+◌, ◌-◌, ◌*◌, ◌<◌, ◌≤◌, ◌==◌, Bool, true, false, ◌&&◌, ◌||◌, ◌⊎◌, nat_lt, List, [], ◌∷◌, length, slice_index_or, refl, sym, ap, ◌∙◌, subst, inl, inr, arith}
-use Rattle.std.proofs.lemmas.Bool.{cases_eq, eq-eqb, false≢true, lt-ltb}
+use Rattle.std.proofs.Common.{◌≡◌, ℕ, zero, suc, ◌+◌, ◌-◌, ◌*◌, ◌<◌, ◌≤◌, ◌==◌, Bool, true, ◌&&◌, ◌||◌, nat_lt, List, [], ◌∷◌, length, slice_index_or, sym, subst, inl, inr, arith}
+use Rattle.std.proofs.lemmas.Bool.{cases_eq, eq-eqb, lt-ltb, and_from, or_left, or_right}
 
 -- elements in range whose ranks rise, from one on
 abbrev pub Rises : {X : Type 0} → (X → ℕ) → (X → Type 0) → ℕ → List X → Type 0
@@ -31,17 +31,13 @@ Rises-at rank In none from (x ∷ xs) r (suc i) h =
         let above : rank (slice_index_or xs (suc j - 1) none) < rank (slice_index_or xs (suc j) none) = a.above (omega arith) in
         subst (λ n. rank (slice_index_or (x ∷ xs) n none) < rank (slice_index_or xs (suc j) none)) (sym e) (subst (λ n. rank (slice_index_or xs n none) < rank (slice_index_or xs (suc j) none)) f above)
 
-pub both : (a b : Bool) → a ≡ true → b ≡ true → (a && b) ≡ true
-both a b p q = ap (λ x. x && b) p ∙ q
-
-pub either : (a b : Bool) → (a ≡ true) ⊎ (b ≡ true) → (a || b) ≡ true
-either true b h = refl
-either false b (inl e) = absurd (false≢true e)
-either false b (inr e) = e
+-- the first, or behind the one before it
+pub first_or : (i : ℕ) (b : Bool) → (0 < i → b ≡ true) → ((i == 0) || b) ≡ true
+first_or i b above = elim (cases_eq i 0) [ inl e ↦ or_left _ _ (eq-eqb i 0 e) | inr ne ↦ or_right _ _ (above (omega arith)) ]
 
 -- of two places of lists of sixteen, the one of lesser rank is before the other by group and then by place
 pub before_by_rank : (g k h j : ℕ) → k < 16 → j < 16 → g * 16 + k < h * 16 + j → (nat_lt g h || ((g == h) && nat_lt k j)) ≡ true
 before_by_rank g k h j few also l = elim (cases_eq g h) [
-  | inl e ↦ either _ _ (inr (both _ _ (eq-eqb g h e) (lt-ltb k j (omega arith))))
-  | inr ne ↦ either _ _ (inl (lt-ltb g h (omega arith)))
+  | inl e ↦ or_right _ _ (and_from _ _ (eq-eqb g h e) (lt-ltb k j (omega arith)))
+  | inr ne ↦ or_left _ _ (lt-ltb g h (omega arith))
 ]

@@ -16,7 +16,9 @@ use Rattle.map_model.specs.declared.lines.MapLine.{MapLine}
 use Rattle.map_model.specs.declared.lines.NameLine.{NameLine}
 use Rattle.map_model.specs.Market.{Market, pool_of}
 use Rattle.map_model.specs.Allocation.{AreLines, AreNames, IsMapForm, IsOffer, is_before, is_name, is_name_before}
-use Rattle.map_model.proofs.MapForm.{IsLineAt-from}
+use Rattle.map_model.proofs.MapForm.{IsLineAt-from, no_line}
+use Rattle.map_model.proofs.Paths.{pool_there}
+use Rattle.map_model.proofs.NameForm.{no_name}
 use Rattle.topology_text.specs.Plan.{IsPlan, Plan, number_in}
 use Rattle.map_text.specs.Parts.{four_of, unfinished}
 use Rattle.map_text.specs.Lines.{entry_of, full_line, line_of, offer_of, place_line}
@@ -27,10 +29,9 @@ use Rattle.map_text.specs.Writing.{ended, full_row, name_at as word_at, place_ro
 use Rattle.map_text.specs.declared.fault.MapFault.{MapFault}
 use Rattle.map_text.specs.declared.line.Line.{Line}
 use Rattle.map_text.specs.declared.line.Line.TheVariants.{Header, Place, Full, End, Bad}
-use Rattle.map_text.proofs.Forms.{no_line, no_name}
 use Rattle.map_text.proofs.Readings.{read_all, read_on, unless}
 use Rattle.map_text.proofs.Rows.{AllLack, all_lack-append, four_lacks, four_parts, unfinished_ended, whole_ended}
-use Rattle.map_text.proofs.Spelled.{IsWord, amount_again, amount_word, name_word, number_again, offer_again, pool_there}
+use Rattle.map_text.proofs.Spelled.{IsWord, amount_again, amount_word, name_word, number_again, offer_again}
 
 -- the amounts fit 32 bits
 abbrev pub Fit : List MapLine → Type 0

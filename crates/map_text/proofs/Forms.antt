@@ -1,8 +1,8 @@
 -- What is read keeps the form of a map.
-use Rattle.std.proofs.Common.{◌≡◌, ℕ, ◌+◌, ◌-◌, ◌<◌, Bool, true, false, not, cond, ◌&&◌, ◌||◌, nat_lt, nat_eq, List, [], ◌∷◌, ◌++◌, length, get_or, None, Some, IsTrue, refl, sym, subst, arith, append-nil, length-append, inl, inr}
+use Rattle.std.proofs.Common.{◌≡◌, ◌+◌, ◌-◌, ◌<◌, Bool, true, false, not, cond, ◌&&◌, ◌||◌, nat_eq, List, [], ◌∷◌, ◌++◌, length, get_or, None, Some, IsTrue, refl, sym, subst, arith, append-nil, length-append, inl, inr}
 use Rattle.std.proofs.Math.Seq.{get_or-append_seam}
 use Rattle.std.proofs.Math.ListN.{get_or-append}
-use Rattle.std.proofs.lemmas.Bool.{and_parts, cases_lt}
+use Rattle.std.proofs.lemmas.Bool.{and_parts, cases_lt, lt-ltb}
 use Rattle.std.proofs.lemmas.Bool.Decides.{nat_tests}
 use Rattle.std.proofs.lemmas.Option.{slice_get-get_or}
 use Rattle.std.specs.Prelude.{slice_get}
@@ -11,6 +11,8 @@ use Rattle.map_model.specs.declared.lines.MapLine.{MapLine}
 use Rattle.map_model.specs.declared.lines.NameLine.{NameLine}
 use Rattle.map_model.specs.Market.{Market, choices_of}
 use Rattle.map_model.specs.Allocation.{AreLines, AreNames, IsMapForm, IsOffer, is_before, is_line, is_name, is_name_before}
+use Rattle.map_model.proofs.MapForm.{no_line}
+use Rattle.map_model.proofs.NameForm.{no_name}
 use Rattle.map_text.specs.Lines.{IsInRange}
 use Rattle.map_text.specs.Reading.{SoFar, fault_of, is_bad, is_in_order, is_unknown}
 use Rattle.map_text.specs.Reader.{with_line}
@@ -18,17 +20,8 @@ use Rattle.map_text.specs.declared.fault.MapFault.TheVariants.{BadLine, UnknownN
 use Rattle.map_text.specs.declared.line.Line.{Line}
 use Rattle.map_text.specs.declared.line.Line.TheVariants.{Header, Place, Full, End, Unknown, Bad}
 
-abbrev pub no_line : MapLine
-no_line = record { group = record { 0 = 0 }; place = 0; amount = 0 }
-
-abbrev pub no_name : NameLine
-no_name = record { group = record { 0 = 0 }; place = 0; node = record { 0 = 0 } }
-
 all_four : (a b c d : Bool) → a ≡ true → b ≡ true → c ≡ true → d ≡ true → (a && b && c && d) ≡ true
 all_four a b c d ta tb tc td = rw (ta, tb, tc, td) refl
-
-lt-true : (a b : ℕ) → a < b → nat_lt a b ≡ true
-lt-true a b h = grind (arith, nat_tests)
 
 -- the last of some, and what is put behind it
 above_last : {X : Type 0} (before : X → X → Bool) (xs : List X) (x d : X) → option_map_or (λ y. before y x) (slice_get xs (length xs - 1)) true ≡ true
@@ -55,7 +48,7 @@ lines_more m lines x form offer some above i lt = elim (cases_lt i (length lines
       let last : i ≡ length lines = omega (arith, length-append lines (x ∷ [])) in
       subst (λ k. IsTrue (is_line m (lines ++ x ∷ []) k)) (sym last)
       (rw (get_or-append_seam lines x [] no_line)
-      (all_four _ _ _ _ (lt-true x.group.0 (length m.groups) offer.group) (lt-true x.place (length (choices_of m x.group.0)) offer.place) (lt-true 0 x.amount some)
+      (all_four _ _ _ _ (lt-ltb x.group.0 (length m.groups) offer.group) (lt-ltb x.place (length (choices_of m x.group.0)) offer.place) (lt-ltb 0 x.amount some)
       (above_last is_before lines x no_line above)))
 ]
 
@@ -69,7 +62,7 @@ names_more m names x form offer there above i lt = elim (cases_lt i (length name
       let last : i ≡ length names = omega (arith, length-append names (x ∷ [])) in
       subst (λ k. IsTrue (is_name m (names ++ x ∷ []) k)) (sym last)
       (rw (get_or-append_seam names x [] no_name)
-      (all_four _ _ _ _ (lt-true x.group.0 (length m.groups) offer.group) (lt-true x.place (length (choices_of m x.group.0)) offer.place) (lt-true x.node.0 (length m.nodes) there)
+      (all_four _ _ _ _ (lt-ltb x.group.0 (length m.groups) offer.group) (lt-ltb x.place (length (choices_of m x.group.0)) offer.place) (lt-ltb x.node.0 (length m.nodes) there)
       (above_last is_name_before names x no_name above)))
 ]
 

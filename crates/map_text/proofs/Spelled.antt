@@ -1,6 +1,6 @@
 -- What is read of a word that was written.
 use Rattle.std.proofs.Common.{◌≡◌, ℕ, ◌<◌, ◌^◌, ◌==◌, Bool, true, false, not, ◌&&◌, cond, nat_le, nat_lt, List, [], ◌∷◌, length, get_or, AllPairs, IsTrue, Option, None, Some, option_map, refl, ap, sym, ◌∙◌, arith}
-use Rattle.std.proofs.lemmas.Bool.{and_parts}
+use Rattle.std.proofs.lemmas.Bool.{and_parts, false_from_ne_true}
 use Rattle.std.proofs.lemmas.Bool.Decides.{nat_tests}
 use Rattle.std.proofs.lemmas.Fmt.{decimal_is_IsNumeral, first_decimal}
 use Rattle.std.proofs.lemmas.Slice.Eq.{bytes_eq-Decides}
@@ -14,6 +14,7 @@ use Rattle.std.specs.Str.Parse.{AllDigits, digits_value}
 use Rattle.map_model.specs.declared.instance.Offer.{Offer}
 use Rattle.map_model.specs.Market.{Market, IsMarket, choices_of, pool_of}
 use Rattle.map_model.specs.Allocation.{IsOffer}
+use Rattle.map_model.proofs.Paths.{pool_there}
 use Rattle.topology_text.specs.Plan.{IsPlan, Plan, number_in}
 use Rattle.topology_text.specs.Texts.{is_name, is_name_byte}
 use Rattle.map_text.specs.Lines.{offer_of, place_of}
@@ -22,16 +23,12 @@ use Rattle.map_text.specs.Writing.{name_at}
 use Rattle.map_text.proofs.Firsts.{position_here}
 use Rattle.addr_text.proofs.Splits.{Lacks}
 
-is_false : (b : Bool) → (b ≡ true → ⊥) → b ≡ false
-is_false true h = absurd (h refl)
-is_false false h = refl
-
 -- octets that all pass a test lack one that doesn't
 lacks_all : (c : ℕ) (test : ℕ → Bool) → test c ≡ false → (xs : List ℕ) → list_all test xs ≡ true → Lacks c xs
 lacks_all c test out [] all = tt
 lacks_all c test out (x ∷ xs) all =
     let p = and_parts (test x) (list_all test xs) all in
-    (is_false (x == c) (λ e. let is : x ≡ c = grind (arith, nat_tests) in let t : test c ≡ true = ap test (sym is) ∙ p.0 in cc), lacks_all c test out xs p.1)
+    (false_from_ne_true (x == c) (λ e. let is : x ≡ c = grind (arith, nat_tests) in let t : test c ≡ true = ap test (sym is) ∙ p.0 in cc), lacks_all c test out xs p.1)
 
 -- a name has neither spaces nor ends of lines in it, and is not empty
 pub record IsWord (word : List ℕ) : Type 0 where
@@ -77,7 +74,7 @@ amount_again n some fits =
 pub number_again : (names : List (List ℕ)) (n : ℕ) → AllPairs (λ a b. a ≡ b → ⊥) names → n < length names → number_in names (name_at names n) ≡ Some n
 number_again names n distinct lt =
     position_here (bytes_eq (get_or names n [])) names n [] lt
-    (λ k below. is_false (bytes_eq (get_or names n []) (get_or names k [])) (λ e. distinct k n [] below lt (sym ((bytes_eq-Decides (get_or names n []) (get_or names k [])).0 e))))
+    (λ k below. false_from_ne_true (bytes_eq (get_or names n []) (get_or names k [])) (λ e. distinct k n [] below lt (sym ((bytes_eq-Decides (get_or names n []) (get_or names k [])).0 e))))
     ((bytes_eq-Decides (get_or names n []) (get_or names n [])).1 refl)
 
 -- the place of the pool at a place
@@ -85,11 +82,8 @@ pub place_again : (m : Market) → IsMarket m → (g k : ℕ) → IsOffer m g k 
 place_again m market g k o =
     let group = market.groups g (record { demand = 0; choices = [] }) o.group in
     position_here (λ c. c.pool.0 == pool_of m g k) (choices_of m g) k (record { pool = record { 0 = 0 }; score = 0 }) o.place
-    (λ j below. is_false (pool_of m g j == pool_of m g k) (λ e. group.distinct j k (record { pool = record { 0 = 0 }; score = 0 }) below o.place (grind (arith, nat_tests))))
+    (λ j below. false_from_ne_true (pool_of m g j == pool_of m g k) (λ e. group.distinct j k (record { pool = record { 0 = 0 }; score = 0 }) below o.place (grind (arith, nat_tests))))
     (grind (arith, nat_tests))
-
-pub pool_there : (m : Market) → IsMarket m → (g k : ℕ) → IsOffer m g k → pool_of m g k < length m.nodes
-pool_there m market g k o = (market.groups g (record { demand = 0; choices = [] }) o.group).there k (record { pool = record { 0 = 0 }; score = 0 }) o.place
 
 -- the offer of the names of an offer
 pub offer_again : (t : Plan) → IsPlan t → (g k : ℕ) → IsOffer t.market g k → offer_of t (name_at t.group_names g) (name_at t.node_names (pool_of t.market g k)) ≡ Some (record { group = record { 0 = g }; place = k })

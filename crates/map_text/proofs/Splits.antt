@@ -3,7 +3,7 @@ use Rattle.std.proofs.Common.{◌≡◌, ℕ, ◌+◌, List, [], ◌∷◌, leng
 use Rattle.std.proofs.lemmas.List.Splits.{length-slice_split}
 use Rattle.std.specs.List.{position_from}
 use Rattle.addr_text.specs.Groups.{parts}
-use Rattle.addr_text.proofs.Splits.{split_at_hit, split_no_hit}
+use Rattle.text_parts.proofs.Splits.{split_at_hit, split_no_hit}
 use Rattle.map_text.specs.Parts.{but_last, four_of, last_of}
 
 -- an octet that is found cuts the text

@@ -3,36 +3,15 @@ ghost use Rattle.std.specs.List.{position_from};
 ghost use Rattle.addr_text.specs.Groups.{parts};
 ghost use Rattle.map_text.specs.Parts.{four_of};
 
-/// The first place of an octet.
-fn find(text: &[u8], octet: u8) -> Option<usize>
-    ensures first { result ≡ position_from (λ b. b == octet) 0 text.now }
-    ensures within { IfSome result (λ i. i < length text.now) }
-{
-    text.iter().position(|b| *b == octet)
-}
-
-fn before(text: &[u8], at: usize) -> &[u8]
-    requires { at ≤ length text.now }
-    ensures { result.now ≡ take at text.now }
-{
-    &text[..at]
-}
-
-fn behind(text: &[u8], at: usize) -> &[u8]
-    requires { at ≤ length text.now }
-    ensures value { result.now ≡ drop at text.now }
-    ensures length { length result.now + at ≡ length text.now }
-{
-    &text[at..]
-}
+use text_parts::{after, before, position_of};
 
 /// What stands before and behind the first of an octet, where there is one.
 pub fn cut(text: &[u8], octet: u8) -> Option<(&[u8], &[u8])>
     ensures parts { MatchOption result (parts octet text.now ≡ text.now ∷ []) (λ r. parts octet text.now ≡ r.0.now ∷ parts octet r.1.now) }
     ensures shorter { IfSome result (λ r. length r.1.now < length text.now) }
 {
-    match find(text, octet) {
-        Some(at) => Some((before(text, at), behind(text, at + 1))),
+    match position_of(text, octet) {
+        Some(at) => Some((before(text, at), after(text, at + 1))),
         None => None,
     }
 }

@@ -1,8 +1,10 @@
 -- Octets that are the spelling of labels.
-use Rattle.std.proofs.Common.{◌≡◌, ℕ, ◌-◌, ◌<◌, ◌≤◌, Bool, true, false, cond, ◌&&◌, not, nat_le, nat_lt, ◌==◌, List, [], ◌∷◌, ◌++◌, length, take, Option, None, Some, Ok, Err, refl, ap, sym, ◌∙◌, subst, arith, length-append, append_assoc}
+use Rattle.std.proofs.Common.{◌≡◌, ℕ, ◌-◌, ◌<◌, ◌≤◌, Bool, true, false, cond, not, nat_le, nat_lt, ◌==◌, List, [], ◌∷◌, ◌++◌, length, take, Option, None, Some, Ok, Err, refl, ap, sym, ◌∙◌, subst, arith, length-append, append_assoc}
 use Rattle.std.proofs.lemmas.Bool.Decides.{nat_tests}
 use Rattle.std.specs.List.{list_all, onto_first, slice_split}
 use Rattle.std.specs.Option.{ok_or, option_or}
+use Rattle.std.proofs.lemmas.Bool.{false_from_ne_true, and_parts}
+use Rattle.std.proofs.Math.Seq.{take-append_seam}
 use Rattle.name_text.specs.declared.fault.NameFault.{NameFault}
 use Rattle.name_text.specs.declared.fault.NameFault.TheVariants.{EmptyLabel, BadByte, LongLabel, LongName}
 use Rattle.name_text.specs.Wire.{wire, AreLabels, IsName}
@@ -63,22 +65,14 @@ is_dot b hit = grind (arith, nat_tests)
 dot_is_bad : (b : ℕ) → is_label_byte b ≡ true → b ≡ 46 → ⊥
 dot_is_bad b good is = let bad : is_label_byte 46 ≡ true = subst (λ (n : ℕ). is_label_byte n ≡ true) is good in cc
 
-not_true : (t : Bool) → (t ≡ true → ⊥) → t ≡ false
-not_true false never = refl
-not_true true never = absurd (never refl)
-
 no_dot : (b : ℕ) → is_label_byte b ≡ true → (b == 46) ≡ false
-no_dot b good = not_true (b == 46) (λ hit. dot_is_bad b good (is_dot b hit))
-
-both_true : (a b : Bool) → (a && b) ≡ true → (a ≡ true) × (b ≡ true)
-both_true true b h = (refl, h)
-both_true false b h = cc
+no_dot b good = false_from_ne_true (b == 46) (λ hit. dot_is_bad b good (is_dot b hit))
 
 -- so the dots part a label's text into itself alone
 pub alone : (label : List ℕ) → list_all is_label_byte label ≡ true → slice_split (λ b. b == 46) label ≡ label ∷ []
 alone [] good = refl
 alone (b ∷ bs) good =
-    let (first, others) = both_true (is_label_byte b) (list_all is_label_byte bs) good in
+    let (first, others) = and_parts (is_label_byte b) (list_all is_label_byte bs) good in
     ap (λ (t : Bool). cond t ([] ∷ slice_split (λ b. b == 46) bs) (onto_first b (slice_split (λ b. b == 46) bs))) (no_dot b first) ∙ ap (onto_first b) (alone bs others)
 
 -- the labels' octets, without the 0 at the end
@@ -104,11 +98,12 @@ front_of : (xs : List ℕ) (b : ℕ) → labels_part (xs ++ b ∷ []) ≡ xs
 front_of [] b = refl
 front_of (x ∷ xs) b =
     let size : length (x ∷ xs ++ b ∷ []) - 1 ≡ length (x ∷ xs) = omega (arith, length-append (x ∷ xs) (b ∷ [])) in
-    ap (λ (n : ℕ). take n (x ∷ xs ++ b ∷ [])) size ∙ ap (λ (l : List ℕ). x ∷ l) (front (xs) (b ∷ []))
-  where
-    front : (ys zs : List ℕ) → take (length ys) (ys ++ zs) ≡ ys
-    front [] zs = refl
-    front (y ∷ ys) zs = ap (λ (l : List ℕ). y ∷ l) (front ys zs)
+    ap (λ (n : ℕ). take n (x ∷ xs ++ b ∷ [])) size ∙ ap (λ (l : List ℕ). x ∷ l) (take-append_seam xs (b ∷ []))
+
+-- the spelling of labels has an octet
+pub some_wire : (labels : List (List ℕ)) → 0 < length (wire labels)
+some_wire [] = omega arith
+some_wire (label ∷ labels) = omega arith
 
 -- a name has an octet
 pub some_octet : (octets : List ℕ) → IsName octets → 0 < length octets

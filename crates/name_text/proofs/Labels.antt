@@ -6,7 +6,7 @@ use Rattle.std.specs.Option.{option_or}
 use Rattle.name_text.specs.declared.fault.NameFault.{NameFault}
 use Rattle.name_text.specs.Wire.{wire}
 use Rattle.name_text.specs.Names.{first_fault, label_fault, short_wire}
-use Rattle.name_text.proofs.Splits.{split_at_hit, split_no_hit}
+use Rattle.text_parts.proofs.Splits.{split_at_hit, split_no_hit}
 
 -- a fault in the first label is the first fault
 pub fault_here : (p : ℕ → Bool) (xs : List ℕ) (i : ℕ) (fault : NameFault) (all : Option NameFault) → position_from p 0 xs ≡ Some i → label_fault (take i xs) ≡ Some fault → first_fault (slice_split p xs) ≡ all → Some fault ≡ all

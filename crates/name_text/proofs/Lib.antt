@@ -1,4 +1,3 @@
-pub mod Splits
 pub mod Labels
 pub mod Forms
 pub mod Rests

@@ -6,6 +6,7 @@ ghost use Rattle.name_text.specs.Names.{first_fault, is_label_byte, label_fault,
 
 use crate::{Name, NameFault};
 use arrayvec::ArrayVec;
+use text_parts::{after, before, position_of};
 
 fn is_label_byte(b: u8) -> bool
     ensures { result ≡ is_label_byte b }
@@ -34,27 +35,6 @@ fn label_fault(label: &[u8]) -> Option<NameFault>
     }
 }
 
-fn position_of_dot(text: &[u8]) -> Option<usize>
-    ensures first { result ≡ position_from (λ b. b == 46) 0 text.now }
-    ensures within { IfSome result (λ i. i < length text.now) }
-{
-    text.iter().position(|b| *b == b'.')
-}
-
-fn before(text: &[u8], i: usize) -> &[u8]
-    requires { i ≤ length text.now }
-    ensures { result.now ≡ take i text.now }
-{
-    &text[..i]
-}
-
-fn after(text: &[u8], i: usize) -> &[u8]
-    requires { i ≤ length text.now }
-    ensures { result.now ≡ drop i text.now }
-{
-    &text[i..]
-}
-
 /// The text without one dot at its end.
 fn undotted(text: &[u8]) -> &[u8]
     ensures { result.now ≡ undotted text.now }
@@ -67,7 +47,7 @@ fn first_fault(text: &[u8]) -> Option<NameFault>
     ensures { result ≡ first_fault (slice_split (λ b. b == 46) text.now) }
 {
     let mut rest = text;
-    while let Some(dot) = position_of_dot(rest) {
+    while let Some(dot) = position_of(rest, b'.') {
         if let Some(fault) = label_fault(before(rest, dot)) {
             return Some(fault);
         }
@@ -94,7 +74,7 @@ fn wire_of(text: &[u8]) -> Option<ArrayVec<u8, 255>>
 {
     let mut octets = ArrayVec::new();
     let mut rest = text;
-    while let Some(dot) = position_of_dot(rest) {
+    while let Some(dot) = position_of(rest, b'.') {
         if !push_label(&mut octets, before(rest, dot)) {
             return None;
         }

@@ -1,8 +1,8 @@
 -- Which seat of a queue is first, as one comes.
-use Rattle.std.proofs.Common.{◌≡◌, ℕ, true, false, List, ◌∷◌, Contains, Option, None, Some, slice_get, refl, sym, ap, ◌∙◌, ◌⊎◌, inl, inr}
+use Rattle.std.proofs.Common.{◌≡◌, false, List, ◌∷◌, Contains, Option, None, Some, slice_get, refl, sym, ap, ◌∙◌, inl, inr}
 use Rattle.std.specs.declared.cmp.Ordering.{Ordering}
 use Rattle.std.specs.declared.cmp.Ordering.TheVariants.{Less, Equal, Greater}
-use Rattle.std.specs.Ordering.{nat_cmp, ordering_reverse, ordering_then, is_lt}
+use Rattle.std.specs.Ordering.{nat_cmp, ordering_reverse, is_lt}
 use Rattle.std.specs.BinaryHeap.{IsHeap}
 use Rattle.std.specs.Cmp.{IsTotalOrder}
 use Rattle.std.specs.List.Sorted.{IsPermutation}
@@ -15,6 +15,7 @@ use Rattle.std.proofs.lemmas.Option.{get_or_from_slice_get}
 use Rattle.offer_pool.specs.declared.queue.Seat.{Seat}
 use Rattle.offer_pool.specs.Seats.{KeepsFirst, seat_cmp}
 use Rattle.offer_pool.proofs.Queues.{Contains-came, Contains-first, Contains-none, came_cases, came_itself}
+use Rattle.map_model.proofs.Keys.{then_tie}
 
 -- seats are in a total order
 seats_total : IsTotalOrder seat_cmp
@@ -34,16 +35,11 @@ same_seat a b not_less not_more = as_one (tied (seat_cmp a b) not_less (ap is_lt
     tied Equal h i = refl
     tied Greater h i = absurd (true≢false i)
 
-    both : (o p : Ordering) → ordering_then o p ≡ Equal → (o ≡ Equal) × (p ≡ Equal)
-    both Less p e = cc
-    both Equal p e = (refl, e)
-    both Greater p e = cc
-
     as_one : seat_cmp a b ≡ Equal → a ≡ b
     as_one e =
-        let p = both (nat_cmp a.score b.score) _ e in
-        let q = both (nat_cmp a.group.0 b.group.0) _ p.1 in
-        let r = both (nat_cmp a.pool.0 b.pool.0) _ q.1 in
+        let p = then_tie (nat_cmp a.score b.score) _ e in
+        let q = then_tie (nat_cmp a.group.0 b.group.0) _ p.1 in
+        let r = then_tie (nat_cmp a.pool.0 b.pool.0) _ q.1 in
         λ i. record { score = exact_unsigned a.score b.score p.0 i; group = record { 0 = exact_unsigned a.group.0 b.group.0 q.0 i }; pool = record { 0 = exact_unsigned a.pool.0 b.pool.0 r.0 i }; place = exact_unsigned a.place b.place r.1 i }
 
 -- the first seat of a queue to which one came

@@ -2,11 +2,12 @@
 use Rattle.std.proofs.Common.{◌≡◌, ◌≢◌, ℕ, zero, suc, ◌+◌, ◌<◌, ◌==◌, Bool, true, false, ◌||◌, List, [], ◌∷◌, length, take, drop, Contains, slice_index_or, slice_set, get_or-set_same, get_or-set_other, None, Some, slice_get, refl, sym, ap, ◌∙◌, subst, arith, ◌⊎◌, inl, inr}
 use Rattle.std.specs.List.{list_any}
 use Rattle.std.specs.List.Sorted.{IsPermutation}
-use Rattle.std.proofs.lemmas.Bool.{cases_eq, eq-eqb, eqb-true, or_cases}
+use Rattle.std.proofs.lemmas.Bool.{cases_eq, eq-eqb, eqb-true, or_cases, or_parts, true≢false}
 use Rattle.std.proofs.lemmas.List.{get_or_default, take_more, take-append-drop}
 use Rattle.std.proofs.lemmas.List.Folds.{list_any-append}
 use Rattle.std.proofs.lemmas.List.Sorted.{Contains-permutation, IsPermutation-sym}
 use Rattle.std.proofs.lemmas.Option.{get_or_from_slice_get, slice_get_within}
+use Rattle.std.proofs.Math.Bool.{or-false, or-true}
 use Rattle.map_model.specs.declared.instance.NodeId.{NodeId}
 use Rattle.offer_pool.specs.declared.queue.Seat.{Seat}
 use Rattle.offer_pool.specs.Filed.{queue_at}
@@ -71,11 +72,7 @@ abbrev pub is_among : ℕ → List NodeId → Bool
 is_among n nodes = list_any (λ x. x.0 == n) nodes
 
 among_more : (nodes : List NodeId) (i n : ℕ) (d : NodeId) → i < length nodes → is_among n (take (i + 1) nodes) ≡ (is_among n (take i nodes) || ((slice_index_or nodes i d).0 == n))
-among_more nodes i n d within = ap (is_among n) (take_more nodes i d within) ∙ list_any-append (λ x. x.0 == n) (take i nodes) (slice_index_or nodes i d ∷ []) ∙ ap (λ b. is_among n (take i nodes) || b) (or_false ((slice_index_or nodes i d).0 == n))
-  where
-    or_false : (b : Bool) → (b || false) ≡ b
-    or_false true = refl
-    or_false false = refl
+among_more nodes i n d within = ap (is_among n) (take_more nodes i d within) ∙ list_any-append (λ x. x.0 == n) (take i nodes) (slice_index_or nodes i d ∷ []) ∙ ap (λ b. is_among n (take i nodes) || b) (or-false ((slice_index_or nodes i d).0 == n))
 
 pub among_cases : (nodes : List NodeId) (i n : ℕ) (d : NodeId) → i < length nodes → is_among n (take (i + 1) nodes) ≡ true → (is_among n (take i nodes) ≡ true) ⊎ (n ≡ (slice_index_or nodes i d).0)
 among_cases nodes i n d within h = elim (or_cases (is_among n (take i nodes)) ((slice_index_or nodes i d).0 == n) (sym (among_more nodes i n d within) ∙ h)) [
@@ -85,32 +82,17 @@ among_cases nodes i n d within h = elim (or_cases (is_among n (take i nodes)) ((
 
 pub not_among : (nodes : List NodeId) (i n : ℕ) (d : NodeId) → i < length nodes → is_among n (take (i + 1) nodes) ≡ false → (is_among n (take i nodes) ≡ false) × (n ≢ (slice_index_or nodes i d).0)
 not_among nodes i n d within h =
-    let (before, now) = both (is_among n (take i nodes)) ((slice_index_or nodes i d).0 == n) (sym (among_more nodes i n d within) ∙ h) in (before, λ e. clash (sym (eq-eqb (slice_index_or nodes i d).0 n (sym e)) ∙ now))
-  where
-    both : (a b : Bool) → (a || b) ≡ false → (a ≡ false) × (b ≡ false)
-    both true b e = cc
-    both false b e = (refl, e)
-
-    clash : true ≡ false → ⊥
-    clash e = cc
+    let (before, now) = or_parts (is_among n (take i nodes)) ((slice_index_or nodes i d).0 == n) (sym (among_more nodes i n d within) ∙ h) in (before, λ e. true≢false (sym (eq-eqb (slice_index_or nodes i d).0 n (sym e)) ∙ now))
 
 -- a node of the list is among its nodes
 pub among_itself : (nodes : List NodeId) (i : ℕ) (d : NodeId) → i < length nodes → is_among (slice_index_or nodes i d).0 nodes ≡ true
 among_itself [] i d within = absurd (omega arith)
 among_itself (x ∷ xs) zero d within = ap (λ b. b || is_among x.0 xs) (eq-eqb x.0 x.0 refl)
-among_itself (x ∷ xs) (suc i) d within = ap (λ b. (x.0 == (slice_index_or xs i d).0) || b) (among_itself xs i d (omega arith)) ∙ or_true (x.0 == (slice_index_or xs i d).0)
-  where
-    or_true : (b : Bool) → (b || true) ≡ true
-    or_true true = refl
-    or_true false = refl
+among_itself (x ∷ xs) (suc i) d within = ap (λ b. (x.0 == (slice_index_or xs i d).0) || b) (among_itself xs i d (omega arith)) ∙ or-true (x.0 == (slice_index_or xs i d).0)
 
 pub not_among_all : (nodes : List NodeId) (i n : ℕ) (d : NodeId) → i < length nodes → is_among n nodes ≡ false → (is_among n (take i nodes) ≡ false) × (n ≢ (slice_index_or nodes i d).0)
 not_among_all nodes i n d within h =
-    not_among nodes i n d within (left (is_among n (take (i + 1) nodes)) (is_among n (drop (i + 1) nodes)) (sym (list_any-append (λ x. x.0 == n) (take (i + 1) nodes) (drop (i + 1) nodes)) ∙ ap (is_among n) (take-append-drop (i + 1) nodes) ∙ h))
-  where
-    left : (a b : Bool) → (a || b) ≡ false → a ≡ false
-    left true b e = cc
-    left false b e = refl
+    not_among nodes i n d within (or_parts (is_among n (take (i + 1) nodes)) (is_among n (drop (i + 1) nodes)) (sym (list_any-append (λ x. x.0 == n) (take (i + 1) nodes) (drop (i + 1) nodes)) ∙ ap (is_among n) (take-append-drop (i + 1) nodes) ∙ h)).0
 
 -- the first of a list of nodes, all of them
 pub live_step : (P : List Seat → Type 0) (nodes : List NodeId) (i n : ℕ) (d : NodeId) (old new : List (List Seat)) → i < length nodes → (is_among n (take i nodes) ≡ true → P (queue_at old n)) → P (queue_at new (slice_index_or nodes i d).0)

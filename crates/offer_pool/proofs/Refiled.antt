@@ -1,10 +1,10 @@
 -- A table and its queues stay as they should be, as units come and go.
-use Rattle.std.proofs.Common.{◌≡◌, ◌≢◌, ℕ, ◌/◌, ◌%◌, ◌<◌, ◌==◌, Bool, true, false, ◌||◌, List, [], ◌∷◌, length, map, Contains, slice_index, slice_set, get_or-set_same, get_or-set_other, length-set, Option, None, Some, IfSome, slice_get, refl, sym, ap, ◌∙◌, subst, arith, ◌⊎◌, inl, inr}
+use Rattle.std.proofs.Common.{◌≡◌, ◌≢◌, ℕ, ◌/◌, ◌%◌, ◌<◌, ◌==◌, true, false, ◌||◌, List, [], ◌∷◌, length, map, Contains, slice_index, slice_set, get_or-set_same, get_or-set_other, length-set, Option, None, Some, IfSome, slice_get, refl, sym, ap, ◌∙◌, subst, arith, ◌⊎◌, inl, inr}
 use Rattle.std.specs.List.{list_any}
 use Rattle.std.specs.Prelude.{Result, Ok, Err, OnOk, is_err}
-use Rattle.std.proofs.lemmas.Bool.{cases_eq}
+use Rattle.std.proofs.lemmas.Bool.{cases_eq, cases_Bool}
 use Rattle.map_model.specs.declared.instance.NodeId.{NodeId}
-use Rattle.map_model.specs.Market.{IsGroup, IsMarket, Market, group_at, path, pool_of}
+use Rattle.map_model.specs.Market.{IsMarket, Market, path}
 use Rattle.map_model.specs.Allocation.{IsOffer, counts_at, is_under}
 use Rattle.map_model.proofs.MapForm.{few_places}
 use Rattle.offer_pool.specs.declared.queue.Seat.{Seat}
@@ -12,12 +12,6 @@ use Rattle.offer_pool.specs.Seats.{IsSeatUnder, KeepsFirst, seat_at}
 use Rattle.offer_pool.specs.Table.{amount_in, place_at}
 use Rattle.offer_pool.specs.Filed.{AreAmounts, AreFiled, IsHeld, IsLive, queue_at}
 use Rattle.offer_pool.proofs.Queues.{Contains-first, is_among}
-
--- the pool of an offer is there
-pub pool_there : (m : Market) → IsMarket m → (g k : ℕ) → IsOffer m g k → pool_of m g k < length m.nodes
-pool_there m market g k offer =
-    let group : IsGroup m.nodes (group_at m g) = market.groups g _ offer.group in
-    group.there k _ offer.place
 
 -- an offer has its place in the table
 pub place_there : (m : Market) (amounts : List ℕ) → IsMarket m → AreAmounts m amounts → (g k : ℕ) → IsOffer m g k → place_at g k < length amounts
@@ -81,14 +75,10 @@ which g k h j = go (cases_eq h g) (cases_eq k j)
     go (inl e) (inr f) = inr (λ p. f p.1)
     go (inr e) f = inr (λ p. e p.0)
 
-bool_cases : (b : Bool) → (b ≡ true) ⊎ (b ≡ false)
-bool_cases true = inl refl
-bool_cases false = inr refl
-
 -- the seats of queues to which seats of one offer came
 pub pushed_seats : (m : Market) (a : List ℕ) (q0 q1 : List (List Seat)) (g k : ℕ) (nodes : List NodeId) → AreFiled m a q0 → IsOffer m g k → ((n : ℕ) → is_among n nodes ≡ counts_at m n g k)
     → ((n : ℕ) (s : Seat) → Contains (queue_at q1 n) s → Contains (queue_at q0 n) s ⊎ (s ≡ seat_at m g k)) → ((n : ℕ) → is_among n nodes ≡ false → queue_at q1 n ≡ queue_at q0 n) → (n : ℕ) (s : Seat) → Contains (queue_at q1 n) s → IsSeatUnder m n s
-pushed_seats m a q0 q1 g k nodes old offer among from others n s h = by (bool_cases (is_among n nodes))
+pushed_seats m a q0 q1 g k nodes old offer among from others n s h = by (cases_Bool (is_among n nodes))
   where
     its_own : is_among n nodes ≡ true → s ≡ seat_at m g k → IsSeatUnder m n s
     its_own above e = subst (IsSeatUnder m n) (sym e) (record { offer = offer; seat = refl; under = sym (among n) ∙ above })
@@ -106,7 +96,7 @@ refiled m a b q0 q1 q2 g k nodes old r = record {
   nodes = r.count ∙ old.nodes;
   filed = λ h j n offer some under. r.kept2 n (seat_at m h j) (there h j n offer some under (which g k h j)) some;
   seats = λ n s h. pushed_seats m a q0 q1 g k nodes old r.offer r.among r.from1 r.others1 n s (r.from2 n s h);
-  live = λ n. alive n (bool_cases (is_among n nodes));
+  live = λ n. alive n (cases_Bool (is_among n nodes));
 }
   where
     came : (n : ℕ) → counts_at m n g k ≡ true → (0 < amount_in a g k) ⊎ ((o : ℕ) → is_among o nodes ≡ true → Contains (queue_at q1 o) (seat_at m g k)) → Contains (queue_at q1 n) (seat_at m g k)

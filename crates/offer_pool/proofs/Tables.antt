@@ -1,13 +1,13 @@
 -- The lines of a table, and what they sum up to.
 use Rattle.std.proofs.Common.{◌≡◌, ◌≢◌, ℕ, zero, suc, ◌+◌, ◌-◌, ◌/◌, ◌%◌, ◌<◌, ◌≤◌, ◌==◌, Bool, true, false, ◌&&◌, if◌then◌else◌, cond, List, [], ◌∷◌, ◌++◌, length, take, replicate, slice_index, slice_set, get_or-set_other, IsTrue, refl, sym, ap, ◌∙◌, subst, arith, ◌⊎◌, inl, inr}
-use Rattle.std.proofs.lemmas.Bool.{cases_eq, eq-eqb, eqb-true, false≢true, lt-ltb, ne_eqb}
+use Rattle.std.proofs.lemmas.Bool.{cases_eq, eq-eqb, eqb-true, false≢true, lt-ltb, ne_eqb, and_from}
 use Rattle.std.proofs.lemmas.List.{length-take-le, take_more}
 use Rattle.std.proofs.lemmas.List.Sums.{sum_by-cons}
 use Rattle.map_model.specs.declared.lines.MapLine.{MapLine}
 use Rattle.map_model.specs.Market.{IsMarket, Market}
 use Rattle.map_model.specs.Allocation.{AreLines, IsOffer, amount_at, is_line, line_at, units_of}
-use Rattle.map_model.proofs.MapForm.{IsLineAt-from, few_places, rises}
-use Rattle.map_model.proofs.Rising.{IsRisen, Rises, Rises-at, Rises-lower, before_by_rank, both, either}
+use Rattle.map_model.proofs.MapForm.{IsLineAt-from, few_places, rises, no_line}
+use Rattle.map_model.proofs.Rising.{IsRisen, Rises, Rises-at, Rises-lower, before_by_rank, first_or}
 use Rattle.offer_pool.specs.Table.{amount_in, line_of, lines_from, lines_in, place_at}
 use Rattle.offer_pool.specs.Filed.{AreAmounts}
 
@@ -181,10 +181,6 @@ record IsInRange (m : Market) (l : MapLine) : Type 0 where
   offer : IsOffer m l.group.0 l.place
   some : 0 < l.amount
 
--- a line that no list holds
-abbrev blank : MapLine
-blank = record { group = record { 0 = 0 }; place = 0; amount = 0 }
-
 -- lines in range whose ranks rise, from one on
 abbrev Rise : Market → ℕ → List MapLine → Type 0
 Rise m from lines = Rises rank (IsInRange m) from lines
@@ -207,20 +203,17 @@ lines-rise m (x ∷ xs) base offers = go (x == 0) refl (lines-rise m xs (base + 
         nonzero : (x == 0) ≡ false → 0 < x
         nonzero t = elim (cases_eq x 0) [ inl e ↦ absurd (false≢true (sym t ∙ eq-eqb x 0 e)) | inr ne ↦ omega arith ]
 
-in_form : (m : Market) → IsMarket m → (lines : List MapLine) (i : ℕ) → i < length lines → IsRisen rank (IsInRange m) blank 0 lines i → ((j : ℕ) → j < length lines → IsInRange m (line_at lines j)) → IsTrue (is_line m lines i)
+in_form : (m : Market) → IsMarket m → (lines : List MapLine) (i : ℕ) → i < length lines → IsRisen rank (IsInRange m) no_line 0 lines i → ((j : ℕ) → j < length lines → IsInRange m (line_at lines j)) → IsTrue (is_line m lines i)
 in_form m market lines i h a each =
     let l = line_at lines i in
     let b = line_at lines (i - 1) in
-    both _ _ (both _ _ (both _ _ (lt-ltb _ _ a.range.offer.group) (lt-ltb _ _ a.range.offer.place)) (lt-ltb _ _ a.range.some)) (either _ _ (elim (cases_eq i 0) [
-      | inl e ↦ inl (eq-eqb i 0 e)
-      | inr ne ↦ inr (before_by_rank b.group.0 b.place l.group.0 l.place (few_places m market _ _ (each (i - 1) (omega arith)).offer) (few_places m market _ _ a.range.offer) (a.above (omega arith)))
-    ]))
+    and_from _ _ (and_from _ _ (and_from _ _ (lt-ltb _ _ a.range.offer.group) (lt-ltb _ _ a.range.offer.place)) (lt-ltb _ _ a.range.some)) (first_or i _ (λ some. before_by_rank b.group.0 b.place l.group.0 l.place (few_places m market _ _ (each (i - 1) (omega arith)).offer) (few_places m market _ _ a.range.offer) (a.above some)))
 
 -- the lines of a table are in the form of a map
 pub lines_form : (m : Market) (amounts : List ℕ) → IsMarket m → AreAmounts m amounts → AreLines m (lines_in amounts)
 lines_form m amounts market table i h =
     let rise = lines-rise m amounts 0 (λ j some. let e : 0 + j ≡ j = omega arith in subst (λ n. IsOffer m (n / 16) (n % 16)) (sym e) (table.offers j some)) in
-    in_form m market (lines_in amounts) i h (Rises-at rank (IsInRange m) blank 0 (lines_in amounts) rise i h) (λ j l. (Rises-at rank (IsInRange m) blank 0 (lines_in amounts) rise j l).range)
+    in_form m market (lines_in amounts) i h (Rises-at rank (IsInRange m) no_line 0 (lines_in amounts) rise i h) (λ j l. (Rises-at rank (IsInRange m) no_line 0 (lines_in amounts) rise j l).range)
 
 -- a line of a map, put behind those before it
 pub line_room : (m : Market) (lines : List MapLine) (a : List ℕ) (i : ℕ) → IsMarket m → AreLines m lines → i < length lines → ((j : ℕ) → (0 < i → rank (line_at lines (i - 1)) < j) → slice_index a j ≡ 0) → (j : ℕ) → rank (line_at lines i) ≤ j → slice_index a j ≡ 0

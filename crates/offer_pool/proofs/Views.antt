@@ -1,6 +1,7 @@
 -- What contracts see of a table and its queues.
-use Rattle.std.proofs.Common.{◌≡◌, ℕ, ◌+◌, ◌-◌, ◌<◌, ◌≤◌, List, [], ◌∷◌, ◌++◌, length, take, drop, slice_set, sym, ap, ◌∙◌, subst, arith, if◌then◌else◌, refl, Some, None, All, true, slice_get}
+use Rattle.std.proofs.Common.{◌≡◌, ℕ, ◌+◌, ◌-◌, ◌<◌, ◌≤◌, List, ◌++◌, length, take, drop, slice_set, sym, ap, ◌∙◌, subst, arith, if◌then◌else◌, Some, None, All, true, slice_get}
 use Rattle.std.specs.Prelude.{Result, Ok, Err, OnOk}
+use Rattle.std.proofs.Math.Seq.{take-append_seam}
 use Rattle.map_model.specs.Market.{Market}
 use Rattle.map_model.specs.Allocation.{AreLines, IsOffer, amount_at, load, units_of}
 use Rattle.map_model.specs.Holding.{IsWorst, Puts, Takes}
@@ -46,11 +47,7 @@ form_again m b c q held back = subst (λ (l : List ℕ). AreLines m (lines_in l)
 
 -- what a vector holds after its slice was written
 pub vec_back : {X : Type 0} (n : ℕ) (new old : List X) → n ≡ length new → take n (new ++ drop (length new) old) ≡ new
-vec_back {X = X} n new old is = ap (λ (k : ℕ). take k (new ++ drop (length new) old)) is ∙ front new (drop (length new) old)
-  where
-    front : (xs ys : List X) → take (length xs) (xs ++ ys) ≡ xs
-    front [] ys = refl
-    front (x ∷ xs) ys = ap (λ l. x ∷ l) (front xs ys)
+vec_back n new old is = ap (λ (k : ℕ). take k (new ++ drop (length new) old)) is ∙ take-append_seam new (drop (length new) old)
 
 pub on_ok_map : {T E : Type 0} (r : Result T E) (P Q : Type 0) → (P → Q) → OnOk r P → OnOk r Q
 on_ok_map (Ok x) P Q f p = f p

@@ -1,9 +1,10 @@
 -- The worst seat of a queue is the worst offer that is held.
-use Rattle.std.proofs.Common.{◌≡◌, ℕ, ◌/◌, ◌%◌, ◌<◌, Bool, true, false, ◌&&◌, not, List, [], ◌∷◌, Contains, All, slice_index, Option, None, Some, IfSome, slice_get, refl, sym, ap, ◌∙◌, subst, arith, ◌⊎◌, inl, inr}
+use Rattle.std.proofs.Common.{◌≡◌, ℕ, ◌/◌, ◌%◌, ◌<◌, true, false, ◌&&◌, not, List, Contains, All, slice_index, Option, None, Some, IfSome, slice_get, refl, sym, ap, ◌∙◌, subst, arith, ◌⊎◌, inl, inr}
 use Rattle.std.specs.declared.cmp.Ordering.{Ordering}
 use Rattle.std.specs.declared.cmp.Ordering.TheVariants.{Less, Equal, Greater}
 use Rattle.std.specs.Ordering.{nat_cmp, ordering_then, is_le}
 use Rattle.std.proofs.lemmas.List.Elements.{All-contains}
+use Rattle.std.proofs.lemmas.Bool.{cases_Bool}
 use Rattle.map_model.specs.Market.{Market, key_of}
 use Rattle.map_model.specs.Allocation.{IsOffer, amount_at, counts_at, key_le, load}
 use Rattle.map_model.specs.Holding.{IsWorst, under_worse}
@@ -41,13 +42,9 @@ filed_at m amounts queues held n i some under =
     let here : amount_in amounts (i / 16) (i % 16) ≡ slice_index amounts i = ap (λ (j : ℕ). slice_index amounts j) at in
     held.filing.filed (i / 16) (i % 16) n (held.table.offers i some) (omega (arith, here, some)) under
 
-bool_cases : (b : Bool) → (b ≡ true) ⊎ (b ≡ false)
-bool_cases true = inl refl
-bool_cases false = inr refl
-
 -- a node with no seat holds nothing
 pub worst_none : (m : Market) (amounts : List ℕ) (queues : List (List Seat)) → IsHeld m amounts queues → (n : ℕ) → slice_get (queue_at queues n) 0 ≡ None → load m (lines_in amounts) n ≡ 0
-worst_none m amounts queues held n none = units_none (counts_at m n) amounts (λ i within some. out i some (bool_cases (counts_at m n (i / 16) (i % 16))))
+worst_none m amounts queues held n none = units_none (counts_at m n) amounts (λ i within some. out i some (cases_Bool (counts_at m n (i / 16) (i % 16))))
   where
     out : (i : ℕ) → 0 < slice_index amounts i → (counts_at m n (i / 16) (i % 16) ≡ true) ⊎ (counts_at m n (i / 16) (i % 16) ≡ false) → counts_at m n (i / 16) (i % 16) ≡ false
     out i some (inl under) = absurd (Contains-none (queue_at queues n) (seat_at m (i / 16) (i % 16)) none (filed_at m amounts queues held n i some under))
@@ -61,7 +58,7 @@ worst_some m amounts queues held n s first all = record {
   under = seat.under;
   some = live (slice_get (queue_at queues n) 0) first (held.filing.live n);
   held = held_amount m amounts queues held s.group.0 s.place seat.offer;
-  worst = units_none (under_worse m n (key_of m s.group.0 s.place)) amounts (λ i within some. better i some (bool_cases (counts_at m n (i / 16) (i % 16))));
+  worst = units_none (under_worse m n (key_of m s.group.0 s.place)) amounts (λ i within some. better i some (cases_Bool (counts_at m n (i / 16) (i % 16))));
 }
   where
     seat : IsSeatUnder m n s

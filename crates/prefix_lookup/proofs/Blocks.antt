@@ -3,9 +3,10 @@ use Rattle.std.proofs.Common.{◌≡◌, ℕ, ◌+◌, ◌-◌, ◌*◌, ◌/◌
 use Rattle.std.specs.Prelude.{not, fold, All}
 use Rattle.std.specs.List.{list_all}
 use Rattle.std.specs.Option.{option_map_or}
-use Rattle.std.proofs.lemmas.Bool.{not-false, eqb-true, leb-false, le-leb, and_parts, and_cases, and_from}
+use Rattle.std.proofs.lemmas.Bool.{not-false, eqb-true, leb-false, le-leb, and_parts, and_cases, and_from, or_parts}
 use Rattle.std.proofs.lemmas.Nat.{shr_below}
 use Rattle.std.proofs.lemmas.List.Elements.{All-head, All-tail}
+use Rattle.std.proofs.Math.Bool.{or-true}
 use Rattle.addr_text.specs.declared.address.Addr.{Addr}
 use Rattle.addr_text.specs.declared.address.Addr.TheVariants.{V4, V6}
 use Rattle.addr_text.specs.Addresses.{IsPrefix, bits_of}
@@ -49,10 +50,6 @@ among : (P : Entry → Type 0) (table : List Entry) (e : Entry) → In e table �
 among P [] e i all = absurd i
 among P (f ∷ fs) e (inl here) all = subst P (sym here) (All-head P f fs all)
 among P (f ∷ fs) e (inr there) all = among P fs e there (All-tail P f fs all)
-
-or_false : (x y : Bool) → (x || y) ≡ false → (x ≡ false) × (y ≡ false)
-or_false true y e = absurd cc
-or_false false y e = (refl, e)
 
 -- how the numbers of so many bits are the addresses of a family
 record IsFamily (bits : ℕ) (address : ℕ → Addr) : Type 0 where
@@ -114,23 +111,15 @@ divided_at s (V6 a) (V4 start) e table small i is long fits inside uni = absurd 
 pub not_uniform : (a : Addr) (s : ℕ) (table : List Entry) → IsAddress a → All (λ e. IsPrefix e.0) table → is_undivided table a s ≡ false → IsUniform table a s → ⊥
 not_uniform a s table small prefixes h uni =
     let f = fails (stays_out a s) table h in
-    let parts = or_false (leb f.0.0.len s) (not (agrees s a f.0.0.addr)) f.2 in
+    let parts = or_parts (leb f.0.0.len s) (not (agrees s a f.0.0.addr)) f.2 in
     let prefix : IsPrefix f.0.0 = among (λ e. IsPrefix e.0) table f.0 f.1 prefixes in
     divided_at s a f.0.0.addr f.0 table small f.1 refl (leb-false _ _ parts.0) prefix.len (not-false _ parts.1) uni
 
 alone : (len : ℕ) (a start : Addr) → len ≤ bits_of start → (leb len (bits_of a) || not (agrees (bits_of a) a start)) ≡ true
 alone len (V4 a) (V4 start) le = ap (λ (b : Bool). b || not (agrees 32 (V4 a) (V4 start))) (le-leb _ _ le)
 alone len (V6 a) (V6 start) le = ap (λ (b : Bool). b || not (agrees 128 (V6 a) (V6 start))) (le-leb _ _ le)
-alone len (V4 a) (V6 start) le = or_true (leb len 32)
-  where
-    or_true : (b : Bool) → (b || true) ≡ true
-    or_true true = refl
-    or_true false = refl
-alone len (V6 a) (V4 start) le = or_true (leb len 128)
-  where
-    or_true : (b : Bool) → (b || true) ≡ true
-    or_true true = refl
-    or_true false = refl
+alone len (V4 a) (V6 start) le = or-true (leb len 32)
+alone len (V6 a) (V4 start) le = or-true (leb len 128)
 
 -- an address alone is not divided
 pub undivided_at_last : (a : Addr) (table : List Entry) → All (λ e. IsPrefix e.0) table → is_undivided table a (bits_of a) ≡ true

@@ -1,8 +1,8 @@
 -- Numbers of so many bits that have the same first bits.
-use Rattle.std.proofs.Common.{◌≡◌, ℕ, ◌+◌, ◌-◌, ◌*◌, ◌/◌, ◌^◌, ◌<◌, ◌≤◌, Bool, true, false, ◌||◌, eqb, leb, refl, sym, ap, subst, ◌∙◌, arith, eq-eqb, inl, inr, div-lt_iff_lt-mul}
+use Rattle.std.proofs.Common.{◌≡◌, ℕ, ◌+◌, ◌-◌, ◌*◌, ◌/◌, ◌^◌, ◌<◌, ◌≤◌, true, false, ◌||◌, eqb, leb, sym, ap, subst, ◌∙◌, arith, eq-eqb, inl, inr, div-lt_iff_lt-mul}
 use Rattle.std.specs.Prelude.{not}
 use Rattle.std.proofs.Math.Pow.{pow_pos}
-use Rattle.std.proofs.lemmas.Bool.{or_cases, not-true, eqb-true, leb-true, cases_lt, both_ways}
+use Rattle.std.proofs.lemmas.Bool.{or_cases, not-true, eqb-true, leb-true, cases_lt, both_ways, false_from_ne_true}
 use Rattle.std.proofs.lemmas.Nat.{shr-shr, shl-shr, shl_below, pow-add}
 
 -- what is the same above more bits is the same above fewer
@@ -11,10 +11,6 @@ same_above j k a b le h =
     let e : j + (k - j) ≡ k = omega arith in
     let one : a / 2 ^ (j + (k - j)) ≡ b / 2 ^ (j + (k - j)) = sym (shr-shr a j (k - j)) ∙ ap (λ (x : ℕ). x / 2 ^ (k - j)) h ∙ shr-shr b j (k - j) in
     subst (λ (n : ℕ). a / 2 ^ n ≡ b / 2 ^ n) e one
-
-not_true : (b : Bool) → (b ≡ true → ⊥) → b ≡ false
-not_true true h = absurd (h refl)
-not_true false h = refl
 
 -- a prefix that is no longer than a block of numbers, or does not begin in it, holds all of its numbers or none
 pub held_alike : (bits s len a b start : ℕ) → (leb len s || not (eqb (a / 2 ^ (bits - s)) (start / 2 ^ (bits - s)))) ≡ true → a / 2 ^ (bits - s) ≡ b / 2 ^ (bits - s) → eqb (start / 2 ^ (bits - len)) (b / 2 ^ (bits - len)) ≡ eqb (start / 2 ^ (bits - len)) (a / 2 ^ (bits - len))
@@ -25,8 +21,8 @@ held_alike bits s len a b start h same =
           ap (λ (x : ℕ). eqb (start / 2 ^ (bits - len)) x) (sym e)
       | inl long ↦
           let outside : (a / 2 ^ (bits - s) ≡ start / 2 ^ (bits - s)) → ⊥ = λ e. away long h e in
-          let not_b : eqb (start / 2 ^ (bits - len)) (b / 2 ^ (bits - len)) ≡ false = not_true _ (λ t. outside (same ∙ sym (same_above (bits - len) (bits - s) start b (omega arith) (eqb-true _ _ t)))) in
-          let not_a : eqb (start / 2 ^ (bits - len)) (a / 2 ^ (bits - len)) ≡ false = not_true _ (λ t. outside (sym (same_above (bits - len) (bits - s) start a (omega arith) (eqb-true _ _ t)))) in
+          let not_b : eqb (start / 2 ^ (bits - len)) (b / 2 ^ (bits - len)) ≡ false = false_from_ne_true _ (λ t. outside (same ∙ sym (same_above (bits - len) (bits - s) start b (omega arith) (eqb-true _ _ t)))) in
+          let not_a : eqb (start / 2 ^ (bits - len)) (a / 2 ^ (bits - len)) ≡ false = false_from_ne_true _ (λ t. outside (sym (same_above (bits - len) (bits - s) start a (omega arith) (eqb-true _ _ t)))) in
           not_b ∙ sym not_a
     ]
   where

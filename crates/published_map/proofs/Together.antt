@@ -9,7 +9,7 @@ use Rattle.std.proofs.Math.Dec.{leb, ltb}
 use Rattle.map_model.specs.declared.lines.MapLine.{MapLine}
 use Rattle.map_model.specs.Market.{Market}
 use Rattle.map_model.specs.Allocation.{AreLines, is_before, units_of}
-use Rattle.map_model.proofs.MapForm.{IsLineAt-from}
+use Rattle.map_model.proofs.MapForm.{IsLineAt-from, no_line}
 
 -- no line is that group's
 abbrev pub HasNone : ℕ → List MapLine → Type 0
@@ -48,29 +48,26 @@ none_behind lines g end parted i d lt is =
     let group : (get_or lines (end + i) d).group.0 ≡ g = ap (λ (x : MapLine). x.group.0) (sym same) ∙ is in
     true≢false (sym (le-leb (get_or lines (end + i) d).group.0 g (omega arith)) ∙ not_here)
 
-abbrev blank : MapLine
-blank = record { group = record { 0 = 0 }; place = 0; amount = 0 }
-
 one_up : (a b : MapLine) → is_before a b ≡ true → a.group.0 ≤ b.group.0
 one_up a b h = elim (or_cases _ _ h) [
   | inl l ↦ omega (arith, ltb-true a.group.0 b.group.0 l)
   | inr e ↦ omega (arith, eqb-true a.group.0 b.group.0 (and_parts _ _ e).0)
 ]
 
-rises_by : (m : Market) (lines : List MapLine) → AreLines m lines → (n i : ℕ) → i + n < length lines → (get_or lines i blank).group.0 ≤ (get_or lines (i + n) blank).group.0
+rises_by : (m : Market) (lines : List MapLine) → AreLines m lines → (n i : ℕ) → i + n < length lines → (get_or lines i no_line).group.0 ≤ (get_or lines (i + n) no_line).group.0
 rises_by m lines form zero i lt =
     let here : i + 0 ≡ i = omega arith in
-    subst (λ k. (get_or lines i blank).group.0 ≤ (get_or lines k blank).group.0) (sym here) (omega arith)
+    subst (λ k. (get_or lines i no_line).group.0 ≤ (get_or lines k no_line).group.0) (sym here) (omega arith)
 rises_by m lines form (suc n) i lt =
     let at = IsLineAt-from m lines (i + suc n) (form (i + suc n) lt) in
     let back : i + suc n - 1 ≡ i + n = omega arith in
-    let before : is_before (get_or lines (i + n) blank) (get_or lines (i + suc n) blank) ≡ true = subst (λ j. is_before (get_or lines j blank) (get_or lines (i + suc n) blank) ≡ true) back (at.above (omega arith)) in
-    omega (arith, rises_by m lines form n i (omega arith), one_up (get_or lines (i + n) blank) (get_or lines (i + suc n) blank) before)
+    let before : is_before (get_or lines (i + n) no_line) (get_or lines (i + suc n) no_line) ≡ true = subst (λ j. is_before (get_or lines j no_line) (get_or lines (i + suc n) no_line) ≡ true) back (at.above (omega arith)) in
+    omega (arith, rises_by m lines form n i (omega arith), one_up (get_or lines (i + n) no_line) (get_or lines (i + suc n) no_line) before)
 
 -- lines in the form of a map stand by group
 pub groups_rise : (m : Market) (lines : List MapLine) → AreLines m lines → IsNonDecreasingBy (λ l. l.group.0) lines
 groups_rise m lines form i j d le lt =
     let h = rises_by m lines form (j - i) i (omega arith) in
     let there : i + (j - i) ≡ j = omega arith in
-    let up : (get_or lines i blank).group.0 ≤ (get_or lines j blank).group.0 = subst (λ k. (get_or lines i blank).group.0 ≤ (get_or lines k blank).group.0) there h in
-    omega (arith, up, ap (λ (x : MapLine). x.group.0) (get_or_default lines i d blank (omega arith)), ap (λ (x : MapLine). x.group.0) (get_or_default lines j d blank lt))
+    let up : (get_or lines i no_line).group.0 ≤ (get_or lines j no_line).group.0 = subst (λ k. (get_or lines i no_line).group.0 ≤ (get_or lines k no_line).group.0) there h in
+    omega (arith, up, ap (λ (x : MapLine). x.group.0) (get_or_default lines i d no_line (omega arith)), ap (λ (x : MapLine). x.group.0) (get_or_default lines j d no_line lt))

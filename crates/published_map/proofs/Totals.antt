@@ -4,27 +4,18 @@ use Rattle.std.specs.Prelude.{map, sum, if◌then◌else◌, All}
 use Rattle.std.specs.List.{range_with_len}
 use Rattle.std.proofs.lemmas.Bool.Decides.{nat_tests}
 use Rattle.std.proofs.lemmas.List.FromFn.{sum_by-map-range_with_len_more}
-use Rattle.std.proofs.lemmas.List.Sums.{sum_by-cons, sum_by_more_le, sum_by-le-sum_by}
+use Rattle.std.proofs.lemmas.List.Sums.{sum_by-cons, sum_by_more_le}
 use Rattle.std.proofs.lemmas.List.Elements.{All-head, All-tail}
 use Rattle.map_model.specs.declared.lines.MapLine.{MapLine}
 use Rattle.map_model.specs.Market.{Market, choices_of, demand_of}
 use Rattle.map_model.specs.Allocation.{IsOffer, amount_at, placed}
 use Rattle.map_model.proofs.MapForm.{offers-AreLines}
-use Rattle.map_model.proofs.Units.{first_below, first_is, first_more}
+use Rattle.map_model.proofs.Units.{first_below, first_is, first_more, amount-le-placed}
 use Rattle.published_map.specs.Version.{Version, IsVersion, amounts_of}
 
 -- the units of a line, if it is that group's at that place
 abbrev pub units_in : MapLine → ℕ → ℕ → ℕ
 units_in l g k = if (l.group.0 == g) && (l.place == k) then l.amount else 0
-
-no_more : (b c : Bool) (n : ℕ) → cond (b && c) n 0 ≤ cond b n 0
-no_more true true n = omega arith
-no_more true false n = omega arith
-no_more false c n = omega arith
-
--- the units at one place are among those of the group
-amount-le-placed : (lines : List MapLine) (g k : ℕ) → amount_at lines g k ≤ placed lines g
-amount-le-placed lines g k = sum_by-le-sum_by _ _ lines (λ l. no_more (l.group.0 == g) (l.place == k) l.amount)
 
 -- the units of the lines so far and of one more are within those of the group
 pub within : (lines : List MapLine) (g k i : ℕ) (d : MapLine) → i < length lines → amount_at (take i lines) g k + units_in (get_or lines i d) g k ≤ placed lines g

@@ -1,22 +1,14 @@
-use Rattle.std.proofs.Common.{◌≡◌, ℕ, ◌<◌, ◌≤◌, Bool, true, false, IsTrue, IsFalse, List, [], length, nat_lt, if◌then◌else◌, refl, sym, ap, ◌∙◌, subst, inl, inr, arith}
+use Rattle.std.proofs.Common.{◌≡◌, ℕ, ◌<◌, ◌≤◌, Bool, true, false, IsTrue, IsFalse, [], nat_lt, if◌then◌else◌, refl, sym, ap, ◌∙◌, subst, inl, inr, arith}
 use Rattle.std.specs.declared.cmp.Ordering.{Ordering}
 use Rattle.std.specs.declared.cmp.Ordering.TheVariants.{Less, Equal, Greater}
-use Rattle.std.specs.Ordering.{is_lt, nat_cmp, ordering_reverse, ordering_then}
-use Rattle.std.proofs.lemmas.Bool.{false≢true, true≢false, cases_eq, cases_Bool, ne_eqb, ltb-true, ltb-false}
-use Rattle.map_model.specs.declared.instance.Choice.{Choice}
-use Rattle.map_model.specs.declared.instance.GroupId.{GroupId}
+use Rattle.std.specs.Ordering.{is_lt, nat_cmp, ordering_reverse}
+use Rattle.std.proofs.lemmas.Bool.{true≢false, cases_eq, cases_Bool, ne_eqb, ltb-true, ltb-false}
 use Rattle.map_model.specs.declared.instance.Key.{Key}
 use Rattle.map_model.specs.declared.instance.Offer.{Offer}
-use Rattle.map_model.specs.Market.{Market, IsMarket, choice_at, choices_of, group_at, key_of}
+use Rattle.map_model.specs.Market.{Market, IsMarket, choice_at, key_of}
 use Rattle.map_model.specs.Allocation.{IsOffer, key_cmp}
-use Rattle.map_model.proofs.Keys.{keys_total}
-use Rattle.rank_orders.specs.Ranks.{is_better, key_lt}
-
--- where the first of two comparisons is a tie, the second decides
-then_tie : (a b : Ordering) → ordering_then a b ≡ Equal → (a ≡ Equal) × (b ≡ Equal)
-then_tie Less b h = cc
-then_tie Equal b h = (refl, h)
-then_tie Greater b h = cc
+use Rattle.map_model.proofs.Keys.{keys_total, then_tie}
+use Rattle.rank_orders.specs.Ranks.{is_better}
 
 nat_tie : (x y : ℕ) → nat_cmp x y ≡ Equal → x ≡ y
 nat_tie x y h = elim (cases_eq x y) [

@@ -1,10 +1,11 @@
 -- The pools of a sound group are distinct, and its rows are an instance's.
-use Rattle.std.proofs.Common.{◌≡◌, ℕ, ◌^◌, ◌<◌, ◌≤◌, suc, zero, Bool, true, false, ◌||◌, List, [], ◌∷◌, length, get_or, map, Option, None, Some, IfSome, IsFalse, All, option_map, unwrap_or, refl, ap, sym, ◌∙◌, subst, arith}
+use Rattle.std.proofs.Common.{◌≡◌, ℕ, ◌^◌, ◌<◌, ◌≤◌, suc, zero, true, false, List, [], ◌∷◌, length, get_or, map, Option, None, Some, IfSome, IsFalse, All, option_map, unwrap_or, ap, sym, ◌∙◌, subst, arith}
 use Rattle.std.proofs.lemmas.List.{length-map, get_or-map}
 use Rattle.std.proofs.lemmas.Slice.Eq.{bytes_eq-Decides}
 use Rattle.std.proofs.lemmas.Slice.Zip.{length-zip, get_or-zip}
 use Rattle.std.specs.List.{list_any, zip}
 use Rattle.std.specs.Str.{bytes_eq}
+use Rattle.std.proofs.lemmas.Bool.{or_parts}
 use Rattle.toml.specs.Data.{Data, string, integer, float, boolean, datetime, array, table}
 use Rattle.map_model.specs.declared.instance.NodeId.{NodeId}
 use Rattle.map_model.specs.declared.instance.Choice.{Choice}
@@ -19,14 +20,6 @@ use Rattle.topology_text.proofs.Markets.{All-map_at, climb_ascend, get_or-map_at
 abbrev at_pool : List Data → Data → ℕ
 at_pool nodes p = unwrap_or (pool_number nodes p) 0
 
-or_left : (a b : Bool) → (a || b) ≡ false → a ≡ false
-or_left true b h = h
-or_left false b h = refl
-
-or_right : (a b : Bool) → (a || b) ≡ false → b ≡ false
-or_right true b h = cc
-or_right false b h = h
-
 -- a text that is in the list
 found : (nodes : List Data) (t : List ℕ) (ps : List Data) (j : ℕ) (d : Data) → is_pool_number nodes (number_of nodes t) ≡ true → list_any (bytes_eq t) (texts_of ps) ≡ false → j < length ps
     → is_pool_number nodes (pool_number nodes (get_or ps j d)) ≡ true → at_pool nodes (get_or ps j d) ≡ unwrap_or (number_of nodes t) 0 → ⊥
@@ -34,9 +27,9 @@ found nodes t [] j d pool other l known same = omega arith
 found nodes t (string u ∷ ps) zero d pool other l known same =
     let e : t ≡ u = one_text nodes t u pool known (sym same) in
     let same_bytes : bytes_eq t u ≡ true = (bytes_eq-Decides t u).1 e in
-    let off : bytes_eq t u ≡ false = or_left (bytes_eq t u) _ other in
+    let off : bytes_eq t u ≡ false = (or_parts (bytes_eq t u) _ other).0 in
     cc
-found nodes t (string u ∷ ps) (suc j) d pool other l known same = found nodes t ps j d pool (or_right (bytes_eq t u) _ other) (omega arith) known same
+found nodes t (string u ∷ ps) (suc j) d pool other l known same = found nodes t ps j d pool (or_parts (bytes_eq t u) _ other).1 (omega arith) known same
 found nodes t (integer z ∷ ps) zero d pool other l known same = cc
 found nodes t (integer z ∷ ps) (suc j) d pool other l known same = found nodes t ps j d pool other (omega arith) known same
 found nodes t (float x ∷ ps) zero d pool other l known same = cc
@@ -56,9 +49,9 @@ apart : (nodes : List Data) (ps : List Data) (i j : ℕ) (d : Data) → has_repe
 apart nodes [] i j d once known before l same = omega arith
 apart nodes (p ∷ ps) i zero d once known before l same = omega arith
 apart nodes (string t ∷ ps) zero (suc j) d once known before l same =
-    found nodes t ps j d (known 0 d (omega arith)) (or_left (list_any (bytes_eq t) (texts_of ps)) _ once) (omega arith) (known (suc j) d l) (sym same)
+    found nodes t ps j d (known 0 d (omega arith)) ((or_parts (list_any (bytes_eq t) (texts_of ps)) _ once).0) (omega arith) (known (suc j) d l) (sym same)
 apart nodes (string t ∷ ps) (suc i) (suc j) d once known before l same =
-    apart nodes ps i j d (or_right (list_any (bytes_eq t) (texts_of ps)) _ once) (λ k e h. known (suc k) e (omega arith)) (omega arith) (omega arith) same
+    apart nodes ps i j d (or_parts (list_any (bytes_eq t) (texts_of ps)) _ once).1 (λ k e h. known (suc k) e (omega arith)) (omega arith) (omega arith) same
 apart nodes (integer z ∷ ps) zero (suc j) d once known before l same = let never : false ≡ true = known 0 d (omega arith) in cc
 apart nodes (integer z ∷ ps) (suc i) (suc j) d once known before l same = let never : false ≡ true = known 0 d (omega arith) in cc
 apart nodes (float x ∷ ps) zero (suc j) d once known before l same = let never : false ≡ true = known 0 d (omega arith) in cc

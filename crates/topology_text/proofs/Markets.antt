@@ -1,6 +1,6 @@
 -- Sound entries stand for an instance.
 use Rattle.std.proofs.Common.{◌≡◌, ℕ, ◌+◌, ◌<◌, suc, zero, Bool, true, false, cond, List, [], ◌∷◌, length, get_or, map, Option, None, Some, IfSome, All, option_map, unwrap_or, refl, ap, sym, ◌∙◌, subst, arith}
-use Rattle.std.proofs.lemmas.List.{length-map}
+use Rattle.std.proofs.lemmas.List.{length-map, get_or_default}
 use Rattle.std.proofs.lemmas.Slice.Eq.{bytes_eq-Decides}
 use Rattle.std.specs.List.{position_from}
 use Rattle.toml.specs.Data.{Data, string, integer, float, boolean, datetime, array, table}
@@ -16,16 +16,11 @@ get_or-map_at f [] n e = refl
 get_or-map_at f (x ∷ xs) zero e = refl
 get_or-map_at f (x ∷ xs) (suc n) e = get_or-map_at f xs n e
 
-get_or-any : {A : Type 0} (xs : List A) (n : ℕ) (d e : A) → n < length xs → get_or xs n d ≡ get_or xs n e
-get_or-any [] n d e h = absurd (omega arith)
-get_or-any (x ∷ xs) zero d e h = refl
-get_or-any (x ∷ xs) (suc n) d e h = get_or-any xs n d e (omega arith)
-
 -- a fact of each element after a map
 pub All-map_at : {A B : Type 0} (f : A → B) (P : B → Type 0) (xs : List A) (e : A) → ((n : ℕ) → n < length xs → P (f (get_or xs n e))) → All P (map f xs)
 All-map_at f P xs e each n d h =
     let l : n < length xs = omega (arith, length-map xs f) in
-    subst P (sym (get_or-any (map f xs) n d (f e) h ∙ get_or-map_at f xs n e)) (each n l)
+    subst P (sym (get_or_default (map f xs) n d (f e) h ∙ get_or-map_at f xs n e)) (each n l)
 
 -- the parent of a node, in the instance and by name
 pub parent_same : (d : Entries) (n : ℕ) → parent_in (market_of d) n ≡ option_map (λ k. record { 0 = k }) (parent_of d.nodes n)

@@ -1,5 +1,5 @@
 -- What it says of a table's parts that a rule finds nothing on the walk.
-use Rattle.std.proofs.Common.{◌≡◌, ℕ, ◌+◌, ◌<◌, suc, zero, Bool, true, false, not, List, [], ◌∷◌, ◌++◌, length, get_or, map, Option, None, Some, refl, ap, sym, ◌∙◌, subst, arith}
+use Rattle.std.proofs.Common.{◌≡◌, ℕ, ◌+◌, ◌<◌, suc, zero, Bool, true, false, List, [], ◌∷◌, ◌++◌, length, get_or, map, Option, None, Some, refl, ap, sym, ◌∙◌, subst, arith}
 use Rattle.std.specs.List.{cons_option, flat_map}
 use Rattle.std.proofs.lemmas.List.Concat.{flat_map-append}
 use Rattle.topology_text.specs.Schema.{keys_of}
@@ -26,11 +26,6 @@ empty_map f (x ∷ xs) h = cc
 pub not_whole : (b : Bool) → whole_if b ≡ [] → b ≡ false
 not_whole true h = cc
 not_whole false h = refl
-
--- what its denial does not hold of
-pub flip : (b : Bool) → not b ≡ false → b ≡ true
-flip true h = refl
-flip false h = cc
 
 -- nothing in any part
 pub quiet_at : {X A : Type 0} (f : X → List A) (xs : List X) (j : ℕ) (d : X) → flat_map f xs ≡ [] → j < length xs → f (get_or xs j d) ≡ []

@@ -2,6 +2,7 @@
 use Rattle.std.proofs.Common.{◌≡◌, ℕ, ◌+◌, ◌-◌, ◌^◌, ◌<◌, ◌≤◌, suc, zero, Bool, true, false, not, ◌&&◌, ◌||◌, ◌==◌, nat_lt, cond, List, [], ◌∷◌, length, get_or, Option, None, Some, is_some, refl, arith}
 use Rattle.std.proofs.lemmas.Bool.Decides.{nat_tests}
 use Rattle.std.specs.List.{cons_option}
+use Rattle.std.proofs.lemmas.Bool.{not-false}
 use Rattle.toml.specs.Data.{Data, string, integer, float, boolean, datetime, array, table}
 use Rattle.topology_text.specs.Schema.{kind_of, is_item_kind, is_kind}
 use Rattle.topology_text.specs.Walk.{items_from, items_of_value, items_where, list_of}
@@ -74,11 +75,7 @@ score_fits (table ms) h = omega arith
 
 -- an item of the right kind that is not unknown names a pool
 pub pool_there : (d : Entries) (e : Data) → not (is_item_kind (kind_of Pools) e) ≡ false → is_unknown_name d Pools e ≡ false → is_pool_number d.nodes (pool_number d.nodes e) ≡ true
-pool_there d (string t) kind known = flip (is_pool_number d.nodes (number_of d.nodes t)) known
-  where
-    flip : (b : Bool) → not b ≡ false → b ≡ true
-    flip true h = refl
-    flip false h = cc
+pool_there d (string t) kind known = not-false (is_pool_number d.nodes (number_of d.nodes t)) known
 pool_there d (integer z) kind known = cc
 pool_there d (float x) kind known = cc
 pool_there d (boolean b) kind known = cc

@@ -3,6 +3,7 @@ use Rattle.std.proofs.Common.{◌≡◌, ℕ, ◌≤◌, suc, Bool, true, false,
 use Rattle.std.proofs.lemmas.Bool.Decides.{nat_tests}
 use Rattle.std.proofs.lemmas.List.Elements.{All-cons, All-nil}
 use Rattle.std.specs.List.{cons_option, filter_map}
+use Rattle.std.proofs.lemmas.List.{nil_from_length}
 use Rattle.addr_text.specs.declared.address.Addr.{Addr}
 use Rattle.addr_text.specs.Addresses.{addr_of}
 use Rattle.toml.specs.Data.{Data, string, integer, float, boolean, datetime, array, table}
@@ -67,12 +68,8 @@ no_items : (n : ℕ) (flag : Bool) → flag ≡ false → (nat_lt 0 n && not fla
 no_items n true off shape = cc
 no_items n false off shape = grind (arith, nat_tests)
 
-empty_list : {X : Type 0} (xs : List X) → length xs ≡ 0 → xs ≡ []
-empty_list [] h = refl
-empty_list (x ∷ xs) h = absurd (omega arith)
-
 pub hosts_none : (e : Data) → items_in e A ≡ [] → items_in e Aaaa ≡ [] → hosts_of e ≡ record { v4 = []; v6 = [] }
 hosts_none e a aaaa = rw (a, aaaa) refl
 
 pub list_empty : (flag : Bool) (ds : List Data) → flag ≡ false → (nat_lt 0 (length ds) && not flag) ≡ false → ds ≡ []
-list_empty flag ds off shape = empty_list ds (no_items (length ds) flag off shape)
+list_empty flag ds off shape = nil_from_length ds (no_items (length ds) flag off shape)

@@ -4,18 +4,19 @@ use Rattle.std.proofs.lemmas.Bool.Decides.{nat_tests}
 use Rattle.std.proofs.lemmas.List.{get_or-map, length-map}
 use Rattle.std.proofs.lemmas.Slice.Eq.{bytes_eq-Decides}
 use Rattle.std.specs.List.{position_from}
+use Rattle.std.proofs.lemmas.Bool.{not-false}
 use Rattle.toml.specs.Data.{Data, string, integer, float, boolean, datetime, array, table}
 use Rattle.topology_text.specs.Names.{entry_at, is_called, is_other, is_taken, number_of, text_at, text_in}
 use Rattle.topology_text.specs.Texts.{is_name}
 use Rattle.topology_text.specs.Topology.{AreSoundNames, name_of}
 use Rattle.topology_text.specs.Values.{failing, is_bad_name, wrong_in}
 use Rattle.topology_text.specs.declared.schema.Key.TheVariants.{Name}
-use Rattle.topology_text.proofs.Quiet.{flip, not_whole}
+use Rattle.topology_text.proofs.Quiet.{not_whole}
 
 -- a name that is there, of its kind and by its rule
 pub name_good : (o : Option Data) → is_some o ≡ true → wrong_in Name o ≡ [] → failing (is_bad_name Name) o ≡ [] → (t : List ℕ) × (text_in o ≡ Some t) × (is_name t ≡ true)
 name_good None there kind good = cc
-name_good (Some (string t)) there kind good = (t, refl, flip (is_name t) (not_whole _ good))
+name_good (Some (string t)) there kind good = (t, refl, not-false (is_name t) (not_whole _ good))
 name_good (Some (integer z)) there kind good = cc
 name_good (Some (float x)) there kind good = cc
 name_good (Some (boolean b)) there kind good = cc

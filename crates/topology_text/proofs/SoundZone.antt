@@ -1,17 +1,18 @@
 -- A table without faults is sound: what the rules say of the zone.
 use Rattle.std.proofs.Common.{◌≡◌, ◌^◌, ◌-◌, ◌<◌, ◌≤◌, true, [], Option, None, Some, is_some, option_and_then, arith}
+use Rattle.std.proofs.lemmas.Bool.{not-false}
 use Rattle.toml.specs.Data.{Data, string, integer, float, boolean, datetime, array, table}
 use Rattle.topology_text.specs.Names.{text_in}
 use Rattle.topology_text.specs.Texts.{zone_name}
 use Rattle.topology_text.specs.Topology.{natural, natural_in}
 use Rattle.topology_text.specs.Values.{failing, is_bad_name, is_out_of_range, wrong_in}
 use Rattle.topology_text.specs.declared.schema.Key.TheVariants.{Apex, Mname, Rname, Serial, Refresh, Retry, Expire, Minimum, Ttl}
-use Rattle.topology_text.proofs.Quiet.{flip, not_whole}
+use Rattle.topology_text.proofs.Quiet.{not_whole}
 use Rattle.topology_text.proofs.Sound.{within_high}
 
 pub apex_good : (o : Option Data) → is_some o ≡ true → wrong_in Apex o ≡ [] → failing (is_bad_name Apex) o ≡ [] → is_some (option_and_then zone_name (text_in o)) ≡ true
 apex_good None there kind good = cc
-apex_good (Some (string t)) there kind good = flip (is_some (zone_name t)) (not_whole _ good)
+apex_good (Some (string t)) there kind good = not-false (is_some (zone_name t)) (not_whole _ good)
 apex_good (Some (integer z)) there kind good = cc
 apex_good (Some (float x)) there kind good = cc
 apex_good (Some (boolean b)) there kind good = cc
@@ -21,7 +22,7 @@ apex_good (Some (table ms)) there kind good = cc
 
 pub mname_good : (o : Option Data) → is_some o ≡ true → wrong_in Mname o ≡ [] → failing (is_bad_name Mname) o ≡ [] → is_some (option_and_then zone_name (text_in o)) ≡ true
 mname_good None there kind good = cc
-mname_good (Some (string t)) there kind good = flip (is_some (zone_name t)) (not_whole _ good)
+mname_good (Some (string t)) there kind good = not-false (is_some (zone_name t)) (not_whole _ good)
 mname_good (Some (integer z)) there kind good = cc
 mname_good (Some (float x)) there kind good = cc
 mname_good (Some (boolean b)) there kind good = cc
@@ -31,7 +32,7 @@ mname_good (Some (table ms)) there kind good = cc
 
 pub rname_good : (o : Option Data) → is_some o ≡ true → wrong_in Rname o ≡ [] → failing (is_bad_name Rname) o ≡ [] → is_some (option_and_then zone_name (text_in o)) ≡ true
 rname_good None there kind good = cc
-rname_good (Some (string t)) there kind good = flip (is_some (zone_name t)) (not_whole _ good)
+rname_good (Some (string t)) there kind good = not-false (is_some (zone_name t)) (not_whole _ good)
 rname_good (Some (integer z)) there kind good = cc
 rname_good (Some (float x)) there kind good = cc
 rname_good (Some (boolean b)) there kind good = cc

@@ -2,6 +2,7 @@
 use Rattle.std.proofs.Common.{◌≡◌, ℕ, ◌+◌, ◌<◌, ◌≤◌, Bool, true, false, not, ◌||◌, List, [], ◌∷◌, ◌++◌, length, get_or, map, take, drop, None, Some, option_map, if◌then◌else◌, refl, ap, sym, ◌∙◌}
 use Rattle.std.proofs.lemmas.List.{take_more, drop_all, map-append}
 use Rattle.std.specs.List.{list_any}
+use Rattle.std.proofs.lemmas.Bool.{not-true, not-false}
 use Rattle.addr_text.specs.contracts.address.PrefixPartialEq.TheImpl.{eq-value}
 use Rattle.addr_text.specs.declared.address.Addr.{Addr}
 use Rattle.addr_text.specs.declared.address.Addr.TheVariants.{V4, V6}
@@ -43,31 +44,23 @@ pub noted_on : (es : List PrefixAt) (i : ℕ) (d : PrefixAt) (old new : List Pre
     → new ≡ (if list_any (eq-value.it (get_or es i d).prefix) old then old else old ++ (get_or es i d).prefix ∷ []) → AreNoted es (i + 1) new
 noted_on es i d old new fresh s h told new_one put =
     let e = get_or es i d in
-    let other : list_any (eq-value.it e.prefix) old ≡ false = flip (list_any (eq-value.it e.prefix) old) (sym told ∙ new_one) in
+    let other : list_any (eq-value.it e.prefix) old ≡ false = not-true (list_any (eq-value.it e.prefix) old) (sym told ∙ new_one) in
     let none : is_later es i e ≡ false = sym (noted_has es i old e.prefix s.noted) ∙ other in
     let more : map (λ e. e.prefix) (take (i + 1) es) ≡ map (λ e. e.prefix) (take i es) ++ e.prefix ∷ [] = ap (map (λ e. e.prefix)) (take_more es i d h) ∙ map-append (λ e. e.prefix) (take i es) (e ∷ []) in
     record {
       noted = put ∙ ap (λ b. if b then old else old ++ e.prefix ∷ []) other ∙ ap (λ ks. ks ++ e.prefix ∷ []) s.noted ∙ sym more;
       rest = sym (marked_on (is_later es) i es d h none) ∙ s.rest;
     }
-  where
-    flip : (b : Bool) → not b ≡ true → b ≡ false
-    flip true h = cc
-    flip false h = refl
 
 -- an entry whose prefix was noted
 pub noted_here : (es : List PrefixAt) (i : ℕ) (d : PrefixAt) (old : List Prefix) (fresh : Bool) (place : Place) → AreNoted es i old → i < length es
     → fresh ≡ not (list_any (eq-value.it (get_or es i d).prefix) old) → fresh ≡ false → place ≡ place_of (get_or es i d) → Some place ≡ first (duplicate_prefixes es)
 noted_here es i d old fresh place s h told old_one at_place =
     let e = get_or es i d in
-    let there : list_any (eq-value.it e.prefix) old ≡ true = flip (list_any (eq-value.it e.prefix) old) (sym told ∙ old_one) in
+    let there : list_any (eq-value.it e.prefix) old ≡ true = not-false (list_any (eq-value.it e.prefix) old) (sym told ∙ old_one) in
     let some : is_later es i e ≡ true = sym (noted_has es i old e.prefix s.noted) ∙ there in
     let at : first (marked (is_later es) es) ≡ Some (i, e) = sym s.rest ∙ marked_here (is_later es) i es d h some in
     ap Some at_place ∙ sym (first-map (λ p. place_of p.1) (marked (is_later es) es) ∙ ap (option_map (λ (p : ℕ × PrefixAt). place_of p.1)) at)
-  where
-    flip : (b : Bool) → not b ≡ false → b ≡ true
-    flip true h = refl
-    flip false h = cc
 
 -- no entry left
 pub noted_end : (es : List PrefixAt) (i : ℕ) (old : List Prefix) → AreNoted es i old → length es ≤ i → None ≡ first (duplicate_prefixes es)

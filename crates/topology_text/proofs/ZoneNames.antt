@@ -3,12 +3,13 @@ use Rattle.std.proofs.Common.{◌≡◌, ℕ, ◌+◌, ◌<◌, ◌≤◌, suc, 
 use Rattle.std.proofs.Math.Seq.{take-length}
 use Rattle.std.proofs.lemmas.Bool.Decides.{nat_tests}
 use Rattle.std.proofs.lemmas.List.{append-nil, take_more}
-use Rattle.std.proofs.lemmas.List.Elements.{All-cons, All-nil}
+use Rattle.std.proofs.lemmas.List.Elements.{All-cons, All-nil, filter_map-append}
 use Rattle.std.proofs.lemmas.List.Quantifiers.{all_pairs_push}
 use Rattle.std.proofs.lemmas.Slice.Eq.{bytes_eq-Decides}
 use Rattle.std.specs.List.{cons_option, list_any}
 use Rattle.std.specs.Option.{ok_or}
 use Rattle.std.specs.Str.{str_to_ascii_lowercase}
+use Rattle.std.proofs.lemmas.Bool.{not-false}
 use Rattle.name_text.specs.declared.fault.NameFault.{NameFault}
 use Rattle.name_text.specs.declared.fault.NameFault.TheVariants.{LongName}
 use Rattle.name_text.specs.Names.{is_same, is_under, label_fault, label_name_of, name_of, named}
@@ -22,7 +23,7 @@ use Rattle.topology_text.specs.Texts.{good_name, short_name, zone_name}
 use Rattle.topology_text.specs.declared.schema.Key.{Key}
 use Rattle.topology_text.specs.declared.schema.Key.TheVariants.{Apex, Ns, Services}
 use Rattle.topology_text.proofs.Quiet.{empty_map}
-use Rattle.topology_text.proofs.Repeats.{filter_map-append, none_marked}
+use Rattle.topology_text.proofs.Repeats.{none_marked}
 
 -- a name of the zone is short
 short_of : (r : Result (List ℕ) NameFault) (n : List ℕ) → short_name r ≡ Some n → length n ≤ 64
@@ -174,11 +175,7 @@ all_outside d ds there free = All-names (λ n. is_under n (unwrap_or (apex_of d)
 
 -- an item of `ns` of its kind and by its rule has a name
 pub ns_named : (e : Data) → not (is_item_kind (kind_of Ns) e) ≡ false → is_bad_name Ns e ≡ false → is_some (name_in Ns e) ≡ true
-ns_named (string t) kind good = flip (is_some (zone_name t)) good
-  where
-    flip : (b : Bool) → not b ≡ false → b ≡ true
-    flip true h = refl
-    flip false h = cc
+ns_named (string t) kind good = not-false (is_some (zone_name t)) good
 ns_named (integer z) kind good = cc
 ns_named (float x) kind good = cc
 ns_named (boolean b) kind good = cc

@@ -1,4 +1,4 @@
-use Rattle.std.proofs.Common.{refl, sym, ap, ◌∙◌, subst, arith}
+use Rattle.std.proofs.Common.{refl, sym, ◌∙◌, subst, arith}
 use Rattle.map_model.specs.declared.instance.NodeId.{NodeId}
 use Rattle.capacity_tree.specs.Loads.{AddsUnits}
 use Rattle.offer_pool.proofs.Views.{on_ok_map}

@@ -1,9 +1,9 @@
-use Rattle.std.proofs.Common.{◌≡◌, ℕ, ◌-◌, ◌<◌, ◌≤◌, min, length, slice_index, refl, sym, ap, ◌∙◌, subst, arith}
+use Rattle.std.proofs.Common.{◌≡◌, refl, ap, ◌∙◌, subst, arith}
 use Rattle.map_model.specs.declared.instance.NodeId.{NodeId}
-use Rattle.map_model.specs.Market.{Market, capacity_of, pool_of}
+use Rattle.map_model.specs.Market.{Market, pool_of}
 use Rattle.map_model.specs.Allocation.{load}
 use Rattle.capacity_tree.specs.Loads.{TakesUnits}
-use Rattle.evict.proofs.Relieving.{IsDue, due, load_falls, relieving_step, taken_fits}
+use Rattle.evict.proofs.Relieving.{due, load_falls, relieving_step, taken_fits}
 use Rattle.evict.proofs.Shaped.{load-shape}
 use Rattle.evict.proofs.relief.relieve.Goals as goal
 

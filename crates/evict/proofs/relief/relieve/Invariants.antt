@@ -1,4 +1,4 @@
-use Rattle.std.proofs.Common.{◌≡◌, ℕ, slice_index}
+use Rattle.std.proofs.Common.{◌≡◌, slice_index}
 use Rattle.evict.specs.Putting.{IsRelieving}
 use Rattle.evict.proofs.relief.relieve.Given as goal
 

@@ -1,5 +1,4 @@
-use Rattle.std.proofs.Common.{◌≡◌, ℕ, ◌+◌, Some, None}
-use Rattle.map_model.specs.declared.instance.NodeId.{NodeId}
+use Rattle.std.proofs.Common.{◌≡◌, ◌+◌}
 use Rattle.std.specs.Option.{unwrap_or, option_map}
 use Rattle.evict.specs.Putting.{IsClimbing}
 use Rattle.evict.proofs.relief.relieve_path.Given as goal

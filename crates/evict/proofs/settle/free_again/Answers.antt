@@ -1,4 +1,4 @@
-use Rattle.std.proofs.Common.{◌≡◌, ◌+◌, ◌<◌, ◌^◌, ◌==◌, length, slice_index, slice_index_or, refl, arith}
+use Rattle.std.proofs.Common.{◌+◌, ◌<◌, ◌^◌, ◌==◌, length, slice_index, slice_index_or, refl, arith}
 use Rattle.std.proofs.lemmas.Bool.{eq-eqb}
 use Rattle.evict.specs.declared.freed.Eviction.{Eviction}
 use Rattle.evict.proofs.Settled.{freed_more}

@@ -2,7 +2,8 @@ use Rattle.std.proofs.Common.{sym, ap, ◌∙◌, arith}
 use Rattle.map_model.specs.declared.instance.NodeId.{NodeId}
 use Rattle.map_model.specs.Market.{path, pool_of}
 use Rattle.map_model.proofs.Trees.{under_there}
-use Rattle.offer_pool.proofs.Refiled.{among-path, pool_there}
+use Rattle.map_model.proofs.Paths.{pool_there}
+use Rattle.offer_pool.proofs.Refiled.{among-path}
 use Rattle.offer_pool.proofs.table.nodes_above.Goals as goal
 
 pub path-requires : goal.path-requires

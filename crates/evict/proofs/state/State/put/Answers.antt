@@ -1,7 +1,7 @@
-use Rattle.std.proofs.Common.{◌≡◌, ℕ, ◌+◌, ◌<◌, ◌==◌, true, List, if◌then◌else◌, slice_index, refl, sym, ap, ◌∙◌, subst, length}
+use Rattle.std.proofs.Common.{◌≡◌, ℕ, ◌+◌, ◌<◌, ◌==◌, true, List, if◌then◌else◌, slice_index, ap, ◌∙◌, subst, length}
 use Rattle.std.specs.Vec.{with_items}
 use Rattle.std.proofs.lemmas.List.{with_items_is}
-use Rattle.evict.specs.Evictions.{CanSettle, freed_units, gave_up}
+use Rattle.evict.specs.Evictions.{freed_units, gave_up}
 use Rattle.evict.specs.Standing.{CanPut, IsPut}
 use Rattle.evict.specs.declared.freed.Eviction.{Eviction}
 use Rattle.evict.proofs.Done.{placing, put_done, seen, settling}

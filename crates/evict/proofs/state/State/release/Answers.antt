@@ -1,7 +1,6 @@
-use Rattle.std.proofs.Common.{◌≡◌, ◌+◌, ◌<◌, ◌≤◌, ◌^◌, length, slice_index, ap, ◌∙◌, arith}
+use Rattle.std.proofs.Common.{◌≡◌, ◌+◌, ◌<◌, ◌^◌, slice_index, ap, ◌∙◌, arith}
 use Rattle.std.proofs.lemmas.List.{get_or_default}
 use Rattle.map_model.specs.declared.instance.NodeId.{NodeId}
-use Rattle.evict.specs.Putting.{IsSound}
 use Rattle.evict.specs.Standing.{CanRelease}
 use Rattle.evict.proofs.Done.{seen}
 use Rattle.evict.proofs.Sound.{pool_in, release_fits, release_room, sound_release}

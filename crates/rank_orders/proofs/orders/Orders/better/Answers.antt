@@ -1,4 +1,4 @@
-use Rattle.std.proofs.Common.{◌≡◌, sym, ◌∙◌, subst, rules}
+use Rattle.std.proofs.Common.{◌≡◌, sym, ◌∙◌, rules}
 use Rattle.map_model.specs.Market.{IsMarket}
 use Rattle.rank_orders.specs.Ranks.{is_better}
 use Rattle.rank_orders.proofs.Offers.{better_total}

@@ -1,6 +1,6 @@
 use Rattle.std.proofs.Common.{◌≡◌, ◌≤◌, ◌+◌, ◌==◌, not, length, take}
 use Rattle.std.specs.List.{suffix_len}
-use Rattle.addr_text.proofs.slices.end_of_last.Given as goal
+use Rattle.text_parts.proofs.end_of_last.Given as goal
 
 abbrev pub invariant-loop-end : goal.invariant-loop-end
 invariant-loop-end l =

@@ -1,8 +1,13 @@
-//! Parts of slices.
+//! Slices cut at a place, and texts cut at the first or last of an octet. None of it takes memory.
+#![tactic(auto)]
+
 ghost use Rattle.std.specs.Prelude.{◌≡◌, ◌<◌, ◌≤◌, ◌==◌, ◌+◌, ◌-◌, IfSome, length, not, take, drop};
 ghost use Rattle.std.specs.List.{after_first, after_last, before_first, before_last, position_from, position_or_len, suffix_len};
 
-/// Where an octet first stands.
+#[cfg(test)]
+mod tests;
+
+/// Where an octet first stands, counted from 0; `None` where it is nowhere.
 pub fn position_of(text: &[u8], octet: u8) -> Option<usize>
     ensures first { result ≡ position_from (λ b. b == octet) 0 text.now }
     ensures within { IfSome result (λ i. i < length text.now) }

@@ -1,0 +1,41 @@
+use crate::{after, before, position_of, split_first, split_last};
+
+#[test]
+fn finds_the_first(rt: HostRuntime) {
+    let rows: [(&[u8], Option<usize>); 5] = [
+        (b"a.b.c", Some(1)),
+        (b".", Some(0)),
+        (b"ab.", Some(2)),
+        (b"abc", None),
+        (b"", None),
+    ];
+    for (text, place) in rows {
+        assert_eq!(rt; position_of(text, b'.'), place);
+    }
+}
+
+#[test]
+fn cuts_at_a_place(rt: HostRuntime) {
+    let rows: [(&[u8], &[u8], usize); 3] = [(b"", b"abc", 0), (b"ab", b"c", 2), (b"abc", b"", 3)];
+    for (front, back, place) in rows {
+        assert_eq!(rt; before(b"abc", place), front);
+        assert_eq!(rt; after(b"abc", place), back);
+    }
+}
+
+/// Each text, its parts round the first colon, and those round the last.
+#[test]
+fn splits_at_the_first_and_the_last(rt: HostRuntime) {
+    let rows: [(&[u8], (&[u8], &[u8]), (&[u8], &[u8])); 6] = [
+        (b"a:b:c", (b"a", b"b:c"), (b"a:b", b"c")),
+        (b":b", (b"", b"b"), (b"", b"b")),
+        (b"a:", (b"a", b""), (b"a", b"")),
+        (b"::", (b"", b":"), (b":", b"")),
+        (b"abc", (b"abc", b""), (b"", b"abc")),
+        (b"", (b"", b""), (b"", b"")),
+    ];
+    for (text, first, last) in rows {
+        assert_eq!(rt; split_first(text, b':'), first);
+        assert_eq!(rt; split_last(text, b':'), last);
+    }
+}
