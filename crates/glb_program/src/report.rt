@@ -1,4 +1,4 @@
-ghost use Rattle.std.specs.Prelude.{◌≡◌, ◌⊎◌, ◌≤◌, [], ◌∷◌};
+ghost use Rattle.std.specs.Prelude.{◌≡◌, ◌↔◌, ◌⊎◌, ◌≤◌, [], ◌∷◌};
 ghost use Rattle.outside.specs.Faults.{BothTell, Rose};
 ghost use Rattle.glb_program.specs.Outcome.{HasText, IsSaid, RunsBy, Speaks};
 ghost use Rattle.glb_program.specs.Reports.{EndsBy, IsReport};
@@ -41,7 +41,8 @@ pub fn finish<K: Sink>(out: &mut K, ended: Ended) -> Status
     ensures run { RunsBy (IsReport ended) (K.told out.old) (K.told out.new) result }
     ensures later { K.faults out.old ≤ K.faults out.new }
     ensures cause { result ≡ Status.SinkFault → Rose (K.faults out.old) (K.faults out.new) }
-    ensures source { result ≡ Status.SourceFault → ended ≡ Ended.SourceFault }
+    ensures source { (result ≡ Status.SourceFault) ↔ (ended ≡ Ended.SourceFault) }
+    ensures memory { (result ≡ Status.NoMemory) ↔ (ended ≡ Ended.NoMemory) }
 {
     match ended {
         Ended::Said(report) => say(out, report.status, report.text.as_slice()),
