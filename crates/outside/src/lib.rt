@@ -11,14 +11,12 @@ mod mem_shelf;
 mod mem_sink;
 mod shelf;
 mod sink;
-mod steps;
 
 pub use file::{Asked, Contents, File};
 pub use mem_shelf::MemShelf;
 pub use mem_sink::MemSink;
 pub use shelf::{LoadFault, Shelf};
 pub use sink::{Put, Sink};
-pub use steps::Steps;
 
 #[cfg(test)]
 mod tests;
