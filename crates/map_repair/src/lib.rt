@@ -1,7 +1,10 @@
 //! A good map repaired for changed demands and capacities.
 #![tactic(auto)]
 
+mod asked;
+mod marks;
 mod reaching;
 mod repairing;
 
+pub use asked::Asked;
 pub use repairing::{repair, resume};
