@@ -2,7 +2,7 @@ use Rattle.std.proofs.Common.{◌∷◌, [], List, ℕ, ap, refl, subst}
 use Rattle.map_model.specs.Market.{Market}
 use Rattle.map_model.specs.Allocation.{IsGood}
 use Rattle.map_text.specs.Writing.{mapped}
-use Rattle.glb_program.proofs.map.try_report.Goals as goal
+use Rattle.glb_program.proofs.map.report.Goals as goal
 
 pub returns : goal.returns
 returns c =

@@ -1,7 +1,8 @@
-ghost use Rattle.std.specs.Prelude.{◌≡◌, ◌↔◌, ◌⊎◌, ◌≤◌, [], ◌∷◌};
+//! How a command ends, and how that is said.
+ghost use Rattle.std.specs.Prelude.{◌≡◌, ◌↔◌, ◌⊎◌, ◌≤◌, [], ◌∷◌, Err};
 ghost use Rattle.outside.specs.Faults.{BothTell, Rose};
 ghost use Rattle.glb_program.specs.Outcome.{HasText, IsSaid, RunsBy, Speaks};
-ghost use Rattle.glb_program.specs.Reports.{EndsBy, IsReport};
+ghost use Rattle.glb_program.specs.Ending.{EndsBy, IsReport};
 
 use crate::status::Status;
 use no_memory::NoMemory;
@@ -14,12 +15,26 @@ pub struct Report {
     pub text: Vec<u8>,
 }
 
-/// How a command ended.
+/// Why a command stopped ahead of its end.
 #[derive(Drop)]
-pub enum Ended {
-    Said(Report),
+pub enum Stop {
+    /// A file is too long or at fault. This is the text of its refusal.
+    Refused(Vec<u8>),
+    /// A file could not be loaded.
     SourceFault,
+    /// There was no memory.
     NoMemory,
+}
+
+impl From<NoMemory> for Stop {
+    ghost use Rattle.std.specs.Prelude.{◌≡◌};
+    ghost use Rattle.glb_program.specs.declared.ending.Stop.TheVariants as stop;
+
+    ghost from_gives = { λ _ s. s ≡ stop.NoMemory };
+
+    fn from(_: NoMemory) -> Stop {
+        Stop::NoMemory
+    }
 }
 
 /// Puts a text, and answers its status unless that fails.
@@ -35,29 +50,19 @@ pub fn say<K: Sink>(out: &mut K, status: Status, text: &[u8]) -> Status
     }
 }
 
-/// Puts what a command has to say.
-pub fn finish<K: Sink>(out: &mut K, ended: Ended) -> Status
+/// Says how a command ended.
+pub fn finish<K: Sink>(out: &mut K, ended: Result<Report, Stop>) -> Status
     requires { EndsBy IsSaid ended }
     ensures run { RunsBy (IsReport ended) (K.told out.old) (K.told out.new) result }
     ensures later { K.faults out.old ≤ K.faults out.new }
     ensures cause { result ≡ Status.SinkFault → Rose (K.faults out.old) (K.faults out.new) }
-    ensures source { (result ≡ Status.SourceFault) ↔ (ended ≡ Ended.SourceFault) }
-    ensures memory { (result ≡ Status.NoMemory) ↔ (ended ≡ Ended.NoMemory) }
+    ensures source { (result ≡ Status.SourceFault) ↔ (ended ≡ Err Stop.SourceFault) }
+    ensures memory { (result ≡ Status.NoMemory) ↔ (ended ≡ Err Stop.NoMemory) }
 {
     match ended {
-        Ended::Said(report) => say(out, report.status, report.text.as_slice()),
-        Ended::SourceFault => Status::SourceFault,
-        Ended::NoMemory => Status::NoMemory,
-    }
-}
-
-impl From<NoMemory> for Ended {
-    ghost use Rattle.std.specs.Prelude.{◌≡◌};
-    ghost use Rattle.glb_program.specs.declared.report.Ended.TheVariants as ended;
-
-    ghost from_gives = { λ _ e. e ≡ ended.NoMemory };
-
-    fn from(_: NoMemory) -> Ended {
-        Ended::NoMemory
+        Ok(report) => say(out, report.status, report.text.as_slice()),
+        Err(Stop::Refused(text)) => say(out, Status::Refused, text.as_slice()),
+        Err(Stop::SourceFault) => Status::SourceFault,
+        Err(Stop::NoMemory) => Status::NoMemory,
     }
 }
