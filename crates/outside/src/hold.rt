@@ -32,6 +32,7 @@ pub struct Point {
 }
 
 /// How far two lanes and a feed have come, for all who hold them.
+#[derive(Drop)]
 pub struct Marks {
     first_turns: AtomicU64,
     second_turns: AtomicU64,
