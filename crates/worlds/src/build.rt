@@ -1,5 +1,5 @@
 //! Instances and maps from constant rows.
-use map_model::{Choice, GroupId, GroupRow, Instance, MapLine, MapLines, NameLine, Node, NodeId};
+use map_model::{Choice, GroupId, ClientGroup, Instance, MapLine, MapLines, NameLine, Node, NodeId};
 use no_memory::NoMemory;
 use std::alloc::Global;
 
@@ -26,7 +26,7 @@ pub struct World {
 }
 
 /// A group of that demand and list.
-fn group_of(alloc: Global, group: GroupAt) -> Result<GroupRow, NoMemory> {
+fn group_of(alloc: Global, group: GroupAt) -> Result<ClientGroup, NoMemory> {
     let (demand, list) = group;
     let mut choices = Vec::new(alloc);
     for &(pool, score) in list {
@@ -35,7 +35,7 @@ fn group_of(alloc: Global, group: GroupAt) -> Result<GroupRow, NoMemory> {
             score,
         })?;
     }
-    Ok(GroupRow::new(demand, choices))
+    Ok(ClientGroup::new(demand, choices))
 }
 
 /// The instance of these rows; none where they are no instance.
