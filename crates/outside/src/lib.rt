@@ -25,7 +25,6 @@ mod port;
 mod shelf;
 mod sink;
 mod source;
-mod steps;
 
 pub use file::{Contents, File, NotedLoad};
 pub use gate::{Gate, Turning};
@@ -46,7 +45,6 @@ pub use port::{Arrival, Opening, Port, Sending};
 pub use shelf::{LoadFault, Shelf};
 pub use sink::{Put, Sink};
 pub use source::{Read, Source};
-pub use steps::Steps;
 
 #[cfg(test)]
 mod tests;
