@@ -2,8 +2,8 @@ use Rattle.std.proofs.Common.{◌+◌, ◌*◌, drop, get_or, ap, sym, ◌∙◌
 use Rattle.std.proofs.lemmas.List.{drop_more}
 use Rattle.std.specs.Char.{digit_value}
 use Rattle.std.specs.Str.Parse.{digits_value_after}
-use Rattle.map_text.proofs.Digits.{digit_here, digits_more}
-use Rattle.map_text.proofs.number.value_of.Goals as goal
+use Rattle.text_parts.proofs.Digits.{digit_here, digits_more}
+use Rattle.text_parts.proofs.decimal.decimal_value.Goals as goal
 
 pub returns-then-longer-from : goal.returns-then-longer-from
 returns-then-longer-from c =

@@ -1,7 +1,7 @@
 use Rattle.std.proofs.Common.{◌∙◌, ap, ◌∷◌}
-use Rattle.map_text.specs.Parts.{four_of}
+use Rattle.map_text.specs.Words.{four_of}
 use Rattle.map_text.proofs.Splits.{five_parts}
-use Rattle.map_text.proofs.cut.four_words.Goals as goal
+use Rattle.map_text.proofs.words.four_words.Goals as goal
 
 pub returns-in-Some : goal.returns-in-Some
 returns-in-Some c =
