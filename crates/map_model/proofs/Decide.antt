@@ -1,3 +1,4 @@
+-- A good map by computing.
 use Rattle.std.proofs.Common.{◌≡◌, ℕ, zero, suc, ◌+◌, ◌<◌, Bool, true, ◌&&◌, ◌||◌, not, nat_le, List, length, Option, None, Some, IsTrue, IsSome, refl, subst, inl, inr, arith}
 use Rattle.std.specs.List.{list_all, range_with_len}
 use Rattle.std.specs.Option.{is_some}
@@ -13,7 +14,7 @@ below_all test a zero h i l = absurd (omega arith)
 below_all test a (suc n) h zero l = let e : a ≡ a + 0 = omega arith in subst (λ j. test j ≡ true) e (and_parts _ _ h).0
 below_all test a (suc n) h (suc i) l = let e : (a + 1) + i ≡ a + suc i = omega arith in subst (λ j. test j ≡ true) e (below_all test (a + 1) n (and_parts _ _ h).1 i (omega arith))
 
-below : (test : ℕ → Bool) (n : ℕ) → list_all test (range_with_len 0 n) ≡ true → (i : ℕ) → i < n → test i ≡ true
+pub below : (test : ℕ → Bool) (n : ℕ) → list_all test (range_with_len 0 n) ≡ true → (i : ℕ) → i < n → test i ≡ true
 below test n h i l = let e : 0 + i ≡ i = omega arith in subst (λ j. test j ≡ true) e (below_all test 0 n h i l)
 
 -- whether each number below n passes a test
@@ -30,7 +31,7 @@ are_good_lines m lines =
     each (length lines) (is_line m lines) && each (length m.groups) (λ g. nat_le (placed lines g) (demand_of m g)) && each (length m.nodes) (λ n. nat_le (load m lines n) (capacity_of m n))
     && each (length m.groups) (λ g. each (length (choices_of m g)) (is_refused_if_wanted m lines g))
 
-some_from : {X : Type 0} (o : Option X) → is_some o ≡ true → IsSome o
+pub some_from : {X : Type 0} (o : Option X) → is_some o ≡ true → IsSome o
 some_from None h = absurd (false≢true h)
 some_from (Some x) h = refl
 

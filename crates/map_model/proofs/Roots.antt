@@ -1,13 +1,14 @@
-use Rattle.std.proofs.Common.{◌≡◌, ℕ, zero, suc, ◌<◌, ◌≤◌, ◌==◌, true, ◌∷◌, length, Option, None, Some, refl, sym, ap, ◌∙◌, subst, inl, inr, arith}
+-- The root of a tree: one for all nodes of a path, and there.
+use Rattle.std.proofs.Common.{◌≡◌, ℕ, zero, suc, ◌-◌, ◌<◌, ◌≤◌, ◌==◌, true, List, [], ◌∷◌, length, Option, None, Some, slice_index, refl, sym, ap, ◌∙◌, subst, inl, inr, arith}
 use Rattle.std.specs.Option.{IfSome}
 use Rattle.std.specs.List.{list_any}
-use Rattle.std.proofs.lemmas.Bool.{eqb-true, or_cases, false≢true}
+use Rattle.std.proofs.lemmas.Bool.{eq-eqb, eqb-true, or_cases, or_left, or_right, false≢true}
 use Rattle.map_model.specs.declared.instance.NodeId.{NodeId}
 use Rattle.map_model.specs.Market.{Market, IsMarket, climb, parent_of, path}
 use Rattle.map_model.specs.Allocation.{is_under}
 use Rattle.map_model.specs.Progress.{root_of}
 use Rattle.map_model.proofs.Paths.{climb_none, parent_there}
-use Rattle.map_model.proofs.Trees.{climb_settled}
+use Rattle.map_model.proofs.Trees.{climb_settled, under_there}
 use Rattle.map_model.proofs.Turns.{last_of, last_of-cons}
 
 -- a node has the root of the node right above it
@@ -34,3 +35,15 @@ climb_root m market (suc steps) p n there h = elim (or_cases (p.0 == n) (list_an
 -- the nodes of a path have one root
 pub root-under : (m : Market) → IsMarket m → (n c : ℕ) → c < length m.nodes → is_under m n c ≡ true → root_of m c ≡ root_of m n
 root-under m market n c there h = climb_root m market 8 (record { 0 = c }) n there h
+
+-- the last number of a list that has one is in it
+last_in : (x : ℕ) (xs : List ℕ) → list_any (λ y. y == slice_index (x ∷ xs) (length (x ∷ xs) - 1)) (x ∷ xs) ≡ true
+last_in x [] = or_left (x == slice_index (x ∷ []) (length (x ∷ []) - 1)) _ (eq-eqb x x refl)
+last_in x (y ∷ ys) =
+    let same : slice_index (x ∷ y ∷ ys) (length (x ∷ y ∷ ys) - 1) ≡ slice_index (y ∷ ys) (length (y ∷ ys) - 1) = grind arith in
+    subst (λ z. list_any (λ w. w == z) (x ∷ y ∷ ys) ≡ true) (sym same) (or_right (x == slice_index (y ∷ ys) (length (y ∷ ys) - 1)) _ (last_in y ys))
+
+-- the root of a node is there
+pub root-there : (m : Market) → IsMarket m → (n : ℕ) → n < length m.nodes → root_of m n < length m.nodes
+unfolding climb
+root-there m market n l = under_there m market (root_of m n) n l (last_in n (climb 7 m (parent_of m n)))
