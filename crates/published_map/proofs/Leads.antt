@@ -1,5 +1,5 @@
 -- What is put together from rows and capacities, and what a delta leads to.
-use Rattle.std.proofs.Common.{◌≡◌, ℕ, zero, suc, ◌+◌, ◌<◌, false, List, [], ◌∷◌, length, map, fold, slice_set, get_or, refl, sym, ap, ◌∙◌, arith}
+use Rattle.std.proofs.Common.{◌≡◌, ℕ, zero, suc, ◌+◌, ◌<◌, false, List, [], ◌∷◌, length, map, fold, slice_set, get_or, refl, sym, ap, ap₂, ◌∙◌, arith}
 use Rattle.std.specs.Prelude.{All, None}
 use Rattle.std.specs.List.{range_with_len}
 use Rattle.std.proofs.Math.ListN.{length-set}
@@ -16,14 +16,15 @@ use Rattle.topology_text.specs.Plan.{Plan}
 use Rattle.published_map.specs.declared.row.GroupRow.{GroupRow}
 use Rattle.published_map.specs.declared.delta.Delta.{Delta}
 use Rattle.published_map.specs.Version.{Version}
-use Rattle.published_map.specs.Rows.{lines_at, names_at, in_rows, with_demands, with_capacities, capacities_of, row_of, rows_of}
+use Rattle.published_map.specs.Rows.{lines_at, names_at, in_rows, with_demands, with_capacities, amounts_in, capacities_of, names_in, row_of, rows_of}
 use Rattle.published_map.specs.Changes.{put_row, put_node, after}
 use Rattle.published_map.specs.Between.{IsBetween}
 use Rattle.published_map.proofs.Changes.{over, row_put, node_put}
 use Rattle.published_map.proofs.Cut.{lines_together, names_together}
 use Rattle.published_map.proofs.Ranks.{below, lines_rise, names_rise, rising}
-use Rattle.published_map.specs.Gathered.{NodesChanged, RowsChanged, set_all}
-use Rattle.published_map.proofs.Gathered.{all_new}
+use Rattle.published_map.specs.Gathered.{IsGathered, NodesChanged, RowsChanged, set_all}
+use Rattle.published_map.proofs.Gathered.{all_new, gathered}
+use Rattle.published_map.proofs.Groups.{IsOwn, amounts_are, names_are, same_lines, same_names}
 
 -- groups with the demands of rows are these groups, where lists and demands are theirs
 demands_are : (gs hs : List Group) (rows : List GroupRow) (d : Group) (e : GroupRow) → length hs ≡ length gs → length rows ≡ length gs
@@ -116,7 +117,26 @@ between base plan m lines names n lines' names' d market market' form form' shap
     moved_to =
         ap (λ (v : Version). fold put_node v d.nodes.items) (rows_put base m plan (capacities_of m) d.groups.items (rows_of m lines names) (length-map-range_with_len (row_of m lines names) 0 (length m.groups)) (λ k e l. (rows.each k e l).0))
         ∙ (nodes_put base m plan _ d.nodes.items (capacities_of m) (length-map-range_with_len (capacity_of m) 0 (length m.nodes)) (λ k e l. (nodes.each k e l).0)
-        ∙ ap (λ (x : List GroupRow × List ℕ). over base m plan x.0 x.1) (pair all_rows all_nodes))
+        ∙ ap₂ (λ (x : List GroupRow) (y : List ℕ). over base m plan x y) all_rows all_nodes)
 
-    pair : {A B : Type 0} {a c : A} {b e : B} → a ≡ c → b ≡ e → (a, b) ≡ (c, e)
-    pair p q = rw (p, q) refl
+-- one group further, where its new row was gathered if it is another
+pub one_row : (m : Market) (lines : List MapLine) (names : List NameLine) (n : Market) (lines' : List MapLine) (names' : List NameLine) (g : ℕ) (rs ss : List (GroupId × GroupRow)) (demand demand' : ℕ)
+    (own : List MapLine) (own_names : List NameLine) (own' : List MapLine) (own_names' : List NameLine) → g < length m.groups → demand ≡ demand_of m g → demand' ≡ demand_of n g → IsOwn lines names g own own_names → IsOwn lines' names' g own' own_names'
+    → IsGathered ((demand ≡ demand') × (own ≡ own') × (own_names ≡ own_names')) rs (record { 0 = g }, record { demand = demand'; amounts = record { items = map (λ (l : MapLine). (l.place, l.amount)) own' }; names = record { items = map (λ (l : NameLine). (l.place, l.node)) own_names' } }) ss
+    → RowsChanged m lines names n lines' names' g rs → RowsChanged m lines names n lines' names' (g + 1) ss
+one_row m lines names n lines' names' g rs ss demand demand' own own_names own' own_names' lt is_demand is_demand' was is step so_far =
+    let amounts : map (λ (l : MapLine). (l.place, l.amount)) own' ≡ amounts_in lines' g = amounts_are lines' g own' is.of_lines in
+    let nodes : map (λ (l : NameLine). (l.place, l.node)) own_names' ≡ names_in names' g = names_are names' g own_names' is.of_names in
+    let old_amounts : map (λ (l : MapLine). (l.place, l.amount)) own ≡ amounts_in lines g = amounts_are lines g own was.of_lines in
+    let old_nodes : map (λ (l : NameLine). (l.place, l.node)) own_names ≡ names_in names g = names_are names g own_names was.of_names in
+    gathered (λ (r : GroupId × GroupRow). r.0.0) (λ (r : GroupId × GroupRow). r.1) (row_of m lines names) (row_of n lines' names') (length m.groups) g ((demand ≡ demand') × (own ≡ own') × (own_names ≡ own_names')) rs
+      (record { 0 = g }, record { demand = demand'; amounts = record { items = map (λ (l : MapLine). (l.place, l.amount)) own' }; names = record { items = map (λ (l : NameLine). (l.place, l.node)) own_names' } }) ss lt refl
+      (rw (is_demand', amounts, nodes) refl)
+      (λ same. to (sym is_demand ∙ same.0 ∙ is_demand') (sym old_amounts ∙ ap (map (λ (l : MapLine). (l.place, l.amount))) same.1 ∙ amounts) (sym old_nodes ∙ ap (map (λ (l : NameLine). (l.place, l.node))) same.2 ∙ nodes))
+      (λ same. (is_demand ∙ ap (λ (r : GroupRow). r.demand) same ∙ sym is_demand',
+        same_lines lines lines' g own own' was.of_lines is.of_lines (ap (λ (r : GroupRow). r.amounts.items) same),
+        same_names names names' g own_names own_names' was.of_names is.of_names (ap (λ (r : GroupRow). r.names.items) same)))
+      step so_far
+  where
+    to : demand_of m g ≡ demand_of n g → amounts_in lines g ≡ amounts_in lines' g → names_in names g ≡ names_in names' g → row_of m lines names g ≡ row_of n lines' names' g
+    to a b c = rw (a, b, c) refl

@@ -1,5 +1,5 @@
 //! What changes between two versions.
-ghost use Rattle.std.specs.Prelude.{◌≡◌, ◌+◌, ◌≤◌, length, map, IfOk, MatchBool, OnOk};
+ghost use Rattle.std.specs.Prelude.{◌≡◌, ◌+◌, ◌≤◌, length, map, Decides, IfOk, OnOk};
 ghost use Rattle.map_model.specs.Market.{IsSameShape};
 ghost use Rattle.map_model.specs.Allocation.{IsMapForm};
 ghost use Rattle.topology_text.specs.Plan.{Plan};
@@ -8,7 +8,7 @@ ghost use Rattle.published_map.specs.Gathered.{IsGathered, NodesChanged, RowsCha
 
 use crate::parts::{Part, row, split};
 use crate::row::GroupRow;
-use map_model::{GroupId, Instance, MapLines, NodeId, Units};
+use map_model::{GroupId, Instance, MapLine, MapLines, NameLine, NodeId, Units};
 use no_memory::NoMemory;
 use std::alloc::Global;
 
@@ -24,11 +24,18 @@ pub struct Delta {
     pub nodes: Vec<(NodeId, Units)>,
 }
 
-/// Whether two maps have the same of a group.
-fn is_same(old: Part<'_>, new: Part<'_>) -> bool
-    ensures { MatchBool result ((old.entry.lines.now ≡ new.entry.lines.now) × (old.entry.names.now ≡ new.entry.names.now)) ((old.entry.lines.now ≡ new.entry.lines.now) × (old.entry.names.now ≡ new.entry.names.now) → ⊥) }
+/// Whether lines are the same.
+fn same_lines(old: &[MapLine], new: &[MapLine]) -> bool
+    ensures { Decides result (old.now ≡ new.now) }
 {
-    old.lines == new.lines && old.names == new.names
+    old == new
+}
+
+/// Whether names are the same.
+fn same_names(old: &[NameLine], new: &[NameLine]) -> bool
+    ensures { Decides result (old.now ≡ new.now) }
+{
+    old == new
 }
 
 /// Adds the new row of a group, where it is another than the old one.
@@ -43,9 +50,13 @@ fn push_row(
     requires names { length new.names.now ≤ 16 }
     ensures { OnOk result (IsGathered ((demands.0 ≡ demands.1) × (old.entry.lines.now ≡ new.entry.lines.now) × (old.entry.names.now ≡ new.entry.names.now)) groups.old.items (group, record { demand = demands.1; amounts = record { items = map (λ l. (l.place, l.amount)) new.entry.lines.now }; names = record { items = map (λ l. (l.place, l.node)) new.entry.names.now } }) groups.new.items) }
 {
-    if demands.0 != demands.1 || !is_same(old, new) {
-        groups.push((group, row(demands.1, new)))?;
+    if demands.0 == demands.1
+        && same_lines(old.lines, new.lines)
+        && same_names(old.names, new.names)
+    {
+        return Ok(());
     }
+    groups.push((group, row(demands.1, new)))?;
     Ok(())
 }
 
@@ -88,6 +99,7 @@ fn changed_rows(
     requires shape { IsSameShape old.now new.now }
     ensures { IfOk result (λ rows. RowsChanged old.now old_map.now.lines.items old_map.now.names.items new.now new_map.now.lines.items new_map.now.names.items (length old.now.groups) rows.items) }
 {
+    let _ = new.groups();
     let mut groups = Vec::new(alloc);
     let mut old_rest = whole(old_map);
     let mut new_rest = whole(new_map);

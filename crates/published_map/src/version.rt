@@ -122,6 +122,7 @@ impl MapVersion {
         ensures version { IfOk result IsVersion }
     {
         check_shared(&shared);
+        let _ = instance.groups();
         let rows = rows_of(alloc, instance, map)?;
         let capacities = capacities_of(alloc, instance)?;
         Ok(MapVersion {
@@ -219,6 +220,7 @@ impl MapVersion {
         ensures longest { HasLongest self.now.plan.prefixes addr result }
         ensures there { result.0 < length self.now.market.groups }
     {
+        check_shared(&self.shared);
         let shared: &Shared = &self.shared;
         shared.lookup.group(addr)
     }

@@ -2,5 +2,5 @@ use Rattle.std.proofs.Common.{◌≡◌, ◌==◌, if◌then◌else◌, take, su
 use Rattle.published_map.proofs.Sums.{at_place}
 use Rattle.published_map.proofs.row.amount_in.Given as goal
 
-abbrev pub invariant-loop-one : goal.invariant-loop-one
-invariant-loop-one l = l.units ≡ sum_by (at_place l.place) (take l.one-index l.own)
+abbrev pub invariant-loop-pair : goal.invariant-loop-pair
+invariant-loop-pair l = l.units ≡ sum_by (at_place l.place) (take l.pair-index l.own)
