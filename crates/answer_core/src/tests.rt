@@ -126,7 +126,7 @@ fn version_of(alloc: Global, text: &str, map: MapLines) -> Result<MapVersion, Fa
     let lookup = Lookup::build(alloc, topology.prefixes())?;
     let topology = Arc::new(alloc, topology)?;
     let shared = Arc::new(alloc, Shared { topology, lookup })?;
-    Ok(MapVersion::make(alloc, 0, instance, map, shared)?)
+    Ok(MapVersion::make(alloc, 0, &instance, &map, shared)?)
 }
 
 /// The example and its map.
