@@ -140,7 +140,7 @@ fn example(alloc: Global) -> Result<MapVersion, Fail> {
 #[test]
 fn picks_by_draw(rt: HostRuntime) -> Result<(), Fail> {
     let version = example(rt.alloc())?;
-    assert_eq!(rt; version.instance().groups(), 2);
+    assert_eq!(rt; version.groups(), 2);
     let rows = [
         (0, 0),
         // The last draw of slot 1, and the first of slot 2.

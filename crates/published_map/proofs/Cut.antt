@@ -72,22 +72,22 @@ module _ {X : Type 0} (key : X → ℕ) where
       let rest = one_group o xs rising.1 in
       ⊎_elim
       (λ (lt : key x < o).
-          ap (λ b. cond b (x ∷ from o xs) (from o xs)) (le_no o (key x) lt)
-          ∙ (rest
-          ∙ sym (ap₂ (λ a b. cond a (x ∷ of o xs) (of o xs) ++ cond b (x ∷ from (suc o) xs) (from (suc o) xs)) (eq_no (key x) o (λ e. omega (arith, e))) (le_no (suc o) (key x) (omega arith)))))
+      ap (λ b. cond b (x ∷ from o xs) (from o xs)) (le_no o (key x) lt)
+      ∙ (rest
+      ∙ sym (ap₂ (λ a b. cond a (x ∷ of o xs) (of o xs) ++ cond b (x ∷ from (suc o) xs) (from (suc o) xs)) (eq_no (key x) o (λ e. omega (arith, e))) (le_no (suc o) (key x) (omega arith)))))
       (λ (h : (key x ≡ o) ⊎ (o < key x)).
-          ⊎_elim
-          (λ (e : key x ≡ o).
-              ap (λ b. cond b (x ∷ from o xs) (from o xs)) (le_yes o (key x) (omega (arith, e)))
-              ∙ (ap (λ ys. x ∷ ys) rest
-              ∙ sym (ap₂ (λ a b. cond a (x ∷ of o xs) (of o xs) ++ cond b (x ∷ from (suc o) xs) (from (suc o) xs)) (eq_yes (key x) o e) (le_no (suc o) (key x) (omega (arith, e))))))
-          (λ (gt : o < key x).
-              let none : of o xs ≡ [] = none_of o (key x) xs gt rising.0 in
-              ap (λ b. cond b (x ∷ from o xs) (from o xs)) (le_yes o (key x) (omega arith))
-              ∙ (ap (λ ys. x ∷ ys) (rest ∙ ap (λ ys. ys ++ from (suc o) xs) none)
-              ∙ sym (ap₂ (λ a b. cond a (x ∷ of o xs) (of o xs) ++ cond b (x ∷ from (suc o) xs) (from (suc o) xs)) (eq_no (key x) o (λ e. omega (arith, e))) (le_yes (suc o) (key x) (omega arith))
-              ∙ ap (λ ys. ys ++ (x ∷ from (suc o) xs)) none)))
-          h)
+      ⊎_elim
+      (λ (e : key x ≡ o).
+      ap (λ b. cond b (x ∷ from o xs) (from o xs)) (le_yes o (key x) (omega (arith, e)))
+      ∙ (ap (λ ys. x ∷ ys) rest
+      ∙ sym (ap₂ (λ a b. cond a (x ∷ of o xs) (of o xs) ++ cond b (x ∷ from (suc o) xs) (from (suc o) xs)) (eq_yes (key x) o e) (le_no (suc o) (key x) (omega (arith, e))))))
+      (λ (gt : o < key x).
+      let none : of o xs ≡ [] = none_of o (key x) xs gt rising.0 in
+      ap (λ b. cond b (x ∷ from o xs) (from o xs)) (le_yes o (key x) (omega arith))
+      ∙ (ap (λ ys. x ∷ ys) (rest ∙ ap (λ ys. ys ++ from (suc o) xs) none)
+      ∙ sym (ap₂ (λ a b. cond a (x ∷ of o xs) (of o xs) ++ cond b (x ∷ from (suc o) xs) (from (suc o) xs)) (eq_no (key x) o (λ e. omega (arith, e))) (le_yes (suc o) (key x) (omega arith))
+      ∙ ap (λ ys. ys ++ (x ∷ from (suc o) xs)) none)))
+      h)
       (three (key x) o)
 
   pub together : (at : ℕ → GroupRow → List X) (row : ℕ → GroupRow) (xs : List X) → ((g : ℕ) → at g (row g) ≡ filter (λ x. key x == g) xs) → Rising key xs → (o n : ℕ) → AllBelow key (o + n) xs
@@ -110,11 +110,11 @@ module _ {X : Type 0} (key : X → ℕ) where
   stops g (x ∷ xs) =
       ⊎_elim
       (λ (lt : key x < suc g).
-          ap (λ b. prefix_len (λ x. key x == g) (cond b (x ∷ from (suc g) xs) (from (suc g) xs))) (le_no (suc g) (key x) lt) ∙ stops g xs)
+      ap (λ b. prefix_len (λ x. key x == g) (cond b (x ∷ from (suc g) xs) (from (suc g) xs))) (le_no (suc g) (key x) lt) ∙ stops g xs)
       (λ (h : (key x ≡ suc g) ⊎ (suc g < key x)).
-          let above : suc g ≤ key x = ⊎_elim (λ (e : key x ≡ suc g). omega (arith, e)) (λ (l : suc g < key x). omega arith) h in
-          ap (λ b. prefix_len (λ x. key x == g) (cond b (x ∷ from (suc g) xs) (from (suc g) xs))) (le_yes (suc g) (key x) above)
-          ∙ ap (λ b. cond b (1 + prefix_len (λ x. key x == g) (from (suc g) xs)) 0) (eq_no (key x) g (λ e. omega (arith, e, above))))
+      let above : suc g ≤ key x = ⊎_elim (λ (e : key x ≡ suc g). omega (arith, e)) (λ (l : suc g < key x). omega arith) h in
+      ap (λ b. prefix_len (λ x. key x == g) (cond b (x ∷ from (suc g) xs) (from (suc g) xs))) (le_yes (suc g) (key x) above)
+      ∙ ap (λ b. cond b (1 + prefix_len (λ x. key x == g) (from (suc g) xs)) 0) (eq_no (key x) g (λ e. omega (arith, e, above))))
       (three (key x) (suc g))
 
   run_one : (g : ℕ) (b : Bool) (x : X) (zs ys : List X) → (b ≡ true → (key x == g) ≡ true) → prefix_len (λ x. key x == g) (zs ++ ys) ≡ length zs

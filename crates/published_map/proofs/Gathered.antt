@@ -32,24 +32,24 @@ stays id val old new total n es lt same are = record {
   each = λ k d l. let h = are.each k d l in (omega (arith, h.0), h.1, h.2);
   rise = are.rise;
   leads = are.leads
-    ∙ (ap (λ xs. map new (range_with_len 0 n) ++ xs) (head_is old total n lt ∙ ap (λ v. v ∷ map old (range_with_len (n + 1) (total - (n + 1)))) same)
-    ∙ (sym (append_assoc (map new (range_with_len 0 n)) (new n ∷ []) (map old (range_with_len (n + 1) (total - (n + 1)))))
-    ∙ ap (λ xs. xs ++ map old (range_with_len (n + 1) (total - (n + 1)))) (sym (map-range_with_len_more new 0 n n (omega arith)))));
+      ∙ (ap (λ xs. map new (range_with_len 0 n) ++ xs) (head_is old total n lt ∙ ap (λ v. v ∷ map old (range_with_len (n + 1) (total - (n + 1)))) same)
+      ∙ (sym (append_assoc (map new (range_with_len 0 n)) (new n ∷ []) (map old (range_with_len (n + 1) (total - (n + 1)))))
+      ∙ ap (λ xs. xs ++ map old (range_with_len (n + 1) (total - (n + 1)))) (sym (map-range_with_len_more new 0 n n (omega arith)))));
 }
 
 pub more : {E V : Type 0} (id : E → ℕ) (val : E → V) (old new : ℕ → V) (total n : ℕ) (es : List E) (e : E) → n < total → id e ≡ n → val e ≡ new n → (val e ≢ old n) → AreChanged id val old new total n es
     → AreChanged id val old new total (n + 1) (es ++ e ∷ [])
 more id val old new total n es e lt at is differs are = record {
   each = All-push (λ e. (id e < n + 1) × (val e ≡ new (id e)) × (val e ≢ old (id e))) es e (λ k d l. let h = are.each k d l in (omega (arith, h.0), h.1, h.2))
-    (omega (arith, at), is ∙ ap new (sym at), λ same. differs (same ∙ ap old at));
+      (omega (arith, at), is ∙ ap new (sym at), λ same. differs (same ∙ ap old at));
   rise = all_pairs_push (λ a b. id a < id b) es e are.rise (λ k d l. let h = are.each k d l in omega (arith, at, h.0));
   leads = set_more id val (map old (range_with_len 0 total)) es e
-    ∙ (ap (λ xs. slice_set xs (id e) (val e)) (are.leads ∙ ap (λ xs. map new (range_with_len 0 n) ++ xs) (head_is old total n lt))
-    ∙ (ap (λ (k : ℕ). slice_set (map new (range_with_len 0 n) ++ old n ∷ map old (range_with_len (n + 1) (total - (n + 1)))) k (val e)) (at ∙ sym (length-map-range_with_len new 0 n))
-    ∙ (set-append_seam (map new (range_with_len 0 n)) (old n) (map old (range_with_len (n + 1) (total - (n + 1)))) (val e)
-    ∙ (ap (λ v. map new (range_with_len 0 n) ++ v ∷ map old (range_with_len (n + 1) (total - (n + 1)))) is
-    ∙ (sym (append_assoc (map new (range_with_len 0 n)) (new n ∷ []) (map old (range_with_len (n + 1) (total - (n + 1)))))
-    ∙ ap (λ xs. xs ++ map old (range_with_len (n + 1) (total - (n + 1)))) (sym (map-range_with_len_more new 0 n n (omega arith))))))));
+      ∙ (ap (λ xs. slice_set xs (id e) (val e)) (are.leads ∙ ap (λ xs. map new (range_with_len 0 n) ++ xs) (head_is old total n lt))
+      ∙ (ap (λ (k : ℕ). slice_set (map new (range_with_len 0 n) ++ old n ∷ map old (range_with_len (n + 1) (total - (n + 1)))) k (val e)) (at ∙ sym (length-map-range_with_len new 0 n))
+      ∙ (set-append_seam (map new (range_with_len 0 n)) (old n) (map old (range_with_len (n + 1) (total - (n + 1)))) (val e)
+      ∙ (ap (λ v. map new (range_with_len 0 n) ++ v ∷ map old (range_with_len (n + 1) (total - (n + 1)))) is
+      ∙ (sym (append_assoc (map new (range_with_len 0 n)) (new n ∷ []) (map old (range_with_len (n + 1) (total - (n + 1)))))
+      ∙ ap (λ xs. xs ++ map old (range_with_len (n + 1) (total - (n + 1)))) (sym (map-range_with_len_more new 0 n n (omega arith))))))));
 }
 
 -- all replaced, the values are the new ones

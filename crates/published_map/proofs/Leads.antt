@@ -55,11 +55,11 @@ pub put_together : (s : ℕ) (plan : Plan) (m n : Market) (lines : List MapLine)
 put_together s plan m n lines names market form shape =
     let no_row : GroupRow = record { demand = 0; amounts = record { items = [] }; names = record { items = [] } } in
     let groups : with_demands m.groups (rows_of n lines names) ≡ n.groups =
-      demands_are m.groups n.groups (rows_of n lines names) (record { demand = 0; choices = [] }) no_row shape.groups (length-map-range_with_len (row_of n lines names) 0 (length n.groups) ∙ shape.groups)
-      (λ i l. shape.lists i) (λ i l. ap (λ (r : GroupRow). r.demand) (get_or-map-range_with_len (row_of n lines names) 0 (length n.groups) i i no_row (omega (arith, shape.groups)) (omega arith))) in
+    demands_are m.groups n.groups (rows_of n lines names) (record { demand = 0; choices = [] }) no_row shape.groups (length-map-range_with_len (row_of n lines names) 0 (length n.groups) ∙ shape.groups)
+    (λ i l. shape.lists i) (λ i l. ap (λ (r : GroupRow). r.demand) (get_or-map-range_with_len (row_of n lines names) 0 (length n.groups) i i no_row (omega (arith, shape.groups)) (omega arith))) in
     let nodes : with_capacities m.nodes (capacities_of n) ≡ n.nodes =
-      capacities_are m.nodes n.nodes (capacities_of n) (record { capacity = 0; parent = None; is_pool = false }) shape.nodes (length-map-range_with_len (capacity_of n) 0 (length n.nodes) ∙ shape.nodes)
-      (λ i l. shape.trees i) (λ i l. shape.pools i) (λ i l. get_or-map-range_with_len (capacity_of n) 0 (length n.nodes) i i 0 (omega (arith, shape.nodes)) (omega arith)) in
+    capacities_are m.nodes n.nodes (capacities_of n) (record { capacity = 0; parent = None; is_pool = false }) shape.nodes (length-map-range_with_len (capacity_of n) 0 (length n.nodes) ∙ shape.nodes)
+    (λ i l. shape.trees i) (λ i l. shape.pools i) (λ i l. get_or-map-range_with_len (capacity_of n) 0 (length n.nodes) i i 0 (omega (arith, shape.nodes)) (omega arith)) in
     let lines_up = lines_rise n market lines form.of_lines in
     let names_up = names_rise n market names form.of_names in
     let own_lines : in_rows lines_at 0 (rows_of n lines names) ≡ lines = lines_together n lines names (rising (λ (l : MapLine). l.group.0) (λ (l : MapLine). l.place) (length n.groups) 0 lines lines_up) (below (λ (l : MapLine). l.group.0) (λ (l : MapLine). l.place) (length n.groups) 0 lines lines_up) in
@@ -107,11 +107,11 @@ between base plan m lines names n lines' names' d market market' form form' shap
 
     all_rows : set_all (λ (r : GroupId × GroupRow). r.0.0) (λ (r : GroupId × GroupRow). r.1) (rows_of m lines names) d.groups.items ≡ rows_of n lines' names'
     all_rows = all_new (λ (r : GroupId × GroupRow). r.0.0) (λ (r : GroupId × GroupRow). r.1) (row_of m lines names) (row_of n lines' names') (length m.groups) d.groups.items rows
-      ∙ ap (λ (k : ℕ). map (row_of n lines' names') (range_with_len 0 k)) (sym shape.groups)
+        ∙ ap (λ (k : ℕ). map (row_of n lines' names') (range_with_len 0 k)) (sym shape.groups)
 
     all_nodes : set_all (λ (n : NodeId × ℕ). n.0.0) (λ (n : NodeId × ℕ). n.1) (capacities_of m) d.nodes.items ≡ capacities_of n
     all_nodes = all_new (λ (n : NodeId × ℕ). n.0.0) (λ (n : NodeId × ℕ). n.1) (capacity_of m) (capacity_of n) (length m.nodes) d.nodes.items nodes
-      ∙ ap (λ (k : ℕ). map (capacity_of n) (range_with_len 0 k)) (sym shape.nodes)
+        ∙ ap (λ (k : ℕ). map (capacity_of n) (range_with_len 0 k)) (sym shape.nodes)
 
     moved_to : fold put_node (fold put_row (over base m plan (rows_of m lines names) (capacities_of m)) d.groups.items) d.nodes.items ≡ over base m plan (rows_of n lines' names') (capacities_of n)
     moved_to =
@@ -130,13 +130,15 @@ one_row m lines names n lines' names' g rs ss demand demand' own own_names own' 
     let old_amounts : map (λ (l : MapLine). (l.place, l.amount)) own ≡ amounts_in lines g = amounts_are lines g own was.of_lines in
     let old_nodes : map (λ (l : NameLine). (l.place, l.node)) own_names ≡ names_in names g = names_are names g own_names was.of_names in
     gathered (λ (r : GroupId × GroupRow). r.0.0) (λ (r : GroupId × GroupRow). r.1) (row_of m lines names) (row_of n lines' names') (length m.groups) g ((demand ≡ demand') × (own ≡ own') × (own_names ≡ own_names')) rs
-      (record { 0 = g }, record { demand = demand'; amounts = record { items = map (λ (l : MapLine). (l.place, l.amount)) own' }; names = record { items = map (λ (l : NameLine). (l.place, l.node)) own_names' } }) ss lt refl
-      (rw (is_demand', amounts, nodes) refl)
-      (λ same. to (sym is_demand ∙ same.0 ∙ is_demand') (sym old_amounts ∙ ap (map (λ (l : MapLine). (l.place, l.amount))) same.1 ∙ amounts) (sym old_nodes ∙ ap (map (λ (l : NameLine). (l.place, l.node))) same.2 ∙ nodes))
-      (λ same. (is_demand ∙ ap (λ (r : GroupRow). r.demand) same ∙ sym is_demand',
-        same_lines lines lines' g own own' was.of_lines is.of_lines (ap (λ (r : GroupRow). r.amounts.items) same),
-        same_names names names' g own_names own_names' was.of_names is.of_names (ap (λ (r : GroupRow). r.names.items) same)))
-      step so_far
+    (record { 0 = g }, record { demand = demand'; amounts = record { items = map (λ (l : MapLine). (l.place, l.amount)) own' }; names = record { items = map (λ (l : NameLine). (l.place, l.node)) own_names' } }) ss lt refl
+    (rw (is_demand', amounts, nodes) refl)
+    (λ same. to (sym is_demand ∙ same.0 ∙ is_demand') (sym old_amounts ∙ ap (map (λ (l : MapLine). (l.place, l.amount))) same.1 ∙ amounts) (sym old_nodes ∙ ap (map (λ (l : NameLine). (l.place, l.node))) same.2 ∙ nodes))
+    (λ same. (
+      is_demand ∙ ap (λ (r : GroupRow). r.demand) same ∙ sym is_demand',
+      same_lines lines lines' g own own' was.of_lines is.of_lines (ap (λ (r : GroupRow). r.amounts.items) same),
+      same_names names names' g own_names own_names' was.of_names is.of_names (ap (λ (r : GroupRow). r.names.items) same),
+    ))
+    step so_far
   where
     to : demand_of m g ≡ demand_of n g → amounts_in lines g ≡ amounts_in lines' g → names_in names g ≡ names_in names' g → row_of m lines names g ≡ row_of n lines' names' g
     to a b c = rw (a, b, c) refl

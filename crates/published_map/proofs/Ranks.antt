@@ -34,10 +34,13 @@ shifted rank none x xs (suc j) h some =
 pub rises_by : {X : Type 0} (rank : X → ℕ) (In : X → Type 0) (none : X) (xs : List X) (from : ℕ) → ((i : ℕ) → i < length xs → IsUp rank In none xs i) → (0 < length xs → from ≤ rank (slice_index_or xs 0 none)) → Rises rank In from xs
 rises_by rank In none [] from each low = tt
 rises_by rank In none (x ∷ xs) from each low =
-    let start : from ≤ rank x = low (omega arith) in
-    (start, (each 0 (omega arith)).0, rises_by rank In none xs (rank x + 1)
-      (λ i l. let at = each (suc i) (omega arith) in (at.0, shifted rank none x xs i at.1))
-      (λ some. next some (each 1)))
+    let start : from ≤ rank x = low (omega arith) in (
+      start,
+      (each 0 (omega arith)).0,
+      rises_by rank In none xs (rank x + 1)
+          (λ i l. let at = each (suc i) (omega arith) in (at.0, shifted rank none x xs i at.1))
+          (λ some. next some (each 1)),
+    )
   where
     next : 0 < length xs → (1 < length (x ∷ xs) → IsUp rank In none (x ∷ xs) 1) → rank x + 1 ≤ rank (slice_index_or xs 0 none)
     next some at =
@@ -67,17 +70,17 @@ unfolding of
 few_behind group place n g from [] le r = omega arith
 few_behind group place n g from (x ∷ xs) le r = elim (cases_Bool (group x == g)) [
   | inl e ↦
-    let low : from ≤ group x * 16 + place x = r.0 in
-    let few : place x < 16 = r.1.1 in
-    let same : group x ≡ g = eqb-true (group x) g e in
-    let rest : length (of group g xs) ≤ g * 16 + 16 - (group x * 16 + place x + 1) = few_behind group place n g (group x * 16 + place x + 1) xs (omega (arith, same)) r.2 in
-    let len : length (cond (group x == g) (x ∷ of group g xs) (of group g xs)) ≡ suc (length (of group g xs)) = ap (λ b. length (cond b (x ∷ of group g xs) (of group g xs))) e in
-    omega (arith, same, len, rest)
+      let low : from ≤ group x * 16 + place x = r.0 in
+      let few : place x < 16 = r.1.1 in
+      let same : group x ≡ g = eqb-true (group x) g e in
+      let rest : length (of group g xs) ≤ g * 16 + 16 - (group x * 16 + place x + 1) = few_behind group place n g (group x * 16 + place x + 1) xs (omega (arith, same)) r.2 in
+      let len : length (cond (group x == g) (x ∷ of group g xs) (of group g xs)) ≡ suc (length (of group g xs)) = ap (λ b. length (cond b (x ∷ of group g xs) (of group g xs))) e in
+      omega (arith, same, len, rest)
   | inr e ↦
-    let low : from ≤ group x * 16 + place x = r.0 in
-    let len : length (cond (group x == g) (x ∷ of group g xs) (of group g xs)) ≡ length (of group g xs) = ap (λ b. length (cond b (x ∷ of group g xs) (of group g xs))) e in
-    let lower = Rises-lower (rank_by group place) (IsPlaced group place n) from (group x * 16 + place x + 1) xs (omega arith) r.2 in
-    omega (arith, len, few_behind group place n g from xs le lower)
+      let low : from ≤ group x * 16 + place x = r.0 in
+      let len : length (cond (group x == g) (x ∷ of group g xs) (of group g xs)) ≡ length (of group g xs) = ap (λ b. length (cond b (x ∷ of group g xs) (of group g xs))) e in
+      let lower = Rises-lower (rank_by group place) (IsPlaced group place n) from (group x * 16 + place x + 1) xs (omega arith) r.2 in
+      omega (arith, len, few_behind group place n g from xs le lower)
 ]
 
 -- at most sixteen of it are of one group
@@ -86,13 +89,13 @@ unfolding of
 few group place n g from [] r = omega arith
 few group place n g from (x ∷ xs) r = elim (cases_Bool (group x == g)) [
   | inl e ↦
-    let same : group x ≡ g = eqb-true (group x) g e in
-    let rest : length (of group g xs) ≤ g * 16 + 16 - (group x * 16 + place x + 1) = few_behind group place n g (group x * 16 + place x + 1) xs (omega (arith, same)) r.2 in
-    let len : length (cond (group x == g) (x ∷ of group g xs) (of group g xs)) ≡ suc (length (of group g xs)) = ap (λ b. length (cond b (x ∷ of group g xs) (of group g xs))) e in
-    omega (arith, same, len, rest)
+      let same : group x ≡ g = eqb-true (group x) g e in
+      let rest : length (of group g xs) ≤ g * 16 + 16 - (group x * 16 + place x + 1) = few_behind group place n g (group x * 16 + place x + 1) xs (omega (arith, same)) r.2 in
+      let len : length (cond (group x == g) (x ∷ of group g xs) (of group g xs)) ≡ suc (length (of group g xs)) = ap (λ b. length (cond b (x ∷ of group g xs) (of group g xs))) e in
+      omega (arith, same, len, rest)
   | inr e ↦
-    let len : length (cond (group x == g) (x ∷ of group g xs) (of group g xs)) ≡ length (of group g xs) = ap (λ b. length (cond b (x ∷ of group g xs) (of group g xs))) e in
-    omega (arith, len, few group place n g (group x * 16 + place x + 1) xs r.2)
+      let len : length (cond (group x == g) (x ∷ of group g xs) (of group g xs)) ≡ length (of group g xs) = ap (λ b. length (cond b (x ∷ of group g xs) (of group g xs))) e in
+      omega (arith, len, few group place n g (group x * 16 + place x + 1) xs r.2)
 ]
 
 -- the lines of a map
@@ -101,10 +104,12 @@ lines_rise m market lines form = rises_by (rank_by (λ (l : MapLine). l.group.0)
   where
     at : (i : ℕ) → i < length lines → IsUp (rank_by (λ (l : MapLine). l.group.0) (λ (l : MapLine). l.place)) (IsPlaced (λ (l : MapLine). l.group.0) (λ (l : MapLine). l.place) (length m.groups)) no_line lines i
     at i lt =
-        let here = IsLineAt-from m lines i (form i lt) in
-        ((here.offer.group, few_places m market _ _ here.offer), λ some.
-          let was = IsLineAt-from m lines (i - 1) (form (i - 1) (omega arith)) in
-          rises (slice_index_or lines (i - 1) no_line) (slice_index_or lines i no_line) (here.above some) (few_places m market _ _ was.offer))
+        let here = IsLineAt-from m lines i (form i lt) in (
+          (here.offer.group, few_places m market _ _ here.offer),
+          λ some.
+              let was = IsLineAt-from m lines (i - 1) (form (i - 1) (omega arith)) in
+              rises (slice_index_or lines (i - 1) no_line) (slice_index_or lines i no_line) (here.above some) (few_places m market _ _ was.offer),
+        )
 
 -- a name before another has the lesser rank
 name_rises : (a b : NameLine) → is_name_before a b ≡ true → a.place < 16 → a.group.0 * 16 + a.place < b.group.0 * 16 + b.place
@@ -136,7 +141,9 @@ names_rise m market names form = rises_by (rank_by (λ (l : NameLine). l.group.0
   where
     at : (i : ℕ) → i < length names → IsUp (rank_by (λ (l : NameLine). l.group.0) (λ (l : NameLine). l.place)) (IsPlaced (λ (l : NameLine). l.group.0) (λ (l : NameLine). l.place) (length m.groups)) (record { group = record { 0 = 0 }; place = 0; node = record { 0 = 0 } }) names i
     at i lt =
-        let here = name_form m market names i (form i lt) in
-        ((here.group, here.place), λ some.
-          let was = name_form m market names (i - 1) (form (i - 1) (omega arith)) in
-          name_rises (name_at names (i - 1)) (name_at names i) (here.above some) was.place)
+        let here = name_form m market names i (form i lt) in (
+          (here.group, here.place),
+          λ some.
+              let was = name_form m market names (i - 1) (form (i - 1) (omega arith)) in
+              name_rises (name_at names (i - 1)) (name_at names i) (here.above some) was.place,
+        )

@@ -60,22 +60,22 @@ replaced_rows X key at k o i g row [] is lt = absurd (omega arith)
 replaced_rows X key at k o zero g row (r ∷ rs) is lt =
     let here : g ≡ o = omega arith in
     let low : filter (λ x. nat_lt (key x) o) (at o r ++ in_rows at (suc o) rs) ≡ [] =
-      none_from X key at k (λ n. nat_lt n o) o (λ n le. less_no n o le) (r ∷ rs) in
+    none_from X key at k (λ n. nat_lt n o) o (λ n le. less_no n o le) (r ∷ rs) in
     let own : filter (λ x. nat_lt o (key x)) (at o r) ≡ [] = k.none (λ n. nat_lt o n) o r (less_no o o (omega arith)) in
     let rest : filter (λ x. nat_lt o (key x)) (in_rows at (suc o) rs) ≡ in_rows at (suc o) rs = all_from X key at k (λ n. nat_lt o n) (suc o) (λ n le. less_yes o n (omega arith)) rs in
     let high : filter (λ x. nat_lt o (key x)) (at o r ++ in_rows at (suc o) rs) ≡ in_rows at (suc o) rs =
-      filter-append (λ x. nat_lt o (key x)) (at o r) (in_rows at (suc o) rs) ∙ (ap (λ xs. xs ++ filter (λ x. nat_lt o (key x)) (in_rows at (suc o) rs)) own ∙ rest) in
+    filter-append (λ x. nat_lt o (key x)) (at o r) (in_rows at (suc o) rs) ∙ (ap (λ xs. xs ++ filter (λ x. nat_lt o (key x)) (in_rows at (suc o) rs)) own ∙ rest) in
     let at_o : at o row ++ in_rows at (suc o) rs ≡ filter (λ x. nat_lt (key x) o) (at o r ++ in_rows at (suc o) rs) ++ (at o row ++ filter (λ x. nat_lt o (key x)) (at o r ++ in_rows at (suc o) rs)) =
-      sym (ap (λ xs. xs ++ (at o row ++ filter (λ x. nat_lt o (key x)) (at o r ++ in_rows at (suc o) rs))) low ∙ ap (λ xs. at o row ++ xs) high) in
+    sym (ap (λ xs. xs ++ (at o row ++ filter (λ x. nat_lt o (key x)) (at o r ++ in_rows at (suc o) rs))) low ∙ ap (λ xs. at o row ++ xs) high) in
     subst (λ (n : ℕ). at o row ++ in_rows at (suc o) rs ≡ filter (λ x. nat_lt (key x) n) (at o r ++ in_rows at (suc o) rs) ++ (at n row ++ filter (λ x. nat_lt n (key x)) (at o r ++ in_rows at (suc o) rs))) (sym here) at_o
 replaced_rows X key at k o (suc i) g row (r ∷ rs) is lt =
     let xs = in_rows at (suc o) rs in
     let low : filter (λ x. nat_lt (key x) g) (at o r ++ xs) ≡ at o r ++ filter (λ x. nat_lt (key x) g) xs =
-      filter-append (λ x. nat_lt (key x) g) (at o r) xs ∙ ap (λ ys. ys ++ filter (λ x. nat_lt (key x) g) xs) (k.all (λ n. nat_lt n g) o r (less_yes o g (omega arith))) in
+    filter-append (λ x. nat_lt (key x) g) (at o r) xs ∙ ap (λ ys. ys ++ filter (λ x. nat_lt (key x) g) xs) (k.all (λ n. nat_lt n g) o r (less_yes o g (omega arith))) in
     let high : filter (λ x. nat_lt g (key x)) (at o r ++ xs) ≡ filter (λ x. nat_lt g (key x)) xs =
-      filter-append (λ x. nat_lt g (key x)) (at o r) xs ∙ ap (λ ys. ys ++ filter (λ x. nat_lt g (key x)) xs) (k.none (λ n. nat_lt g n) o r (less_no g o (omega arith))) in
+    filter-append (λ x. nat_lt g (key x)) (at o r) xs ∙ ap (λ ys. ys ++ filter (λ x. nat_lt g (key x)) xs) (k.none (λ n. nat_lt g n) o r (less_no g o (omega arith))) in
     let deeper : in_rows at (suc o) (slice_set rs i row) ≡ filter (λ x. nat_lt (key x) g) xs ++ (at g row ++ filter (λ x. nat_lt g (key x)) xs) =
-      replaced_rows X key at k (suc o) i g row rs (omega arith) (omega arith) in
+    replaced_rows X key at k (suc o) i g row rs (omega arith) (omega arith) in
     ap (λ ys. at o r ++ ys) deeper
     ∙ (sym (append_assoc (at o r) (filter (λ x. nat_lt (key x) g) xs) (at g row ++ filter (λ x. nat_lt g (key x)) xs))
     ∙ sym (ap (λ ys. ys ++ (at g row ++ filter (λ x. nat_lt g (key x)) (at o r ++ xs))) low ∙ ap (λ ys. (at o r ++ filter (λ x. nat_lt (key x) g) xs) ++ (at g row ++ ys)) high))

@@ -16,5 +16,5 @@ loop-number-preserved c =
     let old : c.capacity.result ≡ capacity_of c.args.old.now n = c.capacity.ensures in
     let new : c.capacity-in-loop-number.result ≡ capacity_of c.args.new.now n = c.capacity-in-loop-number.ensures in
     gathered (λ (n : NodeId × ℕ). n.0.0) (λ (n : NodeId × ℕ). n.1) (capacity_of c.args.old.now) (capacity_of c.args.new.now) (length c.args.old.now.nodes) n
-      (c.capacity.result ≡ c.capacity-in-loop-number.result) c.loop-number.nodes.items (record { 0 = n }, c.capacity-in-loop-number.result) c.push_capacity.new.nodes.items lt refl new
-      (λ same. sym old ∙ same ∙ new) (λ same. old ∙ same ∙ sym new) c.in_ok-push_capacity.ensures c.loop-number.invariant
+    (c.capacity.result ≡ c.capacity-in-loop-number.result) c.loop-number.nodes.items (record { 0 = n }, c.capacity-in-loop-number.result) c.push_capacity.new.nodes.items lt refl new
+    (λ same. sym old ∙ same ∙ new) (λ same. old ∙ same ∙ sym new) c.in_ok-push_capacity.ensures c.loop-number.invariant

@@ -11,7 +11,7 @@ use Rattle.published_map.proofs.delta.changed_rows.Goals as goal
 pub loop-number-init : goal.loop-number-init
 loop-number-init c = record {
   changed = subst (RowsChanged c.args.old.now c.args.old_map.now.lines.items c.args.old_map.now.names.items c.args.new.now c.args.new_map.now.lines.items c.args.new_map.now.names.items 0) (sym c.new-groups.ensures.items)
-    (none_yet (λ (r : GroupId × GroupRow). r.0.0) (λ (r : GroupId × GroupRow). r.1) (row_of c.args.old.now c.args.old_map.now.lines.items c.args.old_map.now.names.items) (row_of c.args.new.now c.args.new_map.now.lines.items c.args.new_map.now.names.items) (length c.args.old.now.groups));
+      (none_yet (λ (r : GroupId × GroupRow). r.0.0) (λ (r : GroupId × GroupRow). r.1) (row_of c.args.old.now c.args.old_map.now.lines.items c.args.old_map.now.names.items) (row_of c.args.new.now c.args.new_map.now.lines.items c.args.new_map.now.names.items) (length c.args.old.now.groups));
   old_left = rw (c.whole-old_rest.ensures.lines, c.whole-old_rest.ensures.names) (starts c.args.old_map.now.lines.items c.args.old_map.now.names.items);
   new_left = rw (c.whole-new_rest.ensures.lines, c.whole-new_rest.ensures.names) (starts c.args.new_map.now.lines.items c.args.new_map.now.names.items);
 }

@@ -25,7 +25,7 @@ whole c =
     let capacities : c.in_ok-capacities.capacities.items ≡ capacities_of c.args.instance.now = c.in_ok-capacities.ensures in
     let p = plan_of (arc_value c.args.shared) in
     rw (rows, capacities) (put_together c.args.serial p p.market c.args.instance.now c.args.map.now.lines.items c.args.map.now.names.items c.groups.ensures.market
-      (IsMapForm-IsGood c.args.instance.now c.groups.ensures.market c.args.map.now.lines.items c.args.map.now.names.items c.requires.good) c.requires.shape)
+    (IsMapForm-IsGood c.args.instance.now c.groups.ensures.market c.args.map.now.lines.items c.args.map.now.names.items c.requires.good) c.requires.shape)
 
 pub returns-clause-value : goal.returns-clause-value
 returns-clause-value c = whole c
