@@ -8,3 +8,6 @@ mod repairing;
 
 pub use asked::Asked;
 pub use repairing::{repair, resume};
+
+#[cfg(test)]
+mod tests;
