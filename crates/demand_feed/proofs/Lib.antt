@@ -4,3 +4,6 @@ mod Spaces
 mod FileLines
 pub mod Fronts
 pub mod Items
+mod Tellings
+pub mod Worked
+pub mod Ends

@@ -10,3 +10,6 @@ pub mod Clerk
 pub mod Texts
 pub mod Changes
 pub mod ChangesTexts
+pub mod Taking
+pub mod Runs
+pub mod Working
