@@ -1,13 +1,14 @@
 //! The units that offers hold.
 ghost use Rattle.std.specs.Prelude.{◌≡◌, ◌+◌, ◌<◌, ◌≤◌, ◌^◌, length, IfOk, OnOk, OnErr, MatchOption};
+ghost use Rattle.map_model.specs.Market.{IsMarket, choice_at};
 ghost use Rattle.map_model.specs.Allocation.{AreLines, IsOffer, amount_at, load};
-ghost use Rattle.map_model.specs.Holding.{IsWorst, Puts, Takes};
+ghost use Rattle.map_model.specs.Holding.{IsWorst, IsWorstKey, Puts, Takes};
 ghost use Rattle.offer_pool.specs.Holdings.{Holdings};
 
 use crate::filing::{empty_queues, place_at};
 use crate::queue::Queue;
 use crate::table::{lines_of, put_lines, put_units, take_units};
-use map_model::{Instance, MapLine, MapLines, NodeId, Offer, Units};
+use map_model::{Instance, Key, MapLine, MapLines, NodeId, Offer, Units};
 use no_memory::NoMemory;
 use std::alloc::Global;
 use std::marker::Model;
@@ -36,7 +37,8 @@ impl Held {
     /// Holds the lines of a map of this instance.
     pub fn build(alloc: Global, instance: &Instance, map: &MapLines) -> Result<Held, NoMemory>
         requires { AreLines instance.now map.now.lines.items }
-        ensures { IfOk result (λ held. held ≡ record { market = instance.now; lines = map.now.lines.items }) }
+        ensures held { IfOk result (λ held. held ≡ record { market = instance.now; lines = map.now.lines.items }) }
+        ensures market { IfOk result (λ held. IsMarket held.market) }
     {
         let mut amounts = vec![in alloc; 0u32; instance.groups() as usize * 16]?;
         let mut queues = empty_queues(alloc, instance.nodes())?;
@@ -88,6 +90,14 @@ impl Held {
         );
     }
 
+    /// The pool of an offer.
+    pub fn pool_at(&self, offer: Offer) -> NodeId
+        requires { IsOffer self.now.market offer.group.0 offer.place }
+        ensures { result ≡ (choice_at self.now.market offer.group.0 offer.place).pool }
+    {
+        self.instance.pool_at(offer)
+    }
+
     /// The units that an offer holds.
     pub fn units(&self, offer: Offer) -> Units
         requires { IsOffer self.now.market offer.group.0 offer.place }
@@ -111,6 +121,18 @@ impl Held {
                 };
                 Some((offer, self.units(offer)))
             }
+            None => None,
+        }
+    }
+
+    /// The key of the worst held offer under a node; None exactly where nothing is held there. It looks at the queue of the node alone.
+    pub fn worst_key(&self, node: NodeId) -> Option<Key>
+        requires { node.0 < length self.now.market.nodes }
+        ensures worst { MatchOption result (load self.now.market self.now.lines node.0 ≡ 0) (λ key. IsWorstKey self.now.market self.now.lines node.0 key) }
+        ensures form { AreLines self.now.market self.now.lines }
+    {
+        match self.queues[node.0 as usize].worst() {
+            Some(seat) => Some(seat.key()),
             None => None,
         }
     }
