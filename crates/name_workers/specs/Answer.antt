@@ -1,18 +1,17 @@
--- The replies of the stand-in versions.
-use Rattle.std.specs.Prelude.{ℕ, ◌%◌, Bool, true, false, List, [], ◌∷◌, Option, None, Some}
+-- The replies of versions: the stated replies, behind words that hide how they are made.
+use Rattle.std.specs.Prelude.{ℕ, Bool, List, Option}
 use Rattle.addr_text.specs.declared.address.Addr.{Addr}
+use Rattle.answer_core.specs.Reply as stated
 use Rattle.published_map.specs.Version.{Version}
 use Rattle.lane_model.specs.Lanes.{Answers}
 
--- octets are silent where there are none
-abbrev pub is_silent : List ℕ → Bool
-is_silent [] = true
-is_silent (o ∷ octets) = false
+-- octets that have no reply
+unfoldable pub is_silent : List ℕ → Bool
+is_silent octets = stated.is_silent octets
 
--- the reply: the first octet, the serial's last octet, and the draw's
-abbrev pub reply_of : Version → Addr → List ℕ → ℕ → Option (List ℕ)
-reply_of v from [] draw = None
-reply_of v from (o ∷ octets) draw = Some (o ∷ v.serial % 256 ∷ draw % 256 ∷ [])
+-- the stated reply of a version to octets from an address, with a draw
+unfoldable pub reply_of : Version → Addr → List ℕ → ℕ → Option (List ℕ)
+reply_of v from octets draw = stated.reply_of v from octets draw
 
 abbrev pub replies : Answers Version
 replies = record { reply = reply_of; silent = is_silent }

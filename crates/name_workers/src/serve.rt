@@ -14,7 +14,7 @@ use addr_text::Peer;
 use arrayvec::ArrayVec;
 use map_cell::{CellFault, Door, Naming, Note};
 use lane_model::Ended;
-use outside::{Arrival, Gate, Notes, Port, Sending, Turning};
+use outside::{Arrival, Gate, LARGEST_DATAGRAM, Notes, Port, Sending, Turning};
 
 /// What became of a datagram.
 #[derive(Clone, Copy)]
@@ -96,7 +96,7 @@ fn take_one<J: Naming, P: Port, D: Door>(
     worker: &mut Worker<J>,
     port: &mut P,
     door: &mut D,
-    buffer: &mut [u8; 4096],
+    buffer: &mut [u8; LARGEST_DATAGRAM],
 ) -> Step
     ensures taken { IsTaken worker.old.number worker.old.count worker.new.count result
         (record { seen = worker.old.viewer.seen; told = worker.old.viewer.told; looks = D.looks door.old; greatest = D.greatest door.old; faults = D.faults door.old })
@@ -121,7 +121,7 @@ fn one_turn<J: Naming, P: Port, G: Gate, D: Door, N: Notes<Note = Note<J>>>(
     gate: &mut G,
     door: &mut D,
     notes: &mut N,
-    buffer: &mut [u8; 4096],
+    buffer: &mut [u8; LARGEST_DATAGRAM],
 ) -> Step
     ensures turned { IsTurned (λ n. length n.front - 1) worker.old.number result
         (record { port = P.told port.old; gate = G.told gate.old; notes = N.told notes.old; eyes = record { seen = worker.old.viewer.seen; told = worker.old.viewer.told; looks = D.looks door.old; greatest = D.greatest door.old; faults = D.faults door.old }; count = worker.old.count; port_faults = P.faults port.old; gate_faults = G.faults gate.old })
@@ -165,7 +165,7 @@ fn serve_turns<J: Naming, P: Port, G: Gate, D: Door, N: Notes<Note = Note<J>>>(
         (record { port = P.told port.old; gate = G.told gate.old; notes = N.told notes.old; eyes = record { seen = worker.old.viewer.seen; told = worker.old.viewer.told; looks = D.looks door.old; greatest = D.greatest door.old; faults = D.faults door.old }; count = worker.old.count; port_faults = P.faults port.old; gate_faults = G.faults gate.old })
         (record { port = P.told port.new; gate = G.told gate.new; notes = N.told notes.new; eyes = record { seen = worker.new.viewer.seen; told = worker.new.viewer.told; looks = D.looks door.new; greatest = D.greatest door.new; faults = D.faults door.new }; count = worker.new.count; port_faults = P.faults port.new; gate_faults = G.faults gate.new }) result }
 {
-    let mut buffer = [0u8; 4096];
+    let mut buffer = [0u8; LARGEST_DATAGRAM];
     let mut failed = 0u8;
     for _ in 0..turns {
         let step = one_turn(worker, port, gate, door, notes, &mut buffer);
