@@ -129,7 +129,7 @@ impl<J: Naming> Worker<J> {
         let (text, serial) = door.look(
             &mut self.viewer,
             |m: &MapVersion| -> (ArrayVec<u8, 512>, u64)
-                requires { IsVersion m.now × (is_silent octets.entry.now ≡ false) }
+                requires { IsVersion m.now × (is_silent octets.now ≡ false) }
                 ensures { (reply_of m.now from octets.entry.now draw ≡ Some result.0.items) × (length result.0.items ≤ 512) × (result.1 ≡ m.now.serial) }
             { (reply_by(m, from, octets, draw), m.serial()) },
         )?;
