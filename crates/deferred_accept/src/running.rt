@@ -4,7 +4,7 @@ ghost use Rattle.evict.specs.Standing.{IsReady};
 ghost use Rattle.deferred_accept.specs.Runs.{HasProposed, HasRun, WantsBefore, most_proposals};
 ghost use Rattle.deferred_accept.specs.Spreading.{HoldsWork, StaysInside};
 
-use crate::work::{next_offer, wake};
+use crate::work::{add_again, next_offer, wake};
 use crate::work_list::WorkList;
 use evict::{Freed, State};
 use map_model::{Instance, Steps};
@@ -36,10 +36,11 @@ pub fn run<L>(
     let mut freed = Freed::new(alloc);
     let mut work = WorkList::all(alloc, instance)?;
     while let Some(offer) = next_offer(instance, state, &mut work) {
-        work.add(offer.group)?;
         let units = state.free(offer.group);
         state.put(instance, offer, units, &mut freed, steps)?;
-        wake(&mut work, freed.evictions())?;
+        let given_up = freed.evictions();
+        add_again(&mut work, offer.group, given_up)?;
+        wake(&mut work, given_up)?;
     }
     Ok(())
 }

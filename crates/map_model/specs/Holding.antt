@@ -29,6 +29,10 @@ pub record IsWorst (m : Market) (lines : List MapLine) (n g k units : ℕ) : Typ
   pub held : amount_at lines g k ≡ units
   pub worst : units_of (under_worse m n (key_of m g k)) lines ≡ 0
 
+-- the key of the worst held offer under a node
+abbrev pub IsWorstKey : Market → List MapLine → ℕ → Key → Type 0
+IsWorstKey m lines n key = (g : ℕ) × (k : ℕ) × (units : ℕ) × IsWorst m lines n g k units × (key_of m g k ≡ key)
+
 -- the node is full of units ranked at least as high as a key, whatever else it holds
 abbrev pub IsSaturated : Market → List MapLine → ℕ → Key → Type 0
 IsSaturated m lines n key = capacity_of m n ≤ units_of (under_within m n key) lines

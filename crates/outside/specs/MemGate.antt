@@ -1,5 +1,5 @@
 -- What gates in memory hold.
-use Rattle.std.specs.Prelude.{ℕ, ◌+◌}
+use Rattle.std.specs.Prelude.{ℕ}
 use Rattle.outside.specs.Gate.{GateTold, Shown}
 use Rattle.outside.specs.declared.mem_gate.MemShown.{MemShown}
 

@@ -1,5 +1,5 @@
 -- What notes in memory hold.
-use Rattle.std.specs.Prelude.{◌≡◌, ℕ, ◌≤◌, List, map, IsSomeAnd, slice_get}
+use Rattle.std.specs.Prelude.{ℕ, ◌≤◌, List, map, IsSomeAnd, slice_get}
 use Rattle.outside.specs.Notes.{NotesTold}
 use Rattle.outside.specs.declared.mem_notes.Due.{Due}
 

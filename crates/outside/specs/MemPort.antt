@@ -1,12 +1,12 @@
 -- What a port in memory holds.
-use Rattle.std.specs.Prelude.{◌≡◌, ℕ, ◌+◌, ◌≤◌, ◌⊎◌, Bool, true, false, List, [], length, Contains}
+use Rattle.std.specs.Prelude.{◌≡◌, ℕ, ◌+◌, ◌≤◌, ◌⊎◌, Bool, true, false, length, Contains}
 use Rattle.outside.specs.Calls.{Counted}
 use Rattle.outside.specs.Port.{Packet, Taken, Try, PortTold}
 use Rattle.outside.specs.declared.mem_port.MemPacket.{MemPacket}
 use Rattle.outside.specs.declared.mem_port.MemTaken.{MemTaken}
 use Rattle.outside.specs.declared.mem_port.MemTry.{MemTry}
 use Rattle.outside.specs.declared.port.Arrival.{Arrival}
-use Rattle.outside.specs.declared.port.Arrival.TheVariants.{Arrived, Idle, Oversize, End, Failed}
+use Rattle.outside.specs.declared.port.Arrival.TheVariants.{Failed}
 use Rattle.outside.specs.declared.port.Opening.{Opening}
 use Rattle.outside.specs.declared.port.Opening.TheVariants as opening
 

@@ -1,9 +1,9 @@
 -- What a source in memory holds.
-use Rattle.std.specs.Prelude.{◌≡◌, ℕ, ◌+◌, ◌≤◌, Bool, true, false, List, [], ◌∷◌, length, min, max, take, drop, Option, ◌⊎◌, Contains}
+use Rattle.std.specs.Prelude.{◌≡◌, ℕ, ◌+◌, Bool, true, false, List, [], ◌∷◌, length, min, max, take, drop, Option, Contains}
 use Rattle.outside.specs.Calls.{Counted}
 use Rattle.outside.specs.Source.{Fed}
 use Rattle.outside.specs.declared.source.Read.{Read}
-use Rattle.outside.specs.declared.source.Read.TheVariants.{Got, End, Failed}
+use Rattle.outside.specs.declared.source.Read.TheVariants.{Got, Failed}
 
 -- a source in memory: the bytes that are left, the sizes of the next pieces, the pieces that it gave, the shortest buffer, whether it has said that it ended, and its calls
 pub record SourceInMemory : Type 0 where

@@ -35,8 +35,8 @@ loop-offer-preserved g c =
     record {
       run = run_step m c.args.state.now c.loop-offer.state c.put.new.self o.group.0 o.place c.free-units.result c.put.new.freed c.loop-offer.invariant.run can c.in_ok-put.ensures.put;
       covered = covers_step m c.loop-offer.state c.put.new.self o.group.0 o.place c.free-units.result c.put.new.freed c.next_offer.new.work c.wake.new.work c.in-Some.ensures.covered c.in_ok-put.ensures.put c.in-Some.ensures.due.waiting.group
-          (c.in_ok-wake.ensures.count ∙ ap length c.in_ok-add.ensures ∙ length-set c.next_offer.new.work o.group.0 true)
-          (λ h l. c.in_ok-wake.ensures.each h (omega (arith, ap length c.in_ok-add.ensures, length-set c.next_offer.new.work o.group.0 true)) ∙ ap (λ ws. is_on ws h || gave_any c.evictions.result.now h) c.in_ok-add.ensures ∙ ap (λ f. is_on (slice_set c.next_offer.new.work o.group.0 true) h || gave_any f h) c.evictions.ensures);
+          (c.in_ok-wake.ensures.count ∙ ap length c.in_ok-add_again.ensures ∙ length-set c.next_offer.new.work o.group.0 true)
+          (λ h l. c.in_ok-wake.ensures.each h (omega (arith, ap length c.in_ok-add_again.ensures, length-set c.next_offer.new.work o.group.0 true)) ∙ ap (λ ws. is_on ws h || gave_any c.evictions-given_up.result.now h) c.in_ok-add_again.ensures ∙ ap (λ f. is_on (slice_set c.next_offer.new.work o.group.0 true) h || gave_any f h) c.evictions-given_up.ensures);
       counted = counted_step _ _ c.loop-offer.steps c.put.new.steps _ _ _ c.in_ok-put.ensures.steps less c.loop-offer.invariant.counted;
       proposed = proposed_more m c.args.state.now c.loop-offer.state c.put.new.self o.group.0 o.place c.free-units.result c.put.new.freed c.args.steps.now c.loop-offer.steps c.put.new.steps c.loop-offer.invariant.proposed c.in-Some.ensures.due.waiting c.in-Some.ensures.due.pointer c.free-units.ensures c.in_ok-put.ensures.put c.in_ok-put.ensures.steps;
       later = omega (arith, c.loop-offer.invariant.later, c.put.ensures.later);
