@@ -14,14 +14,13 @@ mod ending;
 mod files;
 mod glb;
 mod map;
-mod real;
 mod status;
 mod text;
 mod words;
 
 pub use glb::glb;
+use edges::{FileShelf, StreamSink};
 use no_memory::NoMemory;
-use real::{FileShelf, StreamSink};
 pub use status::Status;
 use std::env;
 use std::io::{self, ErrorKind};

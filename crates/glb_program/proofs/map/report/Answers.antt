@@ -8,12 +8,10 @@ pub returns : goal.returns
 returns c =
     let map = c.in_ok-map.map in
     record {
-      mapped = record {
-        status = refl;
-        text = (
-          mapped map,
-          subst (λ (m : Market). IsGood m map.lines.items map.names.items) c.instance.ensures.instance c.in_ok-map.ensures.good,
-          ap (λ (text : List ℕ). text ∷ []) c.in_ok-text.ensures.text,
-        );
-      };
+      status = refl;
+      text = (
+        mapped map,
+        subst (λ (m : Market). IsGood m map.lines.items map.names.items) c.instance.ensures.instance c.in_ok-map.ensures.good,
+        ap (λ (text : List ℕ). text ∷ []) c.in_ok-text.ensures.text,
+      );
     }
