@@ -5,15 +5,21 @@ use Rattle.big_world.specs.Numbers.{behind, draw}
 use Rattle.big_world.specs.Pieces.{ahead, pieces}
 use Rattle.big_world.specs.Topology.{ahead_of_feed, line, pool_name, regions_of}
 
--- a line, drawn behind x: another demand of a group, 1 to 15, or another capacity of a pool, 0 to 29
+-- another demand of a group, 1 to 15, drawn behind x
+abbrev pub demand_text : ℕ → ℕ → List ℕ
+demand_text n x = line (codes "demand g" ++ decimal (draw x 1 n) ++ codes " " ++ decimal (1 + draw x 2 15))
+
+-- another capacity of a pool, 0 to 29, drawn behind x
+abbrev pub capacity_text : ℕ → ℕ → List ℕ
+capacity_text n x = line (codes "capacity " ++ pool_name (draw x 1 (regions_of n)) (draw x 2 4) ++ codes " " ++ decimal (draw x 3 30))
+
+-- a line, drawn behind x: the first draw says of which kind it is
 unfoldable pub change_text : ℕ → ℕ → List ℕ
-change_text n x =
-    if draw x 1 2 == 0 then line (codes "demand g" ++ decimal (draw x 2 n) ++ codes " " ++ decimal (1 + draw x 3 15))
-    else line (codes "capacity " ++ pool_name (draw x 2 (regions_of n)) (draw x 3 4) ++ codes " " ++ decimal (draw x 4 30))
+change_text n x = if draw x 1 2 == 0 then demand_text n (behind x 1) else capacity_text n (behind x 1)
 
 -- what stands behind a line
 unfoldable pub behind_change : ℕ → ℕ
-behind_change x = if draw x 1 2 == 0 then behind x 3 else behind x 4
+behind_change x = if draw x 1 2 == 0 then behind (behind x 1) 2 else behind (behind x 1) 3
 
 -- a batch: four lines and its end
 unfoldable pub batch_text : ℕ → ℕ → List ℕ

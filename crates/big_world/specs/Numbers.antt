@@ -1,5 +1,5 @@
 -- The numbers that a world is drawn from.
-use Rattle.std.specs.Prelude.{ℕ, suc, ◌+◌, ◌*◌, ◌/◌, ◌%◌, ◌^◌}
+use Rattle.std.specs.Prelude.{ℕ, zero, suc, ◌+◌, ◌*◌, ◌/◌, ◌%◌, ◌^◌}
 
 -- the number behind a number: Knuth's linear congruential generator of 64 bits
 unfoldable pub next : ℕ → ℕ
@@ -7,7 +7,7 @@ next x = (6364136223846793005 * x + 1442695040888963407) % 2 ^ 64
 
 -- the k-th number behind a number
 abbrev pub behind : ℕ → ℕ → ℕ
-behind x 0 = x
+behind x zero = x
 behind x (suc k) = next (behind x k)
 
 -- the k-th draw behind a number, counted from 1: a number below m from its upper 31 bits

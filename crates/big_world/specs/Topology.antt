@@ -1,7 +1,7 @@
 -- The topology of a world of n groups.
 use Rattle.std.specs.Prelude.{ℕ, ◌+◌, ◌*◌, ◌/◌, ◌%◌, ◌==◌, ◌++◌, List, [], ◌∷◌, min, codes, if◌then◌else◌}
 use Rattle.std.specs.Fmt.{decimal}
-use Rattle.big_world.specs.declared.TheConstants.{ZONE}
+use Rattle.big_world.specs.declared.regions.TheConstants.{ZONE}
 use Rattle.big_world.specs.Numbers.{behind, draw}
 use Rattle.big_world.specs.Pieces.{ahead, listed, pieces, texts_below}
 
@@ -27,15 +27,29 @@ region_name i = codes "r" ++ decimal i
 abbrev pub pool_name : ℕ → ℕ → List ℕ
 pool_name i j = region_name i ++ codes "-" ++ decimal j
 
+-- the lines of a node: the name of a region, the name of a pool, its parent, a capacity, and the address of a pool
+unfoldable pub region_line : ℕ → List ℕ
+region_line i = line (codes "name = " ++ quoted (region_name i))
+
+unfoldable pub pool_line : ℕ → ℕ → List ℕ
+pool_line i j = line (codes "name = " ++ quoted (pool_name i j))
+
+unfoldable pub parent_line : ℕ → List ℕ
+parent_line i = line (codes "parent = " ++ quoted (region_name i))
+
+unfoldable pub capacity_line : ℕ → List ℕ
+capacity_line capacity = line (codes "capacity = " ++ decimal capacity)
+
+unfoldable pub address_line : ℕ → ℕ → List ℕ
+address_line i j = line (codes "a = [" ++ quoted (codes "10." ++ decimal (i / 256) ++ codes "." ++ decimal (i % 256) ++ codes "." ++ decimal (j + 1)) ++ codes "]")
+
 -- pool j of region i, of that capacity
 unfoldable pub pool_text : ℕ → ℕ → ℕ → List ℕ
-pool_text i j capacity =
-    line (codes "[[node]]") ++ line (codes "name = " ++ quoted (pool_name i j)) ++ line (codes "parent = " ++ quoted (region_name i)) ++ line (codes "capacity = " ++ decimal capacity)
-    ++ line (codes "pool = true") ++ line (codes "a = [" ++ quoted (codes "10." ++ decimal (i / 256) ++ codes "." ++ decimal (i % 256) ++ codes "." ++ decimal (j + 1)) ++ codes "]")
+pool_text i j capacity = line (codes "[[node]]") ++ pool_line i j ++ parent_line i ++ capacity_line capacity ++ line (codes "pool = true") ++ address_line i j
 
 -- region i of that capacity
 unfoldable pub inner_text : ℕ → ℕ → List ℕ
-inner_text i capacity = line (codes "[[node]]") ++ line (codes "name = " ++ quoted (region_name i)) ++ line (codes "capacity = " ++ decimal capacity)
+inner_text i capacity = line (codes "[[node]]") ++ region_line i ++ capacity_line capacity
 
 -- region i and its four pools, drawn behind x: the region holds 40 to 79, a pool 10 to 29
 unfoldable pub region_text : ℕ → ℕ → List ℕ
@@ -57,12 +71,28 @@ list_text n s = listed (λ t. quoted (pool_name ((s + t) % pools_of n / 4) ((s +
 unfoldable pub scores_text : ℕ → ℕ → List ℕ
 scores_text x = listed (λ t. decimal (draw x (1 + t) 1000))
 
+-- the lines of a group: its name, and its demand
+unfoldable pub group_line : ℕ → List ℕ
+group_line i = line (codes "name = " ++ quoted (codes "g" ++ decimal i))
+
+unfoldable pub demand_line : ℕ → List ℕ
+demand_line demand = line (codes "demand = " ++ decimal demand)
+
+-- the lines of group i ahead of its list
+unfoldable pub head_text : ℕ → ℕ → List ℕ
+head_text i demand = line (codes "[[group]]") ++ group_line i ++ demand_line demand
+
+-- the lines of a list of so many pools that starts at pool s, with scores drawn behind x
+unfoldable pub lists_text : ℕ → ℕ → ℕ → ℕ → List ℕ
+lists_text n s length x = line (codes "pools = [" ++ list_text n s length ++ codes "]") ++ line (codes "scores = [" ++ scores_text x length ++ codes "]")
+
+-- the line of the prefixes of group i
+unfoldable pub prefixes_line : ℕ → List ℕ
+prefixes_line i = line (codes "prefixes = [" ++ prefixes_text i ++ codes "]")
+
 -- group i, drawn behind x: demand 1 to 15, the length of its list, where it starts, and its scores
 unfoldable pub group_text : ℕ → ℕ → ℕ → List ℕ
-group_text n i x =
-    line (codes "[[group]]") ++ line (codes "name = " ++ quoted (codes "g" ++ decimal i)) ++ line (codes "demand = " ++ decimal (1 + draw x 1 15))
-    ++ line (codes "pools = [" ++ list_text n (draw x 3 (pools_of n)) (length_at n x) ++ codes "]") ++ line (codes "scores = [" ++ scores_text (behind x 3) (length_at n x) ++ codes "]")
-    ++ line (codes "prefixes = [" ++ prefixes_text i ++ codes "]")
+group_text n i x = head_text i (1 + draw x 1 15) ++ lists_text n (draw x 3 (pools_of n)) (length_at n x) (behind x 3) ++ prefixes_line i
 
 -- what stands behind a region, and behind a group
 abbrev pub behind_region : ℕ → ℕ

@@ -3,6 +3,7 @@ ghost use Rattle.std.specs.Prelude.{◌≡◌, ◌<◌};
 ghost use Rattle.big_world.specs.Numbers.{behind, draw, next};
 
 /// A linear congruential generator of 64 bits, by the number that it made last.
+#[derive(Drop)]
 pub struct Draws {
     pub last: u64,
 }

@@ -1,11 +1,12 @@
 //! The feed.
-ghost use Rattle.std.specs.Prelude.{◌≡◌, ◌≤◌, ◌++◌, codes, IfOk, OnOk, string_bytes};
+ghost use Rattle.std.specs.Prelude.{◌≡◌, ◌≤◌, ◌++◌, codes, OnOk};
+ghost use Rattle.big_world.specs.Numbers.{behind};
 ghost use Rattle.big_world.specs.Pieces.{ahead, pieces};
-ghost use Rattle.big_world.specs.Feed.{batch_text, behind_batch, behind_change, change_text};
+ghost use Rattle.big_world.specs.Feed.{batch_text, behind_batch, behind_change, capacity_text, change_text, demand_text};
 ghost use Rattle.big_world.specs.Topology.{line};
 
 use crate::draws::Draws;
-use crate::regions::regions_of;
+use crate::regions::{push_number, regions_of};
 use no_memory::NoMemory;
 use std::alloc::Global;
 
@@ -15,23 +16,64 @@ const BATCHES: u32 = 16;
 /// How many lines a batch has.
 const LINES: u32 = 4;
 
+/// Another demand of a group.
+fn push_demand(
+    alloc: Global,
+    text: &mut Vec<u8>,
+    draws: &mut Draws,
+    groups: u32,
+) -> Result<(), NoMemory>
+    requires { 1 ≤ groups }
+    ensures text { OnOk result (text.new.items ≡ text.old.items ++ demand_text groups draws.old.last) }
+    ensures last { OnOk result (draws.new.last ≡ behind draws.old.last 2) }
+{
+    text.extend_from_slice(b"demand g")?;
+    let group = draws.below(groups);
+    push_number(alloc, text, group, b" ")?;
+    let demand = 1 + draws.below(15);
+    push_number(alloc, text, demand, b"\n")?;
+    Ok(())
+}
+
+/// Another capacity of a pool.
+fn push_capacity(
+    alloc: Global,
+    text: &mut Vec<u8>,
+    draws: &mut Draws,
+    groups: u32,
+) -> Result<(), NoMemory>
+    requires { groups ≤ 16384 }
+    ensures text { OnOk result (text.new.items ≡ text.old.items ++ capacity_text groups draws.old.last) }
+    ensures last { OnOk result (draws.new.last ≡ behind draws.old.last 3) }
+{
+    text.extend_from_slice(b"capacity r")?;
+    let region = draws.below(regions_of(groups));
+    push_number(alloc, text, region, b"-")?;
+    let pool = draws.below(4);
+    push_number(alloc, text, pool, b" ")?;
+    let capacity = draws.below(30);
+    push_number(alloc, text, capacity, b"\n")?;
+    Ok(())
+}
+
 /// A line.
 #[tactic(auto, unfolding(crate::specs::Feed::change_text, crate::specs::Feed::behind_change))]
-fn change_text(alloc: Global, draws: &mut Draws, groups: u32) -> Result<String, NoMemory>
+fn push_change(
+    alloc: Global,
+    text: &mut Vec<u8>,
+    draws: &mut Draws,
+    groups: u32,
+) -> Result<(), NoMemory>
     requires some { 1 ≤ groups }
     requires most { groups ≤ 16384 }
-    ensures text { IfOk result (λ t. string_bytes t ≡ change_text groups draws.old.last) }
+    ensures text { OnOk result (text.new.items ≡ text.old.items ++ change_text groups draws.old.last) }
     ensures last { OnOk result (draws.new.last ≡ behind_change draws.old.last) }
 {
     if draws.below(2) == 0 {
-        let group = draws.below(groups);
-        let demand = 1 + draws.below(15);
-        return Ok(format!(in alloc; "demand g{group} {demand}\n")?);
+        push_demand(alloc, text, draws, groups)
+    } else {
+        push_capacity(alloc, text, draws, groups)
     }
-    let region = draws.below(regions_of(groups));
-    let pool = draws.below(4);
-    let capacity = draws.below(30);
-    Ok(format!(in alloc; "capacity r{region}-{pool} {capacity}\n")?)
 }
 
 /// A batch.
@@ -48,8 +90,7 @@ fn push_batch(
     ensures last { OnOk result (draws.new.last ≡ behind_batch draws.old.last) }
 {
     for _line in 0..LINES {
-        let made = change_text(alloc, draws, groups)?;
-        text.extend_from_slice(made.as_bytes())?;
+        push_change(alloc, text, draws, groups)?;
     }
     text.extend_from_slice(b"commit\n")?;
     Ok(())

@@ -1,12 +1,11 @@
 //! The groups.
-ghost use Rattle.std.specs.Prelude.{◌≡◌, ◌≤◌, ◌<◌, ◌+◌, ◌/◌, ◌%◌, ◌==◌, ◌++◌, [], ◌∷◌, if◌then◌else◌, codes, IfOk, OnOk, string_bytes};
-ghost use Rattle.std.specs.Fmt.{decimal};
+ghost use Rattle.std.specs.Prelude.{◌≡◌, ◌≤◌, ◌<◌, ◌+◌, ◌/◌, ◌%◌, ◌==◌, ◌++◌, [], ◌∷◌, if◌then◌else◌, IfOk, OnOk, string_bytes};
 ghost use Rattle.big_world.specs.Numbers.{behind};
 ghost use Rattle.big_world.specs.Pieces.{ahead, pieces};
-ghost use Rattle.big_world.specs.Topology.{behind_group, group_text, line, list_text, pool_name, pools_of, prefixes_text, quoted, scores_text};
+ghost use Rattle.big_world.specs.Topology.{behind_group, demand_line, group_line, group_text, head_text, list_text, lists_text, pool_name, pools_of, prefixes_line, prefixes_text, quoted, scores_text};
 
 use crate::draws::Draws;
-use crate::regions::regions_of;
+use crate::regions::{push_number, regions_of};
 use no_memory::NoMemory;
 use std::alloc::Global;
 
@@ -78,8 +77,8 @@ fn push_scores(
 {
     for place in 0..length {
         push_comma(text, place)?;
-        let made = draws.below(1000).to_string(alloc)?;
-        text.extend_from_slice(made.as_bytes())?;
+        let score = draws.below(1000);
+        push_number(alloc, text, score, b"")?;
     }
     Ok(())
 }
@@ -98,12 +97,66 @@ fn prefixes_text(alloc: Global, group: u32) -> Result<String, NoMemory>
     Ok(format!(in alloc; "\"100.{upper}.{lower}.0/24\"")?)
 }
 
-/// The lines of a group ahead of its list.
-fn push_head(alloc: Global, text: &mut Vec<u8>, group: u32, demand: u32) -> Result<(), NoMemory>
-    ensures { OnOk result (text.new.items ≡ text.old.items ++ line (codes "[[group]]") ++ line (codes "name = " ++ quoted (codes "g" ++ decimal group)) ++ line (codes "demand = " ++ decimal demand)) }
+/// The line with the name of a group.
+#[tactic(auto, unfolding(crate::specs::Topology::group_line))]
+fn group_line(alloc: Global, group: u32) -> Result<String, NoMemory>
+    ensures { IfOk result (λ t. string_bytes t ≡ group_line group) }
 {
-    let made = format!(in alloc; "[[group]]\nname = \"g{group}\"\ndemand = {demand}\n")?;
-    text.extend_from_slice(made.as_bytes())?;
+    Ok(format!(in alloc; "name = \"g{group}\"\n")?)
+}
+
+/// The line with a demand.
+#[tactic(auto, unfolding(crate::specs::Topology::demand_line))]
+fn demand_line(alloc: Global, demand: u32) -> Result<String, NoMemory>
+    ensures { IfOk result (λ t. string_bytes t ≡ demand_line demand) }
+{
+    Ok(format!(in alloc; "demand = {demand}\n")?)
+}
+
+/// The lines of a group ahead of its list.
+#[tactic(auto, unfolding(crate::specs::Topology::head_text))]
+fn push_head(alloc: Global, text: &mut Vec<u8>, group: u32, demand: u32) -> Result<(), NoMemory>
+    ensures { OnOk result (text.new.items ≡ text.old.items ++ head_text group demand) }
+{
+    text.extend_from_slice(b"[[group]]\n")?;
+    text.extend_from_slice(group_line(alloc, group)?.as_bytes())?;
+    text.extend_from_slice(demand_line(alloc, demand)?.as_bytes())?;
+    Ok(())
+}
+
+/// The lines of a list and its scores.
+#[tactic(auto, unfolding(crate::specs::Topology::lists_text))]
+fn push_lists(
+    alloc: Global,
+    text: &mut Vec<u8>,
+    draws: &mut Draws,
+    groups: u32,
+    start: u32,
+    length: u32,
+) -> Result<(), NoMemory>
+    requires groups { groups ≤ 16384 }
+    requires start { start < 2048 }
+    requires length { length ≤ 8 }
+    ensures text { OnOk result (text.new.items ≡ text.old.items ++ lists_text groups start length draws.old.last) }
+    ensures last { OnOk result (draws.new.last ≡ behind draws.old.last length) }
+{
+    text.extend_from_slice(b"pools = [")?;
+    push_list(alloc, text, groups, start, length)?;
+    text.extend_from_slice(b"]\nscores = [")?;
+    push_scores(alloc, text, draws, length)?;
+    text.extend_from_slice(b"]\n")?;
+    Ok(())
+}
+
+/// The line of the prefixes of a group.
+#[tactic(auto, unfolding(crate::specs::Topology::prefixes_line))]
+fn push_prefixes(alloc: Global, text: &mut Vec<u8>, group: u32) -> Result<(), NoMemory>
+    requires { group < 65536 }
+    ensures { OnOk result (text.new.items ≡ text.old.items ++ prefixes_line group) }
+{
+    text.extend_from_slice(b"prefixes = [")?;
+    text.extend_from_slice(prefixes_text(alloc, group)?.as_bytes())?;
+    text.extend_from_slice(b"]\n")?;
     Ok(())
 }
 
@@ -126,14 +179,8 @@ fn push_group(
     let pools = pools_of(groups);
     let length = 1 + draws.below(MOST_POOLS.min(pools));
     let start = draws.below(pools);
-    text.extend_from_slice(b"pools = [")?;
-    push_list(alloc, text, groups, start, length)?;
-    text.extend_from_slice(b"]\nscores = [")?;
-    push_scores(alloc, text, draws, length)?;
-    text.extend_from_slice(b"]\nprefixes = [")?;
-    let made = prefixes_text(alloc, group)?;
-    text.extend_from_slice(made.as_bytes())?;
-    text.extend_from_slice(b"]\n")?;
+    push_lists(alloc, text, draws, groups, start, length)?;
+    push_prefixes(alloc, text, group)?;
     Ok(())
 }
 

@@ -36,3 +36,6 @@ pub fn make(alloc: Global, groups: u32) -> Result<(Vec<u8>, Vec<u8>), NoMemory>
     push_feed(alloc, &mut feed, &mut draws, groups)?;
     Ok((topology, feed))
 }
+
+#[cfg(test)]
+mod tests;

@@ -1,8 +1,9 @@
 //! The zone, and the regions with their pools.
 ghost use Rattle.std.specs.Prelude.{◌≡◌, ◌≤◌, ◌<◌, ◌+◌, ◌++◌, IfOk, OnOk, string_bytes};
+ghost use Rattle.std.specs.Fmt.{decimal};
 ghost use Rattle.big_world.specs.Numbers.{behind, draw};
 ghost use Rattle.big_world.specs.Pieces.{ahead, pieces, texts_below};
-ghost use Rattle.big_world.specs.Topology.{behind_region, inner_text, pool_text, region_text, regions_of};
+ghost use Rattle.big_world.specs.Topology.{address_line, behind_region, capacity_line, inner_text, parent_line, pool_line, pool_text, region_line, region_text, regions_of};
 
 use crate::draws::Draws;
 use no_memory::NoMemory;
@@ -32,24 +33,95 @@ pub fn regions_of(groups: u32) -> u32
     1 + groups / 64
 }
 
-#[tactic(auto, unfolding(crate::specs::Topology::inner_text))]
-fn inner_text(alloc: Global, region: u32, capacity: u32) -> Result<String, NoMemory>
-    ensures { IfOk result (λ t. string_bytes t ≡ inner_text region capacity) }
+/// A number, and what stands behind it.
+pub fn push_number(
+    alloc: Global,
+    text: &mut Vec<u8>,
+    number: u32,
+    behind: &[u8],
+) -> Result<(), NoMemory>
+    ensures { OnOk result (text.new.items ≡ text.old.items ++ decimal number ++ behind.now) }
 {
-    Ok(format!(in alloc; "[[node]]\nname = \"r{region}\"\ncapacity = {capacity}\n")?)
+    let digits = number.to_string(alloc)?;
+    text.extend_from_slice(digits.as_bytes())?;
+    text.extend_from_slice(behind)?;
+    Ok(())
 }
 
-#[tactic(auto, unfolding(crate::specs::Topology::pool_text))]
-fn pool_text(alloc: Global, region: u32, pool: u32, capacity: u32) -> Result<String, NoMemory>
+/// The line with the name of a region.
+#[tactic(auto, unfolding(crate::specs::Topology::region_line))]
+fn region_line(alloc: Global, region: u32) -> Result<String, NoMemory>
+    ensures { IfOk result (λ t. string_bytes t ≡ region_line region) }
+{
+    Ok(format!(in alloc; "name = \"r{region}\"\n")?)
+}
+
+/// The line with the name of a pool.
+#[tactic(auto, unfolding(crate::specs::Topology::pool_line))]
+fn pool_line(alloc: Global, region: u32, pool: u32) -> Result<String, NoMemory>
+    ensures { IfOk result (λ t. string_bytes t ≡ pool_line region pool) }
+{
+    Ok(format!(in alloc; "name = \"r{region}-{pool}\"\n")?)
+}
+
+/// The line with the parent of a pool.
+#[tactic(auto, unfolding(crate::specs::Topology::parent_line))]
+fn parent_line(alloc: Global, region: u32) -> Result<String, NoMemory>
+    ensures { IfOk result (λ t. string_bytes t ≡ parent_line region) }
+{
+    Ok(format!(in alloc; "parent = \"r{region}\"\n")?)
+}
+
+/// The line with a capacity.
+#[tactic(auto, unfolding(crate::specs::Topology::capacity_line))]
+fn capacity_line(alloc: Global, capacity: u32) -> Result<String, NoMemory>
+    ensures { IfOk result (λ t. string_bytes t ≡ capacity_line capacity) }
+{
+    Ok(format!(in alloc; "capacity = {capacity}\n")?)
+}
+
+/// The line with the address of a pool.
+#[tactic(auto, unfolding(crate::specs::Topology::address_line))]
+fn address_line(alloc: Global, region: u32, pool: u32) -> Result<String, NoMemory>
     requires { pool < 4 }
-    ensures { IfOk result (λ t. string_bytes t ≡ pool_text region pool capacity) }
+    ensures { IfOk result (λ t. string_bytes t ≡ address_line region pool) }
 {
     let upper = region / 256;
     let lower = region % 256;
     let host = pool + 1;
-    Ok(format!(in alloc;
-        "[[node]]\nname = \"r{region}-{pool}\"\nparent = \"r{region}\"\ncapacity = {capacity}\npool = true\na = [\"10.{upper}.{lower}.{host}\"]\n"
-    )?)
+    Ok(format!(in alloc; "a = [\"10.{upper}.{lower}.{host}\"]\n")?)
+}
+
+/// A region, ahead of its pools.
+#[tactic(auto, unfolding(crate::specs::Topology::inner_text))]
+fn push_inner(alloc: Global, text: &mut Vec<u8>, region: u32, capacity: u32) -> Result<(), NoMemory>
+    ensures { OnOk result (text.new.items ≡ text.old.items ++ inner_text region capacity) }
+{
+    text.extend_from_slice(b"[[node]]\n")?;
+    text.extend_from_slice(region_line(alloc, region)?.as_bytes())?;
+    text.extend_from_slice(capacity_line(alloc, capacity)?.as_bytes())?;
+    Ok(())
+}
+
+/// A pool of a region.
+#[tactic(auto, unfolding(crate::specs::Topology::pool_text))]
+fn push_pool(
+    alloc: Global,
+    text: &mut Vec<u8>,
+    region: u32,
+    pool: u32,
+    capacity: u32,
+) -> Result<(), NoMemory>
+    requires { pool < 4 }
+    ensures { OnOk result (text.new.items ≡ text.old.items ++ pool_text region pool capacity) }
+{
+    text.extend_from_slice(b"[[node]]\n")?;
+    text.extend_from_slice(pool_line(alloc, region, pool)?.as_bytes())?;
+    text.extend_from_slice(parent_line(alloc, region)?.as_bytes())?;
+    text.extend_from_slice(capacity_line(alloc, capacity)?.as_bytes())?;
+    text.extend_from_slice(b"pool = true\n")?;
+    text.extend_from_slice(address_line(alloc, region, pool)?.as_bytes())?;
+    Ok(())
 }
 
 /// The pools of a region.
@@ -64,8 +136,7 @@ fn push_pools(
 {
     for pool in 0..4u32 {
         let capacity = 10 + draws.below(20);
-        let made = pool_text(alloc, region, pool, capacity)?;
-        text.extend_from_slice(made.as_bytes())?;
+        push_pool(alloc, text, region, pool, capacity)?;
     }
     Ok(())
 }
@@ -81,9 +152,9 @@ fn push_region(
     ensures last { OnOk result (draws.new.last ≡ behind_region draws.old.last) }
 {
     let capacity = 40 + draws.below(40);
-    let made = inner_text(alloc, region, capacity)?;
-    text.extend_from_slice(made.as_bytes())?;
-    push_pools(alloc, text, draws, region)
+    push_inner(alloc, text, region, capacity)?;
+    push_pools(alloc, text, draws, region)?;
+    Ok(())
 }
 
 /// All regions.

@@ -1,6 +1,7 @@
 //! `glb answer`: the reply of a map to a datagram.
 ghost use Rattle.std.specs.Prelude.{◌≡◌, [], ◌∷◌, IfOk};
 ghost use Rattle.map_model.specs.Allocation.{IsGood};
+ghost use Rattle.published_map.specs.Version.{IsVersion};
 ghost use Rattle.map_text.specs.Writing.{mapped};
 ghost use Rattle.glb_program.specs.Answer.{IsAnswerDue, IsAnswered, IsReplied, answer_of, version_of};
 ghost use Rattle.glb_program.specs.Check.{loads_of_check};
@@ -31,13 +32,14 @@ const DRAW: u64 = 0;
 /// A map over a topology as it was read, as version 0.
 fn first_version(alloc: Global, topology: Topology, map: MapLines) -> Result<MapVersion, NoMemory>
     requires { IsGood topology.market map.lines.items map.names.items }
-    ensures { IfOk result (λ v. v ≡ version_of topology (mapped map)) }
+    ensures value { IfOk result (λ v. v ≡ version_of topology (mapped map)) }
+    ensures version { IfOk result IsVersion }
 {
     let instance = topology.instance().try_clone()?;
     let lookup = Lookup::build(alloc, topology.prefixes())?;
     let topology = Arc::new(alloc, topology)?;
     let shared = Arc::new(alloc, Shared { topology, lookup })?;
-    MapVersion::make(alloc, 0, instance, map, shared)
+    MapVersion::make(alloc, 0, &instance, &map, shared)
 }
 
 /// The text of a version's reply to octets from an address.
@@ -48,6 +50,7 @@ fn reply_text(
     from: Addr,
     octets: &[u8],
 ) -> Result<Vec<u8>, NoMemory>
+    requires { IsVersion version.now }
     ensures { IfOk result (λ t. t.items ≡ text.answer (answer_of version.now (record { from = from; octets = octets.now }))) }
 {
     let mut out = ArrayVec::new();

@@ -1,3 +1,4 @@
+//! What the program says.
 ghost use Rattle.std.specs.Prelude.{◌≡◌, ◌++◌, [], ◌∷◌, IfOk, Some};
 ghost use Rattle.std.specs.Fmt.{decimal};
 ghost use Rattle.map_model.specs.Market.{pool_of};
