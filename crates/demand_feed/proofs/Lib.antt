@@ -1,5 +1,6 @@
 mod LimitsAre
 mod Digits
 mod Spaces
+mod FileLines
 pub mod Fronts
 pub mod Items

@@ -8,3 +8,5 @@ pub mod Changing
 pub mod Item
 pub mod Clerk
 pub mod Texts
+pub mod Changes
+pub mod ChangesTexts

@@ -5,6 +5,7 @@
 #![tactic(auto)]
 
 mod batch;
+mod changes;
 mod clerk;
 mod cutter;
 mod fault;
@@ -13,6 +14,7 @@ mod line;
 mod words;
 
 pub use batch::{Batch, apply};
+pub use changes::{ChangesFault, read_changes};
 pub use clerk::{Clerk, Next};
 pub use cutter::Cutter;
 pub use fault::{BatchFault, LineFault, Refusal};

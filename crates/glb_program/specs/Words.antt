@@ -8,13 +8,14 @@ pub data Ask : Type 0 where
   check : List ℕ → List ℕ → Ask
   map_from : List ℕ → Ask
   answer : List ℕ → List ℕ → Datagram → Ask
+  repair : List ℕ → List ℕ → List ℕ → Ask
 
 -- a command line, as a command: an address and digits have to be in their grammars
 abbrev pub asked_by : line.Ask → Option Ask
 asked_by (line.check topology map) = Some (check topology map)
 asked_by (line.map_of topology) = Some (map_from topology)
 asked_by (line.answer topology map addr digits) = option_map (answer topology map) (datagram_of addr digits)
-asked_by (line.repair topology map changes) = None
+asked_by (line.repair topology map changes) = Some (repair topology map changes)
 asked_by (line.serve topology listen workers) = None
 asked_by (line.large groups) = None
 

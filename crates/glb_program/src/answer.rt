@@ -5,14 +5,14 @@ ghost use Rattle.published_map.specs.Version.{IsVersion};
 ghost use Rattle.map_text.specs.Writing.{mapped};
 ghost use Rattle.glb_program.specs.Answer.{IsAnswerDue, IsAnswered, IsReplied, answer_of, version_of};
 ghost use Rattle.glb_program.specs.Check.{loads_of_check};
-ghost use Rattle.glb_program.specs.Ending.{IsEnd, IsNameable, outcome_of};
+ghost use Rattle.glb_program.specs.Ending.{IsEnd, outcome_of};
 ghost use Rattle.glb_program.specs.Texts as text;
 
-use crate::check::judge;
+use crate::check::{judge, not_good};
 use crate::files::{load_map, load_topology};
 use crate::ending::{Report, Stop};
 use crate::status::Status;
-use crate::text::{answer_text, line, verdict_text};
+use crate::text::{answer_text, line};
 use addr_text::Addr;
 use answer_core::{Answer, reply};
 use arrayvec::ArrayVec;
@@ -75,18 +75,6 @@ fn replied(
     let text = reply_text(alloc, &version, from, octets)?;
     Ok(Report {
         status: Status::Ok,
-        text,
-    })
-}
-
-/// A verdict other than good, as what is to be said.
-fn not_good(alloc: Global, topology: &Topology, verdict: Verdict) -> Result<Report, NoMemory>
-    requires { IsNameable topology.now.market verdict }
-    ensures { IfOk result (λ r. outcome_of r ≡ record { status = Status.NotGood; pieces = text.verdict topology.now verdict ∷ [] }) }
-{
-    let text = verdict_text(alloc, topology, verdict)?;
-    Ok(Report {
-        status: Status::NotGood,
         text,
     })
 }

@@ -1,8 +1,9 @@
 //! `glb check`: the verdict on a map.
-ghost use Rattle.std.specs.Prelude.{◌≡◌, IfOk};
+ghost use Rattle.std.specs.Prelude.{◌≡◌, [], ◌∷◌, IfOk};
 ghost use Rattle.stable_check.specs.Judgement.{Judges};
 ghost use Rattle.map_text.specs.Writing.{mapped};
 ghost use Rattle.glb_program.specs.Check.{IsCheckDue, IsJudged, loads_of_check, status_of};
+ghost use Rattle.glb_program.specs.Texts as text;
 ghost use Rattle.glb_program.specs.Ending.{IsEnd, IsNameable, outcome_of};
 
 use crate::ending::{Report, Stop};
@@ -32,6 +33,18 @@ pub fn judge(alloc: Global, topology: &Topology, map: &MapLines) -> Result<Verdi
 {
     let mut room = CheckRoom::new(alloc, topology.instance())?;
     Ok(check(topology.instance(), map, &mut room))
+}
+
+/// A verdict other than good, as what is to be said.
+pub fn not_good(alloc: Global, topology: &Topology, verdict: Verdict) -> Result<Report, NoMemory>
+    requires { IsNameable topology.now.market verdict }
+    ensures { IfOk result (λ r. outcome_of r ≡ record { status = Status.NotGood; pieces = text.verdict topology.now verdict ∷ [] }) }
+{
+    let text = verdict_text(alloc, topology, verdict)?;
+    Ok(Report {
+        status: Status::NotGood,
+        text,
+    })
 }
 
 /// The verdict on a map, as what is to be said.

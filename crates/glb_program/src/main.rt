@@ -14,6 +14,7 @@ mod ending;
 mod files;
 mod glb;
 mod map;
+mod repair;
 mod status;
 mod text;
 mod words;

@@ -17,7 +17,7 @@ use std::alloc::Global;
 use topology_text::Topology;
 
 /// The proposals of a mapping, as what is counted.
-struct Proposals;
+pub struct Proposals;
 
 /// A good map for an instance, from scratch.
 fn map_afresh(alloc: Global, instance: &Instance) -> Result<MapLines, NoMemory>
