@@ -10,9 +10,9 @@ ghost use Rattle.glb_program.specs.Words.{asked};
 
 use crate::answer::answer_files;
 use crate::check::check_files;
+use crate::ending::{Report, Stop, finish, say};
 use crate::map::map_files;
 use crate::repair::repair_files;
-use crate::ending::{Report, Stop, finish, say};
 use crate::status::Status;
 use crate::words::{Command, read_words};
 use no_memory::NoMemory;
@@ -22,11 +22,7 @@ use std::alloc::Global;
 const USAGE: &[u8] = b"usage: glb check, answer, map, repair, serve or large\n";
 
 /// Does what a command asks for, up to its text.
-fn run_command<F: Shelf>(
-    alloc: Global,
-    files: &mut F,
-    command: Command<'_>,
-) -> Result<Report, Stop>
+fn run_command<F: Shelf>(alloc: Global, files: &mut F, command: Command<'_>) -> Result<Report, Stop>
     ensures end { IsEnd (loads_of_ask (ask_of command.entry)) (IsDue (ask_of command.entry) (F.told files.old)) (record { told = F.told files.old; faults = F.faults files.old }) (record { told = F.told files.new; faults = F.faults files.new }) result }
     ensures said { EndsBy IsSaid result }
 {

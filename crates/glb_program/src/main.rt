@@ -19,8 +19,8 @@ mod status;
 mod text;
 mod words;
 
-pub use glb::glb;
 use edges::{FileShelf, StreamSink};
+pub use glb::glb;
 use no_memory::NoMemory;
 pub use status::Status;
 use std::env;

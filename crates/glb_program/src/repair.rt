@@ -1,9 +1,9 @@
 //! `glb repair`: a good map for changed numbers, which keeps what they leave alone.
-ghost use Rattle.std.specs.Prelude.{IfOk};
+ghost use Rattle.std.specs.Prelude.{◌≢◌, Err, IfOk};
 ghost use Rattle.map_model.specs.Allocation.{IsGood};
 ghost use Rattle.map_model.specs.Batch.{IsBatch};
 ghost use Rattle.map_text.specs.Writing.{mapped};
-ghost use Rattle.glb_program.specs.Ending.{IsEnd, outcome_of};
+ghost use Rattle.glb_program.specs.Ending.{EndsBy, IsEnd, outcome_of};
 ghost use Rattle.glb_program.specs.Repair.{IsRepairDue, IsRepairOf, IsRepaired, loads_of_repair};
 
 use crate::check::{judge, not_good};
@@ -49,13 +49,14 @@ fn report(
     topology: &Topology,
     map: &MapLines,
     changes: &Batch,
-) -> Result<Report, NoMemory>
+) -> Result<Report, Stop>
     requires { IsBatch topology.now.market changes.now }
-    ensures { IfOk result (λ r. IsRepairOf topology.now (mapped map.now) changes.now (outcome_of r)) }
+    ensures ended { EndsBy (IsRepairOf topology.now (mapped map.now) changes.now) result }
+    ensures source { result ≢ Err Stop.SourceFault }
 {
     match judge(alloc, topology, map)? {
-        Verdict::Good => repaired(alloc, topology, map, changes),
-        verdict => not_good(alloc, topology, verdict),
+        Verdict::Good => Ok(repaired(alloc, topology, map, changes)?),
+        verdict => Ok(not_good(alloc, topology, verdict)?),
     }
 }
 
@@ -72,5 +73,5 @@ pub fn repair_files<F: Shelf>(
     let topology = load_topology(alloc, files, topology)?;
     let map = load_map(alloc, files, map, &topology)?;
     let changes = load_changes(alloc, files, changes, &topology)?;
-    Ok(report(alloc, &topology, &map, &changes)?)
+    report(alloc, &topology, &map, &changes)
 }
