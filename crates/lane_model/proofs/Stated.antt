@@ -1,5 +1,5 @@
 -- Which octets have a reply.
-use Rattle.std.proofs.Common.{◌≡◌, ◌↔◌, ℕ, Bool, true, false, List, Option, None, Some, IsSome, IsTrue, refl}
+use Rattle.std.proofs.Common.{rules, ◌≡◌, ℕ, true, false, List, None, Some, IsSome, refl}
 use Rattle.addr_text.specs.declared.address.Addr.{Addr}
 use Rattle.published_map.specs.Version.{Version}
 use Rattle.answer_core.specs.Grammar.{Datagram, datagram_of, Silent, NotImp, Form, Query}
@@ -14,9 +14,9 @@ unanswered v from (Query r) draw is = absurd (cc)
 
 answered : (v : Version) (from : Addr) (d : Datagram) (draw : ℕ) → is_unanswered d ≡ false → IsSome (reply_to v from d draw)
 answered v from Silent draw is = absurd (cc)
-answered v from (NotImp h) draw is = tt
-answered v from (Form h) draw is = tt
-answered v from (Query r) draw is = tt
+answered v from (NotImp h) draw is = search rules
+answered v from (Form h) draw is = search rules
+answered v from (Query r) draw is = search rules
 
 -- silent octets have no reply
 pub silent_none : (v : Version) (from : Addr) (octets : List ℕ) (draw : ℕ) → is_silent octets ≡ true → reply_of v from octets draw ≡ None
@@ -38,3 +38,14 @@ none_unanswered v from (Query r) draw is = absurd (cc)
 pub none_silent : (v : Version) (from : Addr) (octets : List ℕ) (draw : ℕ) → reply_of v from octets draw ≡ None → is_silent octets ≡ true
 unfolding is_silent
 none_silent v from octets draw is = none_unanswered v from (datagram_of octets) draw is
+
+some_answered : (v : Version) (from : Addr) (d : Datagram) (draw : ℕ) (text : List ℕ) → reply_to v from d draw ≡ Some text → is_unanswered d ≡ false
+some_answered v from Silent draw text is = absurd (cc)
+some_answered v from (NotImp h) draw text is = refl
+some_answered v from (Form h) draw text is = refl
+some_answered v from (Query r) draw text is = refl
+
+-- what has a reply is not silent
+pub some_spoken : (v : Version) (from : Addr) (octets : List ℕ) (draw : ℕ) (text : List ℕ) → reply_of v from octets draw ≡ Some text → is_silent octets ≡ false
+unfolding is_silent
+some_spoken v from octets draw text is = some_answered v from (datagram_of octets) draw text is
