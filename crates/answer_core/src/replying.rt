@@ -7,7 +7,7 @@ ghost use Rattle.prefix_lookup.specs.Longest.{IsAddress};
 ghost use Rattle.published_map.specs.Version.{IsVersion, Version};
 ghost use Rattle.answer_core.specs.Grammar.{request_of};
 ghost use Rattle.answer_core.specs.Outcome.{IsLookedUp};
-ghost use Rattle.answer_core.specs.Reply.{Replies, reply_of, reply_to_query};
+ghost use Rattle.answer_core.specs.Reply.{Replies, is_silent, reply_of, reply_to_query};
 
 use crate::outcome::decide;
 use crate::request::read_request;
@@ -84,7 +84,8 @@ pub fn reply(
 
 /// Whether a datagram has no reply, whatever the version, the sender and the draw.
 pub fn silent(octets: &[u8]) -> bool
-    ensures { (v : Version) (from : Addr) (draw : ℕ) → IsTrue result ↔ (reply_of v from octets.now draw ≡ None) }
+    ensures exact { result ≡ is_silent octets.now }
+    ensures always { (v : Version) (from : Addr) (draw : ℕ) → IsTrue result ↔ (reply_of v from octets.now draw ≡ None) }
 {
     matches!(read_query(octets), Message::Silent)
 }
