@@ -1,21 +1,17 @@
--- The replies of published versions, as lanes and the machine take them.
-use Rattle.std.specs.Prelude.{ℕ, Bool, true, false, List}
+-- The replies of versions: the stated replies, behind words that hide how they are made.
+use Rattle.std.specs.Prelude.{ℕ, Bool, List, Option}
+use Rattle.addr_text.specs.declared.address.Addr.{Addr}
+use Rattle.answer_core.specs.Reply as stated
 use Rattle.published_map.specs.Version.{Version}
-use Rattle.answer_core.specs.Grammar.{Datagram, datagram_of, Silent, NotImp, Form, Query}
-use Rattle.answer_core.specs.Reply.{reply_of}
 use Rattle.lane_model.specs.Lanes.{Answers}
-
--- a datagram that has no reply, whatever the version, the sender and the draw
-abbrev pub is_unanswered : Datagram → Bool
-is_unanswered Silent = true
-is_unanswered (NotImp h) = false
-is_unanswered (Form h) = false
-is_unanswered (Query r) = false
 
 -- octets that have no reply
 unfoldable pub is_silent : List ℕ → Bool
-is_silent octets = is_unanswered (datagram_of octets)
+is_silent octets = stated.is_silent octets
 
--- each version's stated reply
-unfoldable pub replies : Answers Version
+-- the stated reply of a version to octets from an address, with a draw
+unfoldable pub reply_of : Version → Addr → List ℕ → ℕ → Option (List ℕ)
+reply_of v from octets draw = stated.reply_of v from octets draw
+
+abbrev pub replies : Answers Version
 replies = record { reply = reply_of; silent = is_silent }
