@@ -1,11 +1,7 @@
 -- The numbers in an address's text: four of IPv4, eight groups of IPv6 (RFC 4291 section 2.2, forms 1 and 2).
 use Rattle.std.specs.Prelude.{ℕ, ◌+◌, ◌-◌, List, [], ◌∷◌, ◌++◌, length, drop, Bool, false, ◌&&◌, ◌==◌, nat_le, if◌then◌else◌, Option, None, Some, option_map, replicate}
-use Rattle.std.specs.List.{slice_split}
+use Rattle.text_parts.specs.Parts.{parts}
 use Rattle.addr_text.specs.Numbers.{all_of, hex_digit, in_base, number_of, only_if}
-
--- the parts of a text between the octets of one kind
-abbrev pub parts : ℕ → List ℕ → List (List ℕ)
-parts separator text = slice_split (λ b. b == separator) text
 
 -- the four numbers of an IPv4 text, joined by dots, each 0 to 255
 abbrev pub v4_numbers : List ℕ → Option (List ℕ)

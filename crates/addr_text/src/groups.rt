@@ -1,7 +1,8 @@
 //! The numbers in an address's text.
 ghost use Rattle.std.specs.Prelude.{ℕ, ◌≡◌, ◌+◌, ◌<◌, ◌≤◌, ◌++◌, ◌∷◌, ◌==◌, ◌⊎◌, [], Some, None, IfSome, length, nat_le, option_map, replicate, true, false};
 ghost use Rattle.addr_text.specs.Numbers.{all_of, number_of, only_if};
-ghost use Rattle.addr_text.specs.Groups.{begins_double, filled, group_of, joined_groups, parts, side_groups, sides, v4_numbers, v6_groups};
+ghost use Rattle.text_parts.specs.Parts.{parts};
+ghost use Rattle.addr_text.specs.Groups.{begins_double, filled, group_of, joined_groups, side_groups, sides, v4_numbers, v6_groups};
 
 use crate::digits::{read_group, read_number};
 use arrayvec::ArrayVec;

@@ -10,20 +10,20 @@ use Rattle.std.proofs.lemmas.List.Sums.{sum_by-take-le, position_or_len_is}
 use Rattle.std.proofs.lemmas.Option.{slice_get-get_or, slice_get_past}
 use Rattle.map_model.specs.declared.lines.MapLine.{MapLine}
 use Rattle.map_model.specs.Market.{choices_of}
-use Rattle.map_model.specs.Allocation.{amount_at, first, placed}
-use Rattle.map_model.proofs.Units.{first_below, first_is, first_more}
+use Rattle.map_model.specs.Allocation.{amount_at, placed_through, placed}
+use Rattle.map_model.proofs.Units.{placed_below, placed_through-below, placed_through-split}
 use Rattle.published_map.proofs.Totals.{added}
 use Rattle.published_map.specs.Version.{Version, amounts_of}
 use Rattle.answer_core.specs.Pick.{IsPicked, falls_on, pick_of, slot_of}
 
 -- where a place's interval begins, and where it ends
-pub begins : (lines : List MapLine) (g n k : ℕ) → k < n → sum (take k (map (amount_at lines g) (range_with_len 0 n))) ≡ first lines g k - amount_at lines g k
+pub begins : (lines : List MapLine) (g n k : ℕ) → k < n → sum (take k (map (amount_at lines g) (range_with_len 0 n))) ≡ placed_through lines g k - amount_at lines g k
 begins lines g n k lt =
-    let some : sum (take k (map (amount_at lines g) (range_with_len 0 n))) ≡ first_below lines g k = ap sum (take-map-range_with_len (amount_at lines g) 0 n k (omega arith)) ∙ added lines g k in
-    omega (arith, some, first_more lines g k)
+    let some : sum (take k (map (amount_at lines g) (range_with_len 0 n))) ≡ placed_below lines g k = ap sum (take-map-range_with_len (amount_at lines g) 0 n k (omega arith)) ∙ added lines g k in
+    omega (arith, some, placed_through-split lines g k)
 
-pub ends : (lines : List MapLine) (g n k : ℕ) → k < n → sum (take (k + 1) (map (amount_at lines g) (range_with_len 0 n))) ≡ first lines g k
-ends lines g n k lt = ap sum (take-map-range_with_len (amount_at lines g) 0 n (k + 1) (omega arith)) ∙ added lines g (k + 1) ∙ sym (first_is lines g k)
+pub ends : (lines : List MapLine) (g n k : ℕ) → k < n → sum (take (k + 1) (map (amount_at lines g) (range_with_len 0 n))) ≡ placed_through lines g k
+ends lines g n k lt = ap sum (take-map-range_with_len (amount_at lines g) 0 n (k + 1) (omega arith)) ∙ added lines g (k + 1) ∙ sym (placed_through-below lines g k)
 
 -- the first of the numbers below n that passes is found
 found_first : (test : ℕ → Bool) (n k : ℕ) → k < n → ((j : ℕ) → j < k → test j ≡ false) → test k ≡ true → find test (range_with_len 0 n) ≡ Some k
@@ -52,8 +52,8 @@ is_picked : (v : Version) (g draw k slot : ℕ) (amounts : List ℕ) → g < len
 is_picked v g draw k slot amounts there items is lt from to =
     let n = length (choices_of v.market g) in
     let size : length amounts ≡ n = ap length items ∙ length-map-range_with_len (amount_at v.lines g) 0 n in
-    let start : sum (take k amounts) ≡ first v.lines g k - amount_at v.lines g k = ap (λ (l : List ℕ). sum (take k l)) items ∙ begins v.lines g n k (omega arith) in
-    let end : sum (take (k + 1) amounts) ≡ first v.lines g k = ap (λ (l : List ℕ). sum (take (k + 1) l)) items ∙ ends v.lines g n k (omega arith) in
+    let start : sum (take k amounts) ≡ placed_through v.lines g k - amount_at v.lines g k = ap (λ (l : List ℕ). sum (take k l)) items ∙ begins v.lines g n k (omega arith) in
+    let end : sum (take (k + 1) amounts) ≡ placed_through v.lines g k = ap (λ (l : List ℕ). sum (take (k + 1) l)) items ∙ ends v.lines g n k (omega arith) in
     record { offer = record { group = there; place = omega arith }; from = omega arith; to = omega arith }
 
 pub picked : (v : Version) (g draw slot : ℕ) (amounts : List ℕ) (found : Option ℕ) → g < length v.market.groups → amounts ≡ amounts_of v g → slot ≡ slot_of draw (placed v.lines g)
@@ -64,9 +64,9 @@ picked v g draw slot amounts (Some k) there items is lt from to = is_picked v g 
 -- a slot that is not before the first amounts falls on none of their places
 past : (v : Version) (g slot i j : ℕ) → j < i → i ≤ length (choices_of v.market g) → sum (take i (amounts_of v g)) ≤ slot → falls_on v g slot j ≡ false
 past v g slot i j lt within le =
-    let end : sum (take (j + 1) (amounts_of v g)) ≡ first v.lines g j = ends v.lines g (length (choices_of v.market g)) j (omega arith) in
+    let end : sum (take (j + 1) (amounts_of v g)) ≡ placed_through v.lines g j = ends v.lines g (length (choices_of v.market g)) j (omega arith) in
     let upto : sum (take (j + 1) (amounts_of v g)) ≤ sum (take i (amounts_of v g)) = sum_upto (amounts_of v g) (j + 1) i (omega arith) in
-    and_right _ _ (le-ltb slot (first v.lines g j) (omega arith))
+    and_right _ _ (le-ltb slot (placed_through v.lines g j) (omega arith))
 
 -- that place, or none where the slot is behind all amounts, is the pick
 pub pick_is : (v : Version) (g draw slot : ℕ) (amounts : List ℕ) (found : Option ℕ) → g < length v.market.groups → amounts ≡ amounts_of v g → slot ≡ slot_of draw (placed v.lines g)

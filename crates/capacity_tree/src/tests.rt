@@ -1,5 +1,5 @@
 use crate::Tree;
-use map_model::{Choice, GroupRow, Instance, Node, NodeId};
+use map_model::{Choice, ClientGroup, Instance, Node, NodeId};
 use std::alloc::Global;
 use std::test::Fail;
 
@@ -21,7 +21,7 @@ fn instance(alloc: Global) -> Result<Instance, Fail> {
             score: 1
         },
     ]?;
-    let groups = vec![in alloc; GroupRow::new(1, choices)]?;
+    let groups = vec![in alloc; ClientGroup::new(1, choices)]?;
     Ok(Instance::try_from_rows(groups, nodes).ok_or("no instance")?)
 }
 

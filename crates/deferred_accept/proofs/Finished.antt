@@ -1,31 +1,26 @@
 use Rattle.std.proofs.Common.{◌≡◌, ℕ, ◌+◌, ◌<◌, ◌≤◌, ◌==◌, Bool, true, false, ◌&&◌, nat_le, if◌then◌else◌, List, [], ◌∷◌, ◌++◌, append_assoc, Option, None, Some, All, slice_index, refl, sym, ap, ◌∙◌, subst, inl, inr, arith}
 use Rattle.std.specs.List.{cons_option}
 use Rattle.std.proofs.lemmas.List.Elements.{All-head, All-tail}
-use Rattle.std.proofs.lemmas.Bool.{and_parts, cases_lt, eq-eqb, eqb-true, ltb-true, leb-false}
+use Rattle.std.proofs.lemmas.Bool.{cases_lt, eq-eqb, eqb-true, ltb-true, leb-false}
 use Rattle.std.proofs.lemmas.List.Sums.{sum_by-cons}
 use Rattle.map_model.specs.declared.lines.MapLine.{MapLine}
 use Rattle.map_model.specs.declared.lines.NameLine.{NameLine}
 use Rattle.map_model.specs.Market.{Market, demand_of}
-use Rattle.map_model.specs.Allocation.{IsGood, IsOffer, amount_at, first, names_of, placed}
+use Rattle.map_model.specs.Allocation.{IsGood, IsOffer, amount_at, placed_through, names_of, placed}
 use Rattle.map_model.specs.Progress.{IsEnded}
 use Rattle.map_model.proofs.MapForm.{offers-AreLines}
-use Rattle.map_model.proofs.Units.{units_of-le}
 use Rattle.evict.specs.Standing.{IsReady, Standing}
 
--- what a group has at places 0 to k is among all that it has
-pub first-le-placed : (lines : List MapLine) (g k : ℕ) → first lines g k ≤ placed lines g
-first-le-placed lines g k = units_of-le (λ h j. (h == g) && nat_le j k) (λ h _. h == g) (λ h j t. (and_parts (h == g) (nat_le j k) t).0) lines
-
 -- where a group holds nothing at places after one, all its units stand up to there
-pub placed-le-first : (m : Market) (lines : List MapLine) (g k : ℕ) → All (λ l. IsOffer m l.group.0 l.place) lines → ((j : ℕ) → IsOffer m g j → k < j → amount_at lines g j ≡ 0) → placed lines g ≤ first lines g k
-placed-le-first m [] g k offers none = omega arith
-placed-le-first m (l ∷ ls) g k offers none =
+pub placed-le-through : (m : Market) (lines : List MapLine) (g k : ℕ) → All (λ l. IsOffer m l.group.0 l.place) lines → ((j : ℕ) → IsOffer m g j → k < j → amount_at lines g j ≡ 0) → placed lines g ≤ placed_through lines g k
+placed-le-through m [] g k offers none = omega arith
+placed-le-through m (l ∷ ls) g k offers none =
     omega (
       arith,
       sum_by-cons (λ (x : MapLine). if x.group.0 == g then x.amount else 0) l ls,
       sum_by-cons (λ (x : MapLine). if (x.group.0 == g) && nat_le x.place k then x.amount else 0) l ls,
       here (l.group.0 == g) (nat_le l.place k) refl refl,
-      placed-le-first m ls g k (All-tail (λ (x : MapLine). IsOffer m x.group.0 x.place) l ls offers) (λ j o past. omega (arith, more j, none j o past)),
+      placed-le-through m ls g k (All-tail (λ (x : MapLine). IsOffer m x.group.0 x.place) l ls offers) (λ j o past. omega (arith, more j, none j o past)),
     )
   where
     more : (j : ℕ) → amount_at (l ∷ ls) g j ≡ (if (l.group.0 == g) && (l.place == j) then l.amount else 0) + amount_at ls g j
@@ -46,13 +41,13 @@ finished m state names ready ended named =
     let r = ready.resumable in
     record { form = r.form; feasible = record { demands = λ g l. omega (arith, r.totals g l); capacities = r.capacities }; stable = λ g k o w. r.refused g k o (before g k o (ltb-true _ _ w)); named = named }
   where
-    before : (g k : ℕ) → IsOffer m g k → first state.lines g k < demand_of m g → k < slice_index state.pointers g
+    before : (g k : ℕ) → IsOffer m g k → placed_through state.lines g k < demand_of m g → k < slice_index state.pointers g
     before g k o wanted = elim (cases_lt k (slice_index state.pointers g)) [
       | inl l ↦ l
       | inr past ↦
           let r = ready.resumable in
           let none : slice_index state.free g ≡ 0 = ended g o.group (omega (arith, o.place)) in
-          let all = placed-le-first m state.lines g k (offers-AreLines m state.lines r.form) (λ j oj lj. r.none_past g j oj (omega arith)) in
+          let all = placed-le-through m state.lines g k (offers-AreLines m state.lines r.form) (λ j oj lj. r.none_past g j oj (omega arith)) in
           absurd (omega (arith, r.totals g o.group))
     ]
 

@@ -4,5 +4,5 @@ pub mod Turns
 pub mod Proposed
 pub mod Listed
 pub mod Finished
-pub mod Roots
 pub mod Within
+pub mod Past

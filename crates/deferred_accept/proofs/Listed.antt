@@ -3,7 +3,7 @@ use Rattle.std.specs.List.{sum_by}
 use Rattle.std.proofs.lemmas.Bool.{cases_Bool, cases_eq, eq-eqb, ne_eqb}
 use Rattle.std.proofs.lemmas.Grind.{get_or-set_at}
 use Rattle.std.proofs.lemmas.List.{get_or-replicate, get_or-set_other, length-replicate, length-set}
-use Rattle.std.proofs.lemmas.List.Elements.{All-head, All-push, All-tail}
+use Rattle.std.proofs.lemmas.List.Elements.{All-cons, All-head, All-push, All-tail}
 use Rattle.std.proofs.lemmas.List.Sums.{sum_by-cons, sum_by-set, sum_by_push}
 use Rattle.map_model.specs.declared.instance.GroupId.{GroupId}
 use Rattle.deferred_accept.specs.Work.{HoldsEachOnce, is_on, times}
@@ -16,28 +16,36 @@ one_if b = if b then 1 else 0
 pub times_more : (groups : List GroupId) (g : GroupId) (h : ℕ) → times (groups ++ g ∷ []) h ≡ times groups h + (if g.0 == h then 1 else 0)
 times_more groups g h = sum_by_push (λ (x : GroupId). if x.0 == h then 1 else 0) groups g
 
--- a group that is not there yet is put on the list
-pub listed_more : (groups : List GroupId) (on : List Bool) (g : GroupId) → HoldsEachOnce groups on → g.0 < length on → is_on on g.0 ≡ false → HoldsEachOnce (groups ++ g ∷ []) (slice_set on g.0 true)
-listed_more groups on g listed l off =
+-- one group more at the head is named once more, and the others as often as before
+times_first : (groups : List GroupId) (g : GroupId) (h : ℕ) → times (g ∷ groups) h ≡ (if g.0 == h then 1 else 0) + times groups h
+times_first groups g h = sum_by-cons (λ (x : GroupId). if x.0 == h then 1 else 0) g groups
+
+-- a list that names one group once more, which was not on
+listed_with : (groups new : List GroupId) (on : List Bool) (g : GroupId) → HoldsEachOnce groups on → g.0 < length on → is_on on g.0 ≡ false → All (λ x. x.0 < length on) new → ((h : ℕ) → times new h ≡ times groups h + (if g.0 == h then 1 else 0))
+    → HoldsEachOnce new (slice_set on g.0 true)
+listed_with groups new on g listed l off there more =
     let same : length (slice_set on g.0 true) ≡ length on = length-set on g.0 true in
     record {
-      there = subst (λ n. All (λ (x : GroupId). x.0 < n) (groups ++ g ∷ [])) (sym same) (All-push (λ (x : GroupId). x.0 < length on) groups g listed.there l);
+      there = subst (λ n. All (λ (x : GroupId). x.0 < n) new) (sym same) there;
       once = λ h lh. elim (cases_eq h g.0) [
         | inl e ↦
             let before : times groups h ≡ 0 = listed.once h (omega (arith, same)) ∙ ap one_if (ap (is_on on) e ∙ off) in
             let now : (if is_on (slice_set on g.0 true) h then 1 else 0) ≡ 1 = ap one_if (get_or-set_at on g.0 h true false e l) in
             let this : (if g.0 == h then 1 else 0) ≡ 1 = ap one_if (eq-eqb g.0 h (sym e)) in
-            omega (arith, times_more groups g h, before, now, this)
+            omega (arith, more h, before, now, this)
         | inr ne ↦
             let now : (if is_on (slice_set on g.0 true) h then 1 else 0) ≡ (if is_on on h then 1 else 0) = ap one_if (get_or-set_other on g.0 h true false ne) in
             let this : (if g.0 == h then 1 else 0) ≡ 0 = ap one_if (ne_eqb g.0 h (λ e. ne (sym e))) in
-            omega (arith, times_more groups g h, listed.once h (omega (arith, same)), now, this)
+            omega (arith, more h, listed.once h (omega (arith, same)), now, this)
       ];
     }
 
--- one group more at the head is named once more, and the others as often as before
-times_first : (groups : List GroupId) (g : GroupId) (h : ℕ) → times (g ∷ groups) h ≡ (if g.0 == h then 1 else 0) + times groups h
-times_first groups g h = sum_by-cons (λ (x : GroupId). if x.0 == h then 1 else 0) g groups
+-- a group that is not there yet is put on the list, at its end or in front
+pub listed_more : (groups : List GroupId) (on : List Bool) (g : GroupId) → HoldsEachOnce groups on → g.0 < length on → is_on on g.0 ≡ false → HoldsEachOnce (groups ++ g ∷ []) (slice_set on g.0 true)
+listed_more groups on g listed l off = listed_with groups (groups ++ g ∷ []) on g listed l off (All-push (λ (x : GroupId). x.0 < length on) groups g listed.there l) (times_more groups g)
+
+pub listed_front : (groups : List GroupId) (on : List Bool) (g : GroupId) → HoldsEachOnce groups on → g.0 < length on → is_on on g.0 ≡ false → HoldsEachOnce (g ∷ groups) (slice_set on g.0 true)
+listed_front groups on g listed l off = listed_with groups (g ∷ groups) on g listed l off (All-cons (λ (x : GroupId). x.0 < length on) g groups l listed.there) (λ h. omega (arith, times_first groups g h))
 
 -- the first group of a list is there
 pub first_there : (groups rest : List GroupId) (on : List Bool) (g : GroupId) → groups ≡ g ∷ rest → HoldsEachOnce groups on → g.0 < length on

@@ -7,7 +7,7 @@ use Rattle.std.proofs.lemmas.List.Sums.{sum_by-cons}
 use Rattle.std.proofs.Math.Bool.{or-false}
 use Rattle.map_model.specs.declared.instance.Offer.{Offer}
 use Rattle.map_model.specs.Market.{Market, choices_of}
-use Rattle.map_model.specs.Allocation.{IsOffer, first}
+use Rattle.map_model.specs.Allocation.{IsOffer, placed_through}
 use Rattle.map_model.specs.Progress.{IsEnded}
 use Rattle.evict.specs.declared.freed.Eviction.{Eviction}
 use Rattle.evict.specs.Evictions.{freed_units, gave_up}
@@ -39,7 +39,7 @@ pub run_step : (m : Market) (start old new : Standing) (g k units : ℕ) (freed 
 run_step m start old new g k units freed before can put = record {
   ready = put.ready;
   pointers = λ h l. omega (arith, before.pointers h l, pointer_rises m old new g k units freed put h l);
-  firsts = λ h j o past. less h j o past;
+  through = λ h j o past. less h j o past;
 }
   where
     apart : (h j : ℕ) → j < slice_index old.pointers h → ((g == h) && nat_le k j) ≡ false
@@ -53,10 +53,10 @@ run_step m start old new g k units freed before can put = record {
           absurd (omega arith)
     ]
 
-    less : (h j : ℕ) → IsOffer m h j → j < slice_index start.pointers h → first new.lines h j ≤ first start.lines h j
+    less : (h j : ℕ) → IsOffer m h j → j < slice_index start.pointers h → placed_through new.lines h j ≤ placed_through start.lines h j
     less h j o past =
         let none : (if (g == h) && nat_le k j then units else 0) ≡ 0 = rw (apart h j (omega (arith, before.pointers h o.group))) refl in
-        omega (arith, put.held (λ x y. (x == h) && nat_le y j), none, before.firsts h j o past)
+        omega (arith, put.held (λ x y. (x == h) && nat_le y j), none, before.through h j o past)
 
 -- a group that gave up nothing gave up nothing at any place
 pub none_freed : (freed : List Eviction) (h : ℕ) → gave_any freed h ≡ false → freed_units (λ x _. x == h) freed ≡ 0

@@ -4,19 +4,20 @@ use Rattle.std.proofs.lemmas.Bool.{and_from, and_parts, cases_Bool, cases_order,
 use Rattle.std.proofs.lemmas.List.Folds.{list_any_at}
 use Rattle.std.proofs.lemmas.List.Elements.{All-head, All-tail}
 use Rattle.map_model.specs.Market.{Market, IsMarket, capacity_of, pool_of}
-use Rattle.map_model.specs.Allocation.{amount_at, counts_at, load, none_worse}
+use Rattle.map_model.specs.Allocation.{IsOffer, amount_at, counts_at, load, none_worse, units_of}
 use Rattle.map_model.specs.Progress.{tree_of}
 use Rattle.map_model.proofs.Trees.{under_there}
 use Rattle.map_model.proofs.Paths.{pool_there}
 use Rattle.evict.specs.declared.freed.Eviction.{Eviction}
-use Rattle.evict.specs.Evictions.{gave_up}
+use Rattle.std.proofs.lemmas.List.Sums.{sum_by-cons}
+use Rattle.evict.specs.Evictions.{freed_units, gave_up}
 use Rattle.evict.specs.Standing.{CanPut, IsPut, Standing}
 use Rattle.evict.proofs.Refusals.{refused_by}
 use Rattle.evict.proofs.Settled.{freed_more}
 use Rattle.deferred_accept.specs.Runs.{proposals_of, worth_of}
 use Rattle.deferred_accept.specs.Spreading.{HoldsWork, IsSameFor, StaysInside, is_inside}
 use Rattle.deferred_accept.specs.Work.{IsWaiting, gave_any}
-use Rattle.deferred_accept.proofs.Roots.{root-under}
+use Rattle.map_model.proofs.Roots.{root-under}
 use Rattle.deferred_accept.proofs.Sums.{sum-le, sum-lt}
 use Rattle.deferred_accept.proofs.Turns.{counted_step, none_at, none_freed, pointer_rises, waited}
 use Rattle.deferred_accept.proofs.Worth.{freed_none, worth_falls}
@@ -86,6 +87,13 @@ gave_any_each P (e ∷ es) h all gave = elim (or_cases (e.offer.group.0 == h) (g
   | inr more ↦ gave_any_each P es h (All-tail (λ (x : Eviction). P x.offer.group.0) e es all) more
 ]
 
+-- a test that no eviction passes lets no freed units through
+freed_nothing : (test : ℕ → ℕ → Bool) (freed : List Eviction) → All (λ (e : Eviction). test e.offer.group.0 e.offer.place ≡ false) freed → freed_units test freed ≡ 0
+freed_nothing test [] all = refl
+freed_nothing test (e ∷ es) all =
+    let here : (if test e.offer.group.0 e.offer.place then e.units else 0) ≡ 0 = rw (All-head (λ (x : Eviction). test x.offer.group.0 x.offer.place ≡ false) e es all) refl in
+    omega (arith, sum_by-cons (λ (x : Eviction). if test x.offer.group.0 x.offer.place then x.units else 0) e es, here, freed_nothing test es (All-tail (λ (x : Eviction). test x.offer.group.0 x.offer.place ≡ false) e es all))
+
 -- what groups inside may still offer, less what they hold at their pointers
 abbrev pub worth_inside : Market → (ℕ → Bool) → Standing → ℕ
 worth_inside m trees state = sum_by (λ g. if is_inside m trees g then worth_of m state g else 0) (range_with_len 0 (length m.groups))
@@ -94,10 +102,11 @@ worth_inside m trees state = sum_by (λ g. if is_inside m trees g then worth_of 
 pub record IsSpreading (m : Market) (trees : ℕ → Bool) (start now : Standing) (before after : ℕ) : Type 0 where
   pub work : HoldsWork m trees now
   pub outside : (g : ℕ) → g < length m.groups → IsFalse (is_inside m trees g) → IsSameFor start now g
+  pub units : (test : ℕ → ℕ → Bool) → ((g k : ℕ) → IsOffer m g k → test g k ≡ true → IsFalse (is_inside m trees g)) → units_of test now.lines ≡ units_of test start.lines
   pub counted : after + worth_inside m trees now ≤ before + worth_inside m trees start
 
 pub spread_start : (m : Market) (trees : ℕ → Bool) (start : Standing) (before : ℕ) → HoldsWork m trees start → IsSpreading m trees start start before before
-spread_start m trees start before work = record { work = work; outside = λ g l out. record { units = λ k. refl; pointer = refl; free = refl }; counted = omega arith }
+spread_start m trees start before work = record { work = work; outside = λ g l out. record { units = λ k. refl; pointer = refl; free = refl }; units = λ test only. refl; counted = omega arith }
 
 -- a proposal of a group inside
 pub spread_step : (m : Market) (trees : ℕ → Bool) (start old new : Standing) (g k units : ℕ) (freed : List Eviction) (before was now : ℕ) (full : Bool) → IsSpreading m trees start old before was → CanPut m old g k units → IsPut m old new g k units freed
@@ -111,6 +120,9 @@ spread_step m trees start old new g k units freed before was now full sofar can 
     ];
   };
   outside = λ h l out. stays h l out (sofar.outside h l out);
+  units = λ test only.
+      let none_put : (if test g k then units else 0) ≡ 0 = elim (cases_Bool (test g k)) [ inl y ↦ absurd (false≢true (sym (only g k can.offer y) ∙ inside)) | inr n ↦ rw n refl ] in
+      omega (arith, put.held test, none_put, freed_nothing test freed (λ i d l. unfreed test only i d l), sofar.units test only);
   counted = counted_step before (worth_inside m trees start) was now (worth_inside m trees old) (worth_inside m trees new) full counted less sofar.counted;
 }
   where
@@ -121,6 +133,14 @@ spread_step m trees start old new g k units freed before was now full sofar can 
     gives h gave =
         gave_any_each (λ x. is_inside m trees x ≡ true) freed h
         (λ i d l. sym (sofar.work.lists _ _ (put.evictions i d l).offer) ∙ ap trees (same_tree m old new g k units freed can put i d l) ∙ sofar.work.lists g k can.offer ∙ inside) gave
+
+    unfreed : (test : ℕ → ℕ → Bool) → ((h j : ℕ) → IsOffer m h j → test h j ≡ true → IsFalse (is_inside m trees h)) → All (λ (e : Eviction). test e.offer.group.0 e.offer.place ≡ false) freed
+    unfreed test only i d l =
+        let e : Eviction = slice_index_or freed i d in
+        elim (cases_Bool (test e.offer.group.0 e.offer.place)) [
+          | inr n ↦ n
+          | inl y ↦ absurd (false≢true (sym (only e.offer.group.0 e.offer.place (put.evictions i d l).offer y) ∙ gives e.offer.group.0 (list_any_at (λ (x : Eviction). x.offer.group.0 == e.offer.group.0) freed i d l (eq-eqb e.offer.group.0 e.offer.group.0 refl))))
+        ]
 
     stays : (h : ℕ) → h < length m.groups → is_inside m trees h ≡ false → IsSameFor start old h → IsSameFor start new h
     stays h l out same =
@@ -148,6 +168,7 @@ spread_step m trees start old new g k units freed before was now full sofar can 
 pub spread_end : (m : Market) (trees : ℕ → Bool) (start now : Standing) (before after : ℕ) → IsSpreading m trees start now before after → StaysInside m trees start now before after
 spread_end m trees start now before after sofar = record {
   outside = sofar.outside;
+  units = sofar.units;
   steps = omega (arith, sofar.counted, sum-le (λ g. if is_inside m trees g then worth_of m start g else 0) (λ g. if is_inside m trees g then proposals_of m start.pointers g else 0) (length m.groups) 0 (λ i low high. within (is_inside m trees i) (proposals_of m start.pointers i) _));
 }
   where

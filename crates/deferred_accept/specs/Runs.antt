@@ -1,7 +1,7 @@
-use Rattle.std.specs.Prelude.{◌≡◌, ℕ, ◌+◌, ◌-◌, ◌*◌, ◌^◌, ◌<◌, ◌≤◌, nat_lt, if◌then◌else◌, zero, suc, List, length, slice_index, sum_by}
+use Rattle.std.specs.Prelude.{◌≡◌, ℕ, ◌+◌, ◌-◌, ◌*◌, ◌^◌, ◌<◌, ◌≤◌, nat_lt, true, if◌then◌else◌, zero, suc, List, length, slice_index, sum_by}
 use Rattle.std.specs.List.{range_with_len}
 use Rattle.map_model.specs.Market.{Market, choices_of, demand_of}
-use Rattle.map_model.specs.Allocation.{IsOffer, amount_at, first}
+use Rattle.map_model.specs.Allocation.{IsOffer, amount_at, placed_through, is_wanted}
 use Rattle.evict.specs.declared.freed.Eviction.{Eviction}
 use Rattle.evict.specs.Standing.{IsPut, IsReady, Standing}
 use Rattle.deferred_accept.specs.Work.{IsWaiting}
@@ -18,7 +18,11 @@ most_proposals m pointers = sum_by (proposals_of m pointers) (range_with_len 0 (
 pub record HasRun (m : Market) (old new : Standing) : Type 0 where
   pub ready : IsReady m new
   pub pointers : (g : ℕ) → g < length m.groups → slice_index old.pointers g ≤ slice_index new.pointers g
-  pub firsts : (g k : ℕ) → IsOffer m g k → k < slice_index old.pointers g → first new.lines g k ≤ first old.lines g k
+  pub through : (g k : ℕ) → IsOffer m g k → k < slice_index old.pointers g → placed_through new.lines g k ≤ placed_through old.lines g k
+
+-- each place before a group's pointer is wanted
+abbrev pub WantsBefore : Market → Standing → Type 0
+WantsBefore m state = (g k : ℕ) → IsOffer m g k → k < slice_index state.pointers g → is_wanted m state.lines g k ≡ true
 
 -- one proposal: a waiting group offered all its free units at its pointer, and offers lost what is listed
 pub record IsProposal (m : Market) (old new : Standing) : Type 0 where

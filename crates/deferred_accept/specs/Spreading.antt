@@ -1,7 +1,7 @@
-use Rattle.std.specs.Prelude.{◌≡◌, ℕ, ◌+◌, ◌<◌, ◌≤◌, Bool, IsTrue, IsFalse, if◌then◌else◌, List, length, slice_index, sum_by}
+use Rattle.std.specs.Prelude.{◌≡◌, ℕ, ◌+◌, ◌<◌, ◌≤◌, Bool, true, IsTrue, IsFalse, if◌then◌else◌, List, length, slice_index, sum_by}
 use Rattle.std.specs.List.{range_with_len}
 use Rattle.map_model.specs.Market.{Market}
-use Rattle.map_model.specs.Allocation.{IsOffer, amount_at}
+use Rattle.map_model.specs.Allocation.{IsOffer, amount_at, units_of}
 use Rattle.map_model.specs.Progress.{tree_of}
 use Rattle.evict.specs.Standing.{Standing}
 use Rattle.deferred_accept.specs.Runs.{proposals_of}
@@ -29,4 +29,5 @@ proposals_inside m trees pointers = sum_by (λ g. if is_inside m trees g then pr
 -- for a set of trees that holds the work: a group outside stays as it is, and the proposals are those of groups inside
 pub record StaysInside (m : Market) (trees : ℕ → Bool) (old new : Standing) (before after : ℕ) : Type 0 where
   pub outside : (g : ℕ) → g < length m.groups → IsFalse (is_inside m trees g) → IsSameFor old new g
+  pub units : (test : ℕ → ℕ → Bool) → ((g k : ℕ) → IsOffer m g k → test g k ≡ true → IsFalse (is_inside m trees g)) → units_of test new.lines ≡ units_of test old.lines
   pub steps : after ≤ before + proposals_inside m trees old.pointers

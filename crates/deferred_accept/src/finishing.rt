@@ -1,7 +1,7 @@
 //! The map of an ended state.
 
 ghost use Rattle.std.specs.Prelude.{◌≡◌, ◌++◌, ◌<◌, IfOk, OnOk, length};
-ghost use Rattle.map_model.specs.Allocation.{IsGood, first as units_upto, name_of, names_of};
+ghost use Rattle.map_model.specs.Allocation.{IsGood, placed_through, name_of, names_of};
 ghost use Rattle.map_model.specs.Progress.{IsEnded};
 ghost use Rattle.stable_check.specs.Due.{due};
 ghost use Rattle.evict.specs.Standing.{CanAsk, IsReady};
@@ -13,12 +13,12 @@ use std::alloc::Global;
 
 /// The name of an offer, if it is wanted: the refusing node nearest to the pool. The group has that
 /// many units there and at better places.
-fn name(instance: &Instance, state: &State, offer: Offer, first: Units) -> Option<NameLine>
+fn name(instance: &Instance, state: &State, offer: Offer, through: Units) -> Option<NameLine>
     requires asked { CanAsk instance.now state.now offer.group.0 offer.place }
-    requires first { first ≡ units_upto state.now.lines offer.group.0 offer.place }
+    requires through { through ≡ placed_through state.now.lines offer.group.0 offer.place }
     ensures { result ≡ name_of instance.now state.now.lines offer }
 {
-    if first < u64::from(instance.demand(offer.group)) {
+    if through < u64::from(instance.demand(offer.group)) {
         let node = state.refuser(instance, offer)?;
         Some(NameLine {
             group: offer.group,
@@ -41,11 +41,11 @@ fn add_names_of(
     requires group { group.0 < length instance.now.groups }
     ensures { OnOk result (names.new.items ≡ names.old.items ++ due instance.now state.now.lines group.0 0) }
 {
-    let mut first = 0;
+    let mut through = 0;
     for place in 0..instance.list_len(group) {
         let offer = Offer { group, place };
-        first += state.units(offer);
-        if let Some(name) = name(instance, state, offer, first) {
+        through += state.units(offer);
+        if let Some(name) = name(instance, state, offer, through) {
             names.push(name)?;
         }
     }

@@ -1,15 +1,14 @@
 ghost use Rattle.std.specs.Prelude.{◌≡◌, ◌+◌, ◌≤◌, ℕ, Bool, OnOk};
 ghost use Rattle.map_model.specs.Progress.{IsEnded};
 ghost use Rattle.evict.specs.Standing.{IsReady};
-ghost use Rattle.deferred_accept.specs.Runs.{HasProposed, HasRun, most_proposals};
+ghost use Rattle.deferred_accept.specs.Runs.{HasProposed, HasRun, WantsBefore, most_proposals};
 ghost use Rattle.deferred_accept.specs.Spreading.{HoldsWork, StaysInside};
 
-use crate::work::{next_offer, wake};
+use crate::work::{add_again, next_offer, wake};
 use crate::work_list::WorkList;
 use evict::{Freed, State};
-use map_model::Instance;
+use map_model::{Instance, Steps};
 use no_memory::NoMemory;
-use outside::Steps;
 use std::alloc::Global;
 
 /// Offers free units until no group has any before the end of its list. Each offer is one step: a
@@ -31,15 +30,17 @@ pub fn run<L>(
     ensures steps { OnOk result (steps.new ≤ steps.old + most_proposals instance.now state.old.pointers) }
     ensures counted { OnOk result (HasProposed instance.now state.old state.new steps.old steps.new) }
     ensures later { steps.old ≤ steps.new }
+    ensures wanted { OnOk result (WantsBefore instance.now state.old → WantsBefore instance.now state.new) }
     ensures inside { OnOk result ((trees : ℕ → Bool) → HoldsWork instance.now trees state.old → StaysInside instance.now trees state.old state.new steps.old steps.new) }
 {
     let mut freed = Freed::new(alloc);
     let mut work = WorkList::all(alloc, instance)?;
     while let Some(offer) = next_offer(instance, state, &mut work) {
-        work.add(offer.group)?;
         let units = state.free(offer.group);
         state.put(instance, offer, units, &mut freed, steps)?;
-        wake(&mut work, freed.evictions())?;
+        let given_up = freed.evictions();
+        add_again(&mut work, offer.group, given_up)?;
+        wake(&mut work, given_up)?;
     }
     Ok(())
 }

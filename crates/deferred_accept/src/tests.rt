@@ -2,9 +2,8 @@ ghost use Rattle.std.specs.Prelude.{OnOk};
 
 use crate::{finish, run};
 use evict::State;
-use map_model::{Choice, GroupId, GroupRow, Instance, MapLine, MapLines, NameLine, Node, NodeId};
+use map_model::{Choice, ClientGroup, GroupId, Instance, MapLine, MapLines, NameLine, Node, NodeId, Steps};
 use no_memory::NoMemory;
-use outside::Steps;
 use std::alloc::Global;
 use std::test::Fail;
 
@@ -149,7 +148,7 @@ fn instance_of(alloc: Global, world: &World) -> Result<Instance, Fail> {
                 score,
             })?;
         }
-        groups.push(GroupRow::new(demand, choices))?;
+        groups.push(ClientGroup::new(demand, choices))?;
     }
     let mut nodes = Vec::new(alloc);
     for &(capacity, parent, is_pool) in world.nodes {

@@ -68,6 +68,20 @@ impl WorkList {
         Ok(())
     }
 
+    /// Puts a group on the list in front of the others, unless it is there.
+    pub fn add_first(&mut self, group: GroupId) -> Result<(), NoMemory>
+        requires { group.0 < length self.old }
+        ensures { OnOk result (self.new ≡ slice_set self.old group.0 true) }
+    {
+        let g = group.0 as usize;
+        if self.is_on[g] {
+            return Ok(());
+        }
+        self.groups.push_front(group)?;
+        self.is_on[g] = true;
+        Ok(())
+    }
+
     /// Takes a group off the list; none exactly where no group is there.
     pub fn pop(&mut self) -> Option<GroupId>
         ensures { MatchOption result

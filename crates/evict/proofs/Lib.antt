@@ -12,3 +12,4 @@ pub mod Done
 pub mod Sound
 pub mod Worst
 pub mod Fresh
+pub mod OfMap

@@ -23,7 +23,7 @@ room_at m origin g k units held tree freed p n l =
     omega (arith, p.agrees.loads n l, p.fits n l, p.room, capacity)
 
 -- the loads after some units of an offer came
-agrees-put : (m : Market) (old new : List MapLine) (tree tree' : Loads) (g k t : ℕ) → AgreesWith m old tree → Puts old new g k t → AddsUnits tree tree' (pool_of m g k) t → AgreesWith m new tree'
+pub agrees-put : (m : Market) (old new : List MapLine) (tree tree' : Loads) (g k t : ℕ) → AgreesWith m old tree → Puts old new g k t → AddsUnits tree tree' (pool_of m g k) t → AgreesWith m new tree'
 agrees-put m old new tree tree' g k t agrees puts added = record {
   trees = subst (λ (x : Market). AreTreesOf m x) (sym added.trees) agrees.trees;
   size = added.count ∙ agrees.size;

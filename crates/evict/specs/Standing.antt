@@ -1,8 +1,8 @@
-use Rattle.std.specs.Prelude.{◌≡◌, ℕ, ◌+◌, ◌<◌, ◌≤◌, Bool, ◌==◌, if◌then◌else◌, List, [], length, All, IsTrue, slice_index, slice_set}
+use Rattle.std.specs.Prelude.{◌≡◌, ℕ, ◌+◌, ◌<◌, ◌≤◌, Bool, nat_lt, ◌==◌, if◌then◌else◌, List, [], length, All, IsTrue, slice_index, slice_set}
 use Rattle.map_model.specs.declared.instance.Key.{Key}
 use Rattle.map_model.specs.declared.lines.MapLine.{MapLine}
-use Rattle.map_model.specs.Market.{Market, IsMarket, IsSameShape}
-use Rattle.map_model.specs.Allocation.{AreLines, IsOffer, amount_at, is_full_of_better, is_under, units_of}
+use Rattle.map_model.specs.Market.{Market, IsMarket, IsSameShape, choices_of}
+use Rattle.map_model.specs.Allocation.{AreLines, IsOffer, amount_at, is_full_of_better, is_under, is_wanted, units_of}
 use Rattle.map_model.specs.Holding.{Takes}
 use Rattle.map_model.specs.Progress.{IsResumable}
 use Rattle.evict.specs.declared.freed.Eviction.{Eviction}
@@ -55,6 +55,18 @@ pub record IsFresh (m : Market) (state : Standing) : Type 0 where
   pub ready : IsReady m state
   pub nothing : state.lines ≡ []
   pub pointers : (g : ℕ) → g < length m.groups → slice_index state.pointers g ≡ 0
+
+-- a place of a group's list, or its end, that stands behind exactly the wanted places: their number
+pub record IsPastWanted (m : Market) (lines : List MapLine) (g place : ℕ) : Type 0 where
+  pub in_list : place ≤ length (choices_of m g)
+  pub wanted : (k : ℕ) → IsOffer m g k → is_wanted m lines g k ≡ nat_lt k place
+
+-- the state of a good map: whole and resumable, it holds the map's lines, and each pointer is the number of its group's wanted places
+pub record IsOfMap (m : Market) (held : List MapLine) (state : Standing) : Type 0 where
+  pub ready : IsReady m state
+  pub market : state.market ≡ m
+  pub lines : state.lines ≡ held
+  pub pointers : (g : ℕ) → g < length m.groups → IsPastWanted m held g (slice_index state.pointers g)
 
 -- held units may be released: the state is whole, and the offer holds them
 pub record CanRelease (state : Standing) (g k units : ℕ) : Type 0 where

@@ -3,6 +3,7 @@
 #![tactic(auto)]
 
 mod freed;
+mod loading;
 mod refuser;
 mod relief;
 mod settle;

@@ -26,8 +26,8 @@ fn is_none_worse(instance: &Instance, held: &Held, node: NodeId, key: Key) -> bo
     requires shape { IsSameShape held.now.market instance.now }
     ensures { result ≡ none_worse instance.now held.now.lines node.0 key }
 {
-    match held.worst_under(node) {
-        Some((worst, _)) => instance.key(worst) <= key,
+    match held.worst_key(node) {
+        Some(worst) => worst <= key,
         None => true,
     }
 }

@@ -1,19 +1,20 @@
 ghost use Rattle.std.specs.Prelude.{◌≡◌, ℕ, ◌+◌, ◌-◌, ◌<◌, ◌≤◌, ◌^◌, ◌==◌, IfOk, OnOk, IsTrue, MatchOption, length, slice_index, slice_set, if◌then◌else◌};
 ghost use Rattle.std.specs.Option.{option_map};
 ghost use Rattle.map_model.specs.Market.{demand_of};
-ghost use Rattle.map_model.specs.Allocation.{AreLines, IsOffer, amount_at, load, placed, refuser_of};
+ghost use Rattle.map_model.specs.Progress.{root_of};
+ghost use Rattle.map_model.specs.Allocation.{AreLines, IsGood, IsOffer, amount_at, load, placed, refuser_of};
 ghost use Rattle.map_model.specs.Holding.{IsWorst};
-ghost use Rattle.evict.specs.Standing.{CanAsk, CanPut, CanRelease, IsFresh, IsPut, IsReleased, Standing};
+ghost use Rattle.evict.specs.Standing.{CanAsk, CanPut, CanRelease, IsFresh, IsOfMap, IsPut, IsReleased, Standing};
 
 use crate::freed::Freed;
+use crate::loading::{load_lines, wanted_counts};
 use crate::refuser::refuser;
 use crate::relief::place;
 use crate::settle::settle;
 use capacity_tree::Tree;
-use map_model::{GroupId, Instance, MapLine, MapLines, NodeId, Offer, Units};
+use map_model::{GroupId, Instance, MapLine, MapLines, NodeId, Offer, Steps, Units};
 use no_memory::NoMemory;
 use offer_pool::Held;
-use outside::Steps;
 use std::alloc::Global;
 use std::marker::Model;
 
@@ -78,6 +79,44 @@ impl State {
         })
     }
 
+    /// What a good map holds. Each pointer stands behind the wanted places of its group.
+    pub fn of_map(alloc: Global, instance: &Instance, map: &MapLines) -> Result<State, NoMemory>
+        requires { IsGood instance.now map.now.lines.items map.now.names.items }
+        ensures { IfOk result (λ state. IsOfMap instance.now map.now.lines.items state) }
+    {
+        let _groups = instance.groups();
+        let held = Held::build(alloc, instance, map)?;
+        let pointers = wanted_counts(alloc, instance, &held)?;
+        let totals = demands(alloc, instance)?;
+        let own = instance.try_clone()?;
+        let mut free = demands(alloc, instance)?;
+        let mut tree = Tree::build(alloc, instance)?;
+        load_lines(
+            instance,
+            &mut tree,
+            free.as_mut_slice(),
+            map.lines.as_slice(),
+        );
+        Ok(State {
+            own,
+            held,
+            tree,
+            pointers,
+            free,
+            totals,
+            whole: true,
+        })
+    }
+
+    /// The root of a node's tree.
+    pub fn root(&self, node: NodeId) -> NodeId
+        requires whole { IsTrue self.now.is_whole }
+        requires node { node.0 < length self.now.market.nodes }
+        ensures { result.0 ≡ root_of self.now.market node.0 }
+    {
+        self.tree.root(node)
+    }
+
     /// The place of a group's list at which it offers next; at the list's end none is left.
     pub fn pointer(&self, group: GroupId) -> u8
         requires { group.0 < length self.now.pointers }
@@ -92,6 +131,16 @@ impl State {
         ensures { result ≡ slice_index self.now.free group.0 }
     {
         self.free[group.0 as usize]
+    }
+
+    /// The units that a group holds over its whole list.
+    pub fn placed(&self, group: GroupId) -> Units
+        requires whole { IsTrue self.now.is_whole }
+        requires group { group.0 < length self.now.free }
+        ensures { result ≡ placed self.now.lines group.0 }
+    {
+        let g = group.0 as usize;
+        self.totals[g] - self.free[g]
     }
 
     /// The units that an offer holds.

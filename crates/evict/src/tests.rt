@@ -2,8 +2,7 @@ ghost use Rattle.std.specs.Prelude.{OnOk};
 ghost use Rattle.evict.specs.Standing.{IsReady};
 
 use crate::{Eviction, Freed, State};
-use map_model::{Choice, GroupId, GroupRow, Instance, MapLine, Node, NodeId, Offer, Units};
-use outside::Steps;
+use map_model::{Choice, ClientGroup, GroupId, Instance, MapLine, Node, NodeId, Offer, Steps, Units};
 use std::alloc::Global;
 use std::test::Fail;
 
@@ -146,7 +145,7 @@ fn instance_of(alloc: Global, play: &Play) -> Result<Instance, Fail> {
                 score,
             })?;
         }
-        groups.push(GroupRow::new(demand, choices))?;
+        groups.push(ClientGroup::new(demand, choices))?;
     }
     let mut nodes = Vec::new(alloc);
     for &(capacity, parent, is_pool) in play.nodes {

@@ -10,10 +10,10 @@ use crate::report::{Ended, Report};
 use crate::status::Status;
 use deferred_accept::{finish, run};
 use evict::State;
-use map_model::{Instance, MapLines};
+use map_model::{Instance, MapLines, Steps};
 use map_text::write_map;
 use no_memory::NoMemory;
-use outside::{Shelf, Steps};
+use outside::Shelf;
 use std::alloc::Global;
 use topology_text::Topology;
 

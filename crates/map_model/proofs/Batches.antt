@@ -1,3 +1,4 @@
+-- Batches: one change more keeps the shape and gives its number.
 use Rattle.std.proofs.Common.{◌≡◌, ℕ, ◌<◌, ◌==◌, Bool, true, false, if◌then◌else◌, List, [], ◌∷◌, ◌++◌, length, Option, None, Some, refl, sym, ap, ◌∙◌, inl, inr, slice_set, unwrap_or, append-nil, arith}
 use Rattle.std.specs.List.{filter_map, last_or, cons_option}
 use Rattle.std.proofs.Math.ListN.{length-set}

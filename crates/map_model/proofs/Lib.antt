@@ -12,3 +12,6 @@ pub mod Batches
 pub mod NameForm
 pub mod Rising
 pub mod Turns
+pub mod Roots
+mod StateRows
+mod TreeRows

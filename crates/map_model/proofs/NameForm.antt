@@ -1,3 +1,4 @@
+-- The names of a map are in its form.
 use Rattle.std.proofs.Common.{◌≡◌, ℕ, zero, suc, ◌+◌, ◌-◌, ◌*◌, ◌<◌, Bool, List, [], ◌++◌, length, Option, None, Some, IsTrue, map, refl, sym, subst, inl, inr, arith}
 use Rattle.std.specs.List.{cons_option, filter_map, find, flat_map, range_with_len}
 use Rattle.std.specs.Option.{IfSome, option_map}

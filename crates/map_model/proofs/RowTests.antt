@@ -1,3 +1,4 @@
+-- Tests of rows: distinct pools, depths, and how trees and groups make an instance.
 use Rattle.std.proofs.Common.{◌≡◌, ℕ, suc, ◌+◌, ◌-◌, ◌<◌, ◌≤◌, ◌^◌, Bool, true, false, not, List, length, Option, None, Some, IfSome, IsTrue, IsFalse, All, AllPairs, slice_index_or, get_or, take, refl, sym, ap, ◌∙◌, subst, inl, inr, arith}
 use Rattle.std.specs.Option.{is_some}
 use Rattle.std.proofs.lemmas.Bool.{false≢true, true≢false, cases_eq}

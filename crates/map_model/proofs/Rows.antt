@@ -1,3 +1,4 @@
+-- Worked rows: each map that they name is good, as the definitions compute it.
 use Rattle.std.proofs.Common.{◌≡◌, ℕ, [], ◌∷◌, true, false, None, Some, refl}
 use Rattle.map_model.specs.declared.instance.Choice.{Choice}
 use Rattle.map_model.specs.declared.instance.Node.{Node}
@@ -7,27 +8,27 @@ use Rattle.map_model.specs.Market.{Market, climb}
 use Rattle.map_model.specs.Allocation.{IsGood, is_wanted, load, placed, refuser_of}
 use Rattle.map_model.proofs.Decide.{IsGood-computed}
 
--- Worked rows: each map that they name is good, as the definitions compute it. Groups, nodes and places by number.
-abbrev choice : ℕ → ℕ → Choice
+-- groups, nodes and places by number
+abbrev pub choice : ℕ → ℕ → Choice
 choice pool score = record { pool = record { 0 = pool }; score = score }
 
-abbrev root : ℕ → Node
+abbrev pub root : ℕ → Node
 root capacity = record { capacity = capacity; parent = None; is_pool = false }
 
-abbrev lone_pool : ℕ → Node
+abbrev pub lone_pool : ℕ → Node
 lone_pool capacity = record { capacity = capacity; parent = None; is_pool = true }
 
-abbrev pool_under : ℕ → ℕ → Node
+abbrev pub pool_under : ℕ → ℕ → Node
 pool_under parent capacity = record { capacity = capacity; parent = Some (record { 0 = parent }); is_pool = true }
 
-abbrev line : ℕ → ℕ → ℕ → MapLine
+abbrev pub line : ℕ → ℕ → ℕ → MapLine
 line g k amount = record { group = record { 0 = g }; place = k; amount = amount }
 
-abbrev name : ℕ → ℕ → ℕ → NameLine
+abbrev pub name : ℕ → ℕ → ℕ → NameLine
 name g k n = record { group = record { 0 = g }; place = k; node = record { 0 = n } }
 
 -- two-level eviction: R 15; A 10 and B 10 under R; g1 8 [A,B] 1,2; g2 8 [A,B] 3,4
-abbrev two_level : Market
+abbrev pub two_level : Market
 two_level = record {
   groups = record { demand = 8; choices = choice 1 1 ∷ choice 2 2 ∷ [] } ∷ record { demand = 8; choices = choice 1 3 ∷ choice 2 4 ∷ [] } ∷ [];
   nodes = root 15 ∷ pool_under 0 10 ∷ pool_under 0 10 ∷ [];
@@ -69,13 +70,13 @@ unfolding climb
 no_longer_full-good = IsGood-computed no_longer_full (line 0 0 2 ∷ line 2 0 8 ∷ []) (name 0 0 0 ∷ name 1 0 0 ∷ []) refl refl
 
 -- lowered pool frees its region: R 10; A and B 10 under R, A lowered to 3; a 8 [A] 1; b 8 [B] 2
-abbrev region : ℕ → Market
+abbrev pub region : ℕ → Market
 region capacity = record {
   groups = record { demand = 8; choices = choice 1 1 ∷ [] } ∷ record { demand = 8; choices = choice 2 2 ∷ [] } ∷ [];
   nodes = root 10 ∷ pool_under 0 capacity ∷ pool_under 0 10 ∷ [];
 }
 
-region-good : IsGood (region 10) (line 0 0 8 ∷ line 1 0 2 ∷ []) (name 1 0 0 ∷ [])
+pub region-good : IsGood (region 10) (line 0 0 8 ∷ line 1 0 2 ∷ []) (name 1 0 0 ∷ [])
 unfolding climb
 region-good = IsGood-computed (region 10) (line 0 0 8 ∷ line 1 0 2 ∷ []) (name 1 0 0 ∷ []) refl refl
 
@@ -84,23 +85,23 @@ unfolding climb
 lowered_region-good = IsGood-computed (region 3) (line 0 0 3 ∷ line 1 0 7 ∷ []) (name 0 0 1 ∷ name 1 0 0 ∷ []) refl refl
 
 -- two good maps: three roots, P and Q of capacity one and Z of capacity five; a ranks P before Q, b ranks Q before P, and c asks Z, for one unit and then for two
-abbrev crossed : ℕ → Market
+abbrev pub crossed : ℕ → Market
 crossed demand = record {
   groups = record { demand = 1; choices = choice 0 2 ∷ choice 1 1 ∷ [] } ∷ record { demand = 1; choices = choice 1 2 ∷ choice 0 1 ∷ [] } ∷ record { demand = demand; choices = choice 2 1 ∷ [] } ∷ [];
   nodes = lone_pool 1 ∷ lone_pool 1 ∷ lone_pool 5 ∷ [];
 }
 
-crossed-good : IsGood (crossed 1) (line 0 1 1 ∷ line 1 1 1 ∷ line 2 0 1 ∷ []) (name 0 0 0 ∷ name 1 0 1 ∷ [])
+pub crossed-good : IsGood (crossed 1) (line 0 1 1 ∷ line 1 1 1 ∷ line 2 0 1 ∷ []) (name 0 0 0 ∷ name 1 0 1 ∷ [])
 unfolding climb
 crossed-good = IsGood-computed (crossed 1) (line 0 1 1 ∷ line 1 1 1 ∷ line 2 0 1 ∷ []) (name 0 0 0 ∷ name 1 0 1 ∷ []) refl refl
 
 -- the repaired map
-repaired-good : IsGood (crossed 2) (line 0 1 1 ∷ line 1 1 1 ∷ line 2 0 2 ∷ []) (name 0 0 0 ∷ name 1 0 1 ∷ [])
+pub repaired-good : IsGood (crossed 2) (line 0 1 1 ∷ line 1 1 1 ∷ line 2 0 2 ∷ []) (name 0 0 0 ∷ name 1 0 1 ∷ [])
 unfolding climb
 repaired-good = IsGood-computed (crossed 2) (line 0 1 1 ∷ line 1 1 1 ∷ line 2 0 2 ∷ []) (name 0 0 0 ∷ name 1 0 1 ∷ []) refl refl
 
 -- the map from scratch
-scratch-good : IsGood (crossed 2) (line 0 0 1 ∷ line 1 0 1 ∷ line 2 0 2 ∷ []) []
+pub scratch-good : IsGood (crossed 2) (line 0 0 1 ∷ line 1 0 1 ∷ line 2 0 2 ∷ []) []
 unfolding climb
 scratch-good = IsGood-computed (crossed 2) (line 0 0 1 ∷ line 1 0 1 ∷ line 2 0 2 ∷ []) [] refl refl
 

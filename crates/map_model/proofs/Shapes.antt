@@ -1,3 +1,4 @@
+-- What depends on the shape of an instance alone.
 use Rattle.std.proofs.Common.{◌≡◌, ℕ, ◌<◌, refl, sym, ap, ◌∙◌, Some, subst, length, List, slice_index, slice_index_or, ◌==◌, ◌-◌, arith}
 use Rattle.std.specs.List.{list_any}
 use Rattle.map_model.specs.declared.instance.Choice.{Choice}

@@ -1,3 +1,4 @@
+-- Keys, loads, what is wanted, what refuses, and what a good map is.
 use Rattle.std.specs.Prelude.{◌≡◌, ℕ, ◌-◌, ◌<◌, ◌≤◌, Bool, true, ◌&&◌, ◌||◌, ◌==◌, nat_lt, nat_le, if◌then◌else◌, List, length, Option, None, IsTrue, IsSome, slice_index_or, sum_by, find, map}
 use Rattle.std.specs.List.{list_any, list_all, range_with_len, flat_map, filter_map}
 use Rattle.std.specs.Option.{option_map}
@@ -43,8 +44,8 @@ abbrev pub load : Market → List MapLine → ℕ → ℕ
 load m lines n = units_of (counts_at m n) lines
 
 -- the units of a group at places 0 to k
-abbrev pub first : List MapLine → ℕ → ℕ → ℕ
-first lines g k = units_of (λ h j. (h == g) && nat_le j k) lines
+abbrev pub placed_through : List MapLine → ℕ → ℕ → ℕ
+placed_through lines g k = units_of (λ h j. (h == g) && nat_le j k) lines
 
 -- the units of a group at place k
 abbrev pub amount_at : List MapLine → ℕ → ℕ → ℕ
@@ -61,7 +62,7 @@ pub record IsFeasible (m : Market) (lines : List MapLine) : Type 0 where
 
 -- wanted: some of the group's demand is placed worse than at this place, or not at all
 abbrev pub is_wanted : Market → List MapLine → ℕ → ℕ → Bool
-is_wanted m lines g k = nat_lt (first lines g k) (demand_of m g)
+is_wanted m lines g k = nat_lt (placed_through lines g k) (demand_of m g)
 
 -- every line under the node has a key of at most this one
 abbrev pub none_worse : Market → List MapLine → ℕ → Key → Bool

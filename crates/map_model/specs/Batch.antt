@@ -1,3 +1,4 @@
+-- Batches of changes: what is in range, and an instance to which a batch was applied.
 use Rattle.std.specs.Prelude.{◌≡◌, ℕ, ◌<◌, ◌≤◌, ◌^◌, ◌==◌, if◌then◌else◌, List, length, Option, None, Some, All, unwrap_or}
 use Rattle.std.specs.List.{filter_map, last_or}
 use Rattle.map_model.specs.declared.change.Change.{Change}

@@ -1,3 +1,4 @@
+-- Units that come to an offer or go from it, the worst held offer under a node, and a node full of better units.
 use Rattle.std.specs.Prelude.{◌≡◌, ℕ, ◌+◌, ◌<◌, ◌≤◌, Bool, not, ◌&&◌, if◌then◌else◌, List, IsTrue}
 use Rattle.map_model.specs.declared.instance.Key.{Key}
 use Rattle.map_model.specs.declared.lines.MapLine.{MapLine}
@@ -27,6 +28,10 @@ pub record IsWorst (m : Market) (lines : List MapLine) (n g k units : ℕ) : Typ
   pub some : 0 < units
   pub held : amount_at lines g k ≡ units
   pub worst : units_of (under_worse m n (key_of m g k)) lines ≡ 0
+
+-- the key of the worst held offer under a node
+abbrev pub IsWorstKey : Market → List MapLine → ℕ → Key → Type 0
+IsWorstKey m lines n key = (g : ℕ) × (k : ℕ) × (units : ℕ) × IsWorst m lines n g k units × (key_of m g k ≡ key)
 
 -- the node is full of units ranked at least as high as a key, whatever else it holds
 abbrev pub IsSaturated : Market → List MapLine → ℕ → Key → Type 0

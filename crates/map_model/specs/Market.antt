@@ -1,8 +1,10 @@
-use Rattle.std.specs.Prelude.{◌≡◌, ℕ, zero, suc, ◌<◌, ◌≤◌, ◌^◌, Bool, false, IsTrue, IsFalse, List, [], ◌∷◌, length, Option, None, Some, IfSome, All, AllPairs, slice_index_or}
+-- Instances: groups that ask pools, trees of capacities, paths, and what makes rows an instance.
+use Rattle.std.specs.Prelude.{◌≡◌, refl, ℕ, zero, suc, ◌<◌, ◌≤◌, ◌^◌, Bool, false, IsTrue, IsFalse, List, [], ◌∷◌, length, Option, None, Some, IfSome, All, AllPairs, slice_index_or}
 use Rattle.map_model.specs.declared.instance.NodeId.{NodeId}
 use Rattle.map_model.specs.declared.instance.Key.{Key}
 use Rattle.map_model.specs.declared.instance.Choice.{Choice}
 use Rattle.map_model.specs.declared.instance.Node.{Node}
+use Rattle.map_model.specs.declared.limits.TheConstants.{LEVELS, MOST_CAPACITY, MOST_GROUPS, MOST_NODES, PLACES}
 
 -- a group: its demand, and its list of pools with their scores, the best place first
 pub record Group : Type 0 where
@@ -87,6 +89,22 @@ pub record IsMarket (m : Market) : Type 0 where
   pub parents : (n : ℕ) → n < length m.nodes → IfSome (parent_of m n) (λ p. p.0 < n)
   pub inner : (n : ℕ) → n < length m.nodes → IfSome (parent_of m n) (λ p. IsFalse (is_pool_at m p.0))
   pub shallow : (n : ℕ) → n < length m.nodes → length (climb 9 m (Some (record { 0 = n }))) ≤ 8
+
+-- the constants of the code are these numerals
+pub levels_is : LEVELS ≡ 8
+levels_is = refl
+
+pub places_is : PLACES ≡ 16
+places_is = refl
+
+pub most_groups_is : MOST_GROUPS ≡ 65536
+most_groups_is = refl
+
+pub most_nodes_is : MOST_NODES ≡ 8192
+most_nodes_is = refl
+
+pub most_capacity_is : MOST_CAPACITY ≡ 2 ^ 48
+most_capacity_is = refl
 
 -- two instances that differ in demands and capacities alone: the lists and the trees are the same
 pub record IsSameShape (old new : Market) : Type 0 where

@@ -1,7 +1,8 @@
+-- Resumable, ended and group-best, and the trees to which changes reach and spread.
 use Rattle.std.specs.Prelude.{◌≡◌, ◌≢◌, ℕ, ◌+◌, ◌-◌, ◌<◌, ◌≤◌, Bool, List, length, IsTrue, IsSome, slice_index}
 use Rattle.map_model.specs.declared.lines.MapLine.{MapLine}
 use Rattle.map_model.specs.Market.{Market, capacity_of, choices_of, demand_of, path, pool_of}
-use Rattle.map_model.specs.Allocation.{AreLines, IsFeasible, IsOffer, IsStable, amount_at, first, is_wanted, load, placed, refuser_of}
+use Rattle.map_model.specs.Allocation.{AreLines, IsFeasible, IsOffer, IsStable, amount_at, placed_through, is_wanted, load, placed, refuser_of}
 
 -- A resumable state, of what is held, a pointer for each group, and free units for each group: no node is over its capacity; what is held and what is free make up the demand; a group holds nothing at a place after its pointer; and some node refuses each place before it.
 pub record IsResumable (m : Market) (lines : List MapLine) (pointers free : List ℕ) : Type 0 where
@@ -20,7 +21,7 @@ IsEnded m pointers free = (g : ℕ) → g < length m.groups → slice_index poin
 
 -- group-best: no feasible and stable map has more of any group at its places 0 to k, for any k
 abbrev pub IsGroupBest : Market → List MapLine → Type 0
-IsGroupBest m lines = (other : List MapLine) → AreLines m other → IsFeasible m other → IsStable m other → (g k : ℕ) → IsOffer m g k → first other g k ≤ first lines g k
+IsGroupBest m lines = (other : List MapLine) → AreLines m other → IsFeasible m other → IsStable m other → (g k : ℕ) → IsOffer m g k → placed_through other g k ≤ placed_through lines g k
 
 -- the root of a node's tree: the last node of its path; it stands for the tree
 abbrev pub root_of : Market → ℕ → ℕ

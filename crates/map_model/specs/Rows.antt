@@ -1,3 +1,4 @@
+-- Inside this crate alone: what is tested of rows of nodes.
 use Rattle.std.specs.Prelude.{ℕ, ◌<◌, ◌≤◌, ◌^◌, List, [], length, IfSome, IsFalse}
 use Rattle.map_model.specs.declared.instance.Node.{Node}
 use Rattle.map_model.specs.Market.{Market, node_in}

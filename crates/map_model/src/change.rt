@@ -1,3 +1,5 @@
+//! Changes of the numbers of an instance.
+
 use crate::instance::{GroupId, NodeId, Units};
 
 /// One change of a batch: a new number for a group's demand or for a node's capacity. Of several

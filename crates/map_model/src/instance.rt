@@ -1,8 +1,13 @@
-ghost use Rattle.std.specs.Prelude.{◌≡◌, ◌↔◌, ◌<◌, ◌≤◌, ◌^◌, length, slice_set, IfOk, IfSome, IsSome};
-ghost use Rattle.map_model.specs.Market.{Group, Market, IsMarket, IsSameShape, capacity_of, choice_at, choices_of, demand_of, group_at, key_of, node_at, parent_of};
+//! Instances: groups that ask pools, in trees of capacities.
+
+ghost use Rattle.std.specs.Prelude.{◌≡◌, ◌↔◌, ◌<◌, ◌≤◌, ◌^◌, length, slice_set, map, IfOk, IfSome, IsSome};
+ghost use Rattle.map_model.specs.Market.{Group, Market, IsMarket, IsSameShape, capacity_of, choice_at, choices_of, demand_of, group_at, key_of, node_at, parent_of, path};
+ghost use Rattle.map_model.specs.declared.limits.TheConstants.{MOST_CAPACITY};
 ghost use Rattle.map_model.specs.Allocation.{IsOffer};
 
+use crate::limits::LEVELS;
 use crate::validity::is_market;
+use arrayvec::ArrayVec;
 use no_memory::NoMemory;
 use std::marker::Model;
 
@@ -51,14 +56,14 @@ pub struct Node {
     pub is_pool: bool,
 }
 
-/// A group: its demand, and the pools that it asks, the best place first.
+/// A client group: its demand, and the pools that it asks, the best place first.
 #[derive(Clone, Debug, Drop)]
-pub struct GroupRow {
+pub struct ClientGroup {
     demand: u32,
     choices: Vec<Choice>,
 }
 
-impl Model for GroupRow {
+impl Model for ClientGroup {
     ghost use Rattle.map_model.specs.Market.{Group};
 
     ghost Value = { Group };
@@ -66,12 +71,12 @@ impl Model for GroupRow {
     ghost view = { λ a. record { demand = a.demand; choices = a.choices.items } };
 }
 
-impl GroupRow {
+impl ClientGroup {
     /// A group of that demand and list.
-    pub fn new(demand: u32, choices: Vec<Choice>) -> GroupRow
+    pub fn new(demand: u32, choices: Vec<Choice>) -> ClientGroup
         ensures { result ≡ record { demand = demand; choices = choices.items } }
     {
-        GroupRow { demand, choices }
+        ClientGroup { demand, choices }
     }
 
     /// How many units the group asks for.
@@ -99,7 +104,7 @@ impl GroupRow {
 /// An instance: groups that ask pools, and the trees of capacities in which the pools stand.
 #[derive(Clone, Debug, Drop)]
 pub struct Instance {
-    groups: Vec<GroupRow>,
+    groups: Vec<ClientGroup>,
     nodes: Vec<Node>,
 }
 
@@ -115,7 +120,7 @@ impl Model for Instance {
 
 impl Instance {
     /// The instance of these rows.
-    pub fn from_rows(groups: Vec<GroupRow>, nodes: Vec<Node>) -> Instance
+    pub fn from_rows(groups: Vec<ClientGroup>, nodes: Vec<Node>) -> Instance
         requires { IsMarket (record { groups = groups.items; nodes = nodes.items }) }
         ensures { result ≡ record { groups = groups.items; nodes = nodes.items } }
     {
@@ -124,7 +129,7 @@ impl Instance {
 
     /// The instance of these rows, where they are one: some exactly where the limits hold, parents
     /// have lower numbers and are no pools, no path has nine nodes, and each list has distinct pools.
-    pub fn try_from_rows(groups: Vec<GroupRow>, nodes: Vec<Node>) -> Option<Instance>
+    pub fn try_from_rows(groups: Vec<ClientGroup>, nodes: Vec<Node>) -> Option<Instance>
         ensures valid { IsSome result ↔ IsMarket (record { groups = groups.items; nodes = nodes.items }) }
         ensures value { IfSome result (λ instance. instance ≡ record { groups = groups.items; nodes = nodes.items }) }
     {
@@ -183,6 +188,24 @@ impl Instance {
         self.nodes[node.0 as usize].parent
     }
 
+    /// The nodes from this one up to its root.
+    pub fn path(&self, node: NodeId) -> ArrayVec<NodeId, LEVELS>
+        requires { node.0 < length self.now.nodes }
+        ensures { map (λ n. n.0) result.items ≡ path self.now node.0 }
+    {
+        // Tells the proof that this is an instance.
+        let _count = self.nodes();
+        let mut path = ArrayVec::new();
+        let mut at = Some(node);
+        for _step in 0..LEVELS {
+            if let Some(node) = at {
+                path.push(node);
+                at = self.parent(node);
+            }
+        }
+        path
+    }
+
     /// How many places a group's list has, from 1 to 16.
     pub fn list_len(&self, group: GroupId) -> u8
         requires { group.0 < length self.now.groups }
@@ -230,7 +253,7 @@ impl Instance {
     /// Gives a node another capacity. All else stays.
     pub fn set_capacity(&mut self, node: NodeId, capacity: Units)
         requires node { node.0 < length self.old.nodes }
-        requires range { capacity ≤ 2 ^ 48 }
+        requires range { capacity ≤ MOST_CAPACITY }
         ensures changed { self.new ≡ record self.old { nodes = slice_set self.old.nodes node.0 (record (node_at self.old node.0) { capacity = capacity }) } }
         ensures shape { IsSameShape self.old self.new }
         ensures market { IsMarket self.new }

@@ -5,12 +5,16 @@ ghost use Rattle.std.specs.Prelude.{◌≡◌, ◌<◌, ◌≤◌, ◌^◌, leng
 
 mod change;
 mod instance;
+mod limits;
 mod lines;
+mod steps;
 mod validity;
 
 pub use change::Change;
-pub use instance::{Choice, GroupId, GroupRow, Instance, Key, Node, NodeId, Offer, Units};
+pub use instance::{Choice, ClientGroup, GroupId, Instance, Key, Node, NodeId, Offer, Units};
+pub use limits::{LEVELS, MOST_CAPACITY, MOST_GROUPS, MOST_NODES, PLACES};
 pub use lines::{MapLine, MapLines, NameLine};
+pub use steps::Steps;
 
 #[cfg(test)]
 mod tests;

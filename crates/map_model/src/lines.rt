@@ -1,3 +1,5 @@
+//! The lines of a map, and its names.
+
 use crate::instance::{GroupId, NodeId};
 
 /// Units of a group that are placed at one place of its list.

@@ -1,4 +1,4 @@
-use crate::{Choice, GroupId, GroupRow, Instance, Key, Node, NodeId, Offer};
+use crate::{Choice, ClientGroup, GroupId, Instance, Key, Node, NodeId, Offer};
 use std::alloc::Global;
 use std::test::Fail;
 
@@ -25,8 +25,8 @@ fn choice(pool: u32, score: u32) -> Choice {
     }
 }
 
-fn group(alloc: Global, demand: u32, choices: &[Choice]) -> Result<GroupRow, Fail> {
-    Ok(GroupRow::new(demand, choices.to_vec(alloc)?))
+fn group(alloc: Global, demand: u32, choices: &[Choice]) -> Result<ClientGroup, Fail> {
+    Ok(ClientGroup::new(demand, choices.to_vec(alloc)?))
 }
 
 fn is_instance(

@@ -2,9 +2,11 @@
 
 ghost use Rattle.std.specs.Prelude.{◌≡◌, ◌↔◌, ℕ, ◌<◌, ◌≤◌, ◌^◌, Some, length, All, AllPairs, IfSome, IsTrue, IsFalse};
 ghost use Rattle.map_model.specs.Market.{Group, IsGroup, IsMarket, climb, node_in};
+ghost use Rattle.map_model.specs.declared.limits.TheConstants.{LEVELS, MOST_NODES};
 ghost use Rattle.map_model.specs.Rows.{HasTreeNode, HasTreeNodes, trees_of};
 
-use crate::instance::{Choice, GroupRow, Node, NodeId};
+use crate::instance::{Choice, ClientGroup, Node, NodeId};
+use crate::limits::{LEVELS, MOST_CAPACITY, MOST_GROUPS, MOST_NODES, PLACES};
 
 /// Whether a parent may stand above the node of that number.
 fn is_parent(nodes: &[Node], parent: NodeId, child: usize) -> bool
@@ -20,17 +22,17 @@ fn is_tree_node(nodes: &[Node], i: usize) -> bool
     ensures { IsTrue result ↔ HasTreeNode nodes.now i }
 {
     let node = nodes[i];
-    node.capacity <= 1 << 48 && node.parent.is_none_or(|parent| is_parent(nodes, parent, i))
+    node.capacity <= MOST_CAPACITY && node.parent.is_none_or(|parent| is_parent(nodes, parent, i))
 }
 
 /// Whether the path of a node has at most eight nodes.
 fn is_shallow(nodes: &[Node], node: NodeId) -> bool
     requires nodes { HasTreeNodes nodes.now }
     requires node { node.0 < length nodes.now }
-    ensures { IsTrue result ↔ (length (climb 9 (trees_of nodes.now) (Some node)) ≤ 8) }
+    ensures { IsTrue result ↔ (length (climb 9 (trees_of nodes.now) (Some node)) ≤ LEVELS) }
 {
     let mut at = Some(node);
-    for _step in 0..8usize {
+    for _step in 0..LEVELS {
         match at {
             Some(node) => at = nodes[node.0 as usize].parent,
             None => return true,
@@ -41,9 +43,9 @@ fn is_shallow(nodes: &[Node], node: NodeId) -> bool
 
 /// Whether every path has at most eight nodes.
 fn are_shallow(nodes: &[Node]) -> bool
-    requires few { length nodes.now ≤ 8192 }
+    requires few { length nodes.now ≤ MOST_NODES }
     requires nodes { HasTreeNodes nodes.now }
-    ensures { IsTrue result ↔ ((n : ℕ) → n < length nodes.now → length (climb 9 (trees_of nodes.now) (Some (record { 0 = n }))) ≤ 8) }
+    ensures { IsTrue result ↔ ((n : ℕ) → n < length nodes.now → length (climb 9 (trees_of nodes.now) (Some (record { 0 = n }))) ≤ LEVELS) }
 {
     for i in 0..nodes.len() {
         if !is_shallow(nodes, NodeId(i as u32)) {
@@ -70,7 +72,7 @@ fn are_tree_nodes(nodes: &[Node]) -> bool
 fn are_trees(nodes: &[Node]) -> bool
     ensures { IsTrue result ↔ IsMarket (trees_of nodes.now) }
 {
-    nodes.len() <= 8192 && are_tree_nodes(nodes) && are_shallow(nodes)
+    nodes.len() <= MOST_NODES && are_tree_nodes(nodes) && are_shallow(nodes)
 }
 
 /// Whether a choice's pool is there and a pool.
@@ -100,19 +102,19 @@ fn are_distinct(choices: &[Choice]) -> bool
 }
 
 /// Whether a row is a group over these nodes.
-fn is_group(nodes: &[Node], row: &GroupRow) -> bool
+fn is_group(nodes: &[Node], row: &ClientGroup) -> bool
     ensures { IsTrue result ↔ IsGroup nodes.now row.now }
 {
     let choices = row.choices();
     row.demand() >= 1
         && !choices.is_empty()
-        && choices.len() <= 16
+        && choices.len() <= PLACES
         && choices.iter().all(|&choice| is_choice(nodes, choice))
         && are_distinct(choices)
 }
 
 /// Whether each row is a group over these nodes.
-fn are_groups(nodes: &[Node], groups: &[GroupRow]) -> bool
+fn are_groups(nodes: &[Node], groups: &[ClientGroup]) -> bool
     ensures { IsTrue result ↔ All (λ g. IsGroup nodes.now g) groups.now }
 {
     groups.iter().all(|row| is_group(nodes, row))
@@ -120,8 +122,8 @@ fn are_groups(nodes: &[Node], groups: &[GroupRow]) -> bool
 
 /// Whether rows are an instance.
 #[tactic(auto, using(crate::proofs::RowTests::row_tests))]
-pub fn is_market(groups: &[GroupRow], nodes: &[Node]) -> bool
+pub fn is_market(groups: &[ClientGroup], nodes: &[Node]) -> bool
     ensures { IsTrue result ↔ IsMarket (record { groups = groups.now; nodes = nodes.now }) }
 {
-    groups.len() <= 65536 && are_trees(nodes) && are_groups(nodes, groups)
+    groups.len() <= MOST_GROUPS && are_trees(nodes) && are_groups(nodes, groups)
 }

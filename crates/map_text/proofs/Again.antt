@@ -20,7 +20,8 @@ use Rattle.map_model.proofs.MapForm.{IsLineAt-from, no_line}
 use Rattle.map_model.proofs.Paths.{pool_there}
 use Rattle.map_model.proofs.NameForm.{no_name}
 use Rattle.topology_text.specs.Plan.{IsPlan, Plan, number_in}
-use Rattle.map_text.specs.Parts.{four_of, unfinished}
+use Rattle.text_parts.specs.Parts.{unfinished}
+use Rattle.map_text.specs.Words.{four_of}
 use Rattle.map_text.specs.Lines.{entry_of, full_line, line_of, offer_of, place_line}
 use Rattle.map_text.specs.Number.{amount_of}
 use Rattle.map_text.specs.Reading.{Mapped, SoFar, fault_of, map_of, so_far}

@@ -1,5 +1,4 @@
 mod Splits
-mod Digits
 mod Firsts
 mod Readings
 mod Forms

@@ -6,15 +6,14 @@ use Rattle.std.proofs.lemmas.List.Recursion.{or_push}
 use Rattle.std.specs.List.{cons_option, filter_map, list_any, range_with_len}
 use Rattle.std.specs.Option.{option_to_list}
 use Rattle.topology_text.specs.Plan.{Plan}
-use Rattle.addr_text.specs.Groups.{parts}
-use Rattle.map_text.specs.Parts.{but_last, last_of, unfinished}
+use Rattle.text_parts.specs.Parts.{parts, unfinished}
 use Rattle.map_text.specs.Lines.{line_of}
 use Rattle.map_text.specs.Reading.{Mapped, SoFar, fault_at, fault_of, finished, first_of, is_end, lines_of, map_of, named_by, placed_by, so_far}
 use Rattle.map_text.specs.Reader.{with_line}
 use Rattle.map_text.specs.declared.fault.MapFault.{MapFault}
 use Rattle.map_text.specs.declared.line.Line.{Line}
 use Rattle.map_text.specs.declared.line.Line.TheVariants.{Bad}
-use Rattle.map_text.proofs.Splits.{but_last_cut, last_of_cut}
+use Rattle.text_parts.proofs.Lines.{unfinished_all, unfinished_first, whole_first, whole_none}
 
 one_of : {X Y : Type 0} (f : X → Option Y) (x : X) → filter_map f (x ∷ []) ≡ option_to_list (f x)
 one_of {Y = Y} f x = go (f x)
@@ -79,13 +78,14 @@ read_all t text = sym (reads [] (lines_of t text) (unfinished text))
 pub read_line_first : (t : Plan) (before : SoFar) (text line behind : List ℕ) → parts 10 text ≡ line ∷ parts 10 behind
     → read_text t before text ≡ unless (fault_of before (line_of t line)) (read_text t (with_line before (line_of t line)) behind)
 read_line_first t before text line behind cut =
-    ap (λ ps. read_on before (map (line_of t) (but_last ps)) (last_of ps)) cut
-    ∙ ap (λ ls. read_on before (map (line_of t) ls) (last_of (line ∷ parts 10 behind))) (but_last_cut 10 line behind)
-    ∙ ap (λ r. read_on before (line_of t line ∷ lines_of t behind) r) (last_of_cut 10 line behind)
+    ap (λ (ls : List (List ℕ)). read_on before (map (line_of t) ls) (unfinished text)) (whole_first text line behind cut)
+    ∙ ap (λ (r : List ℕ). read_on before (line_of t line ∷ lines_of t behind) r) (unfinished_first text line behind cut)
 
 -- a text without a whole line
 pub read_rest : (t : Plan) (before : SoFar) (text : List ℕ) → parts 10 text ≡ text ∷ [] → read_text t before text ≡ finished before text
-read_rest t before text cut = ap (λ ps. read_on before (map (line_of t) (but_last ps)) (last_of ps)) cut
+read_rest t before text cut =
+    ap (λ (ls : List (List ℕ)). read_on before (map (line_of t) ls) (unfinished text)) (whole_none text cut)
+    ∙ ap (λ (r : List ℕ). finished before r) (unfinished_all text cut)
 
 -- one line more without a fault
 pub read_more : (t : Plan) (before after : SoFar) (text line behind : List ℕ) (l : Line) (r : Result Mapped MapFault) → read_text t before text ≡ r → parts 10 text ≡ line ∷ parts 10 behind → l ≡ line_of t line
@@ -103,3 +103,7 @@ read_fault t before text line behind l fault r so_far cut is some =
     sym so_far
     ∙ read_line_first t before text line behind cut
     ∙ ap (λ o. unless o (read_text t (with_line before (line_of t line)) behind)) (ap (fault_of before) (sym is) ∙ some)
+
+-- what is left has no whole line
+pub read_last : (t : Plan) (before : SoFar) (text all : List ℕ) → read_text t before text ≡ map_of t all → parts 10 text ≡ text ∷ [] → map_of t all ≡ finished before text
+read_last t before text all h cut = sym h ∙ read_rest t before text cut

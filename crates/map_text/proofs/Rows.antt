@@ -1,9 +1,9 @@
 -- The lines of a text that was written, and the words of such a line.
 use Rattle.std.proofs.Common.{◌≡◌, ℕ, List, [], ◌∷◌, ◌++◌, refl, ap, ◌∙◌, append_assoc}
 use Rattle.std.specs.List.{flat_map}
-use Rattle.addr_text.specs.Groups.{parts}
+use Rattle.text_parts.specs.Parts.{but_last, last_of, parts, unfinished, whole_lines}
+use Rattle.text_parts.proofs.Lines.{but_last-end, last_of-end, rest_is, whole_are}
 use Rattle.addr_text.proofs.Splits.{Lacks, lacks-append, split_alone, split_part}
-use Rattle.map_text.specs.Parts.{but_last, last_of, unfinished, whole_lines}
 use Rattle.map_text.specs.Writing.{ended, four}
 
 -- each of some texts lacks an octet
@@ -40,18 +40,8 @@ parts_ended (r ∷ rs) lacks =
     ∙ split_part 10 r (flat_map ended rs) lacks.0
     ∙ ap (λ (ps : List (List ℕ)). r ∷ ps) (parts_ended rs lacks.1)
 
-but_last_push : (rows : List (List ℕ)) → but_last (rows ++ [] ∷ []) ≡ rows
-but_last_push [] = refl
-but_last_push (x ∷ []) = refl
-but_last_push (x ∷ y ∷ ys) = ap (λ (ps : List (List ℕ)). x ∷ ps) (but_last_push (y ∷ ys))
-
-last_of_push : (rows : List (List ℕ)) → last_of (rows ++ [] ∷ []) ≡ []
-last_of_push [] = refl
-last_of_push (x ∷ []) = refl
-last_of_push (x ∷ y ∷ ys) = last_of_push (y ∷ ys)
-
 pub whole_ended : (rows : List (List ℕ)) → AllLack 10 rows → whole_lines (flat_map ended rows) ≡ rows
-whole_ended rows lacks = ap but_last (parts_ended rows lacks) ∙ but_last_push rows
+whole_ended rows lacks = whole_are (flat_map ended rows) ∙ ap but_last (parts_ended rows lacks) ∙ but_last-end rows []
 
 pub unfinished_ended : (rows : List (List ℕ)) → AllLack 10 rows → unfinished (flat_map ended rows) ≡ []
-unfinished_ended rows lacks = ap last_of (parts_ended rows lacks) ∙ last_of_push rows
+unfinished_ended rows lacks = rest_is (flat_map ended rows) ∙ ap last_of (parts_ended rows lacks) ∙ last_of-end rows []

@@ -1,5 +1,5 @@
 pub mod Texts
-pub mod Parts
+pub mod Words
 pub mod Number
 pub mod Lines
 pub mod Reading

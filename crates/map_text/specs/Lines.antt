@@ -5,8 +5,8 @@ use Rattle.map_model.specs.declared.instance.Offer.{Offer}
 use Rattle.map_model.specs.Market.{Market, choices_of}
 use Rattle.map_model.specs.Allocation.{IsOffer}
 use Rattle.topology_text.specs.Plan.{Plan, number_in}
-use Rattle.addr_text.specs.Groups.{parts}
-use Rattle.map_text.specs.Parts.{Words, four_of}
+use Rattle.text_parts.specs.Parts.{parts}
+use Rattle.map_text.specs.Words.{Words, four_of}
 use Rattle.map_text.specs.Number.{amount_of}
 use Rattle.map_text.specs.declared.line.Line.{Line}
 use Rattle.map_text.specs.declared.line.Line.TheVariants.{Header, Place, Full, End, Unknown, Bad}

@@ -6,7 +6,7 @@ use Rattle.map_model.specs.declared.lines.MapLine.{MapLine}
 use Rattle.map_model.specs.declared.lines.NameLine.{NameLine}
 use Rattle.map_model.specs.Allocation.{is_before, is_name_before}
 use Rattle.topology_text.specs.Plan.{Plan}
-use Rattle.map_text.specs.Parts.{whole_lines, unfinished}
+use Rattle.text_parts.specs.Parts.{whole_lines, unfinished}
 use Rattle.map_text.specs.Lines.{line_of}
 use Rattle.map_text.specs.declared.fault.MapFault.{MapFault}
 use Rattle.map_text.specs.declared.fault.MapFault.TheVariants.{BadLine, UnknownName, OrderBroken, Truncated}

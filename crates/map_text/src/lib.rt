@@ -5,12 +5,12 @@
 //! for each of its names, both strictly increasing by the group's number and the pool's place in the group's list.
 #![tactic(auto)]
 
-mod cut;
 mod fault;
 mod line;
 mod number;
 mod offer;
 mod read;
+mod words;
 mod write;
 
 pub use fault::MapFault;

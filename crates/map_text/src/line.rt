@@ -3,9 +3,9 @@ ghost use Rattle.map_model.specs.Market.{Market};
 ghost use Rattle.map_model.specs.Allocation.{IsOffer};
 ghost use Rattle.map_text.specs.Lines.{IsInRange, entry_of, full_line, line_of, place_line};
 
-use crate::cut::{Words, four_words};
 use crate::number::read_amount;
 use crate::offer::{find_node, find_offer};
+use crate::words::{Words, four_words};
 use map_model::{MapLine, NameLine, NodeId, Offer};
 use topology_text::Topology;
 

@@ -3,12 +3,12 @@ ghost use Rattle.map_model.specs.Allocation.{IsMapForm, is_before, is_name_befor
 ghost use Rattle.map_text.specs.Reading.{fault_of, is_bad, is_in_order, map_of};
 ghost use Rattle.map_text.specs.Reader.{kept, with_line};
 
-use crate::cut::cut;
 use crate::line::read_line;
 use crate::{Line, MapFault};
 use map_model::{MapLine, MapLines, NameLine};
 use no_memory::NoMemory;
 use std::alloc::Global;
+use text_parts::cut;
 use topology_text::Topology;
 
 /// The map of the lines so far.

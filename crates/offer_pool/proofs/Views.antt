@@ -4,7 +4,7 @@ use Rattle.std.specs.Prelude.{Result, Ok, Err, OnOk}
 use Rattle.std.proofs.Math.Seq.{take-append_seam}
 use Rattle.map_model.specs.Market.{Market}
 use Rattle.map_model.specs.Allocation.{AreLines, IsOffer, amount_at, load, units_of}
-use Rattle.map_model.specs.Holding.{IsWorst, Puts, Takes}
+use Rattle.map_model.specs.Holding.{IsWorst, IsWorstKey, Puts, Takes}
 use Rattle.map_model.proofs.MapForm.{few_places}
 use Rattle.offer_pool.specs.declared.queue.Seat.{Seat}
 use Rattle.offer_pool.specs.Holdings.{Holdings}
@@ -13,7 +13,7 @@ use Rattle.offer_pool.specs.Table.{amount_in, lines_in, place_at}
 use Rattle.offer_pool.specs.Filed.{IsHeld, queue_at}
 use Rattle.offer_pool.proofs.Refiled.{place_there}
 use Rattle.offer_pool.proofs.Tables.{lines_form, units_fewer, units_more}
-use Rattle.offer_pool.proofs.Worst.{held_amount, worst_none, worst_some}
+use Rattle.offer_pool.proofs.Worst.{held_amount, worst_none, worst_seat, worst_some}
 
 -- the view of a table
 abbrev pub seen : Market → List ℕ → Holdings
@@ -59,6 +59,13 @@ view_node m a q h n held is there = let inner : n < length m.nodes = subst (λ (
 pub view_worst : (m : Market) (a : List ℕ) (q : List (List Seat)) (h : Holdings) (n : ℕ) (s : Seat) → IsHeld m a q → seen m a ≡ h → slice_get (queue_at q n) 0 ≡ Some s → All (λ t. seat_le t s ≡ true) (queue_at q n)
     → IsWorst h.market h.lines n s.group.0 s.place (amount_in a s.group.0 s.place)
 view_worst m a q h n s held is first all = subst (λ (x : Holdings). IsWorst x.market x.lines n s.group.0 s.place (amount_in a s.group.0 s.place)) is (worst_some m a q held n s first all)
+
+-- the key of the worst seat
+pub view_key : (m : Market) (a : List ℕ) (q : List (List Seat)) (h : Holdings) (n : ℕ) (s : Seat) → IsHeld m a q → seen m a ≡ h → slice_get (queue_at q n) 0 ≡ Some s → All (λ t. seat_le t s ≡ true) (queue_at q n)
+    → IsWorstKey h.market h.lines n (record { score = s.score; group = s.group; pool = s.pool })
+view_key m a q h n s held is first all =
+    subst (λ (x : Holdings). IsWorstKey x.market x.lines n (record { score = s.score; group = s.group; pool = s.pool })) is
+    (s.group.0, s.place, amount_in a s.group.0 s.place, worst_some m a q held n s first all, worst_seat m a q held n s first)
 
 pub view_none : (m : Market) (a : List ℕ) (q : List (List Seat)) (h : Holdings) (n : ℕ) → IsHeld m a q → seen m a ≡ h → slice_get (queue_at q n) 0 ≡ None → load h.market h.lines n ≡ 0
 view_none m a q h n held is none = subst (λ (x : Holdings). load x.market x.lines n ≡ 0) is (worst_none m a q held n none)

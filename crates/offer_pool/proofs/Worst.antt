@@ -5,6 +5,7 @@ use Rattle.std.specs.declared.cmp.Ordering.TheVariants.{Less, Equal, Greater}
 use Rattle.std.specs.Ordering.{nat_cmp, ordering_then, is_le}
 use Rattle.std.proofs.lemmas.List.Elements.{All-contains}
 use Rattle.std.proofs.lemmas.Bool.{cases_Bool}
+use Rattle.map_model.specs.declared.instance.Key.{Key}
 use Rattle.map_model.specs.Market.{Market, key_of}
 use Rattle.map_model.specs.Allocation.{IsOffer, amount_at, counts_at, key_le, load}
 use Rattle.map_model.specs.Holding.{IsWorst, under_worse}
@@ -49,6 +50,14 @@ worst_none m amounts queues held n none = units_none (counts_at m n) amounts (λ
     out : (i : ℕ) → 0 < slice_index amounts i → (counts_at m n (i / 16) (i % 16) ≡ true) ⊎ (counts_at m n (i / 16) (i % 16) ≡ false) → counts_at m n (i / 16) (i % 16) ≡ false
     out i some (inl under) = absurd (Contains-none (queue_at queues n) (seat_at m (i / 16) (i % 16)) none (filed_at m amounts queues held n i some under))
     out i some (inr outside) = outside
+
+-- the first seat has the key of its offer
+pub worst_seat : (m : Market) (amounts : List ℕ) (queues : List (List Seat)) → IsHeld m amounts queues → (n : ℕ) (s : Seat) → slice_get (queue_at queues n) 0 ≡ Some s
+    → key_of m s.group.0 s.place ≡ record { score = s.score; group = s.group; pool = s.pool }
+worst_seat m amounts queues held n s first = sym (ap (λ (t : Seat). key t) (held.filing.seats n s (Contains-first (queue_at queues n) s first)).seat)
+  where
+    key : Seat → Key
+    key t = record { score = t.score; group = t.group; pool = t.pool }
 
 -- the first seat is that of the worst offer
 pub worst_some : (m : Market) (amounts : List ℕ) (queues : List (List Seat)) → IsHeld m amounts queues → (n : ℕ) (s : Seat) → slice_get (queue_at queues n) 0 ≡ Some s → All (λ t. seat_le t s ≡ true) (queue_at queues n)

@@ -1,13 +1,13 @@
 //! The units that offers hold.
 ghost use Rattle.std.specs.Prelude.{◌≡◌, ◌+◌, ◌<◌, ◌≤◌, ◌^◌, length, IfOk, OnOk, OnErr, MatchOption};
 ghost use Rattle.map_model.specs.Allocation.{AreLines, IsOffer, amount_at, load};
-ghost use Rattle.map_model.specs.Holding.{IsWorst, Puts, Takes};
+ghost use Rattle.map_model.specs.Holding.{IsWorst, IsWorstKey, Puts, Takes};
 ghost use Rattle.offer_pool.specs.Holdings.{Holdings};
 
 use crate::filing::{empty_queues, place_at};
 use crate::queue::Queue;
 use crate::table::{lines_of, put_lines, put_units, take_units};
-use map_model::{Instance, MapLine, MapLines, NodeId, Offer, Units};
+use map_model::{Instance, Key, MapLine, MapLines, NodeId, Offer, Units};
 use no_memory::NoMemory;
 use std::alloc::Global;
 use std::marker::Model;
@@ -111,6 +111,18 @@ impl Held {
                 };
                 Some((offer, self.units(offer)))
             }
+            None => None,
+        }
+    }
+
+    /// The key of the worst held offer under a node; None exactly where nothing is held there. It looks at the queue of the node alone.
+    pub fn worst_key(&self, node: NodeId) -> Option<Key>
+        requires { node.0 < length self.now.market.nodes }
+        ensures worst { MatchOption result (load self.now.market self.now.lines node.0 ≡ 0) (λ key. IsWorstKey self.now.market self.now.lines node.0 key) }
+        ensures form { AreLines self.now.market self.now.lines }
+    {
+        match self.queues[node.0 as usize].worst() {
+            Some(seat) => Some(seat.key()),
             None => None,
         }
     }

@@ -3,7 +3,7 @@ ghost use Rattle.std.specs.Prelude.{◌≡◌, ◌+◌, [], ◌∷◌, length, t
 ghost use Rattle.std.specs.List.Sorted.{IsPermutation};
 ghost use Rattle.offer_pool.specs.Seats.{KeepsFirst, seat_le};
 
-use map_model::{GroupId, NodeId};
+use map_model::{GroupId, Key, NodeId};
 use std::alloc::{AllocError, Global};
 use std::collections::BinaryHeap;
 use std::marker::Model;
@@ -15,6 +15,19 @@ pub struct Seat {
     pub group: GroupId,
     pub pool: NodeId,
     pub place: u8,
+}
+
+impl Seat {
+    /// The key of the offer.
+    pub fn key(self) -> Key
+        ensures { result ≡ record { score = self.score; group = self.group; pool = self.pool } }
+    {
+        Key {
+            score: self.score,
+            group: self.group,
+            pool: self.pool,
+        }
+    }
 }
 
 /// Seats of which the worst is at hand.

@@ -3,7 +3,7 @@ ghost use Rattle.map_model.specs.Allocation.{IsOffer};
 
 use crate::Held;
 use map_model::{
-    Choice, GroupId, GroupRow, Instance, MapLine, MapLines, Node, NodeId, Offer, Units,
+    Choice, ClientGroup, GroupId, Instance, MapLine, MapLines, Node, NodeId, Offer, Units,
 };
 use no_memory::NoMemory;
 use std::alloc::Global;
@@ -38,7 +38,7 @@ fn instance(alloc: Global) -> Result<Instance, Fail> {
                 score: *score,
             })?;
         }
-        groups.push(GroupRow::new(20, choices))?;
+        groups.push(ClientGroup::new(20, choices))?;
     }
     Ok(Instance::try_from_rows(groups, nodes).ok_or("no instance")?)
 }

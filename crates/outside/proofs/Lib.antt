@@ -1,0 +1,2 @@
+mod LimitsAre
+mod Pieces

@@ -10,7 +10,7 @@ use Rattle.map_model.specs.declared.lines.MapLine.{MapLine}
 use Rattle.map_model.specs.Market.{Market, choices_of, demand_of}
 use Rattle.map_model.specs.Allocation.{IsOffer, amount_at, placed}
 use Rattle.map_model.proofs.MapForm.{offers-AreLines}
-use Rattle.map_model.proofs.Units.{first_below, first_is, first_more, amount-le-placed}
+use Rattle.map_model.proofs.Units.{placed_below, placed_through-below, placed_through-split, amount-le-placed}
 use Rattle.published_map.specs.Version.{Version, IsVersion, amounts_of}
 
 -- the units of a line, if it is that group's at that place
@@ -21,7 +21,7 @@ units_in l g k = if (l.group.0 == g) && (l.place == k) then l.amount else 0
 pub within : (lines : List MapLine) (g k i : ℕ) (d : MapLine) → i < length lines → amount_at (take i lines) g k + units_in (get_or lines i d) g k ≤ placed lines g
 within lines g k i d lt = omega (arith, sum_by_more_le (λ l. units_in l g k) lines i d lt, amount-le-placed lines g k)
 
-none_below : (lines : List MapLine) (g : ℕ) → first_below lines g 0 ≡ 0
+none_below : (lines : List MapLine) (g : ℕ) → placed_below lines g 0 ≡ 0
 none_below [] g = refl
 none_below (l ∷ ls) g = omega (arith, sum_by-cons (λ l. if (l.group.0 == g) && nat_lt l.place 0 then l.amount else 0) l ls, none_below ls g, nothing (l.group.0 == g) l.amount)
   where
@@ -30,20 +30,20 @@ none_below (l ∷ ls) g = omega (arith, sum_by-cons (λ l. if (l.group.0 == g) &
     nothing false n = refl
 
 -- the amounts at the first places add up
-one_more : (lines : List MapLine) (g n : ℕ) → sum (map (amount_at lines g) (range_with_len 0 n)) ≡ first_below lines g n → sum (map (amount_at lines g) (range_with_len 0 (n + 1))) ≡ first_below lines g (n + 1)
-one_more lines g n so_far = omega (arith, sum_by-map-range_with_len_more (λ x. x) (amount_at lines g) 0 n n (omega arith), so_far, first_is lines g n, first_more lines g n)
+one_more : (lines : List MapLine) (g n : ℕ) → sum (map (amount_at lines g) (range_with_len 0 n)) ≡ placed_below lines g n → sum (map (amount_at lines g) (range_with_len 0 (n + 1))) ≡ placed_below lines g (n + 1)
+one_more lines g n so_far = omega (arith, sum_by-map-range_with_len_more (λ x. x) (amount_at lines g) 0 n n (omega arith), so_far, placed_through-below lines g n, placed_through-split lines g n)
 
-pub added : (lines : List MapLine) (g n : ℕ) → sum (map (amount_at lines g) (range_with_len 0 n)) ≡ first_below lines g n
+pub added : (lines : List MapLine) (g n : ℕ) → sum (map (amount_at lines g) (range_with_len 0 n)) ≡ placed_below lines g n
 added lines g zero = sym (none_below lines g)
 added lines g (suc n) =
     let e : n + 1 ≡ suc n = omega arith in
-    subst (λ (k : ℕ). sum (map (amount_at lines g) (range_with_len 0 k)) ≡ first_below lines g k) e (one_more lines g n (added lines g n))
+    subst (λ (k : ℕ). sum (map (amount_at lines g) (range_with_len 0 k)) ≡ placed_below lines g k) e (one_more lines g n (added lines g n))
 
 -- each place of the group's lines is below that number
 abbrev pub IsBelow : ℕ → ℕ → MapLine → Type 0
 IsBelow g n l = l.group.0 ≡ g → l.place < n
 
-all_below : (lines : List MapLine) (g n : ℕ) → All (IsBelow g n) lines → first_below lines g n ≡ placed lines g
+all_below : (lines : List MapLine) (g n : ℕ) → All (IsBelow g n) lines → placed_below lines g n ≡ placed lines g
 all_below [] g n all = refl
 all_below (l ∷ ls) g n all =
     omega (arith, sum_by-cons (λ l. if (l.group.0 == g) && nat_lt l.place n then l.amount else 0) l ls, sum_by-cons (λ l. if l.group.0 == g then l.amount else 0) l ls, all_below ls g n (All-tail (IsBelow g n) l ls all), same (All-head (IsBelow g n) l ls all))

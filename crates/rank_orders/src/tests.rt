@@ -1,11 +1,11 @@
 ghost use Rattle.std.specs.Prelude.{◌≡◌};
 
 use crate::Orders;
-use map_model::{Choice, GroupId, GroupRow, Instance, Node, NodeId, Offer};
+use map_model::{Choice, ClientGroup, GroupId, Instance, Node, NodeId, Offer};
 use std::alloc::Global;
 use std::test::Fail;
 
-fn group(alloc: Global, list: &[(u32, u32)]) -> Result<GroupRow, Fail> {
+fn group(alloc: Global, list: &[(u32, u32)]) -> Result<ClientGroup, Fail> {
     let mut choices = Vec::new(alloc);
     for &(pool, score) in list {
         choices.push(Choice {
@@ -13,7 +13,7 @@ fn group(alloc: Global, list: &[(u32, u32)]) -> Result<GroupRow, Fail> {
             score,
         })?;
     }
-    Ok(GroupRow::new(1, choices))
+    Ok(ClientGroup::new(1, choices))
 }
 
 // a [1,0] 5,5; b [0,1] 5,4.

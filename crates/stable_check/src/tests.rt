@@ -1,5 +1,7 @@
 use crate::{CheckRoom, Verdict, check};
-use map_model::{Choice, GroupId, GroupRow, Instance, MapLine, MapLines, NameLine, Node, NodeId};
+use map_model::{
+    Choice, ClientGroup, GroupId, Instance, MapLine, MapLines, NameLine, Node, NodeId,
+};
 use std::alloc::Global;
 use std::process::Abort;
 use std::test::Fail;
@@ -42,7 +44,7 @@ fn instance_of(
                 score,
             })?;
         }
-        rows.push(GroupRow::new(demand, choices))?;
+        rows.push(ClientGroup::new(demand, choices))?;
     }
     Ok(Instance::try_from_rows(rows, nodes.to_vec(alloc)?).ok_or("no instance")?)
 }

@@ -1,8 +1,13 @@
-//! Slices cut at a place, and texts cut at the first or last of an octet. None of it takes memory.
+//! Slices cut at a place, texts cut at the first or last of an octet, and decimal digits. None of it takes memory.
 #![tactic(auto)]
 
-ghost use Rattle.std.specs.Prelude.{◌≡◌, ◌<◌, ◌≤◌, ◌==◌, ◌+◌, ◌-◌, IfSome, length, not, take, drop};
+ghost use Rattle.std.specs.Prelude.{◌≡◌, ◌<◌, ◌≤◌, ◌==◌, ◌+◌, ◌-◌, [], ◌∷◌, IfSome, MatchOption, length, not, take, drop};
 ghost use Rattle.std.specs.List.{after_first, after_last, before_first, before_last, position_from, position_or_len, suffix_len};
+ghost use Rattle.text_parts.specs.Parts.{parts};
+
+mod decimal;
+
+pub use decimal::{are_digits, decimal_value};
 
 #[cfg(test)]
 mod tests;
@@ -29,6 +34,17 @@ pub fn after<T>(items: &[T], i: usize) -> &[T]
     ensures { result.now ≡ drop i items.now }
 {
     &items[i..]
+}
+
+/// What stands before and behind the first of an octet, where there is one.
+pub fn cut(text: &[u8], octet: u8) -> Option<(&[u8], &[u8])>
+    ensures parts { MatchOption result (parts octet text.now ≡ text.now ∷ []) (λ r. parts octet text.now ≡ r.0.now ∷ parts octet r.1.now) }
+    ensures shorter { IfSome result (λ r. length r.0.now + length r.1.now < length text.now) }
+{
+    match position_of(text, octet) {
+        Some(at) => Some((before(text, at), after(text, at + 1))),
+        None => None,
+    }
 }
 
 /// An octet's first place; the length where it is nowhere.

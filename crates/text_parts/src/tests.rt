@@ -1,4 +1,4 @@
-use crate::{after, before, position_of, split_first, split_last};
+use crate::{after, are_digits, before, cut, decimal_value, position_of, split_first, split_last};
 
 #[test]
 fn finds_the_first(rt: HostRuntime) {
@@ -37,5 +37,32 @@ fn splits_at_the_first_and_the_last(rt: HostRuntime) {
     for (text, first, last) in rows {
         assert_eq!(rt; split_first(text, b':'), first);
         assert_eq!(rt; split_last(text, b':'), last);
+    }
+}
+
+#[test]
+fn cuts(rt: HostRuntime) {
+    let rows: [(&[u8], Option<(&[u8], &[u8])>); 4] = [
+        (b"a\nb\n", Some((b"a", b"b\n"))),
+        (b"\n", Some((b"", b""))),
+        (b"", None),
+        (b"ab", None),
+    ];
+    for (text, want) in rows {
+        assert_eq!(rt; cut(text, b'\n'), want);
+    }
+}
+
+#[test]
+fn reads_digits(rt: HostRuntime) {
+    let rows: [(&[u8], Option<u64>); 4] = [
+        (b"", Some(0)),
+        (b"0042", Some(42)),
+        (b"18446744073709551615", Some(u64::MAX)),
+        (b"18446744073709551616", None),
+    ];
+    for (digits, want) in rows {
+        assert!(rt; are_digits(digits));
+        assert_eq!(rt; decimal_value(digits), want);
     }
 }

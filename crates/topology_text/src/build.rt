@@ -9,7 +9,7 @@ ghost use Rattle.topology_text.specs.Topology.{IsSound, IsSoundGroup, choice_of,
 use crate::names::{Entries, is_pool, text_at};
 use crate::schema::Key;
 use crate::walk::{items_of, value_of};
-use map_model::{Choice, GroupRow, Instance, Node, NodeId};
+use map_model::{Choice, ClientGroup, Instance, Node, NodeId};
 use std::alloc::{AllocError, Global};
 use toml::Value;
 
@@ -121,7 +121,7 @@ fn choices(
     Ok(choices)
 }
 
-fn group_row(alloc: Global, index: &Entries<'_>, entry: &Value) -> Result<GroupRow, AllocError>
+fn group_row(alloc: Global, index: &Entries<'_>, entry: &Value) -> Result<ClientGroup, AllocError>
     requires sound { IsSound (entries index.now) }
     requires group { IsSoundGroup (entries index.now).nodes (view entry.now) }
     ensures { IfOk result (λ g. g ≡ group_of (entries index.now).nodes (view entry.now)) }
@@ -133,10 +133,10 @@ fn group_row(alloc: Global, index: &Entries<'_>, entry: &Value) -> Result<GroupR
         items_in(entry, Key::Pools),
         items_in(entry, Key::Scores),
     )?;
-    Ok(GroupRow::new(demand as u32, choices))
+    Ok(ClientGroup::new(demand as u32, choices))
 }
 
-fn group_rows(alloc: Global, index: &Entries<'_>) -> Result<Vec<GroupRow>, AllocError>
+fn group_rows(alloc: Global, index: &Entries<'_>) -> Result<Vec<ClientGroup>, AllocError>
     requires { IsSound (entries index.now) }
     ensures { IfOk result (λ v. v.items ≡ map (group_of (entries index.now).nodes) (entries index.now).groups) }
 {

@@ -1,6 +1,7 @@
 use Rattle.std.proofs.Common.{◌≡◌, length}
 use Rattle.addr_text.specs.Numbers.{all_of}
-use Rattle.addr_text.specs.Groups.{group_of, joined_groups, parts}
+use Rattle.text_parts.specs.Parts.{parts}
+use Rattle.addr_text.specs.Groups.{group_of, joined_groups}
 use Rattle.addr_text.proofs.Joined.{with_front}
 use Rattle.addr_text.proofs.groups.joined_groups.Given as goal
 

@@ -1,6 +1,6 @@
 use Rattle.std.proofs.Common.{◌≡◌, length}
 use Rattle.addr_text.specs.Numbers.{all_of, number_of}
-use Rattle.addr_text.specs.Groups.{parts}
+use Rattle.text_parts.specs.Parts.{parts}
 use Rattle.addr_text.proofs.Joined.{with_front}
 use Rattle.addr_text.proofs.groups.joined_numbers.Given as goal
 

@@ -1,25 +1,26 @@
 use Rattle.std.proofs.Common.{◌≡◌, ◌+◌, ◌<◌, ◌++◌, length, append-nil, sym, ap, ◌∙◌, refl, arith}
 use Rattle.map_model.specs.Market.{choices_of}
-use Rattle.map_model.specs.Allocation.{first as units_upto}
-use Rattle.stable_check.proofs.Blocking.{first_below-zero, so_far_more, so_far_next}
+use Rattle.map_model.specs.Allocation.{placed_through}
+use Rattle.stable_check.proofs.Blocking.{placed_below-zero, so_far_more, so_far_next}
 use Rattle.stable_check.proofs.Names.{due_step, due_done}
 use Rattle.evict.proofs.Settled.{small_demand}
-use Rattle.deferred_accept.proofs.Finished.{first-le-placed, push_turn, skip_turn}
+use Rattle.map_model.proofs.Units.{through-le-placed}
+use Rattle.deferred_accept.proofs.Finished.{push_turn, skip_turn}
 use Rattle.deferred_accept.proofs.finishing.add_names_of.Goals as goal
 use Rattle.deferred_accept.proofs.finishing.add_names_of.Goals.{in-Some+in_ok-push, in_default}
 
 pub loop-place-init : goal.loop-place-init
-loop-place-init c = record { so_far = first_below-zero c.args.state.now.lines c.args.group.0; named = refl }
+loop-place-init c = record { so_far = placed_below-zero c.args.state.now.lines c.args.group.0; named = refl }
 
-pub name-requires-clause-first : goal.name-requires-clause-first
-name-requires-clause-first c = so_far_more c.args.state.now.lines c.args.group.0 c.loop-place.place _ _ c.loop-place.invariant.so_far c.units-first.ensures
+pub name-requires-clause-through : goal.name-requires-clause-through
+name-requires-clause-through c = so_far_more c.args.state.now.lines c.args.group.0 c.loop-place.place _ _ c.loop-place.invariant.so_far c.units-through.ensures
 
-pub overflow_add-first : goal.overflow_add-first
-overflow_add-first c =
-    let here : c.loop-place.first + c.units-first.result ≡ units_upto c.args.state.now.lines c.args.group.0 c.loop-place.place
-    = so_far_more c.args.state.now.lines c.args.group.0 c.loop-place.place _ _ c.loop-place.invariant.so_far c.units-first.ensures in
+pub overflow_add-through : goal.overflow_add-through
+overflow_add-through c =
+    let here : c.loop-place.through + c.units-through.result ≡ placed_through c.args.state.now.lines c.args.group.0 c.loop-place.place
+    = so_far_more c.args.state.now.lines c.args.group.0 c.loop-place.place _ _ c.loop-place.invariant.so_far c.units-through.ensures in
     let total = c.requires.ready.resumable.totals c.args.group.0 c.requires.group in
-    omega (arith, here, first-le-placed c.args.state.now.lines c.args.group.0 c.loop-place.place, total, small_demand c.args.instance.now c.requires.ready.market c.args.group.0 c.requires.group)
+    omega (arith, here, through-le-placed c.args.state.now.lines c.args.group.0 c.loop-place.place, total, small_demand c.args.instance.now c.requires.ready.market c.args.group.0 c.requires.group)
 
 pub loop-place-preserved : goal.loop-place-preserved
 loop-place-preserved c =
@@ -28,7 +29,7 @@ loop-place-preserved c =
     let within : c.loop-place.place < length (choices_of c.args.instance.now c.args.group.0) = omega arith in
     let step = due_step m lines c.args.group.0 c.loop-place.place within in
     record {
-      so_far = so_far_next lines c.args.group.0 c.loop-place.place _ (so_far_more lines c.args.group.0 c.loop-place.place _ _ c.loop-place.invariant.so_far c.units-first.ensures);
+      so_far = so_far_next lines c.args.group.0 c.loop-place.place _ (so_far_more lines c.args.group.0 c.loop-place.place _ _ c.loop-place.invariant.so_far c.units-through.ensures);
       named = elim c.match-name.branch [
         | in-Some+in_ok-push w ↦ rw w.names-is (rw w.in_ok-push.ensures.items (push_turn c.loop-place.names.items _ _ _ _ w.in-Some.name c.loop-place.invariant.named step (sym c.name.ensures ∙ w.in-Some.is)))
         | in_default w ↦ rw w.names-is (skip_turn c.loop-place.names.items _ _ _ _ c.loop-place.invariant.named step (sym c.name.ensures ∙ w.in_default.is))

@@ -1,5 +1,5 @@
 use Rattle.std.proofs.Common.{ℕ, ◌+◌, ◌≤◌, Bool}
-use Rattle.deferred_accept.specs.Runs.{HasProposed, HasRun, worth}
+use Rattle.deferred_accept.specs.Runs.{HasProposed, HasRun, WantsBefore, worth}
 use Rattle.deferred_accept.specs.Spreading.{HoldsWork}
 use Rattle.deferred_accept.specs.Work.{CoversWork}
 use Rattle.deferred_accept.proofs.Within.{IsSpreading}
@@ -12,6 +12,7 @@ invariant-loop-offer g l = record {
   counted : l.steps + worth l.instance l.state ≤ l.fn.steps + worth l.instance l.fn.state;
   proposed : HasProposed l.instance l.fn.state l.state l.fn.steps l.steps;
   later : l.fn.steps ≤ l.steps;
+  wanted : WantsBefore l.instance l.fn.state → WantsBefore l.instance l.state;
   spread : (trees : ℕ → Bool) → HoldsWork l.instance trees l.fn.state → IsSpreading l.instance trees l.fn.state l.state l.fn.steps l.steps;
 }
 

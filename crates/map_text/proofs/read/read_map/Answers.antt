@@ -1,8 +1,8 @@
-use Rattle.std.proofs.Common.{ap, ◌∙◌, arith}
+use Rattle.std.proofs.Common.{ap, ◌∙◌, arith, rules}
 use Rattle.std.proofs.lemmas.Result.{err_from_is_err_and}
 use Rattle.map_text.specs.Reading.{SoFar}
 use Rattle.map_text.specs.Reader.{kept}
-use Rattle.map_text.proofs.Readings.{read_all, read_fault, read_more, read_text}
+use Rattle.map_text.proofs.Readings.{read_all, read_fault, read_last, read_more, read_text}
 use Rattle.map_text.proofs.Forms.{form_more, form_next, form_none}
 use Rattle.map_text.proofs.read.read_map.Goals as goal
 
@@ -28,3 +28,13 @@ lines-preserved c =
       form = form_next t.market (kept c.lines.reader) (kept c.take.new.self) c.read_line.result next (form_more t.market (kept c.lines.reader) c.read_line.result c.lines.invariant.form c.read_line.ensures.range none);
       count = omega (arith, ap (λ (b : SoFar). b.count) next, c.in-Some.ensures.shorter, c.lines.invariant.count);
     }
+
+pub returns-then-is_empty-clause-read : goal.returns-then-is_empty-clause-read
+returns-then-is_empty-clause-read c =
+    let last = read_last c.args.topology.now (kept c.lines.reader) c.lines.rest.now c.args.text.now c.lines.invariant.reading c.in_default.ensures.parts in
+    search (rules, last)
+
+pub returns-else-reader-clause-read : goal.returns-else-reader-clause-read
+returns-else-reader-clause-read c = λ _.
+    let last = read_last c.args.topology.now (kept c.lines.reader) c.lines.rest.now c.args.text.now c.lines.invariant.reading c.in_default.ensures.parts in
+    search (rules, last)

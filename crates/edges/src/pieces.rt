@@ -1,0 +1,75 @@
+//! What is read of std's readers, and put into its writers.
+ghost use Rattle.std.specs.Prelude.{◌≡◌, ◌≤◌, ◌<◌, ◌↔◌, ◌≢◌, ℕ, Some, [], take, length, IfOk, IfSome, IsErrOf, OnOk, vec_len};
+ghost use Rattle.outside.specs.Source.{IsWithin};
+ghost use Rattle.std.specs.Io.KnownBytes.{Appends, Consumes, IsAtEnd, Keeps};
+ghost use Rattle.std.specs.IoError.{error_kind};
+
+use outside::{LoadFault, Put, Read};
+use std::alloc::Global;
+use std::io::{self, Error, ErrorKind, Read as _, Write};
+
+/// Want of memory exactly where the system says so, or else a failure.
+pub(crate) fn fault_of(error: Error) -> LoadFault
+    ensures memory { (result ≡ LoadFault.NoMemory) ↔ (error_kind error ≡ ErrorKind.OutOfMemory) }
+    ensures long { result ≢ LoadFault.TooLong }
+{
+    if error.kind() == ErrorKind::OutOfMemory {
+        LoadFault::NoMemory
+    } else {
+        LoadFault::Failed
+    }
+}
+
+/// The first octets of a reader, so many at most.
+fn read_most<T: io::Read + Drop>(reader: T, alloc: Global, most: u64) -> Result<Vec<u8>, LoadFault>
+    ensures first { IfOk result (λ bytes. IfSome (T.remaining reader) (λ octets. bytes.items ≡ take most octets)) }
+    ensures long { IsErrOf result LoadFault.TooLong → ⊥ }
+{
+    let mut bytes = Vec::new(alloc);
+    match reader.take(most).read_to_end(&mut bytes) {
+        Ok(_) => Ok(bytes),
+        Err(error) => Err(fault_of(error)),
+    }
+}
+
+/// All octets of a reader, if there are at most `limit`. No more than one past it are read.
+pub fn read_within<T: io::Read + Drop>(
+    reader: T,
+    alloc: Global,
+    limit: usize,
+) -> Result<Vec<u8>, LoadFault>
+    ensures within { IfOk result (λ bytes. vec_len bytes ≤ limit) }
+    ensures whole { IfOk result (λ bytes. IfSome (T.remaining reader) (λ octets. bytes.items ≡ octets)) }
+    ensures long { IsErrOf result LoadFault.TooLong → IfSome (T.remaining reader) (λ octets. limit < length octets) }
+{
+    let bytes = read_most(reader, alloc, (limit as u64).saturating_add(1))?;
+    if bytes.len() > limit {
+        return Err(LoadFault::TooLong);
+    }
+    Ok(bytes)
+}
+
+/// The next octets of a reader, at the front of the buffer.
+pub fn read_piece<T: io::Read>(reader: &mut T, buffer: &mut [u8]) -> Read
+    requires { 1 ≤ length buffer.old }
+    ensures within { IsWithin result (length buffer.old) }
+    ensures got { (n : ℕ) → result ≡ Read.Got n → Consumes (T.remaining reader.old) (T.remaining reader.new) (take n buffer.new) }
+    ensures end { result ≡ Read.End → IsAtEnd (T.remaining reader.new) × Keeps (T.remaining reader.old) (T.remaining reader.new) }
+    ensures failed { result ≡ Read.Failed → Keeps (T.remaining reader.old) (T.remaining reader.new) }
+{
+    match reader.read(buffer) {
+        Ok(0) => Read::End,
+        Ok(count) => Read::Got(count),
+        Err(_) => Read::Failed,
+    }
+}
+
+/// Puts a whole piece into a writer, and what the writer held back too.
+pub fn put_whole<W: Write>(writer: &mut W, piece: &[u8]) -> Put
+    ensures { result ≡ Put.Done → Appends (W.contents writer.old) (W.contents writer.new) piece.now }
+{
+    if writer.write_all(piece).is_err() || writer.flush().is_err() {
+        return Put::Failed;
+    }
+    Put::Done
+}

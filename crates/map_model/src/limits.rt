@@ -1,0 +1,16 @@
+//! The limits of an instance.
+
+/// How many groups an instance may have.
+pub const MOST_GROUPS: usize = 65_536;
+
+/// How many nodes the trees of an instance may have.
+pub const MOST_NODES: usize = 8_192;
+
+/// How many nodes a path may have, from a pool up to its root.
+pub const LEVELS: usize = 8;
+
+/// How many places a group's list may have.
+pub const PLACES: usize = 16;
+
+/// How many units a node may hold at most.
+pub const MOST_CAPACITY: u64 = 1 << 48;

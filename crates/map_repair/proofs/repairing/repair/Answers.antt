@@ -1,0 +1,28 @@
+use Rattle.std.proofs.Common.{List, OnOk, Result, Ok, Err, sym, subst}
+use Rattle.std.proofs.lemmas.Result.{IfOk-weaker}
+use Rattle.map_model.specs.declared.lines.MapLine.{MapLine}
+use Rattle.map_model.specs.Market.{Market}
+use Rattle.evict.specs.Standing.{IsOfMap, Standing}
+use Rattle.map_repair.specs.Repaired.{IsKept, IsWithinSpread}
+use Rattle.map_repair.proofs.repairing.repair.Goals as goal
+
+whenever : {X E P : Type 0} (r : Result X E) → P → OnOk r P
+whenever (Ok x) p = p
+whenever (Err e) p = tt
+
+pub returns-clause-kept : goal.returns-clause-kept
+returns-clause-kept g c =
+    let old : Market = c.args.old.now in
+    let new : Market = c.args.new.now in
+    let s : Standing = c.in_ok-state.state in
+    let of : IsOfMap old c.args.map.now.lines.items s = c.in_ok-state.ensures in
+    let made : IsKept old c.args.map.now.lines.items new c.resume.new.state.lines = subst (λ (ls : List MapLine). IsKept old ls new c.resume.new.state.lines) of.lines c.in_ok-resume.ensures.kept in
+    IfOk-weaker c.finish.result _ _ (λ m e. subst (λ (ls : List MapLine). IsKept old c.args.map.now.lines.items new ls) (sym e) made) c.finish.ensures.lines
+
+pub returns-clause-steps : goal.returns-clause-steps
+returns-clause-steps g c =
+    let old : Market = c.args.old.now in
+    let new : Market = c.args.new.now in
+    let s : Standing = c.in_ok-state.state in
+    let of : IsOfMap old c.args.map.now.lines.items s = c.in_ok-state.ensures in
+    whenever c.finish.result (subst (λ (ls : List MapLine). IsWithinSpread old ls new c.args.steps.now c.resume.new.steps) of.lines c.in_ok-resume.ensures.steps)

@@ -1,0 +1,85 @@
+//! Notes in memory, each of which comes after a stated number of answers.
+ghost use Rattle.std.specs.LinkedList.{linked_list_len};
+ghost use Rattle.std.specs.Prelude.{◌≡◌, ◌≤◌, ◌<◌, Some, [], IfOk, IfSome, IfNone, MatchOption};
+ghost use Rattle.outside.specs.Faults.{BothTell};
+ghost use Rattle.outside.specs.Notes.{IsNextNote};
+ghost use Rattle.outside.specs.MemNotes.{IsDue, noted};
+ghost use Rattle.outside.specs.declared.limits.TheConstants.{MOST_NOTES};
+
+use crate::Notes;
+use no_memory::NoMemory;
+use std::alloc::Global;
+use std::collections::LinkedList;
+use std::marker::Model;
+
+/// A note that comes once so many answers were `None`.
+#[derive(Drop)]
+pub struct Due<T> {
+    pub nones: u64,
+    pub note: T,
+}
+
+/// Notes in memory, in their order. Each waits until so many answers in all were `None`.
+#[derive(Drop)]
+pub struct MemNotes<T> {
+    coming: LinkedList<Due<T>>,
+    /// How many answers were `None` before each note that was given.
+    places: Vec<u64>,
+    nones: u64,
+}
+
+impl<T> Model for MemNotes<T> {
+    ghost use Rattle.std.specs.LinkedList.{linked_list_len};
+    ghost use Rattle.std.specs.Prelude.{◌≤◌, ◌+◌, vec_len, vec_capacity};
+    ghost use Rattle.outside.specs.MemNotes.{NotesInMemory};
+
+    ghost Value = { NotesInMemory T };
+
+    ghost view = { λ s. record { coming = s.coming; places = s.places.items; nones = s.nones } };
+
+    ghost invariant = { λ s. (linked_list_len s.coming ≤ 65536) × (vec_len s.places + linked_list_len s.coming ≤ vec_capacity s.places) };
+}
+
+impl<T: Drop> MemNotes<T> {
+    /// These notes.
+    pub fn new(alloc: Global, coming: LinkedList<Due<T>>) -> Result<MemNotes<T>, NoMemory>
+        requires { linked_list_len coming ≤ MOST_NOTES }
+        ensures { IfOk result (λ s. s ≡ record { coming = coming; places = []; nones = 0 }) }
+    {
+        Ok(MemNotes {
+            places: Vec::with_capacity(alloc, coming.len())?,
+            coming,
+            nones: 0,
+        })
+    }
+}
+
+impl<T: Drop> Notes for MemNotes<T> {
+    type Note = T;
+
+    ghost use Rattle.std.specs.Prelude.{length};
+
+    ghost told = { λ s. Some (noted s) };
+
+    ghost left = { λ s. length s.coming };
+
+    fn next(&mut self) -> Option<T>
+        ensures next { BothTell (Some (noted self.old)) (Some (noted self.new)) (IsNextNote result) }
+        ensures few { length self.old.coming ≤ MOST_NOTES }
+        ensures some { IfSome result (λ _. length self.new.coming < length self.old.coming) }
+        ensures none { IfNone result (length self.new.coming ≡ length self.old.coming) }
+        // A note is given exactly where it is due.
+        ensures due { MatchOption result (¬ IsDue self.old) (λ _. IsDue self.old) }
+    {
+        match self.coming.front() {
+            Some(due) if due.nones <= self.nones => {}
+            _ => {
+                self.nones = self.nones.saturating_add(1);
+                return None;
+            }
+        }
+        let due = self.coming.pop_front()?;
+        self.places.push_reserved(self.nones);
+        Some(due.note)
+    }
+}

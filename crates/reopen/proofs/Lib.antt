@@ -1,0 +1,3 @@
+pub mod Lessening
+pub mod Sameness
+pub mod Removing

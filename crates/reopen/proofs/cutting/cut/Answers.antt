@@ -1,0 +1,21 @@
+use Rattle.std.proofs.Common.{◌-◌, ◌≤◌, inl, inr, arith, subst, sym}
+use Rattle.std.proofs.lemmas.Bool.{cases_eq}
+use Rattle.map_model.specs.Market.{Market, capacity_of}
+use Rattle.map_model.specs.Allocation.{counts_at, load}
+use Rattle.reopen.proofs.Lessening.{less_trans, sums_trans}
+use Rattle.reopen.proofs.cutting.cut.Goals as goal
+
+pub loop-step-preserved : goal.loop-step-preserved
+loop-step-preserved c =
+    let m : Market = c.args.instance.now in
+    let s = c.loop-step.state in
+    let i = c.loop-step.invariant in
+    let e = c.cut_node.ensures in
+    record {
+      less = less_trans m c.args.state.now s c.cut_node.new.state i.less e.less;
+      sums = sums_trans c.args.state.now s c.cut_node.new.state i.less.count i.sums e.sums;
+      fits = λ n l high. elim (cases_eq n (c.nodes-nodes.result - 1 - c.loop-step.step)) [
+        | inl is ↦ subst (λ x. load m c.cut_node.new.state.lines x ≤ capacity_of m x) (sym is) e.fits
+        | inr ne ↦ omega (arith, e.less.fewer (counts_at m n), i.fits n l (omega (arith, ne, c.nodes-nodes.ensures.count)))
+      ];
+    }
