@@ -1,5 +1,5 @@
 -- The scope of a number, by the numbers right beside its range.
-use Rattle.std.proofs.Common.{◌≡◌, ℕ, ◌+◌, ◌-◌, ◌*◌, ◌/◌, ◌^◌, ◌<◌, ◌≤◌, true, List, Option, None, Some, eqb, refl, sym, ap, subst, ◌∙◌, arith, eq-eqb, inl, inr}
+use Rattle.std.proofs.Common.{◌≡◌, ℕ, ◌-◌, ◌/◌, ◌^◌, ◌<◌, ◌≤◌, true, List, Option, None, Some, refl, sym, ap, subst, ◌∙◌, arith, eq-eqb, inl, inr}
 use Rattle.std.specs.Prelude.{IfSome, MatchOption, max, unwrap_or}
 use Rattle.std.specs.Option.{SomeIff}
 use Rattle.std.proofs.lemmas.Bool.{cases_lt, eqb-true}
@@ -9,7 +9,7 @@ use Rattle.prefix_lookup.specs.declared.ranges.Range.{Range}
 use Rattle.prefix_lookup.specs.Family.{address_in, bits_in}
 use Rattle.prefix_lookup.specs.Longest.{IsAddress, agrees, longest}
 use Rattle.prefix_lookup.specs.Parting.{PartsAt}
-use Rattle.prefix_lookup.specs.Ranges.{IsIn, IsRangeOf, end_in, longest_at}
+use Rattle.prefix_lookup.specs.Ranges.{IsRangeOf, longest_at}
 use Rattle.prefix_lookup.specs.Scope.{IsScope, IsUniform}
 use Rattle.prefix_lookup.proofs.Families.{fits, fits_back, in_family, same, width}
 use Rattle.prefix_lookup.proofs.Intervals.{in_block, of_block}

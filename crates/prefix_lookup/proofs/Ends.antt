@@ -1,6 +1,6 @@
 -- The walk over the blocks: where it begins, where it goes on and where it ends.
-use Rattle.std.proofs.Common.{◌≡◌, ℕ, zero, suc, ◌+◌, ◌-◌, ◌*◌, ◌^◌, ◌<◌, ◌≤◌, List, [], ◌∷◌, ◌++◌, length, get_or, Option, None, Some, refl, sym, ap, subst, ◌∙◌, arith, inl, inr, length-append}
-use Rattle.std.specs.Prelude.{All, Contains, max, option_map, unwrap_or, ◌⊎◌}
+use Rattle.std.proofs.Common.{◌≡◌, ℕ, ◌+◌, ◌-◌, ◌*◌, ◌^◌, ◌<◌, ◌≤◌, List, [], ◌∷◌, ◌++◌, length, Option, None, Some, refl, sym, ap, subst, ◌∙◌, arith, inl, inr, length-append}
+use Rattle.std.specs.Prelude.{Contains, max, unwrap_or, ◌⊎◌}
 use Rattle.std.proofs.Math.Pow.{pow_mono}
 use Rattle.std.proofs.lemmas.Bool.{cases_lt}
 use Rattle.std.proofs.lemmas.List.{get_or_default, get_or_push}
@@ -12,10 +12,10 @@ use Rattle.prefix_lookup.specs.declared.block.Block.{Block}
 use Rattle.prefix_lookup.specs.declared.family.Family.{Family}
 use Rattle.prefix_lookup.specs.declared.family.Family.TheVariants as family
 use Rattle.prefix_lookup.specs.declared.sweep.Ranges.{Ranges}
-use Rattle.prefix_lookup.specs.Blocks.{AreBlocks, IsBlock, block, block_at, end_of, entry_of}
+use Rattle.prefix_lookup.specs.Blocks.{AreBlocks, block, block_at, end_of, entry_of}
 use Rattle.prefix_lookup.specs.Family.{bits_in}
 use Rattle.prefix_lookup.specs.Ranges.{AreRanges, AreRangesTo}
-use Rattle.prefix_lookup.specs.Sweep.{AllAhead, AllGoOn, AllLongest, AreOpen, Covers, CoversTo, Swept, stop_of}
+use Rattle.prefix_lookup.specs.Sweep.{AllAhead, AllGoOn, AllLongest, AreOpen, Covers, Swept, stop_of}
 use Rattle.prefix_lookup.specs.Table.{IsTable}
 use Rattle.prefix_lookup.proofs.Defaults.{entry_of as default_entry}
 use Rattle.prefix_lookup.proofs.Families.{wide}
@@ -101,25 +101,30 @@ reached family table blocks opened i first r s b t are swept lt is on some at st
     let goes : first < end_of family b = subst (λ (x : Block). first < end_of family x) at (on (length opened - 1) (omega arith)) in
     let ahead : AllAhead blocks i first = λ m from below. let order = are.rising i m from below in omega (arith, order.first) in
     let its = are.each i (block_at blocks i) lt in
-    let room : end_of family (block_at blocks i) ≤ 2 ^ bits_in family = (are.each i _ lt).fits in
-    (record {
-      covers = covers (innermost family table blocks opened i (stop_of r) first b t are swept.standing (omega arith) some at (omega arith) ahead);
-      fits = omega (arith, here, is, room);
-      standing = subst (λ (n : ℕ). AreOpen family blocks i n opened) (sym here) (advanced family blocks opened i (stop_of r) first swept.standing (omega (arith, up)) ahead);
-    }, here)
+    let room : end_of family (block_at blocks i) ≤ 2 ^ bits_in family = (are.each i _ lt).fits in (
+      record {
+        covers = covers (innermost family table blocks opened i (stop_of r) first b t are swept.standing (omega arith) some at (omega arith) ahead);
+        fits = omega (arith, here, is, room);
+        standing = subst (λ (n : ℕ). AreOpen family blocks i n opened) (sym here) (advanced family blocks opened i (stop_of r) first swept.standing (omega (arith, up)) ahead);
+      },
+      here,
+    )
 
 -- where no block is open, or the next begins with the first number, there are none before it
 pub nothing_before : (family : Family) (table : List Entry) (blocks opened : List Block) (i first : ℕ) (r : Ranges) → IsTable table → AreBlocks family table blocks → Swept family table blocks i r opened → i < length blocks → (block_at blocks i).first ≡ first → (length opened ≡ 0) ⊎ (first ≡ 0) → Swept family table blocks i r opened × (stop_of r ≡ first)
-nothing_before family table blocks opened i first r t are swept lt is none = (swept, elim none [
-  | inr at_first ↦ omega (arith, up)
-  | inl empty ↦ elim (cases_lt d.0 i) [
-    | inl before ↦ elim (swept.standing.done d.0 before) [
-      | inl open_one ↦ absurd (omega (arith, open_one.1))
-      | inr ended ↦ absurd (omega (arith, d.3, room, some, up))
+nothing_before family table blocks opened i first r t are swept lt is none = (
+  swept,
+  elim none [
+    | inr at_first ↦ omega (arith, up)
+    | inl empty ↦ elim (cases_lt d.0 i) [
+      | inl before ↦ elim (swept.standing.done d.0 before) [
+        | inl open_one ↦ absurd (omega (arith, open_one.1))
+        | inr ended ↦ absurd (omega (arith, d.3, room, some, up))
+      ]
+      | inr le ↦ (let order = are.rising i d.0 le d.1 in omega (arith, order.first, d.2, up))
     ]
-    | inr le ↦ (let order = are.rising i d.0 le d.1 in omega (arith, order.first, d.2, up))
-  ]
-])
+  ],
+)
   where
     d : (m : ℕ) × (m < length blocks) × ((block_at blocks m).first ≡ 0) × (end_of family (block_at blocks m) ≡ 2 ^ bits_in family)
     d = default_block family table blocks t are

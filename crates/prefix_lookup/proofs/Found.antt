@@ -1,13 +1,12 @@
 -- The range of a number, by the last start up to it.
-use Rattle.std.proofs.Common.{◌≡◌, ℕ, zero, suc, ◌+◌, ◌-◌, ◌^◌, ◌<◌, ◌≤◌, Bool, true, false, cond, List, length, Option, None, Some, refl, sym, ap, subst, ◌∙◌, arith, inl, inr}
+use Rattle.std.proofs.Common.{◌≡◌, ℕ, zero, suc, ◌+◌, ◌-◌, ◌^◌, ◌<◌, Bool, List, length, Option, None, Some, sym, ap, subst, ◌∙◌, arith, inl, inr}
 use Rattle.std.specs.Prelude.{if◌then◌else◌, IfSome, unwrap_or, option_map}
 use Rattle.std.proofs.lemmas.Bool.{cases_lt, lt-ltb, le-ltb}
 use Rattle.map_model.specs.declared.instance.GroupId.{GroupId}
 use Rattle.prefix_lookup.specs.declared.family.Family.{Family}
 use Rattle.prefix_lookup.specs.declared.ranges.Range.{Range}
-use Rattle.prefix_lookup.specs.Family.{address_in, bits_in}
-use Rattle.prefix_lookup.specs.Longest.{group_of}
-use Rattle.prefix_lookup.specs.Ranges.{AreRanges, AreRangesTo, IsIn, IsLastUpTo, IsRangeAt, IsRangeOf, end_in, group_at, longest_at, next_start, start_at, stop_at}
+use Rattle.prefix_lookup.specs.Family.{bits_in}
+use Rattle.prefix_lookup.specs.Ranges.{AreRanges, AreRangesTo, IsLastUpTo, IsRangeAt, IsRangeOf, end_in, longest_at, next_start, start_at, stop_at}
 use Rattle.prefix_lookup.proofs.Longest.{Entry}
 
 -- where the range ends, both ways it is said

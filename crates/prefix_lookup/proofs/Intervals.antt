@@ -1,5 +1,5 @@
 -- The numbers of a block lie between its ends.
-use Rattle.std.proofs.Common.{◌≡◌, ℕ, ◌+◌, ◌-◌, ◌*◌, ◌/◌, ◌%◌, ◌^◌, ◌<◌, ◌≤◌, true, eqb, refl, sym, ap, subst, ◌∙◌, arith, eq-eqb, inl, inr, mul-le-mul_left}
+use Rattle.std.proofs.Common.{◌≡◌, ℕ, ◌+◌, ◌-◌, ◌*◌, ◌/◌, ◌%◌, ◌^◌, ◌<◌, ◌≤◌, true, refl, sym, ap, subst, ◌∙◌, arith, eq-eqb, inl, inr, mul-le-mul_left}
 use Rattle.std.proofs.lemmas.Bool.{eqb-true, cases_lt}
 use Rattle.std.proofs.lemmas.Nat.{shr_below, shr_split, pow-add, pow_pos, div-mul-add, mod_below}
 use Rattle.prefix_lookup.specs.declared.block.Block.{Block}

@@ -1,17 +1,15 @@
 -- One more block of numbers at the end of the ranges.
-use Rattle.std.proofs.Common.{◌≡◌, ℕ, ◌+◌, ◌-◌, ◌<◌, ◌≤◌, Bool, List, [], ◌∷◌, ◌++◌, length, Option, Some, None, sym, ap, subst, ◌∙◌, arith, inl, inr, length-append}
+use Rattle.std.proofs.Common.{◌≡◌, ℕ, ◌+◌, ◌-◌, ◌<◌, ◌≤◌, Bool, List, [], ◌∷◌, ◌++◌, length, Option, Some, None, sym, ap, ◌∙◌, arith, inl, inr, length-append}
 use Rattle.std.specs.Prelude.{if◌then◌else◌, option_map}
 use Rattle.std.proofs.lemmas.Bool.{cases_lt, lt-ltb, le-ltb}
 use Rattle.std.proofs.lemmas.List.{get_or_append_left, get_or_push}
-use Rattle.addr_text.specs.declared.address.Addr.{Addr}
-use Rattle.addr_text.specs.declared.address.Prefix.{Prefix}
 use Rattle.map_model.specs.declared.instance.GroupId.{GroupId}
 use Rattle.prefix_lookup.specs.declared.block.Block.{Block}
 use Rattle.prefix_lookup.specs.declared.family.Family.{Family}
 use Rattle.prefix_lookup.specs.Blocks.{block, entry_of}
 use Rattle.prefix_lookup.specs.Family.{address_in}
 use Rattle.prefix_lookup.specs.Longest.{group_of}
-use Rattle.prefix_lookup.specs.Ranges.{AreRangesTo, group_at, longest_at, start_at, stop_at}
+use Rattle.prefix_lookup.specs.Ranges.{longest_at, start_at, stop_at}
 use Rattle.prefix_lookup.specs.Sweep.{AllLongest, CoversTo}
 use Rattle.prefix_lookup.proofs.Families.{one_number}
 use Rattle.prefix_lookup.proofs.Longest.{Entry}

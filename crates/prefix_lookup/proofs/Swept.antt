@@ -1,15 +1,12 @@
 -- The walk over the blocks: what each of its steps keeps.
-use Rattle.std.proofs.Common.{◌≡◌, ℕ, zero, suc, ◌+◌, ◌-◌, ◌^◌, ◌<◌, ◌≤◌, List, [], ◌∷◌, ◌++◌, length, Option, None, Some, refl, sym, ap, subst, ◌∙◌, arith, inl, inr, length-append}
-use Rattle.std.specs.Prelude.{All, Contains, max, map, ◌⊎◌}
+use Rattle.std.proofs.Common.{◌≡◌, ℕ, ◌+◌, ◌-◌, ◌<◌, ◌≤◌, List, [], ◌∷◌, ◌++◌, length, refl, sym, ap, subst, ◌∙◌, arith, inl, inr, length-append}
+use Rattle.std.specs.Prelude.{Contains, max}
 use Rattle.std.proofs.lemmas.Bool.{cases_lt}
 use Rattle.std.proofs.lemmas.List.{get_or_append_left, get_or_push}
-use Rattle.std.proofs.lemmas.Nat.{pow_pos}
 use Rattle.prefix_lookup.specs.declared.block.Block.{Block}
 use Rattle.prefix_lookup.specs.declared.family.Family.{Family}
-use Rattle.prefix_lookup.specs.declared.sweep.Ranges.{Ranges}
-use Rattle.prefix_lookup.specs.Blocks.{AreBlocks, IsBlock, IsInOrder, block, block_at, end_of, entry_of}
-use Rattle.prefix_lookup.specs.Family.{bits_in}
-use Rattle.prefix_lookup.specs.Sweep.{AllAhead, AllGoOn, AllLongest, AreOpen, Covers, IsAmong, IsOuter, Swept, stop_of}
+use Rattle.prefix_lookup.specs.Blocks.{AreBlocks, IsBlock, IsInOrder, block_at, end_of, entry_of}
+use Rattle.prefix_lookup.specs.Sweep.{AllAhead, AllGoOn, AllLongest, AreOpen, IsOuter}
 use Rattle.prefix_lookup.specs.Table.{IsTable}
 use Rattle.prefix_lookup.proofs.Intervals.{nested}
 use Rattle.prefix_lookup.proofs.Longest.{Entry}

@@ -1,5 +1,5 @@
 -- The longest prefix of a number, by the blocks that hold the number.
-use Rattle.std.proofs.Common.{◌≡◌, ℕ, zero, suc, ◌∷◌, [], ◌+◌, ◌<◌, ◌≤◌, true, List, length, get_or, Option, None, Some, refl, sym, ap, subst, ◌∙◌, arith, inl, inr}
+use Rattle.std.proofs.Common.{◌≡◌, ℕ, zero, suc, ◌∷◌, [], ◌<◌, ◌≤◌, true, List, length, get_or, Option, None, Some, refl, sym, ap, subst, ◌∙◌, arith, inl, inr}
 use Rattle.std.specs.Prelude.{Contains, AllPairs}
 use Rattle.std.proofs.lemmas.Bool.{cases_lt}
 use Rattle.std.proofs.lemmas.List.{get_or_default}
@@ -10,7 +10,7 @@ use Rattle.prefix_lookup.specs.declared.block.Block.{Block}
 use Rattle.prefix_lookup.specs.declared.family.Family.{Family}
 use Rattle.prefix_lookup.specs.Blocks.{AreBlocks, IsBlock, block, block_at, end_of, entry_of}
 use Rattle.prefix_lookup.specs.Family.{address_in}
-use Rattle.prefix_lookup.specs.Longest.{agrees, holds, longest}
+use Rattle.prefix_lookup.specs.Longest.{holds}
 use Rattle.prefix_lookup.specs.Ranges.{longest_at}
 use Rattle.prefix_lookup.specs.Table.{IsTable}
 use Rattle.prefix_lookup.proofs.Chosen.{AtLeast, takes_all}

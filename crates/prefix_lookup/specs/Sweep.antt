@@ -1,5 +1,5 @@
 -- Inside this crate alone: ranges that are made from the first number on.
-use Rattle.std.specs.Prelude.{◌≡◌, ℕ, ◌+◌, ◌-◌, ◌*◌, ◌^◌, ◌<◌, ◌≤◌, List, length, Option, None, Some, option_map, unwrap_or, ◌⊎◌}
+use Rattle.std.specs.Prelude.{◌≡◌, ℕ, ◌-◌, ◌^◌, ◌<◌, ◌≤◌, List, length, Option, None, Some, option_map, unwrap_or, ◌⊎◌}
 use Rattle.addr_text.specs.declared.address.Prefix.{Prefix}
 use Rattle.map_model.specs.declared.instance.GroupId.{GroupId}
 use Rattle.prefix_lookup.specs.declared.block.Block.{Block}

@@ -8,12 +8,11 @@ ghost use Rattle.prefix_lookup.specs.Search.{IsFew};
 ghost use Rattle.prefix_lookup.specs.Table.{IsTable};
 
 use crate::family::Family;
-use crate::ranges::{ranges_v4, ranges_v6, Range, RangesV4, RangesV6};
+use crate::ranges::{Range, RangesV4, RangesV6, ranges_v4, ranges_v6};
 use crate::scope::scope_in;
 use addr_text::{Addr, Prefix};
-use map_model::GroupId;
+use map_model::{GroupId, Steps};
 use no_memory::NoMemory;
-use outside::Steps;
 use std::alloc::Global;
 use std::marker::Model;
 

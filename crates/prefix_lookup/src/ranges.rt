@@ -9,9 +9,8 @@ ghost use Rattle.prefix_lookup.specs.Table.{IsTable};
 use crate::family::Family;
 use crate::sweep::ranges_of;
 use addr_text::Prefix;
-use map_model::GroupId;
+use map_model::{GroupId, Steps};
 use no_memory::NoMemory;
-use outside::Steps;
 use std::alloc::Global;
 
 /// Numbers with the same longest prefix.

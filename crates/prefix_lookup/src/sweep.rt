@@ -10,7 +10,7 @@ ghost use Rattle.prefix_lookup.specs.Ranges.{AreRanges};
 ghost use Rattle.prefix_lookup.specs.Sweep.{AllAhead, AllGoOn, AllLongest, Covers, CoversTo, Swept, stop_of};
 ghost use Rattle.prefix_lookup.specs.Table.{IsTable};
 
-use crate::block::{blocks_of, Block};
+use crate::block::{Block, blocks_of};
 use crate::family::Family;
 use addr_text::Prefix;
 use map_model::GroupId;

@@ -1,4 +1,4 @@
-use Rattle.std.proofs.Common.{◌≡◌, ℕ, ap, sym, subst, ◌∙◌, ◌+◌, arith}
+use Rattle.std.proofs.Common.{◌+◌, arith}
 use Rattle.prefix_lookup.specs.Blocks.{block_at}
 use Rattle.prefix_lookup.proofs.Ordered.{in_order}
 use Rattle.prefix_lookup.proofs.Sorted.{are_blocks}

@@ -1,4 +1,4 @@
-use Rattle.std.proofs.Common.{◌≤◌, arith}
+use Rattle.std.proofs.Common.{arith}
 use Rattle.prefix_lookup.specs.Family.{bits_in}
 use Rattle.prefix_lookup.proofs.Families.{wide}
 use Rattle.prefix_lookup.proofs.Parting.{parts, zeros}

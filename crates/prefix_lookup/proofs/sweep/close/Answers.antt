@@ -1,6 +1,5 @@
-use Rattle.std.proofs.Common.{◌≡◌, ◌+◌, ◌∷◌, ◌++◌, [], ◌<◌, ℕ, List, length, refl, sym, ap, subst, arith, length-append}
-use Rattle.prefix_lookup.specs.declared.block.Block.{Block}
-use Rattle.prefix_lookup.specs.Blocks.{end_of, limit_of}
+use Rattle.std.proofs.Common.{◌∷◌, [], length, refl, sym, ap, subst, arith, length-append}
+use Rattle.prefix_lookup.specs.Blocks.{limit_of}
 use Rattle.prefix_lookup.specs.Sweep.{AllGoOn, AllLongest, Swept, stop_of}
 use Rattle.prefix_lookup.proofs.Ends.{all_go_on, closed}
 use Rattle.prefix_lookup.proofs.sweep.close.Goals as goal

@@ -1,6 +1,5 @@
-use Rattle.std.proofs.Common.{sym, subst, List}
+use Rattle.std.proofs.Common.{sym, subst}
 use Rattle.std.specs.Prelude.{IfOk, Result, Ok, Err}
-use Rattle.prefix_lookup.specs.declared.block.Block.{Block}
 use Rattle.prefix_lookup.specs.Blocks.{AreBlocks}
 use Rattle.prefix_lookup.proofs.sweep.ranges_of.Goals as goal
 

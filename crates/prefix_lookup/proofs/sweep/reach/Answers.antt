@@ -1,8 +1,5 @@
-use Rattle.std.proofs.Common.{◌≡◌, ◌+◌, ◌-◌, ◌<◌, ℕ, List, Option, None, length, sym, ap, subst, arith, inl, inr}
-use Rattle.std.specs.Option.{SomeIff}
+use Rattle.std.proofs.Common.{◌≡◌, ◌+◌, ◌-◌, length, sym, subst, arith, inl, inr}
 use Rattle.std.proofs.lemmas.Bool.{cases_lt}
-use Rattle.prefix_lookup.specs.declared.block.Block.{Block}
-use Rattle.prefix_lookup.specs.Blocks.{block_at}
 use Rattle.prefix_lookup.specs.Sweep.{AllLongest, stop_of}
 use Rattle.prefix_lookup.proofs.Ends.{nothing_before, reached}
 use Rattle.prefix_lookup.proofs.sweep.reach.Goals as goal

@@ -1,10 +1,9 @@
-use Rattle.std.proofs.Common.{◌≡◌, ◌+◌, ◌∷◌, ◌++◌, [], ◌<◌, ℕ, List, length, refl, sym, ap, subst, arith, length-append}
+use Rattle.std.proofs.Common.{◌≡◌, ◌+◌, ℕ, length, refl, sym, subst, arith}
 use Rattle.std.specs.Prelude.{All}
 use Rattle.std.proofs.lemmas.List.Elements.{All-push}
-use Rattle.prefix_lookup.specs.declared.block.Block.{Block}
 use Rattle.prefix_lookup.specs.Blocks.{IsBlock, block_at}
 use Rattle.prefix_lookup.specs.Sweep.{AllGoOn, Swept}
-use Rattle.prefix_lookup.proofs.Ends.{ahead_of, finished, started, stepped}
+use Rattle.prefix_lookup.proofs.Ends.{ahead_of, finished, stepped}
 use Rattle.prefix_lookup.proofs.sweep.sweep.Goals as goal
 
 pub loop-block-preserved : goal.loop-block-preserved

@@ -1,6 +1,5 @@
 use Rattle.std.proofs.Common.{◌≤◌, ◌+◌, ◌*◌, List, length}
 use Rattle.std.specs.Prelude.{All}
-use Rattle.prefix_lookup.specs.declared.block.Block.{Block}
 use Rattle.prefix_lookup.specs.Blocks.{AreBlocks, IsBlock}
 use Rattle.prefix_lookup.specs.Sweep.{Swept}
 use Rattle.prefix_lookup.specs.Table.{IsTable}

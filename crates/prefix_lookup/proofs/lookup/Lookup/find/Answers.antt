@@ -1,9 +1,8 @@
-use Rattle.std.proofs.Common.{◌≡◌, ℕ, List, Option, Some, sym, subst, ◌∙◌}
+use Rattle.std.proofs.Common.{◌≡◌, ℕ, List, sym, subst}
 use Rattle.addr_text.specs.declared.address.Addr.{Addr}
-use Rattle.addr_text.specs.Addresses.{bits_of}
 use Rattle.prefix_lookup.specs.declared.family.Family.TheVariants as family
 use Rattle.prefix_lookup.specs.Family.{address_in}
-use Rattle.prefix_lookup.specs.Longest.{HasLongest, group_of}
+use Rattle.prefix_lookup.specs.Longest.{HasLongest}
 use Rattle.prefix_lookup.specs.Ranges.{AreRanges, IsIn, IsRangeOf}
 use Rattle.prefix_lookup.specs.Scope.{IsScope, scope_of}
 use Rattle.prefix_lookup.specs.Table.{IsTable}

@@ -1,8 +1,8 @@
-use Rattle.std.proofs.Common.{◌≡◌, ◌-◌, ℕ, List, Option, Some, sym, subst, ◌∙◌, arith}
+use Rattle.std.proofs.Common.{◌-◌, List, sym, subst, arith}
 use Rattle.addr_text.specs.declared.address.Addr.{Addr}
 use Rattle.prefix_lookup.specs.declared.family.Family.TheVariants as family
-use Rattle.prefix_lookup.specs.Longest.{HasLongest, group_of}
-use Rattle.prefix_lookup.specs.Ranges.{AreRanges, IsRangeOf}
+use Rattle.prefix_lookup.specs.Longest.{HasLongest}
+use Rattle.prefix_lookup.specs.Ranges.{AreRanges}
 use Rattle.prefix_lookup.specs.Search.{IsFew}
 use Rattle.prefix_lookup.specs.Table.{IsTable}
 use Rattle.prefix_lookup.proofs.Answered.{has_longest}

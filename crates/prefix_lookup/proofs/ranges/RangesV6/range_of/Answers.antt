@@ -1,4 +1,4 @@
-use Rattle.std.proofs.Common.{List, ℕ, subst, arith}
+use Rattle.std.proofs.Common.{List, ℕ, subst}
 use Rattle.map_model.specs.declared.instance.GroupId.{GroupId}
 use Rattle.prefix_lookup.specs.declared.family.Family.TheVariants as family
 use Rattle.prefix_lookup.specs.Ranges.{IsLastUpTo, IsRangeAt}
