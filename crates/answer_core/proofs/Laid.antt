@@ -1,6 +1,6 @@
 -- A group's amounts, laid end to end.
-use Rattle.std.proofs.Common.{◌≡◌, ℕ, ◌+◌, ◌-◌, ◌<◌, ◌≤◌, Bool, true, false, List, length, get_or, take, sym, ap, subst, ◌∙◌, arith, inl, inr}
-use Rattle.std.specs.Prelude.{map, sum, find, Option, None, Some, IfSome, IsSome}
+use Rattle.std.proofs.Common.{◌≡◌, ℕ, ◌+◌, ◌-◌, ◌<◌, ◌≤◌, Bool, true, false, List, length, get_or, take, refl, sym, ap, subst, ◌∙◌, arith, inl, inr}
+use Rattle.std.specs.Prelude.{map, sum, find, Option, None, Some, IfSome, IsNone, IsSome}
 use Rattle.std.specs.List.{range_with_len, slice_get}
 use Rattle.std.proofs.lemmas.Bool.{and_from, and_right, le-leb, lt-ltb, le-ltb, cases_lt}
 use Rattle.std.proofs.lemmas.List.{take-take}
@@ -84,3 +84,9 @@ pick_is v g draw slot amounts (Some k) there items is some lt from to =
     let p = is_picked v g draw k slot amounts there items is lt from to in
     let start : sum (take k (amounts_of v g)) ≤ slot_of draw (placed v.lines g) = omega (arith, ap (λ (l : List ℕ). sum (take k l)) items) in
     sym (found_first (falls_on v g (slot_of draw (placed v.lines g))) n k (omega arith) (λ j l. past v g (slot_of draw (placed v.lines g)) k j l (omega arith) start) (and_from _ _ (le-leb _ _ p.from) (lt-ltb _ _ p.to)))
+
+-- none is found exactly where there are no units
+pub nothing_found : (amounts : List ℕ) (slot units : ℕ) (found : Option ℕ) → units ≡ sum amounts → (0 < units → slot < units) → (slot < sum amounts → IsSome found) → IfSome found (λ k. slot < sum (take (k + 1) amounts))
+    → (IsNone found → units ≡ 0) × (units ≡ 0 → IsNone found)
+nothing_found amounts slot units None is within some to = (λ _. elim (cases_lt 0 units) [ inl l ↦ let none : false ≡ true = some (omega (arith, within l)) in absurd cc | inr ge ↦ omega (arith, ge) ], λ _. refl)
+nothing_found amounts slot units (Some k) is within some to = (λ none. absurd cc, λ e. absurd (omega (arith, sum_by-take-le (λ x. x) amounts (k + 1))))

@@ -1,6 +1,8 @@
 //! What is replied to a query that can be read.
-ghost use Rattle.std.specs.Prelude.{◌≡◌, ◌<◌, ◌≤◌, ℕ, if◌then◌else◌, length, option_map, IfSome, Some, None};
-ghost use Rattle.answer_core.specs.Outcome.{answered_kind, at_apex, at_service, by_name, client_of, is_address_kind, outcome_of, pool_for, told_scope};
+ghost use Rattle.std.specs.Prelude.{◌≡◌, ◌⊎◌, ◌<◌, ◌≤◌, ℕ, if◌then◌else◌, length, option_map, IfSome, Some, None};
+ghost use Rattle.topology_text.specs.Plan.{addresses_of};
+ghost use Rattle.published_map.specs.Version.{IsVersion};
+ghost use Rattle.answer_core.specs.Outcome.{answered_kind, at_apex, at_service, by_name, client_of, is_address_kind, of_addresses, outcome_of, pool_for, told_scope};
 ghost use Rattle.answer_core.specs.View.{HasFew, IsTold, outcome_view, request_view};
 
 use crate::kinds::{A, AAAA, ANY, IN, NS, SOA};
@@ -62,6 +64,7 @@ fn told_scope(version: &MapVersion, subnet: Option<SubnetOpt>) -> u8
 
 /// The pool on which a draw falls for a client's group; None where nothing is placed for it.
 fn pool_for(version: &MapVersion, client: Addr, draw: u64) -> Option<NodeId>
+    requires { IsVersion version.now }
     ensures exact { option_map (λ n. n.0) result ≡ pool_for version.now client draw }
     ensures there { IfSome result (λ n. n.0 < length version.now.plan.market.nodes) }
 {
@@ -81,8 +84,28 @@ fn answered_kind(kind: u16) -> Option<u16>
     }
 }
 
+/// The addresses of a pool, of one type.
+fn at_pool<'v>(version: &'v MapVersion, pool: NodeId, kind: u16, subnet: Option<SubnetOpt>) -> Outcome<'v>
+    requires pool { pool.0 < length version.now.plan.market.nodes }
+    requires kind { (kind ≡ 1) ⊎ (kind ≡ 28) }
+    ensures exact { outcome_view result ≡ of_addresses kind (addresses_of version.now.plan pool.0 kind) (told_scope version.now subnet) }
+    ensures few { HasFew result }
+    ensures told { (size : ℕ) → IsTold size result }
+{
+    let addresses = version.addresses(pool, kind);
+    if addresses.is_empty() {
+        return Outcome::NoData;
+    }
+    Outcome::Addresses {
+        kind,
+        addresses,
+        scope: told_scope(version, subnet),
+    }
+}
+
 /// A service's name.
 fn at_service<'v>(version: &'v MapVersion, request: &Request, from: Addr, draw: u64) -> Outcome<'v>
+    requires { IsVersion version.now }
     ensures exact { outcome_view result ≡ at_service version.now (request_view request.now) from draw }
     ensures few { HasFew result }
     ensures told { (size : ℕ) → IsTold size result }
@@ -94,15 +117,7 @@ fn at_service<'v>(version: &'v MapVersion, request: &Request, from: Addr, draw: 
     let Some(pool) = pool_for(version, client, draw) else {
         return Outcome::ServFail;
     };
-    let addresses = version.addresses(pool, kind);
-    if addresses.is_empty() {
-        return Outcome::NoData;
-    }
-    Outcome::Addresses {
-        kind,
-        addresses,
-        scope: told_scope(version, request.subnet),
-    }
+    at_pool(version, pool, kind, request.subnet)
 }
 
 /// The apex.
@@ -119,6 +134,7 @@ fn at_apex<'v>(kind: u16) -> Outcome<'v>
 
 /// The class and the name.
 fn by_name<'v>(version: &'v MapVersion, request: &Request, from: Addr, draw: u64) -> Outcome<'v>
+    requires { IsVersion version.now }
     ensures exact { outcome_view result ≡ by_name version.now (request_view request.now) from draw }
     ensures few { HasFew result }
     ensures told { IsTold (length request.now.query.name.now) result }
@@ -144,6 +160,7 @@ pub(crate) fn decide<'v>(
     from: Addr,
     draw: u64,
 ) -> Outcome<'v>
+    requires { IsVersion version.now }
     ensures exact { outcome_view result ≡ outcome_of version.now (request_view request.now) from draw }
     ensures few { HasFew result }
     ensures told { IsTold (length request.now.query.name.now) result }

@@ -1,6 +1,7 @@
 //! Which place of a group's list a draw falls on.
 ghost use Rattle.std.specs.Prelude.{◌≡◌, ◌<◌, ◌≤◌, ◌^◌, ◌+◌, ◌↔◌, IsNone, IsSome, IfSome, length, sum, take};
 ghost use Rattle.map_model.specs.Allocation.{placed};
+ghost use Rattle.published_map.specs.Version.{IsVersion};
 ghost use Rattle.answer_core.specs.Pick.{IsPicked, pick_of, slot_of};
 
 use map_model::GroupId;
@@ -43,7 +44,8 @@ fn total(amounts: &[u32]) -> u32
 
 /// The place of the group's list on which a draw falls: the units that the map places of the group are laid end to end in the list's order, and the draw is scaled from 2^64 to their number. None exactly where nothing is placed.
 pub fn pick(version: &MapVersion, group: GroupId, draw: u64) -> Option<u8>
-    requires { group.0 < length version.now.market.groups }
+    requires group { group.0 < length version.now.market.groups }
+    requires version { IsVersion version.now }
     ensures exact { result ≡ pick_of version.now group.0 draw }
     ensures none { IsNone result ↔ (placed version.now.lines group.0 ≡ 0) }
     ensures picked { IfSome result (IsPicked version.now group.0 draw) }

@@ -4,7 +4,7 @@ ghost use Rattle.addr_text.specs.declared.address.Addr.{Addr};
 ghost use Rattle.name_text.specs.Wire.{IsName};
 ghost use Rattle.dns_wire.specs.View.{asked};
 ghost use Rattle.prefix_lookup.specs.Longest.{IsAddress};
-ghost use Rattle.published_map.specs.Version.{Version};
+ghost use Rattle.published_map.specs.Version.{IsVersion, Version};
 ghost use Rattle.answer_core.specs.Grammar.{request_of};
 ghost use Rattle.answer_core.specs.Outcome.{IsLookedUp};
 ghost use Rattle.answer_core.specs.Reply.{Replies, reply_of, reply_to_query};
@@ -37,6 +37,7 @@ fn write_reply(
     draw: u64,
     out: &mut ArrayVec<u8, 512>,
 )
+    requires version { IsVersion version.now }
     requires empty { out.old.items ≡ [] }
     requires name { IsName query.name.now }
     ensures exact { out.new.items ≡ reply_to_query version.now from (request_of (asked query.entry)) draw }
@@ -47,8 +48,9 @@ fn write_reply(
     write_full(out, version.zone(), &request, &outcome);
 }
 
-/// What is always so of a version's prefixes.
+/// What is so of a version's prefixes.
 fn check_prefixes(version: &MapVersion)
+    requires { IsVersion version.now }
     ensures { (a : Addr) → IsAddress a → IsLookedUp version.now a }
 {
     let _ = version.serial();
@@ -64,6 +66,7 @@ pub fn reply(
     draw: u64,
     out: &mut ArrayVec<u8, 512>,
 ) -> Answer
+    requires { IsVersion version.now }
     ensures reply { Replies result out.new.items (reply_of version.now from octets.now draw) }
     ensures short { IfSome (reply_of version.now from octets.now draw) (λ r. length r ≤ 512) }
     ensures lookup { (a : Addr) → IsAddress a → IsLookedUp version.now a }

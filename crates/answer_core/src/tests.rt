@@ -126,7 +126,7 @@ fn version_of(alloc: Global, text: &str, map: MapLines) -> Result<MapVersion, Fa
     let lookup = Lookup::build(alloc, topology.prefixes())?;
     let topology = Arc::new(alloc, topology)?;
     let shared = Arc::new(alloc, Shared { topology, lookup })?;
-    Ok(MapVersion::make(alloc, 0, instance, map, shared)?)
+    Ok(MapVersion::make(alloc, 0, &instance, &map, shared)?)
 }
 
 /// The example and its map.
@@ -140,7 +140,7 @@ fn example(alloc: Global) -> Result<MapVersion, Fail> {
 #[test]
 fn picks_by_draw(rt: HostRuntime) -> Result<(), Fail> {
     let version = example(rt.alloc())?;
-    assert_eq!(rt; version.instance().groups(), 2);
+    assert_eq!(rt; version.groups(), 2);
     let rows = [
         (0, 0),
         // The last draw of slot 1, and the first of slot 2.

@@ -1,6 +1,6 @@
 use Rattle.std.proofs.Common.{◌≡◌, [], ◌∷◌, None, Some, codes, refl}
 use Rattle.clap.proofs.OnLiterals.{clap_on_literals}
-use Rattle.command_line.specs.Asked.{asked, answer, check, map_of}
+use Rattle.command_line.specs.Asked.{asked, answer, check, large, map_of, repair, serve}
 
 -- the declaration on words that are written out
 check_is_taken : asked (codes "glb" ∷ codes "check" ∷ codes "t" ∷ codes "m" ∷ []) ≡ Some (check (codes "t") (codes "m"))
@@ -14,6 +14,26 @@ answer_is_taken = refl
 map_is_taken : asked (codes "glb" ∷ codes "map" ∷ codes "t" ∷ []) ≡ Some (map_of (codes "t"))
 unfolding clap_on_literals
 map_is_taken = refl
+
+repair_is_taken : asked (codes "glb" ∷ codes "repair" ∷ codes "t" ∷ codes "m" ∷ codes "c" ∷ []) ≡ Some (repair (codes "t") (codes "m") (codes "c"))
+unfolding clap_on_literals
+repair_is_taken = refl
+
+serve_is_taken : asked (codes "glb" ∷ codes "serve" ∷ codes "t" ∷ codes "--listen" ∷ codes "x" ∷ codes "--workers" ∷ codes "2" ∷ []) ≡ Some (serve (codes "t") (codes "x") (Some (codes "2")))
+unfolding clap_on_literals
+serve_is_taken = refl
+
+serve_alone_is_taken : asked (codes "glb" ∷ codes "serve" ∷ codes "--listen" ∷ codes "x" ∷ codes "t" ∷ []) ≡ Some (serve (codes "t") (codes "x") None)
+unfolding clap_on_literals
+serve_alone_is_taken = refl
+
+serve_nowhere_is_not : asked (codes "glb" ∷ codes "serve" ∷ codes "t" ∷ []) ≡ None
+unfolding clap_on_literals
+serve_nowhere_is_not = refl
+
+large_is_taken : asked (codes "glb" ∷ codes "large" ∷ codes "64" ∷ []) ≡ Some (large (codes "64"))
+unfolding clap_on_literals
+large_is_taken = refl
 
 escaped_is_taken : asked (codes "glb" ∷ codes "check" ∷ codes "--" ∷ codes "-t" ∷ codes "-m" ∷ []) ≡ Some (check (codes "-t") (codes "-m"))
 unfolding clap_on_literals

@@ -12,6 +12,9 @@ pub data Ask : Type 0 where
   check : Text → Text → Ask
   answer : Text → Text → Text → Text → Ask
   map_of : Text → Ask
+  repair : Text → Text → Text → Ask
+  serve : Text → Text → Option Text → Ask
+  large : Text → Ask
 
 -- the words, as texts
 abbrev pub texts : List (String Global) → List Text
@@ -30,13 +33,25 @@ answer_of rows = with_value (codes "TOPOLOGY") rows (λ t. with_value (codes "MA
 abbrev pub map_command_of : List Row → Option Ask
 map_command_of rows = with_value (codes "TOPOLOGY") rows (λ t. Some (map_of t))
 
+abbrev pub repair_of : List Row → Option Ask
+repair_of rows = with_value (codes "TOPOLOGY") rows (λ t. with_value (codes "MAP") rows (λ m. with_value (codes "CHANGES") rows (λ c. Some (repair t m c))))
+
+abbrev pub serve_of : List Row → Option Ask
+serve_of rows = with_value (codes "TOPOLOGY") rows (λ t. with_value (codes "listen") rows (λ l. Some (serve t l (first_of (codes "workers") rows))))
+
+abbrev pub large_of : List Row → Option Ask
+large_of rows = with_value (codes "N") rows (λ n. Some (large n))
+
 -- what a command with these values asks for
 abbrev pub asked_by : Text → List Row → Option Ask
 asked_by name rows =
     if bytes_eq name (codes "check") then check_of rows
     else (if bytes_eq name (codes "answer") then answer_of rows
     else (if bytes_eq name (codes "map") then map_command_of rows
-    else None))
+    else (if bytes_eq name (codes "repair") then repair_of rows
+    else (if bytes_eq name (codes "serve") then serve_of rows
+    else (if bytes_eq name (codes "large") then large_of rows
+    else None)))))
 
 -- what the words ask for, where the declaration takes them; the first word is the program's name
 abbrev pub asked : List Text → Option Ask

@@ -1,3 +1,5 @@
+//! A command line that is taken.
+
 /// A command line that is taken. Its words are as they were given, and none is looked into yet.
 #[derive(Clone, Copy)]
 pub enum Command<'a> {
@@ -13,5 +15,18 @@ pub enum Command<'a> {
     },
     Map {
         topology: &'a str,
+    },
+    Repair {
+        topology: &'a str,
+        map: &'a str,
+        changes: &'a str,
+    },
+    Serve {
+        topology: &'a str,
+        listen: &'a str,
+        workers: Option<&'a str>,
+    },
+    Large {
+        groups: &'a str,
     },
 }

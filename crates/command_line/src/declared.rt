@@ -1,7 +1,8 @@
+//! The declaration of the command line.
 ghost use Rattle.std.specs.Prelude.{◌≡◌, ◌∷◌, [], false, IfOk, map};
 ghost use Rattle.clap.specs.Words.{app_of, rule_of};
 ghost use Rattle.clap.specs.declared.builder.command.Command.TheViews.{out-Command as fields_of};
-ghost use Rattle.command_line.specs.Declaration.{command, declared, positional};
+ghost use Rattle.command_line.specs.Declaration.{command, declared, option_named, positional, serve_command};
 
 use clap::{Arg, Command};
 use std::alloc::{AllocError, Global};
@@ -24,6 +25,23 @@ fn command<'a>(alloc: Global, name: &'a str, ids: &[&'a str]) -> Result<Command<
     Ok(command)
 }
 
+fn option<'a>(alloc: Global, name: &'a str, required: bool) -> Arg<'a>
+    ensures rule { rule_of result ≡ option_named name.entry.now required }
+    ensures local { result.global ≡ false }
+{
+    Arg::new(alloc, name).long(name).required(required)
+}
+
+fn serve<'a>(alloc: Global) -> Result<Command<'a>, AllocError>
+    ensures app { IfOk result (λ c. app_of c ≡ record { top = serve_command; subs = [] }) }
+    ensures local { IfOk result (λ c. (fields_of c).has_globals ≡ false) }
+{
+    Command::new(alloc, "serve")
+        .arg(positional(alloc, "TOPOLOGY"))?
+        .arg(option(alloc, "listen", true))?
+        .arg(option(alloc, "workers", false))
+}
+
 /// The command line, as it is declared.
 pub fn declared<'a>(alloc: Global) -> Result<Command<'a>, AllocError>
     ensures app { IfOk result (λ c. app_of c ≡ declared) }
@@ -34,5 +52,8 @@ pub fn declared<'a>(alloc: Global) -> Result<Command<'a>, AllocError>
         .disable_help_subcommand(true)
         .subcommand(command(alloc, "check", &["TOPOLOGY", "MAP"])?)?
         .subcommand(command(alloc, "answer", &["TOPOLOGY", "MAP", "ADDR", "HEX"])?)?
-        .subcommand(command(alloc, "map", &["TOPOLOGY"])?)
+        .subcommand(command(alloc, "map", &["TOPOLOGY"])?)?
+        .subcommand(command(alloc, "repair", &["TOPOLOGY", "MAP", "CHANGES"])?)?
+        .subcommand(serve(alloc)?)?
+        .subcommand(command(alloc, "large", &["N"])?)
 }

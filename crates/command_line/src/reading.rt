@@ -1,6 +1,7 @@
+//! What the words ask for.
 ghost use Rattle.std.specs.Prelude.{◌≡◌, IfOk, option_map, option_and_then};
 ghost use Rattle.clap.specs.Words.{first_of, found_of, rows_of, subcommand_rows_of};
-ghost use Rattle.command_line.specs.Asked.{answer_of, asked, asked_by, check_of, map_command_of, texts};
+ghost use Rattle.command_line.specs.Asked.{answer_of, asked, asked_by, check_of, large_of, map_command_of, repair_of, serve_of, texts};
 ghost use Rattle.command_line.specs.Commands.{ask_of};
 
 use crate::command::Command;
@@ -46,6 +47,39 @@ fn map<'a>(found: &ArgMatches<'a>) -> Option<Command<'a>>
     Some(Command::Map { topology })
 }
 
+fn repair<'a>(found: &ArgMatches<'a>) -> Option<Command<'a>>
+    ensures { option_map ask_of result ≡ repair_of (rows_of (found_of found.now)) }
+{
+    let topology = value(found, "TOPOLOGY")?;
+    let map = value(found, "MAP")?;
+    let changes = value(found, "CHANGES")?;
+    Some(Command::Repair {
+        topology,
+        map,
+        changes,
+    })
+}
+
+fn serve<'a>(found: &ArgMatches<'a>) -> Option<Command<'a>>
+    ensures { option_map ask_of result ≡ serve_of (rows_of (found_of found.now)) }
+{
+    let topology = value(found, "TOPOLOGY")?;
+    let listen = value(found, "listen")?;
+    let workers = value(found, "workers");
+    Some(Command::Serve {
+        topology,
+        listen,
+        workers,
+    })
+}
+
+fn large<'a>(found: &ArgMatches<'a>) -> Option<Command<'a>>
+    ensures { option_map ask_of result ≡ large_of (rows_of (found_of found.now)) }
+{
+    let groups = value(found, "N")?;
+    Some(Command::Large { groups })
+}
+
 fn named<'a>(name: &str, found: &ArgMatches<'a>) -> Option<Command<'a>>
     ensures { option_map ask_of result ≡ asked_by name.now (rows_of (found_of found.now)) }
 {
@@ -53,6 +87,9 @@ fn named<'a>(name: &str, found: &ArgMatches<'a>) -> Option<Command<'a>>
         "check" => check(found),
         "answer" => answer(found),
         "map" => map(found),
+        "repair" => repair(found),
+        "serve" => serve(found),
+        "large" => large(found),
         _ => None,
     }
 }

@@ -1,3 +1,4 @@
+//! Words that are taken, and words that are not.
 use crate::{Command, read_words};
 use std::alloc::Global;
 use std::test::Fail;
@@ -13,13 +14,17 @@ fn kind(alloc: Global, words: &[&str]) -> Result<&'static str, Fail> {
         Ok(Some(Command::Check { .. })) => Ok("check"),
         Ok(Some(Command::Answer { .. })) => Ok("answer"),
         Ok(Some(Command::Map { .. })) => Ok("map"),
+        Ok(Some(Command::Repair { .. })) => Ok("repair"),
+        Ok(Some(Command::Serve { workers: None, .. })) => Ok("serve"),
+        Ok(Some(Command::Serve { .. })) => Ok("serve by"),
+        Ok(Some(Command::Large { .. })) => Ok("large"),
     }
 }
 
 #[test]
 fn words_are_taken(rt: HostRuntime) -> Result<(), Fail> {
     let alloc = rt.alloc();
-    let cases: [(&[&str], &str); 25] = [
+    let cases: [(&[&str], &str); 35] = [
         (&["glb", "check", "t", "m"], "check"),
         (&["glb", "answer", "t", "m", "a", "h"], "answer"),
         (&["glb", "map", "t"], "map"),
@@ -45,6 +50,22 @@ fn words_are_taken(rt: HostRuntime) -> Result<(), Fail> {
         (&["glb", "map", "t", "--listen", "x"], "usage"),
         (&["glb", "chec", "t", "m"], "usage"),
         (&["glb", "serve", "t"], "usage"),
+        (&["glb", "repair", "t", "m", "c"], "repair"),
+        (&["glb", "repair", "t", "m"], "usage"),
+        (&["glb", "serve", "t", "--listen", "x"], "serve"),
+        (
+            &["glb", "serve", "--workers", "2", "--listen=x", "t"],
+            "serve by",
+        ),
+        (&["glb", "serve", "t", "--workers", "2"], "usage"),
+        (&["glb", "serve", "t", "--listen"], "usage"),
+        (
+            &["glb", "serve", "t", "--listen", "x", "--listen", "y"],
+            "usage",
+        ),
+        (&["glb", "serve", "t", "-l", "x"], "usage"),
+        (&["glb", "large", "64"], "large"),
+        (&["glb", "large"], "usage"),
     ];
     for (words, wanted) in &cases {
         let got = kind(alloc, words)?;

@@ -46,15 +46,14 @@ fresh m market pointers free none count each = record {
 }
 
 -- and it is a whole one
-pub sound_fresh : (m own : Market) (held : Holdings) (tree : Loads) (free totals : List ℕ) → IsMarket m → own ≡ m → held ≡ record { market = m; lines = [] } → AreTreesOf m tree.trees → tree.units ≡ replicate (length m.nodes) 0
-    → length free ≡ length m.groups → ((g : ℕ) → g < length m.groups → slice_index free g ≡ demand_of m g) → length totals ≡ length m.groups → ((g : ℕ) → g < length m.groups → slice_index totals g ≡ demand_of m g) → IsSound own held tree free totals
-sound_fresh m own held tree free totals market same nothing are empty count each count' each' =
-    let start : IsSound m (record { market = m; lines = [] }) tree free totals = record {
+pub sound_fresh : (m : Market) (held : Holdings) (tree : Loads) (free totals : List ℕ) → IsMarket m → held ≡ record { market = m; lines = [] } → AreTreesOf m tree.trees → tree.units ≡ replicate (length m.nodes) 0
+    → length free ≡ length m.groups → ((g : ℕ) → g < length m.groups → slice_index free g ≡ demand_of m g) → length totals ≡ length m.groups → ((g : ℕ) → g < length m.groups → slice_index totals g ≡ demand_of m g) → IsSound held tree free totals
+sound_fresh m held tree free totals market nothing are empty count each count' each' =
+    let start : IsSound (record { market = m; lines = [] }) tree free totals = record {
       market = market;
-      same = refl;
       agrees = agrees-nothing m tree are empty;
       count = count' ∙ sym count;
       sums = λ g l. let none : placed [] g ≡ 0 = refl in omega (arith, each g (omega (arith, count)), each' g (omega (arith, count)), none);
       small = λ g l. omega (arith, each' g (omega (arith, count)), small_demand m market g (omega (arith, count)));
     } in
-    subst (λ (x : Market). IsSound x held tree free totals) (sym same) (subst (λ (x : Holdings). IsSound m x tree free totals) (sym nothing) start)
+    subst (λ (x : Holdings). IsSound x tree free totals) (sym nothing) start

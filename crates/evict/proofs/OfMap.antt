@@ -91,18 +91,17 @@ of_good m market lines names good pointers free pcount fcount past sums = record
         omega (arith, held, placed_through-and-later lines g p k later, good.feasible.demands g o.group)
 
 -- and it is a whole one
-pub sound_of : (m own : Market) (held : Holdings) (tree : Loads) (lines : List MapLine) (free totals : List ℕ) → IsMarket m → own ≡ m → held ≡ record { market = m; lines = lines } → AgreesWith m lines tree → length free ≡ length m.groups
-    → ((g : ℕ) → g < length m.groups → placed lines g + slice_index free g ≡ demand_of m g) → length totals ≡ length m.groups → ((g : ℕ) → g < length m.groups → slice_index totals g ≡ demand_of m g) → IsSound own held tree free totals
-sound_of m own held tree lines free totals market same is agrees count sums count' each =
-    let start : IsSound m (record { market = m; lines = lines }) tree free totals = record {
+pub sound_of : (m : Market) (held : Holdings) (tree : Loads) (lines : List MapLine) (free totals : List ℕ) → IsMarket m → held ≡ record { market = m; lines = lines } → AgreesWith m lines tree → length free ≡ length m.groups
+    → ((g : ℕ) → g < length m.groups → placed lines g + slice_index free g ≡ demand_of m g) → length totals ≡ length m.groups → ((g : ℕ) → g < length m.groups → slice_index totals g ≡ demand_of m g) → IsSound held tree free totals
+sound_of m held tree lines free totals market is agrees count sums count' each =
+    let start : IsSound (record { market = m; lines = lines }) tree free totals = record {
       market = market;
-      same = refl;
       agrees = agrees;
       count = count' ∙ sym count;
       sums = λ g l. omega (arith, sums g (omega (arith, count)), each g (omega (arith, count)));
       small = λ g l. omega (arith, each g (omega (arith, count)), small_demand m market g (omega (arith, count)));
     } in
-    subst (λ (x : Market). IsSound x held tree free totals) (sym same) (subst (λ (x : Holdings). IsSound m x tree free totals) (sym is) start)
+    subst (λ (x : Holdings). IsSound x tree free totals) (sym is) start
 
 -- the root of a node, in trees that are an instance's
 pub root-trees : (m trees : Market) → AreTreesOf m trees → (n : ℕ) → root_of trees n ≡ root_of m n

@@ -84,10 +84,9 @@ pub record IsPlacing (m : Market) (origin : Origin) (g k units : ℕ) (held : Ho
   pub fits : (n : ℕ) → n < length m.nodes → load m held.lines n ≤ capacity_of m n
   pub nothing : freed ≡ []
 
--- A state that is whole: what is held is of its own instance, the loads are those of what is held, and what a group holds and has free is its total.
-pub record IsSound (own : Market) (held : Holdings) (tree : Loads) (free totals : List ℕ) : Type 0 where
-  pub market : IsMarket own
-  pub same : held.market ≡ own
+-- A state that is whole: the loads are those of what is held, and what a group holds and has free is its total.
+pub record IsSound (held : Holdings) (tree : Loads) (free totals : List ℕ) : Type 0 where
+  pub market : IsMarket held.market
   pub agrees : AgreesWith held.market held.lines tree
   pub count : length totals ≡ length free
   pub sums : (g : ℕ) → g < length free → placed held.lines g + slice_index free g ≡ slice_index totals g

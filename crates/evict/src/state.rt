@@ -23,8 +23,6 @@ use std::marker::Model;
 /// tells them takes it, and it is only to be dropped.
 #[derive(Debug, Drop)]
 pub struct State {
-    // Of the instance's numbers only its lists and trees count here.
-    own: Instance,
     tree: Tree,
     held: Held,
     pointers: Vec<u8>,
@@ -43,7 +41,7 @@ impl Model for State {
 
     ghost view = { λ s. record { market = s.held.market; lines = s.held.lines; pointers = s.pointers.items; free = s.free.items; is_whole = s.whole } };
 
-    ghost invariant = { λ s. IsTrue s.whole → IsSound s.own s.held s.tree s.free.items s.totals.items };
+    ghost invariant = { λ s. IsTrue s.whole → IsSound s.held s.tree s.free.items s.totals.items };
 }
 
 /// The demand of each group.
@@ -69,7 +67,6 @@ impl State {
             names: Vec::new(alloc),
         };
         Ok(State {
-            own: instance.try_clone()?,
             held: Held::build(alloc, instance, &nothing)?,
             tree: Tree::build(alloc, instance)?,
             pointers: vec![in alloc; 0; instance.groups() as usize]?,
@@ -88,7 +85,6 @@ impl State {
         let held = Held::build(alloc, instance, map)?;
         let pointers = wanted_counts(alloc, instance, &held)?;
         let totals = demands(alloc, instance)?;
-        let own = instance.try_clone()?;
         let mut free = demands(alloc, instance)?;
         let mut tree = Tree::build(alloc, instance)?;
         load_lines(
@@ -98,7 +94,6 @@ impl State {
             map.lines.as_slice(),
         );
         Ok(State {
-            own,
             held,
             tree,
             pointers,
@@ -228,7 +223,7 @@ impl State {
         requires { CanRelease self.old offer.group.0 offer.place units }
         ensures { IsReleased self.old self.new offer.group.0 offer.place units }
     {
-        let pool = self.own.pool_at(offer);
+        let pool = self.held.pool_at(offer);
         self.held.take(offer, units);
         self.tree.take(pool, units);
         self.free[offer.group.0 as usize] += units;

@@ -9,9 +9,9 @@ use Rattle.outside.specs.Shelf.{IsLoad, Load, Shelved}
 use Rattle.outside.specs.declared.shelf.LoadFault.TheVariants.{TooLong}
 use Rattle.glb_program.specs.Outcome.{AreLoaded, Outcome}
 use Rattle.glb_program.specs.Files.{IsRefused, Kind, MayHold, Reads, Says, refused, said}
-use Rattle.glb_program.specs.Reports.{AreBytes, EndsBy, IsRefusedBy, IsTooLong}
-use Rattle.glb_program.specs.declared.report.Ended.{Ended}
-use Rattle.glb_program.proofs.Loads.{ends_weaker}
+use Rattle.glb_program.specs.Ending.{AreBytes, IsRefusedBy, IsTooLong, StopsBy}
+use Rattle.glb_program.specs.declared.ending.Stop.{Stop}
+use Rattle.glb_program.proofs.Loads.{stops_weaker}
 
 -- a file that is too long has octets of more than the limit
 long_bytes : (s t : Option Shelved) (name : List ℕ) (limit : ℕ) → BothTell s t (IsLoad name limit (Err TooLong)) → (bytes : List ℕ) × MayHold s name bytes × (limit < length bytes)
@@ -25,12 +25,12 @@ long_bytes (Some x) (Some y) name limit h = go (x.holds name) refl h.answer
     go (Some bytes) is h = (bytes, is, h)
 
 -- and its refusal is that of such a file
-pub long_refused : (s t : Option Shelved) (name : List ℕ) (limit : ℕ) (words : List ℕ) (made : Result (Vec ℕ Global) NoMemory) (e : Ended) → BothTell s t (IsLoad name limit (Err TooLong)) → IfOk made (λ v. v.items ≡ words)
-    → EndsBy (λ due. MatchResult made (λ v. due ≡ refused v.items) (λ _. ⊥)) e → EndsBy (IsTooLong s name limit words) e
+pub long_refused : (s t : Option Shelved) (name : List ℕ) (limit : ℕ) (words : List ℕ) (made : Result (Vec ℕ Global) NoMemory) (e : Stop) → BothTell s t (IsLoad name limit (Err TooLong)) → IfOk made (λ v. v.items ≡ words)
+    → StopsBy (λ due. MatchResult made (λ v. due ≡ refused v.items) (λ _. ⊥)) e → StopsBy (IsTooLong s name limit words) e
 long_refused s t name limit words (Ok v) e load made ends =
     let long = long_bytes s t name limit load in
-    ends_weaker (λ due. due ≡ refused v.items) (IsTooLong s name limit words) e (λ due h. (long.0, long.1, long.2, h ∙ ap refused made)) ends
-long_refused s t name limit words (Err f) e load made ends = ends_weaker (λ due. ⊥) (IsTooLong s name limit words) e (λ due h. absurd h) ends
+    stops_weaker (λ due. due ≡ refused v.items) (IsTooLong s name limit words) e (λ due h. (long.0, long.1, long.2, h ∙ ap refused made)) ends
+long_refused s t name limit words (Err f) e load made ends = stops_weaker (λ due. ⊥) (IsTooLong s name limit words) e (λ due h. absurd h) ends
 
 fits : {T : Type 0} (kind : Kind T) (bytes : List ℕ) → length bytes ≤ kind.limit → said kind bytes ≡ kind.reading bytes
 fits kind bytes le = rw (le-ltb kind.limit (length bytes) le) refl
@@ -39,15 +39,15 @@ too_long : {T : Type 0} (kind : Kind T) (bytes : List ℕ) → kind.limit < leng
 too_long kind bytes lt = rw (lt-ltb kind.limit (length bytes) lt) refl
 
 -- a file that is too long is refused
-pub refused_long : {T : Type 0} (kind : Kind T) (files : Option Shelved) (name : List ℕ) (e : Ended) → EndsBy (IsTooLong files name kind.limit kind.too_long) e → EndsBy (IsRefused kind files name) e
-refused_long kind files name e = ends_weaker (IsTooLong files name kind.limit kind.too_long) (IsRefused kind files name) e (λ due h. (h.0, kind.too_long, h.1, too_long kind h.0 h.2, h.3))
+refused_long : {T : Type 0} (kind : Kind T) (files : Option Shelved) (name : List ℕ) (e : Stop) → StopsBy (IsTooLong files name kind.limit kind.too_long) e → StopsBy (IsRefused kind files name) e
+refused_long kind files name e = stops_weaker (IsTooLong files name kind.limit kind.too_long) (IsRefused kind files name) e (λ due h. (h.0, kind.too_long, h.1, too_long kind h.0 h.2, h.3))
 
 -- what is read of a file's octets is what the file says
-pub parsed : {X T : Type 0} (see : X → T) (kind : Kind T) (files : Option Shelved) (name bytes : List ℕ) (r : Result X Ended) → AreBytes files name kind.limit bytes
-    → MatchResult r (λ x. kind.reading bytes ≡ Ok (see x)) (EndsBy (IsRefusedBy (kind.reading bytes))) → MatchResult r (λ x. Says kind files name (see x)) (EndsBy (IsRefused kind files name))
+pub parsed : {X T : Type 0} (see : X → T) (kind : Kind T) (files : Option Shelved) (name bytes : List ℕ) (r : Result X Stop) → AreBytes files name kind.limit bytes
+    → MatchResult r (λ x. kind.reading bytes ≡ Ok (see x)) (StopsBy (IsRefusedBy (kind.reading bytes))) → MatchResult r (λ x. Says kind files name (see x)) (StopsBy (IsRefused kind files name))
 parsed see kind files name bytes (Ok x) are h = (bytes, are.0, fits kind bytes are.1 ∙ h)
 parsed see kind files name bytes (Err e) are h =
-    ends_weaker (IsRefusedBy (kind.reading bytes)) (IsRefused kind files name) e (λ due r. (bytes, r.0, are.0, fits kind bytes are.1 ∙ r.1, r.2)) h
+    stops_weaker (IsRefusedBy (kind.reading bytes)) (IsRefused kind files name) e (λ due r. (bytes, r.0, are.0, fits kind bytes are.1 ∙ r.1, r.2)) h
 
 -- a shelf held before its loads what it holds after them
 held_before : (s t : Option Shelved) (due : (List ℕ → Option (List ℕ)) → List Load) → BothTell s t (AreLoaded due) → (name bytes : List ℕ) → MayHold t name bytes → MayHold s name bytes
@@ -59,17 +59,3 @@ held_before (Some x) (Some y) due made name bytes h = ap (λ (holds : List ℕ �
 reads_before : {T : Type 0} (kind : Kind T) (s t : Option Shelved) (due : (List ℕ → Option (List ℕ)) → List Load) → BothTell s t (AreLoaded due) → (name : List ℕ) (Next : T → Outcome → Type 0) (o : Outcome) → Reads kind t name Next o → Reads kind s name Next o
 reads_before kind s t due made name Next o (inl r) = inl (r.0, r.1, held_before s t due made name r.0 r.2, r.3, r.4)
 reads_before kind s t due made name Next o (inr n) = inr (n.0, (n.1.0, held_before s t due made name n.1.0 n.1.1, n.1.2), n.2)
-
--- a file that is refused ends the command
-pub stops : {T : Type 0} (kind : Kind T) (files : Option Shelved) (name : List ℕ) (Next : T → Outcome → Type 0) (e : Ended) → EndsBy (IsRefused kind files name) e → EndsBy (Reads kind files name Next) e
-stops kind files name Next e = ends_weaker (IsRefused kind files name) (Reads kind files name Next) e (λ due h. inl h)
-
--- what a file says leads on
-pub leads_on : {T : Type 0} (kind : Kind T) (files : Option Shelved) (name : List ℕ) (Next : T → Outcome → Type 0) (that : T) (e : Ended) → Says kind files name that → EndsBy (Next that) e → EndsBy (Reads kind files name Next) e
-leads_on kind files name Next that e says = ends_weaker (Next that) (Reads kind files name Next) e (λ due h. inr (that, says, h))
-
--- what a file says leads on to another file
-pub leads_to_file : {T U : Type 0} (kind : Kind T) (next : T → Kind U) (s t : Option Shelved) (due : (List ℕ → Option (List ℕ)) → List Load) (name behind : List ℕ) (Next : T → U → Outcome → Type 0) (that : T) (e : Ended)
-    → BothTell s t (AreLoaded due) → Says kind s name that → EndsBy (Reads (next that) t behind (Next that)) e → EndsBy (Reads kind s name (λ x. Reads (next x) s behind (Next x))) e
-leads_to_file kind next s t due name behind Next that e made says ends =
-    leads_on kind s name (λ x. Reads (next x) s behind (Next x)) that e says (ends_weaker (Reads (next that) t behind (Next that)) (Reads (next that) s behind (Next that)) e (reads_before (next that) s t due made behind (Next that)) ends)

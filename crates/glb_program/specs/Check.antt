@@ -11,7 +11,7 @@ use Rattle.map_text.specs.Reading.{Mapped}
 use Rattle.glb_program.specs.declared.status.Status.{Status}
 use Rattle.glb_program.specs.declared.status.Status.TheVariants.{Ok, NotGood}
 use Rattle.glb_program.specs.Outcome.{IsPrinted, Outcome, Outside}
-use Rattle.glb_program.specs.Files.{Reads, Says, load_of, loads_from, map_file, topology_file}
+use Rattle.glb_program.specs.Files.{Reads, Says, loads_from, only, map_file, topology_file}
 use Rattle.glb_program.specs.Texts as text
 
 abbrev pub status_of : Verdict → Status
@@ -37,4 +37,4 @@ IsCheckedRun topology map before after =
 
 -- the loads of `check`: the topology, and where that says something the map
 abbrev pub loads_of_check : List ℕ → List ℕ → (List ℕ → Option (List ℕ)) → List Load
-loads_of_check topology map files = loads_from topology_file topology (files topology) (λ t. load_of (map_file t) map ∷ [])
+loads_of_check topology map = loads_from topology_file topology (λ t. only (map_file t) map)

@@ -69,6 +69,10 @@ loads_behind (Some (Err text)) next = []
 abbrev pub load_of : {T : Type 0} → Kind T → List ℕ → Load
 load_of kind name = record { name = name; limit = kind.limit }
 
--- the load of a file, and those that follow on it
-abbrev pub loads_from : {T : Type 0} → Kind T → List ℕ → Option (List ℕ) → (T → List Load) → List Load
-loads_from kind name held next = load_of kind name ∷ loads_behind (option_map (said kind) held) next
+-- the load of one file alone
+abbrev pub only : {T : Type 0} → Kind T → List ℕ → (List ℕ → Option (List ℕ)) → List Load
+only kind name files = load_of kind name ∷ []
+
+-- the load of a file, and those that follow on what it says
+abbrev pub loads_from : {T : Type 0} → Kind T → List ℕ → (T → (List ℕ → Option (List ℕ)) → List Load) → (List ℕ → Option (List ℕ)) → List Load
+loads_from kind name next files = load_of kind name ∷ loads_behind (option_map (said kind) (files name)) (λ t. next t files)

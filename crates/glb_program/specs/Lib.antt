@@ -8,4 +8,4 @@ pub mod Check
 pub mod Map
 pub mod Answer
 pub mod Run
-pub mod Reports
+pub mod Ending

@@ -8,7 +8,7 @@ use Rattle.map_text.specs.Reading.{Mapped}
 use Rattle.map_text.specs.Writing.{text_of_map}
 use Rattle.glb_program.specs.declared.status.Status.TheVariants.{Ok}
 use Rattle.glb_program.specs.Outcome.{IsPrinted, Outcome, Outside}
-use Rattle.glb_program.specs.Files.{Reads, Says, load_of, topology_file}
+use Rattle.glb_program.specs.Files.{Reads, Says, only, topology_file}
 
 -- these texts are the one text of a map that is good for the instance of a topology
 abbrev pub AreGoodMap : Plan → List (List ℕ) → Type 0
@@ -34,4 +34,4 @@ IsMappedRun topology before after =
 
 -- the loads of `map`: the topology
 abbrev pub loads_of_map : List ℕ → (List ℕ → Option (List ℕ)) → List Load
-loads_of_map topology files = load_of topology_file topology ∷ []
+loads_of_map topology = only topology_file topology

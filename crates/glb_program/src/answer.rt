@@ -1,17 +1,16 @@
-ghost use Rattle.std.specs.Prelude.{◌≡◌, ◌≢◌, ◌≤◌, [], ◌∷◌, IfOk};
+//! `glb answer`: the reply of a map to a datagram.
+ghost use Rattle.std.specs.Prelude.{◌≡◌, [], ◌∷◌, IfOk};
 ghost use Rattle.map_model.specs.Allocation.{IsGood};
-ghost use Rattle.outside.specs.Faults.{BothTell, Rose};
+ghost use Rattle.published_map.specs.Version.{IsVersion};
 ghost use Rattle.map_text.specs.Writing.{mapped};
-ghost use Rattle.glb_program.specs.Outcome.{AreLoaded, AreLoadsOf};
 ghost use Rattle.glb_program.specs.Answer.{IsAnswerDue, IsAnswered, IsReplied, answer_of, version_of};
 ghost use Rattle.glb_program.specs.Check.{loads_of_check};
-ghost use Rattle.glb_program.specs.Files.{Reads, load_of, map_file};
-ghost use Rattle.glb_program.specs.Reports.{EndsBy, IsNameable, outcome_of};
+ghost use Rattle.glb_program.specs.Ending.{IsEnd, IsNameable, outcome_of};
 ghost use Rattle.glb_program.specs.Texts as text;
 
 use crate::check::judge;
 use crate::files::{load_map, load_topology};
-use crate::report::{Ended, Report};
+use crate::ending::{Report, Stop};
 use crate::status::Status;
 use crate::text::{answer_text, line, verdict_text};
 use addr_text::Addr;
@@ -33,13 +32,14 @@ const DRAW: u64 = 0;
 /// A map over a topology as it was read, as version 0.
 fn first_version(alloc: Global, topology: Topology, map: MapLines) -> Result<MapVersion, NoMemory>
     requires { IsGood topology.market map.lines.items map.names.items }
-    ensures { IfOk result (λ v. v ≡ version_of topology (mapped map)) }
+    ensures value { IfOk result (λ v. v ≡ version_of topology (mapped map)) }
+    ensures version { IfOk result IsVersion }
 {
     let instance = topology.instance().try_clone()?;
     let lookup = Lookup::build(alloc, topology.prefixes())?;
     let topology = Arc::new(alloc, topology)?;
     let shared = Arc::new(alloc, Shared { topology, lookup })?;
-    MapVersion::make(alloc, 0, instance, map, shared)
+    MapVersion::make(alloc, 0, &instance, &map, shared)
 }
 
 /// The text of a version's reply to octets from an address.
@@ -50,6 +50,7 @@ fn reply_text(
     from: Addr,
     octets: &[u8],
 ) -> Result<Vec<u8>, NoMemory>
+    requires { IsVersion version.now }
     ensures { IfOk result (λ t. t.items ≡ text.answer (answer_of version.now (record { from = from; octets = octets.now }))) }
 {
     let mut out = ArrayVec::new();
@@ -91,7 +92,7 @@ fn not_good(alloc: Global, topology: &Topology, verdict: Verdict) -> Result<Repo
 }
 
 /// The reply of a map, or the verdict on it where it is not good.
-fn try_report(
+fn report(
     alloc: Global,
     topology: Topology,
     map: MapLines,
@@ -106,37 +107,6 @@ fn try_report(
     }
 }
 
-fn report(alloc: Global, topology: Topology, map: MapLines, from: Addr, octets: &[u8]) -> Ended
-    ensures answered { EndsBy (IsAnswered (record { from = from; octets = octets.now }) topology (mapped map)) result }
-    ensures source { result ≢ Ended.SourceFault }
-{
-    match try_report(alloc, topology, map, from, octets) {
-        Ok(report) => Ended::Said(report),
-        Err(NoMemory) => Ended::NoMemory,
-    }
-}
-
-/// The reply of the map of a file over a topology.
-fn answer_map<F: Shelf>(
-    alloc: Global,
-    files: &mut F,
-    topology: Topology,
-    map: &str,
-    from: Addr,
-    octets: &[u8],
-) -> Ended
-    ensures noted { BothTell (F.told files.old) (F.told files.new) (AreLoadsOf (λ _. load_of (map_file topology) map.now ∷ [])) }
-    ensures loaded { EndsBy (λ _. BothTell (F.told files.old) (F.told files.new) (AreLoaded (λ _. load_of (map_file topology) map.now ∷ []))) result }
-    ensures due { EndsBy (Reads (map_file topology) (F.told files.old) map.now (IsAnswered (record { from = from; octets = octets.now }) topology)) result }
-    ensures later { F.faults files.old ≤ F.faults files.new }
-    ensures cause { result ≡ Ended.SourceFault → Rose (F.faults files.old) (F.faults files.new) }
-{
-    match load_map(alloc, files, map, &topology) {
-        Ok(map) => report(alloc, topology, map, from, octets),
-        Err(ended) => ended,
-    }
-}
-
 /// The reply of the map of a file, over the topology of another, to octets from an address.
 pub fn answer_files<F: Shelf>(
     alloc: Global,
@@ -145,15 +115,10 @@ pub fn answer_files<F: Shelf>(
     map: &str,
     from: Addr,
     octets: &[u8],
-) -> Ended
-    ensures noted { BothTell (F.told files.old) (F.told files.new) (AreLoadsOf (loads_of_check topology.now map.now)) }
-    ensures loaded { EndsBy (λ _. BothTell (F.told files.old) (F.told files.new) (AreLoaded (loads_of_check topology.now map.now))) result }
-    ensures due { EndsBy (IsAnswerDue topology.now map.now (record { from = from; octets = octets.now }) (F.told files.old)) result }
-    ensures later { F.faults files.old ≤ F.faults files.new }
-    ensures cause { result ≡ Ended.SourceFault → Rose (F.faults files.old) (F.faults files.new) }
+) -> Result<Report, Stop>
+    ensures { IsEnd (loads_of_check topology.now map.now) (IsAnswerDue topology.now map.now (record { from = from; octets = octets.now }) (F.told files.old)) (record { told = F.told files.old; faults = F.faults files.old }) (record { told = F.told files.new; faults = F.faults files.new }) result }
 {
-    match load_topology(alloc, files, topology) {
-        Ok(topology) => answer_map(alloc, files, topology, map, from, octets),
-        Err(ended) => ended,
-    }
+    let topology = load_topology(alloc, files, topology)?;
+    let map = load_map(alloc, files, map, &topology)?;
+    Ok(report(alloc, topology, map, from, octets)?)
 }

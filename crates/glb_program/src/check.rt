@@ -1,14 +1,12 @@
-ghost use Rattle.std.specs.Prelude.{◌≡◌, ◌≢◌, ◌≤◌, [], ◌∷◌, IfOk};
-ghost use Rattle.outside.specs.Faults.{BothTell, Rose};
+//! `glb check`: the verdict on a map.
+ghost use Rattle.std.specs.Prelude.{◌≡◌, IfOk};
 ghost use Rattle.stable_check.specs.Judgement.{Judges};
 ghost use Rattle.map_text.specs.Writing.{mapped};
-ghost use Rattle.glb_program.specs.Outcome.{AreLoaded, AreLoadsOf};
 ghost use Rattle.glb_program.specs.Check.{IsCheckDue, IsJudged, loads_of_check, status_of};
-ghost use Rattle.glb_program.specs.Files.{Reads, load_of, map_file};
-ghost use Rattle.glb_program.specs.Reports.{EndsBy, IsNameable, outcome_of};
+ghost use Rattle.glb_program.specs.Ending.{IsEnd, IsNameable, outcome_of};
 
+use crate::ending::{Report, Stop};
 use crate::files::{load_map, load_topology};
-use crate::report::{Ended, Report};
 use crate::status::Status;
 use crate::text::verdict_text;
 use map_model::MapLines;
@@ -37,8 +35,8 @@ pub fn judge(alloc: Global, topology: &Topology, map: &MapLines) -> Result<Verdi
 }
 
 /// The verdict on a map, as what is to be said.
-fn try_report(alloc: Global, topology: &Topology, map: &MapLines) -> Result<Report, NoMemory>
-    ensures judged { IfOk result (λ r. IsJudged topology.now (mapped map.now) (outcome_of r)) }
+fn report(alloc: Global, topology: &Topology, map: &MapLines) -> Result<Report, NoMemory>
+    ensures { IfOk result (λ r. IsJudged topology.now (mapped map.now) (outcome_of r)) }
 {
     let verdict = judge(alloc, topology, map)?;
     let text = verdict_text(alloc, topology, verdict)?;
@@ -48,40 +46,16 @@ fn try_report(alloc: Global, topology: &Topology, map: &MapLines) -> Result<Repo
     })
 }
 
-fn report(alloc: Global, topology: &Topology, map: &MapLines) -> Ended
-    ensures judged { EndsBy (IsJudged topology.now (mapped map.now)) result }
-    ensures source { result ≢ Ended.SourceFault }
-{
-    match try_report(alloc, topology, map) {
-        Ok(report) => Ended::Said(report),
-        Err(NoMemory) => Ended::NoMemory,
-    }
-}
-
-/// Whether the map of a file is good for the instance of a topology.
-fn check_map<F: Shelf>(alloc: Global, files: &mut F, topology: &Topology, map: &str) -> Ended
-    ensures noted { BothTell (F.told files.old) (F.told files.new) (AreLoadsOf (λ _. load_of (map_file topology.now) map.now ∷ [])) }
-    ensures loaded { EndsBy (λ _. BothTell (F.told files.old) (F.told files.new) (AreLoaded (λ _. load_of (map_file topology.now) map.now ∷ []))) result }
-    ensures due { EndsBy (Reads (map_file topology.now) (F.told files.old) map.now (IsJudged topology.now)) result }
-    ensures later { F.faults files.old ≤ F.faults files.new }
-    ensures cause { result ≡ Ended.SourceFault → Rose (F.faults files.old) (F.faults files.new) }
-{
-    match load_map(alloc, files, map, topology) {
-        Ok(map) => report(alloc, topology, &map),
-        Err(ended) => ended,
-    }
-}
-
 /// Whether the map of a file is good for the instance of the topology of another.
-pub fn check_files<F: Shelf>(alloc: Global, files: &mut F, topology: &str, map: &str) -> Ended
-    ensures noted { BothTell (F.told files.old) (F.told files.new) (AreLoadsOf (loads_of_check topology.now map.now)) }
-    ensures loaded { EndsBy (λ _. BothTell (F.told files.old) (F.told files.new) (AreLoaded (loads_of_check topology.now map.now))) result }
-    ensures due { EndsBy (IsCheckDue topology.now map.now (F.told files.old)) result }
-    ensures later { F.faults files.old ≤ F.faults files.new }
-    ensures cause { result ≡ Ended.SourceFault → Rose (F.faults files.old) (F.faults files.new) }
+pub fn check_files<F: Shelf>(
+    alloc: Global,
+    files: &mut F,
+    topology: &str,
+    map: &str,
+) -> Result<Report, Stop>
+    ensures { IsEnd (loads_of_check topology.now map.now) (IsCheckDue topology.now map.now (F.told files.old)) (record { told = F.told files.old; faults = F.faults files.old }) (record { told = F.told files.new; faults = F.faults files.new }) result }
 {
-    match load_topology(alloc, files, topology) {
-        Ok(topology) => check_map(alloc, files, &topology, map),
-        Err(ended) => ended,
-    }
+    let topology = load_topology(alloc, files, topology)?;
+    let map = load_map(alloc, files, map, &topology)?;
+    Ok(report(alloc, &topology, &map)?)
 }

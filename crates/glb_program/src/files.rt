@@ -1,14 +1,13 @@
-ghost use Rattle.std.specs.Prelude.{◌≡◌, ◌≢◌, ◌≤◌, [], ◌∷◌, Ok, IfErr, OnErr, OnOk, MatchResult};
+//! The files of a command, each loaded and read, or refused with its text.
+ghost use Rattle.std.specs.Prelude.{◌≡◌, ◌≢◌, ◌≤◌, [], ◌∷◌, Ok, Err, IfErr, MatchResult};
 ghost use Rattle.outside.specs.Faults.{BothTell, Rose};
-ghost use Rattle.outside.specs.Shelf.{IsLoad};
 ghost use Rattle.glb_program.specs.Outcome.{AreLoaded, AreLoadsOf};
-ghost use Rattle.glb_program.specs.Files.{IsRefused, Says, mapped_of, refused, topology_file, topology_of, map_file};
+ghost use Rattle.glb_program.specs.Files.{map_file, mapped_of, refused, topology_file, topology_of};
 ghost use Rattle.map_text.specs.Writing.{mapped};
-ghost use Rattle.glb_program.specs.Reports.{AreBytes, EndsBy, IsRefusedBy, IsTooLong};
+ghost use Rattle.glb_program.specs.Ending.{AreBytes, IsReading, IsRefusedBy, IsTooLong, StopsBy};
 ghost use Rattle.glb_program.specs.Texts as text;
 
-use crate::report::{Ended, Report};
-use crate::status::Status;
+use crate::ending::Stop;
 use crate::text::{line, map_fault_text, topology_fault_text};
 use map_model::MapLines;
 use map_text::{MapFault, read_map};
@@ -24,33 +23,30 @@ const TOPOLOGY_LIMIT: usize = 64 * 1024 * 1024;
 const MAP_LIMIT: usize = 256 * 1024 * 1024;
 
 /// A refusal, with its text where there was memory for that.
-fn refuse(text: Result<Vec<u8>, NoMemory>) -> Ended
-    ensures said { EndsBy (λ due. MatchResult text (λ t. due ≡ refused t.items) (λ _. ⊥)) result }
-    ensures source { result ≢ Ended.SourceFault }
+fn refuse(text: Result<Vec<u8>, NoMemory>) -> Stop
+    ensures said { StopsBy (λ due. MatchResult text (λ t. due ≡ refused t.items) (λ _. ⊥)) result }
+    ensures source { result ≢ Stop.SourceFault }
 {
     match text {
-        Ok(text) => Ended::Said(Report {
-            status: Status::Refused,
-            text,
-        }),
-        Err(NoMemory) => Ended::NoMemory,
+        Ok(text) => Stop::Refused(text),
+        Err(NoMemory) => Stop::NoMemory,
     }
 }
 
-fn refuse_topology(alloc: Global, fault: TopologyFault) -> Ended
-    ensures said { EndsBy (λ due. (fault ≢ TopologyFault.NoMemory) × (due ≡ refused (text.topology_fault fault))) result }
-    ensures source { result ≢ Ended.SourceFault }
+fn refuse_topology(alloc: Global, fault: TopologyFault) -> Stop
+    ensures said { StopsBy (λ due. (fault ≢ TopologyFault.NoMemory) × (due ≡ refused (text.topology_fault fault))) result }
+    ensures source { result ≢ Stop.SourceFault }
 {
     match fault {
-        TopologyFault::NoMemory => Ended::NoMemory,
+        TopologyFault::NoMemory => Stop::NoMemory,
         _ => refuse(topology_fault_text(alloc, fault)),
     }
 }
 
 /// What the bytes of a topology say.
-fn parse_topology(alloc: Global, bytes: &[u8]) -> Result<Topology, Ended>
-    ensures said { MatchResult result (λ t. topology_of bytes.now ≡ Ok t) (EndsBy (IsRefusedBy (topology_of bytes.now))) }
-    ensures source { IfErr result (λ e. e ≢ Ended.SourceFault) }
+fn parse_topology(alloc: Global, bytes: &[u8]) -> Result<Topology, Stop>
+    ensures said { MatchResult result (λ t. topology_of bytes.now ≡ Ok t) (StopsBy (IsRefusedBy (topology_of bytes.now))) }
+    ensures source { IfErr result (λ s. s ≢ Stop.SourceFault) }
 {
     match read_topology(alloc, bytes) {
         Ok(topology) => Ok(topology),
@@ -58,20 +54,20 @@ fn parse_topology(alloc: Global, bytes: &[u8]) -> Result<Topology, Ended>
     }
 }
 
-fn refuse_map(alloc: Global, fault: MapFault) -> Ended
-    ensures said { EndsBy (λ due. (fault ≢ MapFault.NoMemory) × (due ≡ refused (text.map_fault fault))) result }
-    ensures source { result ≢ Ended.SourceFault }
+fn refuse_map(alloc: Global, fault: MapFault) -> Stop
+    ensures said { StopsBy (λ due. (fault ≢ MapFault.NoMemory) × (due ≡ refused (text.map_fault fault))) result }
+    ensures source { result ≢ Stop.SourceFault }
 {
     match fault {
-        MapFault::NoMemory => Ended::NoMemory,
+        MapFault::NoMemory => Stop::NoMemory,
         _ => refuse(map_fault_text(alloc, fault)),
     }
 }
 
 /// What the bytes of a map say over a topology.
-fn parse_map(alloc: Global, topology: &Topology, bytes: &[u8]) -> Result<MapLines, Ended>
-    ensures said { MatchResult result (λ m. mapped_of topology.now bytes.now ≡ Ok (mapped m)) (EndsBy (IsRefusedBy (mapped_of topology.now bytes.now))) }
-    ensures source { IfErr result (λ e. e ≢ Ended.SourceFault) }
+fn parse_map(alloc: Global, topology: &Topology, bytes: &[u8]) -> Result<MapLines, Stop>
+    ensures said { MatchResult result (λ m. mapped_of topology.now bytes.now ≡ Ok (mapped m)) (StopsBy (IsRefusedBy (mapped_of topology.now bytes.now))) }
+    ensures source { IfErr result (λ s. s ≢ Stop.SourceFault) }
 {
     match read_map(alloc, topology, bytes) {
         Ok(map) => Ok(map),
@@ -79,34 +75,31 @@ fn parse_map(alloc: Global, topology: &Topology, bytes: &[u8]) -> Result<MapLine
     }
 }
 
+/// The bytes of a file, or its refusal where they are too many.
 fn load_file<F: Shelf>(
     alloc: Global,
     files: &mut F,
     name: &str,
     limit: usize,
     too_long: &[u8],
-) -> Result<Vec<u8>, Ended>
+) -> Result<Vec<u8>, Stop>
     ensures noted { BothTell (F.told files.old) (F.told files.new) (AreLoadsOf (λ _. record { name = name.now; limit = limit } ∷ [])) }
-    ensures loaded { MatchResult result (λ _. BothTell (F.told files.old) (F.told files.new) (AreLoaded (λ _. record { name = name.now; limit = limit } ∷ []))) (EndsBy (λ _. BothTell (F.told files.old) (F.told files.new) (AreLoaded (λ _. record { name = name.now; limit = limit } ∷ [])))) }
-    ensures bytes { MatchResult result (λ b. AreBytes (F.told files.old) name.now limit b.items) (EndsBy (IsTooLong (F.told files.old) name.now limit (text.line too_long.now))) }
+    ensures loaded { MatchResult result (λ _. BothTell (F.told files.old) (F.told files.new) (AreLoaded (λ _. record { name = name.now; limit = limit } ∷ []))) (StopsBy (λ _. BothTell (F.told files.old) (F.told files.new) (AreLoaded (λ _. record { name = name.now; limit = limit } ∷ [])))) }
+    ensures bytes { MatchResult result (λ b. AreBytes (F.told files.old) name.now limit b.items) (StopsBy (IsTooLong (F.told files.old) name.now limit (text.line too_long.now))) }
     ensures later { F.faults files.old ≤ F.faults files.new }
-    ensures cause { IfErr result (λ e. e ≡ Ended.SourceFault → Rose (F.faults files.old) (F.faults files.new)) }
+    ensures cause { result ≡ Err Stop.SourceFault → Rose (F.faults files.old) (F.faults files.new) }
 {
     match files.load(alloc, name, limit) {
         Ok(bytes) => Ok(bytes),
         Err(LoadFault::TooLong) => Err(refuse(line(alloc, too_long))),
-        Err(LoadFault::Failed) => Err(Ended::SourceFault),
-        Err(LoadFault::NoMemory) => Err(Ended::NoMemory),
+        Err(LoadFault::Failed) => Err(Stop::SourceFault),
+        Err(LoadFault::NoMemory) => Err(Stop::NoMemory),
     }
 }
 
 /// The topology of that name.
-pub fn load_topology<F: Shelf>(alloc: Global, files: &mut F, name: &str) -> Result<Topology, Ended>
-    ensures noted { BothTell (F.told files.old) (F.told files.new) (AreLoadsOf (λ _. record { name = name.now; limit = 67108864 } ∷ [])) }
-    ensures loaded { MatchResult result (λ _. BothTell (F.told files.old) (F.told files.new) (AreLoaded (λ _. record { name = name.now; limit = 67108864 } ∷ []))) (EndsBy (λ _. BothTell (F.told files.old) (F.told files.new) (AreLoaded (λ _. record { name = name.now; limit = 67108864 } ∷ [])))) }
-    ensures said { MatchResult result (Says topology_file (F.told files.old) name.now) (EndsBy (IsRefused topology_file (F.told files.old) name.now)) }
-    ensures later { F.faults files.old ≤ F.faults files.new }
-    ensures cause { IfErr result (λ e. e ≡ Ended.SourceFault → Rose (F.faults files.old) (F.faults files.new)) }
+pub fn load_topology<F: Shelf>(alloc: Global, files: &mut F, name: &str) -> Result<Topology, Stop>
+    ensures { IsReading topology_file (λ t. t) name.now (record { told = F.told files.old; faults = F.faults files.old }) (record { told = F.told files.new; faults = F.faults files.new }) result }
 {
     let too_long = b"refused topology too long";
     let bytes = load_file(alloc, files, name, TOPOLOGY_LIMIT, too_long)?;
@@ -119,12 +112,8 @@ pub fn load_map<F: Shelf>(
     files: &mut F,
     name: &str,
     topology: &Topology,
-) -> Result<MapLines, Ended>
-    ensures noted { BothTell (F.told files.old) (F.told files.new) (AreLoadsOf (λ _. record { name = name.now; limit = 268435456 } ∷ [])) }
-    ensures loaded { MatchResult result (λ _. BothTell (F.told files.old) (F.told files.new) (AreLoaded (λ _. record { name = name.now; limit = 268435456 } ∷ []))) (EndsBy (λ _. BothTell (F.told files.old) (F.told files.new) (AreLoaded (λ _. record { name = name.now; limit = 268435456 } ∷ [])))) }
-    ensures said { MatchResult result (λ m. Says (map_file topology.now) (F.told files.old) name.now (mapped m)) (EndsBy (IsRefused (map_file topology.now) (F.told files.old) name.now)) }
-    ensures later { F.faults files.old ≤ F.faults files.new }
-    ensures cause { IfErr result (λ e. e ≡ Ended.SourceFault → Rose (F.faults files.old) (F.faults files.new)) }
+) -> Result<MapLines, Stop>
+    ensures { IsReading (map_file topology.now) mapped name.now (record { told = F.told files.old; faults = F.faults files.old }) (record { told = F.told files.new; faults = F.faults files.new }) result }
 {
     let bytes = load_file(alloc, files, name, MAP_LIMIT, b"refused map too long")?;
     parse_map(alloc, topology, bytes.as_slice())

@@ -1,16 +1,17 @@
+//! The top call: words, files and an output to a status.
 ghost use Rattle.std.specs.Prelude.{◌≡◌, ◌≢◌, ◌≤◌, ◌⊎◌, IsSome};
 ghost use Rattle.outside.specs.Faults.{BothTell, Rose};
 ghost use Rattle.glb_program.specs.Outcome.{AreLoaded, AreLoadsOf, HasCauses, IsSaid};
 ghost use Rattle.glb_program.specs.Run.{IsDue, IsGoodRun, IsRun, IsSound, loads_of, loads_of_ask};
 ghost use Rattle.glb_program.specs.Commands.{ask_of};
-ghost use Rattle.glb_program.specs.Reports.{EndsBy};
+ghost use Rattle.glb_program.specs.Ending.{EndsBy, IsEnd};
 ghost use Rattle.command_line.specs.Asked.{texts};
 ghost use Rattle.glb_program.specs.Words.{asked};
 
 use crate::answer::answer_files;
 use crate::check::check_files;
 use crate::map::map_files;
-use crate::report::{Ended, finish, say};
+use crate::ending::{Report, Stop, finish, say};
 use crate::status::Status;
 use crate::words::{Command, read_words};
 use no_memory::NoMemory;
@@ -20,13 +21,13 @@ use std::alloc::Global;
 const USAGE: &[u8] = b"usage: glb check, answer, map, repair, serve or large\n";
 
 /// Does what a command asks for, up to its text.
-fn run_command<F: Shelf>(alloc: Global, files: &mut F, command: Command<'_>) -> Ended
-    ensures noted { BothTell (F.told files.old) (F.told files.new) (AreLoadsOf (loads_of_ask (ask_of command.entry))) }
-    ensures loaded { EndsBy (λ _. BothTell (F.told files.old) (F.told files.new) (AreLoaded (loads_of_ask (ask_of command.entry)))) result }
-    ensures due { EndsBy (IsDue (ask_of command.entry) (F.told files.old)) result }
+fn run_command<F: Shelf>(
+    alloc: Global,
+    files: &mut F,
+    command: Command<'_>,
+) -> Result<Report, Stop>
+    ensures end { IsEnd (loads_of_ask (ask_of command.entry)) (IsDue (ask_of command.entry) (F.told files.old)) (record { told = F.told files.old; faults = F.faults files.old }) (record { told = F.told files.new; faults = F.faults files.new }) result }
     ensures said { EndsBy IsSaid result }
-    ensures later { F.faults files.old ≤ F.faults files.new }
-    ensures cause { result ≡ Ended.SourceFault → Rose (F.faults files.old) (F.faults files.new) }
 {
     match command {
         Command::Check { topology, map } => check_files(alloc, files, topology, map),

@@ -1,13 +1,20 @@
 //! `glb`, the mapping system of a content delivery network.
 #![tactic(auto)]
 
+ghost use Rattle.std.specs.Prelude.{◌≡◌, None, MatchResult};
+ghost use Rattle.std.specs.Process.{exit_status};
+ghost use Rattle.command_line.specs.Asked.{texts};
+ghost use Rattle.glb_program.specs.Outcome.{code_of};
+ghost use Rattle.glb_program.specs.Run.{IsRun};
+ghost use Rattle.glb_program.specs.Words.{asked};
+
 mod answer;
 mod check;
+mod ending;
 mod files;
 mod glb;
 mod map;
 mod real;
-mod report;
 mod status;
 mod text;
 mod words;
@@ -30,16 +37,29 @@ fn read_args<R: Env + AllocGlobal>(rt: &R) -> Result<Vec<String>, NoMemory> {
     }
 }
 
-fn main(rt: HostRuntime) -> ExitCode {
-    let status = match read_args(&rt) {
+/// The number of a status, as the process ends with it.
+fn exit_code(status: Status) -> ExitCode
+    ensures { exit_status result ≡ code_of status }
+{
+    ExitCode::from(status.code())
+}
+
+/// All of the program behind its words, over the files of the system and standard output.
+fn run_words(rt: &HostRuntime, words: Result<Vec<String>, NoMemory>) -> Status
+    ensures { MatchResult words (λ w. IsRun (asked (texts w.items)) (record { files = None; out = None }) (record { files = None; out = None }) result) (λ _. result ≡ Status.NoMemory) }
+{
+    match words {
         Ok(words) => {
-            let mut files = FileShelf::new(&rt);
-            let mut out = StreamSink::new(io::writer(&rt));
-            glb(&rt, rt.alloc(), words.as_slice(), &mut files, &mut out)
+            let mut files = FileShelf::new(rt);
+            let mut out = StreamSink::new(io::writer(rt));
+            glb(rt, rt.alloc(), words.as_slice(), &mut files, &mut out)
         }
         Err(NoMemory) => Status::NoMemory,
-    };
-    ExitCode::from(status.code())
+    }
+}
+
+fn main(rt: HostRuntime) -> ExitCode {
+    exit_code(run_words(&rt, read_args(&rt)))
 }
 
 #[cfg(test)]

@@ -1,12 +1,11 @@
-ghost use Rattle.std.specs.Prelude.{◌≡◌, ◌≢◌, ◌≤◌, IfOk};
+//! `glb map`: a good map, from scratch.
+ghost use Rattle.std.specs.Prelude.{◌≡◌, IfOk};
 ghost use Rattle.map_model.specs.Allocation.{IsGood, IsMapForm};
-ghost use Rattle.outside.specs.Faults.{BothTell, Rose};
-ghost use Rattle.glb_program.specs.Outcome.{AreLoaded, AreLoadsOf};
 ghost use Rattle.glb_program.specs.Map.{IsMapDue, IsMapped, loads_of_map};
-ghost use Rattle.glb_program.specs.Reports.{EndsBy, outcome_of};
+ghost use Rattle.glb_program.specs.Ending.{IsEnd, outcome_of};
 
+use crate::ending::{Report, Stop};
 use crate::files::load_topology;
-use crate::report::{Ended, Report};
 use crate::status::Status;
 use deferred_accept::{finish, run};
 use evict::State;
@@ -32,8 +31,8 @@ fn map_afresh(alloc: Global, instance: &Instance) -> Result<MapLines, NoMemory>
 }
 
 /// The text of a good map, as what is to be said.
-fn try_report(alloc: Global, topology: &Topology) -> Result<Report, NoMemory>
-    ensures mapped { IfOk result (λ r. IsMapped topology.now (outcome_of r)) }
+fn report(alloc: Global, topology: &Topology) -> Result<Report, NoMemory>
+    ensures { IfOk result (λ r. IsMapped topology.now (outcome_of r)) }
 {
     let map = map_afresh(alloc, topology.instance())?;
     let text = write_map(alloc, topology, &map)?;
@@ -43,26 +42,10 @@ fn try_report(alloc: Global, topology: &Topology) -> Result<Report, NoMemory>
     })
 }
 
-fn report(alloc: Global, topology: &Topology) -> Ended
-    ensures mapped { EndsBy (IsMapped topology.now) result }
-    ensures source { result ≢ Ended.SourceFault }
-{
-    match try_report(alloc, topology) {
-        Ok(report) => Ended::Said(report),
-        Err(NoMemory) => Ended::NoMemory,
-    }
-}
-
 /// A good map for the instance of the topology of a file.
-pub fn map_files<F: Shelf>(alloc: Global, files: &mut F, topology: &str) -> Ended
-    ensures noted { BothTell (F.told files.old) (F.told files.new) (AreLoadsOf (loads_of_map topology.now)) }
-    ensures loaded { EndsBy (λ _. BothTell (F.told files.old) (F.told files.new) (AreLoaded (loads_of_map topology.now))) result }
-    ensures due { EndsBy (IsMapDue topology.now (F.told files.old)) result }
-    ensures later { F.faults files.old ≤ F.faults files.new }
-    ensures cause { result ≡ Ended.SourceFault → Rose (F.faults files.old) (F.faults files.new) }
+pub fn map_files<F: Shelf>(alloc: Global, files: &mut F, topology: &str) -> Result<Report, Stop>
+    ensures { IsEnd (loads_of_map topology.now) (IsMapDue topology.now (F.told files.old)) (record { told = F.told files.old; faults = F.faults files.old }) (record { told = F.told files.new; faults = F.faults files.new }) result }
 {
-    match load_topology(alloc, files, topology) {
-        Ok(topology) => report(alloc, &topology),
-        Err(ended) => ended,
-    }
+    let topology = load_topology(alloc, files, topology)?;
+    Ok(report(alloc, &topology)?)
 }

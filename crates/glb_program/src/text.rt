@@ -3,7 +3,7 @@ ghost use Rattle.std.specs.Fmt.{decimal};
 ghost use Rattle.map_model.specs.Market.{pool_of};
 ghost use Rattle.map_model.specs.Allocation.{IsOffer};
 ghost use Rattle.glb_program.specs.Texts as text;
-ghost use Rattle.glb_program.specs.Reports.{IsNameable};
+ghost use Rattle.glb_program.specs.Ending.{IsNameable};
 
 use map_model::Offer;
 use map_text::MapFault;

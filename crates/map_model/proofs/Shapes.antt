@@ -1,10 +1,12 @@
 -- What depends on the shape of an instance alone.
-use Rattle.std.proofs.Common.{◌≡◌, ℕ, ◌<◌, refl, sym, ap, ◌∙◌, Some, subst, length, List, slice_index, slice_index_or, ◌==◌, ◌-◌, arith}
+use Rattle.std.proofs.Common.{◌≡◌, ℕ, ◌<◌, refl, sym, ap, ◌∙◌, Some, subst, length, List, slice_index, slice_index_or, ◌==◌, ◌-◌, IsTrue, arith}
 use Rattle.std.specs.List.{list_any}
 use Rattle.map_model.specs.declared.instance.Choice.{Choice}
 use Rattle.map_model.specs.declared.instance.Key.{Key}
+use Rattle.map_model.specs.declared.lines.MapLine.{MapLine}
+use Rattle.map_model.specs.declared.lines.NameLine.{NameLine}
 use Rattle.map_model.specs.Market.{Market, IsSameShape, choice_at, key_of, path, pool_of}
-use Rattle.map_model.specs.Allocation.{IsOffer, counts_at, is_under}
+use Rattle.map_model.specs.Allocation.{IsMapForm, IsOffer, counts_at, is_line, is_name, is_under, line_at, name_at}
 use Rattle.map_model.specs.Progress.{root_of, tree_of}
 use Rattle.map_model.proofs.Markets.{climb-same}
 
@@ -54,3 +56,16 @@ root_of-shape m m' s n = ap (λ (ns : List ℕ). slice_index ns (length ns - 1))
 
 pub tree_of-shape : (m m' : Market) → IsSameShape m m' → (g k : ℕ) → tree_of m' g k ≡ tree_of m g k
 tree_of-shape m m' s g k = ap (root_of m') (pool_of-shape m m' s g k) ∙ root_of-shape m m' s (pool_of m g k)
+
+-- a map's form rests on the shape alone
+pub IsMapForm-shape : (m m' : Market) → IsSameShape m m' → (lines : List MapLine) (names : List NameLine) → IsMapForm m lines names → IsMapForm m' lines names
+IsMapForm-shape m m' s lines names form = record {
+  of_lines = λ i l. subst IsTrue (sym (is_line-shape i)) (form.of_lines i l);
+  of_names = λ i l. subst IsTrue (sym (is_name-shape i)) (form.of_names i l);
+}
+  where
+    is_line-shape : (i : ℕ) → is_line m' lines i ≡ is_line m lines i
+    is_line-shape i = rw (s.groups, s.lists (line_at lines i).group.0) refl
+
+    is_name-shape : (i : ℕ) → is_name m' names i ≡ is_name m names i
+    is_name-shape i = rw (s.groups, s.lists (name_at names i).group.0, s.nodes) refl

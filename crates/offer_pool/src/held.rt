@@ -1,5 +1,6 @@
 //! The units that offers hold.
 ghost use Rattle.std.specs.Prelude.{◌≡◌, ◌+◌, ◌<◌, ◌≤◌, ◌^◌, length, IfOk, OnOk, OnErr, MatchOption};
+ghost use Rattle.map_model.specs.Market.{IsMarket, choice_at};
 ghost use Rattle.map_model.specs.Allocation.{AreLines, IsOffer, amount_at, load};
 ghost use Rattle.map_model.specs.Holding.{IsWorst, IsWorstKey, Puts, Takes};
 ghost use Rattle.offer_pool.specs.Holdings.{Holdings};
@@ -36,7 +37,8 @@ impl Held {
     /// Holds the lines of a map of this instance.
     pub fn build(alloc: Global, instance: &Instance, map: &MapLines) -> Result<Held, NoMemory>
         requires { AreLines instance.now map.now.lines.items }
-        ensures { IfOk result (λ held. held ≡ record { market = instance.now; lines = map.now.lines.items }) }
+        ensures held { IfOk result (λ held. held ≡ record { market = instance.now; lines = map.now.lines.items }) }
+        ensures market { IfOk result (λ held. IsMarket held.market) }
     {
         let mut amounts = vec![in alloc; 0u32; instance.groups() as usize * 16]?;
         let mut queues = empty_queues(alloc, instance.nodes())?;
@@ -86,6 +88,14 @@ impl Held {
             offer,
             units,
         );
+    }
+
+    /// The pool of an offer.
+    pub fn pool_at(&self, offer: Offer) -> NodeId
+        requires { IsOffer self.now.market offer.group.0 offer.place }
+        ensures { result ≡ (choice_at self.now.market offer.group.0 offer.place).pool }
+    {
+        self.instance.pool_at(offer)
     }
 
     /// The units that an offer holds.

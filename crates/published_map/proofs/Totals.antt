@@ -13,14 +13,6 @@ use Rattle.map_model.proofs.MapForm.{offers-AreLines}
 use Rattle.map_model.proofs.Units.{placed_below, placed_through-below, placed_through-split, amount-le-placed}
 use Rattle.published_map.specs.Version.{Version, IsVersion, amounts_of}
 
--- the units of a line, if it is that group's at that place
-abbrev pub units_in : MapLine → ℕ → ℕ → ℕ
-units_in l g k = if (l.group.0 == g) && (l.place == k) then l.amount else 0
-
--- the units of the lines so far and of one more are within those of the group
-pub within : (lines : List MapLine) (g k i : ℕ) (d : MapLine) → i < length lines → amount_at (take i lines) g k + units_in (get_or lines i d) g k ≤ placed lines g
-within lines g k i d lt = omega (arith, sum_by_more_le (λ l. units_in l g k) lines i d lt, amount-le-placed lines g k)
-
 none_below : (lines : List MapLine) (g : ℕ) → placed_below lines g 0 ≡ 0
 none_below [] g = refl
 none_below (l ∷ ls) g = omega (arith, sum_by-cons (λ l. if (l.group.0 == g) && nat_lt l.place 0 then l.amount else 0) l ls, none_below ls g, nothing (l.group.0 == g) l.amount)

@@ -1,11 +1,15 @@
-//! A version of the map: a map that is good for its instance, with all that replies are made from.
+//! A version of the map, in rows, with all that replies are made from, and what changes from one version to the next.
 #![tactic(auto)]
 
-mod amounts;
+mod delta;
+mod parts;
+mod row;
 mod shared;
 #[cfg(test)]
 mod tests;
 mod version;
 
+pub use delta::Delta;
+pub use row::GroupRow;
 pub use shared::Shared;
 pub use version::MapVersion;

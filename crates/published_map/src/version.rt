@@ -1,33 +1,41 @@
-ghost use Rattle.std.specs.Prelude.{◌≡◌, ◌⊎◌, ◌<◌, ◌≤◌, ◌^◌, IfOk, IsTrue, All, Some, length, sum};
+ghost use Rattle.std.specs.Prelude.{◌≡◌, ◌⊎◌, ◌<◌, ◌≤◌, ◌^◌, IfOk, IsTrue, All, Some, fold, length, nat_lt, sum};
+ghost use Rattle.std.specs.List.{list_all};
 ghost use Rattle.std.specs.Arc.{arc_value};
 ghost use Rattle.addr_text.specs.Addresses.{bits_of};
-ghost use Rattle.map_model.specs.Market.{IsSameShape, choice_at};
-ghost use Rattle.map_model.specs.Allocation.{IsGood, IsOffer, placed};
+ghost use Rattle.map_model.specs.Market.{IsSameShape, capacity_of, choice_at, demand_of};
+ghost use Rattle.map_model.specs.Allocation.{IsGood, IsMapForm, IsOffer, placed};
 ghost use Rattle.topology_text.specs.Plan.{IsPlan, IsZone, addresses_of};
 ghost use Rattle.topology_text.specs.Hosts.{is_v4, is_v6};
 ghost use Rattle.prefix_lookup.specs.Longest.{HasLongest, group_of};
 ghost use Rattle.prefix_lookup.specs.Scope.{IsScope, scope_of};
 ghost use Rattle.published_map.specs.Shared.{LooksUp, plan_of};
 ghost use Rattle.published_map.specs.Version.{IsVersion, amounts_of};
+ghost use Rattle.published_map.specs.Changes.{is_within, moved, put_node, put_row};
+ghost use Rattle.published_map.specs.Rows.{capacities_of, rows_of};
 
-use crate::amounts::amounts;
+use crate::delta::Delta;
+use crate::parts::{Part, row, split};
+use crate::row::{GroupRow, amounts};
 use crate::shared::Shared;
 use addr_text::Addr;
 use arrayvec::ArrayVec;
-use map_model::{GroupId, Instance, MapLines, NodeId, Offer};
+use map_model::{GroupId, Instance, MapLines, NodeId, Offer, Units};
 use no_memory::NoMemory;
 use std::alloc::Global;
 use std::marker::Model;
 use std::sync::Arc;
 use topology_text::{Topology, Zone};
 
-/// A published map: its serial, the instance that it is good for, and what it shares with all versions of
-/// its topology, from which the instance differs in demands and capacities alone.
+/// A published map: its serial, a row for each group and a capacity for each node, and what it shares with all
+/// versions of its topology, from which its instance differs in demands and capacities alone.
+///
+/// The type does not keep that the map is good: `make` asks it, and whoever holds a version that deltas have
+/// changed knows it of the version that it stands for.
 #[derive(Drop)]
 pub struct MapVersion {
     serial: u64,
-    instance: Instance,
-    map: MapLines,
+    rows: Vec<GroupRow>,
+    capacities: Vec<Units>,
     shared: Arc<Shared>,
 }
 
@@ -50,66 +58,140 @@ fn check_shared(shared: &Arc<Shared>)
     let _ = shared.topology.instance();
 }
 
+/// The rows of an instance and a map.
+fn rows_of(alloc: Global, instance: &Instance, map: &MapLines) -> Result<Vec<GroupRow>, NoMemory>
+    requires { IsMapForm instance.now map.now.lines.items map.now.names.items }
+    ensures { IfOk result (λ rows. rows.items ≡ rows_of instance.now map.now.lines.items map.now.names.items) }
+{
+    let mut rows = Vec::with_capacity(alloc, instance.groups() as usize)?;
+    let mut rest = Part {
+        lines: map.lines.as_slice(),
+        names: map.names.as_slice(),
+    };
+    for number in 0..instance.groups() {
+        let group = GroupId(number);
+        let (own, behind) = split(rest, group);
+        rows.push_reserved(row(instance.demand(group), own));
+        rest = behind;
+    }
+    Ok(rows)
+}
+
+/// The capacities of an instance.
+fn capacities_of(alloc: Global, instance: &Instance) -> Result<Vec<Units>, NoMemory>
+    ensures { IfOk result (λ capacities. capacities.items ≡ capacities_of instance.now) }
+{
+    let mut capacities = Vec::with_capacity(alloc, instance.nodes() as usize)?;
+    for number in 0..instance.nodes() {
+        capacities.push_reserved(instance.capacity(NodeId(number)));
+    }
+    Ok(capacities)
+}
+
+/// Whether all these groups are among so many.
+fn groups_below(rows: &[(GroupId, GroupRow)], groups: usize) -> bool
+    ensures { result ≡ list_all (λ r. nat_lt r.0.0 groups) rows.now }
+{
+    rows.iter().all(|r| (r.0.0 as usize) < groups)
+}
+
+/// Whether all these nodes are among so many.
+fn nodes_below(nodes: &[(NodeId, Units)], count: usize) -> bool
+    ensures { result ≡ list_all (λ n. nat_lt n.0.0 count) nodes.now }
+{
+    nodes.iter().all(|n| (n.0.0 as usize) < count)
+}
+
 impl MapVersion {
-    /// A version of these parts, with room for 16 lines and 16 names of each group.
+    /// The version of a map that is good for its instance.
     ///
     /// # Errors
     ///
-    /// `NoMemory` where there was none for that room.
+    /// `NoMemory` where there was none for its rows and capacities.
     pub fn make(
-        _alloc: Global,
+        alloc: Global,
         serial: u64,
-        instance: Instance,
-        map: MapLines,
+        instance: &Instance,
+        map: &MapLines,
         shared: Arc<Shared>,
     ) -> Result<MapVersion, NoMemory>
-        requires good { IsGood instance map.lines.items map.names.items }
-        requires shape { IsSameShape (plan_of (arc_value shared)).market instance }
+        requires good { IsGood instance.now map.now.lines.items map.now.names.items }
+        requires shape { IsSameShape (plan_of (arc_value shared)).market instance.now }
         requires lookup { LooksUp (arc_value shared) }
-        ensures { IfOk result (λ v. v ≡ record { serial = serial; market = instance; lines = map.lines.items; names = map.names.items; plan = plan_of (arc_value shared) }) }
+        ensures value { IfOk result (λ v. v ≡ record { serial = serial; market = instance.now; lines = map.now.lines.items; names = map.now.names.items; plan = plan_of (arc_value shared) }) }
+        ensures version { IfOk result IsVersion }
     {
         check_shared(&shared);
-        let room = 16 * instance.groups() as usize;
-        let mut map = map;
-        map.lines.reserve(room)?;
-        map.names.reserve(room)?;
+        let _ = instance.groups();
+        let rows = rows_of(alloc, instance, map)?;
+        let capacities = capacities_of(alloc, instance)?;
         Ok(MapVersion {
             serial,
-            instance,
-            map,
+            rows,
+            capacities,
+            shared,
+        })
+    }
+
+    /// An equal version.
+    ///
+    /// # Errors
+    ///
+    /// `NoMemory` where there was none for its rows and capacities.
+    pub fn try_clone(&self) -> Result<MapVersion, NoMemory>
+        ensures { IfOk result (λ v. v ≡ self.now) }
+    {
+        let rows = self.rows.clone()?;
+        let capacities = self.capacities.clone()?;
+        let shared = Arc::try_clone(&self.shared)?;
+        Ok(MapVersion {
+            serial: self.serial,
+            rows,
+            capacities,
             shared,
         })
     }
 
     /// Which version of the map it is, from 0.
     pub fn serial(&self) -> u64
-        ensures serial { result ≡ self.now.serial }
-        ensures version { IsVersion self.now }
+        ensures { result ≡ self.now.serial }
     {
         self.serial
     }
 
-    /// The instance: the demands and capacities that the map is good for.
-    pub fn instance(&self) -> &Instance
-        ensures instance { result.now ≡ self.now.market }
-        ensures version { IsVersion self.now }
+    /// How many groups there are.
+    pub fn groups(&self) -> usize
+        ensures { result ≡ length self.now.market.groups }
     {
-        &self.instance
+        self.rows.len()
     }
 
-    /// The map.
-    pub fn map(&self) -> &MapLines
-        ensures lines { result.now.lines.items ≡ self.now.lines }
-        ensures names { result.now.names.items ≡ self.now.names }
-        ensures version { IsVersion self.now }
+    /// How many nodes there are.
+    pub fn nodes(&self) -> usize
+        ensures { result ≡ length self.now.market.nodes }
     {
-        &self.map
+        self.capacities.len()
+    }
+
+    /// How many units a group asks for.
+    pub fn demand(&self, group: GroupId) -> u32
+        requires { group.0 < length self.now.market.groups }
+        ensures { result ≡ demand_of self.now.market group.0 }
+    {
+        self.rows[group.0 as usize].demand
+    }
+
+    /// How many units a node can hold.
+    pub fn capacity(&self, node: NodeId) -> Units
+        requires { node.0 < length self.now.market.nodes }
+        ensures { result ≡ capacity_of self.now.market node.0 }
+    {
+        self.capacities[node.0 as usize]
     }
 
     /// The topology.
     pub fn topology(&self) -> &Topology
-        ensures plan { result.now ≡ self.now.plan }
-        ensures version { IsVersion self.now }
+        ensures { result.now ≡ self.now.plan }
     {
         let shared: &Shared = &self.shared;
         &shared.topology
@@ -119,7 +201,6 @@ impl MapVersion {
     pub fn shared(&self) -> &Arc<Shared>
         ensures plan { plan_of (arc_value result.now) ≡ self.now.plan }
         ensures lookup { LooksUp (arc_value result.now) }
-        ensures version { IsVersion self.now }
     {
         &self.shared
     }
@@ -139,6 +220,7 @@ impl MapVersion {
         ensures longest { HasLongest self.now.plan.prefixes addr result }
         ensures there { result.0 < length self.now.market.groups }
     {
+        check_shared(&self.shared);
         let shared: &Shared = &self.shared;
         shared.lookup.group(addr)
     }
@@ -156,21 +238,24 @@ impl MapVersion {
 
     /// What the map places of a group at each place of its list, the first place first; 0 where it places nothing.
     pub fn amounts(&self, group: GroupId) -> ArrayVec<u32, 16>
-        requires { group.0 < length self.now.market.groups }
+        requires group { group.0 < length self.now.market.groups }
+        requires version { IsVersion self.now }
         ensures amounts { result.items ≡ amounts_of self.now group.0 }
         ensures total { sum result.items ≡ placed self.now.lines group.0 }
         ensures fits { sum result.items < 2 ^ 32 }
     {
-        amounts(&self.instance, self.map.lines.as_slice(), group)
+        let places = self.topology().instance().list_len(group);
+        amounts(self.rows[group.0 as usize].amounts.as_slice(), places)
     }
 
     /// The pool at one place of a group's list.
     pub fn pool_at(&self, offer: Offer) -> NodeId
-        requires { IsOffer self.now.market offer.group.0 offer.place }
+        requires offer { IsOffer self.now.market offer.group.0 offer.place }
+        requires version { IsVersion self.now }
         ensures pool { result ≡ (choice_at self.now.market offer.group.0 offer.place).pool }
         ensures there { result.0 < length self.now.plan.market.nodes }
     {
-        self.instance.pool_at(offer)
+        self.topology().instance().pool_at(offer)
     }
 
     /// The addresses of a pool for records of type A (`kind` is 1) or AAAA (28), in the topology's order: at most
@@ -185,5 +270,63 @@ impl MapVersion {
     {
         let topology = self.topology();
         topology.addresses(pool, kind)
+    }
+
+    /// Gives a group another row. It takes no memory.
+    fn put_row(&mut self, group: GroupId, row: &GroupRow)
+        requires { group.0 < length self.old.market.groups }
+        ensures put { self.new ≡ put_row self.old (group, row.now) }
+        ensures groups { length self.new.market.groups ≡ length self.old.market.groups }
+        ensures nodes { self.new.market.nodes ≡ self.old.market.nodes }
+    {
+        let own = &mut self.rows[group.0 as usize];
+        own.copy_over(row);
+    }
+
+    /// Gives a node another capacity.
+    fn put_node(&mut self, node: NodeId, capacity: Units)
+        requires { node.0 < length self.old.market.nodes }
+        ensures put { self.new ≡ put_node self.old (node, capacity) }
+        ensures nodes { length self.new.market.nodes ≡ length self.old.market.nodes }
+    {
+        self.capacities[node.0 as usize] = capacity;
+    }
+
+    fn put_rows(&mut self, rows: &[(GroupId, GroupRow)])
+        requires { IsTrue (list_all (λ r. nat_lt r.0.0 (length self.old.market.groups)) rows.now) }
+        ensures put { self.new ≡ fold put_row self.old rows.now }
+        ensures nodes { self.new.market.nodes ≡ self.old.market.nodes }
+    {
+        for row in rows {
+            self.put_row(row.0, &row.1);
+        }
+    }
+
+    fn put_nodes(&mut self, nodes: &[(NodeId, Units)])
+        requires { IsTrue (list_all (λ n. nat_lt n.0.0 (length self.old.market.nodes)) nodes.now) }
+        ensures { self.new ≡ fold put_node self.old nodes.now }
+    {
+        for node in nodes {
+            self.put_node(node.0, node.1);
+        }
+    }
+
+    /// Whether the delta names groups and nodes of this version alone.
+    pub fn fits(&self, delta: &Delta) -> bool
+        ensures { result ≡ is_within self.now delta.now }
+    {
+        let groups = groups_below(delta.groups.as_slice(), self.groups());
+        let nodes = nodes_below(delta.nodes.as_slice(), self.nodes());
+        groups && nodes
+    }
+
+    /// Takes in a delta, and the serial. It takes no memory and never fails.
+    pub fn absorb(&mut self, delta: &Delta, serial: u64)
+        requires { IsTrue (is_within self.old delta.now) }
+        ensures { self.new ≡ moved self.old delta.now serial }
+    {
+        self.put_rows(delta.groups.as_slice());
+        self.put_nodes(delta.nodes.as_slice());
+        self.serial = serial;
     }
 }

@@ -2,4 +2,4 @@ use Rattle.answer_core.proofs.Clients.{looked_up}
 use Rattle.answer_core.proofs.replying.check_prefixes.Goals as goal
 
 pub returns : goal.returns
-returns c = λ a fits. looked_up c.args.version.now a c.serial.ensures.version fits
+returns c = λ a fits. looked_up c.args.version.now a c.requires fits

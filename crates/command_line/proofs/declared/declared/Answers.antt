@@ -28,6 +28,9 @@ returns c =
     ap app_of_fields (c.disable_help_subcommand.ensures ∙ ap no_word (c.disable_help_flag.ensures ∙ ap no_flag c.subcommand_required.ensures)) ∙ ap set c.new.ensures.app in
     let one = c.in_ok-subcommand.ensures.shape c.in_ok-command.ensures.local ∙ ap₂ with_subcommand set_is (ap top c.in_ok-command.ensures.app) in
     let two = c.in_ok-subcommand-2.ensures.shape c.in_ok-command-2.ensures.local ∙ ap₂ with_subcommand one (ap top c.in_ok-command-2.ensures.app) in
+    let three = c.in_ok-subcommand-3.ensures.shape c.in_ok-command-3.ensures.local ∙ ap₂ with_subcommand two (ap top c.in_ok-command-3.ensures.app) in
+    let four = c.in_ok-subcommand-4.ensures.shape c.in_ok-command-4.ensures.local ∙ ap₂ with_subcommand three (ap top c.in_ok-command-4.ensures.app) in
+    let five = c.in_ok-subcommand-5.ensures.shape c.in_ok-serve.ensures.local ∙ ap₂ with_subcommand four (ap top c.in_ok-serve.ensures.app) in
     record {
-      app = IfOk-weaker c.subcommand-3.result _ _ (λ m h. h.shape c.in_ok-command-3.ensures.local ∙ ap₂ with_subcommand two (ap top c.in_ok-command-3.ensures.app)) c.subcommand-3.ensures;
+      app = IfOk-weaker c.subcommand-6.result _ _ (λ m h. h.shape c.in_ok-command-5.ensures.local ∙ ap₂ with_subcommand five (ap top c.in_ok-command-5.ensures.app)) c.subcommand-6.ensures;
     }

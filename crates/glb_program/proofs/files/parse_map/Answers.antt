@@ -1,9 +1,9 @@
 use Rattle.std.proofs.Common.{◌≡◌, ◌≢◌, ap}
 use Rattle.map_text.specs.declared.fault.MapFault.TheVariants.{NoMemory}
 use Rattle.glb_program.specs.Files.{refused, mapped_of, with_text}
-use Rattle.glb_program.specs.Reports.{IsRefusedBy}
+use Rattle.glb_program.specs.Ending.{IsRefusedBy}
 use Rattle.glb_program.specs.Texts as text
-use Rattle.glb_program.proofs.Loads.{ends_weaker}
+use Rattle.glb_program.proofs.Loads.{stops_weaker}
 use Rattle.glb_program.proofs.files.parse_map.Goals as goal
 
 pub returns-in-Ok-clause-said : goal.returns-in-Ok-clause-said
@@ -13,5 +13,5 @@ returns-in-Ok-clause-said c = ap (with_text text.map_fault) c.in-Ok.ensures.read
 pub returns-in-Err-clause-said : goal.returns-in-Err-clause-said
 unfolding mapped_of
 returns-in-Err-clause-said c =
-    ends_weaker (λ due. (c.in-Err.fault ≢ NoMemory) × (due ≡ refused (text.map_fault c.in-Err.fault))) (IsRefusedBy (mapped_of c.args.topology.now c.args.bytes.now)) c.refuse_map.result
+    stops_weaker (λ due. (c.in-Err.fault ≢ NoMemory) × (due ≡ refused (text.map_fault c.in-Err.fault))) (IsRefusedBy (mapped_of c.args.topology.now c.args.bytes.now)) c.refuse_map.result
     (λ due h. (text.map_fault c.in-Err.fault, ap (with_text text.map_fault) (c.in-Err.ensures.read h.0), h.1)) c.refuse_map.ensures.said

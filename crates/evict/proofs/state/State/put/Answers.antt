@@ -28,7 +28,7 @@ invariant_of-self-2 g c = λ _.
     let free : (h : ℕ) → h < length c.settle.new.free → slice_index c.settle.new.free h + (if c.args.offer.group.0 == h then c.args.units else 0) ≡ slice_index s.free.items h + freed_units (λ x _. x == h) c.place.new.freed
     = subst (λ (f : List Eviction). (h : ℕ) → h < length c.settle.new.free → slice_index c.settle.new.free h + (if c.args.offer.group.0 == h then c.args.units else 0) ≡ slice_index s.free.items h + freed_units (λ x _. x == h) f) c.evictions.ensures
     (subst (λ (xs : List ℕ). (h : ℕ) → h < length c.settle.new.free → slice_index c.settle.new.free h + (if c.args.offer.group.0 == h then c.args.units else 0) ≡ slice_index xs h + freed_units (λ x _. x == h) c.evictions.result.now) c.as_mut_slice.ensures.value c.settle.ensures.free) in
-    let sound = sound_put c.args.instance.now s.own c.args.offer.group.0 c.args.offer.place c.args.units s.held c.place.new.held s.tree c.place.new.tree s.free.items c.settle.new.free s.totals.items c.place.new.freed (c.self.invariant can.ready.whole)
+    let sound = sound_put c.args.instance.now c.args.offer.group.0 c.args.offer.place c.args.units s.held c.place.new.held s.tree c.place.new.tree s.free.items c.settle.new.free s.totals.items c.place.new.freed (c.self.invariant can.ready.whole)
     c.in_ok-place.ensures.relieved c.in_ok-place.ensures.market (c.settle.auto.free ∙ ap length c.as_mut_slice.ensures.value) free in
     let free_are = with_items_is s.free c.settle.new.free (c.settle.auto.free ∙ c.as_mut_slice.ensures.len) in
     rw free_are sound

@@ -1,0 +1,7 @@
+use Rattle.std.proofs.Common.{◌≡◌, ◌++◌}
+use Rattle.big_world.specs.Pieces.{ahead, pieces}
+use Rattle.big_world.specs.Feed.{batch_text, behind_batch}
+use Rattle.big_world.proofs.feed.push_feed.Given as goal
+
+abbrev pub invariant-loop-batch : goal.invariant-loop-batch
+invariant-loop-batch l = (l.text.items ≡ l.initial.text.items ++ pieces (λ _. batch_text l.groups) behind_batch l.initial.draws.last l._batch) × (l.draws.last ≡ ahead behind_batch l.initial.draws.last l._batch)

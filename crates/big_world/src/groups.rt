@@ -1,0 +1,202 @@
+//! The groups.
+ghost use Rattle.std.specs.Prelude.{◌≡◌, ◌≤◌, ◌<◌, ◌+◌, ◌/◌, ◌%◌, ◌==◌, ◌++◌, [], ◌∷◌, if◌then◌else◌, IfOk, OnOk, string_bytes};
+ghost use Rattle.big_world.specs.Numbers.{behind};
+ghost use Rattle.big_world.specs.Pieces.{ahead, pieces};
+ghost use Rattle.big_world.specs.Topology.{behind_group, demand_line, group_line, group_text, head_text, list_text, lists_text, pool_name, pools_of, prefixes_line, prefixes_text, quoted, scores_text};
+
+use crate::draws::Draws;
+use crate::regions::{push_number, regions_of};
+use no_memory::NoMemory;
+use std::alloc::Global;
+
+/// The most pools of a list.
+const MOST_POOLS: u32 = 8;
+
+/// How many pools a world of so many groups has.
+fn pools_of(groups: u32) -> u32
+    requires { groups ≤ 16384 }
+    ensures pools { result ≡ pools_of groups }
+    ensures some { 4 ≤ result }
+    ensures few { result ≤ 1028 }
+{
+    4 * regions_of(groups)
+}
+
+/// The name of a pool in quotes.
+fn quoted_name(alloc: Global, pool: u32) -> Result<String, NoMemory>
+    ensures { IfOk result (λ t. string_bytes t ≡ quoted (pool_name (pool / 4) (pool % 4))) }
+{
+    let region = pool / 4;
+    let place = pool % 4;
+    Ok(format!(in alloc; "\"r{region}-{place}\"")?)
+}
+
+/// What stands between two items.
+fn push_comma(text: &mut Vec<u8>, item: u32) -> Result<(), NoMemory>
+    ensures { OnOk result (text.new.items ≡ text.old.items ++ (if item == 0 then [] else (44 ∷ 32 ∷ []))) }
+{
+    if item > 0 {
+        text.extend_from_slice(b", ")?;
+    }
+    Ok(())
+}
+
+/// A list of pools, round all of them from one on.
+#[tactic(auto, unfolding(crate::specs::Topology::list_text))]
+fn push_list(
+    alloc: Global,
+    text: &mut Vec<u8>,
+    groups: u32,
+    start: u32,
+    length: u32,
+) -> Result<(), NoMemory>
+    requires groups { groups ≤ 16384 }
+    requires start { start < 2048 }
+    requires length { length ≤ 8 }
+    ensures { OnOk result (text.new.items ≡ text.old.items ++ list_text groups start length) }
+{
+    let pools = pools_of(groups);
+    for place in 0..length {
+        push_comma(text, place)?;
+        let made = quoted_name(alloc, (start + place) % pools)?;
+        text.extend_from_slice(made.as_bytes())?;
+    }
+    Ok(())
+}
+
+/// The scores of a list.
+#[tactic(auto, unfolding(crate::specs::Topology::scores_text))]
+fn push_scores(
+    alloc: Global,
+    text: &mut Vec<u8>,
+    draws: &mut Draws,
+    length: u32,
+) -> Result<(), NoMemory>
+    ensures text { OnOk result (text.new.items ≡ text.old.items ++ scores_text draws.old.last length) }
+    ensures last { OnOk result (draws.new.last ≡ behind draws.old.last length) }
+{
+    for place in 0..length {
+        push_comma(text, place)?;
+        let score = draws.below(1000);
+        push_number(alloc, text, score, b"")?;
+    }
+    Ok(())
+}
+
+/// The prefixes of a group.
+#[tactic(auto, unfolding(crate::specs::Topology::prefixes_text))]
+fn prefixes_text(alloc: Global, group: u32) -> Result<String, NoMemory>
+    requires { group < 65536 }
+    ensures { IfOk result (λ t. string_bytes t ≡ prefixes_text group) }
+{
+    if group == 0 {
+        return Ok(format!(in alloc; "\"0.0.0.0/0\", \"::/0\"")?);
+    }
+    let upper = 64 + group / 256;
+    let lower = group % 256;
+    Ok(format!(in alloc; "\"100.{upper}.{lower}.0/24\"")?)
+}
+
+/// The line with the name of a group.
+#[tactic(auto, unfolding(crate::specs::Topology::group_line))]
+fn group_line(alloc: Global, group: u32) -> Result<String, NoMemory>
+    ensures { IfOk result (λ t. string_bytes t ≡ group_line group) }
+{
+    Ok(format!(in alloc; "name = \"g{group}\"\n")?)
+}
+
+/// The line with a demand.
+#[tactic(auto, unfolding(crate::specs::Topology::demand_line))]
+fn demand_line(alloc: Global, demand: u32) -> Result<String, NoMemory>
+    ensures { IfOk result (λ t. string_bytes t ≡ demand_line demand) }
+{
+    Ok(format!(in alloc; "demand = {demand}\n")?)
+}
+
+/// The lines of a group ahead of its list.
+#[tactic(auto, unfolding(crate::specs::Topology::head_text))]
+fn push_head(alloc: Global, text: &mut Vec<u8>, group: u32, demand: u32) -> Result<(), NoMemory>
+    ensures { OnOk result (text.new.items ≡ text.old.items ++ head_text group demand) }
+{
+    text.extend_from_slice(b"[[group]]\n")?;
+    text.extend_from_slice(group_line(alloc, group)?.as_bytes())?;
+    text.extend_from_slice(demand_line(alloc, demand)?.as_bytes())?;
+    Ok(())
+}
+
+/// The lines of a list and its scores.
+#[tactic(auto, unfolding(crate::specs::Topology::lists_text))]
+fn push_lists(
+    alloc: Global,
+    text: &mut Vec<u8>,
+    draws: &mut Draws,
+    groups: u32,
+    start: u32,
+    length: u32,
+) -> Result<(), NoMemory>
+    requires groups { groups ≤ 16384 }
+    requires start { start < 2048 }
+    requires length { length ≤ 8 }
+    ensures text { OnOk result (text.new.items ≡ text.old.items ++ lists_text groups start length draws.old.last) }
+    ensures last { OnOk result (draws.new.last ≡ behind draws.old.last length) }
+{
+    text.extend_from_slice(b"pools = [")?;
+    push_list(alloc, text, groups, start, length)?;
+    text.extend_from_slice(b"]\nscores = [")?;
+    push_scores(alloc, text, draws, length)?;
+    text.extend_from_slice(b"]\n")?;
+    Ok(())
+}
+
+/// The line of the prefixes of a group.
+#[tactic(auto, unfolding(crate::specs::Topology::prefixes_line))]
+fn push_prefixes(alloc: Global, text: &mut Vec<u8>, group: u32) -> Result<(), NoMemory>
+    requires { group < 65536 }
+    ensures { OnOk result (text.new.items ≡ text.old.items ++ prefixes_line group) }
+{
+    text.extend_from_slice(b"prefixes = [")?;
+    text.extend_from_slice(prefixes_text(alloc, group)?.as_bytes())?;
+    text.extend_from_slice(b"]\n")?;
+    Ok(())
+}
+
+/// A group.
+#[tactic(auto, unfolding(crate::specs::Topology::group_text))]
+fn push_group(
+    alloc: Global,
+    text: &mut Vec<u8>,
+    draws: &mut Draws,
+    groups: u32,
+    group: u32,
+) -> Result<(), NoMemory>
+    requires groups { groups ≤ 16384 }
+    requires group { group < groups }
+    ensures text { OnOk result (text.new.items ≡ text.old.items ++ group_text groups group draws.old.last) }
+    ensures last { OnOk result (draws.new.last ≡ behind_group groups draws.old.last) }
+{
+    let demand = 1 + draws.below(15);
+    push_head(alloc, text, group, demand)?;
+    let pools = pools_of(groups);
+    let length = 1 + draws.below(MOST_POOLS.min(pools));
+    let start = draws.below(pools);
+    push_lists(alloc, text, draws, groups, start, length)?;
+    push_prefixes(alloc, text, group)?;
+    Ok(())
+}
+
+/// All groups.
+pub fn push_groups(
+    alloc: Global,
+    text: &mut Vec<u8>,
+    draws: &mut Draws,
+    groups: u32,
+) -> Result<(), NoMemory>
+    requires { groups ≤ 16384 }
+    ensures text { OnOk result (text.new.items ≡ text.old.items ++ pieces (group_text groups) (behind_group groups) draws.old.last groups) }
+    ensures last { OnOk result (draws.new.last ≡ ahead (behind_group groups) draws.old.last groups) }
+{
+    for group in 0..groups {
+        push_group(alloc, text, draws, groups, group)?;
+    }
+    Ok(())
+}

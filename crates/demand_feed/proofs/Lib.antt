@@ -1,0 +1,5 @@
+mod LimitsAre
+mod Digits
+mod Spaces
+pub mod Fronts
+pub mod Items

@@ -1,0 +1,10 @@
+pub mod Limits
+pub mod Line
+pub mod SaidBy
+pub mod Lines
+pub mod Cutter
+pub mod Batch
+pub mod Changing
+pub mod Item
+pub mod Clerk
+pub mod Texts

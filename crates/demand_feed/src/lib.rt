@@ -1,0 +1,20 @@
+//! A feed: lines that change demands and capacities, batch by batch, and ask about the map.
+//!
+//! A line ends at LF, and its words are the runs of octets other than space. `demand GROUP N` and `capacity NODE N`
+//! add a change to the batch, `commit` ends it, `ask ADDR HEX` and `show` ask, and `stop` ends the feed.
+#![tactic(auto)]
+
+mod batch;
+mod clerk;
+mod cutter;
+mod fault;
+mod limits;
+mod line;
+mod words;
+
+pub use batch::{Batch, apply};
+pub use clerk::{Clerk, Next};
+pub use cutter::Cutter;
+pub use fault::{BatchFault, LineFault, Refusal};
+pub use limits::{LONGEST_LINE, LONGEST_QUERY, MOST_CHANGES, MOST_TURNS, READ_SIZE};
+pub use line::{Line, read_line};

@@ -1,0 +1,150 @@
+-- What a whole call of a lane promises.
+use Rattle.std.proofs.Common.{◌≡◌, ◌≢◌, ℕ, zero, suc, ◌+◌, ◌-◌, ◌<◌, ◌≤◌, Bool, true, false, if◌then◌else◌, List, [], ◌∷◌, ◌++◌, length, fold, sum_by, All, Option, refl, sym, ap, subst, ◌∙◌, arith}
+use Rattle.std.proofs.lemmas.List.Sums.{sum_by-cons}
+use Rattle.outside.specs.Faults.{BothTell, Rose, raised}
+use Rattle.outside.specs.Gate.{GateTold, IsTurning}
+use Rattle.outside.specs.declared.gate.Turning.TheVariants.{Stop}
+use Rattle.lane_model.specs.declared.ended.Ended.{Ended}
+use Rattle.lane_model.specs.declared.ended.Ended.TheVariants as end
+use Rattle.lane_model.specs.Lanes.{Answers}
+use Rattle.lane_model.specs.Turns.{Turn, Came, Fate, AreCalm, fails_of, failures, floor_after, gate_turn, is_calm, is_refused, looks_of, refused_of, idle, oversize, ended, failed, took, silent, refused, tried}
+use Rattle.lane_model.specs.Sessions.{IsEnd, IsGateRun, IsLaneCall, IsLaneLog, IsLast, IsSession, IsStop, IsTurn, Moment}
+use Rattle.lane_model.proofs.Prefixes.{prefix_length}
+use Rattle.lane_model.proofs.Runs.{IsInOrder, session_gate, session_notes, session_port, session_rises, session_run, session_told, tells_on}
+
+calm_not_refused : (came : Came) → is_calm came ≡ true → is_refused came ≡ false
+calm_not_refused idle c = refl
+calm_not_refused oversize c = refl
+calm_not_refused ended c = refl
+calm_not_refused failed c = refl
+calm_not_refused (took d silent) c = refl
+calm_not_refused (took d refused) c = absurd (cc c)
+calm_not_refused (took d (tried serial octets went)) c = refl
+
+not_both : {P : Type 0} (b : Bool) → b ≡ false → b ≡ true → P
+not_both b f t = absurd (cc (f, t))
+
+ordered_calm : (log : List Turn) → AreCalm log → IsInOrder log
+ordered_calm [] c = tt
+ordered_calm (t ∷ log) c = (λ r. not_both (is_refused t.came) (calm_not_refused t.came (c 0 t (omega arith))) r, ordered_calm log (λ k d lt. c (suc k) d (omega (arith, lt))))
+
+ordered_last : (before : List Turn) (t : Turn) → AreCalm before → IsInOrder (before ++ t ∷ [])
+ordered_last [] t c = (λ r. refl, tt)
+ordered_last (x ∷ before) t c = (λ r. not_both (is_refused x.came) (calm_not_refused x.came (c 0 x (omega arith))) r, ordered_last before t (λ k d lt. c (suc k) d (omega (arith, lt))))
+
+pub in_order : (turns : ℕ) (log : List Turn) (e : Ended) → IsEnd turns log e → IsInOrder log
+in_order turns log end.Stopped c = ordered_calm log c.0
+in_order turns log end.PortEnd c = subst IsInOrder (sym c.2) (ordered_last c.0 c.1 c.3)
+in_order turns log end.PortFault c = ordered_calm log c.0
+in_order turns log end.CellFault c = subst IsInOrder (sym c.2) (ordered_last c.0 c.1 c.3)
+in_order turns log end.Above c = absurd c
+in_order turns log end.Spent c = ordered_calm log c.0
+
+all_cons : {A : Type 0} (P : A → Type 0) (x : A) (xs : List A) → P x → All P xs → All P (x ∷ xs)
+all_cons P x xs p q zero d lt = p
+all_cons P x xs p q (suc k) d lt = q k d (omega (arith, lt))
+
+session_within : {V T : Type 0} (a : Answers V) (number : T → ℕ) (w : ℕ) (log : List Turn) (m m' : Moment V T) → IsSession a number w log m m' → All (λ t. floor_after t.known t.came < length m'.eyes.told) log
+session_within a number w [] m m' s = λ k d lt. absurd (omega (arith, lt))
+session_within a number w (t ∷ log) m m' s =
+    let r = session_rises a number w log s.0 m' s.2 in
+    let l = prefix_length s.0.eyes.told m'.eyes.told r.told in
+    all_cons (λ x. floor_after x.known x.came < length m'.eyes.told) t log (omega (arith, s.1.knows, l)) (session_within a number w log s.0 m' s.2)
+
+session_known : {V T : Type 0} (a : Answers V) (number : T → ℕ) (w : ℕ) (log : List Turn) (m m' : Moment V T) → IsSession a number w log m m' → All (λ t. t.known < length m'.eyes.told) log
+session_known a number w [] m m' s = λ k d lt. absurd (omega (arith, lt))
+session_known a number w (t ∷ log) m m' s =
+    let r = session_rises a number w log s.0 m' s.2 in
+    let l = prefix_length s.0.eyes.told m'.eyes.told r.told in
+    all_cons (λ x. x.known < length m'.eyes.told) t log (omega (arith, s.1.floor, s.1.knows, l)) (session_known a number w log s.0 m' s.2)
+
+raised_none : (n : ℕ) → n ≡ raised n 0
+raised_none n = omega arith
+
+raised_more : (n j k : ℕ) → raised (raised n j) k ≡ raised n (j + k)
+raised_more n j k = omega arith
+
+session_looks : {V T : Type 0} (a : Answers V) (number : T → ℕ) (w : ℕ) (log : List Turn) (m m' : Moment V T) → IsSession a number w log m m' → m'.eyes.looks ≡ raised m.eyes.looks (sum_by (λ t. looks_of t.came) log)
+session_looks a number w [] m m' s = ap (λ k. k.eyes.looks) s ∙ raised_none m.eyes.looks
+session_looks a number w (t ∷ log) m m' s =
+    session_looks a number w log s.0 m' s.2 ∙ (ap (λ k. raised k (sum_by (λ x. looks_of x.came) log)) s.1.looks ∙ (raised_more m.eyes.looks (looks_of t.came) (sum_by (λ x. looks_of x.came) log) ∙ ap (λ k. raised m.eyes.looks k) (sym (sum_by-cons (λ x. looks_of x.came) t log))))
+
+session_later : {V T : Type 0} (a : Answers V) (number : T → ℕ) (w : ℕ) (log : List Turn) (m m' : Moment V T) → IsSession a number w log m m' → m.port_faults ≤ m'.port_faults
+session_later a number w [] m m' s = subst (λ k. m.port_faults ≤ k.port_faults) (sym s) (omega arith)
+session_later a number w (t ∷ log) m m' s = let r = session_later a number w log s.0 m' s.2 in let q = s.1.port_later in omega (arith, r, q)
+
+rose_later : (x y z : ℕ) → x ≤ y → Rose y z → Rose x z
+rose_later x y z le r = omega (arith, le, r)
+
+later_rose : (x y z : ℕ) → Rose x y → y ≤ z → Rose x z
+later_rose x y z r le = omega (arith, le, r)
+
+-- a count that rises where some part of a sum isn't 0
+rises_by : (n k x y z : ℕ) → x ≤ y → y ≤ z → (0 < n → Rose x y) → (0 < k → Rose y z) → 0 < n + k → Rose x z
+rises_by zero k x y z le le' f g lt = rose_later x y z le (g (omega (arith, lt)))
+rises_by (suc n) k x y z le le' f g lt = later_rose x y z (f (omega arith)) le'
+
+session_failing : {V T : Type 0} (a : Answers V) (number : T → ℕ) (w : ℕ) (log : List Turn) (m m' : Moment V T) → IsSession a number w log m m' → 0 < failures log → Rose m.port_faults m'.port_faults
+session_failing a number w [] m m' s lt = absurd (omega (arith, lt))
+session_failing a number w (t ∷ log) m m' s lt =
+    rises_by (fails_of t.came) (failures log) m.port_faults s.0.port_faults m'.port_faults s.1.port_later (session_later a number w log s.0 m' s.2) s.1.failing (session_failing a number w log s.0 m' s.2) (subst (λ (k : ℕ). 0 < k) (sum_by-cons (λ x. fails_of x.came) t log) lt)
+
+refused_by : (b : Bool) → 0 < (if b then 1 else 0) → b ≡ true
+refused_by true lt = refl
+refused_by false lt = absurd (omega (arith, lt))
+
+session_refusal : {V T : Type 0} (a : Answers V) (number : T → ℕ) (w : ℕ) (log : List Turn) (m m' : Moment V T) → IsSession a number w log m m' → 0 < sum_by (λ t. refused_of t.came) log → Rose m.eyes.faults m'.eyes.faults
+session_refusal a number w [] m m' s lt = absurd (omega (arith, lt))
+session_refusal a number w (t ∷ log) m m' s lt =
+    rises_by (refused_of t.came) (sum_by (λ x. refused_of x.came) log) m.eyes.faults s.0.eyes.faults m'.eyes.faults s.1.eyes.faults (session_rises a number w log s.0 m' s.2).faults (λ l. s.1.refusal (refused_by (is_refused t.came) l)) (session_refusal a number w log s.0 m' s.2) (subst (λ (k : ℕ). 0 < k) (sum_by-cons (λ x. refused_of x.came) t log) lt)
+
+log_of : {V T : Type 0} (a : Answers V) (number : T → ℕ) (w : ℕ) (log : List Turn) (m m' : Moment V T) → IsSession a number w log m m' → IsInOrder log → IsLaneLog a number w log m m'
+log_of a number w log m m' s o = record {
+  run = λ floor lt. session_run a number w floor log m m' s o lt;
+  told = λ floor lt. session_told a number w floor log m m' s lt;
+  port = session_port a number w log m m' s;
+  notes = session_notes a number w log m m' s;
+  rise = session_rises a number w log m m' s;
+  known = session_known a number w log m m' s;
+  within = session_within a number w log m m' s;
+  looks = session_looks a number w log m m' s;
+  failing = session_failing a number w log m m' s;
+  refusal = session_refusal a number w log m m' s;
+  port_later = session_later a number w log m m' s;
+}
+
+-- a gate alone was asked
+log_gate : {V T : Type 0} (a : Answers V) (number : T → ℕ) (w : ℕ) (log : List Turn) (m mid : Moment V T) (gate : Option GateTold) (faults : ℕ) → IsLaneLog a number w log m mid → IsLaneLog a number w log m (record mid { gate = gate; gate_faults = faults })
+log_gate a number w log m mid gate faults c = record { run = c.run; told = c.told; port = c.port; notes = c.notes; rise = c.rise; known = c.known; within = c.within; looks = c.looks; failing = c.failing; refusal = c.refusal; port_later = c.port_later }
+
+call_same : {V T : Type 0} (a : Answers V) (number : T → ℕ) (w turns : ℕ) (log : List Turn) (m mid m' : Moment V T) (e : Ended) → 0 < length m.eyes.told → IsSession a number w log m mid → IsEnd turns log e
+    → ((shown : ℕ) → BothTell m.gate mid.gate (λ b c. c ≡ fold gate_turn b log) → BothTell m.gate mid.gate (IsGateRun shown log e)) → m' ≡ mid → IsLaneCall a number w turns m m' e
+call_same {V = V} {T = T} a number w turns log m mid m' e some s is gate same =
+    let all = log_of a number w log m mid s (in_order turns log e is) in
+    let le = prefix_length m.eyes.told mid.eyes.told all.rise.told in
+    subst (λ (k : Moment V T). IsLaneCall a number w turns m k e) (sym same) (record {
+      log = log;
+      shown = length mid.eyes.told - 1;
+      shown_is = omega (arith, le, some);
+      all = all;
+      gate = gate (length mid.eyes.told - 1) (session_gate a number w log m mid s);
+      ending = is;
+    })
+
+-- Some turns and then its end are what a call promises.
+pub call_of : {V T : Type 0} (a : Answers V) (number : T → ℕ) (w turns : ℕ) (log : List Turn) (m mid m' : Moment V T) (e : Ended) → 0 < length m.eyes.told → IsSession a number w log m mid → IsLast e mid m' → IsEnd turns log e → IsLaneCall a number w turns m m' e
+call_of {V = V} {T = T} a number w turns log m mid m' end.Stopped some s last is =
+    let all = log_of a number w log m mid s (in_order turns log end.Stopped is) in
+    subst (λ (k : Moment V T). IsLaneCall a number w turns m k end.Stopped) (sym last.rest) (record {
+      log = log;
+      shown = last.shown;
+      shown_is = last.is_known;
+      all = log_gate a number w log m mid m'.gate m'.gate_faults all;
+      gate = tells_on m.gate mid.gate m'.gate (λ b c. c ≡ fold gate_turn b log) (IsTurning last.shown Stop) (IsGateRun last.shown log end.Stopped) (λ b c d r q. subst (λ (k : GateTold). IsTurning last.shown Stop k d) r q) (session_gate a number w log m mid s) last.gate;
+      ending = is;
+    })
+call_of a number w turns log m mid m' end.PortEnd some s last is = call_same a number w turns log m mid m' end.PortEnd some s is (λ shown g. g) last
+call_of a number w turns log m mid m' end.PortFault some s last is = call_same a number w turns log m mid m' end.PortFault some s is (λ shown g. g) last
+call_of a number w turns log m mid m' end.CellFault some s last is = call_same a number w turns log m mid m' end.CellFault some s is (λ shown g. g) last
+call_of a number w turns log m mid m' end.Above some s last is = absurd is
+call_of a number w turns log m mid m' end.Spent some s last is = call_same a number w turns log m mid m' end.Spent some s is (λ shown g. g) last

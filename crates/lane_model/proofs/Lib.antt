@@ -1,0 +1,8 @@
+pub mod Prefixes
+pub mod Going
+pub mod Runs
+pub mod Calls
+pub mod Machines
+pub mod Keeps
+pub mod Ports
+mod Rows
