@@ -36,6 +36,9 @@ pub const ANY: u16 = 255;
 /// The class of the Internet (RFC 1035 section 3.2.4).
 pub const IN: u16 = 1;
 
+/// The code where there is no error (RFC 1035 section 4.1.1).
+pub const NOERROR: u8 = 0;
+
 /// The code of a format error (RFC 1035 section 4.1.1).
 pub const FORMERR: u8 = 1;
 
