@@ -1,9 +1,8 @@
 -- What has no reply, by its octets alone.
-use Rattle.std.proofs.Common.{◌≡◌, ℕ, Bool, true, false, cond, List, Option, None, Some, refl, sym, ap, ◌∙◌}
-use Rattle.std.specs.Prelude.{IsSome, not, nat_eq, if◌then◌else◌}
-use Rattle.std.specs.Option.{option_map_or}
+use Rattle.std.proofs.Common.{◌≡◌, ℕ, Bool, true, false, List, Option, None, Some, refl, ap}
+use Rattle.std.specs.Prelude.{IsSome}
 use Rattle.addr_text.specs.declared.address.Addr.{Addr}
-use Rattle.dns_wire.specs.Message.{Reading, Silent, NotImp, Form, Query, reading, head_of, opcode_of, has_one_question, query_in}
+use Rattle.dns_wire.specs.Message.{Reading, Silent, NotImp, Form, Query, reading}
 use Rattle.dns_wire.proofs.Silence.{silent_read, other_read}
 use Rattle.published_map.specs.Version.{Version}
 use Rattle.answer_core.specs.Grammar.{datagram_in}
