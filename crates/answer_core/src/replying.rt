@@ -76,7 +76,7 @@ pub fn reply(
 /// Whether a datagram has no reply, whatever the version, the sender and the draw: it is shorter than a header or too long, or a response. Its length and its third octet are looked at alone.
 pub fn silent(octets: &[u8]) -> bool
     ensures exact { result ≡ is_silent octets.now }
-    ensures unanswered { (v : Version) (from : Addr) (draw : ℕ) → IsTrue result ↔ (reply_of v from octets.now draw ≡ None) }
+    ensures always { (v : Version) (from : Addr) (draw : ℕ) → IsTrue result ↔ (reply_of v from octets.now draw ≡ None) }
 {
     is_silent(octets)
 }
