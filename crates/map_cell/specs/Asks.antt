@@ -1,0 +1,8 @@
+-- The version that is to be added to the history.
+use Rattle.std.specs.Prelude.{if◌then◌else◌}
+use Rattle.map_cell.specs.declared.asked.Asked.{Asked}
+use Rattle.published_map.specs.Version.{Version}
+use Rattle.published_map.specs.Changes.{after}
+
+abbrev pub asked : Asked → Version
+asked a = if a.follows then after a.version.value a.delta.value else a.version.value

@@ -1,0 +1,7 @@
+pub mod Histories
+pub mod Ends
+pub mod Rules
+pub mod Tags
+pub mod Asks
+pub mod Cell
+pub mod Examples

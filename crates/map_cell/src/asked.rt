@@ -1,0 +1,37 @@
+ghost use Rattle.std.specs.Prelude.{◌≡◌};
+ghost use Rattle.map_cell.specs.Asks.{asked};
+ghost use Rattle.published_map.specs.Changes.{after};
+
+use published_map::Delta;
+use published_map::MapVersion;
+use std::snapshot::Snapshot;
+
+/// What is to be added to the history: a version, or the one that follows it by a delta. It has no bytes but a flag.
+#[derive(Drop)]
+pub(crate) struct Asked {
+    version: Snapshot<MapVersion>,
+    delta: Snapshot<Delta>,
+    follows: bool,
+}
+
+impl Asked {
+    pub fn first(version: &MapVersion, delta: &Delta) -> Asked
+        ensures { asked result ≡ version.now }
+    {
+        Asked {
+            version: Snapshot::of(version),
+            delta: Snapshot::of(delta),
+            follows: false,
+        }
+    }
+
+    pub fn next(version: &MapVersion, delta: &Delta) -> Asked
+        ensures { asked result ≡ after version.now delta.now }
+    {
+        Asked {
+            version: Snapshot::of(version),
+            delta: Snapshot::of(delta),
+            follows: true,
+        }
+    }
+}

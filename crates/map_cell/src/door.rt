@@ -1,0 +1,227 @@
+ghost use Rattle.std.specs.Prelude.{◌≡◌, ◌+◌, ◌<◌, ◌^◌, ◌≤◌, ◌∷◌, ◌++◌, [], ℕ, length, max, IfOk, IfErr, OnErr, OnOk, MatchResult};
+ghost use mathlib.Core.List.{IsPrefix};
+ghost use Rattle.std.specs.Fn.{FnOnceTakesAt, FnOnceReturnsAt};
+ghost use Rattle.map_cell.specs.Ends.{ViewerState, LooksAt};
+ghost use Rattle.outside.specs.Faults.{Rose, raised};
+ghost use Rattle.published_map.specs.Version.{Version, IsVersion};
+
+use crate::front::Naming;
+use crate::publisher::Publisher;
+use published_map::MapVersion;
+use std::sync::Wait;
+use crate::viewer::{Note, Viewer};
+
+/// The door refused.
+#[derive(Clone, Copy, Debug, PartialEq, Eq)]
+pub struct CellFault;
+
+/// Why a place was refused, or an opening.
+#[derive(Clone, Copy, Debug, PartialEq, Eq)]
+pub enum OpenFault {
+    NoMemory,
+    CellFault,
+}
+
+/// The way of viewers into the cell.
+pub trait Door: Drop {
+    ghost use Rattle.map_cell.specs.declared.door.OpenFault.TheVariants.{CellFault as Shut};
+
+    /// How many faults it has counted; the count stands still at its end.
+    ghost faults: { Self → ℕ };
+
+    /// How many places it was asked for.
+    ghost asked: { Self → ℕ };
+
+    /// How many looks it was asked for.
+    ghost looks: { Self → ℕ };
+
+    /// The greatest serial that it showed or learned, 0 at first.
+    ghost greatest: { Self → ℕ };
+
+    /// A new viewer, which has seen what is published.
+    ///
+    /// # Errors
+    ///
+    /// `NoMemory`; `CellFault` only where the count of faults rose.
+    fn admit<J: Naming, R: Wait>(
+        &mut self,
+        rt: &R,
+        publisher: &mut Publisher<J>,
+    ) -> Result<Viewer<J>, OpenFault>
+        ensures same { publisher.new ≡ publisher.old }
+        ensures seen { IfOk result (λ v. (v.seen ≡ publisher.old.history) × (v.told ≡ publisher.old.history)) }
+        ensures counts { (asked self.new ≡ raised (asked self.old) 1) × (looks self.new ≡ looks self.old) × (greatest self.new ≡ greatest self.old) }
+        ensures later { faults self.old ≤ faults self.new }
+        ensures cause { IfErr result (λ e. e ≡ Shut → Rose (faults self.old) (faults self.new)) };
+
+    /// Tells the viewer of a published version.
+    fn learn<J: Naming>(&mut self, viewer: &mut Viewer<J>, note: &Note<J>)
+        ensures seen { viewer.new.seen ≡ viewer.old.seen }
+        ensures kept { IsPrefix viewer.old.told viewer.new.told }
+        ensures note { IsPrefix note.now.front viewer.new.told }
+        ensures counts { (faults self.new ≡ faults self.old) × (looks self.new ≡ looks self.old) × (asked self.new ≡ asked self.old) }
+        ensures greatest { greatest self.new + 1 ≡ max (greatest self.old + 1) (length viewer.new.told) };
+
+    /// Runs the closure once, on the last version of a history that begins with what the viewer saw and with what it was
+    /// told; that history is then what it has seen.
+    ///
+    /// # Errors
+    ///
+    /// `CellFault` only where the count of faults rose; the viewer is as before.
+    fn look<J: Naming, R, C: FnOnce(&MapVersion) -> R>(
+        &mut self,
+        viewer: &mut Viewer<J>,
+        c: C,
+    ) -> Result<R, CellFault>
+    where
+        C: Drop,
+        requires call { (m : Version) → IsVersion m → FnOnceTakesAt C.FnOnce c m }
+        ensures ok { IfOk result (λ r. (m : Version) × LooksAt viewer.old.seen viewer.old.told m viewer.new.seen × FnOnceReturnsAt C.FnOnce c m r) }
+        ensures told { IfOk result (λ _. viewer.new.told ≡ viewer.new.seen) }
+        ensures greatest { OnOk result (greatest self.new + 1 ≡ max (greatest self.old + 1) (length viewer.new.told)) }
+        ensures err { OnErr result ((viewer.new ≡ viewer.old) × (greatest self.new ≡ greatest self.old)) }
+        ensures looks { (looks self.new ≡ raised (looks self.old) 1) × (asked self.new ≡ asked self.old) }
+        ensures cause { MatchResult result (λ _. faults self.old ≤ faults self.new) (λ _. Rose (faults self.old) (faults self.new)) };
+}
+
+/// Goes straight to the cell, and counts each refusal of it that is not for want of memory.
+#[derive(Drop)]
+pub struct PlainDoor {
+    faults: u64,
+    asked: u64,
+    looks: u64,
+    greatest: u64,
+}
+
+impl PlainDoor {
+    /// A door that was not used yet.
+    pub fn new() -> PlainDoor
+        ensures { (result.faults ≡ 0) × (result.asked ≡ 0) × (result.looks ≡ 0) × (result.greatest ≡ 0) }
+    {
+        PlainDoor {
+            faults: 0,
+            asked: 0,
+            looks: 0,
+            greatest: 0,
+        }
+    }
+}
+
+/// A count after one more.
+fn count(n: u64) -> u64
+    ensures { result ≡ raised n 1 }
+{
+    n.saturating_add(1)
+}
+
+impl Door for PlainDoor {
+    ghost faults = { λ d. d.faults };
+
+    ghost asked = { λ d. d.asked };
+
+    ghost looks = { λ d. d.looks };
+
+    ghost greatest = { λ d. d.greatest };
+
+    fn admit<J: Naming, R: Wait>(
+        &mut self,
+        _rt: &R,
+        publisher: &mut Publisher<J>,
+    ) -> Result<Viewer<J>, OpenFault> {
+        self.asked = count(self.asked);
+        match publisher.admit() {
+            Ok(viewer) => Ok(viewer),
+            Err(_) => Err(OpenFault::NoMemory),
+        }
+    }
+
+    fn learn<J: Naming>(&mut self, viewer: &mut Viewer<J>, note: &Note<J>) {
+        viewer.learn(note);
+        self.greatest = self.greatest.max(viewer.known());
+    }
+
+    fn look<J: Naming, R, C: FnOnce(&MapVersion) -> R>(
+        &mut self,
+        viewer: &mut Viewer<J>,
+        c: C,
+    ) -> Result<R, CellFault>
+    where
+        C: Drop,
+    {
+        self.looks = count(self.looks);
+        match viewer.look(c) {
+            Ok(answer) => {
+                self.greatest = self.greatest.max(viewer.known());
+                Ok(answer)
+            }
+            Err(_) => {
+                self.faults = count(self.faults);
+                Err(CellFault)
+            }
+        }
+    }
+}
+
+/// A plain door that refuses at stated calls too: places and looks by their numbers, from 0.
+#[derive(Drop)]
+pub struct MemDoor {
+    inner: PlainDoor,
+    refused_places: Vec<u64>,
+    refused_looks: Vec<u64>,
+}
+
+impl MemDoor {
+    /// A door that refuses these places and looks.
+    pub fn new(refused_places: Vec<u64>, refused_looks: Vec<u64>) -> MemDoor {
+        MemDoor {
+            inner: PlainDoor::new(),
+            refused_places,
+            refused_looks,
+        }
+    }
+}
+
+impl Door for MemDoor {
+    ghost faults = { λ d. d.inner.faults };
+
+    ghost asked = { λ d. d.inner.asked };
+
+    ghost looks = { λ d. d.inner.looks };
+
+    ghost greatest = { λ d. d.inner.greatest };
+
+    fn admit<J: Naming, R: Wait>(
+        &mut self,
+        rt: &R,
+        publisher: &mut Publisher<J>,
+    ) -> Result<Viewer<J>, OpenFault> {
+        let number = self.inner.asked;
+        if self.refused_places.as_slice().contains(&number) {
+            self.inner.asked = count(self.inner.asked);
+            self.inner.faults = count(self.inner.faults);
+            return Err(OpenFault::CellFault);
+        }
+        self.inner.admit(rt, publisher)
+    }
+
+    fn learn<J: Naming>(&mut self, viewer: &mut Viewer<J>, note: &Note<J>) {
+        self.inner.learn(viewer, note);
+    }
+
+    fn look<J: Naming, R, C: FnOnce(&MapVersion) -> R>(
+        &mut self,
+        viewer: &mut Viewer<J>,
+        c: C,
+    ) -> Result<R, CellFault>
+    where
+        C: Drop,
+    {
+        let number = self.inner.looks;
+        if self.refused_looks.as_slice().contains(&number) {
+            self.inner.looks = count(self.inner.looks);
+            self.inner.faults = count(self.inner.faults);
+            return Err(CellFault);
+        }
+        self.inner.look(viewer, c)
+    }
+}

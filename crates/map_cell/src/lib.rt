@@ -1,0 +1,22 @@
+//! The map cell: a published map that viewers look at without waiting, changed by deltas.
+#![tactic(auto)]
+
+mod asked;
+mod door;
+mod front;
+mod notes;
+mod opening;
+mod publisher;
+mod rule;
+mod sealed;
+mod tag;
+#[cfg(test)]
+mod tests;
+mod viewer;
+
+pub use door::{CellFault, Door, MemDoor, OpenFault, PlainDoor};
+pub use front::{EmptyHistory, Front, Naming};
+pub use notes::{NoteRow, RowNotes};
+pub use opening::open;
+pub use publisher::Publisher;
+pub use viewer::{Note, Refused, Viewer};

@@ -1,0 +1,84 @@
+ghost use Rattle.std.specs.Prelude.{◌≡◌, ◌+◌, ◌<◌, ◌^◌, ◌≤◌, ℕ, length, vec_len, IfSome, IfNone, IfOk, MatchBool};
+
+use crate::front::Naming;
+use crate::viewer::Note;
+use no_memory::NoMemory;
+use outside::Notes;
+use std::alloc::Global;
+use std::sync::{OnceLock, Wait};
+
+/// How many notes a row takes; of later maps nobody is told.
+const CELLS: usize = 65_536;
+
+/// Cells that are set once, to notes of one cell.
+#[derive(Drop)]
+pub struct NoteRow<J: Naming> {
+    cells: Vec<OnceLock<Note<J>>>,
+    ghost full: { vec_len cells ≡ 65536 },
+}
+
+impl<J: Naming> NoteRow<J> {
+    /// A row of unset cells.
+    ///
+    /// # Errors
+    ///
+    /// `NoMemory` where there was none for its cells.
+    pub fn new(alloc: Global) -> Result<NoteRow<J>, NoMemory> {
+        let mut cells = Vec::with_capacity(alloc, CELLS)?;
+        for _ in 0..CELLS {
+            cells.push_reserved(OnceLock::new());
+        }
+        Ok(NoteRow { cells })
+    }
+
+    /// Sets the first cell from `at` on that takes the note, and leaves `at` behind it; or answers false, where none took it.
+    pub fn put<R: Wait>(&self, rt: &R, at: &mut u32, note: Note<J>) -> bool
+        ensures { MatchBool result ((at.old < at.new) × (at.new ≤ 65536)) (at.new ≡ 65536) }
+    {
+        let mut rest = note;
+        for k in *at..65_536 {
+            match self.cells[k as usize].set(rt, rest) {
+                Ok(_) => {
+                    *at = k + 1;
+                    return true;
+                }
+                Err(back) => rest = back,
+            }
+        }
+        *at = 65_536;
+        false
+    }
+}
+
+/// The row, read in order.
+#[derive(Drop)]
+pub struct RowNotes<'a, J: Naming> {
+    row: &'a NoteRow<J>,
+    next: usize,
+}
+
+impl<'a, J: Naming> RowNotes<'a, J> {
+    /// The notes of a row, from the first on.
+    pub fn over(row: &'a NoteRow<J>) -> RowNotes<'a, J> {
+        RowNotes { row, next: 0 }
+    }
+}
+
+impl<J: Naming> Notes for RowNotes<'_, J> {
+    type Note = Note<J>;
+
+    ghost use Rattle.std.specs.Prelude.{◌-◌, None};
+
+    ghost told = { λ s. None };
+
+    ghost left = { λ s. 65536 - s.next };
+
+    fn next(&mut self) -> Option<Note<J>> {
+        if self.next >= CELLS {
+            return None;
+        }
+        let note = self.row.cells[self.next].get()?.again();
+        self.next += 1;
+        Some(note)
+    }
+}

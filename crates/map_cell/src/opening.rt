@@ -1,0 +1,88 @@
+ghost use Rattle.std.specs.Prelude.{◌≡◌, ◌+◌, ◌<◌, ◌≤◌, ◌∷◌, [], ℕ, All, IfOk, IfErr, OnOk, vec_len, vec_capacity};
+ghost use Rattle.outside.specs.Faults.{Rose, raised};
+ghost use Rattle.published_map.specs.Version.{IsVersion};
+ghost use Rattle.map_cell.specs.declared.door.OpenFault.TheVariants.{CellFault as Shut};
+
+use crate::door::{Door, OpenFault};
+use crate::front::{EmptyHistory, Naming};
+use crate::publisher::{Publisher, start};
+use published_map::MapVersion;
+use crate::viewer::Viewer;
+use std::alloc::Global;
+use std::sync::Wait;
+
+/// How many viewers a cell has room for.
+const VIEWERS: usize = 16;
+
+/// Opens a cell with its first version and so many viewers, for each of which the door is asked once, and for none after
+/// one that it refused. Both copies of the version and all places are made here. An opening that is refused closes what
+/// it made, and may wait for that.
+///
+/// # Errors
+///
+/// `NoMemory`; `CellFault` only where the count of the door's faults rose.
+pub fn open<J: Naming, D: Door, R: Wait>(
+    rt: &R,
+    alloc: Global,
+    history: EmptyHistory,
+    first: MapVersion,
+    viewers: u8,
+    door: &mut D,
+) -> Result<(Publisher<J>, Vec<Viewer<J>>), OpenFault>
+    requires book { history ≡ J.book }
+    requires first { IsVersion first × (first.serial ≡ 0) }
+    requires viewers { viewers ≤ 16 }
+    ensures publisher { IfOk result (λ r. r.0 ≡ record { history = first ∷ []; newest = first }) }
+    ensures viewers { IfOk result (λ r. (vec_len r.1 ≡ viewers) × All (λ v. (v.seen ≡ first ∷ []) × (v.told ≡ first ∷ [])) r.1.items) }
+    ensures asked { (k : ℕ) × (k ≤ viewers) × (D.asked door.new ≡ raised (D.asked door.old) k) }
+    ensures asked_all { OnOk result (D.asked door.new ≡ raised (D.asked door.old) viewers) }
+    ensures same { (D.looks door.new ≡ D.looks door.old) × (D.greatest door.new ≡ D.greatest door.old) }
+    ensures later { D.faults door.old ≤ D.faults door.new }
+    ensures cause { IfErr result (λ e. e ≡ Shut → Rose (D.faults door.old) (D.faults door.new)) }
+{
+    let (book, empty) = history.named::<J>();
+    let Ok(second) = first.try_clone() else {
+        return Err(OpenFault::NoMemory);
+    };
+    let Ok(mut seats) = Vec::with_capacity(alloc, viewers as usize) else {
+        return Err(OpenFault::NoMemory);
+    };
+    match start(rt, alloc, book, empty, (first, second), VIEWERS) {
+        Err(_) => Err(OpenFault::NoMemory),
+        Ok(publisher) => {
+            let mut publisher = publisher;
+            match fill(rt, &mut publisher, door, viewers, &mut seats) {
+                Ok(()) => Ok((publisher, seats)),
+                Err(fault) => {
+                    publisher.close(rt);
+                    Err(fault)
+                }
+            }
+        }
+    }
+}
+
+/// Asks the door for so many places.
+fn fill<J: Naming, D: Door, R: Wait>(
+    rt: &R,
+    publisher: &mut Publisher<J>,
+    door: &mut D,
+    viewers: u8,
+    seats: &mut Vec<Viewer<J>>,
+) -> Result<(), OpenFault>
+    requires { (vec_len seats.old ≡ 0) × (viewers ≤ vec_capacity seats.old) }
+    ensures same { publisher.new ≡ publisher.old }
+    ensures count { OnOk result (vec_len seats.new ≡ viewers) }
+    ensures seats { OnOk result (All (λ v. (v.seen ≡ publisher.old.history) × (v.told ≡ publisher.old.history)) seats.new.items) }
+    ensures asked { (k : ℕ) × (k ≤ viewers) × (D.asked door.new ≡ raised (D.asked door.old) k) }
+    ensures asked_all { OnOk result (D.asked door.new ≡ raised (D.asked door.old) viewers) }
+    ensures untouched { (D.looks door.new ≡ D.looks door.old) × (D.greatest door.new ≡ D.greatest door.old) }
+    ensures later { D.faults door.old ≤ D.faults door.new }
+    ensures cause { IfErr result (λ e. e ≡ Shut → Rose (D.faults door.old) (D.faults door.new)) }
+{
+    for _ in 0..viewers {
+        let viewer = door.admit(rt, publisher)?;
+        seats.push_reserved(viewer);
+    }
+    Ok(())
+}

@@ -1,0 +1,150 @@
+ghost use Rattle.std.specs.Prelude.{◌≡◌, ◌+◌, ◌<◌, ◌^◌, ◌≤◌, ◌∷◌, ◌++◌, [], length, true, false, IfOk, OnErr, MatchBool, IfSome, slice_get, Some, ◌⊎◌};
+ghost use mathlib.Core.List.{IsPrefix};
+ghost use Rattle.std.specs.Fn.{FnOnceTakesAt, FnOnceReturnsAt};
+ghost use Rattle.map_cell.specs.Ends.{ViewerState, LooksAt};
+ghost use Rattle.left_right.specs.Sides.{view as client_view};
+ghost use Rattle.map_cell.specs.Tags.{tag_of};
+ghost use Rattle.map_cell.specs.Histories.{IsSealed};
+ghost use Rattle.published_map.specs.Version.{Version, IsVersion};
+
+use crate::front::{Front, Naming};
+use crate::tag::Tag;
+use crate::rule::{Knows, OneCell};
+use crate::sealed::Sealed;
+use published_map::MapVersion;
+use left_right::reader::Reader;
+use std::marker::Model;
+
+pub(crate) type CellReader = Reader<Sealed, Tag, OneCell>;
+
+/// Why a look was refused.
+#[derive(Drop)]
+pub enum Refused {
+    Gone,
+    Stale,
+}
+
+/// Names a published version, with the history up to it.
+#[derive(Drop)]
+pub struct Note<J: Naming> {
+    pub front: Front<J>,
+    pub ghost some: { 0 < length front },
+}
+
+impl<J: Naming> Note<J> {
+    /// A copy, which takes no memory.
+    pub fn again(&self) -> Note<J>
+        ensures { result.front ≡ self.now.front }
+    {
+        Note {
+            front: self.front.again(),
+        }
+    }
+}
+
+/// What a worker looks through.
+#[derive(Drop)]
+pub struct Viewer<J: Naming> {
+    reader: Option<CellReader>,
+    seen: Front<J>,
+    told: Front<J>,
+}
+
+impl<J: Naming> Model for Viewer<J> {
+    ghost use Rattle.std.specs.Prelude.{ℕ, ◌+◌, ◌≡◌, ◌≤◌, ◌<◌, List, length, IsSome, IfSome};
+    ghost use Rattle.left_right.specs.Sides.{view as client_view};
+    ghost use Rattle.map_cell.specs.Ends.{ViewerState};
+    ghost use Rattle.map_cell.specs.Tags.{tag_of};
+
+    ghost Value = { ViewerState };
+
+    ghost view = { λ v. record { seen = v.seen; told = v.told } };
+
+    ghost invariant = { λ v. IsSome v.reader × IfSome v.reader (λ r. client_view r.place ≡ tag_of J.book) × (0 < length v.seen) × (length v.seen ≤ length v.told) };
+}
+
+// Runs the closure on the copy, where it is no older than what was told.
+fn look_in<J: Naming, R, C: FnOnce(&MapVersion) -> R>(
+    sealed: &Sealed,
+    seen: &Front<J>,
+    told: &Front<J>,
+    c: C,
+) -> Option<(R, Front<J>)>
+where
+    C: Drop,
+    requires book { sealed.now.book ≡ J.book }
+    requires last { IsSealed sealed.now.history sealed.now.version }
+    requires call { (m : Version) → IsVersion m → FnOnceTakesAt C.FnOnce c m }
+    ensures { IfSome result (λ r. (m : Version) × LooksAt seen.now told.now m r.1 × FnOnceReturnsAt C.FnOnce c m r.0) }
+{
+    let front = sealed.front::<J>();
+    if !front.covers(told) || !front.covers(seen) {
+        return None;
+    }
+    let answer = c(sealed.version());
+    Some((answer, front))
+}
+
+impl<J: Naming> Viewer<J> {
+    pub fn known(&self) -> u64
+        ensures { result + 1 ≡ length self.now.told }
+    {
+        self.told.len() - 1
+    }
+
+    /// Whether all that this viewer has seen begins the note's history.
+    pub fn is_within(&self, note: &Note<J>) -> bool
+        ensures { MatchBool result (IsPrefix self.now.seen note.now.front) (length note.now.front < length self.now.seen) }
+    {
+        note.front.covers(&self.seen)
+    }
+
+    pub fn learn(&mut self, note: &Note<J>)
+        ensures seen { self.new.seen ≡ self.old.seen }
+        ensures kept { IsPrefix self.old.told self.new.told }
+        ensures note { IsPrefix note.now.front self.new.told }
+        ensures one { (self.new.told ≡ self.old.told) ⊎ (self.new.told ≡ note.now.front) }
+    {
+        self.told = self.told.longer(&note.front);
+    }
+
+    pub fn look<R, C: FnOnce(&MapVersion) -> R>(&mut self, c: C) -> Result<R, Refused>
+    where
+        C: Drop,
+        requires call { (m : Version) → IsVersion m → FnOnceTakesAt C.FnOnce c m }
+        ensures ok { IfOk result (λ r. (m : Version) × LooksAt self.old.seen self.old.told m self.new.seen × FnOnceReturnsAt C.FnOnce c m r) }
+        ensures told { IfOk result (λ _. self.new.told ≡ self.new.seen) }
+        ensures err { OnErr result (self.new ≡ self.old) }
+    {
+        let reader = self.reader.take().unwrap();
+        match reader.enter_as::<Knows>() {
+            Err(reader) => {
+                self.reader = Some(reader);
+                Err(Refused::Gone)
+            }
+            Ok(reading) => {
+                let looked = look_in(reading.get(), &self.seen, &self.told, c);
+                self.reader = Some(reading.leave());
+                let Some((answer, front)) = looked else {
+                    return Err(Refused::Stale);
+                };
+                self.told = front.again();
+                self.seen = front;
+                Ok(answer)
+            }
+        }
+    }
+}
+
+/// A viewer that has seen what the front has.
+pub(crate) fn seat<J: Naming>(reader: CellReader, front: &Front<J>) -> Viewer<J>
+    requires some { 0 < length front.now }
+    requires book { client_view reader.place ≡ tag_of J.book }
+    ensures { (result.seen ≡ front.now) × (result.told ≡ front.now) }
+{
+    Viewer {
+        reader: Some(reader),
+        seen: front.again(),
+        told: front.again(),
+    }
+}

@@ -1,0 +1,150 @@
+-- The loop of a lane: turns so far, and one more.
+use Rattle.std.proofs.Common.{◌≡◌, ℕ, ◌+◌, ◌<◌, ◌≤◌, Bool, true, false, ◌==◌, if◌then◌else◌, List, [], ◌∷◌, ◌++◌, length, All, Option, None, Some, refl, sym, ap, subst, ◌∙◌, arith, length-append}
+use Rattle.std.proofs.lemmas.List.Sums.{sum_by-cons}
+use Rattle.std.proofs.lemmas.Grind.{common_steps}
+use Rattle.published_map.specs.Version.{Version}
+use Rattle.lane_model.specs.declared.ended.Ended.{Ended}
+use Rattle.lane_model.specs.declared.ended.Ended.TheVariants as end
+use Rattle.lane_model.specs.Turns.{AreCalm, Came, Fate, Turn, fails_of, failures, is_calm, is_refused, idle, oversize, ended, failed, took, silent, refused, tried}
+use Rattle.lane_model.specs.Sessions.{IsEnd, IsLast, IsSession, IsStop, IsTurn, Moment}
+use Rattle.lane_model.proofs.Going.{one_more}
+use Rattle.name_workers.specs.declared.serve.Step.{Step}
+use Rattle.name_workers.specs.declared.serve.Step.TheVariants as step
+use Rattle.lane_model.specs.Replies.{replies}
+use Rattle.name_workers.specs.Steps.{IsNextEnd, IsServed, IsTurned, step_of}
+use Rattle.name_workers.specs.Invariant.{IsSoFar}
+
+pub start : {T : Type 0} (number : T → ℕ) (w : ℕ) (m : Moment Version T) → IsSoFar number w 0 0 m m
+start number w m = record { log = []; session = refl; calm = λ k d lt. absurd (omega (arith, lt)); failures_are = refl; few = omega arith; turns_are = refl }
+
+-- what a calm turn adds
+calm_more : (log : List Turn) (t : Turn) → AreCalm log → is_calm t.came ≡ true → AreCalm (log ++ t ∷ [])
+calm_more log t c is = grind (arith, common_steps)
+
+failures_more : (log : List Turn) (t : Turn) → failures (log ++ t ∷ []) ≡ failures log + fails_of t.came
+failures_more [] t = omega arith
+failures_more (x ∷ log) t =
+    let r = failures_more log t in
+    let here = sum_by-cons (λ y. fails_of y.came) x log in
+    let there = sum_by-cons (λ y. fails_of y.came) x (log ++ t ∷ []) in
+    there ∙ (ap (λ k. fails_of x.came + k) r ∙ omega (arith, here))
+
+-- a step, by what came
+on_is : (came : Came) → step.On ≡ step_of came → (is_calm came ≡ true) × (fails_of came ≡ 0)
+on_is idle e = (refl, refl)
+on_is oversize e = (refl, refl)
+on_is ended e = absurd (cc e)
+on_is failed e = absurd (cc e)
+on_is (took d silent) e = (refl, refl)
+on_is (took d refused) e = absurd (cc e)
+on_is (took d (tried serial octets true)) e = (refl, refl)
+on_is (took d (tried serial octets false)) e = absurd (cc e)
+
+failed_is : (came : Came) → step.PortFailed ≡ step_of came → (is_calm came ≡ true) × (fails_of came ≡ 1)
+failed_is idle e = absurd (cc e)
+failed_is oversize e = absurd (cc e)
+failed_is ended e = absurd (cc e)
+failed_is failed e = (refl, refl)
+failed_is (took d silent) e = absurd (cc e)
+failed_is (took d refused) e = absurd (cc e)
+failed_is (took d (tried serial octets true)) e = absurd (cc e)
+failed_is (took d (tried serial octets false)) e = (refl, refl)
+
+end_is : (came : Came) → step.PortEnd ≡ step_of came → came ≡ ended
+end_is idle e = absurd (cc e)
+end_is oversize e = absurd (cc e)
+end_is ended e = refl
+end_is failed e = absurd (cc e)
+end_is (took d silent) e = absurd (cc e)
+end_is (took d refused) e = absurd (cc e)
+end_is (took d (tried serial octets true)) e = absurd (cc e)
+end_is (took d (tried serial octets false)) e = absurd (cc e)
+
+refused_is : (came : Came) → step.Refused ≡ step_of came → is_refused came ≡ true
+refused_is idle e = absurd (cc e)
+refused_is oversize e = absurd (cc e)
+refused_is ended e = absurd (cc e)
+refused_is failed e = absurd (cc e)
+refused_is (took d silent) e = absurd (cc e)
+refused_is (took d refused) e = refl
+refused_is (took d (tried serial octets true)) e = absurd (cc e)
+refused_is (took d (tried serial octets false)) e = absurd (cc e)
+
+-- the eighth failure ends the lane, and no other does
+not_eighth_by : (b : Bool) (k k' : ℕ) → (k' == 8) ≡ b → k' ≡ k + 1 → None ≡ (if b then Some end.PortFault else None) → k < 8 → k' < 8
+not_eighth_by true k k' is n e lt = absurd (cc e)
+not_eighth_by false k k' is n e lt = grind (arith, is, n, lt)
+
+not_eighth : (k k' : ℕ) → k' ≡ k + 1 → None ≡ (if k' == 8 then Some end.PortFault else None) → k < 8 → k' < 8
+not_eighth k k' n e lt = not_eighth_by (k' == 8) k k' refl n e lt
+
+eighth_by : (b : Bool) (k' : ℕ) (e : Ended) → (k' == 8) ≡ b → Some e ≡ (if b then Some end.PortFault else None) → (e ≡ end.PortFault) × (k' ≡ 8)
+eighth_by true k' e t is = (cc is, grind (arith, t))
+eighth_by false k' e t is = absurd (cc is)
+
+eighth : (k k' : ℕ) (e : Ended) → k' ≡ k + 1 → Some e ≡ (if k' == 8 then Some end.PortFault else None) → (e ≡ end.PortFault) × (k' ≡ 8)
+eighth k k' e n is = eighth_by (k' == 8) k' e refl is
+
+-- the lane goes on
+goes_on : {T : Type 0} (number : T → ℕ) (w i k k' : ℕ) (s : Step) (m mid m' : Moment Version T) → IsSoFar number w i k m mid → IsTurned number w s mid m' → IsNextEnd s k k' None → IsSoFar number w (i + 1) k' m m'
+goes_on number w i k k' step.Stopped m mid m' so t n = absurd (cc (n.0))
+goes_on number w i k k' step.PortEnd m mid m' so t n = absurd (cc (n.0))
+goes_on number w i k k' step.Refused m mid m' so t n = absurd (cc (n.0))
+goes_on number w i k k' step.On m mid m' so t n =
+    let is = on_is t.0.came t.2 in
+    record {
+      log = so.log ++ t.0 ∷ [];
+      session = one_more replies number w so.log t.0 m mid m' so.session t.1;
+      calm = calm_more so.log t.0 so.calm is.0;
+      failures_are = failures_more so.log t.0 ∙ omega (arith, so.failures_are, is.1, n.1);
+      few = omega (arith, so.few, n.1);
+      turns_are = length-append so.log (t.0 ∷ []) ∙ omega (arith, so.turns_are);
+    }
+goes_on number w i k k' step.PortFailed m mid m' so t n =
+    let is = failed_is t.0.came t.2 in
+    record {
+      log = so.log ++ t.0 ∷ [];
+      session = one_more replies number w so.log t.0 m mid m' so.session t.1;
+      calm = calm_more so.log t.0 so.calm is.0;
+      failures_are = failures_more so.log t.0 ∙ omega (arith, so.failures_are, is.1, n.0);
+      few = not_eighth k k' n.0 n.1 so.few;
+      turns_are = length-append so.log (t.0 ∷ []) ∙ omega (arith, so.turns_are);
+    }
+
+-- the lane ends
+ends : {T : Type 0} (number : T → ℕ) (w i k k' turns : ℕ) (s : Step) (e : Ended) (m mid m' : Moment Version T) → i < turns → IsSoFar number w i k m mid → IsTurned number w s mid m' → IsNextEnd s k k' (Some e) → IsServed number w turns m m' e
+ends number w i k k' turns step.On e m mid m' lt so t n = absurd (cc (n.0))
+ends number w i k k' turns step.Stopped e m mid m' lt so t n =
+    let is : e ≡ end.Stopped = cc (n.0) in
+    subst (λ (x : Ended). IsServed number w turns m m' x) (sym is) (record { log = so.log; mid = mid; session = so.session; last = t; ending = (so.calm, omega (arith, so.failures_are, so.few), omega (arith, so.turns_are, lt)) })
+ends number w i k k' turns step.PortEnd e m mid m' lt so t n =
+    let is : e ≡ end.PortEnd = cc (n.0) in
+    let more = length-append so.log (t.0 ∷ []) in
+    subst (λ (x : Ended). IsServed number w turns m m' x) (sym is)
+    (record { log = so.log ++ t.0 ∷ []; mid = m'; session = one_more replies number w so.log t.0 m mid m' so.session t.1; last = refl;
+      ending = (so.log, t.0, refl, so.calm, omega (arith, so.failures_are, so.few), end_is t.0.came t.2, omega (arith, more, so.turns_are, lt)) })
+ends number w i k k' turns step.Refused e m mid m' lt so t n =
+    let is : e ≡ end.CellFault = cc (n.0) in
+    let more = length-append so.log (t.0 ∷ []) in
+    subst (λ (x : Ended). IsServed number w turns m m' x) (sym is)
+    (record { log = so.log ++ t.0 ∷ []; mid = m'; session = one_more replies number w so.log t.0 m mid m' so.session t.1; last = refl;
+      ending = (so.log, t.0, refl, so.calm, omega (arith, so.failures_are, so.few), refused_is t.0.came t.2, omega (arith, more, so.turns_are, lt)) })
+ends number w i k k' turns step.PortFailed e m mid m' lt so t n =
+    let is = failed_is t.0.came t.2 in
+    let here = eighth k k' e n.0 n.1 in
+    let more = length-append so.log (t.0 ∷ []) in
+    let fails = failures_more so.log t.0 in
+    subst (λ (x : Ended). IsServed number w turns m m' x) (sym here.0)
+    (record { log = so.log ++ t.0 ∷ []; mid = m'; session = one_more replies number w so.log t.0 m mid m' so.session t.1; last = refl;
+      ending = (calm_more so.log t.0 so.calm is.0, omega (arith, fails, so.failures_are, is.1, n.0, here.1), omega (arith, more, so.turns_are, lt)) })
+
+-- all turns were made
+pub all_spent : {T : Type 0} (number : T → ℕ) (w i k turns : ℕ) (m m' : Moment Version T) → i ≡ turns → IsSoFar number w i k m m' → IsServed number w turns m m' end.Spent
+all_spent number w i k turns m m' is so = record { log = so.log; mid = m'; session = so.session; last = refl; ending = (so.calm, omega (arith, so.failures_are, so.few), so.turns_are ∙ is) }
+
+-- the same, where the worker's number is told by an equation
+pub goes_on_by : {T : Type 0} (number : T → ℕ) (w w' i k k' : ℕ) (s : Step) (m mid m' : Moment Version T) → w' ≡ w → IsSoFar number w i k m mid → IsTurned number w' s mid m' → IsNextEnd s k k' None → IsSoFar number w (i + 1) k' m m'
+goes_on_by number w w' i k k' s m mid m' same so t n = goes_on number w i k k' s m mid m' so (subst (λ x. IsTurned number x s mid m') same t) n
+
+pub ends_by : {T : Type 0} (number : T → ℕ) (w w' i k k' turns : ℕ) (s : Step) (e : Ended) (m mid m' : Moment Version T) → w' ≡ w → i < turns → IsSoFar number w i k m mid → IsTurned number w' s mid m' → IsNextEnd s k k' (Some e) → IsServed number w turns m m' e
+ends_by number w w' i k k' turns s e m mid m' same lt so t n = ends number w i k k' turns s e m mid m' lt so (subst (λ x. IsTurned number x s mid m') same t) n

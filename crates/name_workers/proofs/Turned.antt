@@ -1,0 +1,158 @@
+-- A turn is made of a Go, the notes, and what came.
+use Rattle.std.proofs.Common.{◌≡◌, ℕ, ◌+◌, ◌<◌, ◌≤◌, true, false, List, [], ◌∷◌, ◌++◌, length, All, Option, None, Some, refl, sym, ap, subst, ◌∙◌, arith}
+use Rattle.outside.specs.Faults.{BothTell, Rose, raised}
+use Rattle.addr_text.specs.declared.address.Peer.{Peer}
+use Rattle.published_map.specs.Version.{Version}
+use Rattle.outside.specs.Port.{Packet, IsRecv, PortTold, Try, packet_in, taking, trying}
+use Rattle.outside.specs.declared.port.Arrival.TheVariants.{Arrived}
+use Rattle.outside.specs.Gate.{GateTold, IsTurning}
+use Rattle.outside.specs.declared.gate.Turning.TheVariants.{Go}
+use Rattle.outside.specs.Notes.{NotesTold}
+use Rattle.lane_model.specs.Lanes.{following}
+use Rattle.lane_model.specs.Turns.{Came, Fate, IsCame, IsGiven, Turn, count_after, floor_after, is_refused, looks_of, port_after, idle, oversize, ended, failed, took, silent, refused, tried}
+use Rattle.lane_model.specs.Sessions.{Eyes, IsRise, IsTurn, Moment}
+use Rattle.lane_model.proofs.Going.{rise_none, rise_trans}
+use Rattle.lane_model.proofs.Prefixes.{prefix_length}
+use Rattle.lane_model.proofs.Runs.{tells_on}
+use Rattle.name_workers.specs.declared.serve.Fared.{Fared}
+use Rattle.name_workers.specs.declared.serve.Fared.TheVariants as fared
+use Rattle.name_workers.specs.declared.serve.Step.{Step}
+use Rattle.name_workers.specs.declared.serve.Step.TheVariants as step
+use Rattle.lane_model.specs.Replies.{replies}
+use Rattle.name_workers.specs.Steps.{IsFared, IsReceived, IsTaken, IsTurned, Wire, step_of, step_of_fared}
+
+rose_later : (x y z : ℕ) → x ≤ y → Rose y z → Rose x z
+rose_later x y z le r = omega (arith, le, r)
+
+floor_up : (h : List Version) (w n known : ℕ) (came : Came) → IsCame replies h w n known came → known ≤ floor_after known came
+floor_up h w n known idle c = omega arith
+floor_up h w n known oversize c = omega arith
+floor_up h w n known ended c = omega arith
+floor_up h w n known failed c = omega arith
+floor_up h w n known (took d silent) c = omega arith
+floor_up h w n known (took d refused) c = omega arith
+floor_up h w n known (took d (tried serial octets went)) c = c.1
+
+-- no turn is a Stop
+never_stopped : {P : Type 0} (came : Came) → step.Stopped ≡ step_of came → P
+never_stopped idle e = absurd (cc e)
+never_stopped oversize e = absurd (cc e)
+never_stopped ended e = absurd (cc e)
+never_stopped failed e = absurd (cc e)
+never_stopped (took d silent) e = absurd (cc e)
+never_stopped (took d refused) e = absurd (cc e)
+never_stopped (took d (tried serial octets true)) e = absurd (cc e)
+never_stopped (took d (tried serial octets false)) e = absurd (cc e)
+
+turned : {T : Type 0} (number : T → ℕ) (w : ℕ) (s : Step) (m m' : Moment Version T) (t : Turn) → IsTurn replies number w t m m' → s ≡ step_of t.came → IsTurned number w s m m'
+turned number w step.Stopped m m' t q e = never_stopped t.came e
+turned number w step.On m m' t q e = (t, q, e)
+turned number w step.PortEnd m m' t q e = (t, q, e)
+turned number w step.PortFailed m m' t q e = (t, q, e)
+turned number w step.Refused m m' t q e = (t, q, e)
+
+pub turn_of : {T : Type 0} (number : T → ℕ) (w w1 n1 shown : ℕ) (s : Step) (e1 : Eyes Version) (m m' : Moment Version T) → shown + 1 ≡ length m.eyes.told → BothTell m.gate m'.gate (IsTurning shown Go) → m.gate_faults ≤ m'.gate_faults
+    → ((serials : List ℕ) × BothTell m.notes m'.notes (IsGiven number serials) × All (λ x. x < length e1.told) serials) → IsRise m.eyes e1 → e1.looks ≡ m.eyes.looks → w1 ≡ w → n1 ≡ m.count
+    → IsTaken w1 n1 m'.count s e1 m'.eyes (record { told = m.port; faults = m.port_faults }) (record { told = m'.port; faults = m'.port_faults }) → IsTurned number w s m m'
+turn_of number w w1 n1 shown s e1 m m' is gate gl given rise looks same count q =
+    let r = q.received in
+    let longer = prefix_length m.eyes.told e1.told rise.told in
+    turned number w s m m' (record { shown = shown; notes = given.0; known = q.known; came = q.came }) (record {
+      gate = gate;
+      notes = given.1;
+      port = r.port;
+      shown = is;
+      known = omega (arith, is, longer, r.known_is);
+      noted = λ k d lt. let below = given.2 k d lt in omega (arith, below, r.known_is);
+      came = subst (λ (x : ℕ). IsCame replies m'.eyes.seen x m.count q.known q.came) same (subst (λ (x : ℕ). IsCame replies m'.eyes.seen w1 x q.known q.came) count r.came_is);
+      count = q.count ∙ ap (λ x. count_after x q.came) count;
+      eyes = rise_trans m.eyes e1 m'.eyes rise r.rise;
+      floor = floor_up m'.eyes.seen w1 n1 q.known q.came r.came_is;
+      knows = r.knows;
+      looks = r.looks ∙ ap (λ x. raised x (looks_of q.came)) looks;
+      port_later = r.later;
+      gate_later = gl;
+      refusal = λ x. rose_later m.eyes.faults e1.faults m'.eyes.faults rise.faults (r.refusal x);
+      failing = r.failing;
+    }) q.step
+
+tells_itself : {A : Type 0} (x : Option A) → BothTell x x (λ b c. c ≡ b)
+tells_itself None = tt
+tells_itself (Some b) = refl
+
+raised_none : (n : ℕ) → n ≡ raised n 0
+raised_none n = omega arith
+
+-- a datagram that arrived, and what became of it
+pub arrived : (w n n' known len : ℕ) (buffer : List ℕ) (from : Peer) (f : Fared) (s : Step) (e g : Eyes Version) (p q r : Wire) → known + 1 ≡ length e.told → BothTell p.told q.told (IsRecv known buffer (Arrived len from)) → p.faults ≤ q.faults
+    → IsFared w n (packet_in buffer len from) f e g q r → n' ≡ following n → s ≡ step_of_fared f → IsTaken w n n' s e g p r
+arrived w n n' known len buffer from fared.Silent s e g p q r is recv later x count st = record {
+  known = known;
+  came = took (packet_in buffer len from) silent;
+  received = record {
+    known_is = is;
+    port = subst (λ (k : Wire). BothTell p.told k.told (λ b c. c ≡ taking (packet_in buffer len from) known b)) (sym x.2) (tells_on p.told q.told q.told (IsRecv known buffer (Arrived len from)) (λ b c. c ≡ b) (λ b c. c ≡ taking (packet_in buffer len from) known b) (λ b c d u v. v ∙ u.port) recv (tells_itself q.told));
+    came_is = x.0;
+    rise = subst (λ (k : Eyes Version). IsRise e k) (sym x.1) (rise_none e);
+    knows = subst (λ (k : Eyes Version). known < length k.told) (sym x.1) (omega (arith, is));
+    looks = ap (λ k. k.looks) x.1 ∙ raised_none e.looks;
+    later = subst (λ (k : Wire). p.faults ≤ k.faults) (sym x.2) later;
+    refusal = λ b. absurd (cc b);
+    failing = λ b. absurd (omega (arith, b));
+  };
+  count = count;
+  step = st;
+}
+arrived w n n' known len buffer from fared.Refused s e g p q r is recv later x count st = record {
+  known = known;
+  came = took (packet_in buffer len from) refused;
+  received = record {
+    known_is = is;
+    port = subst (λ (k : Wire). BothTell p.told k.told (λ b c. c ≡ taking (packet_in buffer len from) known b)) (sym x.port) (tells_on p.told q.told q.told (IsRecv known buffer (Arrived len from)) (λ b c. c ≡ b) (λ b c. c ≡ taking (packet_in buffer len from) known b) (λ b c d u v. v ∙ u.port) recv (tells_itself q.told));
+    came_is = x.spoken;
+    rise = x.rise;
+    knows = subst (λ (k : List Version). known < length k) (sym x.same) (omega (arith, is));
+    looks = x.looks;
+    later = subst (λ (k : Wire). p.faults ≤ k.faults) (sym x.port) later;
+    refusal = λ b. x.rose;
+    failing = λ b. absurd (omega (arith, b));
+  };
+  count = count;
+  step = st;
+}
+arrived w n n' known len buffer from fared.Sent s e g p q r is recv later x count st = record {
+  known = known;
+  came = took (packet_in buffer len from) (tried x.0 x.1 true);
+  received = record {
+    known_is = is;
+    port = tells_on p.told q.told r.told (IsRecv known buffer (Arrived len from)) (λ b c. c ≡ trying (record { octets = x.1; to = from; serial = x.0; went = true }) b) (λ b c. c ≡ trying (record { octets = x.1; to = from; serial = x.0; went = true }) (taking (packet_in buffer len from) known b))
+    (λ b c d u v. v ∙ ap (λ k. trying (record { octets = x.1; to = from; serial = x.0; went = true }) k) u.port) recv x.2.port;
+    came_is = (x.2.replied.spoken, omega (arith, is, x.2.replied.fresh), x.2.replied.version);
+    rise = x.2.replied.rise;
+    knows = omega (arith, x.2.replied.known);
+    looks = x.2.looks;
+    later = let l = x.2.later in omega (arith, later, l);
+    refusal = λ b. absurd (cc b);
+    failing = λ b. absurd (omega (arith, b));
+  };
+  count = count;
+  step = st;
+}
+arrived w n n' known len buffer from fared.Failed s e g p q r is recv later x count st = record {
+  known = known;
+  came = took (packet_in buffer len from) (tried x.0 x.1 false);
+  received = record {
+    known_is = is;
+    port = tells_on p.told q.told r.told (IsRecv known buffer (Arrived len from)) (λ b c. c ≡ trying (record { octets = x.1; to = from; serial = x.0; went = false }) b) (λ b c. c ≡ trying (record { octets = x.1; to = from; serial = x.0; went = false }) (taking (packet_in buffer len from) known b))
+    (λ b c d u v. v ∙ ap (λ k. trying (record { octets = x.1; to = from; serial = x.0; went = false }) k) u.port) recv x.2.port;
+    came_is = (x.2.replied.spoken, omega (arith, is, x.2.replied.fresh), x.2.replied.version);
+    rise = x.2.replied.rise;
+    knows = omega (arith, x.2.replied.known);
+    looks = x.2.looks;
+    later = let l = x.2.later in omega (arith, later, l);
+    refusal = λ b. absurd (cc b);
+    failing = λ b. rose_later p.faults q.faults r.faults later x.3;
+  };
+  count = count;
+  step = st;
+}

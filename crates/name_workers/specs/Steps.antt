@@ -1,0 +1,106 @@
+-- The steps of a lane's turn.
+use Rattle.std.specs.Prelude.{◌≡◌, ◌≢◌, ℕ, ◌+◌, ◌<◌, ◌≤◌, ◌==◌, true, false, List, length, Option, None, Some, if◌then◌else◌}
+use Rattle.outside.specs.Faults.{BothTell, Rose, raised}
+use Rattle.addr_text.specs.declared.address.Peer.{Peer}
+use Rattle.outside.specs.Port.{Packet, Try, PortTold, trying}
+use Rattle.published_map.specs.Version.{Version}
+use Rattle.lane_model.specs.declared.ended.Ended.{Ended}
+use Rattle.lane_model.specs.declared.ended.Ended.TheVariants as end
+use Rattle.lane_model.specs.Turns.{Came, Fate, Turn, IsCame, count_after, fails_of, floor_after, is_refused, looks_of, port_after, idle, oversize, ended, failed, took, silent, refused, tried}
+use Rattle.lane_model.specs.Sessions.{Eyes, IsRise, IsTurn, IsStop, Moment, IsSession, IsEnd, IsLast}
+use Rattle.name_workers.specs.declared.serve.Fared.{Fared}
+use Rattle.name_workers.specs.declared.serve.Fared.TheVariants as fared
+use Rattle.name_workers.specs.declared.serve.Step.{Step}
+use Rattle.name_workers.specs.declared.serve.Step.TheVariants as step
+use Rattle.lane_model.specs.Replies.{is_silent, replies}
+use Rattle.name_workers.specs.Worker.{IsReplied}
+
+-- what a port tells, and its faults
+pub record Wire : Type 0 where
+  pub told : Option PortTold
+  pub faults : ℕ
+
+-- the reply was tried
+pub record IsTried (w n : ℕ) (d : Packet) (e f : Eyes Version) (p q : Wire) (serial : ℕ) (octets : List ℕ) (t : Try) : Type 0 where
+  pub replied : IsReplied w n d.from.addr d.octets serial e f octets
+  pub looks : f.looks ≡ raised e.looks 1
+  pub try_is : (t.octets ≡ octets) × (t.to ≡ d.from) × (t.serial ≡ serial)
+  pub port : BothTell p.told q.told (λ b c. c ≡ trying t b)
+  pub later : p.faults ≤ q.faults
+
+-- the look was refused
+pub record IsShut (d : Packet) (e f : Eyes Version) (p q : Wire) : Type 0 where
+  pub spoken : is_silent d.octets ≡ false
+  pub rise : IsRise e f
+  pub same : f.told ≡ e.told
+  pub looks : f.looks ≡ raised e.looks 1
+  pub rose : Rose e.faults f.faults
+  pub port : q ≡ p
+
+-- what became of a datagram that was taken
+abbrev pub IsFared : ℕ → ℕ → Packet → Fared → Eyes Version → Eyes Version → Wire → Wire → Type 0
+IsFared w n d fared.Silent e f p q = (is_silent d.octets ≡ true) × (f ≡ e) × (q ≡ p)
+IsFared w n d fared.Refused e f p q = IsShut d e f p q
+IsFared w n d fared.Sent e f p q = (serial : ℕ) × (octets : List ℕ) × IsTried w n d e f p q serial octets (record { octets = octets; to = d.from; serial = serial; went = true })
+IsFared w n d fared.Failed e f p q = (serial : ℕ) × (octets : List ℕ) × IsTried w n d e f p q serial octets (record { octets = octets; to = d.from; serial = serial; went = false }) × Rose p.faults q.faults
+
+abbrev pub step_of_fared : Fared → Step
+step_of_fared fared.Silent = step.On
+step_of_fared fared.Sent = step.On
+step_of_fared fared.Failed = step.PortFailed
+step_of_fared fared.Refused = step.Refused
+
+abbrev pub step_of_fate : Fate → Step
+step_of_fate silent = step.On
+step_of_fate refused = step.Refused
+step_of_fate (tried serial octets true) = step.On
+step_of_fate (tried serial octets false) = step.PortFailed
+
+-- how a lane goes on after what came
+abbrev pub step_of : Came → Step
+step_of idle = step.On
+step_of oversize = step.On
+step_of ended = step.PortEnd
+step_of failed = step.PortFailed
+step_of (took d fate) = step_of_fate fate
+
+-- what a recv and its answer do
+pub record IsReceived (w n known : ℕ) (came : Came) (e f : Eyes Version) (p q : Wire) : Type 0 where
+  pub known_is : known + 1 ≡ length e.told
+  pub port : BothTell p.told q.told (λ b c. c ≡ port_after known came b)
+  pub came_is : IsCame replies f.seen w n known came
+  pub rise : IsRise e f
+  pub knows : floor_after known came < length f.told
+  pub looks : f.looks ≡ raised e.looks (looks_of came)
+  pub later : p.faults ≤ q.faults
+  pub refusal : is_refused came ≡ true → Rose e.faults f.faults
+  pub failing : 0 < fails_of came → Rose p.faults q.faults
+
+-- the same, of what came by then
+pub record IsTaken (w n n' : ℕ) (s : Step) (e f : Eyes Version) (p q : Wire) : Type 0 where
+  pub known : ℕ
+  pub came : Came
+  pub received : IsReceived w n known came e f p q
+  pub count : n' ≡ count_after n came
+  pub step : s ≡ step_of came
+
+-- what one turn does: the gate answered Stop, or a turn was made
+abbrev pub IsTurned : {T : Type 0} → (T → ℕ) → ℕ → Step → Moment Version T → Moment Version T → Type 0
+IsTurned number w step.Stopped m m' = IsStop m m'
+IsTurned number w s m m' = (t : Turn) × IsTurn replies number w t m m' × (s ≡ step_of t.came)
+
+-- whether that ends the lane, and how many calls of the port failed
+abbrev pub IsNextEnd : Step → ℕ → ℕ → Option Ended → Type 0
+IsNextEnd step.Stopped k k' next = (next ≡ Some end.Stopped) × (k' ≡ k)
+IsNextEnd step.On k k' next = (next ≡ None) × (k' ≡ k)
+IsNextEnd step.PortEnd k k' next = (next ≡ Some end.PortEnd) × (k' ≡ k)
+IsNextEnd step.PortFailed k k' next = (k' ≡ k + 1) × (next ≡ (if k' == 8 then Some end.PortFault else None))
+IsNextEnd step.Refused k k' next = (next ≡ Some end.CellFault) × (k' ≡ k)
+
+-- What a call does: some turns, and then its end.
+pub record IsServed {T : Type 0} (number : T → ℕ) (w turns : ℕ) (m m' : Moment Version T) (result : Ended) : Type 0 where
+  pub log : List Turn
+  pub mid : Moment Version T
+  pub session : IsSession replies number w log m mid
+  pub last : IsLast result mid m'
+  pub ending : IsEnd turns log result

@@ -1,0 +1,24 @@
+-- What one answer of a worker does.
+use Rattle.std.specs.Prelude.{◌≡◌, ℕ, ◌+◌, ◌≤◌, true, false, List, [], length, Option, None, Some, Result, Ok, Err, slice_get}
+use mathlib.Core.List.{IsPrefix}
+use Rattle.addr_text.specs.declared.address.Addr.{Addr}
+use Rattle.outside.specs.Faults.{Rose}
+use Rattle.published_map.specs.Version.{Version}
+use Rattle.map_cell.specs.declared.door.CellFault.{CellFault}
+use Rattle.lane_model.specs.Lanes.{draw}
+use Rattle.lane_model.specs.Sessions.{Eyes, IsRise}
+use Rattle.lane_model.specs.Replies.{is_silent, reply_of}
+
+-- the reply of one version that is no older than what was known
+pub record IsReplied (w n : ℕ) (from : Addr) (octets : List ℕ) (serial : ℕ) (e f : Eyes Version) (out : List ℕ) : Type 0 where
+  pub spoken : is_silent octets ≡ false
+  pub version : (v : Version) × (slice_get f.seen serial ≡ Some v) × (reply_of v from octets (draw w n) ≡ Some out)
+  pub fresh : length e.told ≤ serial + 1
+  pub known : length f.told ≡ serial + 1
+  pub rise : IsRise e f
+
+-- the answer, by cases
+abbrev pub IsAnswer : ℕ → ℕ → Addr → List ℕ → Eyes Version → Eyes Version → List ℕ → Result (Option ℕ) CellFault → Type 0
+IsAnswer w n from octets e f out (Ok None) = (is_silent octets ≡ true) × (f ≡ e) × (out ≡ [])
+IsAnswer w n from octets e f out (Ok (Some serial)) = IsReplied w n from octets serial e f out
+IsAnswer w n from octets e f out (Err fault) = (is_silent octets ≡ false) × IsRise e f × (f.told ≡ e.told) × Rose e.faults f.faults

@@ -1,0 +1,117 @@
+//! Workers, which answer datagrams from the newest map that they look at.
+ghost use Rattle.std.specs.Prelude.{◌≡◌, ◌≤◌, ◌+◌, ◌⊎◌, false, length, Some};
+ghost use mathlib.Core.List.{IsPrefix};
+ghost use Rattle.outside.specs.Faults.{raised};
+ghost use Rattle.published_map.specs.Version.{IsVersion};
+ghost use Rattle.lane_model.specs.Lanes.{draw, following};
+ghost use Rattle.lane_model.specs.Replies.{is_silent, reply_of};
+ghost use Rattle.name_workers.specs.Looked.{looked_by};
+ghost use Rattle.name_workers.specs.Worker.{IsAnswer};
+
+use addr_text::Addr;
+use answer_core::{reply, silent};
+use arrayvec::ArrayVec;
+use lane_model::{draw_of, next_number};
+use map_cell::{CellFault, Door, Naming, Note, Viewer};
+use published_map::MapVersion;
+
+/// A worker of a lane: its viewer, its number, and the number of its next datagram, from 0.
+#[derive(Drop)]
+pub struct Worker<J: Naming> {
+    pub viewer: Viewer<J>,
+    pub number: u8,
+    pub count: u64,
+}
+
+/// Whether octets have no reply.
+#[tactic(auto, unfolding(lane_model::specs::Replies::is_silent))]
+fn has_none(octets: &[u8]) -> bool
+    ensures { result ≡ is_silent octets.now }
+{
+    silent(octets)
+}
+
+/// The reply of a version to octets that have one.
+#[tactic(auto, unfolding(lane_model::specs::Replies::is_silent, lane_model::specs::Replies::reply_of))]
+fn reply_by(version: &MapVersion, from: Addr, octets: &[u8], draw: u64) -> ArrayVec<u8, 512>
+    requires version { IsVersion version.now }
+    requires spoken { is_silent octets.now ≡ false }
+    ensures reply { reply_of version.now from octets.now draw ≡ Some result.items }
+    ensures short { length result.items ≤ 512 }
+{
+    let mut out = ArrayVec::new();
+    let _ = reply(version, from, octets, draw, &mut out);
+    out
+}
+
+impl<J: Naming> Worker<J> {
+    /// A worker of that number, which has had no datagram.
+    pub fn new(viewer: Viewer<J>, number: u8) -> Worker<J>
+        ensures { (result.viewer ≡ viewer) × (result.number ≡ number) × (result.count ≡ 0) }
+    {
+        Worker {
+            viewer,
+            number,
+            count: 0,
+        }
+    }
+
+    /// Its viewer, with what that has seen and was told by then.
+    pub fn into_viewer(self) -> Viewer<J>
+        ensures { result ≡ self.viewer }
+    {
+        self.viewer
+    }
+
+    /// The greatest serial that it used or was told of.
+    pub fn known(&self) -> u64
+        ensures { result + 1 ≡ length self.now.viewer.told }
+    {
+        self.viewer.known()
+    }
+
+    /// Tells it of a published map.
+    pub fn learn<D: Door>(&mut self, door: &mut D, note: &Note<J>)
+        ensures seen { self.new.viewer.seen ≡ self.old.viewer.seen }
+        ensures kept { IsPrefix self.old.viewer.told self.new.viewer.told }
+        ensures note { IsPrefix note.now.front self.new.viewer.told }
+        ensures same { (self.new.number ≡ self.old.number) × (self.new.count ≡ self.old.count) }
+    {
+        door.learn(&mut self.viewer, note);
+    }
+
+    /// Answers a datagram by one map that is no older than what is known, and gives that map's serial; None where the
+    /// octets have no reply, and no look is made then. The buffer is cleared first.
+    ///
+    /// # Errors
+    ///
+    /// `CellFault` where the look was refused.
+    pub fn answer<D: Door>(
+        &mut self,
+        door: &mut D,
+        from: Addr,
+        octets: &[u8],
+        out: &mut ArrayVec<u8, 512>,
+    ) -> Result<Option<u64>, CellFault>
+        ensures answer { IsAnswer self.old.number self.old.count from octets.now (record { seen = self.old.viewer.seen; told = self.old.viewer.told; looks = D.looks door.old; greatest = D.greatest door.old; faults = D.faults door.old }) (record { seen = self.new.viewer.seen; told = self.new.viewer.told; looks = D.looks door.new; greatest = D.greatest door.new; faults = D.faults door.new }) out.new.items result }
+        ensures looks { D.looks door.new ≡ raised (D.looks door.old) (looked_by octets.now) }
+        ensures count { (self.new.count ≡ following self.old.count) × (self.new.number ≡ self.old.number) }
+        ensures short { length out.new.items ≤ 512 }
+    {
+        let draw = draw_of(self.number, self.count);
+        self.count = next_number(self.count);
+        out.clear();
+        if has_none(octets) {
+            return Ok(None);
+        }
+        let (text, serial) = door.look(
+            &mut self.viewer,
+            |m: &MapVersion| -> (ArrayVec<u8, 512>, u64)
+                requires { IsVersion m.now × (is_silent octets.now ≡ false) }
+                ensures { (reply_of m.now from octets.entry.now draw ≡ Some result.0.items) × (length result.0.items ≤ 512) × (result.1 ≡ m.now.serial) }
+            { (reply_by(m, from, octets, draw), m.serial()) },
+        )?;
+        *out = text;
+        Ok(Some(serial))
+    }
+}
