@@ -1,0 +1,6 @@
+//! The mapper: a feed's batches become maps, each good, and its questions are answered by the newest one.
+#![tactic(auto)]
+
+mod saying;
+
+pub use saying::{LINE_ROOM, Saying, Spoken, Totals};
