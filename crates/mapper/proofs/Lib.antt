@@ -1,0 +1,3 @@
+mod Tellings
+pub mod Courses
+pub mod Chains

@@ -1,6 +1,9 @@
 //! The mapper: a feed's batches become maps, each good, and its questions are answered by the newest one.
 #![tactic(auto)]
 
+mod come;
+mod mapping;
 mod saying;
 
+pub use mapping::Mapping;
 pub use saying::{LINE_ROOM, Saying, Spoken, Totals};
