@@ -1,3 +1,4 @@
 mod Tellings
 pub mod Courses
 pub mod Chains
+mod Together

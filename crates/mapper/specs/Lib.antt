@@ -5,3 +5,4 @@ pub mod Control
 pub mod Scenes
 pub mod Feeding
 pub mod Coming
+pub mod Sessions

@@ -4,6 +4,8 @@
 mod come;
 mod mapping;
 mod saying;
+mod session;
 
 pub use mapping::Mapping;
 pub use saying::{LINE_ROOM, Saying, Spoken, Totals};
+pub use session::run_feed;
