@@ -17,13 +17,13 @@ use topology_text::Topology;
 
 /// What a feed's items come to.
 #[derive(Drop)]
-struct Session<'a, R, X, K, M> {
-    rt: &'a R,
-    mapper: &'a mut X,
-    line: &'a mut Spoken,
-    out: &'a mut K,
-    maps: &'a mut K,
-    pace: &'a mut M,
+struct Session<'r, 'x, 'l, 'o, 'm, 'p, R, X, K, M> {
+    rt: &'r R,
+    mapper: &'x mut X,
+    line: &'l mut Spoken,
+    out: &'o mut K,
+    maps: &'m mut K,
+    pace: &'p mut M,
 }
 
 /// Whether nothing comes of a line.
@@ -33,7 +33,8 @@ fn is_quiet(next: &Next) -> bool
     matches!(next, Next::Nothing | Next::Stop)
 }
 
-impl<R: Wait, X: Mapping, K: Sink, M: Pace> TakesItems for Session<'_, R, X, K, M> {
+impl<R: Wait, X: Mapping, K: Sink, M: Pace> TakesItems
+    for Session<'_, '_, '_, '_, '_, '_, R, X, K, M> {
     ghost use Rattle.std.specs.Prelude.{◌-◌, ◌^◌};
     ghost use Rattle.mapper.specs.Sessions.{SessionCuts, SessionDoes};
 
@@ -71,7 +72,7 @@ fn work<R: Wait, S: Source, X: Mapping, K: Sink, M: Pace>(
     topology: &Topology,
     intake: &mut Intake,
     feed: &mut S,
-    session: &mut Session<'_, R, X, K, M>,
+    session: &mut Session<'_, '_, '_, '_, '_, '_, R, X, K, M>,
     turns: u64,
 ) -> FeedEnd
     requires turns { turns ≤ MOST_TURNS }
@@ -85,6 +86,30 @@ fn work<R: Wait, S: Source, X: Mapping, K: Sink, M: Pace>(
     ensures source_stays { result ≢ FeedEnd.SourceFault → S.faults feed.new ≡ S.faults feed.old }
 {
     run_lines(topology, intake, feed, session, turns)
+}
+
+/// Runs a feed to its end, and tells the pace. What the session lends stays lent.
+fn finish<R: Wait, S: Source, X: Mapping, K: Sink, M: Pace>(
+    topology: &Topology,
+    intake: &mut Intake,
+    feed: &mut S,
+    session: &mut Session<'_, '_, '_, '_, '_, '_, R, X, K, M>,
+    turns: u64,
+) -> FeedEnd
+    requires turns { turns ≤ MOST_TURNS }
+    requires plan { (X.newest session.old.mapper.now).plan ≡ topology.now }
+    requires serial { (X.newest session.old.mapper.now).serial < 2 ^ 63 }
+    ensures keeps { Keeps K.faults session.old session.new }
+    ensures run { IsFeed topology.now turns result (S.told feed.old) (S.told feed.new) (told_by X.newest X.history K.told M.told session.old) (told_by X.newest X.history K.told M.told session.new) }
+    ensures sink { result ≡ FeedEnd.SinkFault → HasFault K.faults session.old session.new }
+    ensures source { result ≡ FeedEnd.SourceFault → Rose (S.faults feed.old) (S.faults feed.new) }
+    ensures source_later { S.faults feed.old ≤ S.faults feed.new }
+    ensures source_stays { result ≢ FeedEnd.SourceFault → S.faults feed.new ≡ S.faults feed.old }
+{
+    let end = work(topology, intake, feed, session, turns);
+    let newest = session.mapper.serial();
+    session.pace.done(newest);
+    end
 }
 
 /// Runs a feed to its end or for so many turns, from the newest map on, and then tells the pace that it has ended.
@@ -120,8 +145,5 @@ pub fn run_feed<R: Wait, S: Source, X: Mapping, K: Sink, M: Pace>(
         maps,
         pace,
     };
-    let end = work(topology, intake, feed, &mut session, turns);
-    let newest = session.mapper.serial();
-    session.pace.done(newest);
-    end
+    finish(topology, intake, feed, &mut session, turns)
 }
