@@ -1,5 +1,8 @@
 -- What the code's machine does is a step of the machine.
-use Rattle.std.proofs.Common.{◌≡◌, ◌⊎◌, ℕ, zero, suc, ◌+◌, ◌-◌, ◌<◌, ◌≤◌, true, false, List, [], ◌∷◌, ◌++◌, length, Option, None, Some, slice_get, slice_set, slice_index_or, refl, sym, ap, arith, inl, inr, ⊎_elim}
+use Rattle.std.proofs.Common.{◌≡◌, ℕ, zero, suc, ◌<◌, ◌≤◌, true, List, [], ◌∷◌, ◌++◌, length, Option, Some, slice_get, slice_set, slice_index_or, Result, Ok, Err, OnOk, refl, sym, ap, subst, arith, inl, inr, ⊎_elim}
+use Rattle.addr_text.specs.declared.address.Peer.{Peer}
+use Rattle.map_model.specs.declared.change.Change.{Change}
+use Rattle.map_model.specs.declared.lines.MapLines.{MapLines}
 use Rattle.outside.specs.Port.{Packet}
 use Rattle.published_map.specs.Version.{Version}
 use Rattle.lane_model.specs.Histories.{Follows}
@@ -7,14 +10,15 @@ use Rattle.lane_model.specs.Kept.{IsKept}
 use Rattle.lane_model.specs.Lanes.{draw}
 use Rattle.lane_model.specs.Machine.{IsMoved, IsStep, IsTaken, LaneState, Machine, Takes, fresh, passed, replied, told}
 use Rattle.lane_model.specs.Machine as machine
-use Rattle.lane_model.specs.Replies.{is_silent, reply_of, replies}
+use Rattle.lane_model.specs.Replies.{replies}
 use Rattle.lane_model.proofs.Keeps.{all_kept}
 use Rattle.lane_model.proofs.Stated.{none_silent, some_spoken}
 use Rattle.serve_core.specs.declared.event.Event.{Event}
 use Rattle.serve_core.specs.declared.event.StepFault.{StepFault}
-use Rattle.serve_core.specs.Events.{IsRefused, RunsTo}
+use Rattle.serve_core.specs.declared.event.Event.TheVariants.{Commit, Tell, Take}
+use Rattle.serve_core.specs.Events.{IsCommitOf, IsRefused, RunsTo}
 use Rattle.serve_core.specs.Events as events
-use Rattle.serve_core.specs.Takings.{IsTakenBy}
+use Rattle.serve_core.specs.Takings.{IsTakenBy, IsTaking}
 
 moved_set : (xs : List LaneState) (k : ℕ) (d l' : LaneState) → k < length xs → IsMoved k (slice_index_or xs k d) l' xs (slice_set xs k l')
 moved_set [] k d l' lt = absurd (omega (arith, lt))
@@ -56,3 +60,19 @@ run_taken (e ∷ es) m m' fault r =
 -- what a run keeps: a history, and lanes that are lane runs over it
 pub run_kept : (es : List Event) (m m' : Machine Version) (fault : Option StepFault) (first : Version) → RunsTo es m m' fault → IsKept replies Follows first m → IsKept replies Follows first m'
 run_kept es m m' fault first r kept = let taken = run_taken es m m' fault r in all_kept replies Follows first taken.0 m m' taken.1 kept
+
+-- what a commit, a tell and a take of the code do are events of the machine
+pub did_commit : (m m' : Machine Version) (batch : List Change) (map : MapLines) (r : Result (Unit {0}) StepFault) → OnOk r ((v : Version) × IsCommitOf m.history batch map v × (m' ≡ record m { history = m.history ++ v ∷ [] })) → OnOk r (events.Takes (Commit batch map) m m')
+did_commit m m' batch map (Ok u) h = (machine.commit h.0, (h.0, refl, h.1), ((h.1.0, batch, h.1.1, h.1.2), h.2))
+did_commit m m' batch map (Err e) h = tt
+
+pub did_tell : (m m' : Machine Version) (lane serial : ℕ) (r : Result (Unit {0}) StepFault)
+    → OnOk r ((lane < length m.lanes) × (serial < length m.history) × (m' ≡ record m { lanes = slice_set m.lanes lane (told serial (events.lane_at m lane)) })) → OnOk r (events.Takes (Tell lane serial) m m')
+did_tell m m' lane serial (Ok u) h = (machine.tell lane serial, refl, subst (λ (x : Machine Version). IsStep replies Follows (machine.tell lane serial) m x) (sym h.2) (tell_step m lane serial h.0 h.1))
+did_tell m m' lane serial (Err e) h = tt
+
+pub did_take : (m m' : Machine Version) (lane : ℕ) (octets : List ℕ) (from : Peer) (serial : ℕ) (r : Result (Unit {0}) StepFault) → OnOk r (IsTaking lane (record { octets = octets; from = from }) serial m m') → OnOk r (events.Takes (Take lane octets from serial) m m')
+did_take m m' lane octets from serial (Ok u) h =
+    let d : Packet = record { octets = octets; from = from } in
+    (machine.take lane d serial, refl, subst (λ (x : Machine Version). IsStep replies Follows (machine.take lane d serial) m x) (sym h.7) (take_step m h.0 lane d serial h.1 h.6 h.2 h.4 h.3 h.5))
+did_take m m' lane octets from serial (Err e) h = tt

@@ -1,5 +1,5 @@
 -- Inside this crate alone: what a world keeps.
-use Rattle.std.specs.Prelude.{◌≡◌, ℕ, ◌+◌, ◌-◌, ◌<◌, ◌≤◌, List, length, Option, Some, slice_get}
+use Rattle.std.specs.Prelude.{◌≡◌, ℕ, ◌-◌, ◌<◌, ◌≤◌, List, length, Some, slice_get}
 use Rattle.map_model.specs.Market.{Market}
 use Rattle.published_map.specs.Version.{IsVersion, Version}
 use Rattle.lane_model.specs.Machine.{LaneState}

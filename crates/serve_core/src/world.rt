@@ -1,5 +1,5 @@
 //! The machine over published versions.
-ghost use Rattle.std.specs.Prelude.{◌≡◌, ◌≤◌, ◌<◌, ◌+◌, ◌∷◌, ◌++◌, [], All, Some, length, replicate, slice_get, slice_set, IfOk, IfErr, OnOk, OnErr};
+ghost use Rattle.std.specs.Prelude.{◌≡◌, ◌≤◌, ◌<◌, ◌+◌, ◌∷◌, ◌++◌, [], All, Some, length, replicate, reverse, slice_get, slice_set, IfOk, IfErr, OnOk, OnErr};
 ghost use Rattle.std.specs.Result.{result_err};
 ghost use Rattle.lane_model.specs.Histories.{Follows};
 ghost use Rattle.lane_model.specs.Kept.{IsKept};
@@ -64,6 +64,15 @@ fn version_at(versions: &[MapVersion], serial: u64) -> &MapVersion
     ensures { slice_get versions.now serial ≡ Some result.now }
 {
     &versions[serial as usize]
+}
+
+/// Events, the last one first.
+fn backwards(events: Vec<Event>) -> Vec<Event>
+    ensures { result.items ≡ reverse events.items }
+{
+    let mut events = events;
+    events.as_mut_slice().reverse();
+    events
 }
 
 /// What a version shares with the others of its topology.
@@ -217,8 +226,12 @@ impl World {
         ensures runs { RunsTo events.items self.old self.new (result_err result) }
         ensures kept { (first : Version) → IsKept replies Follows first self.old → IsKept replies Follows first self.new }
     {
-        for event in events {
-            self.step(event)?;
+        let mut behind = backwards(events);
+        while let Some(event) = behind.pop() {
+            match self.step(event) {
+                Ok(()) => {}
+                Err(fault) => return Err(fault),
+            }
         }
         Ok(())
     }
