@@ -40,18 +40,35 @@ struct Worlds {
     new_map: MapLines,
 }
 
+/// The instance where the second group asks for four units.
+fn asking_four(old: &Instance) -> Option<Instance>
+    ensures { IfSome result (λ new. IsSameShape old.now new) }
+{
+    match old.try_clone() {
+        Err(_) => None,
+        Ok(instance) => {
+            let mut instance = instance;
+            if instance.groups() != 2 {
+                return None;
+            }
+            instance.set_demand(G2, 4);
+            Some(instance)
+        }
+    }
+}
+
 /// The example of a topology and what it becomes, with their good maps.
 fn worlds_of(alloc: Global, topology: &Topology) -> Option<Worlds>
     ensures old { IfSome result (λ w. (w.old ≡ topology.now.market) × IsGood w.old w.old_map.lines.items w.old_map.names.items) }
     ensures new { IfSome result (λ w. IsSameShape w.old w.new × IsGood w.new w.new_map.lines.items w.new_map.names.items) }
 {
-    let old = topology.instance().try_clone().ok()?;
-    let old_map = EXAMPLE.map(alloc).ok()?;
-    let mut new = topology.instance().try_clone().ok()?;
-    if new.groups() != 2 {
+    let Ok(old) = topology.instance().try_clone() else {
         return None;
-    }
-    new.set_demand(G2, 4);
+    };
+    let Some(new) = asking_four(&old) else {
+        return None;
+    };
+    let old_map = EXAMPLE.map(alloc).ok()?;
     let new_map = map_of(alloc, &[(0, 0, 8), (1, 0, 2), (1, 1, 2)], &[(1, 0, 1)]).ok()?;
     if !is_good(alloc, &old, &old_map) {
         return None;
@@ -204,6 +221,15 @@ fn opened<J: Naming, R: Wait, D: Door>(
     Ok(seen)
 }
 
+/// The same, of a history of its own.
+fn seen_by<R: Wait, D: Door>(
+    rt: &R,
+    alloc: Global,
+    door: &mut D,
+) -> Result<Option<(Sight, u64, Sight)>, OpenFault> {
+    opened::<Brand, R, D>(rt, alloc, EmptyHistory::new(), door)
+}
+
 /// The example as a look shows it.
 const OLD: Sight = Sight {
     serial: 0,
@@ -222,7 +248,7 @@ const NEW: Sight = Sight {
 #[test]
 fn looks_follow_publishes(rt: HostRuntime) -> Result<(), Fail> {
     let mut door = PlainDoor::new();
-    let seen = opened::<Brand, HostRuntime, PlainDoor>(&rt, rt.alloc(), EmptyHistory::new(), &mut door);
+    let seen = seen_by(&rt, rt.alloc(), &mut door);
     assert!(rt; seen == Ok(Some((OLD, 1, NEW))));
     Ok(())
 }
@@ -232,11 +258,11 @@ fn looks_follow_publishes(rt: HostRuntime) -> Result<(), Fail> {
 fn doors_refuse(rt: HostRuntime) -> Result<(), Fail> {
     let first = Vec::from_slice(rt.alloc(), [0].as_slice())?;
     let mut door = MemDoor::new(first, Vec::new(rt.alloc()));
-    let seen = opened::<Brand, HostRuntime, MemDoor>(&rt, rt.alloc(), EmptyHistory::new(), &mut door);
+    let seen = seen_by(&rt, rt.alloc(), &mut door);
     assert!(rt; seen == Err(OpenFault::CellFault));
     let second = Vec::from_slice(rt.alloc(), [1].as_slice())?;
     let mut door = MemDoor::new(Vec::new(rt.alloc()), second);
-    let seen = opened::<Brand, HostRuntime, MemDoor>(&rt, rt.alloc(), EmptyHistory::new(), &mut door);
+    let seen = seen_by(&rt, rt.alloc(), &mut door);
     assert!(rt; seen == Ok(None));
     Ok(())
 }
