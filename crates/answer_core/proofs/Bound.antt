@@ -14,24 +14,26 @@ use Rattle.topology_text.specs.declared.topology.Zone.{Zone}
 use Rattle.topology_text.specs.Plan.{IsZone}
 use Rattle.answer_core.specs.Columns.{is_authoritative, rcode, scope_told}
 use Rattle.answer_core.specs.Grammar.{Request}
-use Rattle.answer_core.specs.Outcome.{Outcome, BadVers, FormErr, Refused, ServFail, NxDomain, NoData, Soa, NameServers, Addresses}
-use Rattle.answer_core.specs.Sections.{resource, server, address, soa, numbers_of, apex_name, question_name, answers, authority, additional, repeated, count_of_opt}
+use Rattle.answer_core.specs.Outcome.{Outcome, Records, BadVers, Error, Negative, Positive, Soa, NameServers, Addresses}
+use Rattle.answer_core.specs.Sections.{resource, server, address, soa, numbers_of, apex_name, question_name, resources, answers, authority, additional, repeated, count_of_opt}
 use Rattle.answer_core.specs.Reply.{full}
-use Rattle.answer_core.specs.View.{outcome_view, HasFew, IsTold}
+use Rattle.answer_core.specs.View.{outcome_view, records_view, AreShort, IsShort}
+use Rattle.answer_core.specs.declared.outcome.Records as code_records
+use Rattle.answer_core.specs.declared.outcome.Records.TheVariants as records
 use Rattle.answer_core.specs.declared.outcome.Outcome as code
 use Rattle.answer_core.specs.declared.outcome.Outcome.TheVariants as variants
 
 -- few addresses, and servers under a short name
+abbrev pub FewFit : ℕ → Records → Type 0
+FewFit size Soa = Unit {0}
+FewFit size NameServers = size ≤ 64
+FewFit size (Addresses kind addresses) = length addresses ≤ 6
+
 abbrev pub Fits : ℕ → Outcome → Type 0
 Fits size BadVers = Unit {0}
-Fits size FormErr = Unit {0}
-Fits size Refused = Unit {0}
-Fits size ServFail = Unit {0}
-Fits size NxDomain = Unit {0}
-Fits size NoData = Unit {0}
-Fits size Soa = Unit {0}
-Fits size NameServers = size ≤ 64
-Fits size (Addresses kind addresses scope) = length addresses ≤ 6
+Fits size (Error code) = Unit {0}
+Fits size (Negative code) = Unit {0}
+Fits size (Positive records scope) = FewFit size records
 
 servers_len : (ttl : ℕ) (ns : List (List ℕ)) → All (λ n. length n ≤ 64) ns → length (flat_map resource (map (server ttl) ns)) ≤ 76 * length ns
 servers_len ttl [] all = omega arith
@@ -72,18 +74,18 @@ additional_len None subnet outcome = omega arith
 additional_len (Some e) subnet outcome = omega (arith, repeated_len subnet (scope_told outcome))
 
 -- a name and the records behind it
+name_and_answers : (z : Zone) (name : List ℕ) (r : Records) → IsZone z → length name ≤ 255 → FewFit (length name) r → length name + length (flat_map resource (resources z r)) ≤ 423
+name_and_answers z name Soa zone short fit = let a : length (flat_map resource (resources z Soa)) ≤ 160 = soa_len z question_name z.ttl zone in omega arith
+name_and_answers z name NameServers zone short fit =
+    let a : length (flat_map resource (resources z NameServers)) ≤ 76 * length z.ns = servers_len z.ttl z.ns zone.short_ns in omega (arith, zone.few_ns)
+name_and_answers z name (Addresses kind addresses) zone short fit =
+    let some : length (flat_map resource (resources z (Addresses kind addresses))) ≤ 28 * length addresses = addresses_len z.ttl kind addresses in omega arith
+
 name_and_records : (z : Zone) (name : List ℕ) (o : Outcome) → IsZone z → length name ≤ 255 → Fits (length name) o → length name + length (flat_map resource (answers z o)) + length (flat_map resource (authority z name o)) ≤ 423
-name_and_records z name Soa zone short fit = let a : length (flat_map resource (answers z Soa)) ≤ 160 = soa_len z question_name z.ttl zone in omega arith
-name_and_records z name NameServers zone short fit =
-    let a : length (flat_map resource (answers z NameServers)) ≤ 76 * length z.ns = servers_len z.ttl z.ns zone.short_ns in omega (arith, zone.few_ns)
-name_and_records z name (Addresses kind addresses scope) zone short fit =
-    let some : length (flat_map resource (answers z (Addresses kind addresses scope))) ≤ 28 * length addresses = addresses_len z.ttl kind addresses in omega arith
-name_and_records z name NxDomain zone short fit = let a : length (flat_map resource (authority z name NxDomain)) ≤ 160 = soa_len z (apex_name z name) (min z.ttl z.minimum) zone in omega arith
-name_and_records z name NoData zone short fit = let a : length (flat_map resource (authority z name NoData)) ≤ 160 = soa_len z (apex_name z name) (min z.ttl z.minimum) zone in omega arith
 name_and_records z name BadVers zone short fit = omega arith
-name_and_records z name FormErr zone short fit = omega arith
-name_and_records z name Refused zone short fit = omega arith
-name_and_records z name ServFail zone short fit = omega arith
+name_and_records z name (Error code) zone short fit = omega arith
+name_and_records z name (Negative code) zone short fit = let a : length (flat_map resource (authority z name (Negative code))) ≤ 160 = soa_len z (apex_name z name) (min z.ttl z.minimum) zone in omega arith
+name_and_records z name (Positive records scope) zone short fit = let a : length name + length (flat_map resource (resources z records)) ≤ 423 = name_and_answers z name records zone short fit in omega arith
 
 five : (head name a b c : List ℕ) (n : ℕ) → length head ≡ 12 → length name ≡ n + 4 → n + length a + length b ≤ 423 → length c ≤ 35 → length (head ++ name ++ a ++ b ++ c) ≤ 512
 five head name a b c n h1 h2 h3 h4 = omega (arith, length-append (head ++ name ++ a ++ b) c, length-append (head ++ name ++ a) b, length-append (head ++ name) a, length-append head name)
@@ -97,13 +99,25 @@ bound z r o zone short fit =
     five (header q.head (is_authoritative o) false (rcode o) (1 ∷ length (answers z o) ∷ length (authority z q.name o) ∷ count_of_opt q.opt ∷ [])) (question q.name q.kind q.class) (flat_map resource (answers z o)) (flat_map resource (authority z q.name o)) (additional q.opt r.subnet o) (length q.name)
     refl (question_len q.name q.kind q.class) (name_and_records z q.name o zone short fit) (additional_len q.opt r.subnet o)
 
-pub view_fits : (size : ℕ) (o : code.Outcome) → HasFew o → IsTold size o → Fits size (outcome_view o)
-view_fits size variants.BadVers few told = tt
-view_fits size variants.FormErr few told = tt
-view_fits size variants.Refused few told = tt
-view_fits size variants.ServFail few told = tt
-view_fits size variants.NxDomain few told = tt
-view_fits size variants.NoData few told = tt
-view_fits size variants.Soa few told = tt
-view_fits size variants.NameServers few told = told
-view_fits size (variants.Addresses kind addresses scope) few told = few
+few_fit : (size : ℕ) (r : code_records.Records) → AreShort size r → FewFit size (records_view r)
+few_fit size records.Soa short = tt
+few_fit size records.NameServers short = short
+few_fit size (records.Addresses kind addresses) short = short
+
+pub view_fits : (size : ℕ) (o : code.Outcome) → IsShort size o → Fits size (outcome_view o)
+view_fits size variants.BadVers short = tt
+view_fits size (variants.Error rcode) short = tt
+view_fits size (variants.Negative rcode) short = tt
+view_fits size (variants.Positive found scope) short = few_fit size found short
+
+few_at : (size : ℕ) (r : code_records.Records) → AreShort size r → AreShort 64 r
+few_at size records.Soa short = tt
+few_at size records.NameServers short = omega arith
+few_at size (records.Addresses kind addresses) short = short
+
+-- what is short under any name
+pub short_at_64 : (size : ℕ) (o : code.Outcome) → IsShort size o → IsShort 64 o
+short_at_64 size variants.BadVers short = tt
+short_at_64 size (variants.Error rcode) short = tt
+short_at_64 size (variants.Negative rcode) short = tt
+short_at_64 size (variants.Positive found scope) short = few_at size found short

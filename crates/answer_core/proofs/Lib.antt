@@ -3,3 +3,5 @@ pub mod Laid
 pub mod Labels
 pub mod Records
 pub mod Bound
+pub mod Silence
+pub mod Chosen

@@ -9,9 +9,6 @@ use Rattle.addr_text.specs.declared.address.Addr.TheVariants.{V6}
 use Rattle.dns_wire.specs.Spelling.{record_of}
 use Rattle.answer_core.specs.Sections.{Resource, resource, address}
 
-pub joined5 : (o a b c d e o1 o2 o3 o4 o5 : List ℕ) → o1 ≡ o ++ a → o2 ≡ o1 ++ b → o3 ≡ o2 ++ c → o4 ≡ o3 ++ d → o5 ≡ o4 ++ e → o5 ≡ o ++ (a ++ b ++ c ++ d ++ e)
-joined5 o a b c d e o1 o2 o3 o4 o5 h1 h2 h3 h4 h5 = rw (h5, h4, h3, h2, h1) (simp append_assoc)
-
 pub v6 : (o new bytes : List ℕ) (a : Addr) (n kind ttl : ℕ) → a ≡ V6 n → bytes ≡ big_bytes 16 n → new ≡ o ++ record_of 49164 kind ttl bytes → new ≡ o ++ resource (address ttl kind a)
 v6 o new bytes a n kind ttl is b h = h ∙ ap (λ (l : List ℕ). o ++ record_of 49164 kind ttl l) b ∙ ap (λ (x : Addr). o ++ resource (address ttl kind x)) (sym is)
 

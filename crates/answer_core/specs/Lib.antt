@@ -4,4 +4,5 @@ pub mod Outcome
 pub mod Columns
 pub mod Sections
 pub mod Reply
+pub mod Silence
 pub mod View

@@ -17,21 +17,56 @@ use Rattle.answer_core.specs.declared.request.QueryFault.TheVariants as fault
 use Rattle.answer_core.specs.Grammar.{Request}
 use Rattle.answer_core.specs.Pick.{pick_of}
 
+-- the records of a positive answer
+pub data Records : Type 0 where
+  -- the zone's start of authority, and its name servers
+  Soa : Records
+  NameServers : Records
+  -- addresses, as records of a type: A or AAAA
+  Addresses : (kind : ℕ) (addresses : List Addr) → Records
+
 pub data Outcome : Type 0 where
   -- an EDNS version that is not spoken here (RFC 6891 6.1.3)
   BadVers : Outcome
-  -- options that break their format
-  FormErr : Outcome
-  Refused : Outcome
-  ServFail : Outcome
-  -- no such name (RFC 2308 2.1), and no record of the type (2.2)
-  NxDomain : Outcome
-  NoData : Outcome
-  -- the zone's start of authority, and its name servers
-  Soa : Outcome
-  NameServers : Outcome
-  -- records of a type, A or AAAA, and the scope that is told where a subnet was given
-  Addresses : (kind : ℕ) (addresses : List Addr) (scope : ℕ) → Outcome
+  -- an error, by its RCODE (RFC 1035 4.1.1)
+  Error : (code : ℕ) → Outcome
+  -- no such name, or no record of the type, by its RCODE (RFC 2308 2.1, 2.2)
+  Negative : (code : ℕ) → Outcome
+  -- records, and the scope that is told where a subnet was given
+  Positive : (records : Records) (scope : ℕ) → Outcome
+
+-- RCODE (RFC 1035 4.1.1): a format error, a server failure, no such name, refused, and none of these
+abbrev pub form_err : ℕ
+form_err = 1
+
+abbrev pub serv_fail : ℕ
+serv_fail = 2
+
+abbrev pub nx_domain : ℕ
+nx_domain = 3
+
+abbrev pub refused : ℕ
+refused = 5
+
+abbrev pub no_error : ℕ
+no_error = 0
+
+-- options that break their format; another class than IN, or not a name of the zone; nothing placed for the client's group
+abbrev pub FormErr : Outcome
+FormErr = Error form_err
+
+abbrev pub Refused : Outcome
+Refused = Error refused
+
+abbrev pub ServFail : Outcome
+ServFail = Error serv_fail
+
+-- no such name, and no record of the type
+abbrev pub NxDomain : Outcome
+NxDomain = Negative nx_domain
+
+abbrev pub NoData : Outcome
+NoData = Negative no_error
 
 -- the client's address: that of the subnet, where some of its bits are given, else the sender's
 abbrev pub client_of : Option SubnetOpt → Addr → Addr
@@ -58,7 +93,7 @@ pool_for v client draw = option_and_then (λ g. pool_for_group v draw g.0) (grou
 -- all addresses of the pool, in the file's order
 abbrev pub of_addresses : ℕ → List Addr → ℕ → Outcome
 of_addresses kind [] scope = NoData
-of_addresses kind (a ∷ more) scope = Addresses kind (a ∷ more) scope
+of_addresses kind (a ∷ more) scope = Positive (Addresses kind (a ∷ more)) scope
 
 abbrev pub of_pool : Version → ℕ → ℕ → Option ℕ → Outcome
 of_pool v kind scope None = ServFail
@@ -79,7 +114,7 @@ at_service v r from draw =
 
 -- the apex
 abbrev pub at_apex : ℕ → Outcome
-at_apex kind = if kind == 6 then Soa else if kind == 2 then NameServers else NoData
+at_apex kind = if kind == 6 then Positive Soa 0 else if kind == 2 then Positive NameServers 0 else NoData
 
 -- the name is that of a service in the zone: its label and the apex
 abbrev pub is_service : Zone → List ℕ → Bool

@@ -1,5 +1,5 @@
 -- The stated reply of a version to a datagram.
-use Rattle.std.specs.Prelude.{◌≡◌, ℕ, Bool, true, false, List, [], ◌∷◌, ◌++◌, length, Option, None, Some}
+use Rattle.std.specs.Prelude.{◌≡◌, ℕ, false, List, [], ◌∷◌, ◌++◌, length, Option, None, Some}
 use Rattle.std.specs.List.{flat_map}
 use Rattle.addr_text.specs.declared.address.Addr.{Addr}
 use Rattle.dns_wire.specs.declared.message.Head.{Head}
@@ -45,13 +45,3 @@ reply_of v from octets draw = reply_to v from (datagram_of octets) draw
 abbrev pub Replies : Answer → List ℕ → Option (List ℕ) → Type 0
 Replies answer.Sent octets stated = stated ≡ Some octets
 Replies answer.Silent octets stated = (stated ≡ None) × (octets ≡ [])
-
--- whether a datagram has no reply, whatever the version, the sender and the draw
-abbrev pub is_silent_datagram : Datagram → Bool
-is_silent_datagram Silent = true
-is_silent_datagram (NotImp h) = false
-is_silent_datagram (Form h) = false
-is_silent_datagram (Query r) = false
-
-abbrev pub is_silent : List ℕ → Bool
-is_silent octets = is_silent_datagram (datagram_of octets)

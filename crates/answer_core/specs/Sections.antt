@@ -9,7 +9,7 @@ use Rattle.dns_wire.specs.Message.{Extension}
 use Rattle.dns_wire.specs.Spelling.{record_of, opt, u32}
 use Rattle.topology_text.specs.declared.topology.Zone.{Zone}
 use Rattle.answer_core.specs.Columns.{extended, scope_told}
-use Rattle.answer_core.specs.Outcome.{Outcome, BadVers, FormErr, Refused, ServFail, NxDomain, NoData, Soa, NameServers, Addresses}
+use Rattle.answer_core.specs.Outcome.{Outcome, Records, BadVers, Error, Negative, Positive, Soa, NameServers, Addresses}
 
 -- a record of class IN whose name is a pointer
 pub record Resource : Type 0 where
@@ -52,29 +52,25 @@ soa z owner ttl = record { owner = owner; kind = 6; ttl = ttl; content = z.mname
 abbrev pub negative_soa : Zone → List ℕ → Resource
 negative_soa z name = soa z (apex_name z name) (min z.ttl z.minimum)
 
+-- the records of a positive answer
+abbrev pub resources : Zone → Records → List Resource
+resources z Soa = soa z question_name z.ttl ∷ []
+resources z NameServers = map (server z.ttl) z.ns
+resources z (Addresses kind addresses) = map (address z.ttl kind) addresses
+
 -- the answers
 abbrev pub answers : Zone → Outcome → List Resource
 answers z BadVers = []
-answers z FormErr = []
-answers z Refused = []
-answers z ServFail = []
-answers z NxDomain = []
-answers z NoData = []
-answers z Soa = soa z question_name z.ttl ∷ []
-answers z NameServers = map (server z.ttl) z.ns
-answers z (Addresses kind addresses scope) = map (address z.ttl kind) addresses
+answers z (Error code) = []
+answers z (Negative code) = []
+answers z (Positive records scope) = resources z records
 
 -- the authority, where that name was asked for
 abbrev pub authority : Zone → List ℕ → Outcome → List Resource
 authority z name BadVers = []
-authority z name FormErr = []
-authority z name Refused = []
-authority z name ServFail = []
-authority z name NxDomain = negative_soa z name ∷ []
-authority z name NoData = negative_soa z name ∷ []
-authority z name Soa = []
-authority z name NameServers = []
-authority z name (Addresses kind addresses scope) = []
+authority z name (Error code) = []
+authority z name (Negative code) = negative_soa z name ∷ []
+authority z name (Positive records scope) = []
 
 -- the subnet as in the query, with the scope that is told
 abbrev pub repeated : Option SubnetOpt → Option ℕ → List ℕ

@@ -4,15 +4,16 @@ ghost use Rattle.answer_core.specs.Columns.{extended, is_authoritative, rcode, s
 ghost use Rattle.answer_core.specs.View.{outcome_view};
 
 use crate::outcome::Outcome;
+use dns_wire::numbers::{BADVERS_UPPER, NOERROR};
 
 /// The flag AA.
 pub(crate) fn is_authoritative(outcome: &Outcome) -> bool
     ensures { result ≡ is_authoritative (outcome_view outcome.now) }
 {
-    !matches!(
-        outcome,
-        Outcome::BadVers | Outcome::FormErr | Outcome::Refused | Outcome::ServFail
-    )
+    match outcome {
+        Outcome::BadVers | Outcome::Error(_) => false,
+        Outcome::Negative(_) | Outcome::Positive { .. } => true,
+    }
 }
 
 /// The reply's code (RFC 1035 section 4.1.1).
@@ -20,11 +21,8 @@ pub(crate) fn rcode(outcome: &Outcome) -> u8
     ensures { result ≡ rcode (outcome_view outcome.now) }
 {
     match outcome {
-        Outcome::FormErr => 1,
-        Outcome::ServFail => 2,
-        Outcome::NxDomain => 3,
-        Outcome::Refused => 5,
-        _ => 0,
+        Outcome::BadVers | Outcome::Positive { .. } => NOERROR,
+        Outcome::Error(code) | Outcome::Negative(code) => *code,
     }
 }
 
@@ -33,8 +31,8 @@ pub(crate) fn extended(outcome: &Outcome) -> u8
     ensures { result ≡ extended (outcome_view outcome.now) }
 {
     match outcome {
-        Outcome::BadVers => 1,
-        _ => 0,
+        Outcome::BadVers => BADVERS_UPPER,
+        Outcome::Error(_) | Outcome::Negative(_) | Outcome::Positive { .. } => 0,
     }
 }
 
@@ -43,8 +41,8 @@ pub(crate) fn scope_told(outcome: &Outcome) -> Option<u8>
     ensures { result ≡ scope_told (outcome_view outcome.now) }
 {
     match outcome {
-        Outcome::Addresses { scope, .. } => Some(*scope),
-        Outcome::NxDomain | Outcome::NoData | Outcome::Soa | Outcome::NameServers => Some(0),
-        _ => None,
+        Outcome::BadVers | Outcome::Error(_) => None,
+        Outcome::Negative(_) => Some(0),
+        Outcome::Positive { scope, .. } => Some(*scope),
     }
 }

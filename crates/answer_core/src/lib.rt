@@ -2,7 +2,6 @@
 #![tactic(auto)]
 
 mod columns;
-mod kinds;
 mod outcome;
 mod picking;
 mod replying;

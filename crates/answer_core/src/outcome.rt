@@ -1,45 +1,43 @@
 //! What is replied to a query that can be read.
 ghost use Rattle.std.specs.Prelude.{◌≡◌, ◌⊎◌, ◌<◌, ◌≤◌, ℕ, if◌then◌else◌, length, option_map, IfSome, Some, None};
+ghost use Rattle.prefix_lookup.specs.Longest.{group_of};
 ghost use Rattle.topology_text.specs.Plan.{addresses_of};
 ghost use Rattle.published_map.specs.Version.{IsVersion};
-ghost use Rattle.answer_core.specs.Outcome.{answered_kind, at_apex, at_service, by_name, client_of, is_address_kind, of_addresses, outcome_of, pool_for, told_scope};
-ghost use Rattle.answer_core.specs.View.{HasFew, IsTold, outcome_view, request_view};
+ghost use Rattle.answer_core.specs.Outcome.{answered_kind, at_apex, at_service, by_name, client_of, is_address_kind, of_addresses, outcome_of, pool_for_group, told_scope};
+ghost use Rattle.answer_core.specs.View.{IsShort, outcome_view, request_view};
 
-use crate::kinds::{A, AAAA, ANY, IN, NS, SOA};
 use crate::picking::pick;
 use crate::request::{QueryFault, Request};
 use crate::services::is_service;
 use addr_text::Addr;
 use client_subnet::SubnetOpt;
-use map_model::{NodeId, Offer};
+use dns_wire::numbers::{A, AAAA, ANY, FORMERR, IN, NOERROR, NS, NXDOMAIN, REFUSED, SERVFAIL, SOA};
+use map_model::{GroupId, NodeId, Offer};
 use name_text::{same_name, under};
 use published_map::MapVersion;
+
+/// The records of a positive answer.
+#[derive(Clone, Copy)]
+pub(crate) enum Records<'a> {
+    /// The zone's start of authority.
+    Soa,
+    /// The zone's name servers.
+    NameServers,
+    /// The addresses of the picked pool, as records of one type.
+    Addresses { kind: u16, addresses: &'a [Addr] },
+}
 
 /// What is replied to a query that can be read.
 #[derive(Clone, Copy)]
 pub(crate) enum Outcome<'a> {
     /// An EDNS version that is not spoken here (RFC 6891 section 6.1.3).
     BadVers,
-    /// Options that break their format.
-    FormErr,
-    /// Another class than IN, or not a name of the zone.
-    Refused,
-    /// Nothing is placed for the client's group.
-    ServFail,
-    /// No such name in the zone (RFC 2308 section 2.1).
-    NxDomain,
-    /// No record of that type (RFC 2308 section 2.2).
-    NoData,
-    /// The zone's start of authority.
-    Soa,
-    /// The zone's name servers.
-    NameServers,
-    /// The addresses of the picked pool, of one type.
-    Addresses {
-        kind: u16,
-        addresses: &'a [Addr],
-        scope: u8,
-    },
+    /// An error: options that break their format, another class or zone, or nothing placed for the client's group.
+    Error(u8),
+    /// No such name, or no record of the type (RFC 2308 section 2).
+    Negative(u8),
+    /// Records, and the scope that is told where a subnet was given.
+    Positive { records: Records<'a>, scope: u8 },
 }
 
 /// The client's address: that of the subnet, where some of its bits are given, else the sender's.
@@ -52,23 +50,26 @@ fn client_of(subnet: Option<SubnetOpt>, from: Addr) -> Addr
     }
 }
 
-/// The scope that a reply tells: how many bits of the client's address decide it.
-fn told_scope(version: &MapVersion, subnet: Option<SubnetOpt>) -> u8
-    ensures { result ≡ told_scope version.now subnet }
+/// The client's group, and the scope that a reply tells: how many bits of the client's address decide it, 0 where none of them was given.
+fn look_up(version: &MapVersion, subnet: Option<SubnetOpt>, from: Addr) -> (GroupId, u8)
+    ensures group { group_of version.now.plan.prefixes (client_of subnet from) ≡ Some result.0 }
+    ensures there { result.0.0 < length version.now.market.groups }
+    ensures scope { result.1 ≡ told_scope version.now subnet }
 {
+    let (group, scope) = version.find_addr(client_of(subnet, from));
     match subnet {
-        Some(subnet) if subnet.source != 0 => version.scope(subnet.addr),
-        _ => 0,
+        Some(subnet) if subnet.source != 0 => (group, scope),
+        _ => (group, 0),
     }
 }
 
-/// The pool on which a draw falls for a client's group; None where nothing is placed for it.
-fn pool_for(version: &MapVersion, client: Addr, draw: u64) -> Option<NodeId>
-    requires { IsVersion version.now }
-    ensures exact { option_map (λ n. n.0) result ≡ pool_for version.now client draw }
+/// The pool on which a draw falls for a group; None where nothing is placed for it.
+fn pool_for_group(version: &MapVersion, group: GroupId, draw: u64) -> Option<NodeId>
+    requires version { IsVersion version.now }
+    requires group { group.0 < length version.now.market.groups }
+    ensures exact { option_map (λ n. n.0) result ≡ pool_for_group version.now draw group.0 }
     ensures there { IfSome result (λ n. n.0 < length version.now.plan.market.nodes) }
 {
-    let group = version.group_of_addr(client);
     let place = pick(version, group, draw)?;
     Some(version.pool_at(Offer { group, place }))
 }
@@ -85,70 +86,65 @@ fn answered_kind(kind: u16) -> Option<u16>
 }
 
 /// The addresses of a pool, of one type.
-fn at_pool<'v>(version: &'v MapVersion, pool: NodeId, kind: u16, subnet: Option<SubnetOpt>) -> Outcome<'v>
+fn at_pool<'v>(version: &'v MapVersion, pool: NodeId, kind: u16, scope: u8) -> Outcome<'v>
     requires pool { pool.0 < length version.now.plan.market.nodes }
     requires kind { (kind ≡ 1) ⊎ (kind ≡ 28) }
-    ensures exact { outcome_view result ≡ of_addresses kind (addresses_of version.now.plan pool.0 kind) (told_scope version.now subnet) }
-    ensures few { HasFew result }
-    ensures told { (size : ℕ) → IsTold size result }
+    ensures exact { outcome_view result ≡ of_addresses kind (addresses_of version.now.plan pool.0 kind) scope }
+    ensures short { (size : ℕ) → IsShort size result }
 {
     let addresses = version.addresses(pool, kind);
     if addresses.is_empty() {
-        return Outcome::NoData;
+        return Outcome::Negative(NOERROR);
     }
-    Outcome::Addresses {
-        kind,
-        addresses,
-        scope: told_scope(version, subnet),
-    }
+    let records = Records::Addresses { kind, addresses };
+    Outcome::Positive { records, scope }
 }
 
 /// A service's name.
 fn at_service<'v>(version: &'v MapVersion, request: &Request, from: Addr, draw: u64) -> Outcome<'v>
     requires { IsVersion version.now }
     ensures exact { outcome_view result ≡ at_service version.now (request_view request.now) from draw }
-    ensures few { HasFew result }
-    ensures told { (size : ℕ) → IsTold size result }
+    ensures short { (size : ℕ) → IsShort size result }
 {
     let Some(kind) = answered_kind(request.query.kind) else {
-        return Outcome::NoData;
+        return Outcome::Negative(NOERROR);
     };
-    let client = client_of(request.subnet, from);
-    let Some(pool) = pool_for(version, client, draw) else {
-        return Outcome::ServFail;
+    let (group, scope) = look_up(version, request.subnet, from);
+    let Some(pool) = pool_for_group(version, group, draw) else {
+        return Outcome::Error(SERVFAIL);
     };
-    at_pool(version, pool, kind, request.subnet)
+    at_pool(version, pool, kind, scope)
 }
 
 /// The apex.
 fn at_apex<'v>(kind: u16) -> Outcome<'v>
     ensures exact { outcome_view result ≡ at_apex kind }
-    ensures few { HasFew result }
+    ensures short { (size : ℕ) → size ≤ 64 → IsShort size result }
 {
-    match kind {
-        SOA => Outcome::Soa,
-        NS => Outcome::NameServers,
-        _ => Outcome::NoData,
-    }
+    let records = match kind {
+        SOA => Records::Soa,
+        NS => Records::NameServers,
+        _ => return Outcome::Negative(NOERROR),
+    };
+    Outcome::Positive { records, scope: 0 }
 }
 
 /// The class and the name.
 fn by_name<'v>(version: &'v MapVersion, request: &Request, from: Addr, draw: u64) -> Outcome<'v>
     requires { IsVersion version.now }
     ensures exact { outcome_view result ≡ by_name version.now (request_view request.now) from draw }
-    ensures few { HasFew result }
-    ensures told { IsTold (length request.now.query.name.now) result }
+    ensures short { IsShort (length request.now.query.name.now) result }
 {
     let zone = version.zone();
     let query = &request.query;
     if query.class != IN || !under(query.name, zone.apex.wire()) {
-        return Outcome::Refused;
+        return Outcome::Error(REFUSED);
     }
     if same_name(query.name, zone.apex.wire()) {
         return at_apex(query.kind);
     }
     if !is_service(zone, query.name) {
-        return Outcome::NxDomain;
+        return Outcome::Negative(NXDOMAIN);
     }
     at_service(version, request, from, draw)
 }
@@ -162,12 +158,11 @@ pub(crate) fn decide<'v>(
 ) -> Outcome<'v>
     requires { IsVersion version.now }
     ensures exact { outcome_view result ≡ outcome_of version.now (request_view request.now) from draw }
-    ensures few { HasFew result }
-    ensures told { IsTold (length request.now.query.name.now) result }
+    ensures short { IsShort (length request.now.query.name.now) result }
 {
     match request.fault {
         Some(QueryFault::Version) => Outcome::BadVers,
-        Some(QueryFault::Options) => Outcome::FormErr,
+        Some(QueryFault::Options) => Outcome::Error(FORMERR),
         None => by_name(version, request, from, draw),
     }
 }

@@ -5,43 +5,49 @@ ghost use Rattle.std.specs.Option.{option_map};
 ghost use Rattle.arrayvec.specs.ArrayVec.{array_vec_len};
 ghost use Rattle.client_subnet.specs.View.{IsSubnet};
 ghost use Rattle.dns_wire.specs.Message as message;
+ghost use Rattle.dns_wire.specs.Room.{HasRoom};
 ghost use Rattle.dns_wire.specs.View.{extension};
 ghost use Rattle.topology_text.specs.Plan.{IsZone};
 ghost use Rattle.answer_core.specs.Columns as columns;
 ghost use Rattle.answer_core.specs.Sections as spec;
-ghost use Rattle.answer_core.specs.View.{HasFew, outcome_view};
+ghost use Rattle.answer_core.specs.View.{AreShort, IsShort, outcome_view, records_view};
 
 use crate::columns::{extended, scope_told};
-use crate::kinds::{NS, SOA};
-use crate::outcome::Outcome;
+use crate::outcome::{Outcome, Records};
 use crate::request::Request;
 use addr_text::Addr;
 use arrayvec::ArrayVec;
 use client_subnet::{SubnetOpt, write_subnet};
-use dns_wire::octets::{ipv4_octets, ipv6_octets, put, put_u32};
-use dns_wire::{write_opt, write_record};
+use dns_wire::numbers::{NS, QUESTION_NAME, SOA};
+use dns_wire::octets::{put, u32_octets, u128_octets};
+use dns_wire::{ReplyBuffer, write_opt, write_record};
 use name_text::Name;
 use topology_text::Zone;
 
-/// A pointer to the question's name, which stands behind the header's 12 octets (RFC 1035 section 4.1.4).
-const QUESTION_NAME: u16 = 0xc00c;
-
 /// Appends the numbers of the zone's SOA record (RFC 1035 section 3.3.13).
-fn put_numbers(content: &mut ArrayVec<u8, 512>, zone: &Zone)
-    requires { array_vec_len content.old + 20 ≤ 512 }
+fn put_numbers(content: &mut ReplyBuffer, zone: &Zone)
+    requires { HasRoom (array_vec_len content.old) 20 }
     ensures { content.new.items ≡ content.old.items ++ spec.numbers_of zone.now }
 {
-    put_u32(content, zone.serial);
-    put_u32(content, zone.refresh);
-    put_u32(content, zone.retry);
-    put_u32(content, zone.expire);
-    put_u32(content, zone.minimum);
+    let serial = u32_octets(zone.serial);
+    let refresh = u32_octets(zone.refresh);
+    let retry = u32_octets(zone.retry);
+    let expire = u32_octets(zone.expire);
+    let minimum = u32_octets(zone.minimum);
+    put(
+        content,
+        &[
+            serial[0], serial[1], serial[2], serial[3], refresh[0], refresh[1], refresh[2],
+            refresh[3], retry[0], retry[1], retry[2], retry[3], expire[0], expire[1], expire[2],
+            expire[3], minimum[0], minimum[1], minimum[2], minimum[3],
+        ],
+    );
 }
 
 /// Writes the zone's SOA record.
-fn write_soa(out: &mut ArrayVec<u8, 512>, zone: &Zone, owner: u16, ttl: u32)
+fn write_soa(out: &mut ReplyBuffer, zone: &Zone, owner: u16, ttl: u32)
     requires zone { IsZone zone.now }
-    requires room { array_vec_len out.old + length (spec.resource (spec.soa zone.now owner ttl)) ≤ 512 }
+    requires room { HasRoom (array_vec_len out.old) (length (spec.resource (spec.soa zone.now owner ttl))) }
     ensures { out.new.items ≡ out.old.items ++ spec.resource (spec.soa zone.now owner ttl) }
 {
     let mut content = ArrayVec::new();
@@ -52,8 +58,8 @@ fn write_soa(out: &mut ArrayVec<u8, 512>, zone: &Zone, owner: u16, ttl: u32)
 }
 
 /// Writes the records of name servers.
-fn write_servers(out: &mut ArrayVec<u8, 512>, ttl: u32, servers: &[Name])
-    requires { array_vec_len out.old + length (flat_map spec.resource (map (spec.server ttl) servers.now)) ≤ 512 }
+fn write_servers(out: &mut ReplyBuffer, ttl: u32, servers: &[Name])
+    requires { HasRoom (array_vec_len out.old) (length (flat_map spec.resource (map (spec.server ttl) servers.now))) }
     ensures { out.new.items ≡ out.old.items ++ flat_map spec.resource (map (spec.server ttl) servers.now) }
 {
     for server in servers {
@@ -62,19 +68,19 @@ fn write_servers(out: &mut ArrayVec<u8, 512>, ttl: u32, servers: &[Name])
 }
 
 /// Writes the record of an address.
-fn write_address(out: &mut ArrayVec<u8, 512>, ttl: u32, kind: u16, address: Addr)
-    requires { array_vec_len out.old + length (spec.resource (spec.address ttl kind address)) ≤ 512 }
+fn write_address(out: &mut ReplyBuffer, ttl: u32, kind: u16, address: Addr)
+    requires { HasRoom (array_vec_len out.old) (length (spec.resource (spec.address ttl kind address))) }
     ensures { out.new.items ≡ out.old.items ++ spec.resource (spec.address ttl kind address) }
 {
     match address {
-        Addr::V4(number) => write_record(out, QUESTION_NAME, kind, ttl, &ipv4_octets(number)),
-        Addr::V6(number) => write_record(out, QUESTION_NAME, kind, ttl, &ipv6_octets(number)),
+        Addr::V4(number) => write_record(out, QUESTION_NAME, kind, ttl, &u32_octets(number)),
+        Addr::V6(number) => write_record(out, QUESTION_NAME, kind, ttl, &u128_octets(number)),
     }
 }
 
 /// Writes the records of addresses.
-fn write_addresses(out: &mut ArrayVec<u8, 512>, ttl: u32, kind: u16, addresses: &[Addr])
-    requires { array_vec_len out.old + length (flat_map spec.resource (map (spec.address ttl kind) addresses.now)) ≤ 512 }
+fn write_addresses(out: &mut ReplyBuffer, ttl: u32, kind: u16, addresses: &[Addr])
+    requires { HasRoom (array_vec_len out.old) (length (flat_map spec.resource (map (spec.address ttl kind) addresses.now))) }
     ensures { out.new.items ≡ out.old.items ++ flat_map spec.resource (map (spec.address ttl kind) addresses.now) }
 {
     for address in addresses {
@@ -82,49 +88,53 @@ fn write_addresses(out: &mut ArrayVec<u8, 512>, ttl: u32, kind: u16, addresses: 
     }
 }
 
-/// Writes the answers of a reply.
-pub(crate) fn write_answers(out: &mut ArrayVec<u8, 512>, zone: &Zone, outcome: &Outcome)
+/// Writes the records of a positive answer.
+fn write_records(out: &mut ReplyBuffer, zone: &Zone, records: &Records)
     requires zone { IsZone zone.now }
-    requires room { array_vec_len out.old + length (flat_map spec.resource (spec.answers zone.now (outcome_view outcome.now))) ≤ 512 }
+    requires room { HasRoom (array_vec_len out.old) (length (flat_map spec.resource (spec.resources zone.now (records_view records.now)))) }
+    ensures { out.new.items ≡ out.old.items ++ flat_map spec.resource (spec.resources zone.now (records_view records.now)) }
+{
+    match records {
+        Records::Soa => write_soa(out, zone, QUESTION_NAME, zone.ttl),
+        Records::NameServers => write_servers(out, zone.ttl, zone.ns.as_slice()),
+        Records::Addresses { kind, addresses } => {
+            write_addresses(out, zone.ttl, *kind, addresses);
+        }
+    }
+}
+
+/// Writes the answers of a reply.
+pub(crate) fn write_answers(out: &mut ReplyBuffer, zone: &Zone, outcome: &Outcome)
+    requires zone { IsZone zone.now }
+    requires room { HasRoom (array_vec_len out.old) (length (flat_map spec.resource (spec.answers zone.now (outcome_view outcome.now)))) }
     ensures { out.new.items ≡ out.old.items ++ flat_map spec.resource (spec.answers zone.now (outcome_view outcome.now)) }
 {
     match outcome {
-        Outcome::Soa => write_soa(out, zone, QUESTION_NAME, zone.ttl),
-        Outcome::NameServers => write_servers(out, zone.ttl, zone.ns.as_slice()),
-        Outcome::Addresses {
-            kind,
-            addresses,
-            ..
-        } => write_addresses(out, zone.ttl, *kind, addresses),
-        _ => {}
+        Outcome::BadVers | Outcome::Error(_) | Outcome::Negative(_) => {}
+        Outcome::Positive { records, .. } => write_records(out, zone, records),
     }
 }
 
 /// Writes the authority of a reply to a query for a name: the SOA record of a negative answer (RFC 2308 section 3).
-pub(crate) fn write_authority(
-    out: &mut ArrayVec<u8, 512>,
-    zone: &Zone,
-    name: &[u8],
-    outcome: &Outcome,
-)
+pub(crate) fn write_authority(out: &mut ReplyBuffer, zone: &Zone, name: &[u8], outcome: &Outcome)
     requires zone { IsZone zone.now }
     requires name { length name.now ≤ 255 }
-    requires room { array_vec_len out.old + length (flat_map spec.resource (spec.authority zone.now name.now (outcome_view outcome.now))) ≤ 512 }
+    requires room { HasRoom (array_vec_len out.old) (length (flat_map spec.resource (spec.authority zone.now name.now (outcome_view outcome.now)))) }
     ensures { out.new.items ≡ out.old.items ++ flat_map spec.resource (spec.authority zone.now name.now (outcome_view outcome.now)) }
 {
     match outcome {
-        Outcome::NxDomain | Outcome::NoData => {
+        Outcome::BadVers | Outcome::Error(_) | Outcome::Positive { .. } => {}
+        Outcome::Negative(_) => {
             let apex = QUESTION_NAME + name.len() as u16 - zone.apex.wire().len() as u16;
             write_soa(out, zone, apex, zone.ttl.min(zone.minimum));
         }
-        _ => {}
     }
 }
 
 /// Writes the client's subnet as an option, where one was given and a scope is told.
-fn write_repeated(options: &mut ArrayVec<u8, 512>, subnet: Option<SubnetOpt>, scope: Option<u8>)
+fn write_repeated(options: &mut ReplyBuffer, subnet: Option<SubnetOpt>, scope: Option<u8>)
     requires form { IfSome subnet IsSubnet }
-    requires room { array_vec_len options.old + 24 ≤ 512 }
+    requires room { HasRoom (array_vec_len options.old) 24 }
     ensures { options.new.items ≡ options.old.items ++ spec.repeated subnet scope }
 {
     if let Some(subnet) = subnet
@@ -135,9 +145,9 @@ fn write_repeated(options: &mut ArrayVec<u8, 512>, subnet: Option<SubnetOpt>, sc
 }
 
 /// Writes the OPT record of a reply, where the query has one.
-pub(crate) fn write_additional(out: &mut ArrayVec<u8, 512>, request: &Request, outcome: &Outcome)
+pub(crate) fn write_additional(out: &mut ReplyBuffer, request: &Request, outcome: &Outcome)
     requires form { IfSome request.now.subnet IsSubnet }
-    requires room { array_vec_len out.old + length (spec.additional (option_map extension request.now.query.opt) request.now.subnet (outcome_view outcome.now)) ≤ 512 }
+    requires room { HasRoom (array_vec_len out.old) (length (spec.additional (option_map extension request.now.query.opt) request.now.subnet (outcome_view outcome.now))) }
     ensures { out.new.items ≡ out.old.items ++ spec.additional (option_map extension request.now.query.opt) request.now.subnet (outcome_view outcome.now) }
 {
     if let Some(opt) = request.query.opt {
@@ -147,17 +157,28 @@ pub(crate) fn write_additional(out: &mut ArrayVec<u8, 512>, request: &Request, o
     }
 }
 
+/// How many records a positive answer has.
+fn count_of_records(zone: &Zone, records: &Records) -> u16
+    requires short { AreShort 64 records.now }
+    requires zone { IsZone zone.now }
+    ensures { result ≡ length (spec.resources zone.now (records_view records.now)) }
+{
+    match records {
+        Records::Soa => 1,
+        Records::NameServers => zone.ns.as_slice().len() as u16,
+        Records::Addresses { addresses, .. } => addresses.len() as u16,
+    }
+}
+
 /// How many answers a reply has.
 pub(crate) fn count_of_answers(zone: &Zone, outcome: &Outcome) -> u16
-    requires few { HasFew outcome.now }
+    requires short { IsShort 64 outcome.now }
     requires zone { IsZone zone.now }
     ensures { result ≡ length (spec.answers zone.now (outcome_view outcome.now)) }
 {
     match outcome {
-        Outcome::Soa => 1,
-        Outcome::NameServers => zone.ns.as_slice().len() as u16,
-        Outcome::Addresses { addresses, .. } => addresses.len() as u16,
-        _ => 0,
+        Outcome::BadVers | Outcome::Error(_) | Outcome::Negative(_) => 0,
+        Outcome::Positive { records, .. } => count_of_records(zone, records),
     }
 }
 
@@ -166,7 +187,7 @@ pub(crate) fn count_of_authority(zone: &Zone, name: &[u8], outcome: &Outcome) ->
     ensures { result ≡ length (spec.authority zone.now name.now (outcome_view outcome.now)) }
 {
     match outcome {
-        Outcome::NxDomain | Outcome::NoData => 1,
-        _ => 0,
+        Outcome::BadVers | Outcome::Error(_) | Outcome::Positive { .. } => 0,
+        Outcome::Negative(_) => 1,
     }
 }

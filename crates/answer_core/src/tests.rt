@@ -1,4 +1,6 @@
-ghost use Rattle.std.specs.Prelude.{◌<◌};
+//! Replies of worked examples, octet for octet, and of each datagram that differs from them in one octet.
+ghost use Rattle.std.specs.Prelude.{◌<◌, IfOk};
+ghost use Rattle.published_map.specs.Version.{IsVersion};
 
 use crate::{Answer, pick, reply, silent};
 use addr_text::Addr;
@@ -116,7 +118,9 @@ fn map_of(
 }
 
 /// The version of a topology and a map that is good for it.
-fn version_of(alloc: Global, text: &str, map: MapLines) -> Result<MapVersion, Fail> {
+fn version_of(alloc: Global, text: &str, map: MapLines) -> Result<MapVersion, Fail>
+    ensures { IfOk result IsVersion }
+{
     let topology = read_topology(alloc, text.as_bytes())?;
     let instance = topology.instance().try_clone()?;
     let mut room = CheckRoom::new(alloc, &instance)?;
@@ -130,7 +134,9 @@ fn version_of(alloc: Global, text: &str, map: MapLines) -> Result<MapVersion, Fa
 }
 
 /// The example and its map.
-fn example(alloc: Global) -> Result<MapVersion, Fail> {
+fn example(alloc: Global) -> Result<MapVersion, Fail>
+    ensures { IfOk result IsVersion }
+{
     let lines = [(0, 0, 8), (1, 0, 2), (1, 1, 5)];
     let map = map_of(alloc, &lines, &[(1, 0, 1), (1, 1, 0)])?;
     version_of(alloc, EXAMPLE, map)

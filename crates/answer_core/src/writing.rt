@@ -2,9 +2,10 @@
 ghost use Rattle.std.specs.Prelude.{◌≡◌, ◌≤◌, [], IfSome, length};
 ghost use Rattle.name_text.specs.Wire.{IsName};
 ghost use Rattle.client_subnet.specs.View.{IsSubnet};
+ghost use Rattle.dns_wire.specs.Room.{reply_size};
 ghost use Rattle.topology_text.specs.Plan.{IsZone};
 ghost use Rattle.answer_core.specs.Reply.{alone, full};
-ghost use Rattle.answer_core.specs.View.{HasFew, outcome_view, request_view};
+ghost use Rattle.answer_core.specs.View.{IsShort, outcome_view, request_view};
 
 use crate::columns::{is_authoritative, rcode};
 use crate::outcome::Outcome;
@@ -12,12 +13,11 @@ use crate::request::Request;
 use crate::sections::{
     count_of_answers, count_of_authority, write_additional, write_answers, write_authority,
 };
-use arrayvec::ArrayVec;
-use dns_wire::{Head, write_head, write_question};
+use dns_wire::{Head, ReplyBuffer, write_head, write_question};
 use topology_text::Zone;
 
 /// Writes a reply of the header alone.
-pub(crate) fn write_alone(out: &mut ArrayVec<u8, 512>, head: &Head, rcode: u8)
+pub(crate) fn write_alone(out: &mut ReplyBuffer, head: &Head, rcode: u8)
     requires { out.old.items ≡ [] }
     ensures { out.new.items ≡ alone head.now rcode }
 {
@@ -25,18 +25,13 @@ pub(crate) fn write_alone(out: &mut ArrayVec<u8, 512>, head: &Head, rcode: u8)
 }
 
 /// Writes a reply that repeats the question.
-pub(crate) fn write_full(
-    out: &mut ArrayVec<u8, 512>,
-    zone: &Zone,
-    request: &Request,
-    outcome: &Outcome,
-)
+pub(crate) fn write_full(out: &mut ReplyBuffer, zone: &Zone, request: &Request, outcome: &Outcome)
     requires empty { out.old.items ≡ [] }
     requires zone { IsZone zone.now }
     requires name { IsName request.now.query.name.now }
     requires form { IfSome request.now.subnet IsSubnet }
-    requires few { HasFew outcome.now }
-    requires room { length (full zone.now (request_view request.now) (outcome_view outcome.now)) ≤ 512 }
+    requires short { IsShort 64 outcome.now }
+    requires room { length (full zone.now (request_view request.now) (outcome_view outcome.now)) ≤ reply_size }
     ensures { out.new.items ≡ full zone.now (request_view request.now) (outcome_view outcome.now) }
 {
     let query = &request.query;

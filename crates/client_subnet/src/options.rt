@@ -1,46 +1,15 @@
-//! The options of an OPT record, one after the other.
-ghost use Rattle.std.specs.Prelude.{◌≡◌, ◌<◌, length, IfSome};
+//! The client subnet among the options of an OPT record.
+ghost use Rattle.std.specs.Prelude.{◌≡◌};
 ghost use Rattle.std.specs.Option.{option_map};
-ghost use Rattle.client_subnet.specs.Options.{option_in, first_in, subnet_of};
+ghost use Rattle.client_subnet.specs.Options.{first_in, subnet_of};
 ghost use Rattle.client_subnet.specs.Steps.{kept};
-ghost use Rattle.client_subnet.specs.View.{option_view, HasForm};
+ghost use Rattle.client_subnet.specs.View.{HasForm};
+ghost use Rattle.dns_wire.specs.View.{option_view};
 
 use crate::ClientSubnet;
 use crate::subnet::read_subnet;
-use dns_wire::octets::u16_in;
-
-/// The code of a client subnet.
-pub(crate) const CLIENT_SUBNET: u16 = 8;
-
-/// An option (RFC 6891 section 6.1.2): its code, and its octets.
-#[derive(Clone, Copy)]
-pub(crate) struct EdnsOption<'a> {
-    code: u16,
-    octets: &'a [u8],
-}
-
-/// An option, and what follows it.
-fn read_option(octets: &[u8]) -> Option<(EdnsOption<'_>, &[u8])>
-    ensures exact { option_map (λ x. (option_view x.0, x.1.now)) result ≡ option_in octets.now }
-    ensures shorter { IfSome result (λ x. length x.1.now < length octets.now) }
-{
-    if octets.len() < 4 {
-        return None;
-    }
-    let size = u16_in(octets, 2) as usize;
-    if octets.len() < 4 + size {
-        return None;
-    }
-    let (content, rest) = octets[4..].split_at(size);
-    let code = u16_in(octets, 0);
-    Some((
-        EdnsOption {
-            code,
-            octets: content,
-        },
-        rest,
-    ))
-}
+use dns_wire::numbers::CLIENT_SUBNET;
+use dns_wire::{EdnsOption, read_option};
 
 /// The first client subnet, with one more option.
 fn kept<'a>(first: Option<&'a [u8]>, next: EdnsOption<'a>) -> Option<&'a [u8]>

@@ -65,7 +65,20 @@ fn all_names(alloc: Global, instance: &Instance, state: &State) -> Result<Vec<Na
 }
 
 /// The map of an ended state: what is held, and for each wanted offer the refusing node nearest to
-/// its pool. It is good for the instance.
+/// its pool. It is good for the instance. The state may be kept.
+pub fn ended_map(alloc: Global, instance: &Instance, state: &State) -> Result<MapLines, NoMemory>
+    requires ready { IsReady instance.now state.now }
+    requires ended { IsEnded instance.now state.now.pointers state.now.free }
+    ensures lines { IfOk result (λ map. map.lines.items ≡ state.now.lines) }
+    ensures names { IfOk result (λ map. map.names.items ≡ names_of instance.now state.now.lines) }
+    ensures good { IfOk result (λ map. IsGood instance.now map.lines.items map.names.items) }
+{
+    let names = all_names(alloc, instance, state)?;
+    let lines = state.lines(alloc)?;
+    Ok(MapLines { lines, names })
+}
+
+/// The map of an ended state that is not wanted any more.
 pub fn finish(alloc: Global, instance: &Instance, state: State) -> Result<MapLines, NoMemory>
     requires ready { IsReady instance.now state }
     requires ended { IsEnded instance.now state.pointers state.free }
@@ -73,7 +86,5 @@ pub fn finish(alloc: Global, instance: &Instance, state: State) -> Result<MapLin
     ensures names { IfOk result (λ map. map.names.items ≡ names_of instance.now state.lines) }
     ensures good { IfOk result (λ map. IsGood instance.now map.lines.items map.names.items) }
 {
-    let names = all_names(alloc, instance, &state)?;
-    let lines = state.lines(alloc)?;
-    Ok(MapLines { lines, names })
+    ended_map(alloc, instance, &state)
 }

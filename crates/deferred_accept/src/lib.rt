@@ -6,7 +6,7 @@ mod running;
 mod work;
 mod work_list;
 
-pub use finishing::finish;
+pub use finishing::{ended_map, finish};
 pub use running::run;
 
 #[cfg(test)]

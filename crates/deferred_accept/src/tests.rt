@@ -2,7 +2,9 @@ ghost use Rattle.std.specs.Prelude.{OnOk};
 
 use crate::{finish, run};
 use evict::State;
-use map_model::{Choice, ClientGroup, GroupId, Instance, MapLine, MapLines, NameLine, Node, NodeId, Steps};
+use map_model::{
+    Choice, ClientGroup, GroupId, Instance, MapLine, MapLines, NameLine, Node, NodeId, Steps,
+};
 use no_memory::NoMemory;
 use std::alloc::Global;
 use std::test::Fail;

@@ -29,11 +29,7 @@ pub fn next_offer(instance: &Instance, state: &State, work: &mut WorkList) -> Op
 
 /// Puts the group of a proposal on the list again: in front where it alone gave up units, since its
 /// numbers are still at hand then and no other group waits for what it asks next.
-pub fn add_again(
-    work: &mut WorkList,
-    group: GroupId,
-    freed: &[Eviction],
-) -> Result<(), NoMemory>
+pub fn add_again(work: &mut WorkList, group: GroupId, freed: &[Eviction]) -> Result<(), NoMemory>
     requires { group.0 < length work.old }
     ensures { OnOk result (work.new ≡ slice_set work.old group.0 true) }
 {

@@ -1,5 +1,9 @@
 mod LimitsAre
 mod Digits
 mod Spaces
+mod FileLines
 pub mod Fronts
 pub mod Items
+mod Tellings
+pub mod Worked
+pub mod Ends

@@ -8,3 +8,8 @@ pub mod Changing
 pub mod Item
 pub mod Clerk
 pub mod Texts
+pub mod Changes
+pub mod ChangesTexts
+pub mod Taking
+pub mod Runs
+pub mod Working

@@ -5,16 +5,26 @@
 #![tactic(auto)]
 
 mod batch;
+mod changes;
 mod clerk;
 mod cutter;
 mod fault;
 mod limits;
 mod line;
+mod pieces;
+mod run;
+mod takes;
 mod words;
 
 pub use batch::{Batch, apply};
+pub use changes::{ChangesFault, read_changes};
 pub use clerk::{Clerk, Next};
 pub use cutter::Cutter;
 pub use fault::{BatchFault, LineFault, Refusal};
 pub use limits::{LONGEST_LINE, LONGEST_QUERY, MOST_CHANGES, MOST_TURNS, READ_SIZE};
 pub use line::{Line, read_line};
+pub use run::{FeedEnd, Intake, run_lines};
+pub use takes::{Taken, TakesItems};
+
+#[cfg(test)]
+mod tests;

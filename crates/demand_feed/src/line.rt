@@ -6,6 +6,7 @@ ghost use Rattle.std.specs.Str.Parse.{digits_value};
 ghost use Rattle.hex.specs.Hex.{is_hex_digit};
 ghost use Rattle.demand_feed.specs.Line.{Said, alone, ask_of, by_word, by_words, capacity, change_of, demand, is_hex, is_number, is_visible, line_of, two_of, words_of};
 ghost use Rattle.demand_feed.specs.SaidBy.{IsShort, said_by};
+ghost use Rattle.demand_feed.specs.Changing.{IsChangeLine};
 ghost use Rattle.demand_feed.specs.declared.limits.TheConstants.{LONGEST_LINE};
 
 use crate::LineFault;
@@ -38,7 +39,7 @@ fn is_visible(b: u8) -> bool
     matches!(b, 32..=126)
 }
 
-fn are_visible(text: &[u8]) -> bool
+pub(crate) fn are_visible(text: &[u8]) -> bool
     ensures { result ≡ list_all is_visible text.now }
 {
     text.iter().all(|b| is_visible(*b))
@@ -141,7 +142,8 @@ fn alone<'a>(line: Line<'a>, rest: &[u8]) -> Result<Line<'a>, LineFault>
 }
 
 /// The change of a group.
-fn demand_line(rest: &[u8]) -> Result<Line<'_>, LineFault>
+pub(crate) fn demand_line(rest: &[u8]) -> Result<Line<'_>, LineFault>
+    ensures change { IfOk result IsChangeLine }
     ensures short { IfOk result (IsShort (length rest.now)) }
     ensures said { MatchResult result (λ l. change_of demand (two_of (words_of rest.now)) ≡ Ok (said_by l)) (λ e. change_of demand (two_of (words_of rest.now)) ≡ Err e) }
 {
@@ -152,7 +154,8 @@ fn demand_line(rest: &[u8]) -> Result<Line<'_>, LineFault>
 }
 
 /// The change of a node.
-fn capacity_line(rest: &[u8]) -> Result<Line<'_>, LineFault>
+pub(crate) fn capacity_line(rest: &[u8]) -> Result<Line<'_>, LineFault>
+    ensures change { IfOk result IsChangeLine }
     ensures short { IfOk result (IsShort (length rest.now)) }
     ensures said { MatchResult result (λ l. change_of capacity (two_of (words_of rest.now)) ≡ Ok (said_by l)) (λ e. change_of capacity (two_of (words_of rest.now)) ≡ Err e) }
 {

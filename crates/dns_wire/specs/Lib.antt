@@ -1,3 +1,5 @@
+pub mod Room
+pub mod Edns
 pub mod Wire
 pub mod Message
 pub mod Steps

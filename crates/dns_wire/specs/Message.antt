@@ -1,5 +1,5 @@
 -- What a datagram is: each list of octets is exactly one of these.
-use Rattle.std.specs.Prelude.{ℕ, ◌/◌, ◌%◌, Bool, false, ◌&&◌, ◌||◌, ◌==◌, nat_lt, nat_le, not, if◌then◌else◌, List, [], ◌∷◌, length, drop, filter, slice_index, Option, None, Some}
+use Rattle.std.specs.Prelude.{ℕ, ◌/◌, ◌%◌, ◌^◌, Bool, false, ◌&&◌, ◌||◌, ◌==◌, nat_lt, nat_le, not, if◌then◌else◌, List, [], ◌∷◌, length, drop, filter, slice_index, Option, None, Some}
 use Rattle.std.specs.Option.{option_map_or}
 use Rattle.dns_wire.specs.declared.message.Head.{Head}
 use Rattle.dns_wire.specs.Wire.{◌>>=◌, Record, name_in, records_in, u16_at}
@@ -43,8 +43,9 @@ has_one_question octets = (u16_at 4 octets == 1) && (u16_at 6 octets == 0) && (u
 abbrev pub is_opt : Record → Bool
 is_opt r = r.kind == 41
 
+-- in the place of a TTL stand an octet of the reply's code, the version, and 16 flags of which the first is DO (RFC 6891 6.1.3)
 abbrev pub extension_of : Record → Extension
-extension_of r = record { payload = r.class; version = r.ttl_high % 256; dnssec_ok = nat_le 32768 r.ttl_low; options = r.content }
+extension_of r = record { payload = r.class; version = r.ttl / 2 ^ 16 % 2 ^ 8; dnssec_ok = nat_le (2 ^ 15) (r.ttl % 2 ^ 16); options = r.content }
 
 -- the single octet 0
 abbrev pub is_root : List ℕ → Bool
@@ -68,10 +69,14 @@ query_in octets = do
   opt ← if nat_lt (length name.1) 4 then None else opt_in (u16_at 10 octets) (drop 4 name.1)
   Some (record { head = head_of octets; name = name.0; kind = u16_at 0 name.1; class = u16_at 2 name.1; opt = opt })
 
+-- nothing that is replied to: too short, too long, or a response
+abbrev pub is_silent : List ℕ → Bool
+is_silent octets = nat_lt (length octets) 12 || nat_lt 4096 (length octets) || is_response octets
+
 -- which case it is
 unfoldable pub reading : List ℕ → Reading
 reading octets =
-    if nat_lt (length octets) 12 || nat_lt 4096 (length octets) || is_response octets then Silent
+    if is_silent octets then Silent
     else if not (opcode_of octets == 0) then NotImp (head_of octets)
     else if not (has_one_question octets) then Form (head_of octets)
     else option_map_or Query (query_in octets) (Form (head_of octets))

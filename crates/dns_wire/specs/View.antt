@@ -6,6 +6,8 @@ use Rattle.dns_wire.specs.declared.message.Query.{Query}
 use Rattle.dns_wire.specs.declared.message.Message.{Message}
 use Rattle.dns_wire.specs.declared.message.Message.TheVariants as message
 use Rattle.dns_wire.specs.declared.record.Record.{Record}
+use Rattle.dns_wire.specs.declared.edns.EdnsOption as code
+use Rattle.dns_wire.specs.Edns.{EdnsOption}
 use Rattle.dns_wire.specs.Wire as wire
 use Rattle.dns_wire.specs.Message.{Extension, Asked, Reading}
 use Rattle.dns_wire.specs.Message as meaning
@@ -23,7 +25,7 @@ view (message.Form h) = meaning.Form h
 view (message.Query q) = meaning.Query (asked q)
 
 abbrev pub record_view : Record → wire.Record
-record_view r = record { owner = r.owner.now; kind = r.kind; class = r.class; ttl_high = r.ttl_high; ttl_low = r.ttl_low; content = r.content.now }
+record_view r = record { owner = r.owner.now; kind = r.kind; class = r.class; ttl = r.ttl; content = r.content.now }
 
 -- the name of a query is a name
 abbrev pub HasName : Message → Type 0
@@ -31,3 +33,6 @@ HasName message.Silent = Unit {0}
 HasName (message.NotImp h) = Unit {0}
 HasName (message.Form h) = Unit {0}
 HasName (message.Query q) = IsName q.name.now
+
+abbrev pub option_view : code.EdnsOption → EdnsOption
+option_view o = record { code = o.code; octets = o.octets.now }

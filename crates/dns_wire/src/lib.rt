@@ -3,8 +3,10 @@
 //! Reading looks at the datagram in place and stops at the first field that is not whole, so it takes no memory and no more steps than the datagram has octets, whatever its counts say.
 #![tactic(auto)]
 
+mod edns;
 mod message;
 mod name;
+pub mod numbers;
 pub mod octets;
 mod reading;
 mod record;
@@ -12,6 +14,8 @@ mod record;
 mod tests;
 mod writing;
 
+pub use edns::{EdnsOption, read_option};
 pub use message::{Head, Message, Opt, Query};
-pub use reading::read_query;
+pub use octets::ReplyBuffer;
+pub use reading::{is_silent, read_query};
 pub use writing::{write_head, write_opt, write_question, write_record};

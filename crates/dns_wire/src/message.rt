@@ -1,6 +1,6 @@
 //! What a datagram is.
 
-/// What a reply repeats of a query's header (RFC 1035 section 4.1.1).
+/// What a reply repeats of a query's header (RFC 1035 section 4.1.1): ID, OPCODE and RD.
 #[derive(Clone, Copy, Debug, PartialEq, Eq)]
 pub struct Head {
     pub id: u16,
@@ -13,7 +13,7 @@ pub struct Head {
 /// The OPT record of a query (RFC 6891 section 6.1), as its octets say.
 #[derive(Clone, Copy, Debug, PartialEq, Eq)]
 pub struct Opt<'a> {
-    /// The size of a reply that the asker takes, in octets.
+    /// The requestor's UDP payload size: how many octets of a reply the asker takes.
     pub payload: u16,
     pub version: u8,
     /// The asker takes DNSSEC records (RFC 3225).
@@ -28,9 +28,9 @@ pub struct Query<'a> {
     pub head: Head,
     /// The name that is asked for: labels with their lengths, and the 0 at the end; at most 255 octets, no pointer.
     pub name: &'a [u8],
-    /// QTYPE.
+    /// QTYPE (RFC 1035 section 3.2.3).
     pub kind: u16,
-    /// QCLASS.
+    /// QCLASS (RFC 1035 section 3.2.5).
     pub class: u16,
     pub opt: Option<Opt<'a>>,
 }

@@ -4,6 +4,8 @@ ghost use Rattle.std.specs.Option.{option_map};
 ghost use Rattle.name_text.specs.Wire.{IsName};
 ghost use Rattle.dns_wire.specs.Wire.{name_len, name_in};
 
+use crate::numbers::LONGEST_NAME;
+
 /// How many octets the name takes at the front.
 fn name_length(octets: &[u8], pointers: bool) -> Option<usize>
     ensures exact { result ≡ name_len pointers 0 octets.now }
@@ -27,7 +29,7 @@ pub(crate) fn read_name(octets: &[u8], pointers: bool) -> Option<(&[u8], &[u8])>
     ensures name { pointers ≡ false → IfSome result (λ x. IsName x.0.now) }
 {
     let length = name_length(octets, pointers)?;
-    if length > 255 {
+    if length > LONGEST_NAME {
         return None;
     }
     Some(octets.split_at(length))

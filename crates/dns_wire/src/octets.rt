@@ -2,11 +2,15 @@
 ghost use Rattle.std.specs.Prelude.{◌≡◌, ◌≤◌, ◌+◌, ◌++◌, length};
 ghost use Rattle.arrayvec.specs.ArrayVec.{array_vec_len};
 ghost use Rattle.byteorder.specs.Endian.{big_bytes};
-ghost use Rattle.dns_wire.specs.Spelling as spelling;
-ghost use Rattle.dns_wire.specs.Wire.{u16_at};
+ghost use Rattle.dns_wire.specs.Room.{HasRoom};
+ghost use Rattle.dns_wire.specs.Wire.{u16_at, u32_at};
 
+use crate::numbers::REPLY_SIZE;
 use arrayvec::ArrayVec;
 use byteorder::{BigEndian, ByteOrder};
+
+/// The octets of a reply.
+pub type ReplyBuffer = ArrayVec<u8, REPLY_SIZE>;
 
 /// The number of 16 bits that begins at an octet.
 pub fn u16_in(octets: &[u8], at: usize) -> u16
@@ -16,8 +20,25 @@ pub fn u16_in(octets: &[u8], at: usize) -> u16
     BigEndian::read_u16(&octets[at..at + 2])
 }
 
-/// The octets of an IPv4 address (RFC 1035 section 3.4.1).
-pub fn ipv4_octets(number: u32) -> [u8; 4]
+/// The number of 32 bits that begins at an octet.
+pub fn u32_in(octets: &[u8], at: usize) -> u32
+    requires { at + 4 ≤ length octets.now }
+    ensures { result ≡ u32_at at octets.now }
+{
+    BigEndian::read_u32(&octets[at..at + 4])
+}
+
+/// The octets of a number of 16 bits.
+pub fn u16_octets(number: u16) -> [u8; 2]
+    ensures { result ≡ big_bytes 2 number }
+{
+    let mut octets = [0; 2];
+    BigEndian::write_u16(&mut octets, number);
+    octets
+}
+
+/// The octets of a number of 32 bits, as of an IPv4 address (RFC 1035 section 3.4.1).
+pub fn u32_octets(number: u32) -> [u8; 4]
     ensures { result ≡ big_bytes 4 number }
 {
     let mut octets = [0; 4];
@@ -25,8 +46,8 @@ pub fn ipv4_octets(number: u32) -> [u8; 4]
     octets
 }
 
-/// The octets of an IPv6 address (RFC 3596 section 2.2).
-pub fn ipv6_octets(number: u128) -> [u8; 16]
+/// The octets of a number of 128 bits, as of an IPv6 address (RFC 3596 section 2.2).
+pub fn u128_octets(number: u128) -> [u8; 16]
     ensures { result ≡ big_bytes 16 number }
 {
     let mut octets = [0; 16];
@@ -35,32 +56,10 @@ pub fn ipv6_octets(number: u128) -> [u8; 16]
 }
 
 /// Appends octets.
-pub fn put(out: &mut ArrayVec<u8, 512>, octets: &[u8])
-    requires { array_vec_len out.old + length octets.now ≤ 512 }
+pub fn put(out: &mut ReplyBuffer, octets: &[u8])
+    requires { HasRoom (array_vec_len out.old) (length octets.now) }
     ensures items { out.new.items ≡ out.old.items ++ octets.now }
     ensures len { array_vec_len out.new ≡ array_vec_len out.old + length octets.now }
 {
     let _ = out.try_extend_from_slice(octets);
-}
-
-/// Appends a number of 16 bits.
-pub fn put_u16(out: &mut ArrayVec<u8, 512>, number: u16)
-    requires { array_vec_len out.old + 2 ≤ 512 }
-    ensures items { out.new.items ≡ out.old.items ++ spelling.u16 number }
-    ensures len { array_vec_len out.new ≡ array_vec_len out.old + 2 }
-{
-    let mut octets = [0; 2];
-    BigEndian::write_u16(&mut octets, number);
-    put(out, &octets);
-}
-
-/// Appends a number of 32 bits.
-pub fn put_u32(out: &mut ArrayVec<u8, 512>, number: u32)
-    requires { array_vec_len out.old + 4 ≤ 512 }
-    ensures items { out.new.items ≡ out.old.items ++ spelling.u32 number }
-    ensures len { array_vec_len out.new ≡ array_vec_len out.old + 4 }
-{
-    let mut octets = [0; 4];
-    BigEndian::write_u32(&mut octets, number);
-    put(out, &octets);
 }

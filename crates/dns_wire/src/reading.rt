@@ -2,10 +2,11 @@
 ghost use Rattle.std.specs.Prelude.{◌≡◌, ◌≤◌, length, IfSome};
 ghost use Rattle.std.specs.Option.{option_map};
 ghost use Rattle.name_text.specs.Wire.{IsName};
-ghost use Rattle.dns_wire.specs.Message.{reading, head_of, query_in};
+ghost use Rattle.dns_wire.specs.Message.{reading, head_of, is_silent, query_in};
 ghost use Rattle.dns_wire.specs.View.{view, HasName, asked};
 
 use crate::name::read_name;
+use crate::numbers::{HEADER_SIZE, LONGEST_DATAGRAM};
 use crate::octets::u16_in;
 use crate::record::read_opt;
 use crate::{Head, Message, Query};
@@ -30,7 +31,7 @@ fn read_body(head: Head, octets: &[u8]) -> Option<Query<'_>>
     ensures exact { option_map asked result ≡ query_in octets.now }
     ensures name { IfSome result (λ q. IsName q.name.now) }
 {
-    let (name, rest) = read_name(&octets[12..], false)?;
+    let (name, rest) = read_name(&octets[HEADER_SIZE..], false)?;
     if rest.len() < 4 {
         return None;
     }
@@ -42,6 +43,13 @@ fn read_body(head: Head, octets: &[u8]) -> Option<Query<'_>>
         class: u16_in(rest, 2),
         opt,
     })
+}
+
+/// Whether a datagram is nothing that is replied to: its length and its third octet say so.
+pub fn is_silent(octets: &[u8]) -> bool
+    ensures { result ≡ is_silent octets.now }
+{
+    octets.len() < HEADER_SIZE || octets.len() > LONGEST_DATAGRAM || octets[2] >= 0x80
 }
 
 /// What a datagram is, by the first of these that holds:
@@ -57,7 +65,7 @@ pub fn read_query(octets: &[u8]) -> Message<'_>
     ensures exact { view result ≡ reading octets.now }
     ensures name { HasName result }
 {
-    if octets.len() < 12 || octets.len() > 4096 || octets[2] >= 0x80 {
+    if is_silent(octets) {
         return Message::Silent;
     }
     let head = read_head(octets);

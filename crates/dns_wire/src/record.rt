@@ -8,10 +8,8 @@ ghost use Rattle.dns_wire.specs.View.{extension, record_view};
 
 use crate::Opt;
 use crate::name::read_name;
-use crate::octets::u16_in;
-
-/// The TYPE of an OPT record.
-pub(crate) const OPT: u16 = 41;
+use crate::numbers::OPT;
+use crate::octets::{u16_in, u32_in};
 
 /// A record of a message.
 #[derive(Clone, Copy)]
@@ -19,8 +17,7 @@ pub(crate) struct Record<'a> {
     owner: &'a [u8],
     kind: u16,
     class: u16,
-    ttl_high: u16,
-    ttl_low: u16,
+    ttl: u32,
     content: &'a [u8],
 }
 
@@ -41,8 +38,7 @@ fn read_fields<'a>(owner: &'a [u8], octets: &'a [u8]) -> Option<(Record<'a>, &'a
         owner,
         kind: u16_in(octets, 0),
         class: u16_in(octets, 2),
-        ttl_high: u16_in(octets, 4),
-        ttl_low: u16_in(octets, 6),
+        ttl: u32_in(octets, 4),
         content,
     };
     Some((record, rest))
@@ -69,8 +65,8 @@ fn with_record<'a>(found: Option<Opt<'a>>, next: Record<'a>) -> Option<Option<Op
     }
     Some(Some(Opt {
         payload: next.class,
-        version: (next.ttl_high & 0xff) as u8,
-        dnssec_ok: next.ttl_low >= 0x8000,
+        version: ((next.ttl >> 16) & 0xff) as u8,
+        dnssec_ok: next.ttl & 0xffff >= 0x8000,
         options: next.content,
     }))
 }

@@ -12,12 +12,13 @@ use Rattle.stable_check.specs.declared.verdict.Verdict.{Verdict}
 use Rattle.stable_check.specs.declared.verdict.Verdict.TheVariants.{Good, BadLine, OverDemand, OverCapacity, Blocking, BadName}
 use Rattle.glb_program.specs.declared.status.Status.{Status}
 use Rattle.glb_program.specs.declared.status.Status.TheVariants as status
-use Rattle.glb_program.specs.Words.{Ask, check, map_from, answer}
+use Rattle.glb_program.specs.Words.{Ask, check, map_from, answer, repair}
 use Rattle.glb_program.specs.Outcome.{Faults, HasCauses, Outcome, Outside, RunsBy}
-use Rattle.glb_program.specs.Files.{Kind, Reads, Says, said, map_file, topology_file}
+use Rattle.glb_program.specs.Files.{Kind, Reads, Says, said, changes_file, map_file, topology_file}
 use Rattle.glb_program.specs.Check.{HoldsGoodMap, IsCheckDue, IsJudged, status_of}
 use Rattle.glb_program.specs.Map.{HoldsTopology, IsMapDue, IsMapped}
 use Rattle.glb_program.specs.Answer.{IsAnswerDue, IsAnswered}
+use Rattle.glb_program.specs.Repair.{HoldsChanges, IsRepairDue, IsRepairOf}
 use Rattle.glb_program.specs.Datagram.{Datagram}
 use Rattle.glb_program.specs.Run.{IsRun, IsSound}
 
@@ -67,6 +68,18 @@ well_answered topology map d shelf due held h =
       | inr other ↦ absurd (other.not_good (only_good t.market m.lines m.names other.verdict other.judged held.4))
     ]
 
+well_repaired : (topology map changes : List ℕ) (shelf : Shelved) (due : Outcome) → HoldsChanges topology map changes (Some shelf) → IsRepairDue topology map changes (Some shelf) due → due.status ≡ status.Ok
+well_repaired topology map changes shelf due held h =
+    let t = held.0 in
+    let m = held.1 in
+    let c = held.2 in
+    let first = reads_on topology_file shelf topology (λ x. Reads (map_file x) (Some shelf) map (λ y. Reads (changes_file x) (Some shelf) changes (IsRepairOf x y))) due t held.3 h in
+    let second = reads_on (map_file t) shelf map (λ y. Reads (changes_file t) (Some shelf) changes (IsRepairOf t y)) due m held.4 first in
+    elim (reads_on (changes_file t) shelf changes (IsRepairOf t m) due c held.5 second) [
+      | inl repaired ↦ repaired.status
+      | inr other ↦ absurd (other.not_good (only_good t.market m.lines m.names other.verdict other.judged held.6))
+    ]
+
 -- the end of a run whose outcome is status 0
 ends_well : (Due : Outcome → Type 0) (before after : Outside) (counts later : Faults) (result : Status) → RunsBy Due before.out after.out result → ((due : Outcome) → Due due → due.status ≡ status.Ok)
     → HasCauses counts later result → (Rose counts.files later.files → ⊥) → (Rose counts.out later.out → ⊥) → (result ≡ status.Ok) ⊎ (result ≡ status.NoMemory)
@@ -96,3 +109,9 @@ complete_run (Some (answer topology map datagram)) before after counts later res
     well : (files : Option Shelved) → IsSome files → HoldsGoodMap topology map files → (due : Outcome) → IsAnswerDue topology map datagram files due → due.status ≡ status.Ok
     well None told held due h = absurd (cc)
     well (Some shelf) told held due h = well_answered topology map datagram shelf due held h
+complete_run (Some (repair topology map changes)) before after counts later result run causes told sound files out =
+    ends_well (IsRepairDue topology map changes before.files) before after counts later result run (well before.files told sound) causes files out
+  where
+    well : (files : Option Shelved) → IsSome files → HoldsChanges topology map changes files → (due : Outcome) → IsRepairDue topology map changes files due → due.status ≡ status.Ok
+    well None told held due h = absurd (cc)
+    well (Some shelf) told held due h = well_repaired topology map changes shelf due held h

@@ -11,13 +11,15 @@ use Rattle.topology_text.specs.Plan.{Plan}
 use Rattle.map_text.specs.Reading.{Mapped}
 use Rattle.glb_program.specs.declared.status.Status.{Status}
 use Rattle.glb_program.specs.declared.status.Status.TheVariants as status
-use Rattle.glb_program.specs.Words.{Ask, check, map_from, answer}
+use Rattle.glb_program.specs.Words.{Ask, check, map_from, answer, repair}
 use Rattle.glb_program.specs.Outcome.{IsPrinted, Outcome, Outside, RunsBy}
-use Rattle.glb_program.specs.Files.{Kind, Reads, Says, map_file, topology_file}
+use Rattle.glb_program.specs.Files.{Kind, Reads, Says, changes_file, map_file, topology_file}
 use Rattle.glb_program.specs.Check.{IsCheckDue, IsCheckedRun, IsJudged, status_of}
 use Rattle.glb_program.specs.Map.{IsMapDue, IsMapped, IsMappedRun}
 use Rattle.glb_program.specs.Answer.{AreReply, IsAnswerDue, IsAnswered, IsAnsweredRun}
+use Rattle.glb_program.specs.Repair.{AreRepaired, IsRepairDue, IsRepairOf, IsRepairedRun}
 use Rattle.glb_program.specs.Datagram.{Datagram}
+use Rattle.map_model.specs.declared.change.Change.{Change}
 use Rattle.glb_program.specs.Run.{IsGoodRun, IsRun}
 use Rattle.glb_program.specs.Texts as text
 use Rattle.glb_program.proofs.Plans.{is_plan}
@@ -65,6 +67,20 @@ well_answered topology map d before after due h ok puts =
     let second = well_read (map_file t) before.files map (IsAnswered d t) due first.2 ok in
     (t, second.0, due.pieces, is_plan before.files topology t first.1, first.1, second.1, replied t second.0 d due second.2 ok, puts)
 
+is_repaired : (t : Plan) (m : Mapped) (c : List Change) (due : Outcome) → IsRepairOf t m c due → due.status ≡ status.Ok → AreRepaired t m c due.pieces
+is_repaired t m c due (inl repaired) ok = repaired.repaired
+is_repaired t m c due (inr other) ok = let same : due.status ≡ status.NotGood = ap (λ (o : Outcome). o.status) other.outcome in absurd (cc)
+
+well_repaired : (topology map changes : List ℕ) (before after : Outside) (due : Outcome) → IsRepairDue topology map changes before.files due → due.status ≡ status.Ok → BothTell before.out after.out (IsPrinted due.pieces)
+    → IsRepairedRun topology map changes before after
+well_repaired topology map changes before after due h ok puts =
+    let first = well_read topology_file before.files topology (λ t. Reads (map_file t) before.files map (λ m. Reads (changes_file t) before.files changes (IsRepairOf t m))) due h ok in
+    let t = first.0 in
+    let second = well_read (map_file t) before.files map (λ m. Reads (changes_file t) before.files changes (IsRepairOf t m)) due first.2 ok in
+    let m = second.0 in
+    let third = well_read (changes_file t) before.files changes (IsRepairOf t m) due second.2 ok in
+    (t, m, third.0, due.pieces, is_plan before.files topology t first.1, first.1, second.1, third.1, is_repaired t m third.0 due third.2 ok, puts)
+
 -- a run with status 0 comes out well
 whole_run : (Due : Outcome → Type 0) (P : Type 0) (before after : Option Written) (result : Status) → RunsBy Due before after result → result ≡ status.Ok
     → ((due : Outcome) → Due due → due.status ≡ status.Ok → BothTell before after (IsPrinted due.pieces) → P) → P
@@ -82,3 +98,5 @@ good_run (Some (map_from topology)) before after result run ok =
     whole_run (IsMapDue topology before.files) (IsMappedRun topology before after) before.out after.out result run ok (well_mapped topology before after)
 good_run (Some (answer topology map d)) before after result run ok =
     whole_run (IsAnswerDue topology map d before.files) (IsAnsweredRun topology map d before after) before.out after.out result run ok (well_answered topology map d before after)
+good_run (Some (repair topology map changes)) before after result run ok =
+    whole_run (IsRepairDue topology map changes before.files) (IsRepairedRun topology map changes before after) before.out after.out result run ok (well_repaired topology map changes before after)

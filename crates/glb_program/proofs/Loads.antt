@@ -1,5 +1,5 @@
 -- The loads of one file after another.
-use Rattle.std.proofs.Common.{◌≡◌, ◌≤◌, ℕ, suc, List, [], ◌∷◌, ◌++◌, length, take, Option, None, Some, Result, Ok, Err, option_map, refl, ap, sym, ◌∙◌, append_assoc, inl, inr, arith}
+use Rattle.std.proofs.Common.{◌≡◌, ◌≤◌, ℕ, zero, suc, List, [], ◌∷◌, ◌++◌, length, take, Option, None, Some, Result, Ok, Err, option_map, refl, ap, sym, ◌∙◌, append_assoc, inl, inr, arith}
 use Rattle.std.proofs.Math.Seq.{take-length}
 use Rattle.outside.specs.Faults.{BothTell, Rose, raised}
 use Rattle.outside.specs.Shelf.{Load, Shelved}
@@ -39,7 +39,7 @@ noted_then kind name next that (Some x) (Some y) (Some z) one says two =
     let a = load_of kind name in
     let k = two.loads.0 in
     let behind : loads_behind (option_map (said kind) (x.holds name)) (λ t. next t x.holds) ≡ next that y.holds =
-        ap (λ o. loads_behind (option_map (said kind) o) (λ t. next t x.holds)) says.1 ∙ ap (λ r. loads_behind (Some r) (λ t. next t x.holds)) says.2 ∙ ap (next that) (sym one.files) in
+    ap (λ o. loads_behind (option_map (said kind) o) (λ t. next t x.holds)) says.1 ∙ ap (λ r. loads_behind (Some r) (λ t. next t x.holds)) says.2 ∙ ap (next that) (sym one.files) in
     record {
       files = two.files ∙ one.files;
       loads = (
@@ -62,18 +62,18 @@ loaded_then kind name next that (Some x) (Some y) None one says two = absurd two
 loaded_then kind name next that (Some x) (Some y) (Some z) one says two =
     let a = load_of kind name in
     let behind : loads_behind (option_map (said kind) (x.holds name)) (λ t. next t x.holds) ≡ next that y.holds =
-        ap (λ o. loads_behind (option_map (said kind) o) (λ t. next t x.holds)) says.1 ∙ ap (λ r. loads_behind (Some r) (λ t. next t x.holds)) says.2 ∙ ap (next that) (sym one.files) in
+    ap (λ o. loads_behind (option_map (said kind) o) (λ t. next t x.holds)) says.1 ∙ ap (λ r. loads_behind (Some r) (λ t. next t x.holds)) says.2 ∙ ap (next that) (sym one.files) in
     record {
       files = two.files ∙ one.files;
       loads = two.loads ∙ ap (λ ls. ls ++ next that y.holds) one.loads ∙ append_assoc x.loads (a ∷ []) (next that y.holds) ∙ ap (λ ls. x.loads ++ (a ∷ ls)) (sym behind);
     }
 
 take_one : (k : ℕ) (a : Load) (rest : List Load) → (j : ℕ) × (take k (a ∷ []) ≡ take j (a ∷ rest))
-take_one 0 a rest = (0, refl)
+take_one zero a rest = (0, refl)
 take_one (suc k) a rest = (1, take_all k)
   where
     take_all : (k : ℕ) → a ∷ take k [] ≡ a ∷ []
-    take_all 0 = refl
+    take_all zero = refl
     take_all (suc k) = refl
 
 -- the first load may have failed
@@ -93,7 +93,7 @@ loaded_first kind name next None (Some y) due h refused = absurd h
 loaded_first kind name next (Some x) None due h refused = absurd h
 loaded_first kind name next (Some x) (Some y) due h refused =
     let nothing : loads_behind (option_map (said kind) (x.holds name)) (λ t. next t x.holds) ≡ [] =
-        ap (λ o. loads_behind (option_map (said kind) o) (λ t. next t x.holds)) refused.2 ∙ ap (λ r. loads_behind (Some r) (λ t. next t x.holds)) refused.3 in
+    ap (λ o. loads_behind (option_map (said kind) o) (λ t. next t x.holds)) refused.2 ∙ ap (λ r. loads_behind (Some r) (λ t. next t x.holds)) refused.3 in
     record { files = h.files; loads = h.loads ∙ ap (λ ls. x.loads ++ (load_of kind name ∷ ls)) (sym nothing) }
 
 rose_later : (a b c : ℕ) → a ≤ b → Rose b c → Rose a c

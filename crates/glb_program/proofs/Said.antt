@@ -6,13 +6,15 @@ use Rattle.stable_check.specs.declared.verdict.Verdict.TheVariants.{Good, BadLin
 use Rattle.topology_text.specs.Plan.{Plan}
 use Rattle.map_text.specs.Reading.{Mapped}
 use Rattle.glb_program.specs.declared.status.Status.{Status}
-use Rattle.glb_program.specs.Words.{Ask, check, map_from, answer}
+use Rattle.glb_program.specs.Words.{Ask, check, map_from, answer, repair}
 use Rattle.glb_program.specs.Outcome.{IsSaid, IsSaidStatus, Outcome}
 use Rattle.glb_program.specs.Datagram.{Datagram}
-use Rattle.glb_program.specs.Files.{Kind, Reads, map_file, topology_file}
+use Rattle.glb_program.specs.Files.{Kind, Reads, changes_file, map_file, topology_file}
 use Rattle.glb_program.specs.Check.{IsJudged, status_of}
 use Rattle.glb_program.specs.Map.{IsMapped}
 use Rattle.glb_program.specs.Answer.{IsAnswered}
+use Rattle.glb_program.specs.Repair.{IsRepairOf}
+use Rattle.map_model.specs.declared.change.Change.{Change}
 use Rattle.glb_program.specs.Run.{IsDue}
 
 -- an outcome of one text, with such a status
@@ -42,9 +44,16 @@ answered_said : (d : Datagram) (t : Plan) (m : Mapped) (due : Outcome) → IsAns
 answered_said d t m due (inl replied) = record { status = subst IsSaidStatus (sym replied.status) tt; one = ap (λ (ps : List (List ℕ)). length ps) replied.reply.text }
 answered_said d t m due (inr other) = one_text due _ _ tt other.outcome
 
+repair_said : (t : Plan) (m : Mapped) (c : List Change) (due : Outcome) → IsRepairOf t m c due → IsSaid due
+repair_said t m c due (inl repaired) = record { status = subst IsSaidStatus (sym repaired.status) tt; one = ap (λ (ps : List (List ℕ)). length ps) repaired.repaired.text }
+repair_said t m c due (inr other) = one_text due _ _ tt other.outcome
+
 pub due_said : (ask : Ask) (files : Option Shelved) (due : Outcome) → IsDue ask files due → IsSaid due
 due_said (check topology map) files due =
     reads_said topology_file files topology (λ t. Reads (map_file t) files map (IsJudged t)) due (λ t. reads_said (map_file t) files map (IsJudged t) due (λ m. judged_said t m due))
 due_said (map_from topology) files due = reads_said topology_file files topology IsMapped due (λ t. mapped_said t due)
 due_said (answer topology map d) files due =
     reads_said topology_file files topology (λ t. Reads (map_file t) files map (IsAnswered d t)) due (λ t. reads_said (map_file t) files map (IsAnswered d t) due (λ m. answered_said d t m due))
+due_said (repair topology map changes) files due =
+    reads_said topology_file files topology (λ t. Reads (map_file t) files map (λ m. Reads (changes_file t) files changes (IsRepairOf t m))) due
+    (λ t. reads_said (map_file t) files map (λ m. Reads (changes_file t) files changes (IsRepairOf t m)) due (λ m. reads_said (changes_file t) files changes (IsRepairOf t m) due (λ c. repair_said t m c due)))

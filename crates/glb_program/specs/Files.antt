@@ -4,6 +4,8 @@ use Rattle.outside.specs.Shelf.{Load, Shelved}
 use Rattle.topology_text.specs.Plan.{Plan}
 use Rattle.topology_text.specs.Faults.{reading}
 use Rattle.map_text.specs.Reading.{Mapped, map_of}
+use Rattle.map_model.specs.declared.change.Change.{Change}
+use Rattle.demand_feed.specs.Changes.{changes_of}
 use Rattle.glb_program.specs.Outcome.{Outcome}
 use Rattle.glb_program.specs.declared.status.Status.TheVariants.{Refused}
 use Rattle.glb_program.specs.Texts as text
@@ -21,6 +23,10 @@ topology_of bytes = with_text text.topology_fault (reading bytes)
 unfoldable pub mapped_of : Plan → List ℕ → Result Mapped (List ℕ)
 mapped_of t bytes = with_text text.map_fault (map_of t bytes)
 
+-- what the bytes of a changes file say of a topology, or the text with which they are refused
+unfoldable pub changes_read : Plan → List ℕ → Result (List Change) (List ℕ)
+changes_read t bytes = with_text text.changes_fault (changes_of t bytes)
+
 -- a kind of file: the most octets that it may have, the text of one that has more, and what bytes say or the text with which they are refused
 pub record Kind (T : Type 0) : Type 0 where
   pub limit : ℕ
@@ -34,6 +40,10 @@ topology_file = record { limit = 67108864; too_long = text.topology_too_long; re
 -- a map over a topology, of at most 256 MiB
 abbrev pub map_file : Plan → Kind Mapped
 map_file t = record { limit = 268435456; too_long = text.map_too_long; reading = mapped_of t }
+
+-- the changes of a topology, of at most 1 MiB
+abbrev pub changes_file : Plan → Kind (List Change)
+changes_file t = record { limit = 1048576; too_long = text.changes_too_long; reading = changes_read t }
 
 -- what the octets of a file say, or the text with which they are refused
 abbrev pub said : {T : Type 0} → Kind T → List ℕ → Result T (List ℕ)

@@ -7,5 +7,6 @@ pub mod Files
 pub mod Check
 pub mod Map
 pub mod Answer
+pub mod Repair
 pub mod Run
 pub mod Ending

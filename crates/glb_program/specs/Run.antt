@@ -5,11 +5,12 @@ use Rattle.outside.specs.Shelf.{Load, Shelved}
 use Rattle.outside.specs.Sink.{Written}
 use Rattle.glb_program.specs.declared.status.Status.{Status}
 use Rattle.glb_program.specs.declared.status.Status.TheVariants.{Usage, NoMemory}
-use Rattle.glb_program.specs.Words.{Ask, check, map_from, answer}
+use Rattle.glb_program.specs.Words.{Ask, check, map_from, answer, repair}
 use Rattle.glb_program.specs.Outcome.{Outcome, Outside, RunsBy, Speaks}
 use Rattle.glb_program.specs.Check.{HoldsGoodMap, IsCheckDue, IsCheckedRun, loads_of_check}
 use Rattle.glb_program.specs.Map.{HoldsTopology, IsMapDue, IsMappedRun, loads_of_map}
 use Rattle.glb_program.specs.Answer.{IsAnswerDue, IsAnsweredRun}
+use Rattle.glb_program.specs.Repair.{HoldsChanges, IsRepairDue, IsRepairedRun, loads_of_repair}
 use Rattle.glb_program.specs.Texts as text
 
 -- what is due to words that are not taken
@@ -21,6 +22,7 @@ abbrev pub IsDue : Ask → Option Shelved → Outcome → Type 0
 IsDue (check topology map) files = IsCheckDue topology map files
 IsDue (map_from topology) files = IsMapDue topology files
 IsDue (answer topology map datagram) files = IsAnswerDue topology map datagram files
+IsDue (repair topology map changes) files = IsRepairDue topology map changes files
 
 -- memory was wanting for the reading of the words, and nothing was put
 pub record IsUnread (before after : Option Written) (result : Status) : Type 0 where
@@ -37,6 +39,7 @@ abbrev pub loads_of_ask : Ask → (List ℕ → Option (List ℕ)) → List Load
 loads_of_ask (check topology map) = loads_of_check topology map
 loads_of_ask (map_from topology) = loads_of_map topology
 loads_of_ask (answer topology map datagram) = loads_of_check topology map
+loads_of_ask (repair topology map changes) = loads_of_repair topology map changes
 
 -- the loads that are due to a run
 abbrev pub loads_of : Option Ask → (List ℕ → Option (List ℕ)) → List Load
@@ -49,6 +52,7 @@ IsSound None files = ⊥
 IsSound (Some (check topology map)) files = HoldsGoodMap topology map files
 IsSound (Some (map_from topology)) files = HoldsTopology topology files
 IsSound (Some (answer topology map datagram)) files = HoldsGoodMap topology map files
+IsSound (Some (repair topology map changes)) files = HoldsChanges topology map changes files
 
 -- what status 0 says of the files and the output
 abbrev pub IsGoodRun : Option Ask → Outside → Outside → Type 0
@@ -56,3 +60,4 @@ IsGoodRun None before after = ⊥
 IsGoodRun (Some (check topology map)) before after = IsCheckedRun topology map before after
 IsGoodRun (Some (map_from topology)) before after = IsMappedRun topology before after
 IsGoodRun (Some (answer topology map datagram)) before after = IsAnsweredRun topology map datagram before after
+IsGoodRun (Some (repair topology map changes)) before after = IsRepairedRun topology map changes before after

@@ -10,6 +10,8 @@ use Rattle.topology_text.specs.declared.fault.TopologyFault.{TopologyFault}
 use Rattle.topology_text.specs.FaultTexts.{fault_text as topology_words}
 use Rattle.map_text.specs.declared.fault.MapFault.{MapFault}
 use Rattle.map_text.specs.Texts.{fault_text as map_words}
+use Rattle.demand_feed.specs.declared.changes.ChangesFault.{ChangesFault}
+use Rattle.demand_feed.specs.ChangesTexts.{changes_words}
 
 -- a text and the end of its line
 abbrev pub line : List ℕ → List ℕ
@@ -30,6 +32,12 @@ map_too_long = line (codes "refused map too long")
 
 abbrev pub map_fault : MapFault → List ℕ
 map_fault fault = line (codes "refused map " ++ map_words fault)
+
+abbrev pub changes_too_long : List ℕ
+changes_too_long = line (codes "refused changes too long")
+
+abbrev pub changes_fault : ChangesFault → List ℕ
+changes_fault fault = line (codes "refused changes " ++ changes_words fault)
 
 -- the name of a group
 abbrev pub group_name : Plan → ℕ → List ℕ

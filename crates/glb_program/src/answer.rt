@@ -1,18 +1,18 @@
 //! `glb answer`: the reply of a map to a datagram.
-ghost use Rattle.std.specs.Prelude.{◌≡◌, [], ◌∷◌, IfOk};
+ghost use Rattle.std.specs.Prelude.{◌≡◌, ◌≢◌, Err, IfOk};
 ghost use Rattle.map_model.specs.Allocation.{IsGood};
 ghost use Rattle.published_map.specs.Version.{IsVersion};
 ghost use Rattle.map_text.specs.Writing.{mapped};
 ghost use Rattle.glb_program.specs.Answer.{IsAnswerDue, IsAnswered, IsReplied, answer_of, version_of};
 ghost use Rattle.glb_program.specs.Check.{loads_of_check};
-ghost use Rattle.glb_program.specs.Ending.{IsEnd, IsNameable, outcome_of};
+ghost use Rattle.glb_program.specs.Ending.{EndsBy, IsEnd, outcome_of};
 ghost use Rattle.glb_program.specs.Texts as text;
 
-use crate::check::judge;
-use crate::files::{load_map, load_topology};
+use crate::check::{judge, not_good};
 use crate::ending::{Report, Stop};
+use crate::files::{load_map, load_topology};
 use crate::status::Status;
-use crate::text::{answer_text, line, verdict_text};
+use crate::text::{answer_text, line};
 use addr_text::Addr;
 use answer_core::{Answer, reply};
 use arrayvec::ArrayVec;
@@ -79,18 +79,6 @@ fn replied(
     })
 }
 
-/// A verdict other than good, as what is to be said.
-fn not_good(alloc: Global, topology: &Topology, verdict: Verdict) -> Result<Report, NoMemory>
-    requires { IsNameable topology.now.market verdict }
-    ensures { IfOk result (λ r. outcome_of r ≡ record { status = Status.NotGood; pieces = text.verdict topology.now verdict ∷ [] }) }
-{
-    let text = verdict_text(alloc, topology, verdict)?;
-    Ok(Report {
-        status: Status::NotGood,
-        text,
-    })
-}
-
 /// The reply of a map, or the verdict on it where it is not good.
 fn report(
     alloc: Global,
@@ -98,12 +86,13 @@ fn report(
     map: MapLines,
     from: Addr,
     octets: &[u8],
-) -> Result<Report, NoMemory>
-    ensures { IfOk result (λ r. IsAnswered (record { from = from; octets = octets.now }) topology (mapped map) (outcome_of r)) }
+) -> Result<Report, Stop>
+    ensures ended { EndsBy (IsAnswered (record { from = from; octets = octets.now }) topology (mapped map)) result }
+    ensures source { result ≢ Err Stop.SourceFault }
 {
     match judge(alloc, &topology, &map)? {
-        Verdict::Good => replied(alloc, topology, map, from, octets),
-        verdict => not_good(alloc, &topology, verdict),
+        Verdict::Good => Ok(replied(alloc, topology, map, from, octets)?),
+        verdict => Ok(not_good(alloc, &topology, verdict)?),
     }
 }
 
@@ -120,5 +109,5 @@ pub fn answer_files<F: Shelf>(
 {
     let topology = load_topology(alloc, files, topology)?;
     let map = load_map(alloc, files, map, &topology)?;
-    Ok(report(alloc, topology, map, from, octets)?)
+    report(alloc, topology, map, from, octets)
 }

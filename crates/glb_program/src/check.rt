@@ -1,9 +1,10 @@
 //! `glb check`: the verdict on a map.
-ghost use Rattle.std.specs.Prelude.{◌≡◌, IfOk};
+ghost use Rattle.std.specs.Prelude.{◌≡◌, ◌≢◌, [], ◌∷◌, Err, IfOk};
 ghost use Rattle.stable_check.specs.Judgement.{Judges};
 ghost use Rattle.map_text.specs.Writing.{mapped};
 ghost use Rattle.glb_program.specs.Check.{IsCheckDue, IsJudged, loads_of_check, status_of};
-ghost use Rattle.glb_program.specs.Ending.{IsEnd, IsNameable, outcome_of};
+ghost use Rattle.glb_program.specs.Texts as text;
+ghost use Rattle.glb_program.specs.Ending.{EndsBy, IsEnd, IsNameable, outcome_of};
 
 use crate::ending::{Report, Stop};
 use crate::files::{load_map, load_topology};
@@ -34,9 +35,22 @@ pub fn judge(alloc: Global, topology: &Topology, map: &MapLines) -> Result<Verdi
     Ok(check(topology.instance(), map, &mut room))
 }
 
+/// A verdict other than good, as what is to be said.
+pub fn not_good(alloc: Global, topology: &Topology, verdict: Verdict) -> Result<Report, NoMemory>
+    requires { IsNameable topology.now.market verdict }
+    ensures { IfOk result (λ r. outcome_of r ≡ record { status = Status.NotGood; pieces = text.verdict topology.now verdict ∷ [] }) }
+{
+    let text = verdict_text(alloc, topology, verdict)?;
+    Ok(Report {
+        status: Status::NotGood,
+        text,
+    })
+}
+
 /// The verdict on a map, as what is to be said.
-fn report(alloc: Global, topology: &Topology, map: &MapLines) -> Result<Report, NoMemory>
-    ensures { IfOk result (λ r. IsJudged topology.now (mapped map.now) (outcome_of r)) }
+fn report(alloc: Global, topology: &Topology, map: &MapLines) -> Result<Report, Stop>
+    ensures ended { EndsBy (IsJudged topology.now (mapped map.now)) result }
+    ensures source { result ≢ Err Stop.SourceFault }
 {
     let verdict = judge(alloc, topology, map)?;
     let text = verdict_text(alloc, topology, verdict)?;
@@ -57,5 +71,5 @@ pub fn check_files<F: Shelf>(
 {
     let topology = load_topology(alloc, files, topology)?;
     let map = load_map(alloc, files, map, &topology)?;
-    Ok(report(alloc, &topology, &map)?)
+    report(alloc, &topology, &map)
 }

@@ -1,14 +1,16 @@
 //! The files of a command, each loaded and read, or refused with its text.
-ghost use Rattle.std.specs.Prelude.{◌≡◌, ◌≢◌, ◌≤◌, [], ◌∷◌, Ok, Err, IfErr, MatchResult};
+ghost use Rattle.std.specs.Prelude.{◌≡◌, ◌≢◌, ◌≤◌, [], ◌∷◌, Ok, Err, IfErr, IfOk, MatchResult};
+ghost use Rattle.map_model.specs.Batch.{IsBatch};
 ghost use Rattle.outside.specs.Faults.{BothTell, Rose};
 ghost use Rattle.glb_program.specs.Outcome.{AreLoaded, AreLoadsOf};
-ghost use Rattle.glb_program.specs.Files.{map_file, mapped_of, refused, topology_file, topology_of};
+ghost use Rattle.glb_program.specs.Files.{changes_file, changes_read, map_file, mapped_of, refused, topology_file, topology_of};
 ghost use Rattle.map_text.specs.Writing.{mapped};
 ghost use Rattle.glb_program.specs.Ending.{AreBytes, IsReading, IsRefusedBy, IsTooLong, StopsBy};
 ghost use Rattle.glb_program.specs.Texts as text;
 
 use crate::ending::Stop;
-use crate::text::{line, map_fault_text, topology_fault_text};
+use crate::text::{changes_fault_text, line, map_fault_text, topology_fault_text};
+use demand_feed::{Batch, ChangesFault, read_changes};
 use map_model::MapLines;
 use map_text::{MapFault, read_map};
 use no_memory::NoMemory;
@@ -21,6 +23,9 @@ const TOPOLOGY_LIMIT: usize = 64 * 1024 * 1024;
 
 /// The most octets of a map.
 const MAP_LIMIT: usize = 256 * 1024 * 1024;
+
+/// The most octets of a changes file.
+const CHANGES_LIMIT: usize = 1024 * 1024;
 
 /// A refusal, with its text where there was memory for that.
 fn refuse(text: Result<Vec<u8>, NoMemory>) -> Stop
@@ -75,6 +80,28 @@ fn parse_map(alloc: Global, topology: &Topology, bytes: &[u8]) -> Result<MapLine
     }
 }
 
+fn refuse_changes(alloc: Global, fault: ChangesFault) -> Stop
+    ensures said { StopsBy (λ due. (fault ≢ ChangesFault.NoMemory) × (due ≡ refused (text.changes_fault fault))) result }
+    ensures source { result ≢ Stop.SourceFault }
+{
+    match fault {
+        ChangesFault::NoMemory => Stop::NoMemory,
+        _ => refuse(changes_fault_text(alloc, fault)),
+    }
+}
+
+/// What the bytes of a changes file say of a topology.
+fn parse_changes(alloc: Global, topology: &Topology, bytes: &[u8]) -> Result<Batch, Stop>
+    ensures said { MatchResult result (λ b. changes_read topology.now bytes.now ≡ Ok b) (StopsBy (IsRefusedBy (changes_read topology.now bytes.now))) }
+    ensures batch { IfOk result (IsBatch topology.now.market) }
+    ensures source { IfErr result (λ s. s ≢ Stop.SourceFault) }
+{
+    match read_changes(alloc, topology, bytes) {
+        Ok(batch) => Ok(batch),
+        Err(fault) => Err(refuse_changes(alloc, fault)),
+    }
+}
+
 /// The bytes of a file, or its refusal where they are too many.
 fn load_file<F: Shelf>(
     alloc: Global,
@@ -117,4 +144,19 @@ pub fn load_map<F: Shelf>(
 {
     let bytes = load_file(alloc, files, name, MAP_LIMIT, b"refused map too long")?;
     parse_map(alloc, topology, bytes.as_slice())
+}
+
+/// The changes of that name, of a topology.
+pub fn load_changes<F: Shelf>(
+    alloc: Global,
+    files: &mut F,
+    name: &str,
+    topology: &Topology,
+) -> Result<Batch, Stop>
+    ensures reading { IsReading (changes_file topology.now) (λ b. b) name.now (record { told = F.told files.old; faults = F.faults files.old }) (record { told = F.told files.new; faults = F.faults files.new }) result }
+    ensures batch { IfOk result (IsBatch topology.now.market) }
+{
+    let too_long = b"refused changes too long";
+    let bytes = load_file(alloc, files, name, CHANGES_LIMIT, too_long)?;
+    parse_changes(alloc, topology, bytes.as_slice())
 }

@@ -10,8 +10,9 @@ ghost use Rattle.glb_program.specs.Words.{asked};
 
 use crate::answer::answer_files;
 use crate::check::check_files;
-use crate::map::map_files;
 use crate::ending::{Report, Stop, finish, say};
+use crate::map::map_files;
+use crate::repair::repair_files;
 use crate::status::Status;
 use crate::words::{Command, read_words};
 use no_memory::NoMemory;
@@ -21,11 +22,7 @@ use std::alloc::Global;
 const USAGE: &[u8] = b"usage: glb check, answer, map, repair, serve or large\n";
 
 /// Does what a command asks for, up to its text.
-fn run_command<F: Shelf>(
-    alloc: Global,
-    files: &mut F,
-    command: Command<'_>,
-) -> Result<Report, Stop>
+fn run_command<F: Shelf>(alloc: Global, files: &mut F, command: Command<'_>) -> Result<Report, Stop>
     ensures end { IsEnd (loads_of_ask (ask_of command.entry)) (IsDue (ask_of command.entry) (F.told files.old)) (record { told = F.told files.old; faults = F.faults files.old }) (record { told = F.told files.new; faults = F.faults files.new }) result }
     ensures said { EndsBy IsSaid result }
 {
@@ -38,6 +35,11 @@ fn run_command<F: Shelf>(
             from,
             octets,
         } => answer_files(alloc, files, topology, map, from, octets.as_slice()),
+        Command::Repair {
+            topology,
+            map,
+            changes,
+        } => repair_files(alloc, files, topology, map, changes),
     }
 }
 
@@ -61,10 +63,10 @@ pub fn glb<R, F: Shelf, K: Sink>(
     // A fault outside is answered only where its count rose.
     ensures causes { HasCauses (record { files = F.faults files.old; out = K.faults out.old }) (record { files = F.faults files.new; out = K.faults out.new }) result }
 
-    // Status 0 says that the files hold a topology; of `check` and `answer` also that they hold a map that is good for it; and that the output got, in one put, `good`, or of `map` the text of a map that is good for the topology, or of `answer` the text of the map's reply.
+    // Status 0 says that the files hold a topology; of `check`, `answer` and `repair` also that they hold a map that is good for it, and of `repair` changes; and that the output got, in one put, `good`, or of `map` the text of a map that is good for the topology, or of `answer` the text of the map's reply, or of `repair` the text of a map that is good for the changed numbers and keeps the rest.
     ensures good { result ≡ Status.Ok → IsGoodRun (asked (texts words.now)) (record { files = F.told files.old; out = K.told out.old }) (record { files = F.told files.new; out = K.told out.new }) }
 
-    // Where the files are told to hold a topology, and for `check` and `answer` a map that is good, and no count of faults rises, there is no other answer but want of memory.
+    // Where the files are told to hold a topology, for `check`, `answer` and `repair` a map that is good, and for `repair` changes, and no count of faults rises, there is no other answer but want of memory.
     ensures complete { IsSome (F.told files.old) → IsSound (asked (texts words.now)) (F.told files.old) → ¬ Rose (F.faults files.old) (F.faults files.new) → ¬ Rose (K.faults out.old) (K.faults out.new) → (result ≡ Status.Ok) ⊎ (result ≡ Status.NoMemory) }
 {
     match read_words(alloc, words) {

@@ -14,14 +14,14 @@ mod ending;
 mod files;
 mod glb;
 mod map;
-mod real;
+mod repair;
 mod status;
 mod text;
 mod words;
 
+use edges::{FileShelf, StreamSink};
 pub use glb::glb;
 use no_memory::NoMemory;
-use real::{FileShelf, StreamSink};
 pub use status::Status;
 use std::env;
 use std::io::{self, ErrorKind};

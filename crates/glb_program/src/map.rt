@@ -1,8 +1,8 @@
 //! `glb map`: a good map, from scratch.
-ghost use Rattle.std.specs.Prelude.{◌≡◌, IfOk};
+ghost use Rattle.std.specs.Prelude.{◌≢◌, Err, IfOk};
 ghost use Rattle.map_model.specs.Allocation.{IsGood, IsMapForm};
 ghost use Rattle.glb_program.specs.Map.{IsMapDue, IsMapped, loads_of_map};
-ghost use Rattle.glb_program.specs.Ending.{IsEnd, outcome_of};
+ghost use Rattle.glb_program.specs.Ending.{EndsBy, IsEnd};
 
 use crate::ending::{Report, Stop};
 use crate::files::load_topology;
@@ -17,7 +17,7 @@ use std::alloc::Global;
 use topology_text::Topology;
 
 /// The proposals of a mapping, as what is counted.
-struct Proposals;
+pub struct Proposals;
 
 /// A good map for an instance, from scratch.
 fn map_afresh(alloc: Global, instance: &Instance) -> Result<MapLines, NoMemory>
@@ -31,8 +31,9 @@ fn map_afresh(alloc: Global, instance: &Instance) -> Result<MapLines, NoMemory>
 }
 
 /// The text of a good map, as what is to be said.
-fn report(alloc: Global, topology: &Topology) -> Result<Report, NoMemory>
-    ensures { IfOk result (λ r. IsMapped topology.now (outcome_of r)) }
+fn report(alloc: Global, topology: &Topology) -> Result<Report, Stop>
+    ensures ended { EndsBy (IsMapped topology.now) result }
+    ensures source { result ≢ Err Stop.SourceFault }
 {
     let map = map_afresh(alloc, topology.instance())?;
     let text = write_map(alloc, topology, &map)?;
@@ -47,5 +48,5 @@ pub fn map_files<F: Shelf>(alloc: Global, files: &mut F, topology: &str) -> Resu
     ensures { IsEnd (loads_of_map topology.now) (IsMapDue topology.now (F.told files.old)) (record { told = F.told files.old; faults = F.faults files.old }) (record { told = F.told files.new; faults = F.faults files.new }) result }
 {
     let topology = load_topology(alloc, files, topology)?;
-    Ok(report(alloc, &topology)?)
+    report(alloc, &topology)
 }

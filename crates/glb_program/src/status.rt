@@ -1,3 +1,4 @@
+//! How a run of the program ends, as a number.
 ghost use Rattle.std.specs.Prelude.{◌≡◌};
 ghost use Rattle.glb_program.specs.Outcome.{code_of};
 

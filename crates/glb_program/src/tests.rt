@@ -1,3 +1,4 @@
+//! The program over files and an output in memory.
 use crate::{Status, glb};
 use outside::{File, MemShelf, MemSink};
 use std::process::Abort;

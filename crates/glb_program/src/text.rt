@@ -1,3 +1,4 @@
+//! What the program says.
 ghost use Rattle.std.specs.Prelude.{◌≡◌, ◌++◌, [], ◌∷◌, IfOk, Some};
 ghost use Rattle.std.specs.Fmt.{decimal};
 ghost use Rattle.map_model.specs.Market.{pool_of};
@@ -5,6 +6,7 @@ ghost use Rattle.map_model.specs.Allocation.{IsOffer};
 ghost use Rattle.glb_program.specs.Texts as text;
 ghost use Rattle.glb_program.specs.Ending.{IsNameable};
 
+use demand_feed::ChangesFault;
 use map_model::Offer;
 use map_text::MapFault;
 use no_memory::NoMemory;
@@ -34,6 +36,14 @@ pub fn map_fault_text(alloc: Global, fault: MapFault) -> Result<Vec<u8>, NoMemor
     ensures { IfOk result (λ t. t.items ≡ text.map_fault fault) }
 {
     let words = format!(in alloc; "refused map {fault}\n")?;
+    Ok(words.into_bytes())
+}
+
+/// What is written of a changes file at fault.
+pub fn changes_fault_text(alloc: Global, fault: ChangesFault) -> Result<Vec<u8>, NoMemory>
+    ensures { IfOk result (λ t. t.items ≡ text.changes_fault fault) }
+{
+    let words = format!(in alloc; "refused changes {fault}\n")?;
     Ok(words.into_bytes())
 }
 

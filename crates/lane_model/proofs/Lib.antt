@@ -6,3 +6,4 @@ pub mod Machines
 pub mod Keeps
 pub mod Ports
 mod Rows
+pub mod Stated

@@ -4,6 +4,8 @@
 //! Versions and their replies are parameters here, so that these definitions stand below both.
 #![tactic(auto)]
 
+mod draws;
 mod ended;
 
+pub use draws::{draw_of, next_number};
 pub use ended::Ended;

@@ -1,3 +1,4 @@
 pub mod Marking
+pub mod Listing
 pub mod Middle
 pub mod Spread

@@ -1,25 +1,51 @@
-use Rattle.std.proofs.Common.{◌≡◌, ℕ, zero, suc, ◌+◌, ◌<◌, ◌≤◌, Bool, true, false, not, if◌then◌else◌, List, length, slice_index, slice_set, get_or-set_same, get_or-set_other, refl, sym, ap, ◌∙◌, inl, inr, ◌⊎◌, arith}
+-- Marks that come, and what they say of trees.
+use Rattle.std.proofs.Common.{◌≡◌, ℕ, zero, suc, ◌+◌, ◌<◌, ◌≤◌, Bool, true, false, if◌then◌else◌, List, [], ◌∷◌, ◌++◌, length, Contains, replicate, All, get_or, slice_set, get_or-set_same, get_or-set_other, refl, sym, ap, ◌∙◌, subst, inl, inr, ◌⊎◌, arith}
 use Rattle.std.proofs.Math.ListN.{length-set}
-use Rattle.std.proofs.lemmas.Bool.{cases_Bool, cases_eq, false≢true, true≢false}
-use Rattle.std.proofs.lemmas.List.{set-get_or}
+use Rattle.std.proofs.lemmas.Bool.{cases_eq, false≢true}
+use Rattle.std.proofs.lemmas.List.{length_push, set-get_or}
+use Rattle.std.proofs.lemmas.List.Elements.{All-push, Contains-append_left, Contains-push, Contains-push_cases}
 use Rattle.std.proofs.lemmas.List.Sums.{sum_by-set}
-use Rattle.map_model.specs.Market.{Market}
-use Rattle.map_model.specs.Progress.{tree_of}
+use Rattle.map_model.specs.declared.instance.NodeId.{NodeId}
+use Rattle.map_model.specs.declared.lines.MapLine.{MapLine}
+use Rattle.map_model.specs.Market.{Market, choice_at, pool_of}
+use Rattle.map_model.specs.Progress.{root_of, tree_of}
+use Rattle.map_model.specs.Allocation.{IsOffer}
+use Rattle.map_model.proofs.Paths.{pool_there}
+use Rattle.map_model.proofs.Roots.{root-there}
+use Rattle.map_model.proofs.Shapes.{root_of-shape}
 use Rattle.evict.specs.Standing.{IsReady, Standing}
 use Rattle.reopen.specs.Cutting.{CanCut}
-use Rattle.map_repair.specs.Marks.{IsClosedFor, IsMarking, is_on, unmarked}
+use Rattle.map_repair.specs.Marks.{AreDone, HoldsInMarked, IsClosedForAll, IsMarking, IsPending, IsSettled, Marking, is_on, left_of, unmarked}
 
 pub can_of_ready : (m : Market) (s : Standing) → IsReady m s → CanCut m s
 can_of_ready m s ready = record { market = ready.market; whole = ready.whole; shape = ready.shape; form = ready.resumable.form; count = ready.resumable.free_for }
 
-pub marking_none : (marks : List Bool) → IsMarking marks marks false
-marking_none marks = record { count = refl; kept = λ n on. on; fewer = omega arith; same = λ _. refl }
+-- the root of a node, as a state tells it
+pub root_in : (m : Market) (s : Standing) → IsReady m s → (n r : ℕ) → n < length m.nodes → r ≡ root_of s.market n → (r ≡ root_of m n) × (r < length m.nodes)
+root_in m s ready n r there is =
+    let at : r ≡ root_of m n = is ∙ sym (root_of-shape s.market m ready.shape n) in
+    (at, omega (arith, at, root-there m ready.market n there))
 
-abbrev one_if : Bool → ℕ
-one_if b = if b then 1 else 0
+-- and the root of an offer's pool
+pub tree_in : (m : Market) (s : Standing) → IsReady m s → (g k : ℕ) (pool : NodeId) (r : ℕ) → IsOffer m g k → pool ≡ (choice_at m g k).pool → r ≡ root_of s.market pool.0 → (r ≡ tree_of m g k) × (r < length m.nodes)
+tree_in m s ready g k pool r o at is = root_in m s ready (pool_of m g k) r (pool_there m ready.market g k o) (is ∙ ap (λ (p : NodeId). root_of s.market p.0) at)
 
-abbrev one_unless : Bool → ℕ
-one_unless b = if b then 0 else 1
+-- no mark came
+pub marking_none : (a : Marking) → IsMarking a a
+marking_none a = record { count = refl; kept = λ n on. on; came = λ n on. inl on; waits = λ n p. p; fewer = omega arith }
+
+-- marks came, and then some more
+pub marking_trans : (a b c : Marking) → IsMarking a b → IsMarking b c → IsMarking a c
+marking_trans a b c first then_ = record {
+  count = then_.count ∙ first.count;
+  kept = λ n on. then_.kept n (first.kept n on);
+  came = λ n on. elim (then_.came n on) [
+    | inl was ↦ elim (first.came n was) [ inl before ↦ inl before | inr waits ↦ inr (then_.waits n waits) ]
+    | inr waits ↦ inr waits
+  ];
+  waits = λ n waits. then_.waits n (first.waits n waits);
+  fewer = omega (arith, first.fewer, then_.fewer);
+}
 
 -- a node that is marked is marked, and all others are as before
 pub on_set : (marks : List Bool) (r n : ℕ) → r < length marks → is_on marks n ≡ true → is_on (slice_set marks r true) n ≡ true
@@ -34,54 +60,74 @@ on_from_set marks r n on = elim (cases_eq n r) [
   | inr ne ↦ inr (sym (get_or-set_other marks r n true false ne) ∙ on)
 ]
 
--- one node is marked
-pub marking_one : (marks : List Bool) (r : ℕ) → r < length marks → IsMarking marks (slice_set marks r true) (not (is_on marks r))
-marking_one marks r there = record {
-  count = length-set marks r true;
-  kept = λ n on. on_set marks r n there on;
+-- one that is marked already
+pub set_again : (marks : List Bool) (r : ℕ) → is_on marks r ≡ true → slice_set marks r true ≡ marks
+set_again marks r on = ap (slice_set marks r) (sym on) ∙ set-get_or marks r false
+
+abbrev one_unless : Bool → ℕ
+one_unless b = if b then 0 else 1
+
+-- a root is marked, and is then to be looked at
+pub marking_one : (a : Marking) (r : NodeId) → r.0 < length a.on → is_on a.on r.0 ≡ false → IsMarking a (record { on = slice_set a.on r.0 true; pending = a.pending ++ r ∷ [] })
+marking_one a r there off = record {
+  count = length-set a.on r.0 true;
+  kept = λ n on. on_set a.on r.0 n there on;
+  came = λ n on. elim (on_from_set a.on r.0 n on) [
+    | inl e ↦ inr (subst (λ x. Contains (a.pending ++ r ∷ []) (record { 0 = x })) (sym e) (Contains-push a.pending r))
+    | inr was ↦ inl was
+  ];
+  waits = λ n waits. Contains-append_left a.pending (r ∷ []) (record { 0 = n }) waits;
   fewer = fewer;
-  same = λ e. same (cases_Bool (is_on marks r)) e;
 }
   where
-    set : unmarked (slice_set marks r true) + one_unless (is_on marks r) ≡ unmarked marks + one_unless true
-    set = omega (arith, sum_by-set one_unless marks r true false there)
+    fewer : left_of (record { on = slice_set a.on r.0 true; pending = a.pending ++ r ∷ [] }) ≤ left_of a
+    fewer =
+        let set : unmarked (slice_set a.on r.0 true) + one_unless (is_on a.on r.0) ≡ unmarked a.on + one_unless true = omega (arith, sum_by-set one_unless a.on r.0 true false there) in
+        let was : one_unless (is_on a.on r.0) ≡ 1 = ap one_unless off in
+        let none : one_unless true ≡ 0 = refl in
+        omega (arith, set, was, none, length_push a.pending r)
 
-    lost : (b : Bool) → (if not b then 1 else 0) ≡ one_unless b
-    lost true = refl
-    lost false = refl
+-- the nodes that are to be looked at are marked
+pub pending_on : (on : List Bool) (pending : List NodeId) (r : NodeId) → r.0 < length on → All (λ n. (n.0 < length on) × (is_on on n.0 ≡ true)) pending
+    → All (λ n. (n.0 < length (slice_set on r.0 true)) × (is_on (slice_set on r.0 true) n.0 ≡ true)) (pending ++ r ∷ [])
+pending_on on pending r there all =
+    All-push (λ (n : NodeId). (n.0 < length (slice_set on r.0 true)) × (is_on (slice_set on r.0 true) n.0 ≡ true)) pending r
+    (λ i d l. (omega (arith, (all i d l).0, length-set on r.0 true), on_set on r.0 (get_or pending i d).0 there (all i d l).1))
+    (omega (arith, length-set on r.0 true), get_or-set_same on r.0 true false there)
 
-    fewer : unmarked (slice_set marks r true) + (if not (is_on marks r) then 1 else 0) ≤ unmarked marks
-    fewer = let z : one_unless true ≡ 0 = refl in omega (arith, set, lost (is_on marks r), z)
+-- what is done stays done as marks come
+pub done_on : (m : Market) (lines : List MapLine) (a b : Marking) (done : List Bool) → IsMarking a b → AreDone m lines a.on done → AreDone m lines b.on done
+done_on m lines a b done marking are g d k o some = marking.kept (tree_of m g k) (are g d k o some)
 
-    same : (is_on marks r ≡ true) ⊎ (is_on marks r ≡ false) → not (is_on marks r) ≡ false → slice_set marks r true ≡ marks
-    same (inl y) e = ap (slice_set marks r) (sym y) ∙ set-get_or marks r false
-    same (inr n) e = absurd (true≢false (sym (ap not n) ∙ e))
+-- one group more is done
+pub done_more : (m : Market) (lines : List MapLine) (on done : List Bool) (g : ℕ) → AreDone m lines on done → HoldsInMarked m lines on g → AreDone m lines on (slice_set done g true)
+done_more m lines on done g are holds h d = elim (on_from_set done g h d) [
+  | inl e ↦ subst (λ x. HoldsInMarked m lines on x) (sym e) holds
+  | inr was ↦ are h was
+]
 
--- marks came, and then some more
-pub marking_trans : (a b c : List Bool) (x y z : Bool) → IsMarking a b x → IsMarking b c y → (y ≡ true → z ≡ true) → (y ≡ false → z ≡ x) → IsMarking a c z
-marking_trans a b c x y z first then_ hit none = record {
-  count = then_.count ∙ first.count;
-  kept = λ n on. then_.kept n (first.kept n on);
-  fewer = fewer (cases_Bool y) (cases_Bool x);
-  same = λ e. same e (cases_Bool y);
-}
+-- a tree that was looked at stays settled as marks come
+pub settled_on : (m : Market) (s : Standing) (a b : Marking) (n : ℕ) → IsMarking a b → IsSettled m s a.on n → IsSettled m s b.on n
+settled_on m s a b n marking settled g k o at before j oj some = marking.kept (tree_of m g j) (settled g k o at before j oj some)
+
+-- marks of which none is to be looked at are closed
+pub closed_all : (m : Market) (s : Standing) (a : Marking) → a.pending ≡ [] → ((n : ℕ) → is_on a.on n ≡ true → IsPending a n ⊎ IsSettled m s a.on n) → IsClosedForAll m s (λ n. is_on a.on n)
+closed_all m s a none all g l k j ok before on oj some = elim (all (tree_of m g k) on) [
+  | inl waits ↦ absurd (nothing (subst (λ (ps : List NodeId). Contains ps (record { 0 = tree_of m g k })) none waits))
+  | inr settled ↦ settled g k ok refl before j oj some
+]
   where
-    fewer : (y ≡ true) ⊎ (y ≡ false) → (x ≡ true) ⊎ (x ≡ false) → unmarked c + (if z then 1 else 0) ≤ unmarked a
-    fewer (inl t) w =
-        let one : one_if z ≡ one_if true = ap one_if (hit t) in
-        let was : one_if y ≡ one_if true = ap one_if t in
-        let is : one_if true ≡ suc zero = refl in
-        omega (arith, first.fewer, then_.fewer, was, one, is)
-    fewer (inr f) w =
-        let alike : one_if z ≡ one_if x = ap one_if (none f) in
-        let was : one_if y ≡ one_if false = ap one_if f in
-        let is : one_if false ≡ zero = refl in
-        omega (arith, first.fewer, then_.fewer, alike, was, is)
+    nothing : {x : NodeId} → Contains [] x → ⊥
+    nothing (i, l, e) = absurd (omega (arith, l))
 
-    same : z ≡ false → (y ≡ true) ⊎ (y ≡ false) → c ≡ a
-    same e (inl t) = absurd (false≢true (sym e ∙ hit t))
-    same e (inr f) = then_.same f ∙ first.same (sym (none f) ∙ e)
+-- the next one to be looked at is taken out
+pub pending_rest : (ps rest : List NodeId) (r : NodeId) (n : ℕ) → ps ≡ rest ++ r ∷ [] → Contains ps (record { 0 = n }) → Contains rest (record { 0 = n }) ⊎ (n ≡ r.0)
+pending_rest ps rest r n is waits = elim (Contains-push_cases rest r (record { 0 = n }) (subst (λ (xs : List NodeId). Contains xs (record { 0 = n })) is waits)) [
+  | inl there ↦ inl there
+  | inr e ↦ inr (ap (λ (x : NodeId). x.0) (sym e))
+]
 
--- a group without a place before its pointer in a marked tree asks for no tree
-pub closed_for_none : (m : Market) (s : Standing) (g : ℕ) (trees : ℕ → Bool) → ((k : ℕ) → k < slice_index s.pointers g → trees (tree_of m g k) ≡ false) → IsClosedFor m s g trees
-closed_for_none m s g trees clear = λ k j ok before on oj some. absurd (false≢true (sym (clear k before) ∙ on))
+pub none_on : (n k : ℕ) → is_on (replicate n false) k ≡ true → ⊥
+none_on zero k h = false≢true h
+none_on (suc n) zero h = false≢true h
+none_on (suc n) (suc k) h = none_on n k h

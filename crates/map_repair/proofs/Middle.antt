@@ -1,4 +1,4 @@
-use Rattle.std.proofs.Common.{◌≡◌, ◌≢◌, ℕ, zero, suc, ◌+◌, ◌-◌, ◌*◌, ◌<◌, ◌≤◌, ◌==◌, Bool, true, false, ◌&&◌, nat_lt, nat_le, if◌then◌else◌, List, [], length, get_or, slice_index, replicate, IsFalse, IsSome, Option, None, refl, sym, ap, ◌∙◌, subst, inl, inr, arith}
+use Rattle.std.proofs.Common.{◌≡◌, ◌≢◌, ℕ, ◌+◌, ◌-◌, ◌*◌, ◌<◌, ◌≤◌, ◌==◌, Bool, true, false, ◌&&◌, nat_lt, nat_le, if◌then◌else◌, List, [], length, get_or, slice_index, IsFalse, IsSome, Option, None, refl, sym, ap, ◌∙◌, subst, inl, inr, arith}
 use Rattle.std.specs.Option.{option_map}
 use Rattle.std.proofs.Math.Nat.{mul-le-mul_right}
 use Rattle.std.proofs.lemmas.Bool.{and_parts, cases_Bool, cases_eq, cases_lt, eqb-true, false≢true, leb-false, leb-true, lt-ltb, ltb-true, ltb-false}
@@ -31,11 +31,6 @@ leb-from a b le = elim (cases_Bool (nat_le a b)) [ inl y ↦ y | inr n ↦ absur
 
 ltb-itself : (p : ℕ) → nat_lt p p ≡ false
 ltb-itself p = elim (cases_Bool (nat_lt p p)) [ inr n ↦ n | inl y ↦ absurd (omega (arith, ltb-true p p y)) ]
-
-pub none_on : (n k : ℕ) → is_on (replicate n false) k ≡ true → ⊥
-none_on zero k h = false≢true h
-none_on (suc n) zero h = false≢true h
-none_on (suc n) (suc k) h = none_on n k h
 
 -- the marks that are made stand at exactly the reached trees
 pub are_reached : (old new : Market) (s : Standing) (a b c : List Bool) → IsStateOf old s → length c ≡ length old.nodes

@@ -1,2 +1,3 @@
 pub mod Marks
+pub mod Asked
 pub mod Repaired

@@ -1,7 +1,13 @@
 //! A good map repaired for changed demands and capacities.
 #![tactic(auto)]
 
+mod asked;
+mod marks;
 mod reaching;
 mod repairing;
 
+pub use asked::Asked;
 pub use repairing::{repair, resume};
+
+#[cfg(test)]
+mod tests;

@@ -1,162 +1,209 @@
 //! The trees that lose units, or may hold the old wanted place of a group that loses some.
 
-ghost use Rattle.std.specs.Prelude.{◌≡◌, ◌≢◌, ℕ, ◌<◌, Bool, true, false, not, length, slice_set, slice_index_or, IfOk};
+ghost use Rattle.std.specs.Prelude.{◌≡◌, ◌≢◌, ℕ, ◌<◌, Bool, true, false, length, Contains, slice_index, IfOk, OnOk};
 ghost use Rattle.map_model.specs.Market.{IsSameShape, capacity_of, demand_of};
 ghost use Rattle.map_model.specs.Allocation.{IsOffer, amount_at};
 ghost use Rattle.map_model.specs.Progress.{HoldsIn, IsClosedUnderRepair, root_of, tree_of};
 ghost use Rattle.evict.specs.Standing.{IsReady};
+ghost use Rattle.map_repair.specs.Asked.{AreAllListed};
 ghost use Rattle.map_repair.specs.Repaired.{IsStateOf};
-ghost use Rattle.map_repair.specs.Marks.{AreReached, IsClosedFor, IsMarking, IsWithin, is_on};
+ghost use Rattle.map_repair.specs.Marks.{AreDone, AreReached, HoldsInMarked, IsClosedFor, IsClosedForAll, IsMarking, IsPending, IsSettled, IsWithin, is_on};
 
+use crate::asked::Asked;
+use crate::marks::Marks;
 use evict::State;
 use map_model::{GroupId, Instance, NodeId, Offer};
 use no_memory::NoMemory;
-use reopen::back_place;
 use std::alloc::Global;
 
-/// Marks the root of a node's tree. Answers whether it was not marked.
-fn mark(old: &Instance, state: &State, marks: &mut [bool], node: NodeId) -> bool
+/// Marks the tree of an offer that holds units.
+fn mark_offer(
+    old: &Instance,
+    state: &State,
+    marks: &mut Marks,
+    offer: Offer,
+) -> Result<(), NoMemory>
     requires ready { IsReady old.now state.now }
-    requires size { length marks.old ≡ length old.now.nodes }
-    requires node { node.0 < length old.now.nodes }
-    ensures marks { marks.new ≡ slice_set marks.old (root_of old.now node.0) true }
-    ensures marking { IsMarking marks.old marks.new result }
-{
-    let root = state.root(node).0 as usize;
-    let was = marks[root];
-    marks[root] = true;
-    !was
-}
-
-/// Marks the tree of an offer that holds units. Answers whether it was not marked.
-fn mark_offer(old: &Instance, state: &State, marks: &mut [bool], offer: Offer) -> bool
-    requires ready { IsReady old.now state.now }
-    requires size { length marks.old ≡ length old.now.nodes }
+    requires size { length marks.old.on ≡ length old.now.nodes }
     requires offer { IsOffer old.now offer.group.0 offer.place }
-    ensures marking { IsMarking marks.old marks.new result }
-    ensures held { 0 < amount_at state.now.lines offer.group.0 offer.place → is_on marks.new (tree_of old.now offer.group.0 offer.place) ≡ true }
-    ensures within { (trees : ℕ → Bool) → (0 < amount_at state.now.lines offer.group.0 offer.place → trees (tree_of old.now offer.group.0 offer.place) ≡ true) → IsWithin marks.old trees → IsWithin marks.new trees }
+    ensures marking { OnOk result (IsMarking marks.old marks.new) }
+    ensures held { OnOk result (0 < amount_at state.now.lines offer.group.0 offer.place → is_on marks.new.on (tree_of old.now offer.group.0 offer.place) ≡ true) }
+    ensures within { OnOk result ((trees : ℕ → Bool) → (0 < amount_at state.now.lines offer.group.0 offer.place → trees (tree_of old.now offer.group.0 offer.place) ≡ true) → IsWithin marks.old.on trees → IsWithin marks.new.on trees) }
 {
     if state.units(offer) > 0 {
-        return mark(old, state, marks, old.pool_at(offer));
+        let root = state.root(old.pool_at(offer));
+        marks.mark(root)?;
     }
-    false
+    Ok(())
 }
 
-/// Marks each tree in which a group holds units. Answers whether one of them was not marked.
-fn mark_held(old: &Instance, state: &State, marks: &mut [bool], group: GroupId) -> bool
+/// Marks each tree in which a group holds units.
+fn mark_held(
+    old: &Instance,
+    state: &State,
+    marks: &mut Marks,
+    group: GroupId,
+) -> Result<(), NoMemory>
     requires ready { IsReady old.now state.now }
-    requires size { length marks.old ≡ length old.now.nodes }
+    requires size { length marks.old.on ≡ length old.now.nodes }
     requires group { group.0 < length old.now.groups }
-    ensures marking { IsMarking marks.old marks.new result }
-    ensures held { (k : ℕ) → IsOffer old.now group.0 k → 0 < amount_at state.now.lines group.0 k → is_on marks.new (tree_of old.now group.0 k) ≡ true }
-    ensures within { (trees : ℕ → Bool) → ((k : ℕ) → IsOffer old.now group.0 k → 0 < amount_at state.now.lines group.0 k → trees (tree_of old.now group.0 k) ≡ true) → IsWithin marks.old trees → IsWithin marks.new trees }
+    ensures marking { OnOk result (IsMarking marks.old marks.new) }
+    ensures held { OnOk result (HoldsInMarked old.now state.now.lines marks.new.on group.0) }
+    ensures within { OnOk result ((trees : ℕ → Bool) → ((k : ℕ) → IsOffer old.now group.0 k → 0 < amount_at state.now.lines group.0 k → trees (tree_of old.now group.0 k) ≡ true) → IsWithin marks.old.on trees → IsWithin marks.new.on trees) }
 {
-    let mut more = false;
     for place in 0..old.list_len(group) {
-        if mark_offer(old, state, marks, Offer { group, place }) {
-            more = true;
-        }
+        mark_offer(old, state, marks, Offer { group, place })?;
     }
-    more
+    Ok(())
 }
 
-/// Where a group has a place before its pointer in a marked tree, marks each tree in which it holds
-/// units. Answers whether one of them was not marked.
-fn follow(old: &Instance, state: &State, marks: &mut [bool], group: GroupId) -> bool
+/// Where an offer stands before its group's pointer, marks each tree in which the group holds units.
+/// That is done once for each group.
+fn follow(
+    old: &Instance,
+    state: &State,
+    marks: &mut Marks,
+    done: &mut [bool],
+    offer: Offer,
+) -> Result<(), NoMemory>
     requires ready { IsReady old.now state.now }
-    requires size { length marks.old ≡ length old.now.nodes }
-    requires group { group.0 < length old.now.groups }
-    ensures marking { IsMarking marks.old marks.new result }
-    ensures closed { result ≡ false → IsClosedFor old.now state.now group.0 (λ n. is_on marks.new n) }
-    ensures within { (trees : ℕ → Bool) → IsClosedFor old.now state.now group.0 trees → IsWithin marks.old trees → IsWithin marks.new trees }
+    requires size { length marks.old.on ≡ length old.now.nodes }
+    requires groups { length done.old ≡ length old.now.groups }
+    requires offer { IsOffer old.now offer.group.0 offer.place }
+    requires done { AreDone old.now state.now.lines marks.old.on done.old }
+    ensures marking { OnOk result (IsMarking marks.old marks.new) }
+    ensures done { OnOk result (AreDone old.now state.now.lines marks.new.on done.new) }
+    ensures followed { OnOk result (offer.place < slice_index state.now.pointers offer.group.0 → HoldsInMarked old.now state.now.lines marks.new.on offer.group.0) }
+    ensures within { OnOk result ((trees : ℕ → Bool) → IsClosedFor old.now state.now offer.group.0 trees → trees (tree_of old.now offer.group.0 offer.place) ≡ true → IsWithin marks.old.on trees → IsWithin marks.new.on trees) }
 {
-    let place = back_place(old, state, marks, group);
-    if place < state.pointer(group) {
-        return mark_held(old, state, marks, group);
+    if offer.place >= state.pointer(offer.group) {
+        return Ok(());
     }
-    false
+    let g = offer.group.0 as usize;
+    if done[g] {
+        return Ok(());
+    }
+    mark_held(old, state, marks, offer.group)?;
+    done[g] = true;
+    Ok(())
 }
 
-/// Follows each group once. Answers whether a tree was marked.
-fn follow_all(old: &Instance, state: &State, marks: &mut [bool]) -> bool
+/// Follows each offer in the tree of a root.
+fn look_at(
+    old: &Instance,
+    state: &State,
+    asked: &Asked,
+    marks: &mut Marks,
+    done: &mut [bool],
+    root: NodeId,
+) -> Result<(), NoMemory>
     requires ready { IsReady old.now state.now }
-    requires size { length marks.old ≡ length old.now.nodes }
-    ensures marking { IsMarking marks.old marks.new result }
-    ensures closed { result ≡ false → (g : ℕ) → g < length old.now.groups → IsClosedFor old.now state.now g (λ n. is_on marks.new n) }
-    ensures within { (trees : ℕ → Bool) → ((g : ℕ) → g < length old.now.groups → IsClosedFor old.now state.now g trees) → IsWithin marks.old trees → IsWithin marks.new trees }
+    requires asked { AreAllListed old.now asked.now }
+    requires size { length marks.old.on ≡ length old.now.nodes }
+    requires groups { length done.old ≡ length old.now.groups }
+    requires root { root.0 < length old.now.nodes }
+    requires done { AreDone old.now state.now.lines marks.old.on done.old }
+    ensures marking { OnOk result (IsMarking marks.old marks.new) }
+    ensures done { OnOk result (AreDone old.now state.now.lines marks.new.on done.new) }
+    ensures settled { OnOk result (IsSettled old.now state.now marks.new.on root.0) }
+    ensures within { OnOk result ((trees : ℕ → Bool) → IsClosedForAll old.now state.now trees → trees root.0 ≡ true → IsWithin marks.old.on trees → IsWithin marks.new.on trees) }
 {
-    let mut more = false;
-    for g in 0..old.groups() {
-        if follow(old, state, marks, GroupId(g)) {
-            more = true;
-        }
+    for offer in asked.in_tree(root) {
+        follow(old, state, marks, done, *offer)?;
     }
-    more
+    Ok(())
 }
 
-/// Follows all groups until no tree is marked any more.
-fn spread(old: &Instance, state: &State, marks: &mut [bool])
+/// Looks at each marked tree, until none is left to be looked at.
+fn spread(
+    old: &Instance,
+    state: &State,
+    asked: &Asked,
+    marks: &mut Marks,
+    done: &mut [bool],
+) -> Result<(), NoMemory>
     requires ready { IsReady old.now state.now }
-    requires size { length marks.old ≡ length old.now.nodes }
-    ensures kept { (n : ℕ) → is_on marks.old n ≡ true → is_on marks.new n ≡ true }
-    ensures closed { (g : ℕ) → g < length old.now.groups → IsClosedFor old.now state.now g (λ n. is_on marks.new n) }
-    ensures within { (trees : ℕ → Bool) → ((g : ℕ) → g < length old.now.groups → IsClosedFor old.now state.now g trees) → IsWithin marks.old trees → IsWithin marks.new trees }
+    requires asked { AreAllListed old.now asked.now }
+    requires size { length marks.old.on ≡ length old.now.nodes }
+    requires groups { length done.old ≡ length old.now.groups }
+    requires done { AreDone old.now state.now.lines marks.old.on done.old }
+    requires waiting { (n : ℕ) → is_on marks.old.on n ≡ true → IsPending marks.old n }
+    ensures size { OnOk result (length marks.new.on ≡ length marks.old.on) }
+    ensures kept { OnOk result ((n : ℕ) → is_on marks.old.on n ≡ true → is_on marks.new.on n ≡ true) }
+    ensures closed { OnOk result (IsClosedForAll old.now state.now (λ n. is_on marks.new.on n)) }
+    ensures within { OnOk result ((trees : ℕ → Bool) → IsClosedForAll old.now state.now trees → IsWithin marks.old.on trees → IsWithin marks.new.on trees) }
 {
-    let mut more = true;
-    while more {
-        more = follow_all(old, state, marks);
+    while let Some(root) = marks.next() {
+        look_at(old, state, asked, marks, done, root)?;
     }
+    Ok(())
 }
 
 /// Marks each tree in which a capacity differs.
-fn mark_capacities(old: &Instance, new: &Instance, state: &State, marks: &mut [bool])
+fn mark_capacities(
+    old: &Instance,
+    new: &Instance,
+    state: &State,
+    marks: &mut Marks,
+) -> Result<(), NoMemory>
     requires ready { IsReady old.now state.now }
     requires shape { IsSameShape old.now new.now }
-    requires size { length marks.old ≡ length old.now.nodes }
-    ensures all { (n : ℕ) → n < length old.now.nodes → capacity_of new.now n ≢ capacity_of old.now n → is_on marks.new (root_of old.now n) ≡ true }
-    ensures within { (trees : ℕ → Bool) → IsClosedUnderRepair old.now state.now.lines new.now trees → IsWithin marks.old trees → IsWithin marks.new trees }
+    requires size { length marks.old.on ≡ length old.now.nodes }
+    ensures marking { OnOk result (IsMarking marks.old marks.new) }
+    ensures all { OnOk result ((n : ℕ) → n < length old.now.nodes → capacity_of new.now n ≢ capacity_of old.now n → is_on marks.new.on (root_of old.now n) ≡ true) }
+    ensures within { OnOk result ((trees : ℕ → Bool) → IsClosedUnderRepair old.now state.now.lines new.now trees → IsWithin marks.old.on trees → IsWithin marks.new.on trees) }
 {
     for n in 0..old.nodes() {
         let node = NodeId(n);
         if new.capacity(node) != old.capacity(node) {
-            mark(old, state, marks, node);
+            let root = state.root(node);
+            marks.mark(root)?;
         }
     }
+    Ok(())
 }
 
 /// Marks each tree in which a group with a lowered demand holds units.
-fn mark_lowered(old: &Instance, new: &Instance, state: &State, marks: &mut [bool])
+fn mark_lowered(
+    old: &Instance,
+    new: &Instance,
+    state: &State,
+    marks: &mut Marks,
+) -> Result<(), NoMemory>
     requires ready { IsReady old.now state.now }
     requires shape { IsSameShape old.now new.now }
-    requires size { length marks.old ≡ length old.now.nodes }
-    ensures kept { (n : ℕ) → is_on marks.old n ≡ true → is_on marks.new n ≡ true }
-    ensures all { (g root : ℕ) → g < length old.now.groups → demand_of new.now g < demand_of old.now g → HoldsIn old.now state.now.lines g root → is_on marks.new root ≡ true }
-    ensures within { (trees : ℕ → Bool) → IsClosedUnderRepair old.now state.now.lines new.now trees → IsWithin marks.old trees → IsWithin marks.new trees }
+    requires size { length marks.old.on ≡ length old.now.nodes }
+    ensures marking { OnOk result (IsMarking marks.old marks.new) }
+    ensures all { OnOk result ((g root : ℕ) → g < length old.now.groups → demand_of new.now g < demand_of old.now g → HoldsIn old.now state.now.lines g root → is_on marks.new.on root ≡ true) }
+    ensures within { OnOk result ((trees : ℕ → Bool) → IsClosedUnderRepair old.now state.now.lines new.now trees → IsWithin marks.old.on trees → IsWithin marks.new.on trees) }
 {
     for g in 0..old.groups() {
         let group = GroupId(g);
         if new.demand(group) < old.demand(group) {
-            mark_held(old, state, marks, group);
+            mark_held(old, state, marks, group)?;
         }
     }
+    Ok(())
 }
 
-/// Marks the reached trees, at their roots. The state is that of the old map.
+/// Marks the reached trees, at their roots. The state is that of the old map. It looks at each tree once,
+/// and at the places of each group at most twice.
 pub fn reached(
     alloc: Global,
     old: &Instance,
     new: &Instance,
+    asked: &Asked,
     state: &State,
 ) -> Result<Vec<bool>, NoMemory>
     requires of_map { IsStateOf old.now state.now }
+    requires asked { AreAllListed old.now asked.now }
     requires shape { IsSameShape old.now new.now }
     ensures { IfOk result (λ marks. AreReached old.now state.now.lines new.now marks.items) }
 {
-    let mut marks = vec![in alloc; false; old.nodes() as usize]?;
-    let trees = marks.as_mut_slice();
-    mark_capacities(old, new, state, trees);
-    mark_lowered(old, new, state, trees);
-    spread(old, state, trees);
-    Ok(marks)
+    let mut marks = Marks::none(alloc, old.nodes())?;
+    mark_capacities(old, new, state, &mut marks)?;
+    mark_lowered(old, new, state, &mut marks)?;
+    let mut done = vec![in alloc; false; old.groups() as usize]?;
+    spread(old, state, asked, &mut marks, done.as_mut_slice())?;
+    Ok(marks.into_marks())
 }

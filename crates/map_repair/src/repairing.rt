@@ -1,9 +1,13 @@
+//! Repairing a good map, or a state of one that is kept.
+
 ghost use Rattle.std.specs.Prelude.{◌≤◌, IfOk, OnOk};
 ghost use Rattle.map_model.specs.Market.{IsSameShape};
 ghost use Rattle.map_model.specs.Allocation.{IsGood};
 ghost use Rattle.map_model.specs.Progress.{IsEnded};
+ghost use Rattle.map_repair.specs.Asked.{AreAllListed};
 ghost use Rattle.map_repair.specs.Repaired.{IsKept, IsLocal, IsStateOf, IsWithinSpread};
 
+use crate::asked::Asked;
 use crate::reaching::reached;
 use deferred_accept::{finish, run};
 use evict::State;
@@ -18,11 +22,14 @@ pub fn resume<L>(
     alloc: Global,
     old: &Instance,
     new: &Instance,
+    asked: &Asked,
     state: &mut State,
     steps: &mut Steps<L>,
 ) -> Result<(), NoMemory>
     requires of_map { IsStateOf old.now state.old }
+    requires asked { AreAllListed old.now asked.now }
     requires shape { IsSameShape old.now new.now }
+    ensures asked { AreAllListed new.now asked.now }
     ensures of_map { OnOk result (IsStateOf new.now state.new) }
     ensures ended { OnOk result (IsEnded new.now state.new.pointers state.new.free) }
     ensures kept { OnOk result (IsKept old.now state.old.lines new.now state.new.lines) }
@@ -31,7 +38,7 @@ pub fn resume<L>(
     ensures later { steps.old ≤ steps.new }
 {
     let _groups = new.groups();
-    let marks = reached(alloc, old, new, state)?;
+    let marks = reached(alloc, old, new, asked, state)?;
     cut_and_trim(new, state);
     roll_back(new, state, marks.as_slice());
     run(alloc, new, state, steps)
@@ -57,6 +64,7 @@ pub fn repair<L>(
     ensures later { steps.old ≤ steps.new }
 {
     let mut state = State::of_map(alloc, old, map)?;
-    resume(alloc, old, new, &mut state, steps)?;
+    let asked = Asked::build(alloc, old, &state)?;
+    resume(alloc, old, new, &asked, &mut state, steps)?;
     finish(alloc, new, state)
 }

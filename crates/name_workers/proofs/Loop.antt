@@ -10,7 +10,7 @@ use Rattle.lane_model.specs.Sessions.{IsEnd, IsLast, IsSession, IsStop, IsTurn, 
 use Rattle.lane_model.proofs.Going.{one_more}
 use Rattle.name_workers.specs.declared.serve.Step.{Step}
 use Rattle.name_workers.specs.declared.serve.Step.TheVariants as step
-use Rattle.name_workers.specs.Answer.{replies}
+use Rattle.lane_model.specs.Replies.{replies}
 use Rattle.name_workers.specs.Steps.{IsNextEnd, IsServed, IsTurned, step_of}
 use Rattle.name_workers.specs.Invariant.{IsSoFar}
 

@@ -18,7 +18,7 @@ use Rattle.name_workers.specs.declared.serve.Fared.{Fared}
 use Rattle.name_workers.specs.declared.serve.Fared.TheVariants as fared
 use Rattle.name_workers.specs.declared.serve.Step.{Step}
 use Rattle.name_workers.specs.declared.serve.Step.TheVariants as step
-use Rattle.name_workers.specs.Answer.{replies}
+use Rattle.lane_model.specs.Replies.{replies}
 use Rattle.name_workers.specs.Steps.{IsFared, IsReceived, IsTaken, IsTurned, Wire, step_of, step_of_fared}
 
 rose_later : (x y z : ℕ) → x ≤ y → Rose y z → Rose x z

@@ -3,7 +3,7 @@ use Rattle.std.specs.Prelude.{◌≡◌, ℕ, ◌<◌, List, length}
 use Rattle.published_map.specs.Version.{Version}
 use Rattle.lane_model.specs.Turns.{AreCalm, Turn, failures}
 use Rattle.lane_model.specs.Sessions.{IsSession, Moment}
-use Rattle.name_workers.specs.Answer.{replies}
+use Rattle.lane_model.specs.Replies.{replies}
 
 -- so many turns were made from one moment to another, and so many calls of the port failed
 pub record IsSoFar {T : Type 0} (number : T → ℕ) (w turns fails : ℕ) (m mid : Moment Version T) : Type 0 where

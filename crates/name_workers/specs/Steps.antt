@@ -12,7 +12,7 @@ use Rattle.name_workers.specs.declared.serve.Fared.{Fared}
 use Rattle.name_workers.specs.declared.serve.Fared.TheVariants as fared
 use Rattle.name_workers.specs.declared.serve.Step.{Step}
 use Rattle.name_workers.specs.declared.serve.Step.TheVariants as step
-use Rattle.name_workers.specs.Answer.{is_silent, replies}
+use Rattle.lane_model.specs.Replies.{is_silent, replies}
 use Rattle.name_workers.specs.Worker.{IsReplied}
 
 -- what a port tells, and its faults

@@ -7,7 +7,7 @@ use Rattle.published_map.specs.Version.{Version}
 use Rattle.map_cell.specs.declared.door.CellFault.{CellFault}
 use Rattle.lane_model.specs.Lanes.{draw}
 use Rattle.lane_model.specs.Sessions.{Eyes, IsRise}
-use Rattle.name_workers.specs.Answer.{is_silent, reply_of}
+use Rattle.lane_model.specs.Replies.{is_silent, reply_of}
 
 -- the reply of one version that is no older than what was known
 pub record IsReplied (w n : ℕ) (from : Addr) (octets : List ℕ) (serial : ℕ) (e f : Eyes Version) (out : List ℕ) : Type 0 where

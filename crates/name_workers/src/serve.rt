@@ -6,7 +6,7 @@ ghost use Rattle.outside.specs.Notes.{NotesTold};
 ghost use Rattle.lane_model.specs.Lanes.{following};
 ghost use Rattle.lane_model.specs.Sessions.{Eyes, IsLaneCall, IsRise, IsLast, IsEnd, IsSession, Moment};
 ghost use Rattle.lane_model.specs.Turns.{Turn, Fate, IsGiven, Came};
-ghost use Rattle.name_workers.specs.Answer.{replies};
+ghost use Rattle.lane_model.specs.Replies.{replies};
 ghost use Rattle.name_workers.specs.Steps.{IsFared, IsNextEnd, IsServed, IsTaken, IsTurned, step_of_fared};
 
 use crate::worker::Worker;

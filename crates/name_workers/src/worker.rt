@@ -4,13 +4,14 @@ ghost use mathlib.Core.List.{IsPrefix};
 ghost use Rattle.outside.specs.Faults.{raised};
 ghost use Rattle.published_map.specs.Version.{IsVersion};
 ghost use Rattle.lane_model.specs.Lanes.{draw, following};
-ghost use Rattle.name_workers.specs.Answer.{is_silent, reply_of};
+ghost use Rattle.lane_model.specs.Replies.{is_silent, reply_of};
 ghost use Rattle.name_workers.specs.Looked.{looked_by};
 ghost use Rattle.name_workers.specs.Worker.{IsAnswer};
 
 use addr_text::Addr;
 use answer_core::{reply, silent};
 use arrayvec::ArrayVec;
+use lane_model::{draw_of, next_number};
 use map_cell::{CellFault, Door, Naming, Note, Viewer};
 use published_map::MapVersion;
 
@@ -22,31 +23,8 @@ pub struct Worker<J: Naming> {
     pub count: u64,
 }
 
-/// By how much draws differ from one datagram to the next, and from one worker to the next.
-const STEP_OF_DATAGRAMS: u128 = 11_400_714_819_323_198_485;
-
-const STEP_OF_WORKERS: u128 = 1 << 60;
-
-const DRAWS: u128 = 1 << 64;
-
-/// A worker's draw for a datagram.
-fn draw_of(number: u8, count: u64) -> u64
-    ensures { result ≡ draw number count }
-{
-    let n = count as u128 + 1;
-    let w = number as u128;
-    ((n * STEP_OF_DATAGRAMS + w * STEP_OF_WORKERS) % DRAWS) as u64
-}
-
-/// The number after that.
-fn next_number(count: u64) -> u64
-    ensures { result ≡ following count }
-{
-    count.wrapping_add(1)
-}
-
 /// Whether octets have no reply.
-#[tactic(auto, unfolding(crate::specs::Answer::is_silent))]
+#[tactic(auto, unfolding(lane_model::specs::Replies::is_silent))]
 fn has_none(octets: &[u8]) -> bool
     ensures { result ≡ is_silent octets.now }
 {
@@ -54,7 +32,7 @@ fn has_none(octets: &[u8]) -> bool
 }
 
 /// The reply of a version to octets that have one.
-#[tactic(auto, unfolding(crate::specs::Answer::is_silent, crate::specs::Answer::reply_of))]
+#[tactic(auto, unfolding(lane_model::specs::Replies::is_silent, lane_model::specs::Replies::reply_of))]
 fn reply_by(version: &MapVersion, from: Addr, octets: &[u8], draw: u64) -> ArrayVec<u8, 512>
     requires version { IsVersion version.now }
     requires spoken { is_silent octets.now ≡ false }

@@ -14,7 +14,7 @@ use Rattle.prefix_lookup.proofs.Longest.{Entry, In, is_longest_of}
 use Rattle.prefix_lookup.proofs.Chosen.{AtLeast, takes_all, after_all}
 
 -- a prefix of the table has its entry
-entry_of : (table : List Entry) (p : Prefix) (k : ℕ) → k < length (map (λ e. e.0) table) → slice_index_or (map (λ e. e.0) table) k p ≡ p → (e : Entry) × In e table × (e.0 ≡ p)
+pub entry_of : (table : List Entry) (p : Prefix) (k : ℕ) → k < length (map (λ e. e.0) table) → slice_index_or (map (λ e. e.0) table) k p ≡ p → (e : Entry) × In e table × (e.0 ≡ p)
 entry_of [] p k lt is = absurd (omega arith)
 entry_of (e ∷ es) p zero lt is = (e, inl refl, is)
 entry_of (e ∷ es) p (suc k) lt is = let r = entry_of es p k (omega arith) is in (r.0, inr r.1, r.2)

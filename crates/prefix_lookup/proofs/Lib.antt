@@ -4,3 +4,17 @@ pub mod Chosen
 pub mod Blocks
 pub mod Scopes
 pub mod Defaults
+pub mod Parting
+pub mod Halves
+pub mod Families
+pub mod Intervals
+pub mod Pushes
+pub mod Filtered
+pub mod Ordered
+pub mod Sorted
+pub mod Found
+pub mod Beside
+pub mod Unique
+pub mod Swept
+pub mod Ends
+pub mod Answered

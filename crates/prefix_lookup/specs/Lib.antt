@@ -1,4 +1,11 @@
+pub mod Blocks
+pub mod Family
+pub mod Held
 pub mod Longest
+pub mod Parting
+pub mod Ranges
 pub mod Scope
+pub mod Search
 pub mod Steps
+pub mod Sweep
 pub mod Table

@@ -1,9 +1,12 @@
 //! The group of the longest prefix that holds an address, and how many bits of the address decide it.
 #![tactic(auto)]
 
-mod agree;
+mod block;
+mod family;
 mod lookup;
-mod plain;
+mod ranges;
+mod scope;
+mod sweep;
 
 pub use lookup::Lookup;
 

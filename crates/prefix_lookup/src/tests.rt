@@ -1,76 +1,172 @@
+//! The lookup against rows that were counted by hand, and against the plain search over all prefixes.
+ghost use Rattle.std.specs.Prelude.{All};
+ghost use Rattle.addr_text.specs.Addresses.{IsPrefix};
+
+mod agree;
+mod plain;
+
+use self::plain::{longest, scope};
 use crate::Lookup;
 use addr_text::{Addr, Prefix};
-use map_model::GroupId;
+use map_model::{GroupId, Steps};
+use no_memory::NoMemory;
 
-const REST: GroupId = GroupId(0);
-
-const NEAR: GroupId = GroupId(1);
-
-const FAR: GroupId = GroupId(2);
-
-/// 198.51.100.0, of which the first half of the last octet is NEAR and the second FAR.
-const TABLE: [(Prefix, GroupId); 5] = [
+/// 198.51.100.0/24 belongs to group 2, but for its upper half.
+const SMALL: [(Prefix, GroupId); 5] = [
     (
         Prefix {
             addr: Addr::V4(0xc633_6480),
             len: 25,
         },
-        FAR,
+        GroupId(1),
     ),
     (
         Prefix {
             addr: Addr::V4(0),
             len: 0,
         },
-        REST,
+        GroupId(1),
     ),
     (
         Prefix {
             addr: Addr::V4(0xc633_6400),
             len: 24,
         },
-        NEAR,
+        GroupId(2),
     ),
     (
         Prefix {
             addr: Addr::V6(0),
             len: 0,
         },
-        REST,
+        GroupId(1),
     ),
     (
         Prefix {
             addr: Addr::V6(0x2001_0db8_0000_0000_0000_0000_0000_0000),
             len: 32,
         },
-        NEAR,
+        GroupId(2),
     ),
 ];
 
-/// An address, its group, and its scope as it was counted by hand.
-const ROWS: [(Addr, GroupId, u8); 8] = [
+/// An address of `SMALL`, its group, and its scope as it was counted by hand.
+const ROWS: [(Addr, u32, u8); 9] = [
     // 198.51.100.7: the 25th bit decides.
-    (Addr::V4(0xc633_6407), NEAR, 25),
-    (Addr::V4(0xc633_6480), FAR, 25),
-    (Addr::V4(0xc633_64ff), FAR, 25),
+    (Addr::V4(0xc633_6407), 2, 25),
+    (Addr::V4(0xc633_6480), 1, 25),
+    (Addr::V4(0xc633_64c8), 1, 25),
+    (Addr::V4(0xc633_64ff), 1, 25),
     // 198.51.101.0 leaves the prefix at the 24th bit, 203.0.113.9 at the fifth, 64.0.0.0 at the first.
-    (Addr::V4(0xc633_6500), REST, 24),
-    (Addr::V4(0xcb00_7109), REST, 5),
-    (Addr::V4(0x4000_0000), REST, 1),
+    (Addr::V4(0xc633_6500), 1, 24),
+    (Addr::V4(0xcb00_7109), 1, 5),
+    (Addr::V4(0x4000_0000), 1, 1),
     // 2001:db8::7 and ::.
-    (
-        Addr::V6(0x2001_0db8_0000_0000_0000_0000_0000_0007),
-        NEAR,
-        32,
-    ),
-    (Addr::V6(0), REST, 3),
+    (Addr::V6(0x2001_0db8_0000_0000_0000_0000_0000_0007), 2, 32),
+    (Addr::V6(0), 1, 3),
 ];
+
+/// Prefixes of both families drawn by a generator, a long one in a short one among them.
+const DRAWN: [(Prefix, GroupId); 5] = [
+    (
+        Prefix {
+            addr: Addr::V4(0),
+            len: 0,
+        },
+        GroupId(0),
+    ),
+    (
+        Prefix {
+            addr: Addr::V6(0),
+            len: 0,
+        },
+        GroupId(2),
+    ),
+    (
+        Prefix {
+            addr: Addr::V4(0x9f31_f06c),
+            len: 31,
+        },
+        GroupId(3),
+    ),
+    (
+        Prefix {
+            addr: Addr::V6(0xcb91_ce37_6fa4_9597_0000_0000_0000_0000),
+            len: 64,
+        },
+        GroupId(1),
+    ),
+    (
+        Prefix {
+            addr: Addr::V4(0x8000_0000),
+            len: 1,
+        },
+        GroupId(1),
+    ),
+];
+
+/// The first and the last address of a prefix, and those right beside them.
+fn edges(prefix: Prefix) -> [Addr; 4] {
+    let len = u32::from(prefix.len);
+    match prefix.addr {
+        Addr::V4(first) => {
+            let last = first | u32::MAX.checked_shr(len).unwrap_or(0);
+            [first, last, first.wrapping_sub(1), last.wrapping_add(1)].map(Addr::V4)
+        }
+        Addr::V6(first) => {
+            let last = first | u128::MAX.checked_shr(len).unwrap_or(0);
+            [first, last, first.wrapping_sub(1), last.wrapping_add(1)].map(Addr::V6)
+        }
+    }
+}
+
+/// Whether the lookup says what the search over all prefixes says.
+fn is_plain(lookup: &Lookup, table: &[(Prefix, GroupId)], addr: Addr) -> bool
+    requires { All (λ e. IsPrefix e.0) table.now }
+{
+    let group = lookup.group(addr);
+    let found = longest(table, addr).is_some_and(|entry| entry.1 == group);
+    found && lookup.find(addr) == (group, scope(table, addr))
+}
+
+/// Whether it does so at the edges of each prefix.
+fn is_plain_at_edges(lookup: &Lookup, table: &[(Prefix, GroupId)]) -> bool
+    requires { All (λ e. IsPrefix e.0) table.now }
+{
+    for (prefix, _) in table {
+        for addr in edges(*prefix) {
+            if !is_plain(lookup, table, addr) {
+                return false;
+            }
+        }
+    }
+    true
+}
+
+/// Whether the rows hold.
+fn holds_rows(lookup: &Lookup, rows: &[(Addr, u32, u8)]) -> bool {
+    for (addr, group, scope) in rows {
+        if lookup.group(*addr) != GroupId(*group) || lookup.scope(*addr) != *scope {
+            return false;
+        }
+    }
+    true
+}
 
 #[test]
-fn each_address_has_its_group_and_scope(rt: HostRuntime) -> Result<(), no_memory::NoMemory> {
-    let lookup = Lookup::build(rt.alloc(), &TABLE)?;
-    for (addr, group, scope) in &ROWS {
-        assert!(&rt; lookup.group(*addr) == *group && lookup.scope(*addr) == *scope);
-    }
+fn each_address_has_its_group_and_scope(rt: HostRuntime) -> Result<(), NoMemory> {
+    let small = Lookup::build(rt.alloc(), &SMALL)?;
+    assert!(&rt; holds_rows(&small, &ROWS));
+    assert!(&rt; is_plain_at_edges(&small, &SMALL));
+    let mut steps: Steps<Lookup> = Steps::new();
+    let group = small.probe(Addr::V4(0xc633_6480), &mut steps);
+    assert!(&rt; group == GroupId(1) && steps.count() <= 3);
+    Ok(())
+}
+
+#[test]
+fn drawn_prefixes_are_found(rt: HostRuntime) -> Result<(), NoMemory> {
+    let drawn = Lookup::build(rt.alloc(), &DRAWN)?;
+    assert!(&rt; is_plain_at_edges(&drawn, &DRAWN));
     Ok(())
 }

@@ -225,6 +225,19 @@ impl MapVersion {
         shared.lookup.group(addr)
     }
 
+    /// The group of the longest prefix that holds the address, and the scope of the address, in one search.
+    pub fn find_addr(&self, addr: Addr) -> (GroupId, u8)
+        ensures group { group_of self.now.plan.prefixes addr ≡ Some result.0 }
+        ensures longest { HasLongest self.now.plan.prefixes addr result.0 }
+        ensures there { result.0.0 < length self.now.market.groups }
+        ensures scope { result.1 ≡ scope_of self.now.plan.prefixes addr }
+        ensures least { IsScope self.now.plan.prefixes addr result.1 }
+    {
+        check_shared(&self.shared);
+        let shared: &Shared = &self.shared;
+        shared.lookup.find(addr)
+    }
+
     /// The least number of bits such that all addresses of the family that agree with this one in its first so
     /// many bits have the same longest prefix.
     pub fn scope(&self, addr: Addr) -> u8

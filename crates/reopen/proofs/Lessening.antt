@@ -12,7 +12,7 @@ use Rattle.evict.specs.Standing.{CanRelease, IsReleased, Standing}
 use Rattle.map_model.proofs.Roots.{root-under}
 use Rattle.evict.proofs.Shaped.{AreLines-shape}
 use Rattle.map_model.proofs.Shapes.{IsOffer-shape, shape_sym}
-use Rattle.reopen.specs.Cutting.{CanCut, IsFitting, IsLess, KeepsSums}
+use Rattle.reopen.specs.Cutting.{IsGroupTrimmed, CanCut, IsFitting, IsLess, KeepsSums}
 
 -- a state is within itself
 pub less_itself : (m : Market) (s : Standing) → CanCut m s → IsLess m s s
@@ -111,3 +111,20 @@ placed_none m (l ∷ ls) g offers none =
         let this : (if (l.group.0 == g) && (l.place == l.place) then l.amount else 0) ≡ l.amount = rw (y, eq-eqb l.place l.place refl) refl in
         let all : (if l.group.0 == g then l.amount else 0) ≡ l.amount = rw y refl in
         omega (arith, more l.place, none l.place o)
+
+-- a group that was trimmed holds what it held then, or held at the start what it did before the trimming
+pub trimmed_on : (m : Market) (g : ℕ) (old mid new : List MapLine) → ((k : ℕ) → amount_at new g k ≡ amount_at mid g k) → placed new g ≡ placed mid g → IsGroupTrimmed m g old mid → IsGroupTrimmed m g old new
+trimmed_on m g old mid new same all trimmed = record {
+  last = λ j k o later less. same k ∙ trimmed.last j k o later (omega (arith, less, same j));
+  enough = λ k o less. omega (arith, trimmed.enough k o (omega (arith, less, same k)), all);
+}
+
+pub trimmed_from : (m : Market) (g : ℕ) (old mid new : List MapLine) → ((k : ℕ) → amount_at mid g k ≡ amount_at old g k) → IsGroupTrimmed m g mid new → IsGroupTrimmed m g old new
+trimmed_from m g old mid new same trimmed = record {
+  last = λ j k o later less. trimmed.last j k o later (omega (arith, less, same j));
+  enough = λ k o less. trimmed.enough k o (omega (arith, less, same k));
+}
+
+-- nothing was trimmed
+pub trimmed_none : (m : Market) (g : ℕ) (lines : List MapLine) → IsGroupTrimmed m g lines lines
+trimmed_none m g lines = record { last = λ j k o later less. absurd (omega (arith, less)); enough = λ k o less. absurd (omega (arith, less)) }

@@ -1,9 +1,9 @@
 //! Giving up what is over demands and capacities.
 
-ghost use Rattle.std.specs.Prelude.{◌≡◌, ◌≢◌, ℕ, ◌+◌, ◌<◌, ◌≤◌, ◌⊎◌, length, slice_index};
+ghost use Rattle.std.specs.Prelude.{Bool, false, ◌≡◌, ◌≢◌, ℕ, ◌+◌, ◌<◌, ◌≤◌, ◌⊎◌, length, slice_index};
 ghost use Rattle.map_model.specs.Market.{capacity_of, demand_of};
-ghost use Rattle.map_model.specs.Allocation.{IsOffer, amount_at, load, placed};
-ghost use Rattle.reopen.specs.Cutting.{CanCut, IsCut, IsLess, KeepsSums};
+ghost use Rattle.map_model.specs.Allocation.{IsOffer, amount_at, load, placed, units_of};
+ghost use Rattle.reopen.specs.Cutting.{CanCut, IsCut, IsGroupTrimmed, IsLess, IsTrimmed, KeepsSums};
 
 use evict::State;
 use map_model::{GroupId, Instance, NodeId, Offer};
@@ -15,6 +15,9 @@ fn trim_place(instance: &Instance, state: &mut State, offer: Offer)
     ensures less { IsLess instance.now state.old state.new }
     ensures sums { KeepsSums state.old state.new }
     ensures done { (placed state.new.lines offer.group.0 ≤ demand_of instance.now offer.group.0) ⊎ (amount_at state.new.lines offer.group.0 offer.place ≡ 0) }
+    ensures others { (test : ℕ → ℕ → Bool) → test offer.group.0 offer.place ≡ false → units_of test state.new.lines ≡ units_of test state.old.lines }
+    ensures over { amount_at state.new.lines offer.group.0 offer.place < amount_at state.old.lines offer.group.0 offer.place → demand_of instance.now offer.group.0 < placed state.old.lines offer.group.0 }
+    ensures enough { demand_of instance.now offer.group.0 ≤ placed state.old.lines offer.group.0 → demand_of instance.now offer.group.0 ≤ placed state.new.lines offer.group.0 }
 {
     let demand = u64::from(instance.demand(offer.group));
     let placed = state.placed(offer.group);
@@ -31,6 +34,8 @@ fn trim_places(instance: &Instance, state: &mut State, group: GroupId)
     ensures less { IsLess instance.now state.old state.new }
     ensures sums { KeepsSums state.old state.new }
     ensures fits { placed state.new.lines group.0 ≤ demand_of instance.now group.0 }
+    ensures trimmed { IsGroupTrimmed instance.now group.0 state.old.lines state.new.lines }
+    ensures elsewhere { (test : ℕ → ℕ → Bool) → ((k : ℕ) → test group.0 k ≡ false) → units_of test state.new.lines ≡ units_of test state.old.lines }
 {
     let len = instance.list_len(group);
     for step in 0..len {
@@ -46,6 +51,8 @@ fn trim_group(instance: &Instance, state: &mut State, group: GroupId)
     ensures less { IsLess instance.now state.old state.new }
     ensures total { placed state.new.lines group.0 + slice_index state.new.free group.0 ≡ demand_of instance.now group.0 }
     ensures others { (h : ℕ) → h < length state.old.free → h ≢ group.0 → placed state.new.lines h + slice_index state.new.free h ≡ placed state.old.lines h + slice_index state.old.free h }
+    ensures trimmed { IsGroupTrimmed instance.now group.0 state.old.lines state.new.lines }
+    ensures elsewhere { (test : ℕ → ℕ → Bool) → ((k : ℕ) → test group.0 k ≡ false) → units_of test state.new.lines ≡ units_of test state.old.lines }
 {
     trim_places(instance, state, group);
     state.set_total(group, instance.demand(group));
@@ -56,6 +63,7 @@ fn trim(instance: &Instance, state: &mut State)
     requires { CanCut instance.now state.old }
     ensures less { IsLess instance.now state.old state.new }
     ensures totals { (g : ℕ) → g < length instance.now.groups → placed state.new.lines g + slice_index state.new.free g ≡ demand_of instance.now g }
+    ensures trimmed { IsTrimmed instance.now state.old.lines state.new.lines }
 {
     for g in 0..instance.groups() {
         trim_group(instance, state, GroupId(g));

@@ -1,7 +1,7 @@
 use Rattle.std.proofs.Common.{◌≡◌, sym, subst, Option, List, ℕ, None}
 use Rattle.std.specs.Option.{option_map}
 use Rattle.std.proofs.lemmas.Bool.{eqb-true}
-use Rattle.client_subnet.specs.View.{option_view}
+use Rattle.dns_wire.specs.View.{option_view}
 use Rattle.client_subnet.proofs.Going.{first_after, goes_on, broken, is_done, some_left}
 use Rattle.client_subnet.proofs.options.first_subnet.Goals as goal
 

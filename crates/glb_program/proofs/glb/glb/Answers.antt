@@ -13,7 +13,7 @@ use Rattle.glb_program.proofs.glb.glb.Goals as goal
 pub returns-in-Ok-Some-clause-noted : goal.returns-in-Ok-Some-clause-noted
 returns-in-Ok-Some-clause-noted g c =
     let is : Some (ask_of c.in-Ok-Some.command) ≡ asked (texts c.args.words.now) = ap (option_map ask_of) (sym c.in-Ok-Some.field-0-is) ∙ c.in-Ok-Some.ensures in
-    subst (λ (a : Option Ask). BothTell (g.F.Shelf.told c.args.files.now) (g.F.Shelf.told c.run_command-ended.new.files) (AreLoadsOf (loads_of a))) is c.run_command-ended.ensures.noted
+    subst (λ (a : Option Ask). BothTell (g.F.Shelf.told c.args.files.now) (g.F.Shelf.told c.run_command-ended.new.files) (AreLoadsOf (loads_of a))) is c.run_command-ended.ensures.end.noted
 
 pub returns-in-Ok-Some-clause-good : goal.returns-in-Ok-Some-clause-good
 returns-in-Ok-Some-clause-good g c = good_run _ _ _ _ (search rules)

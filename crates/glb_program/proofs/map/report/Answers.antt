@@ -1,4 +1,4 @@
-use Rattle.std.proofs.Common.{◌∷◌, [], List, ℕ, ap, refl, subst}
+use Rattle.std.proofs.Common.{rules, ◌∷◌, [], List, ℕ, ap, refl, subst}
 use Rattle.map_model.specs.Market.{Market}
 use Rattle.map_model.specs.Allocation.{IsGood}
 use Rattle.map_text.specs.Writing.{mapped}
@@ -8,7 +8,7 @@ pub returns : goal.returns
 returns c =
     let map = c.in_ok-map.map in
     record {
-      mapped = record {
+      ended = record {
         status = refl;
         text = (
           mapped map,
@@ -16,4 +16,5 @@ returns c =
           ap (λ (text : List ℕ). text ∷ []) c.in_ok-text.ensures.text,
         );
       };
+      source = search rules;
     }

@@ -1,15 +1,15 @@
-use Rattle.std.proofs.Common.{◌≡◌, ◌<◌, true, slice_index, arith}
+use Rattle.std.proofs.Common.{◌<◌, slice_index, arith}
 use Rattle.map_model.specs.Market.{Market}
-use Rattle.map_model.specs.Allocation.{IsOffer}
-use Rattle.map_model.specs.Progress.{tree_of}
+use Rattle.map_repair.proofs.Marking.{done_more, done_on}
 use Rattle.map_repair.proofs.reaching.follow.Goals as goal
 
-pub returns-then-place-pointer-clause-within : goal.returns-then-place-pointer-clause-within
-returns-then-place-pointer-clause-within c = λ trees closed within n on.
+pub returns-clause-done : goal.returns-clause-done
+returns-clause-done c =
     let m : Market = c.args.old.now in
-    let g = c.args.group.0 in
-    let p = c.back_place-place.result in
-    let before : p < slice_index c.args.state.now.pointers g = omega (arith, c.if-place-pointer.true, c.pointer.ensures) in
-    let o : IsOffer m g p = record { group = c.requires.group; place = omega (arith, before, c.requires.ready.resumable.in_list g c.requires.group) } in
-    let here : trees (tree_of m g p) ≡ true = within (tree_of m g p) (c.back_place-place.ensures.at before) in
-    c.mark_held.ensures.within trees (λ j oj some. closed p j o before here oj some) within n on
+    let lines = c.args.state.now.lines in
+    done_more m lines c.mark_held.new.marks.on c.args.done.now c.args.offer.group.0 (done_on m lines c.args.marks.now c.mark_held.new.marks c.args.done.now c.in_ok-mark_held.ensures.marking c.requires.done) c.in_ok-mark_held.ensures.held
+
+pub returns-clause-within : goal.returns-clause-within
+returns-clause-within c = λ trees closed here within n on.
+    let before : c.args.offer.place < slice_index c.args.state.now.pointers c.args.offer.group.0 = omega (arith, c.if-offer-pointer.false, c.pointer.ensures) in
+    c.in_ok-mark_held.ensures.within trees (λ k o some. closed c.args.offer.place k c.requires.offer before here o some) within n on

@@ -1,17 +1,24 @@
-use Rattle.std.proofs.Common.{◌≡◌, ◌<◌, true, false, length, slice_set, get_or-set_same, ap, ◌∙◌, arith}
-use Rattle.map_model.specs.declared.instance.NodeId.{NodeId}
-use Rattle.map_model.specs.Market.{Market, pool_of}
-use Rattle.map_model.specs.Progress.{root_of, tree_of}
-use Rattle.map_model.proofs.Paths.{pool_there}
-use Rattle.map_model.proofs.Roots.{root-there}
+use Rattle.std.proofs.Common.{true, false, slice_set, get_or-set_same, inl, inr, sym, ap, ◌∙◌, arith}
+use Rattle.map_model.specs.Progress.{tree_of}
 use Rattle.map_repair.specs.Marks.{is_on}
+use Rattle.map_repair.proofs.Marking.{on_from_set, tree_in}
 use Rattle.map_repair.proofs.reaching.mark_offer.Goals as goal
 
-pub returns-then-units-gt0-clause-held : goal.returns-then-units-gt0-clause-held
-returns-then-units-gt0-clause-held c = λ some.
-    let m : Market = c.args.old.now in
-    let o = c.args.offer in
-    let root = tree_of m o.group.0 o.place in
-    let at : root_of m c.pool_at.result.0 ≡ root = ap (λ (p : NodeId). root_of m p.0) c.pool_at.ensures in
-    let bound : root < length c.args.marks.now = omega (arith, c.requires.size, root-there m c.requires.ready.market (pool_of m o.group.0 o.place) (pool_there m c.requires.ready.market o.group.0 o.place c.requires.offer)) in
-    ap (λ ms. is_on ms root) c.mark.ensures.marks ∙ ap (λ r. is_on (slice_set c.args.marks.now r true) root) at ∙ get_or-set_same c.args.marks.now root true false bound
+pub mark-requires : goal.mark-requires
+mark-requires c =
+    let at = tree_in c.args.old.now c.args.state.now c.requires.ready c.args.offer.group.0 c.args.offer.place c.pool_at.result c.root-root.result.0 c.requires.offer c.pool_at.ensures c.root-root.ensures in
+    omega (arith, at.1, c.requires.size)
+
+pub returns-in_ok-mark-clause-held : goal.returns-in_ok-mark-clause-held
+returns-in_ok-mark-clause-held c = λ some.
+    let root = tree_of c.args.old.now c.args.offer.group.0 c.args.offer.place in
+    let at = tree_in c.args.old.now c.args.state.now c.requires.ready c.args.offer.group.0 c.args.offer.place c.pool_at.result c.root-root.result.0 c.requires.offer c.pool_at.ensures c.root-root.ensures in
+    ap (λ ms. is_on ms root) c.in_ok-mark.ensures.on ∙ ap (λ r. is_on (slice_set c.args.marks.now.on r true) root) at.0 ∙ get_or-set_same c.args.marks.now.on root true false (omega (arith, at.0, at.1, c.requires.size))
+
+pub returns-in_ok-mark-clause-within : goal.returns-in_ok-mark-clause-within
+returns-in_ok-mark-clause-within c = λ trees gives within n on.
+    let at = tree_in c.args.old.now c.args.state.now c.requires.ready c.args.offer.group.0 c.args.offer.place c.pool_at.result c.root-root.result.0 c.requires.offer c.pool_at.ensures c.root-root.ensures in
+    elim (on_from_set c.args.marks.now.on c.root-root.result.0 n (sym (ap (λ ms. is_on ms n) c.in_ok-mark.ensures.on) ∙ on)) [
+      | inl e ↦ ap trees (e ∙ at.0) ∙ gives (omega (arith, c.if-units-gt0.true, c.units.ensures))
+      | inr was ↦ within n was
+    ]

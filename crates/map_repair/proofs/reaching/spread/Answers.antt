@@ -1,10 +1,35 @@
-use Rattle.std.proofs.Common.{◌∙◌}
+use Rattle.std.proofs.Common.{List, Bool, length, inl, inr, sym, ap, subst, ◌∙◌}
+use Rattle.map_model.specs.Market.{Market}
+use Rattle.map_repair.specs.Marks.{IsSettled, is_on}
+use Rattle.map_repair.proofs.Marking.{pending_rest, settled_on}
 use Rattle.map_repair.proofs.reaching.spread.Goals as goal
 
-pub loop-more-preserved : goal.loop-more-preserved
-loop-more-preserved c = record {
-  size = c.follow_all-more.ensures.marking.count ∙ c.loop-more.invariant.size;
-  kept = λ n on. c.follow_all-more.ensures.marking.kept n (c.loop-more.invariant.kept n on);
-  closed = c.follow_all-more.ensures.closed;
-  within = λ trees all within. c.follow_all-more.ensures.within trees all (c.loop-more.invariant.within trees all within);
-}
+pub loop-root-preserved : goal.loop-root-preserved
+loop-root-preserved c =
+    let m : Market = c.args.old.now in
+    let s = c.args.state.now in
+    let i = c.loop-root.invariant in
+    let e = c.in_ok-look_at.ensures in
+    let r = c.in-Some.root in
+    let new = c.look_at.new.marks in
+    let before = c.next.ensures.on in
+    record {
+      size = e.marking.count ∙ ap length before ∙ i.size;
+      groups = c.look_at.auto.done ∙ i.groups;
+      kept = λ n on. e.marking.kept n (ap (λ ms. is_on ms n) before ∙ i.kept n on);
+      done = e.done;
+      looked = λ n on. elim (e.marking.came n on) [
+        | inl was ↦ elim (i.looked n (sym (ap (λ ms. is_on ms n) before) ∙ was)) [
+          | inl waits ↦ elim (pending_rest c.loop-root.marks.pending c.next.new.self.pending r n c.in-Some.ensures.pending.2 waits) [
+            | inl rest ↦ inl (e.marking.waits n rest)
+            | inr is ↦ inr (subst (λ x. IsSettled m s new.on x) (sym is) e.settled)
+          ]
+          | inr settled ↦ inr (settled_on m s c.next.new.self new n e.marking (subst (λ (ms : List Bool). IsSettled m s ms n) (sym before) settled))
+        ]
+        | inr waits ↦ inl waits
+      ];
+      within = λ trees all within. e.within trees all (i.within trees all within r.0 c.in-Some.ensures.pending.1) (λ n on. i.within trees all within n (sym (ap (λ ms. is_on ms n) before) ∙ on));
+    }
+
+pub returns-clause-within : goal.returns-clause-within
+returns-clause-within c = λ trees all within n on. c.loop-root.invariant.within trees all within n (sym (ap (λ ms. is_on ms n) c.next.ensures.on) ∙ on)

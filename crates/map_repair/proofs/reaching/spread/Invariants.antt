@@ -1,14 +1,16 @@
-use Rattle.std.proofs.Common.{◌≡◌, ◌+◌, ◌<◌, ℕ, Bool, true, false, if◌then◌else◌, length}
-use Rattle.map_repair.specs.Marks.{IsClosedFor, IsWithin, is_on, unmarked}
+use Rattle.std.proofs.Common.{◌≡◌, ◌⊎◌, ℕ, Bool, true, length}
+use Rattle.map_repair.specs.Marks.{AreDone, IsClosedForAll, IsPending, IsSettled, IsWithin, is_on, left_of}
 use Rattle.map_repair.proofs.reaching.spread.Given as goal
 
-abbrev pub invariant-loop-more : goal.invariant-loop-more
-invariant-loop-more l = record {
-  size : length l.marks ≡ length l.fn.marks;
-  kept : (n : ℕ) → is_on l.fn.marks n ≡ true → is_on l.marks n ≡ true;
-  closed : l.more ≡ false → (h : ℕ) → h < length l.old.groups → IsClosedFor l.old l.state h (λ n. is_on l.marks n);
-  within : (trees : ℕ → Bool) → ((h : ℕ) → h < length l.old.groups → IsClosedFor l.old l.state h trees) → IsWithin l.fn.marks trees → IsWithin l.marks trees;
+abbrev pub invariant-loop-root : goal.invariant-loop-root
+invariant-loop-root l = record {
+  size : length l.marks.on ≡ length l.fn.marks.on;
+  groups : length l.done ≡ length l.fn.done;
+  kept : (n : ℕ) → is_on l.fn.marks.on n ≡ true → is_on l.marks.on n ≡ true;
+  done : AreDone l.old l.state.lines l.marks.on l.done;
+  looked : (n : ℕ) → is_on l.marks.on n ≡ true → IsPending l.marks n ⊎ IsSettled l.old l.state l.marks.on n;
+  within : (trees : ℕ → Bool) → IsClosedForAll l.old l.state trees → IsWithin l.fn.marks.on trees → IsWithin l.marks.on trees;
 }
 
-abbrev pub decreases-loop-more : goal.decreases-loop-more
-decreases-loop-more l = unmarked l.marks + (if l.more then 1 else 0)
+abbrev pub decreases-loop-root : goal.decreases-loop-root
+decreases-loop-root l = left_of l.marks

@@ -9,6 +9,7 @@ use Rattle.evict.specs.Standing.{Standing}
 use Rattle.reopen.specs.Rolling.{CanRollBack, IsRolledBack}
 use Rattle.deferred_accept.proofs.Past.{past_of_ended}
 use Rattle.map_repair.specs.Repaired.{IsKept, IsLocal, IsStateOf, IsWithinSpread}
+use Rattle.map_repair.proofs.Listing.{listing_shape}
 use Rattle.map_repair.proofs.Middle.{IsMiddle, bounded, can_roll_back, holds_work, kept, local, wants_rolled}
 use Rattle.map_repair.proofs.Spread.{local_spread, within_spread}
 use Rattle.map_repair.proofs.repairing.resume.Goals as goal
@@ -132,3 +133,9 @@ returns-clause-steps g c =
     = λ inside. within_spread old s.lines new c.args.steps.now c.run.new.steps k.of.ready.market k.shape c.in_ok-marks.marks.items k.reached (λ trees spread. bounded old new s mid c.in_ok-marks.marks.items k rolled rb trees spread final c.args.steps.now c.run.new.steps
     (inside trees (holds_work old new s mid c.in_ok-marks.marks.items k rolled rb trees spread))) in
     on_one _ _ c.run.result made c.run.ensures.inside
+
+pub returns-in_err-marks-clause-asked : goal.returns-in_err-marks-clause-asked
+returns-in_err-marks-clause-asked g c = listing_shape c.args.old.now c.args.new.now c.requires.shape c.args.asked.now c.requires.asked
+
+pub returns-clause-asked : goal.returns-clause-asked
+returns-clause-asked g c = listing_shape c.args.old.now c.args.new.now c.requires.shape c.args.asked.now c.requires.asked

@@ -1,7 +1,0 @@
-use Rattle.deferred_accept.proofs.Finished.{finished}
-use Rattle.deferred_accept.proofs.finishing.finish.Goals as goal
-
-pub returns-clause-good : goal.returns-clause-good
-returns-clause-good c =
-    let m = c.args.instance.now in
-    rw c.in_ok-lines.ensures.lines (finished m c.args.state c.in_ok-names.names.items c.requires.ready c.requires.ended c.in_ok-names.ensures)

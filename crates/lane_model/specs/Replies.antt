@@ -1,0 +1,18 @@
+-- The replies of versions: the stated replies, behind words that hide how they are made.
+use Rattle.std.specs.Prelude.{ℕ, Bool, List, Option}
+use Rattle.addr_text.specs.declared.address.Addr.{Addr}
+use Rattle.answer_core.specs.Reply as stated
+use Rattle.answer_core.specs.Silence as silence
+use Rattle.published_map.specs.Version.{Version}
+use Rattle.lane_model.specs.Lanes.{Answers}
+
+-- octets that have no reply
+unfoldable pub is_silent : List ℕ → Bool
+is_silent octets = silence.is_silent octets
+
+-- the stated reply of a version to octets from an address, with a draw
+unfoldable pub reply_of : Version → Addr → List ℕ → ℕ → Option (List ℕ)
+reply_of v from octets draw = stated.reply_of v from octets draw
+
+abbrev pub replies : Answers Version
+replies = record { reply = reply_of; silent = is_silent }

@@ -1,0 +1,205 @@
+//! The ranges of both families, and the search for the range of a number.
+ghost use Rattle.std.specs.Prelude.{◌≡◌, ℕ, ◌+◌, ◌-◌, ◌*◌, ◌<◌, ◌≤◌, ◌^◌, List, length, All, IfOk};
+ghost use Rattle.addr_text.specs.declared.address.Prefix.{Prefix};
+ghost use Rattle.map_model.specs.declared.instance.GroupId.{GroupId};
+ghost use Rattle.prefix_lookup.specs.declared.family.Family.TheVariants as family;
+ghost use Rattle.prefix_lookup.specs.Ranges.{AreRanges, IsLastUpTo, IsRangeAt, IsRangeOf, next_start, start_at};
+ghost use Rattle.prefix_lookup.specs.Table.{IsTable};
+
+use crate::family::Family;
+use crate::sweep::ranges_of;
+use addr_text::Prefix;
+use map_model::{GroupId, Steps};
+use no_memory::NoMemory;
+use std::alloc::Global;
+
+/// Numbers with the same longest prefix.
+#[derive(Clone, Copy, Debug, PartialEq, Eq)]
+pub struct Range {
+    pub group: GroupId,
+    /// The first number.
+    pub start: u128,
+    /// The number after the last, none where that is the last of the family.
+    pub end: Option<u128>,
+}
+
+/// The sorted ranges of IPv4: where each begins, and beside it its group.
+#[derive(Debug, Drop)]
+pub struct RangesV4 {
+    pub starts: Vec<u32>,
+    pub groups: Vec<GroupId>,
+}
+
+/// The sorted ranges of IPv6.
+#[derive(Debug, Drop)]
+pub struct RangesV6 {
+    pub starts: Vec<u128>,
+    pub groups: Vec<GroupId>,
+}
+
+/// Numbers of 32 bits in half a machine word each.
+fn narrow(alloc: Global, numbers: &[u128]) -> Result<Vec<u32>, NoMemory>
+    requires { (i : ℕ) → i < length numbers.now → start_at numbers.now i < 2 ^ 32 }
+    ensures { IfOk result (λ narrow. narrow.items ≡ numbers.now) }
+{
+    let mut narrow = Vec::with_capacity(alloc, numbers.len())?;
+    for number in numbers {
+        narrow.push(*number as u32)?;
+    }
+    Ok(narrow)
+}
+
+/// The ranges of the IPv4 prefixes.
+pub fn ranges_v4(alloc: Global, table: &[(Prefix, GroupId)]) -> Result<RangesV4, NoMemory>
+    requires { IsTable table.now }
+    ensures { IfOk result (λ r. AreRanges family.V4 table.now r.starts.items r.groups.items) }
+{
+    let made = ranges_of(alloc, Family::V4, table)?;
+    let starts = narrow(alloc, made.starts.as_slice())?;
+    Ok(RangesV4 {
+        starts,
+        groups: made.groups,
+    })
+}
+
+/// The ranges of the IPv6 prefixes.
+pub fn ranges_v6(alloc: Global, table: &[(Prefix, GroupId)]) -> Result<RangesV6, NoMemory>
+    requires { IsTable table.now }
+    ensures { IfOk result (λ r. AreRanges family.V6 table.now r.starts.items r.groups.items) }
+{
+    let made = ranges_of(alloc, Family::V6, table)?;
+    Ok(RangesV6 {
+        starts: made.starts,
+        groups: made.groups,
+    })
+}
+
+/// The last start up to a number, with a tick for each comparison.
+fn last_up_to_v4<L>(starts: &[u32], number: u32, steps: &mut Steps<L>) -> usize
+    requires some { 0 < length starts.now }
+    requires first { start_at starts.now 0 ≡ 0 }
+    ensures place { IsLastUpTo starts.now number result }
+    ensures few { 2 ^ (steps.new - steps.old) ≤ 2 * length starts.now }
+    ensures risen { steps.old ≤ steps.new }
+{
+    let mut low = 0;
+    let mut size = starts.len();
+    while size > 1 {
+        let half = size / 2;
+        steps.tick();
+        if starts[low + half] <= number {
+            low += half;
+            size -= half;
+        } else {
+            size = half;
+        }
+    }
+    low
+}
+
+/// The last start up to a number, with a tick for each comparison.
+fn last_up_to_v6<L>(starts: &[u128], number: u128, steps: &mut Steps<L>) -> usize
+    requires some { 0 < length starts.now }
+    requires first { start_at starts.now 0 ≡ 0 }
+    ensures place { IsLastUpTo starts.now number result }
+    ensures few { 2 ^ (steps.new - steps.old) ≤ 2 * length starts.now }
+    ensures risen { steps.old ≤ steps.new }
+{
+    let mut low = 0;
+    let mut size = starts.len();
+    while size > 1 {
+        let half = size / 2;
+        steps.tick();
+        if starts[low + half] <= number {
+            low += half;
+            size -= half;
+        } else {
+            size = half;
+        }
+    }
+    low
+}
+
+/// The start after this place, if there is one.
+fn next_v4(starts: &[u32], place: usize) -> Option<u128>
+    requires { place < length starts.now }
+    ensures { result ≡ next_start starts.now place }
+{
+    if place + 1 < starts.len() {
+        Some(u128::from(starts[place + 1]))
+    } else {
+        None
+    }
+}
+
+/// The start after this place, if there is one.
+fn next_v6(starts: &[u128], place: usize) -> Option<u128>
+    requires { place < length starts.now }
+    ensures { result ≡ next_start starts.now place }
+{
+    if place + 1 < starts.len() {
+        Some(starts[place + 1])
+    } else {
+        None
+    }
+}
+
+/// The range at a place.
+fn range_at_v4(starts: &[u32], groups: &[GroupId], place: usize) -> Range
+    requires place { place < length starts.now }
+    requires beside { length groups.now ≡ length starts.now }
+    ensures { IsRangeAt starts.now groups.now place result }
+{
+    Range {
+        group: groups[place],
+        start: u128::from(starts[place]),
+        end: next_v4(starts, place),
+    }
+}
+
+/// The range at a place.
+fn range_at_v6(starts: &[u128], groups: &[GroupId], place: usize) -> Range
+    requires place { place < length starts.now }
+    requires beside { length groups.now ≡ length starts.now }
+    ensures { IsRangeAt starts.now groups.now place result }
+{
+    Range {
+        group: groups[place],
+        start: starts[place],
+        end: next_v6(starts, place),
+    }
+}
+
+impl RangesV4 {
+    /// The range of an address.
+    pub fn range_of<L>(&self, number: u32, steps: &mut Steps<L>) -> Range
+        requires some { 0 < length self.now.starts.items }
+        requires first { start_at self.now.starts.items 0 ≡ 0 }
+        requires beside { length self.now.groups.items ≡ length self.now.starts.items }
+        ensures range { (table : List (Prefix × GroupId)) → AreRanges family.V4 table self.now.starts.items self.now.groups.items → IsRangeOf family.V4 table number result }
+        ensures fits { number < 2 ^ 32 }
+        ensures few { 2 ^ (steps.new - steps.old) ≤ 2 * length self.now.starts.items }
+        ensures risen { steps.old ≤ steps.new }
+    {
+        let starts = self.starts.as_slice();
+        let place = last_up_to_v4(starts, number, steps);
+        range_at_v4(starts, self.groups.as_slice(), place)
+    }
+}
+
+impl RangesV6 {
+    /// The range of an address.
+    pub fn range_of<L>(&self, number: u128, steps: &mut Steps<L>) -> Range
+        requires some { 0 < length self.now.starts.items }
+        requires first { start_at self.now.starts.items 0 ≡ 0 }
+        requires beside { length self.now.groups.items ≡ length self.now.starts.items }
+        ensures range { (table : List (Prefix × GroupId)) → AreRanges family.V6 table self.now.starts.items self.now.groups.items → IsRangeOf family.V6 table number result }
+        ensures fits { number < 2 ^ 128 }
+        ensures few { 2 ^ (steps.new - steps.old) ≤ 2 * length self.now.starts.items }
+        ensures risen { steps.old ≤ steps.new }
+    {
+        let starts = self.starts.as_slice();
+        let place = last_up_to_v6(starts, number, steps);
+        range_at_v6(starts, self.groups.as_slice(), place)
+    }
+}

@@ -1,0 +1,60 @@
+-- What the code's machine does is a step of the machine.
+use Rattle.std.proofs.Common.{◌≡◌, ◌⊎◌, ℕ, zero, suc, ◌+◌, ◌-◌, ◌<◌, ◌≤◌, true, false, List, [], ◌∷◌, ◌++◌, length, Option, None, Some, slice_get, slice_set, slice_index_or, refl, sym, ap, arith, inl, inr, ⊎_elim}
+use Rattle.outside.specs.Port.{Packet}
+use Rattle.published_map.specs.Version.{Version}
+use Rattle.answer_core.specs.Reply.{reply_of}
+use Rattle.lane_model.specs.Histories.{Follows}
+use Rattle.lane_model.specs.Kept.{IsKept}
+use Rattle.lane_model.specs.Lanes.{draw}
+use Rattle.lane_model.specs.Machine.{IsMoved, IsStep, IsTaken, LaneState, Machine, Takes, fresh, passed, replied, told}
+use Rattle.lane_model.specs.Machine as machine
+use Rattle.lane_model.specs.Replies.{is_silent, replies}
+use Rattle.lane_model.proofs.Keeps.{all_kept}
+use Rattle.lane_model.proofs.Stated.{none_silent, some_spoken}
+use Rattle.serve_core.specs.declared.event.Event.{Event}
+use Rattle.serve_core.specs.declared.event.StepFault.{StepFault}
+use Rattle.serve_core.specs.Events.{IsRefused, RunsTo}
+use Rattle.serve_core.specs.Events as events
+use Rattle.serve_core.specs.Takings.{IsTakenBy}
+
+moved_set : (xs : List LaneState) (k : ℕ) (d l' : LaneState) → k < length xs → IsMoved k (slice_index_or xs k d) l' xs (slice_set xs k l')
+moved_set [] k d l' lt = absurd (omega (arith, lt))
+moved_set (x ∷ xs) zero d l' lt = record { before = []; behind = xs; number = refl; old = refl; new = refl }
+moved_set (x ∷ xs) (suc k) d l' lt =
+    let r = moved_set xs k d l' (omega (arith, lt)) in
+    record { before = x ∷ r.before; behind = r.behind; number = let n = r.number in omega (arith, n); old = ap (λ y. x ∷ y) r.old; new = ap (λ y. x ∷ y) r.new }
+
+-- a lane learns of a serial
+pub tell_step : (m : Machine Version) (lane serial : ℕ) → lane < length m.lanes → serial < length m.history
+    → IsStep replies Follows (machine.tell lane serial) m (record m { lanes = slice_set m.lanes lane (told serial (slice_index_or m.lanes lane fresh)) })
+tell_step m lane serial lt there = (there, refl, (slice_index_or m.lanes lane fresh, moved_set m.lanes lane fresh (told serial (slice_index_or m.lanes lane fresh)) lt))
+
+takes : (h : List Version) (v : Version) (w : ℕ) (d : Packet) (s : ℕ) (old new : LaneState) → IsTakenBy v w d s old new → slice_get h s ≡ Some v → s < length h → old.seen ≤ s → Takes replies h w d s old new
+unfolding replies
+takes h v w d s old new (inl none) there lt le = (le, lt, inl (none_silent v d.from.addr d.octets (draw w old.count) none.0, none.1))
+takes h v w d s old new (inr some) there lt le = (
+  le,
+  lt,
+  inr (
+    some_spoken v d.from.addr d.octets (draw w old.count) some.0 some.1,
+    (record { octets = some.0; to = d.from; serial = s; went = true }, refl, record { to = refl; fresh = le; version = (v, there, some.1) }, some.2),
+  ),
+)
+
+-- a lane takes a datagram, and answers it from one version
+pub take_step : (m : Machine Version) (v : Version) (lane : ℕ) (d : Packet) (s : ℕ) (new : LaneState) → IsTakenBy v lane d s (slice_index_or m.lanes lane fresh) new → lane < length m.lanes → slice_get m.history s ≡ Some v → s < length m.history
+    → (slice_index_or m.lanes lane fresh).seen ≤ s → IsStep replies Follows (machine.take lane d s) m (record m { lanes = slice_set m.lanes lane new })
+take_step m v lane d s new taken lt there within le =
+    (refl, (slice_index_or m.lanes lane fresh, new, takes m.history v lane d s (slice_index_or m.lanes lane fresh) new taken there within le, moved_set m.lanes lane fresh new lt))
+
+-- the events that a run takes, as those of the machine
+pub run_taken : (es : List Event) (m m' : Machine Version) (fault : Option StepFault) → RunsTo es m m' fault → (taken : List (machine.Event Version)) × IsTaken replies Follows taken m m'
+run_taken [] m m' fault r = ([], r.1)
+run_taken (e ∷ es) m m' fault r =
+    ⊎_elim
+    (λ (q : (mid : Machine Version) × events.Takes e m mid × RunsTo es mid m' fault). let rest = run_taken es q.0 m' fault q.2 in (q.1.0 ∷ rest.0, (q.0, q.1.2, rest.1)))
+    (λ (q : (f : StepFault) × (fault ≡ Some f) × (m' ≡ m) × IsRefused e m f). ([], q.2)) r
+
+-- what a run keeps: a history, and lanes that are lane runs over it
+pub run_kept : (es : List Event) (m m' : Machine Version) (fault : Option StepFault) (first : Version) → RunsTo es m m' fault → IsKept replies Follows first m → IsKept replies Follows first m'
+run_kept es m m' fault first r kept = let taken = run_taken es m m' fault r in all_kept replies Follows first taken.0 m m' taken.1 kept

@@ -1,0 +1,12 @@
+-- Inside this crate alone: the rows of a lane, as what it took and tried.
+use Rattle.std.specs.Prelude.{true}
+use Rattle.outside.specs.Port.{Try}
+use Rattle.lane_model.specs.Lanes.{Entry}
+use Rattle.serve_core.specs.declared.lane.TakenRow.{TakenRow}
+use Rattle.serve_core.specs.declared.lane.TryRow.{TryRow}
+
+abbrev pub entry_of : TakenRow → Entry
+entry_of t = record { packet = record { octets = t.octets; from = t.from }; known = t.known }
+
+abbrev pub try_of : TryRow → Try
+try_of t = record { octets = t.octets.items; to = t.to; serial = t.serial; went = true }

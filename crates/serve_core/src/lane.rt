@@ -1,0 +1,143 @@
+//! One lane of the machine.
+ghost use Rattle.std.specs.Prelude.{◌≡◌, true, OnOk, OnErr};
+ghost use Rattle.lane_model.specs.Machine.{fresh, passed, replied, told};
+ghost use Rattle.published_map.specs.Version.{IsVersion};
+ghost use Rattle.serve_core.specs.Takings.{IsTakenBy};
+
+use crate::octets::Octets;
+use addr_text::Peer;
+use answer_core::{Answer, reply};
+use arrayvec::ArrayVec;
+use lane_model::{draw_of, next_number};
+use no_memory::NoMemory;
+use published_map::MapVersion;
+use std::alloc::Global;
+use std::marker::Model;
+
+/// A datagram that a lane took.
+#[derive(Drop)]
+pub struct TakenRow {
+    pub octets: Octets,
+    pub from: Peer,
+    pub known: u64,
+}
+
+/// A reply that a lane tried.
+#[derive(Drop)]
+pub struct TryRow {
+    pub octets: ArrayVec<u8, 512>,
+    pub to: Peer,
+    pub serial: u64,
+}
+
+/// A lane: the greatest serial that it used or was told of, the number of its next datagram, what it took and tried.
+#[derive(Drop)]
+pub struct LaneRow {
+    seen: u64,
+    count: u64,
+    taken: Vec<TakenRow>,
+    tries: Vec<TryRow>,
+}
+
+impl Model for LaneRow {
+    ghost use Rattle.std.specs.Prelude.{map};
+    ghost use Rattle.lane_model.specs.Machine.{LaneState};
+    ghost use Rattle.serve_core.specs.Lanes.{entry_of, try_of};
+
+    ghost Value = { LaneState };
+
+    ghost view = { λ l. record { seen = l.seen; count = l.count; taken = map entry_of l.taken.items; tries = map try_of l.tries.items } };
+}
+
+impl LaneRow {
+    /// A lane that took nothing.
+    pub fn new(alloc: Global) -> LaneRow
+        ensures { result ≡ fresh }
+    {
+        LaneRow {
+            seen: 0,
+            count: 0,
+            taken: Vec::new(alloc),
+            tries: Vec::new(alloc),
+        }
+    }
+
+    /// The greatest serial that it used or was told of.
+    pub fn seen(&self) -> u64
+        ensures { result ≡ self.now.seen }
+    {
+        self.seen
+    }
+
+    /// Learns of a serial.
+    pub fn tell(&mut self, serial: u64)
+        ensures { self.new ≡ told serial self.old }
+    {
+        self.seen = self.seen.max(serial);
+    }
+
+    /// Takes a datagram that has no reply.
+    fn pass(&mut self, octets: Octets, from: Peer, serial: u64) -> Result<(), NoMemory>
+        ensures ok { OnOk result (self.new ≡ passed (record { octets = octets; from = from }) serial self.old) }
+        ensures err { OnErr result (self.new ≡ self.old) }
+    {
+        let known = self.seen;
+        self.taken.push(TakenRow {
+            octets,
+            from,
+            known,
+        })?;
+        self.seen = serial;
+        self.count = next_number(self.count);
+        Ok(())
+    }
+
+    /// Takes a datagram, and tries a reply.
+    fn respond(
+        &mut self,
+        octets: Octets,
+        from: Peer,
+        serial: u64,
+        text: ArrayVec<u8, 512>,
+    ) -> Result<(), NoMemory>
+        ensures ok { OnOk result (self.new ≡ replied (record { octets = octets; from = from }) (record { octets = text.items; to = from; serial = serial; went = true }) self.old) }
+        ensures err { OnErr result (self.new ≡ self.old) }
+    {
+        self.tries.reserve(1)?;
+        let known = self.seen;
+        self.taken.push(TakenRow {
+            octets,
+            from,
+            known,
+        })?;
+        self.tries.push_reserved(TryRow {
+            octets: text,
+            to: from,
+            serial,
+        });
+        self.seen = serial;
+        self.count = next_number(self.count);
+        Ok(())
+    }
+
+    /// Takes a datagram, and answers it by that version.
+    pub fn take(
+        &mut self,
+        version: &MapVersion,
+        number: u8,
+        octets: Octets,
+        from: Peer,
+        serial: u64,
+    ) -> Result<(), NoMemory>
+        requires { IsVersion version.now }
+        ensures ok { OnOk result (IsTakenBy version.now number (record { octets = octets; from = from }) serial self.old self.new) }
+        ensures err { OnErr result (self.new ≡ self.old) }
+    {
+        let draw = draw_of(number, self.count);
+        let mut text = ArrayVec::new();
+        match reply(version, from.addr, octets.as_slice(), draw, &mut text) {
+            Answer::Silent => self.pass(octets, from, serial),
+            Answer::Sent => self.respond(octets, from, serial, text),
+        }
+    }
+}
