@@ -16,7 +16,7 @@ use std::collections::LinkedList;
 use std::marker::Brand;
 use std::sync::{Arc, Wait};
 use std::test::Fail;
-use topology_text::read_topology;
+use topology_text::{Topology, read_topology};
 use worlds::{EXAMPLE, EXAMPLE_TREE};
 
 /// A client of the second group.
@@ -44,20 +44,17 @@ fn is_good(alloc: Global, instance: &Instance, map: &MapLines) -> bool
     }
 }
 
-/// The first version of the example: two of seven units of the client's group are at the first pool.
-fn first_version(alloc: Global) -> Option<MapVersion>
+/// The first version of a topology.
+fn version_of(
+    alloc: Global,
+    topology: Topology,
+    instance: &Instance,
+    map: &MapLines,
+) -> Option<MapVersion>
+    requires instance { instance.now ≡ topology.market }
+    requires good { IsGood instance.now map.now.lines.items map.now.names.items }
     ensures { IfSome result (λ v. IsVersion v × (v.serial ≡ 0)) }
 {
-    let Ok(topology) = read_topology(alloc, EXAMPLE_TREE.as_bytes()) else {
-        return None;
-    };
-    let Ok(instance) = topology.instance().try_clone() else {
-        return None;
-    };
-    let map = EXAMPLE.map(alloc).ok()?;
-    if !is_good(alloc, &instance, &map) {
-        return None;
-    }
     let Ok(lookup) = Lookup::build(alloc, topology.prefixes()) else {
         return None;
     };
@@ -67,10 +64,39 @@ fn first_version(alloc: Global) -> Option<MapVersion>
     let Ok(shared) = Arc::new(alloc, Shared { topology, lookup }) else {
         return None;
     };
-    match MapVersion::make(alloc, 0, &instance, &map, shared) {
+    match MapVersion::make(alloc, 0, instance, map, shared) {
         Ok(version) => Some(version),
         Err(_) => None,
     }
+}
+
+/// An equal instance.
+fn copy_of(instance: &Instance) -> Option<Instance>
+    ensures { IfSome result (λ i. i ≡ instance.now) }
+{
+    match instance.try_clone() {
+        Ok(instance) => Some(instance),
+        Err(_) => None,
+    }
+}
+
+/// The first version of the example: two of seven units of the client's group are at the first pool.
+fn first_version(alloc: Global) -> Option<MapVersion>
+    ensures { IfSome result (λ v. IsVersion v × (v.serial ≡ 0)) }
+{
+    let Ok(topology) = read_topology(alloc, EXAMPLE_TREE.as_bytes()) else {
+        return None;
+    };
+    let Some(instance) = copy_of(topology.instance()) else {
+        return None;
+    };
+    let Ok(map) = EXAMPLE.map(alloc) else {
+        return None;
+    };
+    if !is_good(alloc, &instance, &map) {
+        return None;
+    }
+    version_of(alloc, topology, &instance, &map)
 }
 
 /// A port at which so many queries wait, whose sends with these numbers fail.
