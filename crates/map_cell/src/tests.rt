@@ -153,7 +153,8 @@ fn look<J: Naming, D: Door>(door: &mut D, viewer: &mut Viewer<J>) -> Option<Sigh
         |m: &MapVersion| -> Sight
             requires { IsVersion m.now }
         { sight_of(m) },
-    ).ok()
+    )
+    .ok()
 }
 
 /// Publishes what changes from one map to another.
@@ -460,8 +461,9 @@ fn opened_beside<J: Naming + Send + Sync, R: Wait + Threads + Sync>(
         return false;
     };
     let mut door = PlainDoor::new();
-    let Ok((publisher, viewers)) = open::<J, PlainDoor, R>(rt, alloc, history, version, 1, &mut door)
-    else {
+    let Ok((publisher, viewers)) = open::<J, PlainDoor, R>(
+        rt, alloc, history, version, 1, &mut door,
+    ) else {
         return false;
     };
     let mut viewers = viewers;

@@ -104,10 +104,12 @@ fn port_of(alloc: Global, queries: u8, failing: Vec<u64>) -> Option<MemPort> {
     let mut waiting = LinkedList::new(alloc);
     for _ in 0..queries {
         let octets = Vec::from_slice(alloc, QUERY).ok()?;
-        waiting.push_back(MemPacket {
-            octets,
-            from: CLIENT,
-        }).ok()?;
+        waiting
+            .push_back(MemPacket {
+                octets,
+                from: CLIENT,
+            })
+            .ok()?;
     }
     MemPort::new(alloc, waiting, Vec::new(alloc), Vec::new(alloc), failing).ok()
 }
@@ -131,7 +133,12 @@ fn pool_of(port: &MemPort, number: usize) -> u8 {
 }
 
 /// A lane with a viewer, over a port.
-fn serve_queries<J: Naming>(alloc: Global, viewer: Viewer<J>, number: u8, port: &mut MemPort) -> Option<Served> {
+fn serve_queries<J: Naming>(
+    alloc: Global,
+    viewer: Viewer<J>,
+    number: u8,
+    port: &mut MemPort,
+) -> Option<Served> {
     let mut worker = Worker::new(viewer, number);
     let mut gate = MemGate::new(alloc, 100).ok()?;
     let mut notes: MemNotes<Note<J>> = MemNotes::new(alloc, LinkedList::new(alloc)).ok()?;
@@ -158,7 +165,9 @@ fn opened<J: Naming, R: Wait>(
 {
     let version = first_version(alloc)?;
     let mut door = PlainDoor::new();
-    let Ok((publisher, viewers)) = open::<J, PlainDoor, R>(rt, alloc, history, version, 1, &mut door) else {
+    let Ok((publisher, viewers)) = open::<J, PlainDoor, R>(
+        rt, alloc, history, version, 1, &mut door,
+    ) else {
         return None;
     };
     let mut viewers = viewers;
@@ -171,7 +180,13 @@ fn opened<J: Naming, R: Wait>(
 }
 
 /// The same, of a history of its own.
-fn lane<R: Wait>(rt: &R, alloc: Global, number: u8, queries: u8, failing: Vec<u64>) -> Option<Served> {
+fn lane<R: Wait>(
+    rt: &R,
+    alloc: Global,
+    number: u8,
+    queries: u8,
+    failing: Vec<u64>,
+) -> Option<Served> {
     let mut port = port_of(alloc, queries, failing)?;
     opened::<Brand, R>(rt, alloc, EmptyHistory::new(), number, &mut port)
 }

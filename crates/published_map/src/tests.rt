@@ -178,11 +178,7 @@ fn asking_four(old: &Instance) -> Option<Instance>
 }
 
 /// What changes between good maps of two instances.
-fn between(
-    alloc: Global,
-    old: (&Instance, &MapLines),
-    new: (&Instance, &MapLines),
-) -> Option<Delta>
+fn between(alloc: Global, old: (&Instance, &MapLines), new: (&Instance, &MapLines)) -> Option<Delta>
     requires { IsSameShape old.0.now new.0.now }
 {
     let _ = (old.0.groups(), new.0.groups());
