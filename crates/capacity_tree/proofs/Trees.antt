@@ -1,3 +1,4 @@
+-- The trees that a list of parents makes.
 use Rattle.std.proofs.Common.{◌≡◌, ℕ, ◌<◌, ◌≤◌, ◌^◌, false, List, length, Option, None, Some, IfSome, IsFalse, slice_index_or, get_or, ◌⊎◌, sym, ap, ◌∙◌, subst, inl, inr, arith}
 use Rattle.std.proofs.lemmas.List.{get_or_default}
 use Rattle.std.proofs.Math.ListN.{get_or-map, get_or-eq_default, length-map}

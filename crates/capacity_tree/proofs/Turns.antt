@@ -1,3 +1,4 @@
+-- The turns of a walk that changes loads, and of one to the root.
 use Rattle.std.proofs.Common.{◌≡◌, ◌≢◌, ℕ, suc, ◌+◌, ◌-◌, ◌<◌, ◌≤◌, Bool, true, false, List, [], ◌∷◌, length, Option, None, Some, slice_index, slice_set, get_or-set_same, get_or-set_other, if◌then◌else◌, refl, sym, ap, ◌∙◌, subst, inl, inr, arith}
 use Rattle.std.proofs.lemmas.Bool.{cases_eq, ne_eqb}
 use Rattle.map_model.specs.declared.instance.NodeId.{NodeId}

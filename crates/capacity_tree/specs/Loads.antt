@@ -1,3 +1,4 @@
+-- Loads by node, and units that come to a pool or go from it.
 use Rattle.std.specs.Prelude.{◌≡◌, ℕ, ◌+◌, ◌<◌, false, List, [], length, Option, map, slice_index, IsTrue, if◌then◌else◌, ◌-◌}
 use Rattle.map_model.specs.declared.instance.Node.{Node}
 use Rattle.map_model.specs.declared.instance.NodeId.{NodeId}

@@ -1,3 +1,5 @@
+//! Loads by hand, on a small tree and on a chain of eight.
+
 use crate::Tree;
 use map_model::{Choice, ClientGroup, Instance, Node, NodeId};
 use std::alloc::Global;

@@ -1,3 +1,5 @@
+//! Loads on the trees of an instance.
+
 ghost use Rattle.std.specs.Prelude.{◌≡◌, ℕ, ◌+◌, ◌<◌, ◌≤◌, ◌^◌, length, map, replicate, slice_index, IfOk};
 ghost use Rattle.map_model.specs.Market.{IsMarket, path};
 ghost use Rattle.map_model.specs.Progress.{root_of};
@@ -5,7 +7,7 @@ ghost use Rattle.capacity_tree.specs.Loads.{AddsUnits, AreTreesOf, Loads, OnPath
 
 use crate::walks::{add_along, path_from, root_from, take_along};
 use arrayvec::ArrayVec;
-use map_model::{Instance, NodeId, Units};
+use map_model::{Instance, LEVELS, NodeId, Units};
 use no_memory::NoMemory;
 use std::alloc::Global;
 use std::marker::Model;
@@ -45,7 +47,7 @@ impl Tree {
     }
 
     /// The nodes from this one up to its root.
-    pub fn path(&self, node: NodeId) -> ArrayVec<NodeId, 8>
+    pub fn path(&self, node: NodeId) -> ArrayVec<NodeId, LEVELS>
         requires { node.0 < length self.now.trees.nodes }
         ensures { map (λ n. n.0) result.items ≡ path self.now.trees node.0 }
     {

@@ -7,17 +7,17 @@ ghost use Rattle.map_model.specs.Allocation.{is_under};
 ghost use Rattle.capacity_tree.specs.Loads.{trees_of};
 
 use arrayvec::ArrayVec;
-use map_model::{NodeId, Units};
+use map_model::{LEVELS, NodeId, Units};
 
 /// The nodes from this one up to its root.
-pub fn path_from(parents: &[Option<NodeId>], node: NodeId) -> ArrayVec<NodeId, 8>
+pub fn path_from(parents: &[Option<NodeId>], node: NodeId) -> ArrayVec<NodeId, LEVELS>
     requires market { IsMarket (trees_of parents.now) }
     requires node { node.0 < length parents.now }
     ensures { map (λ n. n.0) result.items ≡ path (trees_of parents.now) node.0 }
 {
     let mut path = ArrayVec::new();
     let mut at = Some(node);
-    for _step in 0..8usize {
+    for _step in 0..LEVELS {
         if let Some(node) = at {
             path.push(node);
             at = parents[node.0 as usize];
@@ -33,7 +33,7 @@ pub fn root_from(parents: &[Option<NodeId>], node: NodeId) -> NodeId
     ensures { result.0 ≡ root_of (trees_of parents.now) node.0 }
 {
     let mut root = node;
-    for _step in 0..7usize {
+    for _step in 0..LEVELS - 1 {
         if let Some(parent) = parents[root.0 as usize] {
             root = parent;
         }
@@ -51,7 +51,7 @@ pub fn add_along(parents: &[Option<NodeId>], pool: NodeId, units: Units, loads: 
         ≡ (if is_under (trees_of parents.now) n pool.0 then slice_index loads.old n + units else slice_index loads.old n) }
 {
     let mut at = Some(pool);
-    for _step in 0..8usize {
+    for _step in 0..LEVELS {
         if let Some(node) = at {
             loads[node.0 as usize] += units;
             at = parents[node.0 as usize];
@@ -69,7 +69,7 @@ pub fn take_along(parents: &[Option<NodeId>], pool: NodeId, units: Units, loads:
         ≡ (if is_under (trees_of parents.now) n pool.0 then slice_index loads.old n - units else slice_index loads.old n) }
 {
     let mut at = Some(pool);
-    for _step in 0..8usize {
+    for _step in 0..LEVELS {
         if let Some(node) = at {
             loads[node.0 as usize] -= units;
             at = parents[node.0 as usize];

@@ -1,10 +1,10 @@
+-- How many proposals were made, and the counter.
 use Rattle.std.proofs.Common.{◌≡◌, ℕ, ◌+◌, ◌-◌, ◌^◌, ◌<◌, ◌≤◌, ◌==◌, nat_lt, false, List, if◌then◌else◌, slice_index, suc, refl, sym, ap, ◌∙◌, subst, inl, inr, arith}
 use Rattle.std.proofs.lemmas.Bool.{cases_lt, eq-eqb, le-ltb, lt-ltb, ne_eqb}
 use Rattle.map_model.specs.Market.{Market}
 use Rattle.evict.specs.declared.freed.Eviction.{Eviction}
 use Rattle.evict.specs.Standing.{IsPut, Standing}
-use Rattle.deferred_accept.specs.Runs.{HasProposed}
-use Rattle.deferred_accept.specs.Work.{IsWaiting}
+use Rattle.deferred_accept.specs.Runs.{HasProposed, IsWaiting}
 
 -- a counter that rose by a number, and stands still at its end
 abbrev pub risen : ℕ → ℕ → ℕ

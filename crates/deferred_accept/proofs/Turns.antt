@@ -1,3 +1,4 @@
+-- One proposal of a run.
 use Rattle.std.proofs.Common.{◌≡◌, ℕ, ◌+◌, ◌<◌, ◌≤◌, ◌==◌, Bool, true, false, ◌&&◌, ◌||◌, nat_le, if◌then◌else◌, List, [], ◌∷◌, length, take, get_or, slice_index, slice_set, refl, sym, ap, ◌∙◌, subst, inl, inr, arith}
 use Rattle.std.proofs.lemmas.Bool.{and_parts, cases_Bool, cases_eq, eq-eqb, eqb-true, ne_eqb, or_cases, false≢true, leb-true, or_parts, or_left, or_right}
 use Rattle.std.proofs.lemmas.List.Folds.{list_any_more}
@@ -12,8 +13,8 @@ use Rattle.map_model.specs.Progress.{IsEnded}
 use Rattle.evict.specs.declared.freed.Eviction.{Eviction}
 use Rattle.evict.specs.Evictions.{freed_units, gave_up}
 use Rattle.evict.specs.Standing.{CanPut, IsPut, IsReady, Standing}
-use Rattle.deferred_accept.specs.Runs.{HasRun, most_proposals, proposals_of, worth, worth_of}
-use Rattle.deferred_accept.specs.Work.{CoversRest, CoversWork, IsDueOffer, IsWaiting, gave_any, is_on}
+use Rattle.deferred_accept.specs.Runs.{HasRun, most_proposals, proposals_of, IsWaiting}
+use Rattle.deferred_accept.specs.Work.{CoversRest, CoversWork, IsDueOffer, gave_any, is_on, worth, worth_of}
 use Rattle.deferred_accept.proofs.Sums.{sum-le, sum-lt}
 use Rattle.deferred_accept.proofs.Worth.{worth_falls}
 

@@ -1,3 +1,4 @@
+-- A run in a set of trees.
 use Rattle.std.proofs.Common.{◌≡◌, ℕ, ◌+◌, ◌-◌, ◌<◌, ◌≤◌, ◌==◌, Bool, true, false, ◌&&◌, if◌then◌else◌, List, [], ◌∷◌, length, All, IsFalse, slice_index, slice_index_or, refl, sym, ap, ◌∙◌, subst, inl, inr, arith}
 use Rattle.std.specs.List.{range_with_len, sum_by}
 use Rattle.std.proofs.lemmas.Bool.{and_from, and_parts, cases_Bool, cases_order, eq-eqb, eqb-true, ne_eqb, or_cases, false≢true}
@@ -14,9 +15,9 @@ use Rattle.evict.specs.Evictions.{freed_units, gave_up}
 use Rattle.evict.specs.Standing.{CanPut, IsPut, Standing}
 use Rattle.evict.proofs.Refusals.{refused_by}
 use Rattle.evict.proofs.Settled.{freed_more}
-use Rattle.deferred_accept.specs.Runs.{proposals_of, worth_of}
+use Rattle.deferred_accept.specs.Runs.{proposals_of, IsWaiting}
 use Rattle.deferred_accept.specs.Spreading.{HoldsWork, IsSameFor, StaysInside, is_inside}
-use Rattle.deferred_accept.specs.Work.{IsWaiting, gave_any}
+use Rattle.deferred_accept.specs.Work.{gave_any, worth_of}
 use Rattle.map_model.proofs.Roots.{root-under}
 use Rattle.deferred_accept.proofs.Sums.{sum-le, sum-lt}
 use Rattle.deferred_accept.proofs.Turns.{counted_step, none_at, none_freed, pointer_rises, waited}

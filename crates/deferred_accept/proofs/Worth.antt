@@ -1,3 +1,4 @@
+-- What a state has left to offer falls with each proposal.
 use Rattle.std.proofs.Common.{◌≡◌, ℕ, ◌+◌, ◌-◌, ◌*◌, ◌<◌, ◌≤◌, ◌==◌, Bool, true, false, ◌&&◌, if◌then◌else◌, List, [], ◌∷◌, length, slice_index, refl, ap, ◌∙◌, subst, arith}
 use Rattle.std.proofs.lemmas.Bool.{eq-eqb, or_parts}
 use Rattle.std.proofs.lemmas.List.Sums.{sum_by-cons}
@@ -8,7 +9,8 @@ use Rattle.evict.specs.declared.freed.Eviction.{Eviction}
 use Rattle.evict.specs.Evictions.{freed_units, gave_up}
 use Rattle.evict.specs.Standing.{CanPut, IsPut, IsReady, Standing}
 use Rattle.evict.proofs.Done.{gave_up_each}
-use Rattle.deferred_accept.specs.Runs.{proposals_of, worth_of}
+use Rattle.deferred_accept.specs.Runs.{proposals_of}
+use Rattle.deferred_accept.specs.Work.{worth_of}
 
 -- where an offer gave up nothing, none of its units are listed
 pub freed_none : (freed : List Eviction) (h k : ℕ) → gave_up freed h k ≡ false → freed_units (λ x y. (x == h) && (y == k)) freed ≡ 0

@@ -1,10 +1,10 @@
+-- What a run does to a state, and how many proposals it makes.
 use Rattle.std.specs.Prelude.{◌≡◌, ℕ, ◌+◌, ◌-◌, ◌*◌, ◌^◌, ◌<◌, ◌≤◌, nat_lt, true, if◌then◌else◌, zero, suc, List, length, slice_index, sum_by}
 use Rattle.std.specs.List.{range_with_len}
 use Rattle.map_model.specs.Market.{Market, choices_of, demand_of}
-use Rattle.map_model.specs.Allocation.{IsOffer, amount_at, placed_through, is_wanted}
+use Rattle.map_model.specs.Allocation.{IsOffer, placed_through, is_wanted}
 use Rattle.evict.specs.declared.freed.Eviction.{Eviction}
 use Rattle.evict.specs.Standing.{IsPut, IsReady, Standing}
-use Rattle.deferred_accept.specs.Work.{IsWaiting}
 
 -- how often a group may still offer: once for each unit of its demand and once more, at each place from its pointer on
 abbrev pub proposals_of : Market → List ℕ → ℕ → ℕ
@@ -24,6 +24,12 @@ pub record HasRun (m : Market) (old new : Standing) : Type 0 where
 abbrev pub WantsBefore : Market → Standing → Type 0
 WantsBefore m state = (g k : ℕ) → IsOffer m g k → k < slice_index state.pointers g → is_wanted m state.lines g k ≡ true
 
+-- the group has free units, and a place left at which to offer them
+pub record IsWaiting (m : Market) (state : Standing) (h : ℕ) : Type 0 where
+  pub group : h < length m.groups
+  pub free : 0 < slice_index state.free h
+  pub place : slice_index state.pointers h < length (choices_of m h)
+
 -- one proposal: a waiting group offered all its free units at its pointer, and offers lost what is listed
 pub record IsProposal (m : Market) (old new : Standing) : Type 0 where
   pub group : ℕ
@@ -41,11 +47,3 @@ pub record HasProposed (m : Market) (old new : Standing) (before after : ℕ) : 
   pub count : ℕ
   pub proposals : AreProposals m count old new
   pub counted : before < 2 ^ 64 → after ≡ (if nat_lt (before + count) (2 ^ 64) then before + count else 2 ^ 64 - 1)
-
--- what a group may still offer, less what it holds at its pointer
-abbrev pub worth_of : Market → Standing → ℕ → ℕ
-worth_of m state g = proposals_of m state.pointers g - amount_at state.lines g (slice_index state.pointers g)
-
--- the sum of that over all groups: it falls with each proposal
-abbrev pub worth : Market → Standing → ℕ
-worth m state = sum_by (worth_of m state) (range_with_len 0 (length m.groups))

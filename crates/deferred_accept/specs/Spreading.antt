@@ -1,3 +1,4 @@
+-- What stays as it is outside a set of trees.
 use Rattle.std.specs.Prelude.{◌≡◌, ℕ, ◌+◌, ◌<◌, ◌≤◌, Bool, true, IsTrue, IsFalse, if◌then◌else◌, List, length, slice_index, sum_by}
 use Rattle.std.specs.List.{range_with_len}
 use Rattle.map_model.specs.Market.{Market}
@@ -5,7 +6,7 @@ use Rattle.map_model.specs.Allocation.{IsOffer, amount_at, units_of}
 use Rattle.map_model.specs.Progress.{tree_of}
 use Rattle.evict.specs.Standing.{Standing}
 use Rattle.deferred_accept.specs.Runs.{proposals_of}
-use Rattle.deferred_accept.specs.Work.{IsWaiting}
+use Rattle.deferred_accept.specs.Runs.{IsWaiting}
 
 -- A set of trees is told by a test of their roots. A group is inside where the tree of its first place is one of the set.
 abbrev pub is_inside : Market → (ℕ → Bool) → ℕ → Bool

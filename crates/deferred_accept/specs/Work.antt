@@ -1,11 +1,13 @@
 -- Inside this crate alone: the list of work, and a run between two proposals.
-use Rattle.std.specs.Prelude.{◌≡◌, ℕ, ◌<◌, Bool, false, ◌||◌, ◌==◌, if◌then◌else◌, List, length, All, IsTrue, slice_index, slice_index_or, sum_by}
-use Rattle.std.specs.List.{list_any}
+use Rattle.std.specs.Prelude.{◌≡◌, ℕ, ◌-◌, ◌<◌, Bool, false, ◌||◌, ◌==◌, if◌then◌else◌, List, length, All, IsTrue, slice_index, slice_index_or, sum_by}
+use Rattle.std.specs.List.{list_any, range_with_len}
 use Rattle.map_model.specs.declared.instance.GroupId.{GroupId}
 use Rattle.map_model.specs.declared.instance.Offer.{Offer}
-use Rattle.map_model.specs.Market.{Market, choices_of}
+use Rattle.map_model.specs.Market.{Market}
+use Rattle.map_model.specs.Allocation.{amount_at}
 use Rattle.evict.specs.Standing.{Standing}
 use Rattle.evict.specs.declared.freed.Eviction.{Eviction}
+use Rattle.deferred_accept.specs.Runs.{IsWaiting, proposals_of}
 
 -- whether a group is on the list of work, by what that tells of each group
 abbrev pub is_on : List Bool → ℕ → Bool
@@ -19,12 +21,6 @@ times groups h = sum_by (λ (x : GroupId). if x.0 == h then 1 else 0) groups
 pub record HoldsEachOnce (groups : List GroupId) (on : List Bool) : Type 0 where
   pub there : All (λ x. x.0 < length on) groups
   pub once : (h : ℕ) → h < length on → times groups h ≡ (if is_on on h then 1 else 0)
-
--- the group has free units, and a place left at which to offer them
-pub record IsWaiting (m : Market) (state : Standing) (h : ℕ) : Type 0 where
-  pub group : h < length m.groups
-  pub free : 0 < slice_index state.free h
-  pub place : slice_index state.pointers h < length (choices_of m h)
 
 -- a list of work for the groups of the instance, with each waiting one on it
 pub record CoversWork (m : Market) (state : Standing) (work : List Bool) : Type 0 where
@@ -44,3 +40,11 @@ pub record IsDueOffer (m : Market) (state : Standing) (o : Offer) : Type 0 where
 -- the group gave up units at some place
 abbrev pub gave_any : List Eviction → ℕ → Bool
 gave_any freed h = list_any (λ (e : Eviction). e.offer.group.0 == h) freed
+
+-- what a group may still offer, less what it holds at its pointer
+abbrev pub worth_of : Market → Standing → ℕ → ℕ
+worth_of m state g = proposals_of m state.pointers g - amount_at state.lines g (slice_index state.pointers g)
+
+-- the sum of that over all groups: it falls with each proposal
+abbrev pub worth : Market → Standing → ℕ
+worth m state = sum_by (worth_of m state) (range_with_len 0 (length m.groups))

@@ -1,3 +1,5 @@
+//! Proposals until none is left.
+
 ghost use Rattle.std.specs.Prelude.{◌≡◌, ◌+◌, ◌≤◌, ℕ, Bool, OnOk};
 ghost use Rattle.map_model.specs.Progress.{IsEnded};
 ghost use Rattle.evict.specs.Standing.{IsReady};

@@ -1,3 +1,5 @@
+//! Small worlds, whose maps were found by trying every one.
+
 ghost use Rattle.std.specs.Prelude.{OnOk};
 
 use crate::{finish, run};

@@ -4,6 +4,6 @@ mod Spaces
 mod FileLines
 pub mod Fronts
 pub mod Items
-mod Tellings
+pub mod Tellings
 pub mod Worked
 pub mod Ends

@@ -1,3 +1,4 @@
+-- The fresh state.
 use Rattle.std.proofs.Common.{◌≡◌, ℕ, zero, suc, ◌<◌, true, List, [], length, replicate, slice_index, refl, sym, ap, ◌∙◌, subst, arith}
 use Rattle.std.proofs.Math.ListN.{length-replicate}
 use Rattle.capacity_tree.specs.Loads.{AreTreesOf, Loads}

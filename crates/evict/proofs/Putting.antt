@@ -1,3 +1,4 @@
+-- One eviction in the middle of a put.
 use Rattle.std.proofs.Common.{◌≡◌, ℕ, ◌+◌, ◌-◌, ◌<◌, ◌≤◌, ◌==◌, Bool, true, false, not, ◌&&◌, length, if◌then◌else◌, ◌⊎◌, List, refl, sym, ◌∙◌, subst, inl, inr, arith}
 use Rattle.std.proofs.lemmas.Bool.{and_parts, and_from, cases_Bool, cases_eq, false≢true, eq-eqb, ne_eqb, eqb-true, not_from_true}
 use Rattle.map_model.specs.declared.instance.Key.{Key}

@@ -1,3 +1,4 @@
+-- What depends on the shape of an instance alone, of lines and loads.
 use Rattle.std.proofs.Common.{◌≡◌, ℕ, ◌-◌, ◌==◌, Bool, true, not, ◌&&◌, ◌||◌, nat_lt, if◌then◌else◌, List, length, Some, sym, ap, ◌∙◌, subst}
 use Rattle.std.specs.List.{list_any}
 use Rattle.capacity_tree.specs.Loads.{AreTreesOf}

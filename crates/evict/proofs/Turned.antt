@@ -1,3 +1,4 @@
+-- Offers that gave up units are refused.
 use Rattle.std.proofs.Common.{◌≡◌, ℕ, ◌+◌, ◌<◌, ◌≤◌, true, if◌then◌else◌, List, length, refl, subst, inl, inr, arith}
 use Rattle.std.proofs.lemmas.Bool.{and_parts}
 use Rattle.map_model.specs.declared.lines.MapLine.{MapLine}

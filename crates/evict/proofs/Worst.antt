@@ -1,3 +1,4 @@
+-- The worst offer under a node decides whether all are ranked at least as high as a key.
 use Rattle.std.proofs.Common.{◌≡◌, ℕ, ◌==◌, true, false, not, ◌&&◌, List, refl, sym, ap, ◌∙◌, inl, inr, arith}
 use Rattle.std.proofs.lemmas.Bool.{and_from, and_parts, cases_Bool, eq-eqb, eqb-true, ne_eqb}
 use Rattle.map_model.specs.declared.instance.Key.{Key}

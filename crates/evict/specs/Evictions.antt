@@ -1,3 +1,4 @@
+-- What offers give up in a put, and what that does to free units and pointers.
 use Rattle.std.specs.Prelude.{◌≡◌, ℕ, ◌+◌, ◌<◌, ◌≤◌, ◌^◌, length, slice_index, Bool, ◌&&◌, ◌==◌, if◌then◌else◌, List, All, sum_by}
 use Rattle.std.specs.List.{list_any}
 use Rattle.map_model.specs.Market.{Market}

@@ -1,3 +1,5 @@
+//! What offers give up in a put.
+
 ghost use Rattle.std.specs.Prelude.{◌≡◌, ◌++◌, [], ◌∷◌, OnOk};
 
 use map_model::{Offer, Units};

@@ -7,7 +7,7 @@ ghost use Rattle.map_model.specs.Allocation.{IsOffer, is_full_of_better, none_wo
 ghost use Rattle.evict.specs.Putting.{AgreesWith};
 
 use capacity_tree::Tree;
-use map_model::{Instance, Key, NodeId, Offer};
+use map_model::{Instance, Key, LEVELS, NodeId, Offer};
 use offer_pool::Held;
 
 /// Whether a node is full and holds only offers ranked at least as high as that key.
@@ -42,7 +42,7 @@ pub fn refuser(instance: &Instance, held: &Held, tree: &Tree, offer: Offer) -> O
 {
     let key = instance.key(offer);
     let mut at = Some(key.pool);
-    for _step in 0..8usize {
+    for _step in 0..LEVELS {
         if let Some(node) = at {
             if is_refusing(instance, held, tree, node, key) {
                 return Some(node);

@@ -1,8 +1,12 @@
+//! Plays by hand, put by put.
+
 ghost use Rattle.std.specs.Prelude.{OnOk};
 ghost use Rattle.evict.specs.Standing.{IsReady};
 
 use crate::{Eviction, Freed, State};
-use map_model::{Choice, ClientGroup, GroupId, Instance, MapLine, Node, NodeId, Offer, Steps, Units};
+use map_model::{
+    Choice, ClientGroup, GroupId, Instance, MapLine, Node, NodeId, Offer, Steps, Units,
+};
 use std::alloc::Global;
 use std::test::Fail;
 

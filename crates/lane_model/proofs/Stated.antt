@@ -1,29 +1,37 @@
 -- Which octets have a reply.
-use Rattle.std.proofs.Common.{◌≡◌, ℕ, true, false, List, None, Some, refl}
+use Rattle.std.proofs.Common.{◌≡◌, ℕ, Bool, true, false, List, Option, None, Some, refl}
 use Rattle.addr_text.specs.declared.address.Addr.{Addr}
 use Rattle.published_map.specs.Version.{Version}
-use Rattle.answer_core.specs.Grammar.{Datagram, datagram_of, Silent, NotImp, Form, Query}
-use Rattle.answer_core.specs.Reply.{is_silent_datagram, reply_to}
+use Rattle.answer_core.proofs.Silence.{only_if_silent, unanswered}
+use Rattle.answer_core.specs.Silence as silence
+use Rattle.answer_core.specs.Reply as stated
+use Rattle.answer_core.specs.Reply.{Replies}
+use Rattle.answer_core.specs.declared.replying.Answer.{Answer}
+use Rattle.answer_core.specs.declared.replying.Answer.TheVariants.{Sent, Silent}
 use Rattle.lane_model.specs.Replies.{is_silent, reply_of}
-
-none_unanswered : (v : Version) (from : Addr) (d : Datagram) (draw : ℕ) → reply_to v from d draw ≡ None → is_silent_datagram d ≡ true
-none_unanswered v from Silent draw is = refl
-none_unanswered v from (NotImp h) draw is = absurd (cc)
-none_unanswered v from (Form h) draw is = absurd (cc)
-none_unanswered v from (Query r) draw is = absurd (cc)
 
 -- what has no reply is silent
 pub none_silent : (v : Version) (from : Addr) (octets : List ℕ) (draw : ℕ) → reply_of v from octets draw ≡ None → is_silent octets ≡ true
 unfolding is_silent reply_of
-none_silent v from octets draw is = none_unanswered v from (datagram_of octets) draw is
+none_silent v from octets draw is = only_if_silent v from octets draw is
 
-some_answered : (v : Version) (from : Addr) (d : Datagram) (draw : ℕ) (text : List ℕ) → reply_to v from d draw ≡ Some text → is_silent_datagram d ≡ false
-some_answered v from Silent draw text is = absurd (cc)
-some_answered v from (NotImp h) draw text is = refl
-some_answered v from (Form h) draw text is = refl
-some_answered v from (Query r) draw text is = refl
+two_ways : (o : Option (List ℕ)) (text : List ℕ) → o ≡ None → o ≡ Some text → ⊥
+two_ways o text none some = cc
 
 -- what has a reply is not silent
 pub some_spoken : (v : Version) (from : Addr) (octets : List ℕ) (draw : ℕ) (text : List ℕ) → reply_of v from octets draw ≡ Some text → is_silent octets ≡ false
 unfolding is_silent reply_of
-some_spoken v from octets draw text is = some_answered v from (datagram_of octets) draw text is
+some_spoken v from octets draw text is = by (silence.is_silent octets) refl
+  where
+    by : (b : Bool) → silence.is_silent octets ≡ b → b ≡ false
+    by true silent = absurd (two_ways (stated.reply_of v from octets draw) text (unanswered v from octets draw silent) is)
+    by false silent = refl
+
+both_ways : (b : Bool) → b ≡ true → b ≡ false → ⊥
+both_ways b yes_is no_is = cc
+
+-- octets that are not silent were answered by what was written
+pub replied : (v : Version) (from : Addr) (octets : List ℕ) (draw : ℕ) (answer : Answer) (out : List ℕ) → is_silent octets ≡ false → Replies answer out (stated.reply_of v from octets draw) → reply_of v from octets draw ≡ Some out
+unfolding is_silent reply_of
+replied v from octets draw Sent out spoken r = r
+replied v from octets draw Silent out spoken r = absurd (both_ways (silence.is_silent octets) (only_if_silent v from octets draw r.0) spoken)

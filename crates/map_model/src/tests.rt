@@ -1,3 +1,5 @@
+//! Instances by hand: their parts, one number changed, and rows that are none.
+
 use crate::{Choice, ClientGroup, GroupId, Instance, Key, Node, NodeId, Offer};
 use std::alloc::Global;
 use std::test::Fail;

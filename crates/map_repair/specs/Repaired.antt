@@ -1,3 +1,4 @@
+-- What repair keeps, and how many proposals it may make.
 use Rattle.std.specs.Prelude.{◌≡◌, ℕ, ◌+◌, ◌*◌, ◌<◌, ◌≤◌, Bool, IsTrue, if◌then◌else◌, List, length, slice_index, sum_by}
 use Rattle.std.specs.List.{range_with_len}
 use Rattle.map_model.specs.declared.lines.MapLine.{MapLine}

@@ -10,7 +10,10 @@ use no_memory::NoMemory;
 use stable_check::{CheckRoom, Verdict, check};
 use std::alloc::Global;
 use std::test::Fail;
-use worlds::{FULL_REGION, NameAt, Placed, TWO_GOOD_MAPS, World, map_of};
+use worlds::{
+    EMPTY_POOL, EXAMPLE, FULL_REGION, NameAt, Placed, REFUSER_NO_LONGER_FULL, TWO_GOOD_MAPS, World,
+    map_of,
+};
 
 /// What the proposals of these tests are counted as.
 struct Proposals;
@@ -239,6 +242,72 @@ fn repairs_as_told(
         map = made;
     }
     Ok(true)
+}
+
+/// Whether the repaired map is good after one change.
+fn is_repaired(
+    alloc: Global,
+    old: &Instance,
+    map: &MapLines,
+    change: Change,
+) -> Result<bool, Fail> {
+    let mut steps = Steps::new();
+    let new = changed(alloc, old, &[change])?;
+    let made = repaired(alloc, old, map, &new, &mut steps)?;
+    Ok(is_good(alloc, &new, &made)?)
+}
+
+/// Whether the repaired map is good after each change of one demand.
+fn are_demands_repaired(alloc: Global, old: &Instance, map: &MapLines) -> Result<bool, Fail> {
+    for g in 0..old.groups() {
+        for demand in [1, 2, 7, u32::MAX] {
+            let group = GroupId(g);
+            if !is_repaired(alloc, old, map, Demand { group, demand })? {
+                return Ok(false);
+            }
+        }
+    }
+    Ok(true)
+}
+
+/// Whether the repaired map is good after each change of one capacity.
+fn are_capacities_repaired(alloc: Global, old: &Instance, map: &MapLines) -> Result<bool, Fail> {
+    for n in 0..old.nodes() {
+        for capacity in [0, 1, 4, map_model::MOST_CAPACITY] {
+            let node = NodeId(n);
+            if !is_repaired(alloc, old, map, Capacity { node, capacity })? {
+                return Ok(false);
+            }
+        }
+    }
+    Ok(true)
+}
+
+#[test]
+fn repairs_each_single_change(rt: HostRuntime) -> Result<(), Fail> {
+    let alloc = rt.alloc();
+    let worlds = [
+        EXAMPLE,
+        REFUSER_NO_LONGER_FULL,
+        FULL_REGION,
+        TWO_GOOD_MAPS,
+        EMPTY_POOL,
+    ];
+    for world in worlds {
+        let instance = world.instance(alloc)?.ok_or("no instance")?;
+        let map = world.map(alloc)?;
+        assert!(rt;
+            are_demands_repaired(alloc, &instance, &map)?,
+            "{}",
+            world.name
+        );
+        assert!(rt;
+            are_capacities_repaired(alloc, &instance, &map)?,
+            "{}",
+            world.name
+        );
+    }
+    Ok(())
 }
 
 #[test]

@@ -32,7 +32,6 @@ fn has_none(octets: &[u8]) -> bool
 }
 
 /// The reply of a version to octets that have one.
-#[tactic(auto, unfolding(lane_model::specs::Replies::is_silent, lane_model::specs::Replies::reply_of))]
 fn reply_by(version: &MapVersion, from: Addr, octets: &[u8], draw: u64) -> ArrayVec<u8, 512>
     requires version { IsVersion version.now }
     requires spoken { is_silent octets.now ≡ false }

@@ -1,3 +1,4 @@
+-- What contracts see of held offers.
 use Rattle.std.specs.Prelude.{List}
 use Rattle.map_model.specs.declared.lines.MapLine.{MapLine}
 use Rattle.map_model.specs.Market.{Market}

@@ -7,7 +7,7 @@ ghost use Rattle.offer_pool.specs.Table.{amount_in, place_at};
 ghost use Rattle.offer_pool.specs.Filed.{IsLive, queue_at};
 
 use crate::queue::{Queue, Seat};
-use map_model::{GroupId, NodeId};
+use map_model::{GroupId, NodeId, PLACES};
 use no_memory::NoMemory;
 use std::alloc::Global;
 
@@ -15,7 +15,7 @@ use std::alloc::Global;
 pub fn place_at(group: GroupId, place: u8) -> usize
     ensures { result ≡ place_at group.0 place }
 {
-    group.0 as usize * 16 + usize::from(place)
+    group.0 as usize * PLACES + usize::from(place)
 }
 
 /// So many queues with no seat.

@@ -8,7 +8,7 @@ ghost use Rattle.offer_pool.specs.Holdings.{Holdings};
 use crate::filing::{empty_queues, place_at};
 use crate::queue::Queue;
 use crate::table::{lines_of, put_lines, put_units, take_units};
-use map_model::{Instance, Key, MapLine, MapLines, NodeId, Offer, Units};
+use map_model::{Instance, Key, MapLine, MapLines, NodeId, Offer, PLACES, Units};
 use no_memory::NoMemory;
 use std::alloc::Global;
 use std::marker::Model;
@@ -40,7 +40,7 @@ impl Held {
         ensures held { IfOk result (λ held. held ≡ record { market = instance.now; lines = map.now.lines.items }) }
         ensures market { IfOk result (λ held. IsMarket held.market) }
     {
-        let mut amounts = vec![in alloc; 0u32; instance.groups() as usize * 16]?;
+        let mut amounts = vec![in alloc; 0u32; instance.groups() as usize * PLACES]?;
         let mut queues = empty_queues(alloc, instance.nodes())?;
         put_lines(
             instance,

@@ -7,6 +7,5 @@ mod queue;
 mod table;
 #[cfg(test)]
 mod tests;
-mod walk;
 
 pub use held::Held;

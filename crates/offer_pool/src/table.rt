@@ -9,9 +9,8 @@ ghost use Rattle.offer_pool.specs.Filed.{IsHeld};
 
 use crate::filing::{clean_all, place_at, push_all};
 use crate::queue::{Queue, Seat};
-use crate::walk::path;
 use arrayvec::ArrayVec;
-use map_model::{GroupId, Instance, MapLine, NodeId, Offer, Units};
+use map_model::{GroupId, Instance, LEVELS, MapLine, NodeId, Offer, PLACES, Units};
 use no_memory::NoMemory;
 use std::alloc::Global;
 
@@ -30,13 +29,13 @@ fn seat_of(instance: &Instance, offer: Offer) -> Seat
 }
 
 /// The nodes under which an offer stands.
-fn nodes_above(instance: &Instance, offer: Offer) -> ArrayVec<NodeId, 8>
+fn nodes_above(instance: &Instance, offer: Offer) -> ArrayVec<NodeId, LEVELS>
     requires market { IsMarket instance.now }
     requires offer { IsOffer instance.now offer.group.0 offer.place }
     ensures among { (n : ℕ) → list_any (λ x. x.0 == n) result.items ≡ counts_at instance.now n offer.group.0 offer.place }
     ensures there { (n : ℕ) → list_any (λ x. x.0 == n) result.items ≡ true → n < length instance.now.nodes }
 {
-    path(instance, instance.pool_at(offer))
+    instance.path(instance.pool_at(offer))
 }
 
 /// Files an offer that holds nothing, and gives it units. Where memory is wanted, a seat that was filed in vain is cleaned away where it is the worst, and else does no harm.
@@ -144,8 +143,8 @@ pub fn lines_of(alloc: Global, amounts: &[u32]) -> Result<Vec<MapLine>, NoMemory
     for (i, amount) in amounts.iter().enumerate() {
         if *amount > 0 {
             lines.push(MapLine {
-                group: GroupId((i / 16) as u32),
-                place: (i % 16) as u8,
+                group: GroupId((i / PLACES) as u32),
+                place: (i % PLACES) as u8,
                 amount: *amount,
             })?;
         }

@@ -1,3 +1,5 @@
+//! What is held, beside a plain scan of all offers.
+
 ghost use Rattle.std.specs.Prelude.{◌≡◌};
 ghost use Rattle.map_model.specs.Allocation.{IsOffer};
 

@@ -1,3 +1,4 @@
+-- One offer before another.
 use Rattle.std.specs.Prelude.{Bool}
 use Rattle.std.specs.Ordering.{is_lt}
 use Rattle.map_model.specs.declared.instance.Key.{Key}

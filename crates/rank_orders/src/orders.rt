@@ -1,3 +1,5 @@
+//! The order of offers, and the next place of a list.
+
 ghost use Rattle.std.specs.Prelude.{◌≡◌, ◌+◌, IfOk, IsTrue, IsFalse, Some, None, length, nat_lt, if◌then◌else◌};
 ghost use Rattle.map_model.specs.Market.{Market, choices_of};
 ghost use Rattle.map_model.specs.Allocation.{IsOffer};

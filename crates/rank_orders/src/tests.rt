@@ -1,3 +1,5 @@
+//! Offers by hand.
+
 ghost use Rattle.std.specs.Prelude.{◌≡◌};
 
 use crate::Orders;

@@ -1,3 +1,4 @@
+-- Sending groups back to the first place in a marked tree.
 use Rattle.std.specs.Prelude.{◌≡◌, ℕ, ◌+◌, ◌<◌, ◌≤◌, Bool, true, false, not, ◌&&◌, ◌==◌, nat_lt, nat_le, List, length, IsTrue, IsSome, slice_index, slice_index_or, slice_set}
 use Rattle.map_model.specs.Market.{Market, IsMarket, IsSameShape, capacity_of, choices_of, demand_of}
 use Rattle.map_model.specs.Allocation.{AreLines, IsOffer, amount_at, load, placed, refuser_of, units_of}

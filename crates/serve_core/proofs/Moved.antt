@@ -2,13 +2,12 @@
 use Rattle.std.proofs.Common.{◌≡◌, ◌⊎◌, ℕ, zero, suc, ◌+◌, ◌-◌, ◌<◌, ◌≤◌, true, false, List, [], ◌∷◌, ◌++◌, length, Option, None, Some, slice_get, slice_set, slice_index_or, refl, sym, ap, arith, inl, inr, ⊎_elim}
 use Rattle.outside.specs.Port.{Packet}
 use Rattle.published_map.specs.Version.{Version}
-use Rattle.answer_core.specs.Reply.{reply_of}
 use Rattle.lane_model.specs.Histories.{Follows}
 use Rattle.lane_model.specs.Kept.{IsKept}
 use Rattle.lane_model.specs.Lanes.{draw}
 use Rattle.lane_model.specs.Machine.{IsMoved, IsStep, IsTaken, LaneState, Machine, Takes, fresh, passed, replied, told}
 use Rattle.lane_model.specs.Machine as machine
-use Rattle.lane_model.specs.Replies.{is_silent, replies}
+use Rattle.lane_model.specs.Replies.{is_silent, reply_of, replies}
 use Rattle.lane_model.proofs.Keeps.{all_kept}
 use Rattle.lane_model.proofs.Stated.{none_silent, some_spoken}
 use Rattle.serve_core.specs.declared.event.Event.{Event}
@@ -30,7 +29,6 @@ pub tell_step : (m : Machine Version) (lane serial : ℕ) → lane < length m.la
 tell_step m lane serial lt there = (there, refl, (slice_index_or m.lanes lane fresh, moved_set m.lanes lane fresh (told serial (slice_index_or m.lanes lane fresh)) lt))
 
 takes : (h : List Version) (v : Version) (w : ℕ) (d : Packet) (s : ℕ) (old new : LaneState) → IsTakenBy v w d s old new → slice_get h s ≡ Some v → s < length h → old.seen ≤ s → Takes replies h w d s old new
-unfolding replies
 takes h v w d s old new (inl none) there lt le = (le, lt, inl (none_silent v d.from.addr d.octets (draw w old.count) none.0, none.1))
 takes h v w d s old new (inr some) there lt le = (
   le,

@@ -4,7 +4,7 @@ use Rattle.map_model.specs.declared.change.Change.{Change}
 use Rattle.map_model.specs.declared.lines.MapLines.{MapLines}
 use Rattle.outside.specs.Port.{Packet}
 use Rattle.published_map.specs.Version.{Version}
-use Rattle.answer_core.specs.Reply.{reply_of}
+use Rattle.lane_model.specs.Replies.{reply_of}
 use Rattle.lane_model.specs.Lanes.{draw}
 use Rattle.lane_model.specs.Machine.{LaneState, Machine, passed, replied}
 use Rattle.serve_core.specs.declared.event.StepFault.{StepFault}

@@ -121,6 +121,7 @@ impl LaneRow {
     }
 
     /// Takes a datagram, and answers it by that version.
+    #[tactic(auto, unfolding(lane_model::specs::Replies::reply_of))]
     pub fn take(
         &mut self,
         version: &MapVersion,

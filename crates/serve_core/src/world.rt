@@ -1,5 +1,5 @@
 //! The machine over published versions.
-ghost use Rattle.std.specs.Prelude.{◌≡◌, ◌≤◌, ◌<◌, ◌+◌, ◌∷◌, ◌++◌, [], All, Some, length, replicate, slice_set, IfOk, IfErr, OnOk, OnErr};
+ghost use Rattle.std.specs.Prelude.{◌≡◌, ◌≤◌, ◌<◌, ◌+◌, ◌∷◌, ◌++◌, [], All, Some, length, replicate, slice_get, slice_set, IfOk, IfErr, OnOk, OnErr};
 ghost use Rattle.std.specs.Result.{result_err};
 ghost use Rattle.lane_model.specs.Histories.{Follows};
 ghost use Rattle.lane_model.specs.Kept.{IsKept};
@@ -58,6 +58,14 @@ fn judge(alloc: Global, instance: &Instance, map: &MapLines) -> Result<Verdict, 
     Ok(check(instance, map, &mut room))
 }
 
+/// The version of that serial.
+fn version_at(versions: &[MapVersion], serial: u64) -> &MapVersion
+    requires { serial < length versions.now }
+    ensures { slice_get versions.now serial ≡ Some result.now }
+{
+    &versions[serial as usize]
+}
+
 /// What a version shares with the others of its topology.
 fn share(version: &MapVersion) -> Result<Arc<Shared>, NoMemory>
     ensures plan { IfOk result (λ shared. plan_of (arc_value shared) ≡ version.now.plan) }
@@ -107,16 +115,16 @@ impl World {
         ensures next { IfOk result (λ made. IsCommitOf self.now.history batch.now map.now made.1 × (made.1.market ≡ made.0)) }
         ensures refused { IfErr result (λ fault. IsCommitFault self.now.history batch.now map.now fault) }
     {
+        let newest = self.newest();
+        let last = version_at(self.versions.as_slice(), newest);
         let mut instance = self.instance.try_clone()?;
         apply(&mut instance, batch);
         match judge(self.alloc, &instance, map)? {
             Verdict::Good => {}
             verdict => return Err(StepFault::NotGood(verdict)),
         }
-        let last = &self.versions[self.versions.len() - 1];
         let shared = share(last)?;
-        let serial = self.versions.len() as u64;
-        let version = MapVersion::make(self.alloc, serial, &instance, map, shared)?;
+        let version = MapVersion::make(self.alloc, newest + 1, &instance, map, shared)?;
         Ok((instance, version))
     }
 
@@ -171,7 +179,7 @@ impl World {
         if serial < seen {
             return Err(StepFault::Behind { serial, seen });
         }
-        let version = &self.versions[serial as usize];
+        let version = version_at(self.versions.as_slice(), serial);
         let row = &mut self.lanes[lane as usize];
         row.take(version, lane, octets, from, serial)?;
         Ok(())

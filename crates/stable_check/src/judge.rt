@@ -1,3 +1,5 @@
+//! The verdict on a map, over room that is made once.
+
 ghost use Rattle.std.specs.Prelude.{◌≡◌, ◌↔◌, ℕ, ◌*◌, ◌<◌, length, List, IfOk};
 ghost use Rattle.map_model.specs.declared.lines.MapLine.{MapLine};
 ghost use Rattle.map_model.specs.Allocation.{IsGood};
@@ -8,7 +10,7 @@ use crate::lines::first_bad_line;
 use crate::scans::{first_bad_name, first_blocking, first_over_capacity, first_over_demand};
 use crate::tallies::{tally_groups, tally_loads, tally_places, tally_worst};
 use crate::verdict::Verdict;
-use map_model::{Instance, Key, MapLine, MapLines, NameLine};
+use map_model::{Instance, Key, MapLine, MapLines, NameLine, PLACES};
 use no_memory::NoMemory;
 use std::alloc::Global;
 use std::marker::Model;
@@ -42,7 +44,7 @@ impl CheckRoom {
         let nodes = instance.nodes() as usize;
         Ok(CheckRoom {
             totals: vec![in alloc; 0; groups]?,
-            amounts: vec![in alloc; 0; 16 * groups]?,
+            amounts: vec![in alloc; 0; PLACES * groups]?,
             loads: vec![in alloc; 0; nodes]?,
             worst: vec![in alloc; None; nodes]?,
         })

@@ -1,3 +1,5 @@
+//! The form of a map's lines.
+
 ghost use Rattle.std.specs.Prelude.{◌≡◌, ◌<◌, length, MatchOption};
 ghost use Rattle.map_model.specs.Allocation.{AreLines, is_before, is_line};
 ghost use Rattle.stable_check.specs.Faults.{IsFirstBadLine};

@@ -1,3 +1,5 @@
+//! Maps by hand, good ones and one for each fault.
+
 use crate::{CheckRoom, Verdict, check};
 use map_model::{
     Choice, ClientGroup, GroupId, Instance, MapLine, MapLines, NameLine, Node, NodeId,

@@ -1,7 +1,7 @@
 use Rattle.std.proofs.Common.{ℕ, ◌+◌, ◌≤◌, Bool}
-use Rattle.deferred_accept.specs.Runs.{HasProposed, HasRun, WantsBefore, worth}
+use Rattle.deferred_accept.specs.Runs.{HasProposed, HasRun, WantsBefore}
 use Rattle.deferred_accept.specs.Spreading.{HoldsWork}
-use Rattle.deferred_accept.specs.Work.{CoversWork}
+use Rattle.deferred_accept.specs.Work.{CoversWork, worth}
 use Rattle.deferred_accept.proofs.Within.{IsSpreading}
 use Rattle.deferred_accept.proofs.running.run.Given as goal
 

@@ -1,6 +1,4 @@
 use Rattle.std.proofs.Common.{◌≡◌, sym, ◌∙◌, rules}
-use Rattle.map_model.specs.declared.instance.Key.{Key}
-use Rattle.map_model.specs.Market.{key_of}
 use Rattle.map_model.specs.Allocation.{key_le}
 use Rattle.evict.proofs.Worst.{worst_key, worst_none}
 use Rattle.evict.proofs.refuser.is_none_worse.Goals as goal

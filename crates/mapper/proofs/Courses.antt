@@ -1,0 +1,127 @@
+-- Courses, one item more.
+use Rattle.std.proofs.Common.{◌≡◌, ◌≢◌, ◌⊎◌, inl, inr, ℕ, ◌+◌, ◌≤◌, List, [], ◌∷◌, ◌++◌, length, append_assoc, append-nil, refl, ap, sym, subst, ◌∙◌, arith}
+use Rattle.std.specs.Prelude.{Option, None, Some}
+use Rattle.std.specs.Option.{option_to_list}
+use Rattle.outside.specs.Faults.{BothTell}
+use Rattle.outside.specs.Pace.{IsPaced}
+use Rattle.outside.specs.Sink.{IsPut, Written}
+use Rattle.outside.specs.declared.pace.PaceCall.{PaceCall}
+use Rattle.outside.specs.declared.pace.PaceCall.TheVariants.{Before}
+use Rattle.outside.specs.declared.sink.Put.{Put}
+use Rattle.outside.specs.declared.sink.Put.TheVariants as put
+use Rattle.map_model.specs.declared.change.Change.{Change}
+use Rattle.demand_feed.specs.Item.{Item, refused, batch, empty, spoiled, query, totals}
+use Rattle.published_map.specs.Version.{Version}
+use Rattle.mapper.specs.Words.{map_text}
+use Rattle.mapper.specs.Texts as text
+use Rattle.mapper.specs.Control.{Course, IsCommit, IsNext, before_commit, start, with_line, with_version}
+use Rattle.mapper.specs.Scenes.{IsAt, IsCut, IsCutInMaps, IsCutInOut, IsPrinted, Scene, scene}
+use Rattle.mapper.specs.Coming.{BothPut, Came}
+use Rattle.demand_feed.proofs.Tellings.{tell_self, tell_trans}
+use Rattle.mapper.proofs.Tellings.{paced_none, paced_trans, printed_cut, printed_more, printed_none}
+
+-- a put of a line
+pub said_at : (result : Put) (before : Scene) (base c : Course) (v : Version) (h : List Version) (out o maps : Option Written) (pace : Option (List PaceCall)) (line : List ℕ)
+    → base.out ≡ c.out → base.maps ≡ c.maps → IsAt before c (scene v h out maps pace) → BothTell out o (IsPut result line) → Came result before base (λ d. d ≡ with_line c line) (scene v h o maps pace)
+said_at put.Done before base c v h out o maps pace line eo em at p = (
+  with_line c line,
+  refl,
+  record {
+    newest = at.newest;
+    history = at.history;
+    maps = at.maps;
+    pace = at.pace;
+    out = tell_trans before.out out o (IsPrinted c.out) (IsPut put.Done line) (IsPrinted (c.out ++ line ∷ [])) at.out p (printed_more c.out line);
+  },
+)
+said_at put.Failed before base c v h out o maps pace line eo em at p = (
+  with_line c line,
+  refl,
+  record {
+    newest = at.newest;
+    history = at.history;
+    pace = at.pace;
+    puts = inl (record {
+      line = line;
+      last = ap (λ xs. xs ++ line ∷ []) (sym eo);
+      out = rw eo (tell_trans before.out out o (IsPrinted c.out) (IsPut put.Failed line) (IsCut c.out line) at.out p (printed_cut c.out line));
+      maps = at.maps;
+    });
+  },
+)
+
+-- a publish, with its two puts
+pub published_at : (result : Put) (before : Scene) (base c : Course) (changes : List Change) (v w : Version) (h k : List Version) (out o maps m : Option Written) (pace : Option (List PaceCall))
+    → base.out ≡ c.out → base.maps ≡ c.maps → IsAt before c (scene v h out maps pace) → IsNext v changes w → k ≡ h ++ w ∷ [] → BothPut result (map_text w) (text.published w.serial) maps m out o
+    → Came result before base (λ d. IsCommit c changes d ⊎ (d ≡ with_line c text.memory)) (scene w k o m pace)
+published_at put.Done before base c changes v w h k out o maps m pace eo em at next grown p = (
+  with_version c w,
+  inl (w, subst (λ old. IsNext old changes w) at.newest next, refl),
+  record {
+    newest = refl;
+    history = grown ∙ ap (λ xs. xs ++ w ∷ []) at.history ∙ append_assoc before.history c.versions (w ∷ []);
+    out = tell_trans before.out out o (IsPrinted c.out) (IsPut put.Done (text.published w.serial)) (IsPrinted (c.out ++ text.published w.serial ∷ [])) at.out p.1 (printed_more c.out (text.published w.serial));
+    maps = tell_trans before.maps maps m (IsPrinted c.maps) (IsPut put.Done (map_text w)) (IsPrinted (c.maps ++ map_text w ∷ [])) at.maps p.0 (printed_more c.maps (map_text w));
+    pace = at.pace;
+  },
+)
+published_at put.Failed before base c changes v w h k out o maps m pace eo em at next grown p = (
+  with_version c w,
+  inl (w, subst (λ old. IsNext old changes w) at.newest next, refl),
+  record {
+    newest = refl;
+    history = grown ∙ ap (λ xs. xs ++ w ∷ []) at.history ∙ append_assoc before.history c.versions (w ∷ []);
+    pace = at.pace;
+    puts = go p;
+  },
+)
+  where
+    go : (BothTell maps m (IsPut put.Done (map_text w)) × BothTell out o (IsPut put.Failed (text.published w.serial))) ⊎ (BothTell maps m (IsPut put.Failed (map_text w)) × (o ≡ out))
+        → IsCutInOut before base (with_version c w) (scene w k o m pace) ⊎ IsCutInMaps before base (with_version c w) (scene w k o m pace)
+    go (inl q) = inl (record {
+      line = text.published w.serial;
+      last = ap (λ xs. xs ++ text.published w.serial ∷ []) (sym eo);
+      out = rw eo (tell_trans before.out out o (IsPrinted c.out) (IsPut put.Failed (text.published w.serial)) (IsCut c.out (text.published w.serial)) at.out q.1 (printed_cut c.out (text.published w.serial)));
+      maps = tell_trans before.maps maps m (IsPrinted c.maps) (IsPut put.Done (map_text w)) (IsPrinted (c.maps ++ map_text w ∷ [])) at.maps q.0 (printed_more c.maps (map_text w));
+    })
+    go (inr q) = inr (record {
+      text = map_text w;
+      last = ap (λ xs. xs ++ map_text w ∷ []) (sym em);
+      out = rw (eo, q.1) at.out;
+      maps = rw em (tell_trans before.maps maps m (IsPrinted c.maps) (IsPut put.Failed (map_text w)) (IsCut c.maps (map_text w)) at.maps q.0 (printed_cut c.maps (map_text w)));
+    })
+
+-- the pace is called ahead of a commit line
+pub paced_at : (before : Scene) (c : Course) (v : Version) (h : List Version) (out maps : Option Written) (pace p : Option (List PaceCall)) (serial : ℕ)
+    → IsAt before c (scene v h out maps pace) → serial ≡ v.serial → IsPaced (Before serial ∷ []) pace p → IsAt before (before_commit c) (scene v h out maps p)
+paced_at before c v h out maps pace p serial at is call = record {
+  newest = at.newest;
+  history = at.history;
+  out = at.out;
+  maps = at.maps;
+  pace = paced_trans c.calls (Before c.newest.serial ∷ []) before.pace pace p at.pace (subst (λ n. IsPaced (Before n ∷ []) pace p) (is ∙ ap (λ (x : Version). x.serial) at.newest) call);
+}
+
+-- ahead of all lines
+pub starts_at : (s : Scene) → IsAt s (start s.newest) s
+starts_at s = record {
+  newest = refl;
+  history = sym (append-nil s.history);
+  out = tell_self s.out (IsPrinted []) printed_none;
+  maps = tell_self s.maps (IsPrinted []) printed_none;
+  pace = paced_none s.pace;
+}
+
+-- a weaker end
+pub came_map : (result : Put) (before : Scene) (base : Course) (To Via : Course → Type 0) (s : Scene) → ((d : Course) → To d → Via d) → Came result before base To s → Came result before base Via s
+came_map put.Done before base To Via s f (d, to, at) = (d, f d to, at)
+came_map put.Failed before base To Via s f (d, to, at) = (d, f d to, at)
+
+-- a put of a line that speaks of the newest version
+pub speaks_at : (line : Version → List ℕ) (result : Put) (before : Scene) (base c : Course) (v : Version) (h : List Version) (out o maps : Option Written) (pace : Option (List PaceCall))
+    → base.out ≡ c.out → base.maps ≡ c.maps → IsAt before c (scene v h out maps pace) → BothTell out o (IsPut result (line v)) → Came result before base (λ d. d ≡ with_line c (line c.newest)) (scene v h o maps pace)
+speaks_at line result before base c v h out o maps pace eo em at p = said_at result before base c v h out o maps pace (line c.newest) eo em at (subst (λ w. BothTell out o (IsPut result (line w))) at.newest p)
+
+-- nothing to do
+pub rests_at : (before : Scene) (c : Course) (s : Scene) → IsAt before c s → Came put.Done before c (λ d. d ≡ c) s
+rests_at before c s at = (c, refl, at)

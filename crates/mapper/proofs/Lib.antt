@@ -1,0 +1,4 @@
+mod Tellings
+pub mod Courses
+pub mod Chains
+mod Together

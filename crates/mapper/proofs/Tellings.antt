@@ -1,0 +1,43 @@
+-- What is told after one call and another.
+use Rattle.std.proofs.Common.{◌≡◌, ℕ, ◌+◌, List, [], ◌∷◌, ◌++◌, length, take, append_assoc, append-nil, ap, sym, ◌∙◌, arith}
+use Rattle.std.specs.Prelude.{Option, None, Some}
+use Rattle.std.specs.List.{concat}
+use Rattle.outside.specs.Faults.{raised}
+use Rattle.outside.specs.Pace.{IsPaced}
+use Rattle.outside.specs.Sink.{IsPut, Written}
+use Rattle.outside.specs.declared.pace.PaceCall.{PaceCall}
+use Rattle.outside.specs.declared.sink.Put.TheVariants as put
+use Rattle.demand_feed.proofs.Tellings.{concat_end, one_more}
+use Rattle.mapper.specs.Scenes.{IsCut, IsPrinted}
+
+pub paced_trans : (xs ys : List PaceCall) (a b c : Option (List PaceCall)) → IsPaced xs a b → IsPaced ys b c → IsPaced (xs ++ ys) a c
+paced_trans xs ys a b None r s = tt
+paced_trans xs ys a None (Some z) r s = absurd s
+paced_trans xs ys None (Some y) (Some z) r s = absurd r
+paced_trans xs ys (Some x) (Some y) (Some z) r s = s ∙ ap (λ l. l ++ ys) r ∙ append_assoc x xs ys
+
+pub paced_none : (a : Option (List PaceCall)) → IsPaced [] a a
+paced_none None = tt
+paced_none (Some x) = sym (append-nil x)
+
+raised_more : (a n : ℕ) → raised (raised a n) 1 ≡ raised a (n + 1)
+raised_more a n = omega arith
+
+-- one piece more was put
+pub printed_more : (ps : List (List ℕ)) (p : List ℕ) (a b c : Written) → IsPrinted ps a b → IsPut put.Done p b c → IsPrinted (ps ++ p ∷ []) a c
+printed_more ps p a b c r s = record {
+  bytes = s.bytes ∙ ap (λ xs. xs ++ p) r.bytes ∙ append_assoc a.bytes (concat ps) p ∙ ap (λ xs. a.bytes ++ xs) (sym (concat_end ps p));
+  puts = s.puts ∙ ap (λ n. raised n 1) r.puts ∙ raised_more a.puts (length ps) ∙ ap (raised a.puts) (sym (one_more ps p));
+}
+
+-- the put of one more failed
+pub printed_cut : (ps : List (List ℕ)) (p : List ℕ) (a b c : Written) → IsPrinted ps a b → IsPut put.Failed p b c → IsCut ps p a c
+printed_cut ps p a b c r s = record {
+  k = s.bytes.0;
+  bytes = s.bytes.1 ∙ ap (λ xs. xs ++ take s.bytes.0 p) r.bytes;
+  puts = s.puts ∙ ap (λ n. raised n 1) r.puts ∙ raised_more a.puts (length ps);
+}
+
+-- nothing was put
+pub printed_none : (a : Written) → IsPrinted [] a a
+printed_none a = record { bytes = sym (append-nil a.bytes); puts = omega arith }

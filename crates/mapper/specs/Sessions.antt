@@ -1,0 +1,34 @@
+-- Inside this crate alone: what an item does to a session over a feed.
+use Rattle.std.specs.Prelude.{◌≡◌, ◌⊎◌, ℕ, ◌≤◌, List, Option}
+use Rattle.outside.specs.Faults.{Rose}
+use Rattle.outside.specs.Sink.{Written}
+use Rattle.outside.specs.declared.pace.PaceCall.{PaceCall}
+use Rattle.demand_feed.specs.Item.{Item}
+use Rattle.published_map.specs.Version.{Version}
+use Rattle.mapper.specs.Coming.{Cuts, Does}
+use Rattle.mapper.specs.Scenes.{Scene, scene}
+use Rattle.mapper.specs.declared.session.Session.{Session}
+
+-- what is told
+abbrev pub told_by : {R X K M : Type 0} → (X → Version) → (X → List Version) → (K → Option Written) → (M → Option (List PaceCall)) → Session R X K M → Scene
+told_by newest history told paced s = scene (newest s.mapper.now) (history s.mapper.now) (told s.out.now) (told s.maps.now) (paced s.pace.now)
+
+-- the same things are lent
+abbrev pub IsSame : {R X K M : Type 0} → Session R X K M → Session R X K M → Type 0
+IsSame a b = (b.mapper.ghost_name ≡ a.mapper.ghost_name) × (b.out.ghost_name ≡ a.out.ghost_name) × (b.maps.ghost_name ≡ a.maps.ghost_name) × (b.pace.ghost_name ≡ a.pace.ghost_name)
+
+-- the same things are lent, and no count of faults fell
+abbrev pub Keeps : {R X K M : Type 0} → (K → ℕ) → Session R X K M → Session R X K M → Type 0
+Keeps faults a b = IsSame a b × (faults a.out.now ≤ faults b.out.now) × (faults a.maps.now ≤ faults b.maps.now)
+
+-- a count of faults rose
+abbrev pub HasFault : {R X K M : Type 0} → (K → ℕ) → Session R X K M → Session R X K M → Type 0
+HasFault faults a b = Rose (faults a.out.now) (faults b.out.now) ⊎ Rose (faults a.maps.now) (faults b.maps.now)
+
+-- an item that is taken whole
+abbrev pub SessionDoes : {R X K M : Type 0} → (X → Version) → (X → List Version) → (K → Option Written) → (K → ℕ) → (M → Option (List PaceCall)) → Item → Session R X K M → Session R X K M → Type 0
+SessionDoes newest history told faults paced item a b = Keeps faults a b × Does item (told_by newest history told paced a) (told_by newest history told paced b)
+
+-- an item of which a put failed
+abbrev pub SessionCuts : {R X K M : Type 0} → (X → Version) → (X → List Version) → (K → Option Written) → (K → ℕ) → (M → Option (List PaceCall)) → Item → Session R X K M → Session R X K M → Type 0
+SessionCuts newest history told faults paced item a b = Keeps faults a b × HasFault faults a b × Cuts item (told_by newest history told paced a) (told_by newest history told paced b)

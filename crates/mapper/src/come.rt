@@ -1,0 +1,159 @@
+//! What one item of a feed comes to.
+ghost use Rattle.std.specs.Prelude.{◌≡◌, ◌≢◌, ◌⊎◌, ◌<◌, ◌≤◌, ◌+◌, ◌-◌, ◌^◌, ◌∷◌, ℕ, List, [], Option, Some, IsSome, option_map};
+ghost use Rattle.outside.specs.Faults.{BothTell, Rose};
+ghost use Rattle.outside.specs.Pace.{IsPaced};
+ghost use Rattle.outside.specs.Sink.{IsPut};
+ghost use Rattle.outside.specs.declared.pace.PaceCall.{PaceCall};
+ghost use Rattle.map_model.specs.Batch.{IsBatch};
+ghost use Rattle.demand_feed.specs.Item.{Item};
+ghost use Rattle.demand_feed.specs.Clerk.{item_by};
+ghost use Rattle.mapper.specs.Words.{map_text};
+ghost use Rattle.mapper.specs.Sayings.{text_of};
+ghost use Rattle.mapper.specs.Control.{Comes, Course, IsCommit, before_commit, with_line};
+ghost use Rattle.mapper.specs.Scenes.{IsAt, Scene, scene};
+ghost use Rattle.mapper.specs.Coming.{BothPut, Came, ComesOf, PutIf, line_for};
+ghost use Rattle.mapper.specs.Texts as text;
+
+use crate::saying::write;
+use crate::{Mapping, Saying, Spoken};
+use demand_feed::{Batch, Next};
+use no_memory::NoMemory;
+use outside::{Pace, Put, Sink};
+use std::sync::Wait;
+
+/// Puts a line of control text.
+fn say<K: Sink>(line: &mut Spoken, out: &mut K, saying: &Saying) -> Put
+    ensures put { BothTell (K.told out.old) (K.told out.new) (IsPut result (text_of saying.now)) }
+    ensures later { K.faults out.old ≤ K.faults out.new }
+    ensures cause { result ≡ Put.Failed → Rose (K.faults out.old) (K.faults out.new) }
+{
+    write(line, saying);
+    out.put(line.as_slice())
+}
+
+/// Puts the newest map's text, and then the line that it is published. Then all who look are told of it.
+fn publish<R: Wait, X: Mapping, K: Sink>(
+    rt: &R,
+    mapper: &mut X,
+    line: &mut Spoken,
+    serial: u64,
+    out: &mut K,
+    maps: &mut K,
+) -> Put
+    ensures newest { X.newest mapper.new ≡ X.newest mapper.old }
+    ensures history { X.history mapper.new ≡ X.history mapper.old }
+    ensures put { BothPut result (map_text (X.newest mapper.old)) (text.published serial) (K.told maps.old) (K.told maps.new) (K.told out.old) (K.told out.new) }
+    ensures later { (K.faults out.old ≤ K.faults out.new) × (K.faults maps.old ≤ K.faults maps.new) }
+    ensures cause { result ≡ Put.Failed → Rose (K.faults out.old) (K.faults out.new) ⊎ Rose (K.faults maps.old) (K.faults maps.new) }
+{
+    match maps.put(mapper.text()) {
+        Put::Done => {}
+        Put::Failed => return Put::Failed,
+    }
+    match say(line, out, &Saying::Published(serial)) {
+        Put::Done => {
+            mapper.tell(rt);
+            Put::Done
+        }
+        Put::Failed => Put::Failed,
+    }
+}
+
+/// Commits a batch that is not empty.
+fn commit<R: Wait, X: Mapping, K: Sink>(
+    rt: &R,
+    mapper: &mut X,
+    line: &mut Spoken,
+    batch: &Batch,
+    out: &mut K,
+    maps: &mut K,
+) -> Put
+    requires ids { IsBatch (X.newest mapper.old).plan.market batch.now }
+    requires some { batch.now ≢ [] }
+    requires serial { (X.newest mapper.old).serial < 2 ^ 64 - 1 }
+    ensures came { (before : Scene) (base c : Course) (pace : Option (List PaceCall)) → base.out ≡ c.out → base.maps ≡ c.maps → IsAt before c (scene (X.newest mapper.old) (X.history mapper.old) (K.told out.old) (K.told maps.old) pace)
+        → Came result before base (λ d. IsCommit c batch.now d ⊎ (d ≡ with_line c text.memory)) (scene (X.newest mapper.new) (X.history mapper.new) (K.told out.new) (K.told maps.new) pace) }
+    ensures plan { (X.newest mapper.new).plan ≡ (X.newest mapper.old).plan }
+    ensures serial { (X.newest mapper.new).serial ≤ (X.newest mapper.old).serial + 1 }
+    ensures later { (K.faults out.old ≤ K.faults out.new) × (K.faults maps.old ≤ K.faults maps.new) }
+    ensures cause { result ≡ Put.Failed → Rose (K.faults out.old) (K.faults out.new) ⊎ Rose (K.faults maps.old) (K.faults maps.new) }
+{
+    match mapper.commit(rt, batch) {
+        Ok(serial) => publish(rt, mapper, line, serial, out, maps),
+        Err(NoMemory) => say(line, out, &Saying::NoMemory),
+    }
+}
+
+/// The line of an item that is no batch.
+fn saying_of<X: Mapping>(mapper: &X, next: &Next) -> Option<Saying>
+    ensures { option_map text_of result ≡ line_for (X.newest mapper.now) next.now }
+{
+    match next {
+        Next::Refused(number, why) => Some(Saying::Refused(*number, *why)),
+        Next::Empty => Some(Saying::Published(mapper.serial())),
+        Next::Spoiled(lines) => Some(Saying::Spoiled(*lines)),
+        Next::Query { addr, octets } => Some(Saying::Answer(
+            mapper.serial(),
+            mapper.ask(*addr, octets.as_slice()),
+        )),
+        Next::Totals => Some(Saying::Show(mapper.serial(), mapper.totals())),
+        Next::Nothing => None,
+        Next::Stop => None,
+        Next::Batch => None,
+    }
+}
+
+/// Puts the line of an item that is no batch.
+fn say_item<X: Mapping, K: Sink>(mapper: &X, line: &mut Spoken, next: &Next, out: &mut K) -> Put
+    ensures put { PutIf (line_for (X.newest mapper.now) next.now) result (K.told out.old) (K.told out.new) }
+    ensures later { K.faults out.old ≤ K.faults out.new }
+    ensures cause { result ≡ Put.Failed → Rose (K.faults out.old) (K.faults out.new) }
+{
+    match saying_of(mapper, next) {
+        Some(saying) => say(line, out, &saying),
+        None => Put::Done,
+    }
+}
+
+/// Does what an item asks for.
+pub(crate) fn come<R: Wait, X: Mapping, K: Sink, M: Pace>(
+    rt: &R,
+    mapper: &mut X,
+    line: &mut Spoken,
+    next: &Next,
+    due: &Batch,
+    out: &mut K,
+    maps: &mut K,
+    pace: &mut M,
+) -> Put
+    requires ids { next.now ≡ Next.Batch → IsBatch (X.newest mapper.old).plan.market due.now }
+    requires some { next.now ≡ Next.Batch → due.now ≢ [] }
+    requires serial { (X.newest mapper.old).serial < 2 ^ 64 - 1 }
+    ensures came { (before : Scene) (c : Course) → IsAt before c (scene (X.newest mapper.old) (X.history mapper.old) (K.told out.old) (K.told maps.old) (M.told pace.old))
+        → Came result before c (ComesOf (item_by due.now next.now) c) (scene (X.newest mapper.new) (X.history mapper.new) (K.told out.new) (K.told maps.new) (M.told pace.new)) }
+    ensures plan { (X.newest mapper.new).plan ≡ (X.newest mapper.old).plan }
+    ensures serial { (X.newest mapper.new).serial ≤ (X.newest mapper.old).serial + 1 }
+    ensures said { result ≡ Put.Failed → IsSome (item_by due.now next.now) }
+    ensures later { (K.faults out.old ≤ K.faults out.new) × (K.faults maps.old ≤ K.faults maps.new) }
+    ensures cause { result ≡ Put.Failed → Rose (K.faults out.old) (K.faults out.new) ⊎ Rose (K.faults maps.old) (K.faults maps.new) }
+{
+    match next {
+        Next::Batch => {
+            pace.before(mapper.serial());
+            commit(rt, mapper, line, due, out, maps)
+        }
+        Next::Empty => {
+            pace.before(mapper.serial());
+            say_item(mapper, line, next, out)
+        }
+        Next::Spoiled(_) => {
+            pace.before(mapper.serial());
+            say_item(mapper, line, next, out)
+        }
+        Next::Refused(_, _) => say_item(mapper, line, next, out),
+        Next::Query { .. } => say_item(mapper, line, next, out),
+        Next::Totals => say_item(mapper, line, next, out),
+        Next::Nothing => Put::Done,
+        Next::Stop => Put::Done,
+    }
+}

@@ -1,0 +1,11 @@
+//! The mapper: a feed's batches become maps, each good, and its questions are answered by the newest one.
+#![tactic(auto)]
+
+mod come;
+mod mapping;
+mod saying;
+mod session;
+
+pub use mapping::Mapping;
+pub use saying::{LINE_ROOM, Saying, Spoken, Totals};
+pub use session::run_feed;

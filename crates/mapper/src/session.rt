@@ -1,0 +1,149 @@
+//! A run over a feed: its items come to the mapper, to both outputs and to the pace.
+ghost use Rattle.std.specs.Prelude.{◌≡◌, ◌≢◌, ◌⊎◌, ◌<◌, ◌≤◌, ◌-◌, ◌^◌, ◌↔◌, ℕ, List, None, IsTrue};
+ghost use Rattle.map_model.specs.declared.change.Change.{Change};
+ghost use Rattle.outside.specs.Faults.{Rose};
+ghost use Rattle.demand_feed.specs.Clerk.{item_by};
+ghost use Rattle.demand_feed.specs.declared.limits.TheConstants.{MOST_TURNS};
+ghost use Rattle.mapper.specs.Feeding.{IsFeed, IsFeedRun};
+ghost use Rattle.mapper.specs.Scenes.{scene};
+ghost use Rattle.mapper.specs.Sessions.{HasFault, Keeps, told_by};
+
+use crate::come::come;
+use crate::{Mapping, Spoken};
+use demand_feed::{Batch, FeedEnd, Intake, Next, Taken, TakesItems, run_lines};
+use outside::{Pace, Put, Sink, Source};
+use std::sync::Wait;
+use topology_text::Topology;
+
+/// What a feed's items come to.
+#[derive(Drop)]
+struct Session<'r, 'x, 'l, 'o, 'm, 'p, R, X, K, M> {
+    rt: &'r R,
+    mapper: &'x mut X,
+    line: &'l mut Spoken,
+    out: &'o mut K,
+    maps: &'m mut K,
+    pace: &'p mut M,
+}
+
+/// Whether nothing comes of a line.
+fn is_quiet(next: &Next) -> bool
+    ensures { (due : List Change) → IsTrue result ↔ (item_by due next.now ≡ None) }
+{
+    matches!(next, Next::Nothing | Next::Stop)
+}
+
+impl<R: Wait, X: Mapping, K: Sink, M: Pace> TakesItems
+    for Session<'_, '_, '_, '_, '_, '_, R, X, K, M> {
+    ghost use Rattle.std.specs.Prelude.{◌-◌, ◌^◌};
+    ghost use Rattle.mapper.specs.Sessions.{SessionCuts, SessionDoes};
+
+    ghost does = { λ item a b. SessionDoes X.newest X.history K.told K.faults M.told item a b };
+
+    ghost cuts = { λ item a b. SessionCuts X.newest X.history K.told K.faults M.told item a b };
+
+    ghost market = { λ s. (X.newest s.mapper.now).plan.market };
+
+    ghost left = { λ s. 2 ^ 64 - 1 - (X.newest s.mapper.now).serial };
+
+    fn take(&mut self, next: &Next, due: &Batch) -> Taken {
+        if is_quiet(next) {
+            return Taken::Done;
+        }
+        let put = come(
+            self.rt,
+            self.mapper,
+            self.line,
+            next,
+            due,
+            self.out,
+            self.maps,
+            self.pace,
+        );
+        match put {
+            Put::Done => Taken::Done,
+            Put::Failed => Taken::Failed,
+        }
+    }
+}
+
+/// Runs a feed to its end. What the session lends stays lent.
+fn work<R: Wait, S: Source, X: Mapping, K: Sink, M: Pace>(
+    topology: &Topology,
+    intake: &mut Intake,
+    feed: &mut S,
+    session: &mut Session<'_, '_, '_, '_, '_, '_, R, X, K, M>,
+    turns: u64,
+) -> FeedEnd
+    requires turns { turns ≤ MOST_TURNS }
+    requires plan { (X.newest session.old.mapper.now).plan ≡ topology.now }
+    requires serial { (X.newest session.old.mapper.now).serial < 2 ^ 63 }
+    ensures keeps { Keeps K.faults session.old session.new }
+    ensures run { IsFeedRun topology.now turns result (S.told feed.old) (S.told feed.new) (told_by X.newest X.history K.told M.told session.old) (told_by X.newest X.history K.told M.told session.new) }
+    ensures sink { result ≡ FeedEnd.SinkFault → HasFault K.faults session.old session.new }
+    ensures source { result ≡ FeedEnd.SourceFault → Rose (S.faults feed.old) (S.faults feed.new) }
+    ensures source_later { S.faults feed.old ≤ S.faults feed.new }
+    ensures source_stays { result ≢ FeedEnd.SourceFault → S.faults feed.new ≡ S.faults feed.old }
+{
+    run_lines(topology, intake, feed, session, turns)
+}
+
+/// Runs a feed to its end, and tells the pace. What the session lends stays lent.
+fn finish<R: Wait, S: Source, X: Mapping, K: Sink, M: Pace>(
+    topology: &Topology,
+    intake: &mut Intake,
+    feed: &mut S,
+    session: &mut Session<'_, '_, '_, '_, '_, '_, R, X, K, M>,
+    turns: u64,
+) -> FeedEnd
+    requires turns { turns ≤ MOST_TURNS }
+    requires plan { (X.newest session.old.mapper.now).plan ≡ topology.now }
+    requires serial { (X.newest session.old.mapper.now).serial < 2 ^ 63 }
+    ensures keeps { Keeps K.faults session.old session.new }
+    ensures run { IsFeed topology.now turns result (S.told feed.old) (S.told feed.new) (told_by X.newest X.history K.told M.told session.old) (told_by X.newest X.history K.told M.told session.new) }
+    ensures sink { result ≡ FeedEnd.SinkFault → HasFault K.faults session.old session.new }
+    ensures source { result ≡ FeedEnd.SourceFault → Rose (S.faults feed.old) (S.faults feed.new) }
+    ensures source_later { S.faults feed.old ≤ S.faults feed.new }
+    ensures source_stays { result ≢ FeedEnd.SourceFault → S.faults feed.new ≡ S.faults feed.old }
+{
+    let end = work(topology, intake, feed, session, turns);
+    let newest = session.mapper.serial();
+    session.pace.done(newest);
+    end
+}
+
+/// Runs a feed to its end or for so many turns, from the newest map on, and then tells the pace that it has ended.
+///
+/// Each map's text and each line of control text is one put, and nothing is put behind one that failed.
+pub fn run_feed<R: Wait, S: Source, X: Mapping, K: Sink, M: Pace>(
+    rt: &R,
+    topology: &Topology,
+    mapper: &mut X,
+    intake: &mut Intake,
+    feed: &mut S,
+    out: &mut K,
+    maps: &mut K,
+    pace: &mut M,
+    turns: u64,
+) -> FeedEnd
+    requires turns { turns ≤ MOST_TURNS }
+    requires plan { (X.newest mapper.old).plan ≡ topology.now }
+    requires serial { (X.newest mapper.old).serial < 2 ^ 63 }
+    ensures run { IsFeed topology.now turns result (S.told feed.old) (S.told feed.new) (scene (X.newest mapper.old) (X.history mapper.old) (K.told out.old) (K.told maps.old) (M.told pace.old)) (scene (X.newest mapper.new) (X.history mapper.new) (K.told out.new) (K.told maps.new) (M.told pace.new)) }
+    ensures later { (K.faults out.old ≤ K.faults out.new) × (K.faults maps.old ≤ K.faults maps.new) }
+    ensures sink { result ≡ FeedEnd.SinkFault → Rose (K.faults out.old) (K.faults out.new) ⊎ Rose (K.faults maps.old) (K.faults maps.new) }
+    ensures source { result ≡ FeedEnd.SourceFault → Rose (S.faults feed.old) (S.faults feed.new) }
+    ensures source_later { S.faults feed.old ≤ S.faults feed.new }
+    ensures source_stays { result ≢ FeedEnd.SourceFault → S.faults feed.new ≡ S.faults feed.old }
+{
+    let mut line = Spoken::new();
+    let mut session = Session {
+        rt,
+        mapper,
+        line: &mut line,
+        out,
+        maps,
+        pace,
+    };
+    finish(topology, intake, feed, &mut session, turns)
+}
