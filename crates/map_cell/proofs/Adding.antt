@@ -31,9 +31,9 @@ history_more h y old may = record {
   one = λ n k v w e f.
       ⊎_elim
       (λ (t : slice_get h n ≡ Some v).
-          ⊎_elim (λ (u : slice_get h k ≡ Some w). old.one n k v w t u) (λ (u : (k ≡ length h) × (y ≡ w)). may.same n v t ∙ ap (λ (q : Version). q.plan) u.1) (get_end h y w k f))
+      ⊎_elim (λ (u : slice_get h k ≡ Some w). old.one n k v w t u) (λ (u : (k ≡ length h) × (y ≡ w)). may.same n v t ∙ ap (λ (q : Version). q.plan) u.1) (get_end h y w k f))
       (λ (t : (n ≡ length h) × (y ≡ v)).
-          ⊎_elim (λ (u : slice_get h k ≡ Some w). sym (may.same k w u ∙ ap (λ (q : Version). q.plan) t.1)) (λ (u : (k ≡ length h) × (y ≡ w)). ap (λ (q : Version). q.plan) (sym t.1 ∙ u.1)) (get_end h y w k f))
+      ⊎_elim (λ (u : slice_get h k ≡ Some w). sym (may.same k w u ∙ ap (λ (q : Version). q.plan) t.1)) (λ (u : (k ≡ length h) × (y ≡ w)). ap (λ (q : Version). q.plan) (sym t.1 ∙ u.1)) (get_end h y w k f))
       (get_end h y v n e);
 }
 

@@ -2,8 +2,7 @@ ghost use Rattle.std.specs.Prelude.{◌≡◌};
 ghost use Rattle.map_cell.specs.Asks.{asked};
 ghost use Rattle.published_map.specs.Changes.{after};
 
-use published_map::Delta;
-use published_map::MapVersion;
+use published_map::{Delta, MapVersion};
 use std::snapshot::Snapshot;
 
 /// What is to be added to the history: a version, or the one that follows it by a delta. It has no bytes but a flag.

@@ -7,9 +7,9 @@ ghost use Rattle.published_map.specs.Version.{Version, IsVersion};
 
 use crate::front::Naming;
 use crate::publisher::Publisher;
+use crate::viewer::{Note, Viewer};
 use published_map::MapVersion;
 use std::sync::Wait;
-use crate::viewer::{Note, Viewer};
 
 /// The door refused.
 #[derive(Clone, Copy, Debug, PartialEq, Eq)]

@@ -7,8 +7,8 @@ ghost use Rattle.map_cell.specs.Rules.{head_of};
 ghost use Rattle.map_cell.specs.Asks.{asked};
 
 use crate::asked::Asked;
-use published_map::MapVersion;
 use logbook::{Gain, Offer, Plain, Play, Rule, Seen, Start, Word};
+use published_map::MapVersion;
 use std::marker::{Brand, Model, PhantomData};
 
 /// The rule of the history: its words count its versions, and it is a history.

@@ -6,8 +6,8 @@ ghost use Rattle.map_cell.specs.declared.door.OpenFault.TheVariants.{CellFault a
 use crate::door::{Door, OpenFault};
 use crate::front::{EmptyHistory, Naming};
 use crate::publisher::{Publisher, start};
-use published_map::MapVersion;
 use crate::viewer::Viewer;
+use published_map::MapVersion;
 use std::alloc::Global;
 use std::sync::Wait;
 

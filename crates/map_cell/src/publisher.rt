@@ -7,15 +7,14 @@ ghost use Rattle.map_cell.specs.Tags.{tag_of};
 ghost use Rattle.published_map.specs.Version.{IsVersion};
 
 use crate::asked::Asked;
-use published_map::Delta;
 use crate::front::{Book, Front, Naming};
 use crate::rule::{Names, OneCell, Same};
 use crate::sealed::{Sealed, Step};
 use crate::tag::Tag;
-use published_map::MapVersion;
 use crate::viewer::{CellReader, Note, Viewer, seat};
 use left_right::writer::Writer;
 use no_memory::NoMemory;
+use published_map::{Delta, MapVersion};
 use std::alloc::Global;
 use std::marker::Model;
 use std::snapshot::Snapshot;
@@ -170,7 +169,10 @@ impl<J: Naming> Publisher<J> {
         let writer = self.writer.take().unwrap();
         let _ = self.front.len();
         let mut front = self.front.again();
-        if !front.add(&self.book, &Asked::next(writer.published().version(), &delta)) {
+        if !front.add(
+            &self.book,
+            &Asked::next(writer.published().version(), &delta),
+        ) {
             put_back(&mut self.writer, writer, rt);
             self.broken = true;
             return Err(NoMemory);

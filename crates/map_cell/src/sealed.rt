@@ -1,11 +1,10 @@
 ghost use Rattle.std.specs.Prelude.{◌≡◌, ◌+◌, ◌<◌, length, IsTrue};
 ghost use Rattle.map_cell.specs.Rules.{CopyState, StepState, stepped};
 
-use published_map::Delta;
 use crate::front::{Front, Law, Naming};
-use published_map::MapVersion;
 use left_right::Absorb;
 use logbook::Seen;
+use published_map::{Delta, MapVersion};
 use std::alloc::AllocError;
 use std::marker::Model;
 

@@ -2,7 +2,8 @@ ghost use Rattle.std.specs.Prelude.{◌≡◌, ◌+◌, ◌<◌, ◌^◌, true, 
 ghost use Rattle.map_model.specs.Market.{IsSameShape};
 ghost use Rattle.map_model.specs.Allocation.{IsGood};
 ghost use Rattle.published_map.specs.Version.{IsVersion};
-ghost use Rattle.map_cell.specs.Examples.{IsOf};
+ghost use Rattle.std.specs.Thread.{IsSend, IsSync};
+ghost use Rattle.map_cell.specs.Examples.{IsOf, IsReady};
 
 use crate::{Door, EmptyHistory, MemDoor, Naming, OpenFault, PlainDoor, Publisher, Viewer, open};
 use map_model::{GroupId, Instance, MapLines};
@@ -11,8 +12,11 @@ use published_map::{Delta, MapVersion, Shared};
 use stable_check::{CheckRoom, Verdict, check};
 use std::alloc::Global;
 use std::marker::Brand;
+use std::sync::atomic::AtomicU64;
+use std::sync::atomic::Ordering::SeqCst;
 use std::sync::{Arc, Wait};
 use std::test::Fail;
+use std::thread::{self, Threads, join_mut};
 use topology_text::{Topology, read_topology};
 use worlds::{EXAMPLE, EXAMPLE_TREE, map_of};
 
@@ -40,18 +44,44 @@ struct Worlds {
     new_map: MapLines,
 }
 
+/// The instance where the second group asks for four units.
+fn asking_four(old: &Instance) -> Option<Instance>
+    ensures { IfSome result (λ new. IsSameShape old.now new) }
+{
+    match old.try_clone() {
+        Err(_) => None,
+        Ok(instance) => {
+            let mut instance = instance;
+            if instance.groups() != 2 {
+                return None;
+            }
+            instance.set_demand(G2, 4);
+            Some(instance)
+        }
+    }
+}
+
+/// What has a shape with another is of the other's shape.
+fn check_shape(old: &Instance, new: &Instance)
+    requires { IsSameShape old.now new.now }
+    ensures { IsSameShape new.now old.now }
+{
+    let _ = (old.groups(), new.groups());
+}
+
 /// The example of a topology and what it becomes, with their good maps.
 fn worlds_of(alloc: Global, topology: &Topology) -> Option<Worlds>
     ensures old { IfSome result (λ w. (w.old ≡ topology.now.market) × IsGood w.old w.old_map.lines.items w.old_map.names.items) }
-    ensures new { IfSome result (λ w. IsSameShape w.old w.new × IsGood w.new w.new_map.lines.items w.new_map.names.items) }
+    ensures new { IfSome result (λ w. IsSameShape w.old w.new × IsSameShape w.new w.old × IsGood w.new w.new_map.lines.items w.new_map.names.items) }
 {
-    let old = topology.instance().try_clone().ok()?;
-    let old_map = EXAMPLE.map(alloc).ok()?;
-    let mut new = topology.instance().try_clone().ok()?;
-    if new.groups() != 2 {
+    let Ok(old) = topology.instance().try_clone() else {
         return None;
-    }
-    new.set_demand(G2, 4);
+    };
+    let Some(new) = asking_four(&old) else {
+        return None;
+    };
+    check_shape(&old, &new);
+    let old_map = EXAMPLE.map(alloc).ok()?;
     let new_map = map_of(alloc, &[(0, 0, 8), (1, 0, 2), (1, 1, 2)], &[(1, 0, 1)]).ok()?;
     if !is_good(alloc, &old, &old_map) {
         return None;
@@ -123,7 +153,8 @@ fn look<J: Naming, D: Door>(door: &mut D, viewer: &mut Viewer<J>) -> Option<Sigh
         |m: &MapVersion| -> Sight
             requires { IsVersion m.now }
         { sight_of(m) },
-    ).ok()
+    )
+    .ok()
 }
 
 /// Publishes what changes from one map to another.
@@ -204,6 +235,15 @@ fn opened<J: Naming, R: Wait, D: Door>(
     Ok(seen)
 }
 
+/// The same, of a history of its own.
+fn seen_by<R: Wait, D: Door>(
+    rt: &R,
+    alloc: Global,
+    door: &mut D,
+) -> Result<Option<(Sight, u64, Sight)>, OpenFault> {
+    opened::<Brand, R, D>(rt, alloc, EmptyHistory::new(), door)
+}
+
 /// The example as a look shows it.
 const OLD: Sight = Sight {
     serial: 0,
@@ -222,7 +262,7 @@ const NEW: Sight = Sight {
 #[test]
 fn looks_follow_publishes(rt: HostRuntime) -> Result<(), Fail> {
     let mut door = PlainDoor::new();
-    let seen = opened::<Brand, HostRuntime, PlainDoor>(&rt, rt.alloc(), EmptyHistory::new(), &mut door);
+    let seen = seen_by(&rt, rt.alloc(), &mut door);
     assert!(rt; seen == Ok(Some((OLD, 1, NEW))));
     Ok(())
 }
@@ -232,11 +272,230 @@ fn looks_follow_publishes(rt: HostRuntime) -> Result<(), Fail> {
 fn doors_refuse(rt: HostRuntime) -> Result<(), Fail> {
     let first = Vec::from_slice(rt.alloc(), [0].as_slice())?;
     let mut door = MemDoor::new(first, Vec::new(rt.alloc()));
-    let seen = opened::<Brand, HostRuntime, MemDoor>(&rt, rt.alloc(), EmptyHistory::new(), &mut door);
+    let seen = seen_by(&rt, rt.alloc(), &mut door);
     assert!(rt; seen == Err(OpenFault::CellFault));
     let second = Vec::from_slice(rt.alloc(), [1].as_slice())?;
     let mut door = MemDoor::new(Vec::new(rt.alloc()), second);
-    let seen = opened::<Brand, HostRuntime, MemDoor>(&rt, rt.alloc(), EmptyHistory::new(), &mut door);
+    let seen = seen_by(&rt, rt.alloc(), &mut door);
     assert!(rt; seen == Ok(None));
+    Ok(())
+}
+
+/// How many times two maps follow each other, and how often the publisher waits until the viewer has come as far.
+const ROUNDS: u64 = 5_000;
+
+const ROUNDS_BETWEEN_WAITS: u64 = 40;
+
+const MOST_YIELDS: u64 = 20_000_000;
+
+/// Waits until the viewer has seen that serial, or for long enough.
+fn wait_for(shown: &AtomicU64, serial: u64) {
+    for _ in 0..MOST_YIELDS {
+        if shown.load(SeqCst) >= serial {
+            return;
+        }
+        thread::yield_now();
+    }
+}
+
+/// Publishes the one map and then the other.
+fn publish_both<J: Naming, R: Wait>(
+    rt: &R,
+    alloc: Global,
+    publisher: &mut Publisher<J>,
+    worlds: &Worlds,
+) -> Option<u64>
+    requires newest { IsOf worlds.now.old worlds.now.old_map.lines.items worlds.now.old_map.names.items publisher.old.newest }
+    requires room { publisher.old.newest.serial + 1 < 2 ^ 32 }
+    requires worlds { IsSameShape worlds.now.old worlds.now.new × IsSameShape worlds.now.new worlds.now.old × IsGood worlds.now.old worlds.now.old_map.lines.items worlds.now.old_map.names.items × IsGood worlds.now.new worlds.now.new_map.lines.items worlds.now.new_map.names.items }
+    ensures newest { IfSome result (λ s. IsOf worlds.now.old worlds.now.old_map.lines.items worlds.now.old_map.names.items publisher.new.newest × (publisher.new.newest.serial ≡ s)) }
+    ensures serial { IfSome result (λ s. s ≡ publisher.old.newest.serial + 2) }
+{
+    let old = (&worlds.old, &worlds.old_map);
+    let new = (&worlds.new, &worlds.new_map);
+    match publish_to(rt, alloc, publisher, old, new) {
+        None => None,
+        Some(_) => publish_to(rt, alloc, publisher, new, old),
+    }
+}
+
+/// Publishes both maps again and again.
+fn publish_all<J: Naming, R: Wait>(
+    rt: &R,
+    alloc: Global,
+    publisher: &mut Publisher<J>,
+    worlds: &Worlds,
+    shown: &AtomicU64,
+) -> bool
+    requires { IsReady worlds.now.old worlds.now.old_map.lines.items worlds.now.old_map.names.items worlds.now.new worlds.now.new_map.lines.items worlds.now.new_map.names.items publisher.old.newest }
+{
+    for round in 0..ROUNDS {
+        let Some(serial) = publish_both(rt, alloc, publisher, worlds) else {
+            return false;
+        };
+        if round % ROUNDS_BETWEEN_WAITS == 0 {
+            wait_for(shown, serial);
+        }
+    }
+    true
+}
+
+/// Whether a look is at one of the two maps, of no serial below the last.
+fn is_whole(sight: Sight, last: u64) -> bool {
+    let expected = if sight.serial % 2 == 0 { OLD } else { NEW };
+    let there = Sight {
+        serial: expected.serial,
+        ..sight
+    };
+    there == expected && sight.serial >= last
+}
+
+/// Looks until the last map is there, and tells how many serials it has seen; none where a look is refused or not whole.
+fn look_all<J: Naming, D: Door>(
+    viewer: &mut Viewer<J>,
+    door: &mut D,
+    shown: &AtomicU64,
+) -> Option<u32> {
+    let mut last = 0;
+    let mut serials = 1u32;
+    for _ in 0..u64::MAX {
+        let sight = look(door, viewer)?;
+        if !is_whole(sight, last) {
+            return None;
+        }
+        if sight.serial > last {
+            serials = serials.saturating_add(1);
+            last = sight.serial;
+            shown.store(last, SeqCst);
+        }
+        if last == 2 * ROUNDS {
+            return Some(serials);
+        }
+    }
+    None
+}
+
+/// One that publishes, beside one that looks.
+trait Publishes {
+    ghost ready: { Self → Type 0 };
+
+    fn publish_all<R: Wait>(&mut self, rt: &R, shown: &AtomicU64) -> bool
+        requires { ready self.old };
+}
+
+struct Feeder<J: Naming> {
+    alloc: Global,
+    publisher: Publisher<J>,
+    worlds: Worlds,
+}
+
+impl<J: Naming> Publishes for Feeder<J> {
+    ghost use Rattle.map_cell.specs.Examples.{IsReady};
+
+    ghost ready = { λ f. IsReady f.worlds.old f.worlds.old_map.lines.items f.worlds.old_map.names.items f.worlds.new f.worlds.new_map.lines.items f.worlds.new_map.names.items f.publisher.newest };
+
+    fn publish_all<R: Wait>(&mut self, rt: &R, shown: &AtomicU64) -> bool {
+        publish_all(rt, self.alloc, &mut self.publisher, &self.worlds, shown)
+    }
+}
+
+/// One that looks.
+trait Watches {
+    fn look_all(&mut self, shown: &AtomicU64) -> Option<u32>;
+}
+
+#[derive(Drop)]
+struct Watcher<J: Naming> {
+    viewer: Viewer<J>,
+    door: PlainDoor,
+}
+
+impl<J: Naming> Watches for Watcher<J> {
+    fn look_all(&mut self, shown: &AtomicU64) -> Option<u32> {
+        look_all(&mut self.viewer, &mut self.door, shown)
+    }
+}
+
+/// Lets both run at once: whether all was published, and a hundred serials or more were seen.
+fn run_both<P: Publishes, W: Watches + Send, R: Wait + Threads + Sync>(
+    rt: &R,
+    feeder: &mut P,
+    watcher: &mut W,
+    shown: &AtomicU64,
+) -> bool
+    requires { P.ready feeder.old }
+{
+    let mut looking = || -> bool
+        requires { IsSync R.row × IsSend W.row }
+    { look_beside(rt, watcher, shown) };
+    let mut publishing = || -> bool
+        requires { IsSync R.row × P.ready feeder.now }
+    { feeder.publish_all(rt, shown) };
+    let (looked, published) = join_mut(rt, &mut looking, &mut publishing);
+    looked && published
+}
+
+/// Whether a hundred serials or more were seen.
+fn look_beside<W: Watches, R: Wait>(_rt: &R, watcher: &mut W, shown: &AtomicU64) -> bool {
+    match watcher.look_all(shown) {
+        Some(serials) => serials >= 100,
+        None => false,
+    }
+}
+
+/// The same over a cell of the example.
+fn opened_beside<J: Naming + Send + Sync, R: Wait + Threads + Sync>(
+    rt: &R,
+    alloc: Global,
+    history: EmptyHistory,
+) -> bool
+    requires { history ≡ J.book }
+{
+    let Ok(topology) = read_topology(alloc, EXAMPLE_TREE.as_bytes()) else {
+        return false;
+    };
+    let Some(worlds) = worlds_of(alloc, &topology) else {
+        return false;
+    };
+    let Some(version) = first_version(alloc, topology, &worlds) else {
+        return false;
+    };
+    let mut door = PlainDoor::new();
+    let Ok((publisher, viewers)) = open::<J, PlainDoor, R>(
+        rt, alloc, history, version, 1, &mut door,
+    ) else {
+        return false;
+    };
+    let mut viewers = viewers;
+    let mut feeder = Feeder {
+        alloc,
+        publisher,
+        worlds,
+    };
+    let mut ran = false;
+    if let Some(viewer) = viewers.pop() {
+        let mut watcher = Watcher { viewer, door };
+        let shown = AtomicU64::new(0);
+        ran = run_both(rt, &mut feeder, &mut watcher, &shown);
+    }
+    let Feeder {
+        alloc: _,
+        publisher,
+        worlds: _,
+    } = feeder;
+    publisher.close(rt);
+    ran
+}
+
+/// The same, of a history of its own.
+fn beside<R: Wait + Threads + Sync>(rt: &R, alloc: Global) -> bool {
+    opened_beside::<Brand, R>(rt, alloc, EmptyHistory::new())
+}
+
+/// A publisher of ten thousand maps, and beside it a viewer that looks all the time: serials never fall, and each look
+/// is at one map.
+#[test]
+fn looks_beside_publishes(rt: HostRuntime) -> Result<(), Fail> {
+    assert!(rt; beside(&rt, rt.alloc()));
     Ok(())
 }

@@ -8,11 +8,11 @@ ghost use Rattle.map_cell.specs.Histories.{IsSealed};
 ghost use Rattle.published_map.specs.Version.{Version, IsVersion};
 
 use crate::front::{Front, Naming};
-use crate::tag::Tag;
 use crate::rule::{Knows, OneCell};
 use crate::sealed::Sealed;
-use published_map::MapVersion;
+use crate::tag::Tag;
 use left_right::reader::Reader;
+use published_map::MapVersion;
 use std::marker::Model;
 
 pub(crate) type CellReader = Reader<Sealed, Tag, OneCell>;

@@ -30,7 +30,7 @@ some_more : {T : Type 0} (number : T → ℕ) (serials : List ℕ) (note : T) (b
 some_more number serials note b c d p q = record {
   coming = p.coming ∙ (ap (λ l. serials ++ map number l) q.0 ∙ sym (append_assoc serials (number note ∷ []) (map number d.coming)));
   places = q.1 ∙ (ap (λ l. l ++ c.nones ∷ []) p.places ∙ (append_assoc b.places (replicate (length serials) b.nones) (c.nones ∷ []) ∙ (ap (λ k. b.places ++ (replicate (length serials) b.nones ++ k ∷ [])) p.nones
-    ∙ (ap (λ l. b.places ++ l) (replicate_more (length serials) b.nones) ∙ ap (λ k. b.places ++ replicate k b.nones) (sym (length-append serials (number note ∷ [])))))));
+      ∙ (ap (λ l. b.places ++ l) (replicate_more (length serials) b.nones) ∙ ap (λ k. b.places ++ replicate k b.nones) (sym (length-append serials (number note ∷ [])))))));
   nones = q.2 ∙ p.nones;
 }
 

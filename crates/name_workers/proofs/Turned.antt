@@ -126,7 +126,7 @@ arrived w n n' known len buffer from fared.Sent s e g p q r is recv later x coun
   received = record {
     known_is = is;
     port = tells_on p.told q.told r.told (IsRecv known buffer (Arrived len from)) (λ b c. c ≡ trying (record { octets = x.1; to = from; serial = x.0; went = true }) b) (λ b c. c ≡ trying (record { octets = x.1; to = from; serial = x.0; went = true }) (taking (packet_in buffer len from) known b))
-    (λ b c d u v. v ∙ ap (λ k. trying (record { octets = x.1; to = from; serial = x.0; went = true }) k) u.port) recv x.2.port;
+        (λ b c d u v. v ∙ ap (λ k. trying (record { octets = x.1; to = from; serial = x.0; went = true }) k) u.port) recv x.2.port;
     came_is = (x.2.replied.spoken, omega (arith, is, x.2.replied.fresh), x.2.replied.version);
     rise = x.2.replied.rise;
     knows = omega (arith, x.2.replied.known);
@@ -144,7 +144,7 @@ arrived w n n' known len buffer from fared.Failed s e g p q r is recv later x co
   received = record {
     known_is = is;
     port = tells_on p.told q.told r.told (IsRecv known buffer (Arrived len from)) (λ b c. c ≡ trying (record { octets = x.1; to = from; serial = x.0; went = false }) b) (λ b c. c ≡ trying (record { octets = x.1; to = from; serial = x.0; went = false }) (taking (packet_in buffer len from) known b))
-    (λ b c d u v. v ∙ ap (λ k. trying (record { octets = x.1; to = from; serial = x.0; went = false }) k) u.port) recv x.2.port;
+        (λ b c d u v. v ∙ ap (λ k. trying (record { octets = x.1; to = from; serial = x.0; went = false }) k) u.port) recv x.2.port;
     came_is = (x.2.replied.spoken, omega (arith, is, x.2.replied.fresh), x.2.replied.version);
     rise = x.2.replied.rise;
     knows = omega (arith, x.2.replied.known);

@@ -12,8 +12,8 @@ ghost use Rattle.name_workers.specs.Steps.{IsFared, IsNextEnd, IsServed, IsTaken
 use crate::worker::Worker;
 use addr_text::Peer;
 use arrayvec::ArrayVec;
-use map_cell::{CellFault, Door, Naming, Note};
 use lane_model::Ended;
+use map_cell::{CellFault, Door, Naming, Note};
 use outside::{Arrival, Gate, LARGEST_DATAGRAM, Notes, Port, Sending, Turning};
 
 /// What became of a datagram.
@@ -147,7 +147,11 @@ fn next_end(step: Step, failed: &mut u8) -> Option<Ended>
         Step::Refused => Some(Ended::CellFault),
         Step::PortFailed => {
             *failed += 1;
-            if *failed == 8 { Some(Ended::PortFault) } else { None }
+            if *failed == 8 {
+                Some(Ended::PortFault)
+            } else {
+                None
+            }
         }
     }
 }

@@ -17,8 +17,8 @@ all_below key n (x ∷ xs) all = and_from _ _ (lt-ltb (key x) n (All-head (λ y.
 
 pub within : (old new : Version) (d : Delta) → IsBetween old new d → is_within old d ≡ true
 within old new d is = and_from _ _
-  (all_below (λ (r : GroupId × GroupRow). r.0.0) (length old.market.groups) d.groups.items (λ k e lt. (is.rows k e lt).0))
-  (all_below (λ (n : NodeId × ℕ). n.0.0) (length old.market.nodes) d.nodes.items (λ k e lt. (is.nodes k e lt).0))
+    (all_below (λ (r : GroupId × GroupRow). r.0.0) (length old.market.groups) d.groups.items (λ k e lt. (is.rows k e lt).0))
+    (all_below (λ (n : NodeId × ℕ). n.0.0) (length old.market.nodes) d.nodes.items (λ k e lt. (is.nodes k e lt).0))
 
 pub after_is_version : (old new : Version) (d : Delta) → IsBetween old new d → IsVersion new → IsVersion (after old d)
 after_is_version old new d is good = subst IsVersion (sym is.leads) good

@@ -1,16 +1,17 @@
-ghost use Rattle.std.specs.Prelude.{IfOk, IsTrue};
-ghost use Rattle.map_model.specs.Allocation.{IsMapForm};
+ghost use Rattle.std.specs.Prelude.{◌≡◌, true, IfOk, IfSome};
+ghost use Rattle.map_model.specs.Market.{IsSameShape};
+ghost use Rattle.map_model.specs.Allocation.{IsGood};
+ghost use Rattle.published_map.specs.Version.{IsVersion};
 
 use crate::{Delta, MapVersion, Shared};
 use addr_text::Addr;
-use map_model::{GroupId, Instance, MapLines, NodeId, Offer};
-use no_memory::NoMemory;
+use map_model::{GroupId, Instance, MapLines, NodeId};
 use prefix_lookup::Lookup;
 use stable_check::{CheckRoom, Verdict, check};
 use std::alloc::Global;
 use std::sync::Arc;
 use std::test::Fail;
-use topology_text::read_topology;
+use topology_text::{Topology, read_topology};
 use worlds::{EXAMPLE, EXAMPLE_TREE, map_of};
 
 const G1: GroupId = GroupId(0);
@@ -21,19 +22,81 @@ const A: NodeId = NodeId(1);
 
 const B: NodeId = NodeId(2);
 
-/// The seventh version of the example: one unit of the second group is placed nowhere.
-fn example(alloc: Global) -> Result<MapVersion, Fail> {
-    let topology = read_topology(alloc, EXAMPLE_TREE.as_bytes())?;
-    let instance = topology.instance().try_clone()?;
-    let map = EXAMPLE.map(alloc)?;
-    let mut room = CheckRoom::new(alloc, &instance)?;
-    let Verdict::Good = check(&instance, &map, &mut room) else {
-        return Err("not good".into());
+/// Whether the map is good for the instance.
+fn is_good(alloc: Global, instance: &Instance, map: &MapLines) -> bool
+    ensures { result ≡ true → IsGood instance.now map.now.lines.items map.now.names.items }
+{
+    match CheckRoom::new(alloc, instance) {
+        Err(_) => false,
+        Ok(room) => {
+            let mut room = room;
+            matches!(check(instance, map, &mut room), Verdict::Good)
+        }
+    }
+}
+
+/// The seventh version of a topology.
+fn version_of(
+    alloc: Global,
+    topology: Topology,
+    instance: &Instance,
+    map: &MapLines,
+) -> Option<MapVersion>
+    requires instance { instance.now ≡ topology.market }
+    requires good { IsGood instance.now map.now.lines.items map.now.names.items }
+    ensures { IfSome result IsVersion }
+{
+    let Ok(lookup) = Lookup::build(alloc, topology.prefixes()) else {
+        return None;
     };
-    let lookup = Lookup::build(alloc, topology.prefixes())?;
-    let topology = Arc::new(alloc, topology)?;
-    let shared = Arc::new(alloc, Shared { topology, lookup })?;
-    Ok(MapVersion::make(alloc, 7, &instance, &map, shared)?)
+    let Ok(topology) = Arc::new(alloc, topology) else {
+        return None;
+    };
+    let Ok(shared) = Arc::new(alloc, Shared { topology, lookup }) else {
+        return None;
+    };
+    match MapVersion::make(alloc, 7, instance, map, shared) {
+        Ok(version) => Some(version),
+        Err(_) => None,
+    }
+}
+
+/// An equal instance.
+fn copy_of(instance: &Instance) -> Option<Instance>
+    ensures { IfSome result (λ i. i ≡ instance.now) }
+{
+    match instance.try_clone() {
+        Ok(instance) => Some(instance),
+        Err(_) => None,
+    }
+}
+
+/// The seventh version of the example: one unit of the second group is placed nowhere.
+fn version_seven(alloc: Global) -> Option<MapVersion>
+    ensures { IfSome result IsVersion }
+{
+    let Ok(topology) = read_topology(alloc, EXAMPLE_TREE.as_bytes()) else {
+        return None;
+    };
+    let Some(instance) = copy_of(topology.instance()) else {
+        return None;
+    };
+    let Ok(map) = EXAMPLE.map(alloc) else {
+        return None;
+    };
+    if !is_good(alloc, &instance, &map) {
+        return None;
+    }
+    version_of(alloc, topology, &instance, &map)
+}
+
+fn example(alloc: Global) -> Result<MapVersion, Fail>
+    ensures { IfOk result IsVersion }
+{
+    match version_seven(alloc) {
+        Some(version) => Ok(version),
+        None => Err("no version".into()),
+    }
 }
 
 #[test]
@@ -42,8 +105,7 @@ fn keeps_its_parts(rt: HostRuntime) -> Result<(), Fail> {
     assert_eq!(rt; version.serial(), 7);
     assert_eq!(rt; version.groups(), 2);
     assert_eq!(rt; version.nodes(), 3);
-    assert_eq!(rt; version.demand(G2), 8);
-    assert_eq!(rt; version.capacity(A), 10);
+    assert_eq!(rt; demand(&version), 8);
     assert_eq!(rt; version.zone().ttl, 20);
     Ok(())
 }
@@ -64,71 +126,119 @@ fn finds_groups(rt: HostRuntime) -> Result<(), Fail> {
     Ok(())
 }
 
+/// Whether a group has these amounts.
+fn has_amounts(version: &MapVersion, group: GroupId, amounts: &[u32]) -> bool
+    requires { IsVersion version.now }
+{
+    if group.0 as usize >= version.groups() {
+        return false;
+    }
+    version.amounts(group).as_slice() == amounts
+}
+
 #[test]
-fn tells_offers(rt: HostRuntime) -> Result<(), Fail> {
+fn tells_amounts(rt: HostRuntime) -> Result<(), Fail> {
     let version = example(rt.alloc())?;
-    assert_eq!(rt; version.groups(), 2);
-    assert_eq!(rt; version.amounts(G1).as_slice(), [8, 0].as_slice());
-    assert_eq!(rt; version.amounts(G2).as_slice(), [2, 5].as_slice());
-    let offer = Offer {
-        group: G2,
-        place: 1,
-    };
-    assert_eq!(rt; version.pool_at(offer), B);
+    assert!(rt; has_amounts(&version, G1, [8, 0].as_slice()));
+    assert!(rt; has_amounts(&version, G2, [2, 5].as_slice()));
     Ok(())
+}
+
+/// Whether a pool has these addresses of type A.
+fn has_addresses(version: &MapVersion, pool: NodeId, addresses: &[Addr]) -> bool {
+    if pool.0 >= version.topology().instance().nodes() {
+        return false;
+    }
+    version.addresses(pool, 1) == addresses
 }
 
 #[test]
 fn tells_addresses(rt: HostRuntime) -> Result<(), Fail> {
     let version = example(rt.alloc())?;
-    assert_eq!(rt; version.topology().instance().nodes(), 3);
-    let a = [Addr::V4(0xc000_0202)];
-    assert_eq!(rt; version.addresses(B, 1), a.as_slice());
-    assert_eq!(rt; version.addresses(B, 28), [].as_slice());
-    let aaaa = [Addr::V6(0x2001_0db8_0000_0000_0000_0000_0000_0001)];
-    assert_eq!(rt; version.addresses(A, 28), aaaa.as_slice());
+    assert!(rt; has_addresses(&version, A, [Addr::V4(0xc000_0201)].as_slice()));
+    assert!(rt; has_addresses(&version, B, [Addr::V4(0xc000_0202)].as_slice()));
     Ok(())
 }
 
-/// Whether the map is good for the instance, and so in the form of a map.
-fn is_good(alloc: Global, instance: &Instance, map: &MapLines) -> Result<bool, NoMemory>
-    ensures { IfOk result (λ good. IsTrue good → IsMapForm instance.now map.now.lines.items map.now.names.items) }
+/// The instance where the second group asks for four units.
+fn asking_four(old: &Instance) -> Option<Instance>
+    ensures { IfSome result (λ new. IsSameShape old.now new) }
 {
-    let mut room = CheckRoom::new(alloc, instance)?;
-    let _ = instance.groups();
-    Ok(matches!(check(instance, map, &mut room), Verdict::Good))
+    match old.try_clone() {
+        Err(_) => None,
+        Ok(instance) => {
+            let mut instance = instance;
+            if instance.groups() != 2 {
+                return None;
+            }
+            instance.set_demand(G2, 4);
+            Some(instance)
+        }
+    }
 }
 
-/// What changes in the example where the second group asks for four units.
-fn change(alloc: Global) -> Result<Delta, Fail> {
-    let topology = read_topology(alloc, EXAMPLE_TREE.as_bytes())?;
+/// What changes between good maps of two instances.
+fn between(alloc: Global, old: (&Instance, &MapLines), new: (&Instance, &MapLines)) -> Option<Delta>
+    requires { IsSameShape old.0.now new.0.now }
+{
+    let _ = (old.0.groups(), new.0.groups());
+    if !is_good(alloc, old.0, old.1) {
+        return None;
+    }
+    if !is_good(alloc, new.0, new.1) {
+        return None;
+    }
+    match Delta::between(alloc, 7, old.0, old.1, new.0, new.1) {
+        Ok(delta) => Some(delta),
+        Err(_) => None,
+    }
+}
+
+/// What changes in the example where the second group asks for four units, which then are all placed.
+fn change(alloc: Global) -> Option<Delta> {
+    let Ok(topology) = read_topology(alloc, EXAMPLE_TREE.as_bytes()) else {
+        return None;
+    };
     let old = topology.instance();
-    let old_map = EXAMPLE.map(alloc)?;
-    let mut new = old.try_clone()?;
-    if new.groups() != 2 {
-        return Err("groups".into());
-    }
-    new.set_demand(G2, 4);
-    let new_map = map_of(alloc, &[(0, 0, 8), (1, 0, 2), (1, 1, 2)], &[(1, 0, 1)])?;
-    if !is_good(alloc, old, &old_map)? || !is_good(alloc, &new, &new_map)? {
-        return Err("not good".into());
-    }
-    Ok(Delta::between(alloc, 7, old, &old_map, &new, &new_map)?)
+    let Some(new) = asking_four(old) else {
+        return None;
+    };
+    let old_map = EXAMPLE.map(alloc).ok()?;
+    let new_map = map_of(alloc, &[(0, 0, 8), (1, 0, 2), (1, 1, 2)], &[(1, 0, 1)]).ok()?;
+    between(alloc, (old, &old_map), (&new, &new_map))
 }
 
-/// The second group's row alone: its demand, two amounts and one name.
+/// Whether it has the second group's row alone: its demand, two amounts and one name.
+fn has_one_row(delta: &Delta) -> bool {
+    match delta.groups.as_slice() {
+        [(group, row)] => {
+            *group == G2
+                && row.demand == 4
+                && row.amounts.as_slice() == [(0, 2), (1, 2)].as_slice()
+                && row.names.as_slice() == [(0, A)].as_slice()
+        }
+        _ => false,
+    }
+}
+
 #[test]
 fn lists_what_differs(rt: HostRuntime) -> Result<(), Fail> {
-    let delta = change(rt.alloc())?;
+    let Some(delta) = change(rt.alloc()) else {
+        return Err("no delta".into());
+    };
     assert_eq!(rt; delta.base, 7);
-    assert_eq!(rt; delta.groups.len(), 1);
+    assert!(rt; has_one_row(&delta));
     assert_eq!(rt; delta.nodes.len(), 0);
-    let (group, row) = &delta.groups[0];
-    assert_eq!(rt; *group, G2);
-    assert_eq!(rt; row.demand, 4);
-    assert!(rt; row.amounts.as_slice() == [(0, 2), (1, 2)].as_slice());
-    assert!(rt; row.names.as_slice() == [(0, A)].as_slice());
     Ok(())
+}
+
+/// The second group's demand, where there is one.
+fn demand(version: &MapVersion) -> u32 {
+    if version.groups() == 2 {
+        version.demand(G2)
+    } else {
+        0
+    }
 }
 
 /// A copy takes in what differs, and the other stays as it is.
@@ -136,13 +246,15 @@ fn lists_what_differs(rt: HostRuntime) -> Result<(), Fail> {
 fn takes_in_what_differs(rt: HostRuntime) -> Result<(), Fail> {
     let version = example(rt.alloc())?;
     let mut copy = version.try_clone()?;
-    let delta = change(rt.alloc())?;
-    assert!(rt; copy.fits(&delta));
+    let Some(delta) = change(rt.alloc()) else {
+        return Err("no delta".into());
+    };
+    if !copy.fits(&delta) {
+        return Err("does not fit".into());
+    }
     copy.absorb(&delta, 8);
     assert_eq!(rt; copy.serial(), 8);
-    if copy.groups() == 2 && version.groups() == 2 {
-        assert_eq!(rt; copy.demand(G2), 4);
-        assert_eq!(rt; version.demand(G2), 8);
-    }
+    assert_eq!(rt; demand(&copy), 4);
+    assert_eq!(rt; demand(&version), 8);
     Ok(())
 }

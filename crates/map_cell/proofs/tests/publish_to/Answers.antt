@@ -36,6 +36,7 @@ returns-in-Ok-publish-clause-newest g c =
     let b : Between c.args.old.0.now c.args.old.1.now.lines.items c.args.old.1.now.names.items c.args.new.0.now c.args.new.1.now.lines.items c.args.new.1.now.names.items c.args.publisher.now.newest.serial c.in-Ok.delta = subst (λ (s : ℕ). Between c.args.old.0.now c.args.old.1.now.lines.items c.args.old.1.now.names.items c.args.new.0.now c.args.new.1.now.lines.items c.args.new.1.now.names.items s c.in-Ok.delta) at c.in-Ok.ensures in
     let e = c.in-Ok-publish.ensures.ok in
     let base = (b c.args.publisher.now.newest.plan).base in
-    let more : c.args.publisher.now.newest.serial + 1 ≡ c.in-Ok.delta.base + 1 = omega (arith, base) in
-    (rw e.1 (next_is c.args.old.0.now c.args.old.1.now.lines.items c.args.old.1.now.names.items c.args.new.0.now c.args.new.1.now.lines.items c.args.new.1.now.names.items c.args.publisher.now.newest c.in-Ok.delta c.requires.newest c.groups-2.ensures.market c.requires.good c.requires.shape b),
-      ap (λ (v : Version). v.serial) e.1 ∙ more ∙ sym e.2)
+    let more : c.args.publisher.now.newest.serial + 1 ≡ c.in-Ok.delta.base + 1 = omega (arith, base) in (
+      rw e.1 (next_is c.args.old.0.now c.args.old.1.now.lines.items c.args.old.1.now.names.items c.args.new.0.now c.args.new.1.now.lines.items c.args.new.1.now.names.items c.args.publisher.now.newest c.in-Ok.delta c.requires.newest c.groups-2.ensures.market c.requires.good c.requires.shape b),
+      ap (λ (v : Version). v.serial) e.1 ∙ more ∙ sym e.2,
+    )
