@@ -9,3 +9,6 @@ mod session;
 pub use mapping::Mapping;
 pub use saying::{LINE_ROOM, Saying, Spoken, Totals};
 pub use session::run_feed;
+
+#[cfg(test)]
+mod tests;
