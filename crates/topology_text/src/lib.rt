@@ -3,6 +3,7 @@
 
 mod build;
 mod fault;
+mod limits;
 mod links;
 mod names;
 mod parts;

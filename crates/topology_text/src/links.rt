@@ -14,15 +14,18 @@ use crate::schema::{At, Key, Spot};
 use crate::texts::zone_name;
 use crate::values::Test;
 use crate::walk::{TableAt, items_of, value_of};
+use map_model::{LEVELS, PLACES};
 use name_text::{Name, under};
 use toml::{Table, Value};
 
+/// The whole value, where it is bad.
 fn whole_if(bad: bool) -> Option<At>
     ensures { result ≡ first (whole_if bad) }
 {
     if bad { Some(At::Whole) } else { None }
 }
 
+/// The first of that name is another.
 fn is_other(found: Option<usize>, number: usize) -> bool
     ensures { result ≡ is_other found number }
 {
@@ -89,6 +92,7 @@ impl<'a> Test for UnknownName<'a> {
     }
 }
 
+/// The node's parent doesn't stand earlier, or is a pool.
 fn is_misplaced(index: &Entries<'_>, node: usize) -> bool
     ensures { result ≡ is_misplaced (entries index.now).nodes node (parent_of (entries index.now).nodes node) }
 {
@@ -118,7 +122,7 @@ fn is_deep(index: &Entries<'_>, node: usize) -> bool
     ensures { result ≡ is_deep (entries index.now).nodes node }
 {
     let mut at = Some(node);
-    for _step in 0..8usize {
+    for _step in 0..LEVELS {
         match at {
             Some(n) => at = index.parent(n),
             None => return false,
@@ -170,6 +174,7 @@ fn has_repeat(items: &[Value]) -> bool
     false
 }
 
+/// The list at a key is against its shape.
 fn is_misshapen(table: &Table, key: Key) -> bool
     ensures { result ≡ is_misshapen (table_view table.now) key }
 {
@@ -179,7 +184,7 @@ fn is_misshapen(table: &Table, key: Key) -> bool
         Key::A | Key::Aaaa => count > 0 && !flag_of(table, Key::Pool),
         Key::Pools => {
             value_of(table, key).is_some()
-                && (count == 0 || count > 16 || has_repeat(items_of(table, key)))
+                && (count == 0 || count > PLACES || has_repeat(items_of(table, key)))
         }
         Key::Scores => {
             value_of(table, key).is_some() && count != items_of(table, Key::Pools).len()

@@ -88,6 +88,17 @@ pub fn numbers_of(alloc: Global, entries: &[Value]) -> Result<HashMap<&str, usiz
     Ok(numbers)
 }
 
+/// Which of the entries are pools.
+fn pools_of(alloc: Global, entries: &[Value]) -> Result<Vec<bool>, AllocError>
+    ensures { IfOk result (λ pools. pools.items ≡ map is_pool (map view entries.now)) }
+{
+    let mut pools = Vec::with_capacity(alloc, entries.len())?;
+    for entry in entries {
+        pools.push(is_pool(entry))?;
+    }
+    Ok(pools)
+}
+
 /// The zone's top name, if there is one.
 fn zone_apex(zone: Option<&Table>) -> Option<Name>
     ensures { result ≡ option_and_then zone_name (zone_text (option_map (λ t. table_view t.now) zone.entry) Key.Apex) }
@@ -104,11 +115,13 @@ pub struct Entries<'a> {
     nodes: &'a [Value],
     groups: &'a [Value],
     zone: Option<&'a Table>,
+    pools: Vec<bool>,
     node_numbers: HashMap<&'a str, usize>,
     group_numbers: HashMap<&'a str, usize>,
     apex: Option<Name>,
     ns_repeat: Option<At>,
     services_repeat: Option<At>,
+    ghost pools_are: { pools.items ≡ map is_pool (map view nodes.now) },
     ghost nodes_are: { (q : List ℕ) → get_by (λ k. bytes_eq q k.now) node_numbers ≡ number_of (map view nodes.now) q },
     ghost groups_are: { (q : List ℕ) → get_by (λ k. bytes_eq q k.now) group_numbers ≡ number_of (map view groups.now) q },
     ghost apex_is: { apex ≡ option_and_then zone_name (zone_text (option_map (λ t. table_view t.now) zone) Apex) },
@@ -126,6 +139,7 @@ impl<'a> Entries<'a> {
         let nodes = items_of(top, Key::Node);
         let groups = items_of(top, Key::Group);
         let zone = zone_table(top);
+        let pools = pools_of(alloc, nodes)?;
         let node_numbers = numbers_of(alloc, nodes)?;
         let group_numbers = numbers_of(alloc, groups)?;
         let ns_repeat = first_repeat(alloc, Key::Ns, zone_items(zone, Key::Ns))?;
@@ -134,6 +148,7 @@ impl<'a> Entries<'a> {
             nodes,
             groups,
             zone,
+            pools,
             node_numbers,
             group_numbers,
             apex: zone_apex(zone),
@@ -189,8 +204,8 @@ impl<'a> Entries<'a> {
     pub fn is_pool(&self, node: usize) -> bool
         ensures { result ≡ is_pool (entry_at (entries self.now).nodes node) }
     {
-        match self.nodes.get(node) {
-            Some(entry) => is_pool(entry),
+        match self.pools.get(node) {
+            Some(flag) => *flag,
             None => false,
         }
     }

@@ -7,6 +7,7 @@ ghost use Rattle.topology_text.specs.Code.{visit};
 ghost use Rattle.topology_text.specs.Prefixes.{all_prefixes, count_at, duplicate_prefixes, has_prefix, is_same_prefix, no_default, passing, place_of, prefix_in, prefixes_at, prefixes_from};
 ghost use Rattle.topology_text.specs.Walk.{first, items_at};
 
+use crate::limits::MOST_PREFIXES;
 use crate::schema::{At, Key, Place, Spot};
 use crate::walk::{TableAt, items_of};
 use addr_text::{Addr, Prefix, read_prefix};
@@ -137,6 +138,7 @@ pub fn first_lacking(prefixes: &[PrefixAt]) -> Option<Place>
 }
 
 /// How many items the prefixes of a table have, if it is a group.
+/// How many prefixes a group's table has.
 fn count_at(table: &TableAt<'_>) -> usize
     ensures { result ≡ count_at table.now.spot (items_at (table_view table.now.table.now) Key.Prefixes) }
 {
@@ -153,7 +155,7 @@ pub fn first_passing(tables: &[TableAt<'_>]) -> Option<Place>
     let mut total = 0;
     for (i, table) in tables.iter().enumerate() {
         let count = count_at(table);
-        if count > 262144 - total {
+        if count > MOST_PREFIXES - total {
             return Some(Place {
                 spot: table.spot,
                 key: Some(Key::Prefixes),

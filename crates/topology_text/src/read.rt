@@ -1,3 +1,4 @@
+//! Reading a topology: the first of its seventeen faults, by number and then by the order of the walk, or what it says.
 ghost use Rattle.std.specs.Prelude.{◌≡◌, ◌++◌, map, IfOk, IfErr, MatchResult};
 ghost use Rattle.toml.specs.View.{table_view};
 ghost use Rattle.topology_text.specs.Code.{entries, visit};

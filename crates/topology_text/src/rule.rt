@@ -1,3 +1,4 @@
+//! What a rule is, and the first place at which it finds something.
 ghost use Rattle.std.specs.Prelude.{◌≡◌, map, List};
 ghost use Rattle.topology_text.specs.Walk.{Visit, first, places_in, places_of};
 ghost use Rattle.topology_text.specs.Code.{visit};

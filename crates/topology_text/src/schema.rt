@@ -1,3 +1,4 @@
+//! The keys of a topology's tables, their kinds, and the places of faults.
 ghost use Rattle.std.specs.Prelude.{◌≡◌, Some};
 ghost use Rattle.topology_text.specs.FaultTexts.{at_part, key_part, place_text, spot_text};
 ghost use Rattle.topology_text.specs.Schema.{key_text, kind_of, is_required, keys_of};

@@ -5,6 +5,7 @@ ghost use Rattle.name_text.specs.Names.{is_label_byte};
 ghost use Rattle.topology_text.specs.Hosts.{is_v4, is_v6};
 ghost use Rattle.topology_text.specs.Texts.{is_name, is_name_byte, service_name, v4_address, v6_address, zone_name};
 
+use crate::limits::{LONGEST_ENTRY_NAME, LONGEST_ZONE_NAME};
 use addr_text::{Addr, read_addr};
 use name_text::{Name, read_label, read_name};
 
@@ -24,7 +25,7 @@ fn are_name_bytes(text: &str) -> bool
 pub fn is_name(text: &str) -> bool
     ensures { result ≡ is_name text.now }
 {
-    1 <= text.len() && text.len() <= 32 && are_name_bytes(text)
+    1 <= text.len() && text.len() <= LONGEST_ENTRY_NAME && are_name_bytes(text)
 }
 
 /// A name of the zone, of at most 64 octets on the wire.
@@ -33,7 +34,7 @@ pub fn zone_name(text: &str) -> Option<Name>
 {
     match read_name(text.as_bytes()) {
         Ok(name) => {
-            if name.wire().len() <= 64 {
+            if name.wire().len() <= LONGEST_ZONE_NAME {
                 Some(name)
             } else {
                 None

@@ -7,11 +7,13 @@ ghost use Rattle.topology_text.specs.Walk.{Visit, first, items_from, items_where
 ghost use Rattle.topology_text.specs.Code.{visit};
 ghost use Rattle.topology_text.specs.Values.{failing, is_bad_address, is_bad_name, is_bad_prefix, is_in_range, is_out_of_range, is_over, is_within, limit_of, missing, too_many, wrong_in, wrong_kind};
 
+use crate::limits::{MOST_ADDRESSES, MOST_NAME_SERVERS, MOST_SECONDS, MOST_SERVICES};
 use crate::rule::Rule;
 use crate::schema::{At, Key, Kind};
 use crate::texts::{is_name, service_name, v4_address, v6_address, zone_name};
 use crate::walk::{TableAt, items_of, value_of};
 use addr_text::read_prefix;
+use map_model::{MOST_CAPACITY, MOST_GROUPS, MOST_NODES};
 use toml::Value;
 
 /// A test of one value, or of one item of an array.
@@ -142,6 +144,7 @@ impl Test for BadName {
     }
 }
 
+/// A number is at least the one and at most the other.
 fn is_within(low: u64, high: u64, number: i64) -> bool
     ensures { result ≡ is_within low high number }
 {
@@ -151,6 +154,7 @@ fn is_within(low: u64, high: u64, number: i64) -> bool
     }
 }
 
+/// The number is in the range of its key.
 fn is_in_range(key: Key, number: i64) -> bool
     ensures { result ≡ is_in_range key number }
 {
@@ -159,8 +163,8 @@ fn is_in_range(key: Key, number: i64) -> bool
             is_within(0, 0xffff_ffff, number)
         }
         Key::Demand => is_within(1, 0xffff_ffff, number),
-        Key::Minimum | Key::Ttl => is_within(0, 0x7fff_ffff, number),
-        Key::Capacity => is_within(0, 1 << 48, number),
+        Key::Minimum | Key::Ttl => is_within(0, MOST_SECONDS, number),
+        Key::Capacity => is_within(0, MOST_CAPACITY, number),
         _ => true,
     }
 }
@@ -211,15 +215,16 @@ impl Test for BadPrefix {
     }
 }
 
+/// How many items the array at a key may have.
 fn limit_of(key: Key) -> Option<usize>
     ensures { result ≡ limit_of key }
 {
     match key {
-        Key::Node => Some(8192),
-        Key::Group => Some(65536),
-        Key::Ns => Some(4),
-        Key::Services => Some(64),
-        Key::A | Key::Aaaa => Some(6),
+        Key::Node => Some(MOST_NODES),
+        Key::Group => Some(MOST_GROUPS),
+        Key::Ns => Some(MOST_NAME_SERVERS),
+        Key::Services => Some(MOST_SERVICES),
+        Key::A | Key::Aaaa => Some(MOST_ADDRESSES),
         _ => None,
     }
 }

@@ -1,3 +1,4 @@
+//! The walk over the tables of a document, in which faults of one number are ordered.
 ghost use Rattle.std.specs.Prelude.{◌≡◌, ◌++◌, map, OnOk, IfOk, option_map, Some, None};
 ghost use Rattle.toml.specs.View.{view, table_view};
 ghost use Rattle.topology_text.specs.Walk.{entries_from, entry_spot, value_at, visit_of, walk, zone_visits, items_of_value};
