@@ -39,7 +39,7 @@ pub struct Key {
 }
 
 /// One place of a group's list: a pool, and the score of the group there. Lower scores are better.
-#[derive(Clone, Copy, Debug, PartialEq, Eq)]
+#[derive(Clone, Copy, Debug, Default, PartialEq, Eq)]
 pub struct Choice {
     pub pool: NodeId,
     pub score: u32,
@@ -186,6 +186,14 @@ impl Instance {
         ensures { result ≡ parent_of self.now node.0 }
     {
         self.nodes[node.0 as usize].parent
+    }
+
+    /// A node, with all that it is.
+    pub fn node(&self, node: NodeId) -> Node
+        requires { node.0 < length self.now.nodes }
+        ensures { result ≡ node_at self.now node.0 }
+    {
+        self.nodes[node.0 as usize]
     }
 
     /// The nodes from this one up to its root.

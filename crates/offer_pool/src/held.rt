@@ -6,6 +6,7 @@ ghost use Rattle.map_model.specs.Holding.{IsWorst, IsWorstKey, Puts, Takes};
 ghost use Rattle.offer_pool.specs.Holdings.{Holdings};
 
 use crate::filing::{empty_queues, place_at};
+use crate::lists::Lists;
 use crate::queue::Queue;
 use crate::table::{lines_of, put_lines, put_units, take_units};
 use map_model::{Instance, Key, MapLine, MapLines, NodeId, Offer, PLACES, Units};
@@ -16,7 +17,7 @@ use std::marker::Model;
 /// The units that each offer holds, with the worst offer under each node at hand. It rests on the lists and the trees of the instance that it was built for, and stays right when demands and capacities change.
 #[derive(Debug, Drop)]
 pub struct Held {
-    instance: Instance,
+    lists: Lists,
     amounts: Vec<u32>,
     queues: Vec<Queue>,
 }
@@ -28,9 +29,9 @@ impl Model for Held {
 
     ghost Value = { Holdings };
 
-    ghost view = { λ h. record { market = h.instance; lines = lines_in h.amounts.items } };
+    ghost view = { λ h. record { market = h.lists; lines = lines_in h.amounts.items } };
 
-    ghost invariant = { λ h. IsHeld h.instance h.amounts.items h.queues.items };
+    ghost invariant = { λ h. IsHeld h.lists h.amounts.items h.queues.items };
 }
 
 impl Held {
@@ -40,16 +41,17 @@ impl Held {
         ensures held { IfOk result (λ held. held ≡ record { market = instance.now; lines = map.now.lines.items }) }
         ensures market { IfOk result (λ held. IsMarket held.market) }
     {
+        let lists = Lists::build(alloc, instance)?;
         let mut amounts = vec![in alloc; 0u32; instance.groups() as usize * PLACES]?;
         let mut queues = empty_queues(alloc, instance.nodes())?;
         put_lines(
-            instance,
+            &lists,
             amounts.as_mut_slice(),
             queues.as_mut_slice(),
             map.lines.as_slice(),
         )?;
         Ok(Held {
-            instance: instance.try_clone()?,
+            lists,
             amounts,
             queues,
         })
@@ -65,7 +67,7 @@ impl Held {
         ensures err { OnErr result (self.new ≡ self.old) }
     {
         put_units(
-            &self.instance,
+            &self.lists,
             self.amounts.as_mut_slice(),
             self.queues.as_mut_slice(),
             offer,
@@ -82,7 +84,7 @@ impl Held {
         ensures form { AreLines self.new.market self.new.lines }
     {
         take_units(
-            &self.instance,
+            &self.lists,
             self.amounts.as_mut_slice(),
             self.queues.as_mut_slice(),
             offer,
@@ -95,7 +97,7 @@ impl Held {
         requires { IsOffer self.now.market offer.group.0 offer.place }
         ensures { result ≡ (choice_at self.now.market offer.group.0 offer.place).pool }
     {
-        self.instance.pool_at(offer)
+        self.lists.pool_at(offer)
     }
 
     /// The units that an offer holds.

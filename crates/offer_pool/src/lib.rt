@@ -3,6 +3,7 @@
 
 mod filing;
 mod held;
+mod lists;
 mod queue;
 mod table;
 #[cfg(test)]

@@ -8,18 +8,19 @@ ghost use Rattle.offer_pool.specs.Table.{amount_in, lines_in, place_at};
 ghost use Rattle.offer_pool.specs.Filed.{IsHeld};
 
 use crate::filing::{clean_all, place_at, push_all};
+use crate::lists::Lists;
 use crate::queue::{Queue, Seat};
 use arrayvec::ArrayVec;
-use map_model::{GroupId, Instance, LEVELS, MapLine, NodeId, Offer, PLACES, Units};
+use map_model::{GroupId, LEVELS, MapLine, NodeId, Offer, PLACES, Units};
 use no_memory::NoMemory;
 use std::alloc::Global;
 
 /// The seat of an offer.
-fn seat_of(instance: &Instance, offer: Offer) -> Seat
-    requires { IsOffer instance.now offer.group.0 offer.place }
-    ensures { result ≡ seat_at instance.now offer.group.0 offer.place }
+fn seat_of(lists: &Lists, offer: Offer) -> Seat
+    requires { IsOffer lists.now offer.group.0 offer.place }
+    ensures { result ≡ seat_at lists.now offer.group.0 offer.place }
 {
-    let key = instance.key(offer);
+    let key = lists.key(offer);
     Seat {
         score: key.score,
         group: key.group,
@@ -29,33 +30,33 @@ fn seat_of(instance: &Instance, offer: Offer) -> Seat
 }
 
 /// The nodes under which an offer stands.
-fn nodes_above(instance: &Instance, offer: Offer) -> ArrayVec<NodeId, LEVELS>
-    requires market { IsMarket instance.now }
-    requires offer { IsOffer instance.now offer.group.0 offer.place }
-    ensures among { (n : ℕ) → list_any (λ x. x.0 == n) result.items ≡ counts_at instance.now n offer.group.0 offer.place }
-    ensures there { (n : ℕ) → list_any (λ x. x.0 == n) result.items ≡ true → n < length instance.now.nodes }
+fn nodes_above(lists: &Lists, offer: Offer) -> ArrayVec<NodeId, LEVELS>
+    requires market { IsMarket lists.now }
+    requires offer { IsOffer lists.now offer.group.0 offer.place }
+    ensures among { (n : ℕ) → list_any (λ x. x.0 == n) result.items ≡ counts_at lists.now n offer.group.0 offer.place }
+    ensures there { (n : ℕ) → list_any (λ x. x.0 == n) result.items ≡ true → n < length lists.now.nodes }
 {
-    instance.path(instance.pool_at(offer))
+    lists.path(lists.pool_at(offer))
 }
 
 /// Files an offer that holds nothing, and gives it units. Where memory is wanted, a seat that was filed in vain is cleaned away where it is the worst, and else does no harm.
 fn seat_units(
-    instance: &Instance,
+    lists: &Lists,
     amounts: &mut [u32],
     queues: &mut [Queue],
     offer: Offer,
     units: u32,
 ) -> Result<(), NoMemory>
-    requires held { IsHeld instance.now amounts.old queues.old }
-    requires offer { IsOffer instance.now offer.group.0 offer.place }
+    requires held { IsHeld lists.now amounts.old queues.old }
+    requires offer { IsOffer lists.now offer.group.0 offer.place }
     requires none { amount_in amounts.old offer.group.0 offer.place ≡ 0 }
     requires some { 0 < units }
-    ensures held { IsHeld instance.now amounts.new queues.new }
+    ensures held { IsHeld lists.now amounts.new queues.new }
     ensures ok { OnOk result (amounts.new ≡ slice_set amounts.old (place_at offer.group.0 offer.place) units) }
     ensures err { OnErr result (amounts.new ≡ amounts.old) }
 {
-    let nodes = nodes_above(instance, offer);
-    if push_all(queues, nodes.as_slice(), seat_of(instance, offer)).is_err() {
+    let nodes = nodes_above(lists, offer);
+    if push_all(queues, nodes.as_slice(), seat_of(lists, offer)).is_err() {
         clean_all(queues, nodes.as_slice(), amounts);
         return Err(NoMemory);
     }
@@ -65,22 +66,22 @@ fn seat_units(
 
 /// Adds units to an offer. Where memory is wanted the amounts stay.
 pub fn put_units(
-    instance: &Instance,
+    lists: &Lists,
     amounts: &mut [u32],
     queues: &mut [Queue],
     offer: Offer,
     units: u32,
 ) -> Result<(), NoMemory>
-    requires held { IsHeld instance.now amounts.old queues.old }
-    requires offer { IsOffer instance.now offer.group.0 offer.place }
+    requires held { IsHeld lists.now amounts.old queues.old }
+    requires offer { IsOffer lists.now offer.group.0 offer.place }
     requires room { amount_in amounts.old offer.group.0 offer.place + units < 2 ^ 32 }
-    ensures held { IsHeld instance.now amounts.new queues.new }
+    ensures held { IsHeld lists.now amounts.new queues.new }
     ensures ok { OnOk result (amounts.new ≡ slice_set amounts.old (place_at offer.group.0 offer.place) (amount_in amounts.old offer.group.0 offer.place + units)) }
     ensures err { OnErr result (amounts.new ≡ amounts.old) }
 {
     let at = place_at(offer.group, offer.place);
     if units > 0 && amounts[at] == 0 {
-        return seat_units(instance, amounts, queues, offer, units);
+        return seat_units(lists, amounts, queues, offer, units);
     }
     amounts[at] += units;
     Ok(())
@@ -88,15 +89,15 @@ pub fn put_units(
 
 /// Puts the lines of a map into an empty table.
 pub fn put_lines(
-    instance: &Instance,
+    lists: &Lists,
     amounts: &mut [u32],
     queues: &mut [Queue],
     lines: &[MapLine],
 ) -> Result<(), NoMemory>
-    requires held { IsHeld instance.now amounts.old queues.old }
+    requires held { IsHeld lists.now amounts.old queues.old }
     requires empty { (i : ℕ) → slice_index amounts.old i ≡ 0 }
-    requires form { AreLines instance.now lines.now }
-    ensures held { IsHeld instance.now amounts.new queues.new }
+    requires form { AreLines lists.now lines.now }
+    ensures held { IsHeld lists.now amounts.new queues.new }
     ensures lines { OnOk result (lines_in amounts.new ≡ lines.now) }
 {
     for line in lines {
@@ -105,23 +106,23 @@ pub fn put_lines(
             group: line.group,
             place: line.place,
         };
-        put_units(instance, amounts, queues, offer, units)?;
+        put_units(lists, amounts, queues, offer, units)?;
     }
     Ok(())
 }
 
 /// Takes units of an offer.
 pub fn take_units(
-    instance: &Instance,
+    lists: &Lists,
     amounts: &mut [u32],
     queues: &mut [Queue],
     offer: Offer,
     units: Units,
 )
-    requires held { IsHeld instance.now amounts.old queues.old }
-    requires offer { IsOffer instance.now offer.group.0 offer.place }
+    requires held { IsHeld lists.now amounts.old queues.old }
+    requires offer { IsOffer lists.now offer.group.0 offer.place }
     requires enough { units ≤ amount_in amounts.old offer.group.0 offer.place }
-    ensures held { IsHeld instance.now amounts.new queues.new }
+    ensures held { IsHeld lists.now amounts.new queues.new }
     ensures taken { amounts.new ≡ slice_set amounts.old (place_at offer.group.0 offer.place) (amount_in amounts.old offer.group.0 offer.place - units) }
 {
     let at = place_at(offer.group, offer.place);
@@ -130,7 +131,7 @@ pub fn take_units(
     if amounts[at] > 0 {
         return;
     }
-    let above = nodes_above(instance, offer);
+    let above = nodes_above(lists, offer);
     clean_all(queues, above.as_slice(), amounts);
 }
 

@@ -11,18 +11,18 @@ pub loop-line-init : goal.loop-line-init
 loop-line-init c = record { held = c.requires.held; so_far = lines-none c.args.amounts.now 0 c.requires.empty; clear = λ j _. c.requires.empty j }
 
 pub put_units-requires-clause-offer : goal.put_units-requires-clause-offer
-put_units-requires-clause-offer c = (IsLineAt-from c.args.instance.now c.args.lines.now c.loop-line.line-index (c.requires.form c.loop-line.line-index c.loop-line-test.true)).offer
+put_units-requires-clause-offer c = (IsLineAt-from c.args.lists.now c.args.lines.now c.loop-line.line-index (c.requires.form c.loop-line.line-index c.loop-line-test.true)).offer
 
 pub put_units-requires-clause-room : goal.put_units-requires-clause-room
 put_units-requires-clause-room c =
     let i = c.loop-line.line-index in
     let l = line_at c.args.lines.now i in
     let none : slice_index c.loop-line.amounts (place_at l.group.0 l.place) ≡ 0 =
-    line_room c.args.instance.now c.args.lines.now c.loop-line.amounts i c.requires.held.market c.requires.form c.loop-line-test.true c.loop-line.invariant.clear (place_at l.group.0 l.place) (omega arith) in omega arith
+    line_room c.args.lists.now c.args.lines.now c.loop-line.amounts i c.requires.held.market c.requires.form c.loop-line-test.true c.loop-line.invariant.clear (place_at l.group.0 l.place) (omega arith) in omega arith
 
 pub loop-line-preserved : goal.loop-line-preserved
 loop-line-preserved c =
-    let m : Market = c.args.instance.now in
+    let m : Market = c.args.lists.now in
     let i = c.loop-line.line-index in
     let a = c.loop-line.amounts in
     let b = c.put_units.new.amounts in

@@ -6,7 +6,7 @@ use Rattle.offer_pool.proofs.table.put_lines.Given as goal
 
 abbrev pub invariant-loop-line : goal.invariant-loop-line
 invariant-loop-line l = record {
-  held : IsHeld l.instance l.amounts l.queues;
+  held : IsHeld l.lists l.amounts l.queues;
   so_far : lines_in l.amounts ≡ take l.line-index l.lines;
   clear : (j : ℕ) → (0 < l.line-index → place_at (line_at l.lines (l.line-index - 1)).group.0 (line_at l.lines (l.line-index - 1)).place < j) → slice_index l.amounts j ≡ 0;
 }

@@ -11,7 +11,7 @@ use Rattle.offer_pool.proofs.table.seat_units.Goals as goal
 
 pub clean_all-requires-clause-seats : goal.clean_all-requires-clause-seats
 clean_all-requires-clause-seats c = λ n s h.
-    let m : Market = c.args.instance.now in
+    let m : Market = c.args.lists.now in
     let same = c.as_slice.ensures.value in
     let nodes = c.nodes_above-nodes.result.items in
     let seat = pushed_seats m c.args.amounts.now c.args.queues.now c.push_all.new.queues c.args.offer.group.0 c.args.offer.place nodes c.requires.held.filing c.requires.offer c.nodes_above-nodes.ensures.among
@@ -22,7 +22,7 @@ clean_all-requires-clause-seats c = λ n s h.
 -- the offer is filed in vain, and the queues are cleaned
 pub returns-then-is_err-clause-held : goal.returns-then-is_err-clause-held
 returns-then-is_err-clause-held c =
-    let m : Market = c.args.instance.now in
+    let m : Market = c.args.lists.now in
     let g = c.args.offer.group.0 in
     let k = c.args.offer.place in
     let a = c.args.amounts.now in
@@ -47,7 +47,7 @@ returns-then-is_err-clause-held c =
 -- the offer is filed and holds the units, so no queue wants cleaning
 pub returns-clause-held : goal.returns-clause-held
 returns-clause-held c =
-    let m : Market = c.args.instance.now in
+    let m : Market = c.args.lists.now in
     let g = c.args.offer.group.0 in
     let k = c.args.offer.place in
     let a = c.args.amounts.now in

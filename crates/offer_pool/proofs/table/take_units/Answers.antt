@@ -8,12 +8,12 @@ use Rattle.offer_pool.proofs.table.take_units.Goals as goal
 
 pub clean_all-requires-clause-seats : goal.clean_all-requires-clause-seats
 clean_all-requires-clause-seats c = λ n s h.
-    let there = seat_place c.args.instance.now c.args.amounts.now n s c.requires.held.market c.requires.held.table (c.requires.held.filing.seats n s h) in
+    let there = seat_place c.args.lists.now c.args.amounts.now n s c.requires.held.market c.requires.held.table (c.requires.held.filing.seats n s h) in
     omega (arith, there, length-set c.args.amounts.now c.place_at-at.result (slice_index c.args.amounts.now c.place_at-at.result - c.args.units))
 
 pub returns-clause-held : goal.returns-clause-held
 returns-clause-held c =
-    let m : Market = c.args.instance.now in
+    let m : Market = c.args.lists.now in
     let g = c.args.offer.group.0 in
     let k = c.args.offer.place in
     let a = c.args.amounts.now in

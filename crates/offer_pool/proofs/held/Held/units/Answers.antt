@@ -6,7 +6,7 @@ use Rattle.offer_pool.proofs.held.Held.units.Goals as goal
 
 pub returns-clause-units : goal.returns-clause-units
 returns-clause-units c =
-    let m = c.self.inside.instance in
+    let m = c.self.inside.lists in
     let a = c.self.inside.amounts.items in
     let g = c.args.offer.group.0 in
     let k = c.args.offer.place in
@@ -15,4 +15,4 @@ returns-clause-units c =
     ∙ view_amount m a c.self.inside.queues.items c.args.self.now g k c.self.invariant c.self.view_is c.requires
 
 pub returns-clause-form : goal.returns-clause-form
-returns-clause-form c = view_form c.self.inside.instance c.self.inside.amounts.items c.self.inside.queues.items c.args.self.now c.self.invariant c.self.view_is
+returns-clause-form c = view_form c.self.inside.lists c.self.inside.amounts.items c.self.inside.queues.items c.args.self.now c.self.invariant c.self.view_is

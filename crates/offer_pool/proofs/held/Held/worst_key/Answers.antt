@@ -10,7 +10,7 @@ use Rattle.offer_pool.proofs.held.Held.worst_key.Goals as goal
 
 pub returns-in-Some-clause-worst : goal.returns-in-Some-clause-worst
 returns-in-Some-clause-worst c =
-    let m = c.self.inside.instance in
+    let m = c.self.inside.lists in
     let a = c.self.inside.amounts.items in
     let q = c.self.inside.queues.items in
     let h = c.args.self.now in
@@ -23,7 +23,7 @@ returns-in-Some-clause-worst c =
 
 pub returns-in-None-clause-worst : goal.returns-in-None-clause-worst
 returns-in-None-clause-worst c =
-    let m = c.self.inside.instance in
+    let m = c.self.inside.lists in
     let a = c.self.inside.amounts.items in
     let q = c.self.inside.queues.items in
     let h = c.args.self.now in
@@ -32,7 +32,7 @@ returns-in-None-clause-worst c =
     view_none m a q h n c.self.invariant c.self.view_is (ap (λ (l : List Seat). slice_get l 0) (sym same) ∙ sym c.worst.ensures.first ∙ c.in-None.is)
 
 pub returns-in-None-clause-form : goal.returns-in-None-clause-form
-returns-in-None-clause-form c = view_form c.self.inside.instance c.self.inside.amounts.items c.self.inside.queues.items c.args.self.now c.self.invariant c.self.view_is
+returns-in-None-clause-form c = view_form c.self.inside.lists c.self.inside.amounts.items c.self.inside.queues.items c.args.self.now c.self.invariant c.self.view_is
 
 pub returns-in-Some-clause-form : goal.returns-in-Some-clause-form
-returns-in-Some-clause-form c = view_form c.self.inside.instance c.self.inside.amounts.items c.self.inside.queues.items c.args.self.now c.self.invariant c.self.view_is
+returns-in-Some-clause-form c = view_form c.self.inside.lists c.self.inside.amounts.items c.self.inside.queues.items c.args.self.now c.self.invariant c.self.view_is

@@ -9,7 +9,7 @@ use Rattle.offer_pool.proofs.held.Held.worst_under.Goals as goal
 
 pub units-requires : goal.units-requires
 units-requires c =
-    let m = c.self.inside.instance in
+    let m = c.self.inside.lists in
     let a = c.self.inside.amounts.items in
     let q = c.self.inside.queues.items in
     let h = c.args.self.now in
@@ -20,7 +20,7 @@ units-requires c =
 
 pub returns-in-Some-clause-worst : goal.returns-in-Some-clause-worst
 returns-in-Some-clause-worst c =
-    let m = c.self.inside.instance in
+    let m = c.self.inside.lists in
     let a = c.self.inside.amounts.items in
     let q = c.self.inside.queues.items in
     let h = c.args.self.now in
@@ -34,7 +34,7 @@ returns-in-Some-clause-worst c =
 
 pub returns-in-None-clause-worst : goal.returns-in-None-clause-worst
 returns-in-None-clause-worst c =
-    let m = c.self.inside.instance in
+    let m = c.self.inside.lists in
     let a = c.self.inside.amounts.items in
     let q = c.self.inside.queues.items in
     let h = c.args.self.now in
@@ -43,4 +43,4 @@ returns-in-None-clause-worst c =
     view_none m a q h n c.self.invariant c.self.view_is (ap (λ (l : List Seat). slice_get l 0) (sym same) ∙ sym c.worst.ensures.first ∙ c.in-None.is)
 
 pub returns-in-None-clause-form : goal.returns-in-None-clause-form
-returns-in-None-clause-form c = view_form c.self.inside.instance c.self.inside.amounts.items c.self.inside.queues.items c.args.self.now c.self.invariant c.self.view_is
+returns-in-None-clause-form c = view_form c.self.inside.lists c.self.inside.amounts.items c.self.inside.queues.items c.args.self.now c.self.invariant c.self.view_is
