@@ -29,6 +29,13 @@ expect 0 "$(cat tree.map)" map tree.toml
 while read -r sender octets reply; do
     expect 0 "answer $reply" answer tree.toml tree.map "$sender" "$octets"
 done < <(grep -v '^#' queries.txt)
+expect 0 "$(cat tree-repaired.map)" repair tree.toml tree.map tree.changes
+expect 0 "$(cat tree.map)" repair tree.toml tree.map /dev/null
+expect 1 "$usage" repair tree.toml tree.map
+expect 2 'refused changes unknown word at line 1' repair tree.toml tree.map tree.map
+expect 2 'refused map unknown name at line 2' repair tree.toml flat.map tree.changes
+expect 3 '' repair tree.toml tree.map nowhere.changes
+expect 7 'blocking g2 B' repair tree.toml tree-bad.map tree.changes
 query=1234
 expect 7 'blocking g2 B' answer tree.toml tree-bad.map 198.51.100.7 $query
 expect 1 "$usage" answer tree.toml tree.map 198.51.100 $query
