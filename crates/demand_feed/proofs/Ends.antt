@@ -1,5 +1,5 @@
 -- How a run ends, by what its lines came to.
-use Rattle.std.proofs.Common.{◌≡◌, ◌≢◌, ◌⊎◌, inl, inr, ℕ, ◌+◌, ◌≤◌, ◌==◌, Bool, true, false, cond, List, [], ◌∷◌, ◌++◌, length, take, min, append_assoc, append-nil, refl, ap, sym, ◌∙◌, arith}
+use Rattle.std.proofs.Common.{◌≡◌, ◌≢◌, ◌⊎◌, inl, inr, ℕ, ◌+◌, ◌≤◌, ◌==◌, true, false, cond, List, [], ◌∷◌, ◌++◌, length, take, min, append_assoc, append-nil, refl, ap, sym, ◌∙◌, arith}
 use Rattle.std.specs.Prelude.{Option, None, Some}
 use Rattle.std.specs.List.{concat}
 use Rattle.std.proofs.lemmas.Bool.{ne_eqb}
@@ -14,7 +14,7 @@ use Rattle.topology_text.specs.Plan.{Plan}
 use Rattle.demand_feed.specs.Limits.{longest_line, read_size}
 use Rattle.demand_feed.specs.Clerk.{AreBatches, Clerking}
 use Rattle.demand_feed.specs.Cutter.{front}
-use Rattle.demand_feed.specs.Item.{Item, desk_after, fresh, has_stop, is_stop, items, items_of}
+use Rattle.demand_feed.specs.Item.{Item, fresh, has_stop, is_stop, items, items_of}
 use Rattle.demand_feed.specs.Lines.{lines_of}
 use Rattle.demand_feed.specs.Runs.{HasRead, IsOver, NoStop}
 use Rattle.demand_feed.specs.Taking.{AllDo, BrokeOff}

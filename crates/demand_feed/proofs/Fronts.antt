@@ -1,14 +1,13 @@
 -- The front of a line tells what the line says.
-use Rattle.std.proofs.Common.{◌≡◌, ℕ, ◌+◌, ◌-◌, ◌≤◌, ◌<◌, ◌⊎◌, inl, inr, List, [], ◌∷◌, ◌++◌, length, take, min, refl, ap, sym, ◌∙◌, arith, Bool, true, false, not, nat_le, append-nil, cond}
-use Rattle.std.specs.Prelude.{Result, Err}
+use Rattle.std.proofs.Common.{◌≡◌, ℕ, ◌+◌, ◌-◌, ◌≤◌, ◌<◌, ◌⊎◌, inl, inr, List, [], ◌++◌, length, take, refl, ap, sym, ◌∙◌, arith, false, not, nat_le, append-nil, cond}
+use Rattle.std.specs.Prelude.{Err}
 use Rattle.std.specs.List.{list_all}
 use Rattle.std.proofs.Math.Seq.{take-append-add}
 use Rattle.std.proofs.lemmas.List.{take_all, take-append-le, length-take-le}
 use Rattle.std.proofs.lemmas.Bool.Decides.{nat_tests}
-use Rattle.demand_feed.specs.Line.{Said, by_words, is_visible, line_of, words_of}
+use Rattle.demand_feed.specs.Line.{by_words, is_visible, line_of, words_of}
 use Rattle.demand_feed.specs.Limits.{longest_line}
 use Rattle.demand_feed.specs.Cutter.{front}
-use Rattle.demand_feed.specs.declared.fault.LineFault.{LineFault}
 use Rattle.demand_feed.specs.declared.fault.LineFault.TheVariants.{BadByte, TooLong}
 
 cases_le : (a b : ℕ) → (a ≤ b) ⊎ (b < a)

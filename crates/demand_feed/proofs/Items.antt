@@ -1,6 +1,6 @@
 -- Items of lines, one line more.
 use Rattle.std.proofs.Common.{◌≡◌, ℕ, ◌+◌, Bool, true, false, ◌||◌, cond, List, [], ◌∷◌, ◌++◌, length, append_assoc, append-nil, refl, ap, sym, ◌∙◌, arith}
-use Rattle.std.specs.Prelude.{Option, None, Some, Result, Ok, Err}
+use Rattle.std.specs.Prelude.{Some, Result, Ok, Err}
 use Rattle.map_model.specs.declared.change.Change.{Change}
 use Rattle.demand_feed.specs.declared.fault.LineFault.{LineFault}
 use Rattle.demand_feed.specs.declared.fault.BatchFault.{BatchFault}
@@ -10,7 +10,7 @@ use Rattle.topology_text.specs.Plan.{Plan}
 use Rattle.demand_feed.specs.Line.{Said, ask, capacity, commit, demand, line_of, show, stop}
 use Rattle.demand_feed.specs.Cutter.{front}
 use Rattle.demand_feed.proofs.Fronts.{front_says}
-use Rattle.demand_feed.specs.Item.{Desk, Item, Step, by_said, changed, desk_after, fresh, has_stop, is_stop, is_stop_said, items, items_of, step, up_to_stop}
+use Rattle.demand_feed.specs.Item.{Desk, Item, by_said, changed, desk_after, fresh, has_stop, is_stop, is_stop_said, items, items_of, step, up_to_stop}
 
 pub items_more : (t : Plan) (desk : Desk) (lines : List (List ℕ)) (line : List ℕ) → items_of t desk (lines ++ line ∷ []) ≡ items_of t desk lines ++ option_to_list (step t (desk_after t desk lines) line).item
 items_more t desk [] line = append-nil (option_to_list (step t desk line).item)

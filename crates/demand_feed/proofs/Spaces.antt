@@ -1,5 +1,5 @@
 -- Words between spaces.
-use Rattle.std.proofs.Common.{◌≡◌, ℕ, List, [], ◌∷◌, length, Bool, true, false, not, ap, ◌∙◌, ◌==◌, cond}
+use Rattle.std.proofs.Common.{◌≡◌, ℕ, List, [], ◌∷◌, length, true, false, not, ap, ◌∙◌, ◌==◌, cond}
 use Rattle.std.specs.List.{filter}
 use Rattle.text_parts.specs.Parts.{parts}
 use Rattle.demand_feed.specs.Line.{words_of}

@@ -1,16 +1,16 @@
 -- Lines that are worked, one line more.
-use Rattle.std.proofs.Common.{◌≡◌, ◌≢◌, ℕ, ◌+◌, ◌-◌, ◌^◌, ◌≤◌, Bool, true, false, ◌==◌, cond, List, [], ◌∷◌, ◌++◌, append_assoc, refl, ap, sym, subst, ◌∙◌, arith}
+use Rattle.std.proofs.Common.{◌≡◌, ◌≢◌, ℕ, ◌+◌, ◌≤◌, Bool, true, false, ◌==◌, cond, List, [], ◌∷◌, ◌++◌, append_assoc, refl, ap, sym, subst, ◌∙◌, arith}
 use Rattle.std.specs.Prelude.{Option, None, Some, Result, Ok, Err}
 use Rattle.std.specs.Option.{option_to_list}
 use Rattle.map_model.specs.Market.{Market}
 use Rattle.map_model.specs.declared.change.Change.{Change}
 use Rattle.text_parts.specs.Parts.{parts, unfinished, whole_lines}
-use Rattle.text_parts.proofs.Lines.{IsReading, reading_begins, reading_cut, reading_ends, reading_whole}
+use Rattle.text_parts.proofs.Lines.{reading_begins, reading_cut, reading_ends, reading_whole}
 use Rattle.topology_text.specs.Plan.{Plan}
 use Rattle.demand_feed.specs.Batch.{with_capacity, with_demand}
 use Rattle.demand_feed.specs.Clerk.{AreBatches, Clerking}
 use Rattle.demand_feed.specs.Cutter.{GoesOn, front}
-use Rattle.demand_feed.specs.Item.{Desk, Item, Step, batch, by_said, changed, commit_line, desk_after, ended, fresh, has_stop, is_stop, items_of, spoiled, step}
+use Rattle.demand_feed.specs.Item.{Desk, Item, Step, batch, by_said, changed, commit_line, desk_after, ended, fresh, is_stop, items_of, spoiled, step}
 use Rattle.demand_feed.specs.Line.{Said, ask, capacity, commit, demand, line_of, show, stop}
 use Rattle.demand_feed.specs.Taking.{AllDo, HasTaken}
 use Rattle.demand_feed.specs.Working.{HasFailed, InPiece, IsLineOf, IsReady, Reads, Stands}

@@ -5,7 +5,7 @@ use Rattle.std.specs.Str.{bytes_eq}
 use Rattle.map_model.specs.declared.change.Change.{Change}
 use Rattle.topology_text.specs.Plan.{Plan}
 use Rattle.demand_feed.specs.Limits.{longest_line}
-use Rattle.demand_feed.specs.Line.{Said, ask, capacity, change_of, commit, demand, is_visible, show, stop, two_of, words_of}
+use Rattle.demand_feed.specs.Line.{Said, capacity, change_of, demand, is_visible, two_of, words_of}
 use Rattle.demand_feed.specs.Lines.{lines_of}
 use Rattle.demand_feed.specs.Batch.{with_capacity, with_demand}
 use Rattle.demand_feed.specs.declared.fault.LineFault.{LineFault}

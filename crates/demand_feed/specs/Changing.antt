@@ -1,10 +1,10 @@
 -- A line of the code, as a change.
-use Rattle.std.specs.Prelude.{ℕ, List, Result, Err}
+use Rattle.std.specs.Prelude.{List, Result, Err}
 use Rattle.map_model.specs.declared.change.Change.{Change}
 use Rattle.topology_text.specs.Plan.{Plan}
 use Rattle.demand_feed.specs.Batch.{with_capacity, with_demand}
 use Rattle.demand_feed.specs.declared.line.Line.{Line}
-use Rattle.demand_feed.specs.declared.line.Line.TheVariants.{Demand, Capacity, Commit, Ask, Show, Stop}
+use Rattle.demand_feed.specs.declared.line.Line.TheVariants.{Demand, Capacity}
 use Rattle.demand_feed.specs.declared.fault.BatchFault.{BatchFault}
 use Rattle.demand_feed.specs.declared.fault.BatchFault.TheVariants.{UnknownName}
 

@@ -1,5 +1,5 @@
 -- A run over a feed: what was read, what its items did, and how it ended.
-use Rattle.std.specs.Prelude.{◌≡◌, ◌⊎◌, ℕ, ◌<◌, ◌≤◌, Bool, true, false, List, [], ◌∷◌, ◌++◌, length, Option}
+use Rattle.std.specs.Prelude.{◌≡◌, ◌⊎◌, ℕ, ◌<◌, ◌≤◌, true, false, List, [], ◌∷◌, ◌++◌, length, Option}
 use Rattle.std.specs.List.{concat}
 use Rattle.text_parts.specs.Parts.{whole_lines}
 use Rattle.outside.specs.Faults.{BothTell}

@@ -1,8 +1,8 @@
 -- Inside this crate alone: how far the lines of a feed have been worked.
 use Rattle.std.specs.List.{concat}
-use Rattle.std.specs.Prelude.{◌≡◌, ◌≢◌, ℕ, ◌+◌, ◌-◌, ◌^◌, ◌<◌, ◌≤◌, Bool, true, false, List, [], ◌∷◌, ◌++◌, length, Option, None, Some}
+use Rattle.std.specs.Prelude.{◌≡◌, ◌≢◌, ℕ, ◌+◌, ◌-◌, ◌^◌, ◌<◌, ◌≤◌, true, false, List, [], ◌∷◌, ◌++◌, length, Option, None, Some}
 use Rattle.map_model.specs.Market.{Market}
-use Rattle.text_parts.specs.Parts.{parts, unfinished, whole_lines}
+use Rattle.text_parts.specs.Parts.{unfinished, whole_lines}
 use Rattle.text_parts.proofs.Lines.{IsReading}
 use Rattle.outside.specs.Faults.{BothTell}
 use Rattle.outside.specs.Source.{Fed}

@@ -1,5 +1,5 @@
 -- Items one after another, and what is told behind them.
-use Rattle.std.proofs.Common.{◌≡◌, ◌⊎◌, inl, inr, ℕ, ◌≤◌, List, [], ◌∷◌, refl, ap, subst, sym, ◌∙◌, arith}
+use Rattle.std.proofs.Common.{◌≡◌, inl, inr, ℕ, List, [], ◌∷◌, refl, subst, sym}
 use Rattle.std.specs.Prelude.{IsSome, None, Option, Some}
 use Rattle.outside.specs.Source.{Fed}
 use Rattle.topology_text.specs.Plan.{Plan}

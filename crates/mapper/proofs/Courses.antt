@@ -1,7 +1,6 @@
 -- Courses, one item more.
-use Rattle.std.proofs.Common.{◌≡◌, ◌≢◌, ◌⊎◌, inl, inr, ℕ, ◌+◌, ◌≤◌, List, [], ◌∷◌, ◌++◌, length, append_assoc, append-nil, refl, ap, sym, subst, ◌∙◌, arith}
-use Rattle.std.specs.Prelude.{Option, None, Some}
-use Rattle.std.specs.Option.{option_to_list}
+use Rattle.std.proofs.Common.{◌≡◌, ◌⊎◌, inl, inr, ℕ, List, [], ◌∷◌, ◌++◌, append_assoc, append-nil, refl, ap, sym, subst, ◌∙◌}
+use Rattle.std.specs.Prelude.{Option}
 use Rattle.outside.specs.Faults.{BothTell}
 use Rattle.outside.specs.Pace.{IsPaced}
 use Rattle.outside.specs.Sink.{IsPut, Written}
@@ -10,7 +9,6 @@ use Rattle.outside.specs.declared.pace.PaceCall.TheVariants.{Before}
 use Rattle.outside.specs.declared.sink.Put.{Put}
 use Rattle.outside.specs.declared.sink.Put.TheVariants as put
 use Rattle.map_model.specs.declared.change.Change.{Change}
-use Rattle.demand_feed.specs.Item.{Item, refused, batch, empty, spoiled, query, totals}
 use Rattle.published_map.specs.Version.{Version}
 use Rattle.mapper.specs.Words.{map_text}
 use Rattle.mapper.specs.Texts as text

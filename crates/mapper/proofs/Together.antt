@@ -1,12 +1,10 @@
 -- A session over a whole feed.
-use Rattle.std.proofs.Common.{◌≡◌, ◌⊎◌, inl, inr, ℕ, ◌≤◌, List, refl, subst, sym, ◌∙◌, arith}
+use Rattle.std.proofs.Common.{inl, inr, ℕ, List, refl, ◌∙◌, arith}
 use Rattle.std.specs.Prelude.{Option}
-use Rattle.outside.specs.Faults.{Rose}
 use Rattle.outside.specs.Sink.{Written}
 use Rattle.outside.specs.Source.{Fed}
 use Rattle.outside.specs.declared.pace.PaceCall.{PaceCall}
 use Rattle.topology_text.specs.Plan.{Plan}
-use Rattle.demand_feed.specs.Item.{Item}
 use Rattle.demand_feed.specs.Runs.{EndsBy}
 use Rattle.demand_feed.specs.declared.run.FeedEnd.{FeedEnd}
 use Rattle.demand_feed.specs.declared.run.FeedEnd.TheVariants as ends

@@ -1,7 +1,7 @@
 -- What a feed's items come to: lines of control text, versions that are published with their texts, and calls of the pace.
 use Rattle.std.specs.Prelude.{◌≡◌, ◌⊎◌, ℕ, ◌+◌, List, [], ◌∷◌, ◌++◌}
 use Rattle.outside.specs.declared.pace.PaceCall.{PaceCall}
-use Rattle.outside.specs.declared.pace.PaceCall.TheVariants.{Before, Done}
+use Rattle.outside.specs.declared.pace.PaceCall.TheVariants.{Before}
 use Rattle.map_model.specs.declared.change.Change.{Change}
 use Rattle.map_model.specs.Batch.{IsApplied}
 use Rattle.map_model.specs.Allocation.{IsGood}

@@ -1,6 +1,6 @@
 -- A text in lines, as more of it comes.
-use Rattle.std.proofs.Common.{◌≡◌, ℕ, ◌+◌, ◌≤◌, List, [], ◌∷◌, ◌++◌, length, count_by, refl, ap, sym, ◌∙◌, arith, ◌==◌, Bool, true, false}
-use Rattle.std.specs.List.{onto_first, slice_split}
+use Rattle.std.proofs.Common.{◌≡◌, ℕ, ◌≤◌, List, [], ◌∷◌, ◌++◌, length, refl, ap, sym, ◌∙◌, arith, ◌==◌, Bool, true, false}
+use Rattle.std.specs.List.{onto_first}
 use Rattle.std.proofs.lemmas.List.Splits.{length-slice_split, slice_split-cons_yes, slice_split-cons_no}
 use Rattle.text_parts.specs.Parts.{but_last, last_of, parts, whole_lines, unfinished}
 

@@ -1,7 +1,7 @@
-use Rattle.std.proofs.Common.{◌≡◌, ◌≤◌, ◌+◌, [], length, sym, ap, ◌∙◌, arith, true}
+use Rattle.std.proofs.Common.{sym, ap, ◌∙◌, arith, true}
 use Rattle.map_model.specs.declared.change.Change.{Change}
 use Rattle.std.specs.Prelude.{List}
-use Rattle.demand_feed.specs.Changes.{changes_behind, changes_of}
+use Rattle.demand_feed.specs.Changes.{changes_behind}
 use Rattle.demand_feed.specs.Lines.{lines_of}
 use Rattle.demand_feed.proofs.FileLines.{batch_none, breaks_last, breaks_off, changes_are, ends_whole, ends_with, goes_on}
 use Rattle.demand_feed.proofs.changes.read_changes.Goals as goal

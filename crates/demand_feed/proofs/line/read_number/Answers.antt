@@ -1,4 +1,4 @@
-use Rattle.std.proofs.Common.{◌≡◌, sym, ◌∙◌, arith}
+use Rattle.std.proofs.Common.{sym, ◌∙◌, arith}
 use Rattle.demand_feed.proofs.Digits.{number_small}
 use Rattle.demand_feed.proofs.line.read_number.Goals as goal
 

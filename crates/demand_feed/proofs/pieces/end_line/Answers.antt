@@ -1,4 +1,4 @@
-use Rattle.std.proofs.Common.{◌≡◌, sym, ap, ◌∙◌, refl, true, false}
+use Rattle.std.proofs.Common.{sym, ap, ◌∙◌, true, false}
 use Rattle.demand_feed.specs.Item.{Step}
 use Rattle.demand_feed.specs.Clerk.{item_by}
 use Rattle.demand_feed.proofs.Worked.{batch_some, calm_by, failed_some, fails, goes, ready_next, shown_says, stands_still}

@@ -1,4 +1,4 @@
-use Rattle.std.proofs.Common.{◌≡◌, ◌+◌, ◌++◌, ◌∙◌, length, arith}
+use Rattle.std.proofs.Common.{◌+◌, ◌++◌, ◌∙◌, length, arith}
 use Rattle.demand_feed.proofs.Worked.{piece_begins, piece_ends, piece_goes, piece_line, ready_less}
 use Rattle.demand_feed.proofs.pieces.take_piece.Goals as goal
 

@@ -1,4 +1,4 @@
-use Rattle.std.proofs.Common.{◌≡◌, ◌+◌, ℕ, List, ◌++◌, length}
+use Rattle.std.proofs.Common.{◌+◌, ℕ, List, ◌++◌, length}
 use Rattle.demand_feed.specs.Working.{InPiece, IsReady, Reads}
 use Rattle.demand_feed.proofs.pieces.take_piece.Given as goal
 

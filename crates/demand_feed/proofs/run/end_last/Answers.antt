@@ -1,4 +1,4 @@
-use Rattle.std.proofs.Common.{◌≡◌, sym, ◌∙◌, [], true}
+use Rattle.std.proofs.Common.{sym, ◌∙◌, [], true}
 use Rattle.text_parts.specs.Parts.{unfinished, whole_lines}
 use Rattle.demand_feed.specs.Lines.{lines_of}
 use Rattle.demand_feed.proofs.Ends.{all_came, broke_off, no_last, one_last, stop_came}

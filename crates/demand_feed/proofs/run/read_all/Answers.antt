@@ -1,4 +1,4 @@
-use Rattle.std.proofs.Common.{◌≡◌, ◌+◌, ◌-◌, ◌*◌, ◌∙◌, [], refl, arith}
+use Rattle.std.proofs.Common.{◌+◌, ◌-◌, ◌*◌, ◌∙◌, [], refl, arith}
 use Rattle.std.specs.List.{concat}
 use Rattle.text_parts.specs.Parts.{whole_lines}
 use Rattle.demand_feed.specs.Runs.{HasRead}

@@ -1,4 +1,4 @@
-use Rattle.std.proofs.Common.{◌≡◌, ap, arith}
+use Rattle.std.proofs.Common.{ap, arith}
 use Rattle.demand_feed.specs.Clerk.{Clerking}
 use Rattle.demand_feed.proofs.Ends.{batches_none, reads_none}
 use Rattle.demand_feed.proofs.run.run_lines.Goals as goal

@@ -1,5 +1,4 @@
-use Rattle.std.proofs.Common.{◌≡◌, ◌==◌, length, ap, sym, ◌∙◌, arith}
-use Rattle.std.proofs.lemmas.Grind.{common_steps}
+use Rattle.std.proofs.Common.{sym, ◌∙◌, arith}
 use Rattle.demand_feed.proofs.Spaces.{words_last, words_none, words_some}
 use Rattle.demand_feed.proofs.words.next_word.Goals as goal
 

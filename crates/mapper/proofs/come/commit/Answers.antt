@@ -1,8 +1,6 @@
-use Rattle.std.proofs.Common.{◌≡◌, inr, subst}
-use Rattle.mapper.specs.Control.{Course, with_line}
-use Rattle.mapper.specs.Words.{map_text}
+use Rattle.std.proofs.Common.{◌≡◌, inr}
+use Rattle.mapper.specs.Control.{with_line}
 use Rattle.mapper.specs.Texts as text
-use Rattle.mapper.specs.Coming.{BothPut}
 use Rattle.mapper.proofs.Courses.{came_map, published_at, said_at}
 use Rattle.mapper.proofs.come.commit.Goals as goal
 

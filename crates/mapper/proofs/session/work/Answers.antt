@@ -1,4 +1,3 @@
-use Rattle.std.proofs.Common.{◌≡◌}
 use Rattle.mapper.proofs.Together.{ended_all, fault_all, keeps_all}
 use Rattle.mapper.proofs.session.work.Goals as goal
 

@@ -1,4 +1,4 @@
-use Rattle.std.proofs.Common.{◌≡◌, ◌++◌, ◌-◌, length, take, ap, ◌∙◌}
+use Rattle.std.proofs.Common.{◌++◌, ◌-◌, length, take, ap, ◌∙◌}
 use Rattle.demand_feed.proofs.Fronts.{front_more}
 use Rattle.demand_feed.proofs.cutter.Cutter.take.Goals as goal
 

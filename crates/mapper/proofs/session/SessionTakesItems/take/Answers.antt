@@ -1,4 +1,4 @@
-use Rattle.std.proofs.Common.{◌≡◌, refl}
+use Rattle.std.proofs.Common.{refl}
 use Rattle.demand_feed.specs.Clerk.{item_by}
 use Rattle.mapper.specs.Sessions.{SessionCuts, SessionDoes}
 use Rattle.mapper.proofs.Chains.{cut_by}
