@@ -48,9 +48,9 @@ committed h m lanes batch map v w c =
       versions = λ n u is. elim (one_of h v u n is) [
         | inl here ↦ w.versions n u here
         | inr last ↦ (
-            subst IsVersion last.1 next.version,
-            ap (λ (x : Version). x.serial) (sym last.1) ∙ next.serial ∙ (let s = (w.versions (length h - 1) old c.1).1 in let l = last.0 in let some = w.some in omega (arith, s, l, some)),
-          )
+          subst IsVersion last.1 next.version,
+          ap (λ (x : Version). x.serial) (sym last.1) ∙ next.serial ∙ (let s = (w.versions (length h - 1) old c.1).1 in let l = last.0 in let some = w.some in omega (arith, s, l, some)),
+        )
       ];
       newest_is = λ u is. ap (λ (x : Version). x.market) (one_version (newest_of (h ++ v ∷ [])) u v is (newest_more h v));
       few = w.few;

@@ -1,5 +1,7 @@
 //! Instances and maps from constant rows.
-use map_model::{Choice, GroupId, ClientGroup, Instance, MapLine, MapLines, NameLine, Node, NodeId};
+use map_model::{
+    Choice, ClientGroup, GroupId, Instance, MapLine, MapLines, NameLine, Node, NodeId,
+};
 use no_memory::NoMemory;
 use std::alloc::Global;
 

@@ -1,7 +1,5 @@
 use Rattle.std.proofs.Common.{rules, ◌≡◌, ◌∙◌, replicate, ap, arith}
-
 use Rattle.lane_model.specs.Machine.{fresh}
-
 use Rattle.serve_core.proofs.Kept.{kept_as}
 use Rattle.serve_core.proofs.world.World.open.Goals as goal
 
