@@ -665,7 +665,7 @@ fn usage(rt: HostRuntime) -> Result<(), Fail> {
         &["glb", "answer", "t", "m", "198.51.100.7", "123"],
         &["glb", "serve", "t", "--listen", "x"],
         &["glb", "large", "0"],
-        &["glb", "repair", "t", "m", "c"],
+        &["glb", "repair", "t", "m"],
         &["glb", "--help"],
         &["check", "t", "m"],
     ];
