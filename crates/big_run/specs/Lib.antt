@@ -1,2 +1,5 @@
 pub mod Summary
 pub mod Replies
+pub mod Publishing
+pub mod Working
+pub mod Runs

@@ -1,11 +1,15 @@
-//! A run over a large world: its map from scratch, its batches by repair, and one reply for each group, told as a summary.
+//! A run over a large world: its map from scratch, its batches by repair, each map checked, and one reply for each group, told as a summary.
 #![tactic(auto)]
 
+mod judge;
 mod replies;
+mod run;
 mod summary;
+mod work;
 
-pub use replies::{QUERY, client_of, count_replies};
-pub use summary::{LINES, LINE_ROOM, Summary, SummaryLine};
+pub use replies::{ANSWERED, QUERY, SERVFAIL, client_of};
+pub use run::run_world;
+pub use summary::{LINE_ROOM, LINES, Summary, SummaryLine};
 
 #[cfg(test)]
 mod tests;

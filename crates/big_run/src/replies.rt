@@ -1,12 +1,25 @@
-//! One query for each group of a large world, and how many of them are answered.
-ghost use Rattle.std.specs.Prelude.{◌≡◌, ◌≤◌, ◌<◌, ◌+◌, length, None, Some, IsTrue, ◌↔◌};
-ghost use Rattle.big_run.specs.Replies.{client_of as client, code_of, count_of, has_code};
+//! One query for each group of a large world, and how many replies have a response code.
+ghost use Rattle.std.specs.Prelude.{◌≡◌, ◌≤◌, ◌<◌, ◌+◌, length, IsTrue, ◌↔◌};
+ghost use Rattle.big_run.specs.Replies.{client_of as client, count_of, has_code, is_code_of};
 
 use addr_text::Addr;
-use mapper::Mapping;
+use answer_core::Answer;
+use arrayvec::ArrayVec;
+use map_cell::Naming;
+use mapper::Mapper;
+use outside::LARGEST_REPLY;
 
 /// The query that is asked for each group: A of www.cdn.example, with the identifier 0x1234 and RD set (RFC 1035 section 4.1).
-pub const QUERY: [u8; 33] = *b"\x12\x34\x01\x00\x00\x01\x00\x00\x00\x00\x00\x00\x03www\x03cdn\x07example\x00\x00\x01\x00\x01";
+pub const QUERY: [u8; 33] = [
+    0x12, 0x34, 1, 0, 0, 1, 0, 0, 0, 0, 0, 0, 3, b'w', b'w', b'w', 3, b'c', b'd', b'n', 7, b'e',
+    b'x', b'a', b'm', b'p', b'l', b'e', 0, 0, 1, 0, 1,
+];
+
+/// The response code of a reply that has an answer (RFC 1035 section 4.1.1).
+pub const ANSWERED: u8 = 0;
+
+/// The response code of a reply that tells of a server failure, there.
+pub const SERVFAIL: u8 = 2;
 
 /// The address that asks for a group: one that no prefix but the default holds for the first, and the first host of the group's own prefix for the others.
 #[tactic(auto, unfolding(crate::specs::Replies::client_of))]
@@ -21,32 +34,38 @@ pub fn client_of(group: u32) -> Addr
     }
 }
 
+/// Whether a reply has this response code.
+fn is_code(reply: &[u8], code: u8) -> bool
+    ensures { result ≡ is_code_of code reply.now }
+{
+    match reply.get(3) {
+        Some(octet) => *octet % 16 == code,
+        None => false,
+    }
+}
+
 /// Whether the newest map's reply to the query of a group has this response code.
 #[tactic(auto, unfolding(crate::specs::Replies::has_code))]
-fn replies_by<X: Mapping>(mapper: &X, group: u32, code: u8) -> bool
+fn replies_by<J: Naming>(mapper: &Mapper<J>, group: u32, code: u8) -> bool
     requires { group < 16384 }
-    ensures { result ≡ has_code (X.newest mapper.now) code group }
+    ensures { result ≡ has_code mapper.now.newest code group }
 {
-    match mapper.ask(client_of(group), &QUERY) {
-        Some(reply) => match reply.get(3) {
-            Some(octet) => octet % 16 == code,
-            None => false,
-        },
-        None => false,
+    let mut reply = ArrayVec::<u8, LARGEST_REPLY>::new();
+    match mapper.ask(client_of(group), &QUERY, &mut reply) {
+        Answer::Sent => is_code(reply.as_slice(), code),
+        Answer::Silent => false,
     }
 }
 
 /// How many of the first groups get a reply with this response code by the newest map.
 #[tactic(auto, unfolding(crate::specs::Replies::count_of))]
-pub fn count_replies<X: Mapping>(mapper: &X, groups: u32, code: u8) -> u64
+pub(crate) fn count_replies<J: Naming>(mapper: &Mapper<J>, groups: u32, code: u8) -> u64
     requires { groups ≤ 16384 }
-    ensures { result ≡ count_of (X.newest mapper.now) groups code }
+    ensures { result ≡ count_of mapper.now.newest code groups }
 {
     let mut count = 0u64;
-    'groups: for group in 0..groups {
-        if replies_by(mapper, group, code) {
-            count += 1;
-        }
+    for group in 0..groups {
+        count += u64::from(replies_by(mapper, group, code));
     }
     count
 }

@@ -1,7 +1,14 @@
-//! The lines of a summary.
-use crate::{LINES, Summary};
+//! The lines of a summary, and small worlds.
+ghost use Rattle.std.specs.Prelude.{◌≤◌};
+
+use crate::{LINES, Summary, run_world};
+use map_cell::{EmptyHistory, Naming};
 use mapper::Totals;
+use std::alloc::Global;
+use std::marker::Brand;
+use std::sync::Wait;
 use std::test::Fail;
+use topology_text::TopologyFault;
 
 const TEXTS: [&[u8]; LINES] = [
     b"large 64\n",
@@ -44,5 +51,37 @@ fn lines(rt: HostRuntime) -> Result<(), Fail> {
         servfail: 4,
     };
     assert!(rt; says(&summary, &TEXTS));
+    Ok(())
+}
+
+/// A run over the world of so many groups.
+fn world<R: Wait>(rt: &R, alloc: Global, groups: u32) -> Result<Summary, TopologyFault>
+    requires some { 1 ≤ groups }
+    requires most { groups ≤ 16384 }
+{
+    run_world::<Brand, R>(rt, alloc, EmptyHistory::new(), groups)
+}
+
+/// Whether a run over a world has so many nodes, seventeen maps that are all good, and a reply for each group.
+fn runs_well<R: Wait>(rt: &R, alloc: Global, groups: u32, nodes: u32) -> bool
+    requires some { 1 ≤ groups }
+    requires most { groups ≤ 16384 }
+{
+    match world(rt, alloc, groups) {
+        Ok(summary) => {
+            summary.groups == groups
+                && summary.nodes == nodes
+                && summary.maps == 17
+                && summary.good == 17
+                && summary.answered + summary.servfail == u64::from(groups)
+        }
+        Err(_) => false,
+    }
+}
+
+#[test]
+fn small_worlds(rt: HostRuntime) -> Result<(), Fail> {
+    assert!(rt; runs_well(&rt, rt.alloc(), 64, 10));
+    assert!(rt; runs_well(&rt, rt.alloc(), 1, 5));
     Ok(())
 }

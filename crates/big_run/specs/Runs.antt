@@ -1,0 +1,39 @@
+-- A run over a large world, and its summary.
+use Rattle.std.specs.Prelude.{◌≡◌, ℕ, ◌≤◌, length, Ok}
+use Rattle.text_parts.specs.Parts.{whole_lines}
+use Rattle.topology_text.specs.Plan.{Plan}
+use Rattle.topology_text.specs.Faults.{reading}
+use Rattle.demand_feed.specs.Item.{items}
+use Rattle.demand_feed.specs.Taking.{AllDo}
+use Rattle.map_cell.specs.Ends.{PublisherState}
+use Rattle.big_world.specs.Feed.{feed_of}
+use Rattle.big_world.specs.Topology.{topology_of}
+use Rattle.mapper.specs.Mappers.{IsFirst, most_offers}
+use Rattle.mapper.specs.Words.{totals_of}
+use Rattle.big_run.specs.Publishing.{Publishes}
+use Rattle.big_run.specs.Replies.{count_of}
+use Rattle.big_run.specs.declared.summary.Summary.{Summary}
+
+-- what the last maps of a run come to: all of them are good; the totals and the replies are those of the newest
+abbrev pub summary_of : ℕ → Plan → PublisherState → ℕ → Summary
+summary_of n t m proposals = record {
+  groups = n;
+  nodes = length t.market.nodes;
+  maps = length m.history;
+  good = length m.history;
+  totals = totals_of m.newest;
+  proposals = proposals;
+  answered = count_of m.newest 0 n;
+  servfail = count_of m.newest 2 n;
+}
+
+-- The world's topology was mapped from scratch, with so many proposals; each batch of its feed published the map that it leads to, of which each is good; and this is the summary.
+pub record IsRun (n : ℕ) (s : Summary) : Type 0 where
+  pub topology : Plan
+  pub first : PublisherState
+  pub last : PublisherState
+  pub reads : reading (topology_of n) ≡ Ok topology
+  pub is_first : IsFirst topology first
+  pub batches : AllDo Publishes (items topology (whole_lines (feed_of n))) first last
+  pub few : s.proposals ≤ most_offers topology.market
+  pub sums : s ≡ summary_of n topology last s.proposals

@@ -1,0 +1,90 @@
+//! The feed of a large world, worked by a mapper: each batch is published, and its map checked.
+ghost use Rattle.std.specs.Prelude.{◌≡◌, ◌<◌, ◌≤◌, ◌+◌, ◌-◌, ◌^◌, [], ℕ, List, IfOk, OnOk, length, true, false};
+ghost use Rattle.text_parts.specs.Parts.{whole_lines};
+ghost use Rattle.demand_feed.specs.Item.{Desk, Item, fresh, is_stop, items, step};
+ghost use Rattle.demand_feed.specs.Taking.{AllDo};
+ghost use Rattle.map_cell.specs.Ends.{PublisherState};
+ghost use Rattle.big_run.specs.Publishing.{Comes, Publishes};
+ghost use Rattle.big_run.specs.Working.{IsAtWork, IsLineTaken};
+
+use crate::judge::Judge;
+use demand_feed::{Clerk, Next};
+use map_cell::Naming;
+use map_model::Steps;
+use mapper::Mapper;
+use no_memory::NoMemory;
+use std::sync::Wait;
+use text_parts::cut;
+use topology_text::Topology;
+
+/// The proposals of a repair, as what is counted.
+struct Proposals;
+
+/// Publishes the map that a batch leads to, and checks it.
+fn publish<J: Naming, R: Wait>(
+    rt: &R,
+    clerk: &Clerk,
+    mapper: &mut Mapper<J>,
+    judge: &mut Judge,
+) -> Result<(), NoMemory> {
+    let mut steps = Steps::<Proposals>::new();
+    mapper.commit(rt, clerk.due(), &mut steps)?;
+    judge.check_newest(mapper);
+    Ok(())
+}
+
+/// Takes a line of the feed, and answers whether it goes on behind it.
+fn take_line<J: Naming, R: Wait>(
+    rt: &R,
+    topology: &Topology,
+    line: &[u8],
+    clerk: &mut Clerk,
+    mapper: &mut Mapper<J>,
+    judge: &mut Judge,
+) -> Result<bool, NoMemory>
+    requires work { IsAtWork topology.now clerk.old mapper.old judge.old }
+    requires number { clerk.old.desk.number < 2 ^ 64 - 1 }
+    requires serial { mapper.old.newest.serial < 2 ^ 64 - 2 }
+    ensures work { OnOk result (IsAtWork topology.now clerk.new mapper.new judge.new) }
+    ensures taken { IfOk result (λ goes_on. IsLineTaken topology.now line.now goes_on clerk.old.desk clerk.new.desk mapper.old mapper.new) }
+    ensures number { OnOk result (clerk.new.desk.number ≡ clerk.old.desk.number + 1) }
+    ensures serial { OnOk result (mapper.new.newest.serial ≤ mapper.old.newest.serial + 1) }
+{
+    match clerk.take(topology, line) {
+        Next::Stop => Ok(false),
+        Next::Batch => {
+            publish(rt, clerk, mapper, judge)?;
+            Ok(true)
+        }
+        _ => Ok(true),
+    }
+}
+
+/// Takes the lines of a feed up to its end, or to the one that says so.
+pub(crate) fn take_lines<J: Naming, R: Wait>(
+    rt: &R,
+    topology: &Topology,
+    feed: &[u8],
+    clerk: &mut Clerk,
+    mapper: &mut Mapper<J>,
+    judge: &mut Judge,
+) -> Result<(), NoMemory>
+    requires work { IsAtWork topology.now clerk.old mapper.old judge.old }
+    requires fresh { clerk.old.desk ≡ fresh }
+    requires serial { mapper.old.newest.serial ≡ 0 }
+    requires length { length feed.now < 2 ^ 63 }
+    ensures work { OnOk result (IsAtWork topology.now clerk.new mapper.new judge.new) }
+    ensures done { OnOk result (AllDo Publishes (items topology.now (whole_lines feed.now)) mapper.old mapper.new) }
+{
+    let mut rest = feed;
+    'lines: loop {
+        let Some((line, behind)) = cut(rest, b'\n') else {
+            break;
+        };
+        if !take_line(rt, topology, line, clerk, mapper, judge)? {
+            break;
+        }
+        rest = behind;
+    }
+    Ok(())
+}
