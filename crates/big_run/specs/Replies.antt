@@ -29,7 +29,7 @@ is_reply_of code (Some octets) = is_code_of code octets
 
 -- whether a group's reply by a version has that code
 unfoldable pub has_code : Version → ℕ → ℕ → Bool
-has_code v code g = is_reply_of code (reply_by v (client_of g) QUERY.now)
+has_code v code g = is_reply_of code (reply_by v (client_of g) QUERY)
 
 -- how many of the first groups have a reply with that code
 unfoldable pub count_of : Version → ℕ → ℕ → ℕ

@@ -1,5 +1,5 @@
 -- Inside this crate alone: what stands between two lines of the feed.
-use Rattle.std.specs.Prelude.{◌≡◌, ℕ, Bool, true, false, List, length}
+use Rattle.std.specs.Prelude.{◌≡◌, ℕ, ◌+◌, Bool, true, false, List, length}
 use Rattle.map_model.specs.Market.{IsSameShape}
 use Rattle.map_cell.specs.Ends.{PublisherState}
 use Rattle.topology_text.specs.Plan.{Plan}
@@ -14,7 +14,7 @@ pub record IsAtWork (t : Plan) (c : Clerking) (m : PublisherState) (j : Judge) :
   pub plan : m.newest.plan ≡ t
   pub shape : IsSameShape t.market m.newest.market
   pub room : j.room ≡ record { groups = length t.market.groups; nodes = length t.market.nodes }
-  pub good : j.good ≡ length m.history
+  pub good : j.good ≡ m.newest.serial + 1
 
 -- a line was taken: it says `stop`, or what comes of it was done
 abbrev pub IsLineTaken : Plan → List ℕ → Bool → Desk → Desk → PublisherState → PublisherState → Type 0

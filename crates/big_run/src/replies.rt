@@ -1,5 +1,5 @@
 //! One query for each group of a large world, and how many replies have a response code.
-ghost use Rattle.std.specs.Prelude.{◌≡◌, ◌≤◌, ◌<◌, ◌+◌, length, IsTrue, ◌↔◌};
+ghost use Rattle.std.specs.Prelude.{◌≡◌, ◌≤◌, ◌<◌, ◌+◌, length, if◌then◌else◌};
 ghost use Rattle.big_run.specs.Replies.{client_of as client, count_of, has_code, is_code_of};
 
 use addr_text::Addr;
@@ -57,6 +57,18 @@ fn replies_by<J: Naming>(mapper: &Mapper<J>, group: u32, code: u8) -> bool
     }
 }
 
+/// 1 where the newest map's reply to the query of a group has this response code, and else 0.
+fn count_at<J: Naming>(mapper: &Mapper<J>, group: u32, code: u8) -> u64
+    requires { group < 16384 }
+    ensures { result ≡ (if has_code mapper.now.newest code group then 1 else 0) }
+{
+    if replies_by(mapper, group, code) {
+        1
+    } else {
+        0
+    }
+}
+
 /// How many of the first groups get a reply with this response code by the newest map.
 #[tactic(auto, unfolding(crate::specs::Replies::count_of))]
 pub(crate) fn count_replies<J: Naming>(mapper: &Mapper<J>, groups: u32, code: u8) -> u64
@@ -65,7 +77,7 @@ pub(crate) fn count_replies<J: Naming>(mapper: &Mapper<J>, groups: u32, code: u8
 {
     let mut count = 0u64;
     for group in 0..groups {
-        count += u64::from(replies_by(mapper, group, code));
+        count += count_at(mapper, group, code);
     }
     count
 }

@@ -1,8 +1,14 @@
 //! A run over a large world.
-ghost use Rattle.std.specs.Prelude.{◌≡◌, ◌≤◌, IfOk, Err, MatchResult};
+ghost use Rattle.std.specs.Prelude.{◌≡◌, ◌<◌, ◌≤◌, ◌+◌, ◌-◌, ◌^◌, IfOk, OnOk, Err, MatchResult, length};
 ghost use Rattle.big_world.specs.Topology.{topology_of};
 ghost use Rattle.topology_text.specs.Faults.{reading};
-ghost use Rattle.big_run.specs.Runs.{IsRun};
+ghost use Rattle.topology_text.specs.Plan.{Plan};
+ghost use Rattle.text_parts.specs.Parts.{whole_lines};
+ghost use Rattle.demand_feed.specs.Item.{items};
+ghost use Rattle.demand_feed.specs.Taking.{AllDo};
+ghost use Rattle.mapper.specs.Mappers.{IsFirst};
+ghost use Rattle.big_run.specs.Publishing.{Publishes};
+ghost use Rattle.big_run.specs.Runs.{IsRun, summary_of};
 
 use crate::judge::Judge;
 use crate::replies::{ANSWERED, SERVFAIL, count_replies};
@@ -22,7 +28,12 @@ use topology_text::{TopologyFault, read_topology};
 struct Proposals;
 
 /// What the newest map of a run comes to, of so many groups.
-fn summary<J: Naming>(mapper: &Mapper<J>, groups: u32, good: u64, proposals: u64) -> Summary {
+fn summary<J: Naming>(mapper: &Mapper<J>, groups: u32, good: u64, proposals: u64) -> Summary
+    requires groups { groups ≤ 16384 }
+    requires good { good ≡ mapper.now.newest.serial + 1 }
+    requires last { mapper.now.newest.serial < 2 ^ 64 - 1 }
+    ensures { (t : Plan) → length mapper.now.newest.market.nodes ≡ length t.market.nodes → result ≡ summary_of groups t mapper.now proposals }
+{
     let (instance, _) = mapper.newest_map();
     Summary {
         groups,
@@ -44,7 +55,13 @@ fn work<J: Naming, R: Wait>(
     feed: &[u8],
     groups: u32,
     proposals: u64,
-) -> Result<Summary, NoMemory> {
+) -> Result<Summary, NoMemory>
+    requires first { IsFirst mapper.old.newest.plan mapper.old }
+    requires length { length feed.now < 2 ^ 63 }
+    requires groups { groups ≤ 16384 }
+    ensures done { OnOk result (AllDo Publishes (items mapper.old.newest.plan (whole_lines feed.now)) mapper.old mapper.new) }
+    ensures sums { IfOk result (λ s. s ≡ summary_of groups mapper.old.newest.plan mapper.new proposals) }
+{
     let topology = Arc::try_clone(mapper.topology())?;
     let mut judge = Judge::new(alloc, mapper.newest_map().0)?;
     let mut clerk = Clerk::new(alloc)?;
@@ -72,7 +89,10 @@ pub fn run_world<J: Naming, R: Wait>(
     let Ok((topology, feed)) = make(alloc, groups) else {
         return Err(TopologyFault::NoMemory);
     };
-    let topology = read_topology(alloc, topology.as_slice())?;
+    let topology = match read_topology(alloc, topology.as_slice()) {
+        Ok(topology) => topology,
+        Err(fault) => return Err(fault),
+    };
     let mut door = PlainDoor::new();
     let mut proposals = Steps::<Proposals>::new();
     let Ok((mapper, _)) = Mapper::<J>::open(

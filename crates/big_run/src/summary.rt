@@ -1,6 +1,6 @@
 //! The summary of a run, line by line, written without memory.
 ghost use Rattle.std.specs.Prelude.{◌≡◌, ◌≤◌, ◌<◌, ◌+◌, ◌++◌, [], length, decimal, slice_index_or};
-ghost use Rattle.big_run.specs.Summary.{lines_of, row_of, word_of};
+ghost use Rattle.big_run.specs.Summary.{lines_of, row_of};
 ghost use Rattle.big_run.specs.declared.summary.TheConstants.{LINE_ROOM, LINES};
 
 use arrayvec::ArrayVec;

@@ -1,9 +1,11 @@
 //! The feed of a large world, worked by a mapper: each batch is published, and its map checked.
-ghost use Rattle.std.specs.Prelude.{◌≡◌, ◌<◌, ◌≤◌, ◌+◌, ◌-◌, ◌^◌, [], ℕ, List, IfOk, OnOk, length, true, false};
+ghost use Rattle.std.specs.Prelude.{◌≡◌, ◌<◌, ◌≤◌, ◌+◌, ◌-◌, ◌^◌, ◌≢◌, [], ℕ, List, IfOk, OnOk, length, true, false};
 ghost use Rattle.text_parts.specs.Parts.{whole_lines};
 ghost use Rattle.demand_feed.specs.Item.{Desk, Item, fresh, is_stop, items, step};
 ghost use Rattle.demand_feed.specs.Taking.{AllDo};
 ghost use Rattle.map_cell.specs.Ends.{PublisherState};
+ghost use Rattle.map_model.specs.Batch.{IsBatch};
+ghost use Rattle.mapper.specs.Mappers.{IsPublished};
 ghost use Rattle.big_run.specs.Publishing.{Comes, Publishes};
 ghost use Rattle.big_run.specs.Working.{IsAtWork, IsLineTaken};
 
@@ -26,7 +28,16 @@ fn publish<J: Naming, R: Wait>(
     clerk: &Clerk,
     mapper: &mut Mapper<J>,
     judge: &mut Judge,
-) -> Result<(), NoMemory> {
+) -> Result<(), NoMemory>
+    requires ids { IsBatch mapper.old.newest.plan.market clerk.now.due }
+    requires some { clerk.now.due ≢ [] }
+    requires serial { mapper.old.newest.serial < 2 ^ 64 - 2 }
+    requires room { judge.old.room ≡ record { groups = length mapper.old.newest.market.groups; nodes = length mapper.old.newest.market.nodes } }
+    requires good { judge.old.good ≡ mapper.old.newest.serial + 1 }
+    ensures published { OnOk result (IsPublished mapper.old clerk.now.due mapper.new) }
+    ensures room { OnOk result (judge.new.room ≡ judge.old.room) }
+    ensures good { OnOk result (judge.new.good ≡ judge.old.good + 1) }
+{
     let mut steps = Steps::<Proposals>::new();
     mapper.commit(rt, clerk.due(), &mut steps)?;
     judge.check_newest(mapper);
@@ -77,12 +88,9 @@ pub(crate) fn take_lines<J: Naming, R: Wait>(
     ensures done { OnOk result (AllDo Publishes (items topology.now (whole_lines feed.now)) mapper.old mapper.new) }
 {
     let mut rest = feed;
-    'lines: loop {
-        let Some((line, behind)) = cut(rest, b'\n') else {
-            break;
-        };
+    'lines: while let Some((line, behind)) = cut(rest, b'\n') {
         if !take_line(rt, topology, line, clerk, mapper, judge)? {
-            break;
+            return Ok(());
         }
         rest = behind;
     }

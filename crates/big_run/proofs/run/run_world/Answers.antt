@@ -1,0 +1,14 @@
+use Rattle.std.proofs.Common.{arith, ◌∙◌}
+use Rattle.big_run.proofs.Whole.{run_is}
+use Rattle.big_run.proofs.run.run_world.Goals as goal
+
+pub returns-in-Ok-done : goal.returns-in-Ok-done
+returns-in-Ok-done g c =
+    run_is c.args.groups c.in-Ok-read_topology.topology c.in-Ok-open.mapper c.work-done.new.mapper c.as_slice.result.now c.as_slice-2.result.now c.in-Ok-done.summary c.count.result
+    (c.as_slice.ensures.value ∙ c.in-Ok.ensures.topology)
+    c.in-Ok-read_topology.ensures
+    (c.as_slice-2.ensures.value ∙ c.in-Ok.ensures.feed)
+    c.in-Ok-open.ensures.mapper
+    c.in-Ok-done.ensures.done
+    c.in-Ok-done.ensures.sums
+    (omega (arith, c.count.ensures, c.new-proposals.ensures, c.in-Ok-open.ensures.steps))

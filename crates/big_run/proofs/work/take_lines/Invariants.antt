@@ -1,0 +1,21 @@
+use Rattle.std.proofs.Common.{◌≡◌, ◌≤◌, ◌+◌, ◌^◌, length}
+use Rattle.text_parts.specs.Parts.{but_last, parts}
+use Rattle.map_cell.specs.Ends.{PublisherState}
+use Rattle.demand_feed.specs.Item.{items_of, up_to_stop}
+use Rattle.demand_feed.specs.Taking.{AllDo}
+use Rattle.big_run.specs.Publishing.{Publishes}
+use Rattle.big_run.specs.Working.{IsAtWork}
+use Rattle.big_run.proofs.work.take_lines.Given as goal
+
+-- what comes of the rest makes up what comes of all
+abbrev pub invariant-lines : goal.invariant-lines
+invariant-lines g l = record {
+  work : IsAtWork l.topology l.clerk l.mapper l.judge;
+  number : l.clerk.desk.number + length l.rest ≤ 2 ^ 63;
+  serial : l.mapper.newest.serial + length l.rest ≤ 2 ^ 63;
+  whole : (last : PublisherState) → AllDo Publishes (items_of l.topology l.clerk.desk (up_to_stop (but_last (parts 10 l.rest)))) l.mapper last
+      → AllDo Publishes (items_of l.topology l.initial.clerk.desk (up_to_stop (but_last (parts 10 l.feed)))) l.initial.mapper last;
+}
+
+abbrev pub decreases-lines : goal.decreases-lines
+decreases-lines g l = length l.rest
