@@ -1,16 +1,15 @@
 //! The published maps, of which the newest is at hand for the next commit.
-ghost use Rattle.std.specs.Prelude.{◌≡◌, ◌≢◌, ◌+◌, ◌-◌, ◌<◌, ◌≤◌, ◌^◌, [], IfOk, OnErr, option_map};
+ghost use Rattle.std.specs.Prelude.{◌≡◌, ◌-◌, ◌<◌, ◌≤◌, ◌^◌, IfOk, OnErr, OnOk};
 ghost use Rattle.map_model.specs.Batch.{IsBatch};
 ghost use Rattle.map_repair.specs.Repaired.{IsWithinSpread};
+ghost use Rattle.published_map.specs.Changes.{after};
 ghost use Rattle.published_map.specs.Version.{IsVersion};
-ghost use Rattle.map_cell.specs.Ends.{PublisherState};
 ghost use Rattle.map_cell.specs.Histories.{IsSealed};
 ghost use Rattle.answer_core.specs.Reply.{Replies};
 ghost use Rattle.mapper.specs.Currents.{IsCurrent, IsKeptFor, IsPrepared};
 ghost use Rattle.mapper.specs.Mappers.{IsPublished};
-ghost use Rattle.mapper.specs.Words.{map_text, reply_by, totals_of};
+ghost use Rattle.mapper.specs.Words.{reply_by};
 
-use crate::Totals;
 use crate::current::{Current, Kept, kept_of, next_of};
 use addr_text::Addr;
 use answer_core::{Answer, reply};
@@ -124,8 +123,8 @@ impl<J: Naming> Maps<J> {
         requires kept { IsKeptFor self.now.newest.market self.now.newest.lines kept.old }
         requires ids { IsBatch self.now.newest.market batch.now }
         ensures next { IfOk result (IsPrepared self.now.newest batch.now) }
-        ensures kept { IfOk result (λ n. IsKeptFor n.current.instance n.current.map.lines.items kept.new) }
-        ensures steps { IfOk result (λ n. IsWithinSpread self.now.newest.market self.now.newest.lines n.current.instance steps.old steps.new) }
+        ensures kept { IfOk result (λ n. IsKeptFor (after self.now.newest n.delta).market (after self.now.newest n.delta).lines kept.new) }
+        ensures steps { IfOk result (λ n. IsWithinSpread self.now.newest.market self.now.newest.lines (after self.now.newest n.delta).market steps.old steps.new) }
         ensures later { steps.old ≤ steps.new }
     {
         let newest = self.publisher.newest();

@@ -1,5 +1,6 @@
 //! A run over a feed: its items come to the mapper, to both outputs and to the pace.
 ghost use Rattle.std.specs.Prelude.{◌≡◌, ◌≢◌, ◌⊎◌, ◌<◌, ◌≤◌, ◌-◌, ◌^◌, ◌↔◌, ℕ, List, None, IsTrue};
+ghost use mathlib.Core.List.{IsPrefix};
 ghost use Rattle.map_model.specs.declared.change.Change.{Change};
 ghost use Rattle.outside.specs.Faults.{Rose};
 ghost use Rattle.demand_feed.specs.Clerk.{item_by};
