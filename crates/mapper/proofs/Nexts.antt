@@ -69,3 +69,7 @@ both (Err e) p q f = tt
 pub whenever : {X E P : Type 0} (r : Result X E) → P → OnOk r P
 whenever (Ok x) p = p
 whenever (Err e) p = tt
+
+-- the map of a version's parts is good
+pub good_of : (v : Version) (c : Current) → IsVersion v → IsCurrent v c → IsGood c.instance c.map.lines.items c.map.names.items
+good_of v c is current = (subst IsVersion current.version is).good

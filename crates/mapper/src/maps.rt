@@ -54,6 +54,13 @@ impl<J: Naming> Model for Maps<J> {
         × IfSome m.kept (λ k. IsKeptFor m.publisher.newest.market m.publisher.newest.lines k) };
 }
 
+/// Puts a value in place of another one.
+fn store<T: Drop>(place: &mut T, value: T)
+    ensures { place.new ≡ value }
+{
+    *place = value;
+}
+
 impl<J: Naming> Maps<J> {
     /// Those of a cell that was just opened.
     pub fn of(alloc: Global, publisher: Publisher<J>, current: Current) -> Maps<J>
@@ -130,6 +137,7 @@ impl<J: Naming> Maps<J> {
         let newest = self.publisher.newest();
         let old = &self.current;
         let current = next_of(self.alloc, newest.topology(), old, kept, batch, steps)?;
+        let _groups = (old.instance.groups(), current.instance.groups());
         let delta = Delta::between(
             self.alloc,
             newest.serial(),
@@ -158,8 +166,8 @@ impl<J: Naming> Maps<J> {
         let mut kept = self.take_kept()?;
         let next = self.next(&mut kept, batch, steps)?;
         let serial = self.publisher.publish(rt, next.delta)?;
-        self.current = next.current;
-        self.kept = Some(kept);
+        store(&mut self.current, next.current);
+        store(&mut self.kept, Some(kept));
         Ok(serial)
     }
 
