@@ -8,7 +8,7 @@ use Rattle.demand_feed.specs.Item.{Item, refused, batch, empty, spoiled, query, 
 use Rattle.demand_feed.specs.declared.run.FeedEnd.{FeedEnd}
 use Rattle.demand_feed.specs.declared.run.FeedEnd.TheVariants as ends
 use Rattle.mapper.specs.Control.{AllCome, Comes, Course, start}
-use Rattle.mapper.specs.Feeding.{AllCame, HasEnded, IsFeed, WasCut}
+use Rattle.mapper.specs.Feeding.{AllCame, HasEnded, WasCut}
 use Rattle.mapper.specs.Scenes.{Scene}
 use Rattle.mapper.proofs.Chains.{all_keep}
 
@@ -41,15 +41,10 @@ cut_follows items before after h = record {
   plan = ap (λ v. v.plan) h.8.newest ∙ (comes_plan h.1 h.3 h.4 h.7 ∙ all_plan h.0 (start before.newest) h.3 h.6);
 }
 
-ended_follows : (end : FeedEnd) (t : Plan) (turns : ℕ) (pieces : List (List ℕ)) (fed then : Option Fed) (before after : Scene) → HasEnded end t turns pieces fed then before after → IsFollowed before after
+pub ended_follows : (end : FeedEnd) (t : Plan) (turns : ℕ) (pieces : List (List ℕ)) (fed then : Option Fed) (before after : Scene) → HasEnded end t turns pieces fed then before after → IsFollowed before after
 ended_follows ends.Ended t turns pieces fed then before after (inl h) = came_follows _ before after h.2
 ended_follows ends.Ended t turns pieces fed then before after (inr h) = came_follows _ before after h.2
 ended_follows ends.SourceFault t turns pieces fed then before after h = came_follows _ before after h.2
 ended_follows ends.Spent t turns pieces fed then before after h = came_follows _ before after h.2
 ended_follows ends.SinkFault t turns pieces fed then before after (inl h) = cut_follows _ before after h.2
 ended_follows ends.SinkFault t turns pieces fed then before after (inr h) = cut_follows _ before after h.2
-
-pub feed_follows : (t : Plan) (turns : ℕ) (end : FeedEnd) (fed then : Option Fed) (before after : Scene) → IsFeed t turns end fed then before after → IsFollowed before after
-feed_follows t turns end fed then before after h =
-    let ended : IsFollowed before (record after { pace = h.calls }) = ended_follows end t turns h.run.0 fed then before (record after { pace = h.calls }) h.run.2 in
-    record { history = ended.history; plan = ended.plan; }

@@ -1,9 +1,10 @@
 -- What a batch makes may be published, and is then the newest version.
-use Rattle.std.proofs.Common.{◌≡◌, ℕ, ◌+◌, true, IfOk, OnOk, Result, Ok, Err, List, [], ◌∷◌, ◌++◌, length, slice_get, Some, refl, sym, ap, subst, ◌∙◌, arith, length-append}
+use Rattle.std.proofs.Common.{◌≡◌, ℕ, ◌+◌, true, IfOk, OnOk, Result, Ok, Err, List, [], ◌∷◌, ◌++◌, length, slice_get, Some, refl, sym, ap, subst, ◌∙◌, arith, length-append, slice_index_or}
 use Rattle.map_model.specs.declared.change.Change.{Change}
-use Rattle.map_model.specs.Market.{IsMarket}
+use Rattle.map_model.specs.declared.change.Change.TheVariants.{Capacity, Demand}
+use Rattle.map_model.specs.Market.{IsMarket, IsSameShape, Market}
 use Rattle.map_model.specs.Allocation.{IsGood}
-use Rattle.map_model.specs.Batch.{IsApplied}
+use Rattle.map_model.specs.Batch.{IsApplied, IsBatch, IsChange}
 use Rattle.map_repair.specs.Repaired.{IsKept, IsLocal}
 use Rattle.map_model.proofs.Shapes.{shape_trans}
 use Rattle.topology_text.specs.Plan.{Plan}
@@ -73,3 +74,11 @@ whenever (Err e) p = tt
 -- the map of a version's parts is good
 pub good_of : (v : Version) (c : Current) → IsVersion v → IsCurrent v c → IsGood c.instance c.map.lines.items c.map.names.items
 good_of v c is current = (subst IsVersion current.version is).good
+
+change_for : (m n : Market) → IsSameShape m n → (change : Change) → IsChange m change → IsChange n change
+change_for m n s (Demand group demand) is = (omega (arith, s.groups, is.0), is.1, is.2)
+change_for m n s (Capacity node capacity) is = (omega (arith, s.nodes, is.0), is.1)
+
+-- a batch for an instance is one for each instance of its shape
+pub batch_for : (m n : Market) → IsSameShape m n → (changes : List Change) → IsBatch m changes → IsBatch n changes
+batch_for m n s changes all = λ k d lt. change_for m n s (slice_index_or changes k d) (all k d lt)

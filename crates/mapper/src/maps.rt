@@ -128,7 +128,7 @@ impl<J: Naming> Maps<J> {
         steps: &mut Steps<L>,
     ) -> Result<Next, NoMemory>
         requires kept { IsKeptFor self.now.newest.market self.now.newest.lines kept.old }
-        requires ids { IsBatch self.now.newest.market batch.now }
+        requires ids { IsBatch self.now.newest.plan.market batch.now }
         ensures next { IfOk result (IsPrepared self.now.newest batch.now) }
         ensures kept { IfOk result (λ n. IsKeptFor (after self.now.newest n.delta).market (after self.now.newest n.delta).lines kept.new) }
         ensures steps { IfOk result (λ n. IsWithinSpread self.now.newest.market self.now.newest.lines (after self.now.newest n.delta).market steps.old steps.new) }
@@ -156,7 +156,7 @@ impl<J: Naming> Maps<J> {
         batch: &Batch,
         steps: &mut Steps<L>,
     ) -> Result<u64, NoMemory>
-        requires ids { IsBatch self.old.newest.market batch.now }
+        requires ids { IsBatch self.old.newest.plan.market batch.now }
         requires serial { self.old.newest.serial < 2 ^ 64 - 1 }
         ensures next { IfOk result (λ s. IsPublished self.old batch.now self.new × (s ≡ self.new.newest.serial)) }
         ensures same { OnErr result (self.new ≡ self.old) }

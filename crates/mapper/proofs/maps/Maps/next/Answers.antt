@@ -1,11 +1,12 @@
-use Rattle.std.proofs.Common.{◌≡◌, ℕ, ◌+◌, ap, subst, ◌∙◌}
+use Rattle.std.proofs.Common.{◌≡◌, ℕ, ◌+◌, ap, sym, subst, ◌∙◌}
+use Rattle.map_model.specs.Batch.{IsBatch}
 use Rattle.map_model.proofs.NameForm.{IsMapForm-IsGood}
 use Rattle.topology_text.specs.Plan.{Plan}
 use Rattle.published_map.specs.Between.{IsBetween}
-use Rattle.published_map.specs.Version.{Version}
+use Rattle.published_map.specs.Version.{IsVersion, Version}
 use Rattle.map_cell.specs.Ends.{PublisherState}
 use Rattle.mapper.specs.Currents.{IsPrepared, Makes, version_of}
-use Rattle.mapper.proofs.Nexts.{good_of, prepared}
+use Rattle.mapper.proofs.Nexts.{batch_for, good_of, prepared}
 use Rattle.mapper.proofs.maps.Maps.next.Goals as goal
 
 pub between-requires-clause-old : goal.between-requires-clause-old
@@ -33,3 +34,9 @@ returns-clause-next g c =
     let between = subst (λ (s : ℕ). IsBetween (version_of s v.plan old) (version_of (s + 1) v.plan new) d) serial (c.in_ok-delta.ensures v.plan) in
     subst (λ (p : PublisherState). IsPrepared p.newest c.args.batch.now (record { current = new; delta = d })) c.self.view_is
     (prepared v old new c.args.batch.now d c.self.invariant.0 c.self.invariant.2 c.groups-2.ensures.market made between)
+
+pub next_of-requires-clause-ids : goal.next_of-requires-clause-ids
+next_of-requires-clause-ids g c =
+    let v : Version = c.self.inside.publisher.newest in
+    let is = subst IsVersion c.self.invariant.2.version c.self.invariant.0 in
+    batch_for v.plan.market c.self.inside.current.instance is.shape c.args.batch.now (subst (λ (p : PublisherState). IsBatch p.newest.plan.market c.args.batch.now) (sym c.self.view_is) c.requires.ids)
