@@ -156,9 +156,9 @@ impl<J: Naming> Mapper<J> {
 
     /// The newest instance, and the map that is good for it.
     pub fn newest_map(&self) -> (&Instance, &MapLines)
-        ensures instance { result.entry.0.now ≡ self.now.newest.market }
-        ensures lines { result.entry.1.now.lines.items ≡ self.now.newest.lines }
-        ensures names { result.entry.1.now.names.items ≡ self.now.newest.names }
+        ensures instance { result.0.now ≡ self.now.newest.market }
+        ensures lines { result.1.now.lines.items ≡ self.now.newest.lines }
+        ensures names { result.1.now.names.items ≡ self.now.newest.names }
     {
         let current = self.maps.current();
         (&current.instance, &current.map)
