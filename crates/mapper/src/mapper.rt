@@ -66,11 +66,7 @@ struct Prepared {
 }
 
 /// Maps a topology from scratch, and takes all room that a feed needs.
-fn prepare<L>(
-    alloc: Global,
-    topology: Topology,
-    steps: &mut Steps<L>,
-) -> Result<Prepared, NoMemory>
+fn prepare<L>(alloc: Global, topology: Topology, steps: &mut Steps<L>) -> Result<Prepared, NoMemory>
     ensures plan { IfOk result (λ p. (arc_value p.topology ≡ topology) × (p.first.plan ≡ topology)) }
     ensures first { IfOk result (λ p. IsVersion p.first × (p.first.serial ≡ 0) × (p.first.market ≡ topology.market)) }
     ensures current { IfOk result (λ p. IsCurrent p.first p.current) }

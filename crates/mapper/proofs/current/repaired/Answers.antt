@@ -5,7 +5,6 @@ use Rattle.map_repair.specs.Repaired.{IsKept, IsWithinSpread}
 use Rattle.mapper.proofs.Nexts.{whenever}
 use Rattle.mapper.proofs.current.repaired.Goals as goal
 
-
 pub returns-clause-kept : goal.returns-clause-kept
 returns-clause-kept g c =
     let old = c.args.old.now.instance in
