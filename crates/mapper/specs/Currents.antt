@@ -27,7 +27,7 @@ pub record IsCurrent (v : Version) (c : Current) : Type 0 where
 -- a state of a good map that holds its lines, and the offers of its instance by tree
 pub record IsKeptFor (m : Market) (lines : List MapLine) (k : Kept) : Type 0 where
   pub state : IsStateOf m k.state
-  pub lines : k.state.lines ≡ lines
+  pub holds : k.state.lines ≡ lines
   pub asked : AreAllListed m k.asked
 
 -- a batch makes a map: what goes with the version that it leads to

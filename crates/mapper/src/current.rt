@@ -1,12 +1,11 @@
 //! A map with what goes with it, and the one that follows it by a batch.
-ghost use Rattle.std.specs.Prelude.{◌≡◌, ◌+◌, ◌≤◌, IfOk, OnOk};
+ghost use Rattle.std.specs.Prelude.{◌≡◌, ◌+◌, ◌≤◌, ℕ, IfOk, OnOk};
 ghost use Rattle.map_model.specs.Market.{IsSameShape};
 ghost use Rattle.map_model.specs.Allocation.{IsGood};
 ghost use Rattle.map_model.specs.Batch.{IsApplied, IsBatch};
 ghost use Rattle.map_repair.specs.Repaired.{IsKept, IsLocal, IsWithinSpread};
-ghost use Rattle.topology_text.specs.Plan.{Plan};
-ghost use Rattle.published_map.specs.Version.{IsVersion, Version};
-ghost use Rattle.mapper.specs.Currents.{IsCurrent, IsKeptFor, version_of};
+ghost use Rattle.evict.specs.Standing.{IsReady};
+ghost use Rattle.mapper.specs.Currents.{IsCurrent, IsKeptFor, Makes, version_of};
 ghost use Rattle.mapper.specs.Mappers.{most_offers};
 
 use crate::Totals;
@@ -90,6 +89,7 @@ fn dressed(
     ensures parts { IfOk result (λ c. (c.instance ≡ instance) × (c.map ≡ map)) }
     ensures current { IfOk result (λ c. (serial : ℕ) → IsCurrent (version_of serial topology.now c) c) }
 {
+    let _groups = instance.groups();
     let text = write_map(alloc, topology, &map)?;
     let totals = totals(&instance, state);
     Ok(Current {
@@ -147,6 +147,7 @@ pub(crate) fn next_of<L>(
     ensures later { steps.old ≤ steps.new }
 {
     let instance = applied(&old.instance, batch)?;
+    let _groups = instance.groups();
     let map = repaired(alloc, old, &instance, kept, steps)?;
     dressed(alloc, topology, instance, map, &kept.state)
 }

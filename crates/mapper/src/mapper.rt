@@ -7,9 +7,10 @@ ghost use Rattle.map_repair.specs.Repaired.{IsWithinSpread};
 ghost use Rattle.demand_feed.specs.declared.limits.TheConstants.{MOST_TURNS};
 ghost use Rattle.published_map.specs.Version.{IsVersion};
 ghost use Rattle.map_cell.specs.declared.door.OpenFault.TheVariants.{CellFault as Shut};
-ghost use Rattle.map_cell.specs.Ends.{PublisherState};
+ghost use Rattle.std.specs.Arc.{arc_value};
 ghost use Rattle.map_cell.specs.Histories.{IsSealed};
 ghost use Rattle.answer_core.specs.Reply.{Replies};
+ghost use Rattle.mapper.specs.Currents.{IsCurrent};
 ghost use Rattle.mapper.specs.Feeding.{IsFeed};
 ghost use Rattle.mapper.specs.Mappers.{IsFirst, IsPublished, most_offers};
 ghost use Rattle.mapper.specs.Scenes.{scene};
@@ -65,11 +66,7 @@ struct Prepared {
 }
 
 /// Maps a topology from scratch, and takes all room that a feed needs.
-fn prepare<L>(
-    alloc: Global,
-    topology: Topology,
-    steps: &mut Steps<L>,
-) -> Result<Prepared, NoMemory>
+fn prepare<L>(alloc: Global, topology: Topology, steps: &mut Steps<L>) -> Result<Prepared, NoMemory>
     ensures plan { IfOk result (λ p. (arc_value p.topology ≡ topology) × (p.first.plan ≡ topology)) }
     ensures first { IfOk result (λ p. IsVersion p.first × (p.first.serial ≡ 0) × (p.first.market ≡ topology.market)) }
     ensures current { IfOk result (λ p. IsCurrent p.first p.current) }
@@ -155,9 +152,9 @@ impl<J: Naming> Mapper<J> {
 
     /// The newest instance, and the map that is good for it.
     pub fn newest_map(&self) -> (&Instance, &MapLines)
-        ensures instance { result.entry.0.now ≡ self.now.newest.market }
-        ensures lines { result.entry.1.now.lines.items ≡ self.now.newest.lines }
-        ensures names { result.entry.1.now.names.items ≡ self.now.newest.names }
+        ensures instance { result.0.now ≡ self.now.newest.market }
+        ensures lines { result.1.now.lines.items ≡ self.now.newest.lines }
+        ensures names { result.1.now.names.items ≡ self.now.newest.names }
     {
         let current = self.maps.current();
         (&current.instance, &current.map)

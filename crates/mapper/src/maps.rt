@@ -1,16 +1,15 @@
 //! The published maps, of which the newest is at hand for the next commit.
-ghost use Rattle.std.specs.Prelude.{◌≡◌, ◌≢◌, ◌+◌, ◌-◌, ◌<◌, ◌≤◌, ◌^◌, [], IfOk, OnErr, option_map};
+ghost use Rattle.std.specs.Prelude.{◌≡◌, ◌-◌, ◌<◌, ◌≤◌, ◌^◌, IfOk, OnErr, OnOk};
 ghost use Rattle.map_model.specs.Batch.{IsBatch};
 ghost use Rattle.map_repair.specs.Repaired.{IsWithinSpread};
+ghost use Rattle.published_map.specs.Changes.{after};
 ghost use Rattle.published_map.specs.Version.{IsVersion};
-ghost use Rattle.map_cell.specs.Ends.{PublisherState};
 ghost use Rattle.map_cell.specs.Histories.{IsSealed};
 ghost use Rattle.answer_core.specs.Reply.{Replies};
 ghost use Rattle.mapper.specs.Currents.{IsCurrent, IsKeptFor, IsPrepared};
 ghost use Rattle.mapper.specs.Mappers.{IsPublished};
-ghost use Rattle.mapper.specs.Words.{map_text, reply_by, totals_of};
+ghost use Rattle.mapper.specs.Words.{reply_by};
 
-use crate::Totals;
 use crate::current::{Current, Kept, kept_of, next_of};
 use addr_text::Addr;
 use answer_core::{Answer, reply};
@@ -53,6 +52,13 @@ impl<J: Naming> Model for Maps<J> {
 
     ghost invariant = { λ m. IsVersion m.publisher.newest × IsSealed m.publisher.history m.publisher.newest × IsCurrent m.publisher.newest m.current
         × IfSome m.kept (λ k. IsKeptFor m.publisher.newest.market m.publisher.newest.lines k) };
+}
+
+/// Puts a value in place of another one.
+fn store<T: Drop>(place: &mut T, value: T)
+    ensures { place.new ≡ value }
+{
+    *place = value;
 }
 
 impl<J: Naming> Maps<J> {
@@ -122,15 +128,16 @@ impl<J: Naming> Maps<J> {
         steps: &mut Steps<L>,
     ) -> Result<Next, NoMemory>
         requires kept { IsKeptFor self.now.newest.market self.now.newest.lines kept.old }
-        requires ids { IsBatch self.now.newest.market batch.now }
+        requires ids { IsBatch self.now.newest.plan.market batch.now }
         ensures next { IfOk result (IsPrepared self.now.newest batch.now) }
-        ensures kept { IfOk result (λ n. IsKeptFor n.current.instance n.current.map.lines.items kept.new) }
-        ensures steps { IfOk result (λ n. IsWithinSpread self.now.newest.market self.now.newest.lines n.current.instance steps.old steps.new) }
+        ensures kept { IfOk result (λ n. IsKeptFor (after self.now.newest n.delta).market (after self.now.newest n.delta).lines kept.new) }
+        ensures steps { IfOk result (λ n. IsWithinSpread self.now.newest.market self.now.newest.lines (after self.now.newest n.delta).market steps.old steps.new) }
         ensures later { steps.old ≤ steps.new }
     {
         let newest = self.publisher.newest();
         let old = &self.current;
         let current = next_of(self.alloc, newest.topology(), old, kept, batch, steps)?;
+        let _groups = (old.instance.groups(), current.instance.groups());
         let delta = Delta::between(
             self.alloc,
             newest.serial(),
@@ -149,7 +156,7 @@ impl<J: Naming> Maps<J> {
         batch: &Batch,
         steps: &mut Steps<L>,
     ) -> Result<u64, NoMemory>
-        requires ids { IsBatch self.old.newest.market batch.now }
+        requires ids { IsBatch self.old.newest.plan.market batch.now }
         requires serial { self.old.newest.serial < 2 ^ 64 - 1 }
         ensures next { IfOk result (λ s. IsPublished self.old batch.now self.new × (s ≡ self.new.newest.serial)) }
         ensures same { OnErr result (self.new ≡ self.old) }
@@ -159,8 +166,8 @@ impl<J: Naming> Maps<J> {
         let mut kept = self.take_kept()?;
         let next = self.next(&mut kept, batch, steps)?;
         let serial = self.publisher.publish(rt, next.delta)?;
-        self.current = next.current;
-        self.kept = Some(kept);
+        store(&mut self.current, next.current);
+        store(&mut self.kept, Some(kept));
         Ok(serial)
     }
 

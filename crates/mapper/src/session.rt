@@ -1,5 +1,6 @@
 //! A run over a feed: its items come to the mapper, to both outputs and to the pace.
 ghost use Rattle.std.specs.Prelude.{◌≡◌, ◌≢◌, ◌⊎◌, ◌<◌, ◌≤◌, ◌-◌, ◌^◌, ◌↔◌, ℕ, List, None, IsTrue};
+ghost use mathlib.Core.List.{IsPrefix};
 ghost use Rattle.map_model.specs.declared.change.Change.{Change};
 ghost use Rattle.outside.specs.Faults.{Rose};
 ghost use Rattle.demand_feed.specs.Clerk.{item_by};
@@ -101,6 +102,8 @@ fn finish<R: Wait, S: Source, X: Mapping, K: Sink, M: Pace>(
     requires serial { (X.newest session.old.mapper.now).serial < 2 ^ 63 }
     ensures keeps { Keeps X.lent K.faults session.old session.new }
     ensures run { IsFeed topology.now turns result (S.told feed.old) (S.told feed.new) (told_by X.newest X.history K.told M.told session.old) (told_by X.newest X.history K.told M.told session.new) }
+    ensures plan { (X.newest session.new.mapper.now).plan ≡ (X.newest session.old.mapper.now).plan }
+    ensures kept { IsPrefix (X.history session.old.mapper.now) (X.history session.new.mapper.now) }
     ensures sink { result ≡ FeedEnd.SinkFault → HasFault K.faults session.old session.new }
     ensures source { result ≡ FeedEnd.SourceFault → Rose (S.faults feed.old) (S.faults feed.new) }
     ensures source_later { S.faults feed.old ≤ S.faults feed.new }
