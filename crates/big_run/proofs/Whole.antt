@@ -1,5 +1,5 @@
 -- A run from its parts.
-use Rattle.std.proofs.Common.{◌≡◌, ℕ, ◌≤◌, List, refl, ap, sym, ◌∙◌, arith}
+use Rattle.std.proofs.Common.{◌≡◌, ℕ, ◌≤◌, List, ap, sym, ◌∙◌}
 use Rattle.std.specs.Prelude.{Ok}
 use Rattle.text_parts.specs.Parts.{whole_lines}
 use Rattle.topology_text.specs.Plan.{Plan}

@@ -1,5 +1,5 @@
-use Rattle.std.proofs.Common.{cond, arith, refl}
-use Rattle.big_run.specs.Replies.{count_of, has_code}
+use Rattle.std.proofs.Common.{arith}
+use Rattle.big_run.specs.Replies.{has_code}
 use Rattle.big_run.proofs.Counted.{at_most_one, count_more}
 use Rattle.big_run.proofs.replies.count_replies.Goals as goal
 

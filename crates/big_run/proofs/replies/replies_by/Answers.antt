@@ -1,4 +1,4 @@
-use Rattle.std.proofs.Common.{sym, ap, ◌∙◌, refl}
+use Rattle.std.proofs.Common.{sym, ap, ◌∙◌}
 use Rattle.big_run.specs.Replies.{has_code, is_code_of, is_reply_of}
 use Rattle.big_run.proofs.replies.replies_by.Goals as goal
 

@@ -1,4 +1,4 @@
-use Rattle.std.proofs.Common.{sym, ap, ◌∙◌, refl, arith}
+use Rattle.std.proofs.Common.{sym, ap, ◌∙◌, arith}
 use Rattle.demand_feed.specs.Item.{Step, step}
 use Rattle.demand_feed.specs.Clerk.{item_by}
 use Rattle.demand_feed.proofs.Items.{step_number}

@@ -1,4 +1,4 @@
-use Rattle.std.proofs.Common.{◌≡◌, List, [], ◌∷◌, sym, ap, ◌∙◌, refl, arith, length}
+use Rattle.std.proofs.Common.{◌≡◌, [], ◌∷◌, refl, arith}
 use Rattle.text_parts.specs.Parts.{but_last, parts}
 use Rattle.demand_feed.specs.Item.{items_of, up_to_stop}
 use Rattle.demand_feed.specs.Taking.{AllDo}

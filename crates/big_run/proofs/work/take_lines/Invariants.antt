@@ -1,4 +1,4 @@
-use Rattle.std.proofs.Common.{◌≡◌, ◌≤◌, ◌+◌, ◌^◌, length}
+use Rattle.std.proofs.Common.{◌≤◌, ◌+◌, ◌^◌, length}
 use Rattle.text_parts.specs.Parts.{but_last, parts}
 use Rattle.map_cell.specs.Ends.{PublisherState}
 use Rattle.demand_feed.specs.Item.{items_of, up_to_stop}
