@@ -3,4 +3,10 @@ mod Reading
 mod Plans
 mod Said
 mod Good
+mod Opened
+mod Histories
+mod Causes
+mod Served
+mod WellServed
+mod Places
 mod Complete

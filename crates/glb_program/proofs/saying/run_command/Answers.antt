@@ -3,7 +3,7 @@ use Rattle.glb_program.specs.Run.{IsDue}
 use Rattle.glb_program.specs.Words.{check, map_from, answer}
 use Rattle.glb_program.proofs.Loads.{ends_weaker}
 use Rattle.glb_program.proofs.Said.{due_said}
-use Rattle.glb_program.proofs.glb.run_command.Goals as goal
+use Rattle.glb_program.proofs.saying.run_command.Goals as goal
 
 pub returns-in-Check-clause-said : goal.returns-in-Check-clause-said
 returns-in-Check-clause-said g c =

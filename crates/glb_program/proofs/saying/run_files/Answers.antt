@@ -1,0 +1,17 @@
+use Rattle.std.proofs.Common.{rules, Some}
+use Rattle.glb_program.specs.Commands.{ask_of}
+use Rattle.glb_program.specs.Outcome.{Faults, Outside}
+use Rattle.glb_program.proofs.Complete.{complete_run}
+use Rattle.glb_program.proofs.Good.{good_run}
+use Rattle.glb_program.proofs.saying.run_files.Goals as goal
+
+pub returns-in-Some-clause-good : goal.returns-in-Some-clause-good
+returns-in-Some-clause-good g c = good_run _ _ _ _ (search rules)
+
+pub returns-in-Some-clause-complete : goal.returns-in-Some-clause-complete
+returns-in-Some-clause-complete g c =
+    let before : Outside = record { files = g.F.Shelf.told c.args.files.now; out = g.K.Sink.told c.args.out.now } in
+    let after : Outside = record { files = g.F.Shelf.told c.run_command-ended.new.files; out = g.K.Sink.told c.finish.new.out } in
+    let counts : Faults = record { files = g.F.Shelf.faults c.args.files.now; out = g.K.Sink.faults c.args.out.now } in
+    let later : Faults = record { files = g.F.Shelf.faults c.run_command-ended.new.files; out = g.K.Sink.faults c.finish.new.out } in
+    complete_run (Some (ask_of c.in-Some.command)) before after counts later c.finish.result (search rules) (search rules)
