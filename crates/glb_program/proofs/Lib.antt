@@ -4,9 +4,14 @@ mod Plans
 mod Said
 mod Good
 mod Opened
+mod Asked
 mod Histories
 mod Causes
 mod Served
+mod Left
+mod First
+mod Sessions
+mod Unread
 mod WellServed
 mod Places
 mod Complete

@@ -12,10 +12,14 @@ AnyLane P _ _ = ⊥
 abbrev pub HasPortFault : LaneTold → LaneTold → Type 0
 HasPortFault before after = Rose before.port_faults after.port_faults
 
+-- the count of its door rose
+abbrev pub HasDoorFault : LaneTold → LaneTold → Type 0
+HasDoorFault before after = Rose before.door_faults after.door_faults
+
 -- its port gave exactly so many answers of recv, where it tells them
 abbrev pub HasTaken : ℕ → LaneTold → LaneTold → Type 0
 HasTaken turns before after = BothTell before.port after.port (λ b c. c.recvs ≡ raised b.recvs turns)
 
 -- the count of its door rose, or that showed a serial beyond so many versions
 abbrev pub HasCellFault : ℕ → LaneTold → LaneTold → Type 0
-HasCellFault versions before after = Rose before.door_faults after.door_faults ⊎ (versions ≤ after.greatest)
+HasCellFault versions before after = HasDoorFault before after ⊎ (versions ≤ after.greatest)

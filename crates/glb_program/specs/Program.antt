@@ -8,6 +8,8 @@ use Rattle.glb_program.specs.Words.{Ask, Task, say, serve}
 use Rattle.glb_program.specs.Outcome.{HasCauses}
 use Rattle.glb_program.specs.Run as short
 use Rattle.glb_program.specs.Serve.{IsServeRun, loads_of_serve}
+use Rattle.glb_program.specs.Causes.{AnyLane, HasDoorFault, HasPortFault}
+use Rattle.glb_program.specs.Map.{HoldsTopology}
 use Rattle.glb_program.specs.Served.{IsWellServed}
 use Rattle.glb_program.specs.Told.{IsOutAlone, Surroundings, faults_of, outside_of}
 
@@ -47,13 +49,28 @@ AreCauses (Some (serve ask)) before after result = HasServeCauses before after r
 abbrev pub IsSound : Option Task → Option Shelved → Type 0
 IsSound None files = ⊥
 IsSound (Some (say ask)) files = short.IsSound (Some ask) files
-IsSound (Some (serve ask)) files = ⊥
+IsSound (Some (serve ask)) files = HoldsTopology ask.topology files
 
--- no count of faults rose
+-- no count of faults rose: of the files, the feed and both outputs, of a port or of a door
+pub record IsServeQuiet (before after : Surroundings) : Type 0 where
+  pub files : Rose before.files_faults after.files_faults → ⊥
+  pub feed : Rose before.stage.feed_faults after.stage.feed_faults → ⊥
+  pub out : Rose before.stage.out_faults after.stage.out_faults → ⊥
+  pub maps : Rose before.stage.maps_faults after.stage.maps_faults → ⊥
+  pub ports : AnyLane HasPortFault before.stage.lent.lanes after.stage.lent.lanes → ⊥
+  pub doors : AnyLane HasDoorFault before.stage.lent.lanes after.stage.lent.lanes → ⊥
+
+-- no count of faults rose of what the task asks
 abbrev pub AreQuiet : Option Task → Surroundings → Surroundings → Type 0
 AreQuiet None before after = Unit {0}
 AreQuiet (Some (say ask)) before after = (Rose before.files_faults after.files_faults → ⊥) × (Rose before.stage.out_faults after.stage.out_faults → ⊥)
-AreQuiet (Some (serve ask)) before after = Unit {0}
+AreQuiet (Some (serve ask)) before after = IsServeQuiet before after
+
+-- The answers that are left then: status 0 or want of memory; of `serve` also that turns were spent, or that a door showed a serial that was not published.
+abbrev pub IsLeft : Option Task → Status → Type 0
+IsLeft None result = ⊥
+IsLeft (Some (say ask)) result = (result ≡ status.Ok) ⊎ (result ≡ status.NoMemory)
+IsLeft (Some (serve ask)) result = (result ≡ status.Ok) ⊎ (result ≡ status.NoMemory) ⊎ (result ≡ status.Spent) ⊎ (result ≡ status.CellFault)
 
 -- what status 0 says
 abbrev pub IsGoodRun : ℕ → Option Task → Surroundings → Surroundings → Type 0

@@ -1,9 +1,11 @@
 -- Inside this crate alone: how ports were opened, and a session was started.
-use Rattle.std.specs.Prelude.{◌≡◌, ℕ, ◌<◌, ◌≤◌, Bool, false, List, [], ◌∷◌, Option, None, Some}
+use Rattle.std.specs.Prelude.{◌≡◌, ◌⊎◌, ℕ, ◌<◌, ◌≤◌, Bool, false, List, [], ◌∷◌, Option, None, Some}
 use Rattle.std.specs.List.{list_any}
 use Rattle.lane_model.specs.declared.ended.Ended.{Ended}
 use Rattle.demand_feed.specs.declared.run.FeedEnd.{FeedEnd}
 use Rattle.glb_program.specs.declared.status.Status.{Status}
+use Rattle.glb_program.specs.declared.status.Status.TheVariants as status
+use Rattle.glb_program.specs.Told.{Stage}
 use Rattle.addr_text.specs.declared.address.Listen.{Listen}
 use Rattle.outside.specs.Faults.{BothTell, Rose}
 use Rattle.outside.specs.Sink.{Written}
@@ -52,3 +54,11 @@ at_place test (Some end) = test end
 -- the status of a session, by the ends at the places of its lanes
 abbrev pub status_at : FeedEnd → List (Option Ended) → Status
 status_at end places = status_of end (list_any (at_place is_port_fault) places) (list_any (at_place is_spent) places) (list_any (at_place is_cell_fault) places)
+
+-- no count of a session fell, and a fault of the feed or of an output came with its count
+pub record IsSessionLater (before after : Stage) (result : Status) : Type 0 where
+  pub feed : before.feed_faults ≤ after.feed_faults
+  pub out : before.out_faults ≤ after.out_faults
+  pub maps : before.maps_faults ≤ after.maps_faults
+  pub source : result ≡ status.SourceFault → Rose before.feed_faults after.feed_faults
+  pub sink : result ≡ status.SinkFault → Rose before.out_faults after.out_faults ⊎ Rose before.maps_faults after.maps_faults

@@ -94,6 +94,55 @@ fn status_of_opening(fault: OpenFault) -> Status
     }
 }
 
+/// Maps a topology, and opens the cell with that map and a place for each worker, by the door of a lane.
+fn open_by<J: Naming, R: Wait, P: Port, G: Gate, D: Door>(
+    rt: &R,
+    alloc: Global,
+    history: EmptyHistory,
+    topology: Topology,
+    workers: u8,
+    lane: &mut Lane<P, G, D>,
+) -> Result<(Mapper<J>, Vec<Viewer<J>>), OpenFault>
+    requires book { history ≡ J.book }
+    requires workers { workers ≤ 16 }
+    ensures mapper { IfOk result (λ r. IsFirst topology r.0) }
+    ensures viewers { IfOk result (λ r. (vec_len r.1 ≡ workers) × All (λ v. (v.seen ≡ r.0.history) × (v.told ≡ r.0.history)) r.1.items) }
+    ensures asked { IfOk result (λ _. IsAskedAll workers (lane_asked D.asked lane.old ∷ []) (lane_asked D.asked lane.new ∷ []) (lane_told P.told P.faults G.told D.looks D.greatest D.faults lane.old ∷ []) (lane_told P.told P.faults G.told D.looks D.greatest D.faults lane.new ∷ [])) }
+    ensures refused { IfErr result (λ e. IsAskedSome workers e (lane_asked D.asked lane.old ∷ []) (lane_asked D.asked lane.new ∷ []) (lane_told P.told P.faults G.told D.looks D.greatest D.faults lane.old ∷ []) (lane_told P.told P.faults G.told D.looks D.greatest D.faults lane.new ∷ [])) }
+{
+    let mut steps = Steps::<Proposals>::new();
+    Mapper::<J>::open(
+        rt,
+        alloc,
+        history,
+        topology,
+        workers,
+        &mut lane.door,
+        &mut steps,
+    )
+}
+
+/// Maps a topology, and opens the cell with that map and a place for each worker, by the door of this one lane.
+fn open_first<J: Naming, R: Wait, P: Port, G: Gate, D: Door>(
+    rt: &R,
+    alloc: Global,
+    history: EmptyHistory,
+    topology: Topology,
+    workers: u8,
+    lanes: &mut [Lane<P, G, D>],
+) -> Result<(Mapper<J>, Vec<Viewer<J>>), OpenFault>
+    requires book { history ≡ J.book }
+    requires workers { workers ≤ 16 }
+    requires lanes { length lanes.old ≡ 1 }
+    ensures mapper { IfOk result (λ r. IsFirst topology r.0) }
+    ensures viewers { IfOk result (λ r. (vec_len r.1 ≡ workers) × All (λ v. (v.seen ≡ r.0.history) × (v.told ≡ r.0.history)) r.1.items) }
+    ensures length { length lanes.new ≡ length lanes.old }
+    ensures asked { IfOk result (λ _. IsAskedAll workers (map (lane_asked D.asked) lanes.old) (map (lane_asked D.asked) lanes.new) (map (lane_told P.told P.faults G.told D.looks D.greatest D.faults) lanes.old) (map (lane_told P.told P.faults G.told D.looks D.greatest D.faults) lanes.new)) }
+    ensures refused { IfErr result (λ e. IsAskedSome workers e (map (lane_asked D.asked) lanes.old) (map (lane_asked D.asked) lanes.new) (map (lane_told P.told P.faults G.told D.looks D.greatest D.faults) lanes.old) (map (lane_told P.told P.faults G.told D.looks D.greatest D.faults) lanes.new)) }
+{
+    open_by::<J, R, P, G, D>(rt, alloc, history, topology, workers, &mut lanes[0])
+}
+
 /// Maps a topology, and opens the cell with that map and a place for each worker, by the door of the first lane.
 fn open_mapper<J: Naming, R: Wait, P: Port, G: Gate, D: Door>(
     rt: &R,
@@ -112,16 +161,8 @@ fn open_mapper<J: Naming, R: Wait, P: Port, G: Gate, D: Door>(
     ensures asked { IfOk result (λ _. IsAskedAll workers (map (lane_asked D.asked) lanes.old) (map (lane_asked D.asked) lanes.new) (map (lane_told P.told P.faults G.told D.looks D.greatest D.faults) lanes.old) (map (lane_told P.told P.faults G.told D.looks D.greatest D.faults) lanes.new)) }
     ensures refused { IfErr result (λ e. IsAskedSome workers e (map (lane_asked D.asked) lanes.old) (map (lane_asked D.asked) lanes.new) (map (lane_told P.told P.faults G.told D.looks D.greatest D.faults) lanes.old) (map (lane_told P.told P.faults G.told D.looks D.greatest D.faults) lanes.new)) }
 {
-    let mut steps = Steps::<Proposals>::new();
-    Mapper::<J>::open(
-        rt,
-        alloc,
-        history,
-        topology,
-        workers,
-        &mut lanes[0].door,
-        &mut steps,
-    )
+    let (first, _others) = lanes.split_at_mut(1);
+    open_first::<J, R, P, G, D>(rt, alloc, history, topology, workers, first)
 }
 
 /// Opens the ports, puts the first map's text, and drives. It closes the mapper.
