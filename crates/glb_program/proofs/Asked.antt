@@ -1,5 +1,6 @@
 -- Places that the first door was asked for, with more lanes behind it.
 use Rattle.std.proofs.Common.{◌≡◌, ℕ, ◌≤◌, List, [], ◌∷◌, ◌++◌, length, map, refl, ap, subst, sym, Result, Ok, Err, IfOk, IfErr, OnOk}
+use Rattle.std.specs.Prelude.{Some, slice_get, slice_set}
 use Rattle.std.proofs.lemmas.List.{map-append}
 use Rattle.outside.specs.Faults.{Rose, raised}
 use Rattle.map_cell.specs.declared.door.OpenFault.TheVariants.{CellFault as Shut}
@@ -47,3 +48,17 @@ pub refused_more : {T L : Type 0} (r : Result T OpenFault) (told : L → LaneTol
     → IfErr r (λ e. IsAskedSome n e (map asked xs) (map asked (c ++ b)) (map told xs) (map told (c ++ b)))
 refused_more (Ok t) told asked n xs a b c is one h = tt
 refused_more (Err e) told asked n xs a b c is one h = more_refused told asked n e xs a b c is one h
+
+-- the only lane
+pub single : {L : Type 0} (xs : List L) (x : L) → length xs ≡ 1 → slice_get xs 0 ≡ Some x → xs ≡ x ∷ []
+single (y ∷ []) x one at = let same : y ≡ x = cc in ap (λ z. z ∷ []) same
+single [] x one at = absurd (cc)
+single (y ∷ z ∷ xs) x one at = absurd (cc)
+
+pub one_asked : {T E L : Type 0} (r : Result T E) (told : L → LaneTold) (asked : L → ℕ) (n : ℕ) (xs : List L) (x y : L) → xs ≡ x ∷ [] → IfOk r (λ _. IsAskedAll n (asked x ∷ []) (asked y ∷ []) (told x ∷ []) (told y ∷ []))
+    → IfOk r (λ _. IsAskedAll n (map asked xs) (map asked (slice_set xs 0 y)) (map told xs) (map told (slice_set xs 0 y)))
+one_asked r told asked n xs x y is h = rw is h
+
+pub one_refused : {T L : Type 0} (r : Result T OpenFault) (told : L → LaneTold) (asked : L → ℕ) (n : ℕ) (xs : List L) (x y : L) → xs ≡ x ∷ [] → IfErr r (λ e. IsAskedSome n e (asked x ∷ []) (asked y ∷ []) (told x ∷ []) (told y ∷ []))
+    → IfErr r (λ e. IsAskedSome n e (map asked xs) (map asked (slice_set xs 0 y)) (map told xs) (map told (slice_set xs 0 y)))
+one_refused r told asked n xs x y is h = rw is h

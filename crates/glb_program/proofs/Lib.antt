@@ -9,9 +9,10 @@ mod Histories
 mod Causes
 mod Served
 mod Left
+mod Reports
+mod Tasks
 mod First
 mod Sessions
-mod Unread
 mod WellServed
 mod Places
 mod Complete
