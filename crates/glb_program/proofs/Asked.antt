@@ -1,6 +1,7 @@
 -- Places that the first door was asked for, with more lanes behind it.
 use Rattle.std.proofs.Common.{◌≡◌, ℕ, ◌≤◌, List, [], ◌∷◌, ◌++◌, length, map, refl, ap, subst, sym, Result, Ok, Err, IfOk, IfErr, OnOk}
-use Rattle.std.specs.Prelude.{Some, slice_get, slice_set}
+use Rattle.std.specs.Prelude.{slice_set}
+use Rattle.std.proofs.Common.{get_or}
 use Rattle.std.proofs.lemmas.List.{map-append}
 use Rattle.outside.specs.Faults.{Rose, raised}
 use Rattle.map_cell.specs.declared.door.OpenFault.TheVariants.{CellFault as Shut}
@@ -50,8 +51,8 @@ refused_more (Ok t) told asked n xs a b c is one h = tt
 refused_more (Err e) told asked n xs a b c is one h = more_refused told asked n e xs a b c is one h
 
 -- the only lane
-pub single : {L : Type 0} (xs : List L) (x : L) → length xs ≡ 1 → slice_get xs 0 ≡ Some x → xs ≡ x ∷ []
-single (y ∷ []) x one at = let same : y ≡ x = cc in ap (λ z. z ∷ []) same
+pub single : {L : Type 0} (xs : List L) (x : L) → length xs ≡ 1 → x ≡ get_or xs 0 x → xs ≡ x ∷ []
+single (y ∷ []) x one at = ap (λ z. z ∷ []) (sym at)
 single [] x one at = absurd (cc)
 single (y ∷ z ∷ xs) x one at = absurd (cc)
 

@@ -135,11 +135,11 @@ served_cell turns first rest w b c e fault d = go d.which
 any_done : (test : Ended → Bool) (P : LaneTold → LaneTold → Type 0) (turns : ℕ) (first : Version) (rest : List Version) (w : ℕ) (ends : List Ended) (before after : List LaneTold)
     → ((w : ℕ) (b c : LaneTold) (e : Ended) → test e ≡ true → IsDone turns first rest w b c e → P b c) → AreDone turns first rest w ends before after → list_any test ends ≡ true → AnyLane P before after
 any_done test P turns first rest w [] before after f h some = absurd (cc)
-any_done test P turns first rest w (e ∷ ends) (b ∷ before) (c ∷ after) f h some = go (test e) refl
+any_done test P turns first rest w (e ∷ ends) (b ∷ before) (c ∷ after) f h some = go (test e) refl (any_done test P turns first rest (w + 1) ends before after f h.1)
   where
-    go : (x : Bool) → test e ≡ x → P b c ⊎ AnyLane P before after
-    go true is = inl (f w b c e is h.0)
-    go false is = inr (any_done test P turns first rest (w + 1) ends before after f h.1 (subst (λ (y : Bool). (y || list_any test ends) ≡ true) is some))
+    go : (x : Bool) → test e ≡ x → (list_any test ends ≡ true → AnyLane P before after) → P b c ⊎ AnyLane P before after
+    go true is more = inl (f w b c e is h.0)
+    go false is more = inr (more (subst (λ (y : Bool). (y || list_any test ends) ≡ true) is some))
 any_done test P turns first rest w (e ∷ ends) [] after f h some = absurd h
 any_done test P turns first rest w (e ∷ ends) (b ∷ before) [] f h some = absurd h
 

@@ -24,7 +24,7 @@ use Rattle.glb_program.specs.Program.{HasServeCauses, IsLeft, IsServeQuiet}
 use Rattle.glb_program.proofs.Complete.{one_answer, one_content}
 
 -- no count of a port is lower on the right
-Below : List LaneTold → List LaneTold → Type 0
+abbrev Below : List LaneTold → List LaneTold → Type 0
 Below [] [] = Unit {0}
 Below (x ∷ xs) (y ∷ ys) = (x.port_faults ≤ y.port_faults) × Below xs ys
 Below _ _ = ⊥

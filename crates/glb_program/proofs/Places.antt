@@ -1,6 +1,6 @@
 -- Ends of lanes at their places.
 use Rattle.std.proofs.Common.{◌≡◌, ℕ, zero, suc, Bool, true, false, List, [], ◌∷◌, ◌++◌, map, Option, None, Some, refl, ap, ◌∙◌}
-use Rattle.std.specs.Prelude.{replicate}
+use Rattle.std.specs.Prelude.{replicate, ◌||◌}
 use Rattle.std.specs.List.{list_any}
 use Rattle.lane_model.specs.declared.ended.Ended.{Ended}
 use Rattle.glb_program.specs.Starting.{at_place}
@@ -12,8 +12,4 @@ none_at test (suc n) = none_at test n
 -- places behind the ends tell nothing
 pub any_at : (test : Ended → Bool) (ends : List Ended) (n : ℕ) → list_any (at_place test) (map Some ends ++ replicate n None) ≡ list_any test ends
 any_at test [] n = none_at test n
-any_at test (e ∷ ends) n = go (test e) refl
-  where
-    go : (b : Bool) → test e ≡ b → list_any (at_place test) (Some e ∷ (map Some ends ++ replicate n None)) ≡ list_any test (e ∷ ends)
-    go true h = rw h refl
-    go false h = rw h (any_at test ends n)
+any_at test (e ∷ ends) n = ap (λ (b : Bool). test e || b) (any_at test ends n)

@@ -101,7 +101,7 @@ by_parts false true c h = absurd (cc)
 by_parts false false true h = absurd (cc)
 
 ok_parts : (end : FeedEnd) (p s c : Bool) → status.Ok ≡ status_of end p s c → (end ≡ feed.Ended) × (p ≡ false) × (s ≡ false) × (c ≡ false)
-ok_parts feed.Ended p s c h = (refl, by_parts p s c h)
+ok_parts feed.Ended p s c h = let parts = by_parts p s c h in (refl, parts.0, parts.1, parts.2)
 ok_parts feed.Spent p s c h = let parts = by_parts p true c h in absurd (cc)
 ok_parts feed.SourceFault p s c h = absurd (cc)
 ok_parts feed.SinkFault p s c h = absurd (cc)

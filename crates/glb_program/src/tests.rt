@@ -21,8 +21,9 @@ enum Held {
 }
 
 mod answers;
+mod at_once;
 mod example;
-mod held;
+
 mod serving;
 
 use Held::{Bytes, Missing, Topology, Zeros};

@@ -44,14 +44,19 @@ const QUIET: Script = Script {
     send_fails: &[],
 };
 
-const fn asked(queries: u8) -> Script {
-    Script {
-        queries,
-        goes: 100,
-        open_fails: &[],
-        send_fails: &[],
-    }
-}
+/// One query, which the gate lets through.
+const ONE: Script = Script {
+    queries: 1,
+    goes: 100,
+    open_fails: &[],
+    send_fails: &[],
+};
+
+/// Three queries.
+const THREE: Script = Script { queries: 3, ..ONE };
+
+/// Five queries.
+const FIVE: Script = Script { queries: 5, ..ONE };
 
 /// So many queries of the client.
 pub fn queries(alloc: Global, count: u8) -> Result<LinkedList<MemPacket>, NoMemory> {
@@ -153,29 +158,30 @@ const ROWS: &[Row] = &[
         ..PLAIN
     },
     Row {
-        lanes: &[asked(3), asked(1)],
+        lanes: &[THREE, ONE],
         served: &[(3, 3), (0, 0)],
         ..PLAIN
     },
     Row {
         workers: "2",
-        lanes: &[asked(3), asked(1), asked(1)],
+        lanes: &[THREE, ONE, ONE],
         served: &[(3, 3), (1, 1), (0, 0)],
         ..PLAIN
     },
     Row {
         workers: "16",
-        lanes: &[asked(1); 16],
+        lanes: &[ONE; 16],
         served: &[(1, 1); 16],
         ..PLAIN
     },
     Row {
         workers: "2",
         lanes: &[
-            asked(3),
+            THREE,
             Script {
+                queries: 20,
                 send_fails: &[6, 7, 8, 9, 10, 11, 12, 13, 14, 15, 16, 17, 18, 19],
-                ..asked(20)
+                ..ONE
             },
         ],
         status: Status::PortFault,
@@ -185,10 +191,10 @@ const ROWS: &[Row] = &[
     Row {
         workers: "2",
         lanes: &[
-            asked(3),
+            THREE,
             Script {
                 open_fails: &[0],
-                ..asked(1)
+                ..ONE
             },
         ],
         status: Status::PortFault,
@@ -197,7 +203,7 @@ const ROWS: &[Row] = &[
         ..PLAIN
     },
     Row {
-        lanes: &[asked(3)],
+        lanes: &[THREE],
         failing_maps: &[0],
         status: Status::SinkFault,
         maps: "",
@@ -206,7 +212,7 @@ const ROWS: &[Row] = &[
     },
     Row {
         feed: "demand g2 4\ncommit\nshow\n",
-        lanes: &[asked(3)],
+        lanes: &[THREE],
         failing_maps: &[1],
         status: Status::SinkFault,
         served: &[(3, 3)],
@@ -236,7 +242,7 @@ const ROWS: &[Row] = &[
         ..PLAIN
     },
     Row {
-        lanes: &[asked(5)],
+        lanes: &[FIVE],
         turns: 3,
         status: Status::Spent,
         served: &[(3, 3)],
@@ -245,7 +251,7 @@ const ROWS: &[Row] = &[
     Row {
         lanes: &[Script {
             goes: 2,
-            ..asked(5)
+            ..FIVE
         }],
         served: &[(2, 2)],
         ..PLAIN

@@ -154,7 +154,7 @@ fn lanes_run_at_once(rt: HostRuntime) -> Result<(), Fail> {
         100,
     );
     assert!(rt; status == Status::Ok && !marks.is_late());
-    assert!(rt; out.bytes() == b"published 1\npublished 2\n");
+    assert!(rt; out.bytes() == b"published 1\npublished 2\n".as_slice());
     let [first, second, ..] = lanes.as_slice() else {
         return Ok(());
     };
