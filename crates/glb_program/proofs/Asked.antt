@@ -51,15 +51,16 @@ refused_more (Ok t) told asked n xs a b c is one h = tt
 refused_more (Err e) told asked n xs a b c is one h = more_refused told asked n e xs a b c is one h
 
 -- the only lane
-pub single : {L : Type 0} (xs : List L) (x : L) → length xs ≡ 1 → x ≡ get_or xs 0 x → xs ≡ x ∷ []
-single (y ∷ []) x one at = ap (λ z. z ∷ []) (sym at)
-single [] x one at = absurd (cc)
-single (y ∷ z ∷ xs) x one at = absurd (cc)
-
-pub one_asked : {T E L : Type 0} (r : Result T E) (told : L → LaneTold) (asked : L → ℕ) (n : ℕ) (xs : List L) (x y : L) → xs ≡ x ∷ [] → IfOk r (λ _. IsAskedAll n (asked x ∷ []) (asked y ∷ []) (told x ∷ []) (told y ∷ []))
+pub one_asked : {T E L : Type 0} (r : Result T E) (told : L → LaneTold) (asked : L → ℕ) (n : ℕ) (xs : List L) (d y : L) → length xs ≡ 1
+    → IfOk r (λ _. IsAskedAll n (asked (get_or xs 0 d) ∷ []) (asked y ∷ []) (told (get_or xs 0 d) ∷ []) (told y ∷ []))
     → IfOk r (λ _. IsAskedAll n (map asked xs) (map asked (slice_set xs 0 y)) (map told xs) (map told (slice_set xs 0 y)))
-one_asked r told asked n xs x y is h = rw is h
+one_asked r told asked n (x ∷ []) d y one h = h
+one_asked r told asked n [] d y one h = absurd (cc)
+one_asked r told asked n (x ∷ z ∷ xs) d y one h = absurd (cc)
 
-pub one_refused : {T L : Type 0} (r : Result T OpenFault) (told : L → LaneTold) (asked : L → ℕ) (n : ℕ) (xs : List L) (x y : L) → xs ≡ x ∷ [] → IfErr r (λ e. IsAskedSome n e (asked x ∷ []) (asked y ∷ []) (told x ∷ []) (told y ∷ []))
+pub one_refused : {T L : Type 0} (r : Result T OpenFault) (told : L → LaneTold) (asked : L → ℕ) (n : ℕ) (xs : List L) (d y : L) → length xs ≡ 1
+    → IfErr r (λ e. IsAskedSome n e (asked (get_or xs 0 d) ∷ []) (asked y ∷ []) (told (get_or xs 0 d) ∷ []) (told y ∷ []))
     → IfErr r (λ e. IsAskedSome n e (map asked xs) (map asked (slice_set xs 0 y)) (map told xs) (map told (slice_set xs 0 y)))
-one_refused r told asked n xs x y is h = rw is h
+one_refused r told asked n (x ∷ []) d y one h = h
+one_refused r told asked n [] d y one h = absurd (cc)
+one_refused r told asked n (x ∷ z ∷ xs) d y one h = absurd (cc)

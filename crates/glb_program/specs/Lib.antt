@@ -15,5 +15,6 @@ pub mod Causes
 pub mod Serve
 pub mod Served
 pub mod Program
+pub mod Ran
 pub mod Starting
 pub mod Ending

@@ -1,9 +1,12 @@
 //! `glb`, the mapping system of a content delivery network.
 #![tactic(auto)]
 
-ghost use Rattle.std.specs.Prelude.{◌≡◌};
+ghost use Rattle.std.specs.Prelude.{◌≡◌, ◌^◌, IfOk};
 ghost use Rattle.std.specs.Process.{exit_status};
+ghost use Rattle.command_line.specs.Asked.{texts};
 ghost use Rattle.glb_program.specs.Outcome.{code_of};
+ghost use Rattle.glb_program.specs.Ran.{HasRun};
+ghost use Rattle.glb_program.specs.Words.{asked};
 
 mod answer;
 mod check;
@@ -68,7 +71,9 @@ fn run_words<R: Threads + Wait + Sync + Files + AllocGlobal>(
     rt: &R,
     words: &[String],
     streams: Streams,
-) -> Result<Status, NoMemory> {
+) -> Result<Status, NoMemory>
+    ensures { IfOk result (HasRun (2 ^ 48) (asked (texts words.now))) }
+{
     let mut lanes = quiet_lanes(rt.alloc())?;
     let mut pace = MemPace::new(rt.alloc(), 0)?;
     let mut files = FileShelf::new(rt);
