@@ -1,0 +1,7 @@
+//! Drives.
+use std::test::Fail;
+
+#[test]
+fn nothing(_rt: HostRuntime) -> Result<(), Fail> {
+    Ok(())
+}
