@@ -23,10 +23,10 @@ pub record IsShut (before after : Eyes Version) (served ended : Ended) : Type 0 
   pub rose : Rose before.faults after.faults
   pub ended_is : ended ≡ shut served
 
--- the look was at the newest map, and what was seen and told before begins the history
+-- the look was at the newest map: what was seen before, and all that is known behind it, begins the history
 pub record IsWithin (h : List Version) (before after : Eyes Version) (served ended : Ended) : Type 0 where
   pub seen : IsPrefix before.seen h
-  pub told : IsPrefix before.told h
+  pub told : IsPrefix after.told h
   pub ended_is : ended ≡ served
 
 -- the look was past the newest map, at the end of a longer history
