@@ -29,7 +29,7 @@ entries_known n [] p = λ k d lt. absurd (omega (arith, lt))
 entries_known n (t ∷ log) p = entry_known n t.known t.came (entries_of log) (p 0 t (omega arith)) (entries_known n log (λ k d lt. p (suc k) d (omega (arith, lt))))
 
 -- what a lane's turns took and tried, as a run over the history
-IsOne : List Version → ℕ → LaneLog → Type 0
+abbrev pub IsOne : List Version → ℕ → LaneLog → Type 0
 IsOne h w l = IsLaneRun replies h w 0 0 l.taken l.tries × All (λ e. e.known < length h) l.taken
 
 one_run : (first : Version) (rest : List Version) (w : ℕ) (log : List Turn) (over : List Version) (served e : Ended) (before after : LaneTold) → IsLaneRun replies over w 0 0 (entries_of log) (tries_of log)
@@ -37,7 +37,7 @@ one_run : (first : Version) (rest : List Version) (w : ℕ) (log : List Turn) (o
 one_run first rest w log over served e before after run (inl newest) = (subst (λ h. IsLaneRun replies h w 0 0 (entries_of log) (tries_of log)) newest.same run, entries_known (length (first ∷ rest)) log newest.known)
 one_run first rest w log over served e before after run (inr other) = (tt, λ k d lt. absurd (omega (arith, lt)))
 
-pub are_runs : (turns : ℕ) (first : Version) (rest : List Version) (w : ℕ) (ends : List Ended) (before after : List LaneTold) (d : AreDone turns first rest w ends before after) → AreRuns replies (first ∷ rest) w (logs_of ends before after d)
+pub are_runs : (turns : ℕ) (first : Version) (rest : List Version) (w : ℕ) (ends : List Ended) (before after : List LaneTold) (d : AreDone turns first rest w ends before after) → AreRuns replies (first ∷ rest) w (logs_of turns first rest w ends before after d)
 are_runs turns first rest w [] before after d = tt
 are_runs turns first rest w (e ∷ ends) [] after d = absurd d
 are_runs turns first rest w (e ∷ ends) (b ∷ before) [] d = absurd d

@@ -24,7 +24,7 @@ later_rose : (x y z : ℕ) → Rose x y → y ≤ z → Rose x z
 later_rose x y z r le = omega (arith, le, r)
 
 -- a moment of a lane, as it tells it
-told_of : {T : Type 0} → Moment Version T → Eyes Version → LaneTold
+abbrev pub told_of : {T : Type 0} → Moment Version T → Eyes Version → LaneTold
 told_of m e = record { port = m.port; port_faults = m.port_faults; gate = m.gate; looks = e.looks; greatest = e.greatest; door_faults = e.faults }
 
 -- the same of a lane over one history or another

@@ -1,7 +1,9 @@
 -- The versions that a feed's run publishes go on one from the other.
 use Rattle.std.proofs.Common.{◌≡◌, ◌⊎◌, ℕ, zero, suc, ◌+◌, ◌-◌, ◌<◌, ◌≤◌, List, [], ◌∷◌, ◌++◌, length, slice_get, Option, Some, inl, inr, refl, sym, ap, subst, ◌∙◌, arith, append_assoc, append-nil, length-append, ⊎_elim}
 use Rattle.map_model.specs.declared.change.Change.{Change}
+use Rattle.outside.specs.Sink.{Written}
 use Rattle.outside.specs.Source.{Fed}
+use Rattle.outside.specs.declared.pace.PaceCall.{PaceCall}
 use Rattle.topology_text.specs.Plan.{Plan}
 use Rattle.demand_feed.specs.Item.{Item, refused, batch, empty, spoiled, query, totals}
 use Rattle.demand_feed.specs.declared.run.FeedEnd.{FeedEnd}
@@ -12,11 +14,11 @@ use Rattle.lane_model.specs.Histories.{Follows}
 use Rattle.lane_model.specs.Machine.{GoesOn}
 use Rattle.mapper.specs.Control.{AllCome, Comes, Course, IsNext, start, with_line}
 use Rattle.mapper.specs.Feeding.{AllCame, HasEnded, IsFeed, WasCut}
-use Rattle.mapper.specs.Scenes.{Scene}
+use Rattle.mapper.specs.Scenes.{Scene, scene}
 use Rattle.drive.specs.Driven.{Succeeds}
 
 -- each version comes of the one before it, from an old one to the last
-Chain : Version → List Version → Version → Type 0
+abbrev pub Chain : Version → List Version → Version → Type 0
 Chain old [] last = last ≡ old
 Chain old (v ∷ versions) last = ((changes : List Change) × IsNext old changes v) × Chain v versions last
 
@@ -25,7 +27,7 @@ chained a b c [] ys p q = subst (λ v. Chain v ys c) p q
 chained a b c (x ∷ xs) ys p q = (p.0, chained x b c xs ys p.1 q)
 
 -- a course went on to another one
-Went : Course → Course → Type 0
+abbrev pub Went : Course → Course → Type 0
 Went c d = (versions : List Version) × (d.versions ≡ c.versions ++ versions) × Chain c.newest versions d.newest
 
 stays : (c d : Course) → d.versions ≡ c.versions → d.newest ≡ c.newest → Went c d
@@ -48,7 +50,7 @@ items_went [] c d is = stays c d (ap (λ x. x.versions) is) (ap (λ x. x.newest)
 items_went (item ∷ items) c d p = goes c p.0 d (item_went item c p.0 p.1) (items_went items p.0 d p.2)
 
 -- what is told went on
-Grew : Scene → Scene → Type 0
+abbrev pub Grew : Scene → Scene → Type 0
 Grew before after = (versions : List Version) × (after.history ≡ before.history ++ versions) × Chain before.newest versions after.newest
 
 grew : (before after : Scene) (c : Course) → Went (start before.newest) c → after.newest ≡ c.newest → after.history ≡ before.history ++ c.versions → Grew before after
@@ -97,3 +99,9 @@ feed_goes_on t turns end fed fed' before after first rest f newest opened histor
 pub follow_all : (h rest : List Version) → GoesOn Succeeds h rest → GoesOn Follows h rest
 follow_all h [] g = tt
 follow_all h (v ∷ rest) g = ((g.0.0, g.0.1, g.0.2, record { serial = g.0.3.serial; plan = g.0.3.plan; applied = g.0.3.applied; version = g.0.4 }), follow_all (h ++ v ∷ []) rest g.1)
+
+-- a feed's run, whose histories are told by equations
+pub feed_over : (t : Plan) (turns : ℕ) (end : FeedEnd) (fed fed' : Option Fed) (first last : Version) (h h' g g' : List Version) (out maps out' maps' : Option Written) (pace pace' : Option (List PaceCall)) → h ≡ g → h' ≡ g'
+    → IsFeed t turns end fed fed' (scene first h out maps pace) (scene last h' out' maps' pace') → IsFeed t turns end fed fed' (scene first g out maps pace) (scene last g' out' maps' pace')
+feed_over t turns end fed fed' first last h h' g g' out maps out' maps' pace pace' same same' f =
+    subst (λ (x : List Version). IsFeed t turns end fed fed' (scene first g out maps pace) (scene last x out' maps' pace')) same' (subst (λ (x : List Version). IsFeed t turns end fed fed' (scene first x out maps pace) (scene last h' out' maps' pace')) same f)

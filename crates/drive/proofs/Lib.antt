@@ -4,3 +4,4 @@ pub mod Holding
 pub mod Finished
 pub mod Growing
 pub mod Events
+pub mod Ends

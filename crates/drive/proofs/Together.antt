@@ -1,5 +1,5 @@
 -- What each lane did, one after the other.
-use Rattle.std.proofs.Common.{◌≡◌, ℕ, ◌+◌, List, [], ◌∷◌, ◌++◌, map, refl}
+use Rattle.std.proofs.Common.{◌≡◌, ℕ, ◌+◌, List, [], ◌∷◌, ◌++◌, map, refl, subst, sym}
 use Rattle.published_map.specs.Version.{Version}
 use Rattle.lane_model.specs.declared.ended.Ended.{Ended}
 use Rattle.drive.specs.All.{AllRan}
@@ -24,7 +24,7 @@ all_done R C F D f i (a ∷ ls) (b ∷ bs) (c ∷ cs) (v ∷ vs) (w ∷ ws) [] h
 all_done R C F D f i (a ∷ ls) (b ∷ bs) (c ∷ cs) (v ∷ vs) (w ∷ ws) (x ∷ xs) h p q = (f i a b c v w x h.0 p.0 q.0, all_done R C F D f (i + 1) ls bs cs vs ws xs h.1 p.1 q.1)
 
 -- lanes that are done, as they tell it, with others behind them
-pub are_done : {A W : Type 0} (tell : A → LaneTold) (ended : W → Ended) (turns : ℕ) (first : Version) (rest : List Version) (i : ℕ) (ls cs behind : List A) (xs : List W)
+are_done : {A W : Type 0} (tell : A → LaneTold) (ended : W → Ended) (turns : ℕ) (first : Version) (rest : List Version) (i : ℕ) (ls cs behind : List A) (xs : List W)
     → AllDone (λ k a c x. IsDone turns first rest k (tell a) (tell c) (ended x)) i ls cs xs → AreDone turns first rest i (map ended xs) (map tell (ls ++ behind)) (map tell (cs ++ behind))
 are_done tell ended turns first rest i [] [] behind [] d = refl
 are_done tell ended turns first rest i [] [] behind (x ∷ xs) d = absurd d
@@ -32,3 +32,8 @@ are_done tell ended turns first rest i [] (c ∷ cs) behind xs d = absurd d
 are_done tell ended turns first rest i (a ∷ ls) [] behind xs d = absurd d
 are_done tell ended turns first rest i (a ∷ ls) (c ∷ cs) behind [] d = absurd d
 are_done tell ended turns first rest i (a ∷ ls) (c ∷ cs) behind (x ∷ xs) d = (d.0, are_done tell ended turns first rest (i + 1) ls cs behind xs d.1)
+
+pub are_done_in : {A W : Type 0} (tell : A → LaneTold) (ended : W → Ended) (turns : ℕ) (first : Version) (rest : List Version) (all ls cs behind : List A) (xs : List W) → all ≡ ls ++ behind
+    → AllDone (λ k a c x. IsDone turns first rest k (tell a) (tell c) (ended x)) 0 ls cs xs → AreDone turns first rest 0 (map ended xs) (map tell all) (map tell (cs ++ behind))
+are_done_in {A = A} tell ended turns first rest all ls cs behind xs is d =
+    subst (λ (l : List A). AreDone turns first rest 0 (map ended xs) (map tell l) (map tell (cs ++ behind))) (sym is) (are_done tell ended turns first rest 0 ls cs behind xs d)

