@@ -5,4 +5,3 @@ pub mod Done
 pub mod Driven
 pub mod Fed
 pub mod Laws
-pub mod Stub

@@ -1,9 +1,9 @@
 //! What the mapper's side of a drive is lent, and how its feed is run.
 
 use crate::feeding::Feeding;
-use crate::stub::Mapper;
 use demand_feed::FeedEnd;
 use map_cell::{Naming, NoteRow};
+use mapper::Mapper;
 use outside::{Pace, Sink, Source};
 use std::sync::Wait;
 

@@ -6,7 +6,6 @@ mod feeding;
 mod joins;
 mod lane;
 mod laws;
-mod stub;
 mod whole;
 
 pub use lane::Lane;

@@ -1,3 +1,0 @@
--- STAND-IN
-unfoldable pub Never : Type 0
-Never = ⊥
