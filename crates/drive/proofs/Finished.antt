@@ -43,6 +43,7 @@ done_over number turns first rest w m m' f served e one c q over run which =
       run = run;
       told = c.all.told 0 some;
       within = λ k d lt. let known = c.all.within k d lt in omega (arith, one, known, c.all.rise.above, q.rise.rising);
+      last = omega (arith, one, c.shown_is, c.all.rise.above, q.rise.rising);
       port = c.all.port;
       gate = c.gate;
       ending = c.ending;

@@ -53,6 +53,7 @@ pub record IsDone (turns : ℕ) (first : Version) (rest : List Version) (w : ℕ
   pub run : IsLaneRun replies over w 0 0 (entries_of log) (tries_of log)
   pub told : IsTold 0 log
   pub within : All (λ t. floor_after t.known t.came ≤ after.greatest) log
+  pub last : shown ≤ after.greatest
   pub port : BothTell before.port after.port (λ b c. c ≡ fold port_turn b log)
   pub gate : BothTell before.gate after.gate (IsGateRun shown log served)
   pub ending : IsEnd turns log served
