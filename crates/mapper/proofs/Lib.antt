@@ -2,3 +2,7 @@ mod Tellings
 pub mod Courses
 pub mod Chains
 mod Together
+mod Followed
+mod Counted
+mod Fresh
+pub mod Nexts

@@ -2,6 +2,8 @@ pub mod Texts
 pub mod Sayings
 pub mod Words
 pub mod Control
+pub mod Mappers
+pub mod Currents
 pub mod Scenes
 pub mod Feeding
 pub mod Coming

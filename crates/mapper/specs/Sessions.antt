@@ -17,18 +17,18 @@ told_by newest history told paced s = scene (newest s.mapper.now) (history s.map
 abbrev pub IsSame : {R X K M : Type 0} → Session R X K M → Session R X K M → Type 0
 IsSame a b = (b.mapper.ghost_name ≡ a.mapper.ghost_name) × (b.out.ghost_name ≡ a.out.ghost_name) × (b.maps.ghost_name ≡ a.maps.ghost_name) × (b.pace.ghost_name ≡ a.pace.ghost_name)
 
--- the same things are lent, and no count of faults fell
-abbrev pub Keeps : {R X K M : Type 0} → (K → ℕ) → Session R X K M → Session R X K M → Type 0
-Keeps faults a b = IsSame a b × (faults a.out.now ≤ faults b.out.now) × (faults a.maps.now ≤ faults b.maps.now)
+-- the same things are lent, what is lent to the mapper too, and no count of faults fell
+abbrev pub Keeps : {R X K M : Type 0} → (X → ℕ) → (K → ℕ) → Session R X K M → Session R X K M → Type 0
+Keeps lent faults a b = IsSame a b × (lent b.mapper.now ≡ lent a.mapper.now) × (faults a.out.now ≤ faults b.out.now) × (faults a.maps.now ≤ faults b.maps.now)
 
 -- a count of faults rose
 abbrev pub HasFault : {R X K M : Type 0} → (K → ℕ) → Session R X K M → Session R X K M → Type 0
 HasFault faults a b = Rose (faults a.out.now) (faults b.out.now) ⊎ Rose (faults a.maps.now) (faults b.maps.now)
 
 -- an item that is taken whole
-abbrev pub SessionDoes : {R X K M : Type 0} → (X → Version) → (X → List Version) → (K → Option Written) → (K → ℕ) → (M → Option (List PaceCall)) → Item → Session R X K M → Session R X K M → Type 0
-SessionDoes newest history told faults paced item a b = Keeps faults a b × Does item (told_by newest history told paced a) (told_by newest history told paced b)
+abbrev pub SessionDoes : {R X K M : Type 0} → (X → Version) → (X → List Version) → (X → ℕ) → (K → Option Written) → (K → ℕ) → (M → Option (List PaceCall)) → Item → Session R X K M → Session R X K M → Type 0
+SessionDoes newest history lent told faults paced item a b = Keeps lent faults a b × Does item (told_by newest history told paced a) (told_by newest history told paced b)
 
 -- an item of which a put failed
-abbrev pub SessionCuts : {R X K M : Type 0} → (X → Version) → (X → List Version) → (K → Option Written) → (K → ℕ) → (M → Option (List PaceCall)) → Item → Session R X K M → Session R X K M → Type 0
-SessionCuts newest history told faults paced item a b = Keeps faults a b × HasFault faults a b × Cuts item (told_by newest history told paced a) (told_by newest history told paced b)
+abbrev pub SessionCuts : {R X K M : Type 0} → (X → Version) → (X → List Version) → (X → ℕ) → (K → Option Written) → (K → ℕ) → (M → Option (List PaceCall)) → Item → Session R X K M → Session R X K M → Type 0
+SessionCuts newest history lent told faults paced item a b = Keeps lent faults a b × HasFault faults a b × Cuts item (told_by newest history told paced a) (told_by newest history told paced b)

@@ -42,6 +42,7 @@ fn publish<R: Wait, X: Mapping, K: Sink>(
 ) -> Put
     ensures newest { X.newest mapper.new ≡ X.newest mapper.old }
     ensures history { X.history mapper.new ≡ X.history mapper.old }
+    ensures lent { X.lent mapper.new ≡ X.lent mapper.old }
     ensures put { BothPut result (map_text (X.newest mapper.old)) (text.published serial) (K.told maps.old) (K.told maps.new) (K.told out.old) (K.told out.new) }
     ensures later { (K.faults out.old ≤ K.faults out.new) × (K.faults maps.old ≤ K.faults maps.new) }
     ensures cause { result ≡ Put.Failed → Rose (K.faults out.old) (K.faults out.new) ⊎ Rose (K.faults maps.old) (K.faults maps.new) }
@@ -74,6 +75,7 @@ fn commit<R: Wait, X: Mapping, K: Sink>(
     ensures came { (before : Scene) (base c : Course) (pace : Option (List PaceCall)) → base.out ≡ c.out → base.maps ≡ c.maps → IsAt before c (scene (X.newest mapper.old) (X.history mapper.old) (K.told out.old) (K.told maps.old) pace)
         → Came result before base (λ d. IsCommit c batch.now d ⊎ (d ≡ with_line c text.memory)) (scene (X.newest mapper.new) (X.history mapper.new) (K.told out.new) (K.told maps.new) pace) }
     ensures plan { (X.newest mapper.new).plan ≡ (X.newest mapper.old).plan }
+    ensures lent { X.lent mapper.new ≡ X.lent mapper.old }
     ensures serial { (X.newest mapper.new).serial ≤ (X.newest mapper.old).serial + 1 }
     ensures later { (K.faults out.old ≤ K.faults out.new) × (K.faults maps.old ≤ K.faults maps.new) }
     ensures cause { result ≡ Put.Failed → Rose (K.faults out.old) (K.faults out.new) ⊎ Rose (K.faults maps.old) (K.faults maps.new) }
@@ -132,6 +134,7 @@ pub(crate) fn come<R: Wait, X: Mapping, K: Sink, M: Pace>(
     ensures came { (before : Scene) (c : Course) → IsAt before c (scene (X.newest mapper.old) (X.history mapper.old) (K.told out.old) (K.told maps.old) (M.told pace.old))
         → Came result before c (ComesOf (item_by due.now next.now) c) (scene (X.newest mapper.new) (X.history mapper.new) (K.told out.new) (K.told maps.new) (M.told pace.new)) }
     ensures plan { (X.newest mapper.new).plan ≡ (X.newest mapper.old).plan }
+    ensures lent { X.lent mapper.new ≡ X.lent mapper.old }
     ensures serial { (X.newest mapper.new).serial ≤ (X.newest mapper.old).serial + 1 }
     ensures said { result ≡ Put.Failed → IsSome (item_by due.now next.now) }
     ensures later { (K.faults out.old ≤ K.faults out.new) × (K.faults maps.old ≤ K.faults maps.new) }

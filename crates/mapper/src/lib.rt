@@ -1,11 +1,17 @@
 //! The mapper: a feed's batches become maps, each good, and its questions are answered by the newest one.
 #![tactic(auto)]
 
+mod adding;
 mod come;
+mod current;
+mod feeding;
+mod mapper;
 mod mapping;
+mod maps;
 mod saying;
 mod session;
 
+pub use mapper::Mapper;
 pub use mapping::Mapping;
 pub use saying::{LINE_ROOM, Saying, Spoken, Totals};
 pub use session::run_feed;

@@ -15,7 +15,7 @@ use std::sync::Wait;
 
 /// Who holds the newest map of a topology, and makes the next ones.
 pub trait Mapping {
-    ghost use Rattle.std.specs.Prelude.{List};
+    ghost use Rattle.std.specs.Prelude.{List, ℕ};
     ghost use Rattle.published_map.specs.Version.{Version};
 
     /// The newest version.
@@ -24,6 +24,9 @@ pub trait Mapping {
     /// All versions that were published.
     ghost history: { Self → List Version };
 
+    /// Which mapper it works on, where that is lent to it.
+    ghost lent: { Self → ℕ };
+
     /// Publishes the version that a batch leads to, and answers its serial.
     fn commit<R: Wait>(&mut self, rt: &R, batch: &Batch) -> Result<u64, NoMemory>
         requires ids { IsBatch (newest self.old).plan.market batch.now }
@@ -31,12 +34,14 @@ pub trait Mapping {
         requires serial { (newest self.old).serial < 2 ^ 64 - 1 }
         ensures next { IfOk result (λ s. IsNext (newest self.old) batch.now (newest self.new) × (s ≡ (newest self.new).serial)) }
         ensures history { IfOk result (λ _. history self.new ≡ history self.old ++ newest self.new ∷ []) }
-        ensures same { OnErr result ((newest self.new ≡ newest self.old) × (history self.new ≡ history self.old)) };
+        ensures same { OnErr result ((newest self.new ≡ newest self.old) × (history self.new ≡ history self.old)) }
+        ensures lent { lent self.new ≡ lent self.old };
 
     /// Tells those who look at maps of the newest one.
     fn tell<R: Wait>(&mut self, rt: &R)
         ensures newest { newest self.new ≡ newest self.old }
-        ensures history { history self.new ≡ history self.old };
+        ensures history { history self.new ≡ history self.old }
+        ensures lent { lent self.new ≡ lent self.old };
 
     /// The newest serial.
     fn serial(&self) -> u64

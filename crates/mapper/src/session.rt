@@ -1,5 +1,6 @@
 //! A run over a feed: its items come to the mapper, to both outputs and to the pace.
 ghost use Rattle.std.specs.Prelude.{◌≡◌, ◌≢◌, ◌⊎◌, ◌<◌, ◌≤◌, ◌-◌, ◌^◌, ◌↔◌, ℕ, List, None, IsTrue};
+ghost use mathlib.Core.List.{IsPrefix};
 ghost use Rattle.map_model.specs.declared.change.Change.{Change};
 ghost use Rattle.outside.specs.Faults.{Rose};
 ghost use Rattle.demand_feed.specs.Clerk.{item_by};
@@ -38,9 +39,9 @@ impl<R: Wait, X: Mapping, K: Sink, M: Pace> TakesItems
     ghost use Rattle.std.specs.Prelude.{◌-◌, ◌^◌};
     ghost use Rattle.mapper.specs.Sessions.{SessionCuts, SessionDoes};
 
-    ghost does = { λ item a b. SessionDoes X.newest X.history K.told K.faults M.told item a b };
+    ghost does = { λ item a b. SessionDoes X.newest X.history X.lent K.told K.faults M.told item a b };
 
-    ghost cuts = { λ item a b. SessionCuts X.newest X.history K.told K.faults M.told item a b };
+    ghost cuts = { λ item a b. SessionCuts X.newest X.history X.lent K.told K.faults M.told item a b };
 
     ghost market = { λ s. (X.newest s.mapper.now).plan.market };
 
@@ -78,7 +79,7 @@ fn work<R: Wait, S: Source, X: Mapping, K: Sink, M: Pace>(
     requires turns { turns ≤ MOST_TURNS }
     requires plan { (X.newest session.old.mapper.now).plan ≡ topology.now }
     requires serial { (X.newest session.old.mapper.now).serial < 2 ^ 63 }
-    ensures keeps { Keeps K.faults session.old session.new }
+    ensures keeps { Keeps X.lent K.faults session.old session.new }
     ensures run { IsFeedRun topology.now turns result (S.told feed.old) (S.told feed.new) (told_by X.newest X.history K.told M.told session.old) (told_by X.newest X.history K.told M.told session.new) }
     ensures sink { result ≡ FeedEnd.SinkFault → HasFault K.faults session.old session.new }
     ensures source { result ≡ FeedEnd.SourceFault → Rose (S.faults feed.old) (S.faults feed.new) }
@@ -99,8 +100,10 @@ fn finish<R: Wait, S: Source, X: Mapping, K: Sink, M: Pace>(
     requires turns { turns ≤ MOST_TURNS }
     requires plan { (X.newest session.old.mapper.now).plan ≡ topology.now }
     requires serial { (X.newest session.old.mapper.now).serial < 2 ^ 63 }
-    ensures keeps { Keeps K.faults session.old session.new }
+    ensures keeps { Keeps X.lent K.faults session.old session.new }
     ensures run { IsFeed topology.now turns result (S.told feed.old) (S.told feed.new) (told_by X.newest X.history K.told M.told session.old) (told_by X.newest X.history K.told M.told session.new) }
+    ensures plan { (X.newest session.new.mapper.now).plan ≡ (X.newest session.old.mapper.now).plan }
+    ensures kept { IsPrefix (X.history session.old.mapper.now) (X.history session.new.mapper.now) }
     ensures sink { result ≡ FeedEnd.SinkFault → HasFault K.faults session.old session.new }
     ensures source { result ≡ FeedEnd.SourceFault → Rose (S.faults feed.old) (S.faults feed.new) }
     ensures source_later { S.faults feed.old ≤ S.faults feed.new }
@@ -130,6 +133,9 @@ pub fn run_feed<R: Wait, S: Source, X: Mapping, K: Sink, M: Pace>(
     requires plan { (X.newest mapper.old).plan ≡ topology.now }
     requires serial { (X.newest mapper.old).serial < 2 ^ 63 }
     ensures run { IsFeed topology.now turns result (S.told feed.old) (S.told feed.new) (scene (X.newest mapper.old) (X.history mapper.old) (K.told out.old) (K.told maps.old) (M.told pace.old)) (scene (X.newest mapper.new) (X.history mapper.new) (K.told out.new) (K.told maps.new) (M.told pace.new)) }
+    ensures lent { X.lent mapper.new ≡ X.lent mapper.old }
+    ensures plan { (X.newest mapper.new).plan ≡ (X.newest mapper.old).plan }
+    ensures kept { IsPrefix (X.history mapper.old) (X.history mapper.new) }
     ensures later { (K.faults out.old ≤ K.faults out.new) × (K.faults maps.old ≤ K.faults maps.new) }
     ensures sink { result ≡ FeedEnd.SinkFault → Rose (K.faults out.old) (K.faults out.new) ⊎ Rose (K.faults maps.old) (K.faults maps.new) }
     ensures source { result ≡ FeedEnd.SourceFault → Rose (S.faults feed.old) (S.faults feed.new) }

@@ -1,9 +1,25 @@
-//! Lines of control text.
+//! Lines of control text, feeds over a mapper, and commits.
+ghost use Rattle.std.specs.Prelude.{◌≡◌, ◌+◌, ◌<◌, ◌≤◌, ◌^◌, IfSome};
+ghost use Rattle.demand_feed.specs.Changing.{IsChangeLine};
+
 use crate::saying::write;
-use crate::{Saying, Spoken, Totals};
+use crate::{Mapper, Saying, Spoken, Totals};
 use arrayvec::ArrayVec;
-use demand_feed::{BatchFault, LineFault, Refusal};
+use demand_feed::{Batch, BatchFault, FeedEnd, Line, LineFault, Refusal};
+use map_cell::{EmptyHistory, Naming, NoteRow, PlainDoor};
+use map_model::{Instance, MapLines, Steps};
+use no_memory::NoMemory;
+use outside::{MemPace, MemSink, MemSource};
+use stable_check::{CheckRoom, Verdict, check};
+use std::alloc::Global;
+use std::marker::Brand;
+use std::sync::Wait;
 use std::test::Fail;
+use topology_text::read_topology;
+use worlds::EXAMPLE_TREE;
+
+/// The proposals of these tests, as what is counted.
+struct Counted;
 
 /// Whether a line of control text is this one.
 fn says(saying: &Saying, text: &[u8]) -> bool {
@@ -37,5 +53,443 @@ fn lines(rt: HostRuntime) -> Result<(), Fail> {
     let mut octets = ArrayVec::new();
     octets.try_extend_from_slice(&[0x12, 0xaf])?;
     assert!(rt; says(&Saying::Answer(1, Some(octets)), b"answer 1 12af\n"));
+    Ok(())
+}
+
+/// A feed over a mapper of the example, and what comes of it.
+struct Row {
+    feed: &'static str,
+    /// The puts that fail, by their numbers from 0.
+    out_fails: &'static [u64],
+    maps_fails: &'static [u64],
+    end: FeedEnd,
+    out: &'static str,
+    maps: &'static str,
+}
+
+const SESSION: &str = "demand g2 4
+commit
+ask 198.51.100.7 123401000001000000000000037777770363646e076578616d706c650000010001
+show
+commit
+stop
+";
+
+const PUBLISHED: &str = "published 1
+";
+
+const ANSWERED: &str = "published 1
+answer 1 123485000001000100000000037777770363646e076578616d706c650000010001c00c00010001000000140004c0000201
+";
+
+const SHOWN: &str = "published 1
+answer 1 123485000001000100000000037777770363646e076578616d706c650000010001c00c00010001000000140004c0000201
+show 1 placed 12 unplaced 0 full 1
+";
+
+const SAID: &str = "published 1
+answer 1 123485000001000100000000037777770363646e076578616d706c650000010001c00c00010001000000140004c0000201
+show 1 placed 12 unplaced 0 full 1
+published 1
+";
+
+const SECOND_MAP: &str = "glb map 1
+place g1 A 8
+place g2 A 2
+place g2 B 2
+full g2 A A
+end
+";
+
+const REFUSED: &str = "demand nobody 3
+demand g1 5
+commit
+stop
+";
+
+const DROPPED: &str = "refused 1 unknown name
+refused commit lines 1
+";
+
+/// The session, a batch that a refused line drops, no feed, a line that no LF ends, and a query without a reply.
+const ROWS: [Row; 5] = [
+    Row {
+        feed: SESSION,
+        out_fails: &[],
+        maps_fails: &[],
+        end: FeedEnd::Ended,
+        out: SAID,
+        maps: SECOND_MAP,
+    },
+    Row {
+        feed: REFUSED,
+        out_fails: &[],
+        maps_fails: &[],
+        end: FeedEnd::Ended,
+        out: DROPPED,
+        maps: "",
+    },
+    Row {
+        feed: "",
+        out_fails: &[],
+        maps_fails: &[],
+        end: FeedEnd::Ended,
+        out: "",
+        maps: "",
+    },
+    Row {
+        feed: "show",
+        out_fails: &[],
+        maps_fails: &[],
+        end: FeedEnd::Ended,
+        out: "show 0 placed 15 unplaced 1 full 2\n",
+        maps: "",
+    },
+    Row {
+        feed: "ask 198.51.100.7 1234\n",
+        out_fails: &[],
+        maps_fails: &[],
+        end: FeedEnd::Ended,
+        out: "answer 0 -\n",
+        maps: "",
+    },
+];
+
+/// The session, in which each of the five puts fails in turn.
+const CUTS: [Row; 5] = [
+    Row {
+        feed: SESSION,
+        out_fails: &[],
+        maps_fails: &[0],
+        end: FeedEnd::SinkFault,
+        out: "",
+        maps: "",
+    },
+    Row {
+        feed: SESSION,
+        out_fails: &[0],
+        maps_fails: &[],
+        end: FeedEnd::SinkFault,
+        out: "",
+        maps: SECOND_MAP,
+    },
+    Row {
+        feed: SESSION,
+        out_fails: &[1],
+        maps_fails: &[],
+        end: FeedEnd::SinkFault,
+        out: PUBLISHED,
+        maps: SECOND_MAP,
+    },
+    Row {
+        feed: SESSION,
+        out_fails: &[2],
+        maps_fails: &[],
+        end: FeedEnd::SinkFault,
+        out: ANSWERED,
+        maps: SECOND_MAP,
+    },
+    Row {
+        feed: SESSION,
+        out_fails: &[3],
+        maps_fails: &[],
+        end: FeedEnd::SinkFault,
+        out: SHOWN,
+        maps: SECOND_MAP,
+    },
+];
+
+/// What a feed is run with.
+#[derive(Drop)]
+struct Around {
+    feed: MemSource,
+    out: MemSink,
+    maps: MemSink,
+    pace: MemPace,
+}
+
+/// A feed in pieces of a size, with sinks that fail where the row says so.
+fn with_faults(alloc: Global, feed: &[u8], row: &Row, size: usize) -> Result<Around, NoMemory> {
+    let bytes = Vec::from_slice(alloc, feed)?;
+    let sizes = vec![in alloc; size; feed.len()]?;
+    let out_fails = Vec::from_slice(alloc, row.out_fails)?;
+    let maps_fails = Vec::from_slice(alloc, row.maps_fails)?;
+    Ok(Around {
+        feed: MemSource::new(alloc, bytes, sizes, Vec::new(alloc))?,
+        out: MemSink::new(alloc, 65_536, out_fails)?,
+        maps: MemSink::new(alloc, 65_536, maps_fails)?,
+        pace: MemPace::new(alloc, 64)?,
+    })
+}
+
+/// Whether a run ended and said as a row has it.
+fn is_as(row: &Row, end: FeedEnd, out: &[u8], maps: &[u8]) -> bool {
+    if out != row.out.as_bytes() {
+        return false;
+    }
+    if maps != row.maps.as_bytes() {
+        return false;
+    }
+    end == row.end
+}
+
+/// Whether a feed that comes in pieces of a size does to a mapper what a row says.
+fn feeds<J: Naming, R: Wait>(
+    rt: &R,
+    alloc: Global,
+    mapper: &mut Mapper<J>,
+    feed: &[u8],
+    row: &Row,
+    size: usize,
+) -> bool
+    requires { mapper.old.newest.serial < 2 ^ 63 }
+{
+    let Ok(around) = with_faults(alloc, feed, row, size) else {
+        return false;
+    };
+    let Around {
+        feed: source,
+        out: said,
+        maps: texts,
+        pace: calls,
+    } = around;
+    let mut source = source;
+    let mut said = said;
+    let mut texts = texts;
+    let mut calls = calls;
+    let Ok(notes) = NoteRow::new(alloc) else {
+        return false;
+    };
+    let end = mapper.run_feed(
+        rt,
+        &mut source,
+        &mut said,
+        &mut texts,
+        &mut calls,
+        &notes,
+        1_000_000,
+    );
+    is_as(row, end, said.bytes(), texts.bytes())
+}
+
+/// A mapper of the example.
+fn opened<J: Naming, R: Wait>(rt: &R, alloc: Global, history: EmptyHistory) -> Option<Mapper<J>>
+    requires { history ≡ J.book }
+    ensures { IfSome result (λ m. m.newest.serial ≡ 0) }
+{
+    let Ok(topology) = read_topology(alloc, EXAMPLE_TREE.as_bytes()) else {
+        return None;
+    };
+    let mut door = PlainDoor::new();
+    let mut steps = Steps::<Counted>::new();
+    match Mapper::open(rt, alloc, history, topology, 1, &mut door, &mut steps) {
+        Ok((mapper, _viewers)) => Some(mapper),
+        Err(_) => None,
+    }
+}
+
+/// Whether a feed does to a mapper of the example what a row says.
+fn runs_on<J: Naming, R: Wait>(
+    rt: &R,
+    alloc: Global,
+    history: EmptyHistory,
+    feed: &[u8],
+    row: &Row,
+    size: usize,
+) -> bool
+    requires { history ≡ J.book }
+{
+    match opened::<J, R>(rt, alloc, history) {
+        None => false,
+        Some(mapper) => {
+            let mut mapper = mapper;
+            let is = feeds(rt, alloc, &mut mapper, feed, row, size);
+            mapper.close(rt);
+            is
+        }
+    }
+}
+
+/// The same, of a cell of its own.
+fn runs<R: Wait>(rt: &R, alloc: Global, feed: &[u8], row: &Row, size: usize) -> bool {
+    runs_on::<Brand, R>(rt, alloc, EmptyHistory::new(), feed, row, size)
+}
+
+/// Whether each row is so, with its feed in pieces of that size.
+fn all_run<R: Wait>(rt: &R, alloc: Global, rows: &[Row], size: usize) -> bool {
+    for row in rows {
+        if !runs(rt, alloc, row.feed.as_bytes(), row, size) {
+            return false;
+        }
+    }
+    true
+}
+
+/// Whether it is so in pieces of each size.
+fn all_sizes<R: Wait>(rt: &R, alloc: Global, rows: &[Row], sizes: usize) -> bool {
+    for size in 0..sizes {
+        if !all_run(rt, alloc, rows, size) {
+            return false;
+        }
+    }
+    true
+}
+
+#[test]
+fn feeds_in_pieces(rt: HostRuntime) -> Result<(), Fail> {
+    assert!(rt; all_sizes(&rt, rt.alloc(), &ROWS, 24));
+    Ok(())
+}
+
+#[test]
+fn puts_fail_in_turn(rt: HostRuntime) -> Result<(), Fail> {
+    assert!(rt; all_run(&rt, rt.alloc(), &CUTS, 100));
+    Ok(())
+}
+
+/// So many times the same change, and a commit line.
+fn many_changes(alloc: Global, count: usize) -> Result<Vec<u8>, NoMemory> {
+    let mut feed = Vec::new(alloc);
+    for _ in 0..count {
+        feed.extend_from_slice(b"demand g2 4\n")?;
+    }
+    feed.extend_from_slice(b"commit\n")?;
+    Ok(feed)
+}
+
+/// Of a batch of 4,096 changes, and of one with one more.
+const FULL: [Row; 2] = [
+    Row {
+        feed: "",
+        out_fails: &[],
+        maps_fails: &[],
+        end: FeedEnd::Ended,
+        out: PUBLISHED,
+        maps: SECOND_MAP,
+    },
+    Row {
+        feed: "",
+        out_fails: &[],
+        maps_fails: &[],
+        end: FeedEnd::Ended,
+        out: "refused 4097 batch full\nrefused commit lines 1\n",
+        maps: "",
+    },
+];
+
+#[test]
+fn full_batches(rt: HostRuntime) -> Result<(), Fail> {
+    let full = many_changes(rt.alloc(), 4_096)?;
+    assert!(rt; runs(&rt, rt.alloc(), full.as_slice(), &FULL[0], 32_768));
+    let more = many_changes(rt.alloc(), 4_097)?;
+    assert!(rt; runs(&rt, rt.alloc(), more.as_slice(), &FULL[1], 32_768));
+    Ok(())
+}
+
+/// Whether the map is good for the instance.
+fn is_good(alloc: Global, instance: &Instance, map: &MapLines) -> bool {
+    match CheckRoom::new(alloc, instance) {
+        Err(_) => false,
+        Ok(room) => {
+            let mut room = room;
+            matches!(check(instance, map, &mut room), Verdict::Good)
+        }
+    }
+}
+
+/// A change of a round: another demand of one of the groups, or another capacity of the region.
+fn change_of(round: u64) -> Line<'static>
+    ensures { IsChangeLine result }
+{
+    match round % 3 {
+        0 => Line::Demand {
+            group: b"g1",
+            number: 1 + round % 13,
+        },
+        1 => Line::Demand {
+            group: b"g2",
+            number: 1 + round % 17,
+        },
+        _ => Line::Capacity {
+            node: b"R",
+            number: round % 23,
+        },
+    }
+}
+
+/// Whether a commit of one change gives a good map of the next serial.
+fn follows<J: Naming, R: Wait>(
+    rt: &R,
+    alloc: Global,
+    mapper: &mut Mapper<J>,
+    batch: &mut Batch,
+    round: u64,
+) -> bool
+    requires { mapper.old.newest.serial < 2 ^ 32 }
+    ensures { mapper.new.newest.serial ≤ mapper.old.newest.serial + 1 }
+{
+    batch.clear();
+    let line = change_of(round);
+    if batch.add(mapper.topology(), &line).is_err() {
+        return false;
+    }
+    let mut steps = Steps::<Counted>::new();
+    let next = mapper.commit(rt, batch, &mut steps);
+    let (instance, map) = mapper.newest_map();
+    next == Ok(round + 1) && is_good(alloc, instance, map)
+}
+
+/// Whether so many commits in a row each give a good map.
+fn all_follow<J: Naming, R: Wait>(
+    rt: &R,
+    alloc: Global,
+    mapper: &mut Mapper<J>,
+    batch: &mut Batch,
+    rounds: u64,
+) -> bool
+    requires serial { mapper.old.newest.serial ≡ 0 }
+    requires rounds { rounds < 2 ^ 32 }
+{
+    for round in 0..rounds {
+        if !follows(rt, alloc, mapper, batch, round) {
+            return false;
+        }
+    }
+    true
+}
+
+/// The same, of a mapper of the example, which is closed.
+fn commits_on<J: Naming, R: Wait>(
+    rt: &R,
+    alloc: Global,
+    history: EmptyHistory,
+    batch: &mut Batch,
+    rounds: u64,
+) -> bool
+    requires history { history ≡ J.book }
+    requires rounds { rounds < 2 ^ 32 }
+{
+    match opened::<J, R>(rt, alloc, history) {
+        None => false,
+        Some(mapper) => {
+            let mut mapper = mapper;
+            let is = all_follow(rt, alloc, &mut mapper, batch, rounds);
+            mapper.close(rt);
+            is
+        }
+    }
+}
+
+/// The same, of a cell of its own.
+fn commits<R: Wait>(rt: &R, alloc: Global, batch: &mut Batch, rounds: u64) -> bool
+    requires { rounds < 2 ^ 32 }
+{
+    commits_on::<Brand, R>(rt, alloc, EmptyHistory::new(), batch, rounds)
+}
+
+#[test]
+fn commits_in_a_row(rt: HostRuntime) -> Result<(), Fail> {
+    let mut batch = Batch::new(rt.alloc())?;
+    assert!(rt; commits(&rt, rt.alloc(), &mut batch, 5_000));
     Ok(())
 }

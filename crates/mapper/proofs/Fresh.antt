@@ -1,0 +1,13 @@
+-- How often groups may offer in a mapping from scratch.
+use Rattle.std.proofs.Common.{◌≡◌, ℕ, ◌+◌, ◌*◌, ◌-◌, ◌≤◌, length, ap, ◌∙◌, arith}
+use Rattle.map_model.specs.Market.{Market, choices_of, demand_of}
+use Rattle.evict.specs.Standing.{IsFresh, Standing}
+use Rattle.deferred_accept.specs.Runs.{most_proposals, proposals_of}
+use Rattle.deferred_accept.proofs.Sums.{sum-le}
+use Rattle.mapper.specs.Mappers.{most_offers}
+
+pub fresh_offers : (m : Market) (state : Standing) → IsFresh m state → most_proposals m state.pointers ≤ most_offers m
+fresh_offers m state fresh = sum-le (proposals_of m state.pointers) (λ g. length (choices_of m g) * (demand_of m g + 1)) (length m.groups) 0 (λ i le lt.
+    let none : length (choices_of m i) - 0 ≡ length (choices_of m i) = omega arith in
+    let same : proposals_of m state.pointers i ≡ length (choices_of m i) * (demand_of m i + 1) = ap (λ p. (length (choices_of m i) - p) * (demand_of m i + 1)) (fresh.pointers i (omega (arith, lt))) ∙ ap (λ n. n * (demand_of m i + 1)) none in
+    omega (arith, same))

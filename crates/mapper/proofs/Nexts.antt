@@ -1,0 +1,84 @@
+-- What a batch makes may be published, and is then the newest version.
+use Rattle.std.proofs.Common.{◌≡◌, ℕ, ◌+◌, true, IfOk, OnOk, Result, Ok, Err, List, [], ◌∷◌, ◌++◌, length, slice_get, Some, refl, sym, ap, subst, ◌∙◌, arith, length-append, slice_index_or}
+use Rattle.map_model.specs.declared.change.Change.{Change}
+use Rattle.map_model.specs.declared.change.Change.TheVariants.{Capacity, Demand}
+use Rattle.map_model.specs.Market.{IsMarket, IsSameShape, Market}
+use Rattle.map_model.specs.Allocation.{IsGood}
+use Rattle.map_model.specs.Batch.{IsApplied, IsBatch, IsChange}
+use Rattle.map_repair.specs.Repaired.{IsKept, IsLocal}
+use Rattle.map_model.proofs.Shapes.{shape_trans}
+use Rattle.topology_text.specs.Plan.{Plan}
+use Rattle.published_map.specs.declared.delta.Delta.{Delta}
+use Rattle.published_map.specs.Between.{IsBetween}
+use Rattle.published_map.specs.Changes.{after}
+use Rattle.published_map.specs.Version.{IsVersion, Version}
+use Rattle.published_map.proofs.Within.{after_is_version, within}
+use Rattle.map_cell.specs.Histories.{IsSealed}
+use Rattle.mapper.specs.Control.{IsNext}
+use Rattle.mapper.specs.Currents.{IsCurrent, IsPrepared, Makes, version_of}
+use Rattle.mapper.specs.declared.current.Current.{Current}
+
+-- the version after a batch is one
+next_version : (old new : Version) (changes : List Change) → IsVersion old → IsMarket new.market → IsNext old changes new → IsVersion new
+next_version old new changes is market next = record {
+  plan = rw next.plan is.plan;
+  market = market;
+  shape = rw next.plan (shape_trans old.plan.market old.market new.market is.shape next.applied.shape);
+  good = next.good;
+}
+
+-- what a batch makes, and what changes by it, are prepared
+pub prepared : (v : Version) (old new : Current) (changes : List Change) (d : Delta) → IsVersion v → IsCurrent v old → IsMarket new.instance → Makes v.plan old changes new
+    → IsBetween (version_of v.serial v.plan old) (version_of (v.serial + 1) v.plan new) d → IsPrepared v changes (record { current = new; delta = d })
+prepared v old new changes d is current market makes between =
+    let w : Version = version_of (v.serial + 1) v.plan new in
+    let b : IsBetween v w d = subst (λ (x : Version). IsBetween x w d) (sym current.version) between in
+    let next : IsNext v changes w = subst (λ (x : Version). IsNext x changes w) (sym current.version) (makes.next v.serial) in
+    record {
+      base = b.base;
+      within = within v w d b;
+      good = after_is_version v w d b (next_version v w changes is market next);
+      next = subst (IsNext v changes) (sym b.leads) next;
+      current = subst (λ (x : Version). IsCurrent x new) (sym b.leads) (makes.current (v.serial + 1));
+    }
+
+get_last : (h : List Version) (v : Version) → slice_get (h ++ v ∷ []) (length h) ≡ Some v
+get_last [] v = refl
+get_last (x ∷ xs) v = get_last xs v
+
+-- the next version is the last of the history that it is added to
+pub sealed_next : (h : List Version) (v w : Version) → IsSealed h v → w.serial ≡ v.serial + 1 → IsSealed (h ++ w ∷ []) w
+sealed_next h v w sealed next = record {
+  last = subst (λ (k : ℕ). slice_get (h ++ w ∷ []) k ≡ Some w) (sealed.whole ∙ sym next) (get_last h w);
+  whole = length-append h (w ∷ []) ∙ omega (arith, sealed.whole, next);
+}
+
+-- what a batch makes, by its parts
+pub makes : (t : Plan) (old new : Current) (changes : List Change) → IsApplied old.instance changes new.instance → IsGood new.instance new.map.lines.items new.map.names.items
+    → IsKept old.instance old.map.lines.items new.instance new.map.lines.items → IsLocal old.instance old.map.lines.items new.instance new.map.lines.items
+    → ((serial : ℕ) → IsCurrent (version_of serial t new) new) → Makes t old changes new
+makes t old new changes applied good kept local current = record {
+  next = λ serial. record { serial = refl; plan = refl; applied = applied; good = good; kept = kept; local = local };
+  current = current;
+}
+
+-- what two clauses say of a result, of its value
+pub both : {X E : Type 0} {P Q S : X → Type 0} (r : Result X E) → IfOk r P → IfOk r Q → ((x : X) → P x → Q x → S x) → IfOk r S
+both (Ok x) p q f = f x p q
+both (Err e) p q f = tt
+
+pub whenever : {X E P : Type 0} (r : Result X E) → P → OnOk r P
+whenever (Ok x) p = p
+whenever (Err e) p = tt
+
+-- the map of a version's parts is good
+pub good_of : (v : Version) (c : Current) → IsVersion v → IsCurrent v c → IsGood c.instance c.map.lines.items c.map.names.items
+good_of v c is current = (subst IsVersion current.version is).good
+
+change_for : (m n : Market) → IsSameShape m n → (change : Change) → IsChange m change → IsChange n change
+change_for m n s (Demand group demand) is = (omega (arith, s.groups, is.0), is.1, is.2)
+change_for m n s (Capacity node capacity) is = (omega (arith, s.nodes, is.0), is.1)
+
+-- a batch for an instance is one for each instance of its shape
+pub batch_for : (m n : Market) → IsSameShape m n → (changes : List Change) → IsBatch m changes → IsBatch n changes
+batch_for m n s changes all = λ k d lt. change_for m n s (slice_index_or changes k d) (all k d lt)

@@ -1,0 +1,16 @@
+use Rattle.std.proofs.Common.{sym, subst}
+use Rattle.std.proofs.lemmas.Result.{IfOk-weaker}
+use Rattle.map_model.specs.Market.{Market}
+use Rattle.map_model.specs.Batch.{IsApplied}
+use Rattle.map_repair.specs.Repaired.{IsWithinSpread}
+use Rattle.mapper.proofs.Nexts.{both, makes}
+use Rattle.mapper.proofs.current.next_of.Goals as goal
+
+pub returns-clause-makes : goal.returns-clause-makes
+returns-clause-makes g c = both c.dressed.result c.dressed.ensures.parts c.dressed.ensures.current (λ new parts current.
+    makes c.args.topology.now c.args.old.now new c.args.batch.now
+    (subst (λ (m : Market). IsApplied c.args.old.now.instance c.args.batch.now m) (sym parts.0) c.in_ok-instance.ensures)
+    (rw (parts.0, parts.1) c.in_ok-map.ensures.good) (rw (parts.0, parts.1) c.in_ok-map.ensures.kept) (rw (parts.0, parts.1) c.in_ok-map.ensures.local) current)
+
+pub returns-clause-steps : goal.returns-clause-steps
+returns-clause-steps g c = IfOk-weaker c.dressed.result _ _ (λ new parts. subst (λ (m : Market). IsWithinSpread c.args.old.now.instance c.args.old.now.map.lines.items m c.args.steps.now c.repaired.new.steps) (sym parts.0) c.in_ok-map.ensures.steps) c.dressed.ensures.parts

@@ -1,0 +1,17 @@
+use Rattle.std.proofs.Common.{List, sym, subst}
+use Rattle.std.proofs.lemmas.Result.{IfOk-weaker}
+use Rattle.map_model.specs.declared.lines.MapLine.{MapLine}
+use Rattle.map_repair.specs.Repaired.{IsKept, IsWithinSpread}
+use Rattle.mapper.proofs.Nexts.{whenever}
+use Rattle.mapper.proofs.current.repaired.Goals as goal
+
+pub returns-clause-kept : goal.returns-clause-kept
+returns-clause-kept g c =
+    let old = c.args.old.now.instance in
+    let new = c.args.new.now in
+    let made = subst (λ (ls : List MapLine). IsKept old ls new c.resume.new.state.lines) c.requires.kept.holds c.in_ok-resume.ensures.kept in
+    IfOk-weaker c.ended_map.result _ _ (λ m e. subst (λ (ls : List MapLine). IsKept old c.args.old.now.map.lines.items new ls) (sym e) made) c.ended_map.ensures.lines
+
+pub returns-clause-steps : goal.returns-clause-steps
+returns-clause-steps g c =
+    whenever c.ended_map.result (subst (λ (ls : List MapLine). IsWithinSpread c.args.old.now.instance ls c.args.new.now c.args.steps.now c.resume.new.steps) c.requires.kept.holds c.in_ok-resume.ensures.steps)

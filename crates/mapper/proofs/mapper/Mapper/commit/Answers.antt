@@ -1,0 +1,7 @@
+use Rattle.std.proofs.Common.{OnOk, subst}
+use Rattle.map_repair.specs.Repaired.{IsWithinSpread}
+use Rattle.map_cell.specs.Ends.{PublisherState}
+use Rattle.mapper.proofs.mapper.Mapper.commit.Goals as goal
+
+pub returns-clause-steps : goal.returns-clause-steps
+returns-clause-steps g c = subst (λ (p : PublisherState). OnOk c.commit.result (IsWithinSpread p.newest.market p.newest.lines c.commit.new.self.newest.market c.args.steps.now c.commit.new.steps)) c.self.view_is c.commit.ensures.steps

@@ -1,0 +1,27 @@
+-- What opening a mapper and committing a batch come to.
+use Rattle.std.specs.Prelude.{◌≡◌, ◌≢◌, ℕ, ◌+◌, ◌*◌, List, [], ◌∷◌, ◌++◌, Result, Ok, length, sum_by, IfOk}
+use Rattle.std.specs.List.{range_with_len}
+use Rattle.map_model.specs.declared.change.Change.{Change}
+use Rattle.map_model.specs.Market.{Market, choices_of, demand_of}
+use Rattle.map_model.specs.Allocation.{IsGood}
+use Rattle.topology_text.specs.Plan.{Plan}
+use Rattle.published_map.specs.Version.{Version}
+use Rattle.map_cell.specs.Ends.{PublisherState}
+use Rattle.mapper.specs.Control.{IsNext}
+
+-- one version was published, of serial 0: a good map for the topology's own instance
+pub record IsFirst (t : Plan) (m : PublisherState) : Type 0 where
+  pub history : m.history ≡ m.newest ∷ []
+  pub serial : m.newest.serial ≡ 0
+  pub plan : m.newest.plan ≡ t
+  pub market : m.newest.market ≡ t.market
+  pub good : IsGood t.market m.newest.lines m.newest.names
+
+-- how often groups may offer in a mapping from scratch: once for each unit of their demand and once more, at each place
+abbrev pub most_offers : Market → ℕ
+most_offers m = sum_by (λ g. length (choices_of m g) * (demand_of m g + 1)) (range_with_len 0 (length m.groups))
+
+-- the version that a batch leads to was published
+pub record IsPublished (old : PublisherState) (changes : List Change) (new : PublisherState) : Type 0 where
+  pub next : IsNext old.newest changes new.newest
+  pub history : new.history ≡ old.history ++ new.newest ∷ []

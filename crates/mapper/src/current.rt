@@ -1,0 +1,153 @@
+//! A map with what goes with it, and the one that follows it by a batch.
+ghost use Rattle.std.specs.Prelude.{◌≡◌, ◌+◌, ◌≤◌, ℕ, IfOk, OnOk};
+ghost use Rattle.map_model.specs.Market.{IsSameShape};
+ghost use Rattle.map_model.specs.Allocation.{IsGood};
+ghost use Rattle.map_model.specs.Batch.{IsApplied, IsBatch};
+ghost use Rattle.map_repair.specs.Repaired.{IsKept, IsLocal, IsWithinSpread};
+ghost use Rattle.evict.specs.Standing.{IsReady};
+ghost use Rattle.mapper.specs.Currents.{IsCurrent, IsKeptFor, Makes, version_of};
+ghost use Rattle.mapper.specs.Mappers.{most_offers};
+
+use crate::Totals;
+use crate::adding::totals;
+use deferred_accept::{ended_map, run};
+use demand_feed::{Batch, apply};
+use evict::State;
+use map_model::{Instance, MapLines, Steps};
+use map_repair::{Asked, resume};
+use map_text::write_map;
+use no_memory::NoMemory;
+use std::alloc::Global;
+use topology_text::Topology;
+
+/// A map, the instance for which it is good, its text and its totals.
+#[derive(Drop)]
+pub(crate) struct Current {
+    pub instance: Instance,
+    pub map: MapLines,
+    pub text: Vec<u8>,
+    pub totals: Totals,
+}
+
+/// A state of the newest map, from which the next repair goes on, and the offers by the trees of their pools.
+#[derive(Drop)]
+pub(crate) struct Kept {
+    pub state: State,
+    pub asked: Asked,
+}
+
+/// The instance after a batch.
+fn applied(old: &Instance, batch: &Batch) -> Result<Instance, NoMemory>
+    requires { IsBatch old.now batch.now }
+    ensures { IfOk result (λ new. IsApplied old.now batch.now new) }
+{
+    let mut new = old.try_clone()?;
+    apply(&mut new, batch);
+    Ok(new)
+}
+
+/// The map of the new instance, by repair of the kept state.
+fn repaired<L>(
+    alloc: Global,
+    old: &Current,
+    new: &Instance,
+    kept: &mut Kept,
+    steps: &mut Steps<L>,
+) -> Result<MapLines, NoMemory>
+    requires kept { IsKeptFor old.now.instance old.now.map.lines.items kept.old }
+    requires shape { IsSameShape old.now.instance new.now }
+    ensures state { IfOk result (λ map. IsKeptFor new.now map.lines.items kept.new) }
+    ensures good { IfOk result (λ map. IsGood new.now map.lines.items map.names.items) }
+    ensures kept { IfOk result (λ map. IsKept old.now.instance old.now.map.lines.items new.now map.lines.items) }
+    ensures local { IfOk result (λ map. IsLocal old.now.instance old.now.map.lines.items new.now map.lines.items) }
+    ensures steps { OnOk result (IsWithinSpread old.now.instance old.now.map.lines.items new.now steps.old steps.new) }
+    ensures later { steps.old ≤ steps.new }
+{
+    resume(
+        alloc,
+        &old.instance,
+        new,
+        &kept.asked,
+        &mut kept.state,
+        steps,
+    )?;
+    ended_map(alloc, new, &kept.state)
+}
+
+/// A map with its text and the totals of a state that holds it.
+fn dressed(
+    alloc: Global,
+    topology: &Topology,
+    instance: Instance,
+    map: MapLines,
+    state: &State,
+) -> Result<Current, NoMemory>
+    requires good { IsGood instance map.lines.items map.names.items }
+    requires shape { IsSameShape topology.now.market instance }
+    requires ready { IsReady instance state.now }
+    requires lines { state.now.lines ≡ map.lines.items }
+    ensures parts { IfOk result (λ c. (c.instance ≡ instance) × (c.map ≡ map)) }
+    ensures current { IfOk result (λ c. (serial : ℕ) → IsCurrent (version_of serial topology.now c) c) }
+{
+    let _groups = instance.groups();
+    let text = write_map(alloc, topology, &map)?;
+    let totals = totals(&instance, state);
+    Ok(Current {
+        instance,
+        map,
+        text,
+        totals,
+    })
+}
+
+/// The map of a topology's own instance, mapped from scratch.
+pub(crate) fn first_of<L>(
+    alloc: Global,
+    topology: &Topology,
+    steps: &mut Steps<L>,
+) -> Result<Current, NoMemory>
+    ensures instance { IfOk result (λ c. c.instance ≡ topology.now.market) }
+    ensures good { IfOk result (λ c. IsGood topology.now.market c.map.lines.items c.map.names.items) }
+    ensures current { IfOk result (λ c. (serial : ℕ) → IsCurrent (version_of serial topology.now c) c) }
+    ensures steps { OnOk result (steps.new ≤ steps.old + most_offers topology.now.market) }
+    ensures later { steps.old ≤ steps.new }
+{
+    let instance = topology.instance().try_clone()?;
+    let mut state = State::fresh(alloc, &instance)?;
+    run(alloc, &instance, &mut state, steps)?;
+    let map = ended_map(alloc, &instance, &state)?;
+    dressed(alloc, topology, instance, map, &state)
+}
+
+/// A state of a map, with the offers of its instance.
+pub(crate) fn kept_of(alloc: Global, current: &Current) -> Result<Kept, NoMemory>
+    requires { IsGood current.now.instance current.now.map.lines.items current.now.map.names.items }
+    ensures { IfOk result (λ kept. IsKeptFor current.now.instance current.now.map.lines.items kept) }
+{
+    let state = State::of_map(alloc, &current.instance, &current.map)?;
+    let asked = Asked::build(alloc, &current.instance, &state)?;
+    Ok(Kept { state, asked })
+}
+
+/// The map that a batch leads to.
+pub(crate) fn next_of<L>(
+    alloc: Global,
+    topology: &Topology,
+    old: &Current,
+    kept: &mut Kept,
+    batch: &Batch,
+    steps: &mut Steps<L>,
+) -> Result<Current, NoMemory>
+    requires kept { IsKeptFor old.now.instance old.now.map.lines.items kept.old }
+    requires ids { IsBatch old.now.instance batch.now }
+    requires shape { IsSameShape topology.now.market old.now.instance }
+    ensures makes { IfOk result (Makes topology.now old.now batch.now) }
+    ensures kept { IfOk result (λ c. IsKeptFor c.instance c.map.lines.items kept.new) }
+    ensures steps { IfOk result (λ c. IsWithinSpread old.now.instance old.now.map.lines.items c.instance steps.old steps.new) }
+    ensures later { steps.old ≤ steps.new }
+{
+    let instance = applied(&old.instance, batch)?;
+    let _groups = instance.groups();
+    let map = repaired(alloc, old, &instance, kept, steps)?;
+    dressed(alloc, topology, instance, map, &kept.state)
+}

@@ -1,0 +1,275 @@
+//! The mapper: the newest map of a topology, in a cell.
+ghost use Rattle.std.specs.Prelude.{◌≡◌, ◌≢◌, ◌⊎◌, ◌+◌, ◌-◌, ◌<◌, ◌≤◌, ◌^◌, [], ℕ, All, IfErr, IfOk, OnErr, OnOk, Ok, vec_len};
+ghost use mathlib.Core.List.{IsPrefix};
+ghost use Rattle.outside.specs.Faults.{Rose, raised};
+ghost use Rattle.map_model.specs.Batch.{IsBatch};
+ghost use Rattle.map_repair.specs.Repaired.{IsWithinSpread};
+ghost use Rattle.demand_feed.specs.declared.limits.TheConstants.{MOST_TURNS};
+ghost use Rattle.published_map.specs.Version.{IsVersion};
+ghost use Rattle.map_cell.specs.declared.door.OpenFault.TheVariants.{CellFault as Shut};
+ghost use Rattle.std.specs.Arc.{arc_value};
+ghost use Rattle.map_cell.specs.Histories.{IsSealed};
+ghost use Rattle.answer_core.specs.Reply.{Replies};
+ghost use Rattle.mapper.specs.Currents.{IsCurrent};
+ghost use Rattle.mapper.specs.Feeding.{IsFeed};
+ghost use Rattle.mapper.specs.Mappers.{IsFirst, IsPublished, most_offers};
+ghost use Rattle.mapper.specs.Scenes.{scene};
+ghost use Rattle.mapper.specs.Words.{map_text, reply_by, totals_of};
+
+use crate::current::{Current, first_of};
+use crate::feeding::Feeding;
+use crate::maps::Maps;
+use crate::{Totals, run_feed};
+use addr_text::Addr;
+use answer_core::Answer;
+use arrayvec::ArrayVec;
+use demand_feed::{Batch, FeedEnd, Intake};
+use map_cell::{Door, EmptyHistory, Naming, Note, NoteRow, OpenFault, Viewer};
+use map_model::{Instance, MapLines, Steps};
+use no_memory::NoMemory;
+use outside::{LARGEST_REPLY, Pace, Sink, Source};
+use prefix_lookup::Lookup;
+use published_map::{MapVersion, Shared};
+use std::alloc::Global;
+use std::marker::Model;
+use std::sync::{Arc, Wait};
+use topology_text::Topology;
+
+/// Holds the newest map of a topology in a cell, and publishes the next ones by repair. A feed works it.
+///
+/// It can't be dropped: end it by `close`, after a refusal too.
+pub struct Mapper<J: Naming> {
+    topology: Arc<Topology>,
+    intake: Intake,
+    maps: Maps<J>,
+}
+
+impl<J: Naming> Model for Mapper<J> {
+    ghost use Rattle.std.specs.Prelude.{◌≡◌};
+    ghost use Rattle.std.specs.Arc.{arc_value};
+    ghost use Rattle.map_cell.specs.Ends.{PublisherState};
+
+    ghost Value = { PublisherState };
+
+    ghost view = { λ m. m.maps };
+
+    ghost invariant = { λ m. arc_value m.topology ≡ m.maps.newest.plan };
+}
+
+/// All that an opening needs ahead of the cell.
+#[derive(Drop)]
+struct Prepared {
+    topology: Arc<Topology>,
+    intake: Intake,
+    current: Current,
+    first: MapVersion,
+}
+
+/// Maps a topology from scratch, and takes all room that a feed needs.
+fn prepare<L>(alloc: Global, topology: Topology, steps: &mut Steps<L>) -> Result<Prepared, NoMemory>
+    ensures plan { IfOk result (λ p. (arc_value p.topology ≡ topology) × (p.first.plan ≡ topology)) }
+    ensures first { IfOk result (λ p. IsVersion p.first × (p.first.serial ≡ 0) × (p.first.market ≡ topology.market)) }
+    ensures current { IfOk result (λ p. IsCurrent p.first p.current) }
+    ensures steps { OnOk result (steps.new ≤ steps.old + most_offers topology.market) }
+    ensures later { steps.old ≤ steps.new }
+{
+    let intake = Intake::new(alloc)?;
+    let lookup = Lookup::build(alloc, topology.prefixes())?;
+    let current = first_of(alloc, &topology, steps)?;
+    let topology = Arc::new(alloc, topology)?;
+    let shared = Shared {
+        topology: Arc::try_clone(&topology)?,
+        lookup,
+    };
+    let shared = Arc::new(alloc, shared)?;
+    let first = MapVersion::make(alloc, 0, &current.instance, &current.map, shared)?;
+    Ok(Prepared {
+        topology,
+        intake,
+        current,
+        first,
+    })
+}
+
+impl<J: Naming> Mapper<J> {
+    /// Maps the topology from scratch, for which `steps` counts the proposals, and opens a cell with that map and so
+    /// many viewers. All room that a feed needs is taken here. Nothing is read. An opening that is refused closes what
+    /// it made, and may wait for that.
+    ///
+    /// # Errors
+    ///
+    /// `NoMemory`; `CellFault` only where the count of the door's faults rose.
+    pub fn open<R: Wait, D: Door, L>(
+        rt: &R,
+        alloc: Global,
+        history: EmptyHistory,
+        topology: Topology,
+        viewers: u8,
+        door: &mut D,
+        steps: &mut Steps<L>,
+    ) -> Result<(Mapper<J>, Vec<Viewer<J>>), OpenFault>
+        requires book { history ≡ J.book }
+        requires viewers { viewers ≤ 16 }
+        ensures mapper { IfOk result (λ r. IsFirst topology r.0) }
+        ensures viewers { IfOk result (λ r. (vec_len r.1 ≡ viewers) × All (λ v. (v.seen ≡ r.0.history) × (v.told ≡ r.0.history)) r.1.items) }
+        ensures asked { (k : ℕ) × (k ≤ viewers) × (D.asked door.new ≡ raised (D.asked door.old) k) }
+        ensures asked_all { OnOk result (D.asked door.new ≡ raised (D.asked door.old) viewers) }
+        ensures same { (D.looks door.new ≡ D.looks door.old) × (D.greatest door.new ≡ D.greatest door.old) }
+        ensures later { D.faults door.old ≤ D.faults door.new }
+        ensures cause { IfErr result (λ e. e ≡ Shut → Rose (D.faults door.old) (D.faults door.new)) }
+        ensures steps { OnOk result (steps.new ≤ steps.old + most_offers topology.market) }
+        ensures steps_later { steps.old ≤ steps.new }
+    {
+        let Ok(prepared) = prepare(alloc, topology, steps) else {
+            return Err(OpenFault::NoMemory);
+        };
+        let Prepared {
+            topology,
+            intake,
+            current,
+            first,
+        } = prepared;
+        let (publisher, seats) = map_cell::open(rt, alloc, history, first, viewers, door)?;
+        let maps = Maps::of(alloc, publisher, current);
+        Ok((
+            Mapper {
+                topology,
+                intake,
+                maps,
+            },
+            seats,
+        ))
+    }
+
+    /// The newest serial.
+    pub fn newest(&self) -> u64
+        ensures serial { result ≡ self.now.newest.serial }
+        ensures version { IsVersion self.now.newest }
+        ensures last { IsSealed self.now.history self.now.newest }
+    {
+        self.maps.serial()
+    }
+
+    /// The newest instance, and the map that is good for it.
+    pub fn newest_map(&self) -> (&Instance, &MapLines)
+        ensures instance { result.0.now ≡ self.now.newest.market }
+        ensures lines { result.1.now.lines.items ≡ self.now.newest.lines }
+        ensures names { result.1.now.names.items ≡ self.now.newest.names }
+    {
+        let current = self.maps.current();
+        (&current.instance, &current.map)
+    }
+
+    /// The text of the newest map.
+    pub fn text(&self) -> &[u8]
+        ensures { result.now ≡ map_text self.now.newest }
+    {
+        let current = self.maps.current();
+        current.text.as_slice()
+    }
+
+    /// The totals of the newest map.
+    pub fn totals(&self) -> Totals
+        ensures { result ≡ totals_of self.now.newest }
+    {
+        let current = self.maps.current();
+        current.totals
+    }
+
+    /// Names the newest map, with the history up to it.
+    pub fn note(&self) -> Note<J>
+        ensures { result.front ≡ self.now.history }
+    {
+        self.maps.note()
+    }
+
+    /// Writes the newest map's reply to octets from an address, with draw 0. The buffer is cleared first.
+    pub fn ask(&self, from: Addr, octets: &[u8], out: &mut ArrayVec<u8, LARGEST_REPLY>) -> Answer
+        ensures { Replies result out.new.items (reply_by self.now.newest from octets.now) }
+    {
+        self.maps.ask(from, octets, out)
+    }
+
+    /// The topology.
+    pub fn topology(&self) -> &Arc<Topology>
+        ensures { arc_value result.now ≡ self.now.newest.plan }
+    {
+        &self.topology
+    }
+
+    /// Publishes the map that a batch leads to, by repair of the newest one, and answers its serial; `steps` counts the
+    /// proposals. An empty batch publishes nothing, takes no memory, and answers the newest serial. It may wait for
+    /// viewers that look at the map before the newest.
+    ///
+    /// # Errors
+    ///
+    /// `NoMemory`; nothing was published then, and the newest map, its instance and its text are as before.
+    pub fn commit<R: Wait, L>(
+        &mut self,
+        rt: &R,
+        batch: &Batch,
+        steps: &mut Steps<L>,
+    ) -> Result<u64, NoMemory>
+        requires ids { IsBatch self.old.newest.plan.market batch.now }
+        requires serial { self.old.newest.serial < 2 ^ 64 - 1 }
+        ensures empty { batch.now ≡ [] → (result ≡ Ok self.old.newest.serial) × (self.new ≡ self.old) × (steps.new ≡ steps.old) }
+        ensures next { batch.now ≢ [] → IfOk result (λ s. IsPublished self.old batch.now self.new × (s ≡ self.new.newest.serial)) }
+        ensures same { OnErr result (self.new ≡ self.old) }
+        ensures steps { OnOk result (IsWithinSpread self.old.newest.market self.old.newest.lines self.new.newest.market steps.old steps.new) }
+        ensures later { steps.old ≤ steps.new }
+    {
+        if batch.is_empty() {
+            return Ok(self.maps.serial());
+        }
+        self.maps.commit(rt, batch, steps)
+    }
+
+    /// Runs a feed to its end or for so many turns, from the newest map on, and then tells the pace that it has ended.
+    ///
+    /// Each map's text and each line of control text is one put, and nothing is put behind one that failed. When both
+    /// puts of a map are done, a note of it goes into the row, unless that is full.
+    pub fn run_feed<R: Wait, S: Source, K: Sink, M: Pace>(
+        &mut self,
+        rt: &R,
+        feed: &mut S,
+        out: &mut K,
+        maps: &mut K,
+        pace: &mut M,
+        row: &NoteRow<J>,
+        turns: u64,
+    ) -> FeedEnd
+        requires turns { turns ≤ MOST_TURNS }
+        requires serial { self.old.newest.serial < 2 ^ 63 }
+        ensures run { IsFeed self.old.newest.plan turns result (S.told feed.old) (S.told feed.new) (scene self.old.newest self.old.history (K.told out.old) (K.told maps.old) (M.told pace.old)) (scene self.new.newest self.new.history (K.told out.new) (K.told maps.new) (M.told pace.new)) }
+        ensures kept { IsPrefix self.old.history self.new.history }
+        ensures plan { self.new.newest.plan ≡ self.old.newest.plan }
+        ensures later { (K.faults out.old ≤ K.faults out.new) × (K.faults maps.old ≤ K.faults maps.new) }
+        ensures sink { result ≡ FeedEnd.SinkFault → Rose (K.faults out.old) (K.faults out.new) ⊎ Rose (K.faults maps.old) (K.faults maps.new) }
+        ensures source { result ≡ FeedEnd.SourceFault → Rose (S.faults feed.old) (S.faults feed.new) }
+        ensures source_later { S.faults feed.old ≤ S.faults feed.new }
+        ensures source_stays { result ≢ FeedEnd.SourceFault → S.faults feed.new ≡ S.faults feed.old }
+    {
+        let mut feeding = Feeding::new(&mut self.maps, row);
+        run_feed(
+            rt,
+            &self.topology,
+            &mut feeding,
+            &mut self.intake,
+            feed,
+            out,
+            maps,
+            pace,
+            turns,
+        )
+    }
+
+    /// Closes the cell, and drops the rest. It waits for viewers that are looking.
+    pub fn close<R: Wait>(self, rt: &R) {
+        let Mapper {
+            topology: _,
+            intake: _,
+            maps,
+        } = self;
+        maps.close(rt);
+    }
+}
