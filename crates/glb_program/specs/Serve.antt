@@ -15,7 +15,7 @@ use Rattle.demand_feed.specs.declared.run.FeedEnd.{FeedEnd}
 use Rattle.demand_feed.specs.declared.run.FeedEnd.TheVariants as feed
 use Rattle.mapper.specs.Scenes.{IsCut, IsPrinted}
 use Rattle.mapper.specs.Words.{map_text}
-use Rattle.drive.specs.Mappers.{IsFirst}
+use Rattle.mapper.specs.Mappers.{IsFirst}
 use Rattle.drive.specs.Done.{LaneTold}
 use Rattle.drive.specs.Driven.{IsDriven}
 use Rattle.glb_program.specs.declared.status.Status.{Status}

@@ -23,7 +23,6 @@ enum Held {
 mod answers;
 mod at_once;
 mod example;
-
 mod serving;
 
 use Held::{Bytes, Missing, Topology, Zeros};

@@ -249,10 +249,7 @@ const ROWS: &[Row] = &[
         ..PLAIN
     },
     Row {
-        lanes: &[Script {
-            goes: 2,
-            ..FIVE
-        }],
+        lanes: &[Script { goes: 2, ..FIVE }],
         served: &[(2, 2)],
         ..PLAIN
     },
