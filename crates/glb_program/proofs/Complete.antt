@@ -31,10 +31,10 @@ only_good m lines names (OverCapacity n units) judged good = absurd (omega (arit
 only_good m lines names (Blocking g k) judged good = let some = good.stable g.0 k judged.2.offer judged.2.wanted in let none = judged.2.unrefused in absurd (cc)
 only_good m lines names (BadName i) judged good = absurd (judged.3.here (ap (λ ns. slice_get ns i) good.named))
 
-one_content : (held : Option (List ℕ)) (a b : List ℕ) → held ≡ Some a → held ≡ Some b → a ≡ b
+pub one_content : (held : Option (List ℕ)) (a b : List ℕ) → held ≡ Some a → held ≡ Some b → a ≡ b
 one_content held a b h k = cc
 
-one_answer : {T : Type 0} (r : Result T (List ℕ)) (t : T) (text : List ℕ) → r ≡ Ok t → r ≡ Err text → ⊥
+pub one_answer : {T : Type 0} (r : Result T (List ℕ)) (t : T) (text : List ℕ) → r ≡ Ok t → r ≡ Err text → ⊥
 one_answer r t text h k = cc
 
 one_meaning : {T : Type 0} (r : Result T (List ℕ)) (t u : T) → r ≡ Ok t → r ≡ Ok u → t ≡ u

@@ -12,7 +12,8 @@ use Rattle.map_text.specs.Reading.{Mapped}
 use Rattle.glb_program.specs.declared.status.Status.{Status}
 use Rattle.glb_program.specs.declared.status.Status.TheVariants as status
 use Rattle.glb_program.specs.Words.{Ask, check, map_from, answer, repair}
-use Rattle.glb_program.specs.Outcome.{IsPrinted, Outcome, Outside, RunsBy}
+use Rattle.mapper.specs.Scenes.{IsPrinted}
+use Rattle.glb_program.specs.Outcome.{Outcome, Outside, RunsBy}
 use Rattle.glb_program.specs.Files.{Kind, Reads, Says, changes_file, map_file, topology_file}
 use Rattle.glb_program.specs.Check.{IsCheckDue, IsCheckedRun, IsJudged, status_of}
 use Rattle.glb_program.specs.Map.{IsMapDue, IsMapped, IsMappedRun}

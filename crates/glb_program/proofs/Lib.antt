@@ -3,4 +3,16 @@ mod Reading
 mod Plans
 mod Said
 mod Good
+mod Opened
+mod Asked
+mod Histories
+mod Causes
+mod Served
+mod Left
+mod Reports
+mod Tasks
+mod First
+mod Sessions
+mod WellServed
+mod Places
 mod Complete

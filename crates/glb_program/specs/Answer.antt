@@ -12,7 +12,8 @@ use Rattle.published_map.specs.Version.{Version}
 use Rattle.answer_core.specs.Reply.{reply_of}
 use Rattle.glb_program.specs.declared.status.Status.TheVariants as status
 use Rattle.glb_program.specs.Datagram.{Datagram}
-use Rattle.glb_program.specs.Outcome.{IsPrinted, Outcome, Outside}
+use Rattle.mapper.specs.Scenes.{IsPrinted}
+use Rattle.glb_program.specs.Outcome.{Outcome, Outside}
 use Rattle.glb_program.specs.Files.{Reads, Says, map_file, topology_file}
 use Rattle.glb_program.specs.Texts as text
 

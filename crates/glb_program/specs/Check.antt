@@ -10,7 +10,8 @@ use Rattle.topology_text.specs.Plan.{IsPlan, Plan}
 use Rattle.map_text.specs.Reading.{Mapped}
 use Rattle.glb_program.specs.declared.status.Status.{Status}
 use Rattle.glb_program.specs.declared.status.Status.TheVariants.{Ok, NotGood}
-use Rattle.glb_program.specs.Outcome.{IsPrinted, Outcome, Outside}
+use Rattle.mapper.specs.Scenes.{IsPrinted}
+use Rattle.glb_program.specs.Outcome.{Outcome, Outside}
 use Rattle.glb_program.specs.Files.{Reads, Says, loads_from, only, map_file, topology_file}
 use Rattle.glb_program.specs.Texts as text
 

@@ -7,7 +7,8 @@ use Rattle.topology_text.specs.Plan.{IsPlan, Plan}
 use Rattle.map_text.specs.Reading.{Mapped}
 use Rattle.map_text.specs.Writing.{text_of_map}
 use Rattle.glb_program.specs.declared.status.Status.TheVariants.{Ok}
-use Rattle.glb_program.specs.Outcome.{IsPrinted, Outcome, Outside}
+use Rattle.mapper.specs.Scenes.{IsPrinted}
+use Rattle.glb_program.specs.Outcome.{Outcome, Outside}
 use Rattle.glb_program.specs.Files.{Reads, Says, only, topology_file}
 
 -- these texts are the one text of a map that is good for the instance of a topology

@@ -4,8 +4,9 @@ use Rattle.std.specs.List.{concat}
 use Rattle.outside.specs.Faults.{BothTell, Rose, raised}
 use Rattle.outside.specs.Shelf.{Load, Shelved}
 use Rattle.outside.specs.Sink.{Written}
+use Rattle.mapper.specs.Scenes.{IsPrinted}
 use Rattle.glb_program.specs.declared.status.Status.{Status}
-use Rattle.glb_program.specs.declared.status.Status.TheVariants.{Ok, Usage, Refused, SourceFault, SinkFault, NotGood, NoMemory}
+use Rattle.glb_program.specs.declared.status.Status.TheVariants.{Ok, Usage, Refused, SourceFault, SinkFault, PortFault, Spent, NotGood, NoMemory, CellFault}
 
 -- the number of a status, as a process ends with it
 abbrev pub code_of : Status → ℕ
@@ -14,8 +15,11 @@ code_of Usage = 1
 code_of Refused = 2
 code_of SourceFault = 3
 code_of SinkFault = 4
+code_of PortFault = 5
+code_of Spent = 6
 code_of NotGood = 7
 code_of NoMemory = 8
+code_of CellFault = 9
 
 -- how a command comes out where nothing outside fails: its status, and the pieces that it puts on the output
 pub record Outcome : Type 0 where
@@ -48,11 +52,6 @@ pub record Outside : Type 0 where
 pub record Faults : Type 0 where
   pub files : ℕ
   pub out : ℕ
-
--- all these pieces were put, one by one
-pub record IsPrinted (pieces : List (List ℕ)) (before after : Written) : Type 0 where
-  pub bytes : after.bytes ≡ before.bytes ++ concat pieces
-  pub puts : after.puts ≡ raised before.puts (length pieces)
 
 -- the pieces before that number were put, and then one failed, of which the first k octets were written
 pub record IsCutAt (pieces : List (List ℕ)) (before after : Written) (number k : ℕ) : Type 0 where

@@ -11,7 +11,8 @@ use Rattle.topology_text.specs.Plan.{IsPlan, Plan}
 use Rattle.map_text.specs.Reading.{Mapped}
 use Rattle.map_text.specs.Writing.{text_of_map}
 use Rattle.glb_program.specs.declared.status.Status.TheVariants.{Ok}
-use Rattle.glb_program.specs.Outcome.{IsPrinted, Outcome, Outside}
+use Rattle.mapper.specs.Scenes.{IsPrinted}
+use Rattle.glb_program.specs.Outcome.{Outcome, Outside}
 use Rattle.glb_program.specs.Answer.{IsNotGood}
 use Rattle.glb_program.specs.Files.{Reads, Says, changes_file, loads_from, map_file, only, topology_file}
 

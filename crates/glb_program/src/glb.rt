@@ -1,80 +1,119 @@
-//! The top call: words, files and an output to a status.
-ghost use Rattle.std.specs.Prelude.{◌≡◌, ◌≢◌, ◌≤◌, ◌⊎◌, IsSome};
-ghost use Rattle.outside.specs.Faults.{BothTell, Rose};
-ghost use Rattle.glb_program.specs.Outcome.{AreLoaded, AreLoadsOf, HasCauses, IsSaid};
-ghost use Rattle.glb_program.specs.Run.{IsDue, IsGoodRun, IsRun, IsSound, loads_of, loads_of_ask};
-ghost use Rattle.glb_program.specs.Commands.{ask_of};
-ghost use Rattle.glb_program.specs.Ending.{EndsBy, IsEnd};
+//! The top call: words and all outside to a status.
+ghost use Rattle.std.specs.Prelude.{◌≡◌, ◌≢◌, ◌≤◌, ◌⊎◌, ◌^◌, All, IsSome, length, map, option_map};
+ghost use Rattle.outside.specs.Faults.{BothTell};
+ghost use Rattle.demand_feed.specs.declared.limits.TheConstants.{MOST_TURNS};
 ghost use Rattle.command_line.specs.Asked.{texts};
+ghost use Rattle.glb_program.specs.Outcome.{AreLoaded, AreLoadsOf};
+ghost use Rattle.glb_program.specs.Program.{AreCauses, AreQuiet, IsGoodRun, IsLeft, IsRun, IsSound, loads_of};
+ghost use Rattle.glb_program.specs.Commands.{IsManned, task_of};
+ghost use Rattle.glb_program.specs.Told.{lane_asked, lane_told, stage, surroundings};
 ghost use Rattle.glb_program.specs.Words.{asked};
 
-use crate::answer::answer_files;
-use crate::check::check_files;
-use crate::ending::{Report, Stop, finish, say};
-use crate::map::map_files;
-use crate::repair::repair_files;
+use crate::saying::run_files;
+use crate::serve::serve;
 use crate::status::Status;
-use crate::words::{Command, read_words};
+use crate::words::{Order, read_words};
+use drive::Lane;
+use map_cell::Door;
 use no_memory::NoMemory;
-use outside::{Shelf, Sink};
+use outside::{Gate, Pace, Port, Shelf, Sink, Source};
 use std::alloc::Global;
+use std::sync::Wait;
+use std::thread::Threads;
 
-const USAGE: &[u8] = b"usage: glb check, answer, map, repair, serve or large\n";
-
-/// Does what a command asks for, up to its text.
-fn run_command<F: Shelf>(alloc: Global, files: &mut F, command: Command<'_>) -> Result<Report, Stop>
-    ensures end { IsEnd (loads_of_ask (ask_of command.entry)) (IsDue (ask_of command.entry) (F.told files.old)) (record { told = F.told files.old; faults = F.faults files.old }) (record { told = F.told files.new; faults = F.faults files.new }) result }
-    ensures said { EndsBy IsSaid result }
+/// Does what is ordered, or says that the words are not taken.
+fn run_order<
+    R: Threads + Wait + Sync,
+    F: Shelf,
+    S: Source,
+    K: Sink,
+    P: Port + Send,
+    G: Gate + Send,
+    D: Door + Send,
+    M: Pace,
+>(
+    rt: &R,
+    alloc: Global,
+    order: Option<Order<'_>>,
+    files: &mut F,
+    feed: &mut S,
+    out: &mut K,
+    maps: &mut K,
+    lanes: &mut [Lane<P, G, D>],
+    pace: &mut M,
+    turns: u64,
+) -> Status
+    requires manned { IsManned order }
+    requires lanes { length lanes.old ≡ 16 }
+    requires doors { All (λ l. D.greatest l.door ≡ 0) lanes.old }
+    requires turns { (1 ≤ turns) × (turns ≤ 2 ^ 48) }
+    ensures run { IsRun turns (option_map task_of order.entry) (surroundings (F.told files.old) (F.faults files.old) (stage (S.told feed.old) (K.told out.old) (K.told maps.old) (M.told pace.old) (map (lane_told P.told P.faults G.told D.looks D.greatest D.faults) lanes.old) (map (lane_asked D.asked) lanes.old) (S.faults feed.old) (K.faults out.old) (K.faults maps.old))) (surroundings (F.told files.new) (F.faults files.new) (stage (S.told feed.new) (K.told out.new) (K.told maps.new) (M.told pace.new) (map (lane_told P.told P.faults G.told D.looks D.greatest D.faults) lanes.new) (map (lane_asked D.asked) lanes.new) (S.faults feed.new) (K.faults out.new) (K.faults maps.new))) result }
+    ensures noted { BothTell (F.told files.old) (F.told files.new) (AreLoadsOf (loads_of (option_map task_of order.entry))) }
+    ensures loaded { result ≢ Status.SourceFault → result ≢ Status.NoMemory → BothTell (F.told files.old) (F.told files.new) (AreLoaded (loads_of (option_map task_of order.entry))) }
+    ensures causes { AreCauses (option_map task_of order.entry) (surroundings (F.told files.old) (F.faults files.old) (stage (S.told feed.old) (K.told out.old) (K.told maps.old) (M.told pace.old) (map (lane_told P.told P.faults G.told D.looks D.greatest D.faults) lanes.old) (map (lane_asked D.asked) lanes.old) (S.faults feed.old) (K.faults out.old) (K.faults maps.old))) (surroundings (F.told files.new) (F.faults files.new) (stage (S.told feed.new) (K.told out.new) (K.told maps.new) (M.told pace.new) (map (lane_told P.told P.faults G.told D.looks D.greatest D.faults) lanes.new) (map (lane_asked D.asked) lanes.new) (S.faults feed.new) (K.faults out.new) (K.faults maps.new))) result }
+    ensures good { result ≡ Status.Ok → IsGoodRun turns (option_map task_of order.entry) (surroundings (F.told files.old) (F.faults files.old) (stage (S.told feed.old) (K.told out.old) (K.told maps.old) (M.told pace.old) (map (lane_told P.told P.faults G.told D.looks D.greatest D.faults) lanes.old) (map (lane_asked D.asked) lanes.old) (S.faults feed.old) (K.faults out.old) (K.faults maps.old))) (surroundings (F.told files.new) (F.faults files.new) (stage (S.told feed.new) (K.told out.new) (K.told maps.new) (M.told pace.new) (map (lane_told P.told P.faults G.told D.looks D.greatest D.faults) lanes.new) (map (lane_asked D.asked) lanes.new) (S.faults feed.new) (K.faults out.new) (K.faults maps.new))) }
+    ensures complete { IsSome (F.told files.old) → IsSound (option_map task_of order.entry) (F.told files.old) → AreQuiet (option_map task_of order.entry) (surroundings (F.told files.old) (F.faults files.old) (stage (S.told feed.old) (K.told out.old) (K.told maps.old) (M.told pace.old) (map (lane_told P.told P.faults G.told D.looks D.greatest D.faults) lanes.old) (map (lane_asked D.asked) lanes.old) (S.faults feed.old) (K.faults out.old) (K.faults maps.old))) (surroundings (F.told files.new) (F.faults files.new) (stage (S.told feed.new) (K.told out.new) (K.told maps.new) (M.told pace.new) (map (lane_told P.told P.faults G.told D.looks D.greatest D.faults) lanes.new) (map (lane_asked D.asked) lanes.new) (S.faults feed.new) (K.faults out.new) (K.faults maps.new))) → IsLeft (option_map task_of order.entry) result }
 {
-    match command {
-        Command::Check { topology, map } => check_files(alloc, files, topology, map),
-        Command::Map { topology } => map_files(alloc, files, topology),
-        Command::Answer {
-            topology,
-            map,
-            from,
-            octets,
-        } => answer_files(alloc, files, topology, map, from, octets.as_slice()),
-        Command::Repair {
-            topology,
-            map,
-            changes,
-        } => repair_files(alloc, files, topology, map, changes),
+    match order {
+        Some(Order::Say(command)) => run_files(alloc, Some(command), files, out),
+        Some(
+            Order::Serve {
+                topology,
+                listen,
+                workers,
+            },
+        ) => serve(
+            rt, alloc, topology, listen, workers, files, feed, out, maps, lanes, pace, turns,
+        ),
+        None => run_files(alloc, None, files, out),
     }
 }
 
-/// The whole program: does what the words ask for, over these files and this output, and answers the status.
+/// The whole program: does what the words ask for, over these files, this feed, these outputs and these 16 lanes, and answers the status.
 ///
-/// The first word is the program's name.
-pub fn glb<R, F: Shelf, K: Sink>(
-    _rt: &R,
+/// The first word is the program's name. No door of a lane was used; lanes and feed take at most so many turns, 1 to 2^48.
+pub fn glb<
+    R: Threads + Wait + Sync,
+    F: Shelf,
+    S: Source,
+    K: Sink,
+    P: Port + Send,
+    G: Gate + Send,
+    D: Door + Send,
+    M: Pace,
+>(
+    rt: &R,
     alloc: Global,
     words: &[String],
     files: &mut F,
+    feed: &mut S,
     out: &mut K,
+    maps: &mut K,
+    lanes: &mut [Lane<P, G, D>],
+    pace: &mut M,
+    turns: u64,
 ) -> Status
-    // The answer is the one that is due to the words and the files, and its text is on the output; or a beginning of that, where the output failed; or nothing, where a load failed or memory was wanting. Where the shelf doesn't tell what it holds, there are contents of the files to which it is due.
-    ensures run { IsRun (asked (texts words.now)) (record { files = F.told files.old; out = K.told out.old }) (record { files = F.told files.new; out = K.told out.new }) result }
+    requires lanes { length lanes.old ≡ 16 }
+    requires doors { All (λ l. D.greatest l.door ≡ 0) lanes.old }
+    requires turns { (1 ≤ turns) × (turns ≤ 2 ^ 48) }
+    // What the run does, by the words: a command that says one text puts it on the output, and touches nothing else but the files; `serve` publishes a history of good maps, and its lanes answer from it. Where files or feed don't tell what they hold, there are octets for which that is so.
+    ensures run { IsRun turns (asked (texts words.now)) (surroundings (F.told files.old) (F.faults files.old) (stage (S.told feed.old) (K.told out.old) (K.told maps.old) (M.told pace.old) (map (lane_told P.told P.faults G.told D.looks D.greatest D.faults) lanes.old) (map (lane_asked D.asked) lanes.old) (S.faults feed.old) (K.faults out.old) (K.faults maps.old))) (surroundings (F.told files.new) (F.faults files.new) (stage (S.told feed.new) (K.told out.new) (K.told maps.new) (M.told pace.new) (map (lane_told P.told P.faults G.told D.looks D.greatest D.faults) lanes.new) (map (lane_asked D.asked) lanes.new) (S.faults feed.new) (K.faults out.new) (K.faults maps.new))) result }
 
-    // The files of the words are loaded in their order, once each, and each only where all before it say something; and all of these, unless the answer is a fault of the files or want of memory.
+    // The files of the words are loaded in their order, once each, and each only where all before it say something; and all of these, unless the answer is a fault or want of memory.
     ensures noted { BothTell (F.told files.old) (F.told files.new) (AreLoadsOf (loads_of (asked (texts words.now)))) }
     ensures loaded { result ≢ Status.SourceFault → result ≢ Status.NoMemory → BothTell (F.told files.old) (F.told files.new) (AreLoaded (loads_of (asked (texts words.now)))) }
 
     // A fault outside is answered only where its count rose.
-    ensures causes { HasCauses (record { files = F.faults files.old; out = K.faults out.old }) (record { files = F.faults files.new; out = K.faults out.new }) result }
+    ensures causes { AreCauses (asked (texts words.now)) (surroundings (F.told files.old) (F.faults files.old) (stage (S.told feed.old) (K.told out.old) (K.told maps.old) (M.told pace.old) (map (lane_told P.told P.faults G.told D.looks D.greatest D.faults) lanes.old) (map (lane_asked D.asked) lanes.old) (S.faults feed.old) (K.faults out.old) (K.faults maps.old))) (surroundings (F.told files.new) (F.faults files.new) (stage (S.told feed.new) (K.told out.new) (K.told maps.new) (M.told pace.new) (map (lane_told P.told P.faults G.told D.looks D.greatest D.faults) lanes.new) (map (lane_asked D.asked) lanes.new) (S.faults feed.new) (K.faults out.new) (K.faults maps.new))) result }
 
-    // Status 0 says that the files hold a topology; of `check`, `answer` and `repair` also that they hold a map that is good for it, and of `repair` changes; and that the output got, in one put, `good`, or of `map` the text of a map that is good for the topology, or of `answer` the text of the map's reply, or of `repair` the text of a map that is good for the changed numbers and keeps the rest.
-    ensures good { result ≡ Status.Ok → IsGoodRun (asked (texts words.now)) (record { files = F.told files.old; out = K.told out.old }) (record { files = F.told files.new; out = K.told out.new }) }
+    // Status 0 says that the files hold a topology; of `check`, `answer` and `repair` also that they hold a map that is good for it, and of `repair` changes; and that the output got, in one put, `good`, or of `map` the text of a map that is good for the topology, or of `answer` the text of the map's reply, or of `repair` the text of a map that is good for the changed numbers and keeps the rest. Of `serve` it says that the maps hold the texts of a history of good maps and nothing else, and that each of the first lanes answered from that history until its port's end or its gate's stop.
+    ensures good { result ≡ Status.Ok → IsGoodRun turns (asked (texts words.now)) (surroundings (F.told files.old) (F.faults files.old) (stage (S.told feed.old) (K.told out.old) (K.told maps.old) (M.told pace.old) (map (lane_told P.told P.faults G.told D.looks D.greatest D.faults) lanes.old) (map (lane_asked D.asked) lanes.old) (S.faults feed.old) (K.faults out.old) (K.faults maps.old))) (surroundings (F.told files.new) (F.faults files.new) (stage (S.told feed.new) (K.told out.new) (K.told maps.new) (M.told pace.new) (map (lane_told P.told P.faults G.told D.looks D.greatest D.faults) lanes.new) (map (lane_asked D.asked) lanes.new) (S.faults feed.new) (K.faults out.new) (K.faults maps.new))) }
 
-    // Where the files are told to hold a topology, for `check`, `answer` and `repair` a map that is good, and for `repair` changes, and no count of faults rises, there is no other answer but want of memory.
-    ensures complete { IsSome (F.told files.old) → IsSound (asked (texts words.now)) (F.told files.old) → ¬ Rose (F.faults files.old) (F.faults files.new) → ¬ Rose (K.faults out.old) (K.faults out.new) → (result ≡ Status.Ok) ⊎ (result ≡ Status.NoMemory) }
+    // Where the files are told to hold a topology, for `check`, `answer` and `repair` a map that is good, and for `repair` changes, and no count of faults rises, there is no other answer but want of memory; of `serve` also that turns were spent, or that a door showed a serial that was not published.
+    ensures complete { IsSome (F.told files.old) → IsSound (asked (texts words.now)) (F.told files.old) → AreQuiet (asked (texts words.now)) (surroundings (F.told files.old) (F.faults files.old) (stage (S.told feed.old) (K.told out.old) (K.told maps.old) (M.told pace.old) (map (lane_told P.told P.faults G.told D.looks D.greatest D.faults) lanes.old) (map (lane_asked D.asked) lanes.old) (S.faults feed.old) (K.faults out.old) (K.faults maps.old))) (surroundings (F.told files.new) (F.faults files.new) (stage (S.told feed.new) (K.told out.new) (K.told maps.new) (M.told pace.new) (map (lane_told P.told P.faults G.told D.looks D.greatest D.faults) lanes.new) (map (lane_asked D.asked) lanes.new) (S.faults feed.new) (K.faults out.new) (K.faults maps.new))) → IsLeft (asked (texts words.now)) result }
 {
     match read_words(alloc, words) {
-        Ok(Some(command)) => {
-            let ended = run_command(alloc, files, command);
-            finish(out, ended)
-        }
-        Ok(None) => say(out, Status::Usage, USAGE),
+        Ok(order) => run_order(rt, alloc, order, files, feed, out, maps, lanes, pace, turns),
         Err(NoMemory) => Status::NoMemory,
     }
 }

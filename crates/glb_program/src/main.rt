@@ -1,11 +1,11 @@
 //! `glb`, the mapping system of a content delivery network.
 #![tactic(auto)]
 
-ghost use Rattle.std.specs.Prelude.{◌≡◌, None, MatchResult};
+ghost use Rattle.std.specs.Prelude.{◌≡◌, ◌^◌, IfOk};
 ghost use Rattle.std.specs.Process.{exit_status};
 ghost use Rattle.command_line.specs.Asked.{texts};
 ghost use Rattle.glb_program.specs.Outcome.{code_of};
-ghost use Rattle.glb_program.specs.Run.{IsRun};
+ghost use Rattle.glb_program.specs.Ran.{HasRun};
 ghost use Rattle.glb_program.specs.Words.{asked};
 
 mod answer;
@@ -14,19 +14,33 @@ mod ending;
 mod files;
 mod glb;
 mod map;
+mod quiet;
 mod repair;
+mod saying;
+mod serve;
+mod starting;
 mod status;
+mod stream;
 mod text;
 mod words;
 
-use edges::{FileShelf, StreamSink};
+pub use drive::Lane;
+use edges::{FileShelf, StreamSink, StreamSource};
 pub use glb::glb;
 use no_memory::NoMemory;
+use outside::MemPace;
+use quiet::quiet_lanes;
 pub use status::Status;
 use std::env;
-use std::io::{self, ErrorKind};
+use std::io::{ErrorKind, Stderr, Stdin, Stdout};
 use std::process::ExitCode;
-use std::rt::Env;
+use std::rt::{Env, Files};
+use std::sync::Wait;
+use std::thread::Threads;
+use stream::Stream;
+
+/// How many turns each lane has, and how many pieces the feed.
+const TURNS: u64 = 1 << 48;
 
 /// The words of the command line. Where one of them is no text, there is none at all.
 fn read_args<R: Env + AllocGlobal>(rt: &R) -> Result<Vec<String>, NoMemory> {
@@ -44,22 +58,63 @@ fn exit_code(status: Status) -> ExitCode
     ExitCode::from(status.code())
 }
 
-/// All of the program behind its words, over the files of the system and standard output.
-fn run_words(rt: &HostRuntime, words: Result<Vec<String>, NoMemory>) -> Status
-    ensures { MatchResult words (λ w. IsRun (asked (texts w.items)) (record { files = None; out = None }) (record { files = None; out = None }) result) (λ _. result ≡ Status.NoMemory) }
+/// The streams of the process.
+#[derive(Drop)]
+struct Streams {
+    feed: Stdin,
+    out: Stdout,
+    maps: Stderr,
+}
+
+/// All of the program behind its words: over the files of the system, standard input as the feed, standard output, and standard error for the texts of maps. Its lanes serve no network.
+fn run_words<R: Threads + Wait + Sync + Files + AllocGlobal>(
+    rt: &R,
+    words: &[String],
+    streams: Streams,
+) -> Result<Status, NoMemory>
+    ensures { IfOk result (HasRun (2 ^ 48) (asked (texts words.now))) }
 {
-    match words {
-        Ok(words) => {
-            let mut files = FileShelf::new(rt);
-            let mut out = StreamSink::new(io::writer(rt));
-            glb(rt, rt.alloc(), words.as_slice(), &mut files, &mut out)
-        }
+    let mut lanes = quiet_lanes(rt.alloc())?;
+    let mut pace = MemPace::new(rt.alloc(), 0)?;
+    let mut files = FileShelf::new(rt);
+    let mut feed = StreamSource::new(streams.feed);
+    let mut out = StreamSink::new(Stream::Out(streams.out));
+    let mut maps = StreamSink::new(Stream::Error(streams.maps));
+    Ok(glb(
+        rt,
+        rt.alloc(),
+        words,
+        &mut files,
+        &mut feed,
+        &mut out,
+        &mut maps,
+        lanes.as_mut_slice(),
+        &mut pace,
+        TURNS,
+    ))
+}
+
+/// The whole run: want of memory is a status too.
+fn run_all<R: Threads + Wait + Sync + Files + Env + AllocGlobal>(
+    rt: &R,
+    streams: Streams,
+) -> Status {
+    match read_args(rt) {
+        Ok(words) => match run_words(rt, words.as_slice(), streams) {
+            Ok(status) => status,
+            Err(NoMemory) => Status::NoMemory,
+        },
         Err(NoMemory) => Status::NoMemory,
     }
 }
 
 fn main(rt: HostRuntime) -> ExitCode {
-    exit_code(run_words(&rt, read_args(&rt)))
+    let streams = Streams {
+        feed: rt.stdin(),
+        out: rt.stdout(),
+        maps: rt.stderr(),
+    };
+    exit_code(run_all(&rt, streams))
 }
 
 #[cfg(test)]

@@ -11,14 +11,20 @@ pub enum Status {
     Usage = 1,
     /// A file is too long or at fault. The output got its text.
     Refused = 2,
-    /// A file could not be loaded.
+    /// A file could not be loaded, or the feed not be read.
     SourceFault = 3,
     /// The output failed, and holds a beginning of what was due.
     SinkFault = 4,
+    /// A port did not open, or eight calls of one failed.
+    PortFault = 5,
+    /// A lane or the feed took all its turns.
+    Spent = 6,
     /// The map is not good. The output got the verdict.
     NotGood = 7,
     /// There was no memory.
     NoMemory = 8,
+    /// A way into the map cell was refused, or showed a map that was not published.
+    CellFault = 9,
 }
 
 impl Status {

@@ -1,8 +1,11 @@
 //! The program over files and an output in memory.
+use crate::quiet::quiet_lanes;
 use crate::{Status, glb};
-use outside::{File, MemShelf, MemSink};
+use outside::{File, MemPace, MemShelf, MemSink, MemSource};
 use std::process::Abort;
+use std::sync::Wait;
 use std::test::Fail;
+use std::thread::Threads;
 
 /// What stands under a name.
 #[derive(Clone, Copy)]
@@ -18,7 +21,9 @@ enum Held {
 }
 
 mod answers;
+mod at_once;
 mod example;
+mod serving;
 
 use Held::{Bytes, Missing, Topology, Zeros};
 
@@ -286,6 +291,24 @@ fn texts<R: AllocGlobal>(rt: &R, words: &[&str]) -> Result<Vec<String>, Fail> {
     Ok(texts)
 }
 
+/// The program over files and one output, with nothing on its feed and nothing at its lanes.
+fn run<R: Threads + Wait + Sync + AllocGlobal>(
+    rt: &R,
+    words: &[String],
+    files: &mut MemShelf,
+    out: &mut MemSink,
+) -> Result<Status, Fail> {
+    let alloc = rt.alloc();
+    let mut lanes = quiet_lanes(alloc)?;
+    let mut feed = MemSource::new(alloc, Vec::new(alloc), Vec::new(alloc), Vec::new(alloc))?;
+    let mut maps = MemSink::new(alloc, 0, Vec::new(alloc))?;
+    let mut pace = MemPace::new(alloc, 0)?;
+    let lanes = lanes.as_mut_slice();
+    Ok(glb(
+        rt, alloc, words, files, &mut feed, out, &mut maps, lanes, &mut pace, 100,
+    ))
+}
+
 const GOOD_FLAT: &[u8] = b"glb map 1\nplace g A 4\nend\n";
 
 const GOOD_REGION: &[u8] =
@@ -296,12 +319,16 @@ const USAGE: &[u8] = b"usage: glb check, answer, map, repair, serve or large\n";
 /// Two files, and what comes of a command over them: the status, what the output got, and how many files were asked for.
 type Row = (Held, Held, Status, &'static str, usize);
 
-fn assert_rows<R: Abort + AllocGlobal>(rt: &R, words: &[&str], rows: &[Row]) -> Result<(), Fail> {
+fn assert_rows<R: Abort + Threads + Wait + Sync + AllocGlobal>(
+    rt: &R,
+    words: &[&str],
+    rows: &[Row],
+) -> Result<(), Fail> {
     let words = texts(rt, words)?;
     for (topology, map, wanted, text, loads) in rows {
         let mut files = shelf(rt, *topology, *map, &[])?;
         let mut out = MemSink::new(rt.alloc(), 1024, Vec::new(rt.alloc()))?;
-        let status = glb(rt, rt.alloc(), words.as_slice(), &mut files, &mut out);
+        let status = run(rt, words.as_slice(), &mut files, &mut out)?;
         assert_eq!(rt; status, *wanted, "for {text}");
         assert_eq!(rt; out.bytes(), text.as_bytes(), "for {text}");
         assert_eq!(rt;
@@ -635,7 +662,7 @@ fn map_texts(rt: HostRuntime) -> Result<(), Fail> {
     for (map, wanted) in MAP_FAULTS {
         let mut files = shelf(&rt, Topology(REGION), Bytes(*map), &[])?;
         let mut out = MemSink::new(rt.alloc(), 1024, Vec::new(rt.alloc()))?;
-        let status = glb(&rt, rt.alloc(), words.as_slice(), &mut files, &mut out);
+        let status = run(&rt, words.as_slice(), &mut files, &mut out)?;
         let text = format!(in rt.alloc(); "refused map {wanted}\n")?;
         assert_eq!(rt; status, Status::Refused, "for {wanted}");
         assert_eq!(rt; out.bytes(), text.as_bytes(), "for {map:?}");
@@ -645,7 +672,7 @@ fn map_texts(rt: HostRuntime) -> Result<(), Fail> {
 
 #[test]
 fn usage(rt: HostRuntime) -> Result<(), Fail> {
-    let rows: [&[&str]; 22] = [
+    let rows: [&[&str]; 30] = [
         &[],
         &["glb"],
         &["glb", "check"],
@@ -663,7 +690,39 @@ fn usage(rt: HostRuntime) -> Result<(), Fail> {
         &["glb", "answer", "t", "m"],
         &["glb", "answer", "t", "m", "198.51.100", "00"],
         &["glb", "answer", "t", "m", "198.51.100.7", "123"],
+        &["glb", "serve", "t"],
         &["glb", "serve", "t", "--listen", "x"],
+        &["glb", "serve", "t", "--listen", "127.0.0.1"],
+        &["glb", "serve", "t", "--listen", "127.0.0.1:65536"],
+        &["glb", "serve", "t", "--listen", "::1:53"],
+        &["glb", "serve", "--listen", "127.0.0.1:53"],
+        &[
+            "glb",
+            "serve",
+            "t",
+            "--listen",
+            "127.0.0.1:53",
+            "--workers",
+            "0",
+        ],
+        &[
+            "glb",
+            "serve",
+            "t",
+            "--listen",
+            "127.0.0.1:53",
+            "--workers",
+            "17",
+        ],
+        &[
+            "glb",
+            "serve",
+            "t",
+            "--listen",
+            "127.0.0.1:53",
+            "--workers",
+            "01",
+        ],
         &["glb", "large", "0"],
         &["glb", "repair", "t", "m"],
         &["glb", "--help"],
@@ -673,7 +732,7 @@ fn usage(rt: HostRuntime) -> Result<(), Fail> {
         let words = texts(&rt, words)?;
         let mut files = shelf(&rt, Topology(FLAT), Bytes(GOOD_FLAT), &[])?;
         let mut out = MemSink::new(rt.alloc(), 1024, Vec::new(rt.alloc()))?;
-        let status = glb(&rt, rt.alloc(), words.as_slice(), &mut files, &mut out);
+        let status = run(&rt, words.as_slice(), &mut files, &mut out)?;
         assert_eq!(rt; status, Status::Usage, "for {words:?}");
         assert_eq!(rt; out.bytes(), USAGE, "for {words:?}");
         assert_eq!(rt; files.asked().len(), 0, "for {words:?}");
@@ -766,7 +825,7 @@ fn faults_outside(rt: HostRuntime) -> Result<(), Fail> {
         let mut files = shelf(&rt, Topology(FLAT), Bytes(GOOD_FLAT), loads)?;
         let puts = puts.to_vec(rt.alloc())?;
         let mut out = MemSink::new(rt.alloc(), *room, puts)?;
-        let status = glb(&rt, rt.alloc(), words.as_slice(), &mut files, &mut out);
+        let status = run(&rt, words.as_slice(), &mut files, &mut out)?;
         assert_eq!(rt; status, *wanted);
         assert_eq!(rt; out.bytes(), *text);
     }

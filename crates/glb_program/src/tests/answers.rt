@@ -1,10 +1,12 @@
 use super::{
-    Bytes, EMPTY_POOL, FLAT, GOOD_FLAT, GOOD_REGION, Held, REGION, Topology, shelf, texts,
+    Bytes, EMPTY_POOL, FLAT, GOOD_FLAT, GOOD_REGION, Held, REGION, Topology, run, shelf, texts,
 };
-use crate::{Status, glb};
+use crate::Status;
 use outside::MemSink;
 use std::process::Abort;
+use std::sync::Wait;
 use std::test::Fail;
+use std::thread::Threads;
 
 /// Two pools in one region, as REGION, but that the first group has half of the second one's prefix too.
 const NARROWER: &str = "[[node]]
@@ -505,12 +507,15 @@ fn due_loads(row: &Row) -> &'static [&'static str] {
     }
 }
 
-fn answer_rows<R: Abort + AllocGlobal>(rt: &R, rows: &[Row]) -> Result<(), Fail> {
+fn answer_rows<R: Abort + Threads + Wait + Sync + AllocGlobal>(
+    rt: &R,
+    rows: &[Row],
+) -> Result<(), Fail> {
     for row in rows {
         let words = texts(rt, &["glb", "answer", "t", "m", row.from, row.query])?;
         let mut files = shelf(rt, row.topology, Bytes(row.map), &[])?;
         let mut out = MemSink::new(rt.alloc(), 1024, Vec::new(rt.alloc()))?;
-        let status = glb(rt, rt.alloc(), words.as_slice(), &mut files, &mut out);
+        let status = run(rt, words.as_slice(), &mut files, &mut out)?;
         assert_eq!(rt; status, row.status);
         let line = format!(in rt.alloc(); "{}\n", row.line)?;
         assert_eq!(rt; out.bytes(), line.as_bytes());

@@ -1,5 +1,5 @@
-use super::{GOOD_REGION, REGION, ZONE, texts};
-use crate::{Status, glb};
+use super::{GOOD_REGION, REGION, ZONE, run, texts};
+use crate::Status;
 use outside::{File, MemShelf, MemSink};
 use std::test::Fail;
 
@@ -53,7 +53,7 @@ fn changed_topologies(rt: HostRuntime) -> Result<(), Fail> {
         files.push(File::new("m", GOOD_REGION.to_vec(alloc)?))?;
         let mut files = MemShelf::new(alloc, files, 8, Vec::new(alloc))?;
         let mut out = MemSink::new(alloc, 1024, Vec::new(alloc))?;
-        let status = glb(&rt, alloc, words.as_slice(), &mut files, &mut out);
+        let status = run(&rt, words.as_slice(), &mut files, &mut out)?;
         let text = format!(in alloc; "refused topology {fault}\n")?;
         assert_eq!(rt; status, Status::Refused, "for {fault}");
         assert_eq!(rt; out.bytes(), text.as_bytes(), "for {fault}");

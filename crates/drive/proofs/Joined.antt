@@ -1,0 +1,13 @@
+-- Lanes that ran, in two parts.
+use Rattle.std.proofs.Common.{◌≡◌, ℕ, List, [], ◌∷◌, ◌++◌}
+use Rattle.drive.specs.All.{AllRan}
+
+pub ran_append : {A W : Type 0} (R : A → A → W → W → Type 0) (a b : List A) (v w : List W) (a' b' : List A) (v' w' : List W) → AllRan R a b v w → AllRan R a' b' v' w' → AllRan R (a ++ a') (b ++ b') (v ++ v') (w ++ w')
+ran_append R [] [] [] [] a' b' v' w' p q = q
+ran_append R (x ∷ a) (y ∷ b) (z ∷ v) (u ∷ w) a' b' v' w' p q = (p.0, ran_append R a b v w a' b' v' w' p.1 q)
+ran_append R [] (y ∷ b) v w a' b' v' w' p q = absurd p
+ran_append R [] [] (z ∷ v) w a' b' v' w' p q = absurd p
+ran_append R [] [] [] (u ∷ w) a' b' v' w' p q = absurd p
+ran_append R (x ∷ a) [] v w a' b' v' w' p q = absurd p
+ran_append R (x ∷ a) (y ∷ b) [] w a' b' v' w' p q = absurd p
+ran_append R (x ∷ a) (y ∷ b) (z ∷ v) [] a' b' v' w' p q = absurd p

@@ -1,0 +1,7 @@
+pub mod Joined
+pub mod Together
+pub mod Holding
+pub mod Finished
+pub mod Growing
+pub mod Events
+pub mod Ends

@@ -1,0 +1,16 @@
+use Rattle.std.proofs.Common.{rules, ◌≡◌, ◌∷◌, ◌++◌, [], length, sym, ap, ◌∙◌}
+use Rattle.drive.proofs.Finished.{done_by}
+use Rattle.drive.proofs.Holding.{fresh_of}
+use Rattle.drive.proofs.Together.{all_done}
+use Rattle.drive.proofs.whole.run_and_close.Goals as goal
+
+pub returns-clause-done : goal.returns-clause-done
+returns-clause-done g c =
+    let kept = c.run_beside.ensures.fed.kept in
+    let size : length c.args.lanes.now ≡ length c.args.works.now.items = search rules in
+    let opened = c.requires.first.0 in
+    let is : c.run_beside.new.mapper.history ≡ c.args.mapper.now.newest ∷ kept.0 = sym kept.1 ∙ ap (λ l. l ++ kept.0) opened in (
+      kept.0,
+      is,
+      all_done _ _ _ _ (λ i a b k v w x fr ran cl. done_by _ c.args.turns c.args.mapper.now.newest kept.0 i _ _ _ _ _ _ _ _ _ _ _ fr.0 (c.note-note.ensures ∙ is) opened fr.2 fr.3 fr.1 ran cl.0 cl.1 cl.2 cl.3) 0 _ _ _ _ _ _ (fresh_of _ 0 _ _ size c.requires.fresh) c.run_beside.ensures.ran c.close_all.ensures.closed,
+    )

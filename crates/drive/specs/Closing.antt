@@ -1,0 +1,45 @@
+-- The closing look of a lane.
+use Rattle.std.specs.Prelude.{◌≡◌, ◌⊎◌, ℕ, ◌<◌, List, length}
+use mathlib.Core.List.{IsPrefix}
+use Rattle.outside.specs.Faults.{Rose, raised}
+use Rattle.published_map.specs.Version.{Version}
+use Rattle.map_cell.specs.Histories.{IsHistory}
+use Rattle.lane_model.specs.declared.ended.Ended.{Ended}
+use Rattle.lane_model.specs.declared.ended.Ended.TheVariants.{Stopped, PortEnd, PortFault, CellFault, Above, Spent}
+use Rattle.lane_model.specs.Sessions.{Eyes, IsRise}
+
+-- how a lane ended, where its closing look was refused
+abbrev pub shut : Ended → Ended
+shut Stopped = CellFault
+shut PortEnd = CellFault
+shut PortFault = PortFault
+shut CellFault = CellFault
+shut Above = Above
+shut Spent = Spent
+
+-- the look was refused
+pub record IsShut (before after : Eyes Version) (served ended : Ended) : Type 0 where
+  pub seen : after.seen ≡ before.seen
+  pub rose : Rose before.faults after.faults
+  pub ended_is : ended ≡ shut served
+
+-- the look was at the newest map: what was seen before, and all that is known behind it, begins the history
+pub record IsWithin (h : List Version) (before after : Eyes Version) (served ended : Ended) : Type 0 where
+  pub seen : IsPrefix before.seen h
+  pub told : IsPrefix after.told h
+  pub ended_is : ended ≡ served
+
+-- the look was past the newest map, at the end of a longer history
+pub record IsPast (h : List Version) (before after : Eyes Version) (ended : Ended) : Type 0 where
+  pub seen : IsPrefix before.seen after.seen
+  pub begins : IsPrefix h after.seen
+  pub longer : length h < length after.seen
+  pub told : after.told ≡ after.seen
+  pub history : IsHistory after.seen
+  pub ended_is : ended ≡ Above
+
+-- one look, by what it came to
+pub record IsClosing (h : List Version) (before after : Eyes Version) (served ended : Ended) : Type 0 where
+  pub rise : IsRise before after
+  pub looks : after.looks ≡ raised before.looks 1
+  pub case : IsShut before after served ended ⊎ IsWithin h before after served ended ⊎ IsPast h before after ended

@@ -1,0 +1,64 @@
+-- A lane after a drive.
+use Rattle.std.specs.Prelude.{◌≡◌, ◌⊎◌, ℕ, ◌+◌, ◌<◌, ◌≤◌, All, List, [], ◌∷◌, length, fold, max, sum_by, Option}
+use mathlib.Core.List.{IsPrefix}
+use Rattle.outside.specs.Faults.{BothTell, Rose, raised}
+use Rattle.outside.specs.Port.{PortTold}
+use Rattle.outside.specs.Gate.{GateTold}
+use Rattle.published_map.specs.Version.{Version}
+use Rattle.map_cell.specs.Histories.{IsHistory}
+use Rattle.lane_model.specs.declared.ended.Ended.{Ended}
+use Rattle.lane_model.specs.declared.ended.Ended.TheVariants.{Above}
+use Rattle.lane_model.specs.Lanes.{IsLaneRun}
+use Rattle.lane_model.specs.Replies.{replies}
+use Rattle.lane_model.specs.Turns.{Turn, IsTold, entries_of, failures, floor_after, looks_of, port_turn, refused_of, tries_of}
+use Rattle.lane_model.specs.Sessions.{IsEnd, IsGateRun}
+use Rattle.drive.specs.Closing.{shut}
+
+-- what a lane tells at one moment: its port and gate, where they tell, the port's count of faults, and its door's numbers
+pub record LaneTold : Type 0 where
+  pub port : Option PortTold
+  pub port_faults : ℕ
+  pub gate : Option GateTold
+  pub looks : ℕ
+  pub greatest : ℕ
+  pub door_faults : ℕ
+
+-- A lane stands over the mapper's history, in which all that it knew has its place;
+pub record IsOverNewest (h over : List Version) (log : List Turn) (served ended : Ended) (before after : LaneTold) : Type 0 where
+  pub same : over ≡ h
+  pub known : All (λ t. t.known < length h) log
+  pub shown : after.greatest + 1 ≤ max (before.greatest + 1) (length h)
+  pub ended_is : ended ≡ served
+
+-- or, where its closing look was refused, over what it had seen, from the same first version on;
+pub record IsOverSeen (first : Version) (over : List Version) (served ended : Ended) (before after : LaneTold) : Type 0 where
+  pub first_is : IsPrefix (first ∷ []) over
+  pub rose : Rose before.door_faults after.door_faults
+  pub ended_is : ended ≡ shut served
+
+-- or, where that look was past the newest map, over a history that goes on from the mapper's, up to the serial that its door showed, if its door had shown none above that before.
+pub record IsOverPast (h over : List Version) (ended : Ended) (before after : LaneTold) : Type 0 where
+  pub begins : IsPrefix h over
+  pub longer : length h < length over
+  pub history : IsHistory over
+  pub shown : (after.greatest + 1 ≡ length over) ⊎ (length over ≤ before.greatest)
+  pub ended_is : ended ≡ Above
+
+-- Lane w after a drive, whose worker knew the first version alone: the turns that it made, as a lane run; what was told; what port, gate and door tell; why it ended; and over which history it stands.
+pub record IsDone (turns : ℕ) (first : Version) (rest : List Version) (w : ℕ) (before after : LaneTold) (ended : Ended) : Type 0 where
+  pub log : List Turn
+  pub over : List Version
+  pub served : Ended
+  pub shown : ℕ
+  pub run : IsLaneRun replies over w 0 0 (entries_of log) (tries_of log)
+  pub told : IsTold 0 log
+  pub within : All (λ t. floor_after t.known t.came ≤ after.greatest) log
+  pub last : shown ≤ after.greatest
+  pub port : BothTell before.port after.port (λ b c. c ≡ fold port_turn b log)
+  pub gate : BothTell before.gate after.gate (IsGateRun shown log served)
+  pub ending : IsEnd turns log served
+  pub looks : after.looks ≡ raised before.looks (sum_by (λ t. looks_of t.came) log + 1)
+  pub failing : 0 < failures log → Rose before.port_faults after.port_faults
+  pub refusal : 0 < sum_by (λ t. refused_of t.came) log → Rose before.door_faults after.door_faults
+  pub rising : (before.greatest ≤ after.greatest) × (before.port_faults ≤ after.port_faults) × (before.door_faults ≤ after.door_faults)
+  pub which : IsOverNewest (first ∷ rest) over log served ended before after ⊎ IsOverSeen first over served ended before after ⊎ IsOverPast (first ∷ rest) over ended before after

@@ -1,0 +1,44 @@
+-- A mapper and its lanes, driven to their ends over one history.
+use Rattle.std.specs.Prelude.{◌≡◌, ℕ, ◌+◌, ◌-◌, List, [], ◌∷◌, ◌++◌, length, map, replicate, Option, None, Some, slice_get}
+use Rattle.map_model.specs.declared.change.Change.{Change}
+use Rattle.outside.specs.Sink.{Written}
+use Rattle.outside.specs.Source.{Fed}
+use Rattle.outside.specs.declared.pace.PaceCall.{PaceCall}
+use Rattle.demand_feed.specs.declared.run.FeedEnd.{FeedEnd}
+use Rattle.published_map.specs.Version.{IsVersion, Version}
+use Rattle.lane_model.specs.declared.ended.Ended.{Ended}
+use Rattle.lane_model.specs.Machine.{GoesOn}
+use Rattle.mapper.specs.Control.{IsNext}
+use Rattle.mapper.specs.Feeding.{IsFeed}
+use Rattle.mapper.specs.Scenes.{scene}
+use Rattle.drive.specs.Done.{IsDone, LaneTold}
+
+-- what is told at one moment by all that a drive is lent: the feed, both outputs, the pace and the lanes
+pub record Lent : Type 0 where
+  pub feed : Option Fed
+  pub out : Option Written
+  pub maps : Option Written
+  pub pace : Option (List PaceCall)
+  pub lanes : List LaneTold
+
+-- a version may follow on a history: some changes lead to it from the last one
+abbrev pub Succeeds : List Version → Version → Type 0
+Succeeds h v = (old : Version) × (changes : List Change) × (slice_get h (length h - 1) ≡ Some old) × IsNext old changes v × IsVersion v
+
+-- the lanes from number w on: each that has an end is done, and those behind them are as before
+abbrev pub AreDone : ℕ → Version → List Version → ℕ → List Ended → List LaneTold → List LaneTold → Type 0
+AreDone turns first rest w [] before after = after ≡ before
+AreDone turns first rest w (e ∷ ends) (b ∷ before) (c ∷ after) = IsDone turns first rest w b c e × AreDone turns first rest (w + 1) ends before after
+AreDone turns first rest w (e ∷ ends) _ _ = ⊥
+
+-- A drive from a first version on: the feed's run, whose versions go on from the first one, and the lanes over that history.
+pub record IsDriven (turns : ℕ) (first : Version) (end : FeedEnd) (ends : List Ended) (before after : Lent) : Type 0 where
+  pub rest : List Version
+  pub newest : Version
+  pub feed : IsFeed first.plan turns end before.feed after.feed (scene first (first ∷ []) before.out before.maps before.pace) (scene newest (first ∷ rest) after.out after.maps after.pace)
+  pub goes_on : GoesOn Succeeds (first ∷ []) rest
+  pub lanes : AreDone turns first rest 0 ends before.lanes after.lanes
+
+-- sixteen places, the first of which have the ends of the lanes
+abbrev pub AreEnds : List Ended → List (Option Ended) → Type 0
+AreEnds ends places = places ≡ map Some ends ++ replicate (16 - length ends) None

@@ -1,0 +1,126 @@
+//! A lane with its worker: its turns, and its closing look.
+ghost use Rattle.std.specs.Prelude.{◌≡◌, ℕ};
+ghost use Rattle.drive.specs.Closing.{IsClosing, shut};
+
+use lane_model::Ended;
+use map_cell::{CellFault, Door, Naming, Note, NoteRow, RowNotes};
+use name_workers::{Worker, serve_port};
+use outside::{Gate, Port};
+use published_map::MapVersion;
+
+/// What a worker is lent.
+#[derive(Drop)]
+pub struct Lane<P, G, D> {
+    /// Where datagrams come from, and replies go to.
+    pub port: P,
+    /// Asked ahead of each turn.
+    pub gate: G,
+    /// The worker's way to the maps.
+    pub door: D,
+}
+
+/// A worker, and how its lane ended.
+#[derive(Drop)]
+pub(crate) struct Held<J: Naming> {
+    pub worker: Worker<J>,
+    pub ended: Ended,
+}
+
+/// How a lane ended whose closing look was refused.
+fn shut(ended: Ended) -> Ended
+    ensures { result ≡ shut ended }
+{
+    match ended {
+        Ended::Stopped => Ended::CellFault,
+        Ended::PortEnd => Ended::CellFault,
+        Ended::PortFault => Ended::PortFault,
+        Ended::CellFault => Ended::CellFault,
+        Ended::Above => Ended::Above,
+        Ended::Spent => Ended::Spent,
+    }
+}
+
+/// The closing look: the worker learns of the newest map, and looks once.
+fn close_lane<J: Naming, D: Door>(
+    worker: &mut Worker<J>,
+    door: &mut D,
+    note: &Note<J>,
+    served: Ended,
+) -> Ended
+    ensures closing { IsClosing note.now.front
+        (record { seen = worker.old.viewer.seen; told = worker.old.viewer.told; looks = D.looks door.old; greatest = D.greatest door.old; faults = D.faults door.old })
+        (record { seen = worker.new.viewer.seen; told = worker.new.viewer.told; looks = D.looks door.new; greatest = D.greatest door.new; faults = D.faults door.new })
+        served result }
+{
+    door.learn(&mut worker.viewer, note);
+    let looked = door.look(
+        &mut worker.viewer,
+        |m: &MapVersion| -> u64
+            ensures { result ≡ m.now.serial }
+        { m.serial() },
+    );
+    match looked {
+        Err(CellFault) => shut(served),
+        Ok(_serial) => {
+            if worker.viewer.is_within(note) {
+                served
+            } else {
+                Ended::Above
+            }
+        }
+    }
+}
+
+/// What runs in a thread of its own, over what all threads share, with what it holds.
+pub(crate) trait Runs<W, H> {
+    ghost ran: { ℕ → Self → Self → H → H → Type 0 };
+
+    fn run(&mut self, row: &W, turns: u64, held: &mut H)
+        ensures { ran turns self.old self.new held.old held.new };
+}
+
+/// What is closed when all threads have ended.
+pub(crate) trait Closes<N, H> {
+    ghost closed: { N → Self → Self → H → H → Type 0 };
+
+    fn close(&mut self, note: &N, held: &mut H)
+        ensures { closed note.now self.old self.new held.old held.new };
+}
+
+impl<J: Naming, P: Port, G: Gate, D: Door> Runs<NoteRow<J>, Held<J>> for Lane<P, G, D> {
+    ghost use Rattle.std.specs.Prelude.{None, ◌-◌, length};
+    ghost use Rattle.lane_model.specs.Sessions.{IsLaneCall};
+    ghost use Rattle.lane_model.specs.Replies.{replies};
+    ghost use Rattle.map_cell.specs.declared.viewer.Note.{Note};
+
+    ghost ran = { λ turns a b v w. IsLaneCall replies (λ (n : Note J J.Naming). length n.front - 1) v.worker.number turns
+        (record { port = P.told a.port; gate = G.told a.gate; notes = None; eyes = record { seen = v.worker.viewer.seen; told = v.worker.viewer.told; looks = D.looks a.door; greatest = D.greatest a.door; faults = D.faults a.door }; count = v.worker.count; port_faults = P.faults a.port; gate_faults = G.faults a.gate })
+        (record { port = P.told b.port; gate = G.told b.gate; notes = None; eyes = record { seen = w.worker.viewer.seen; told = w.worker.viewer.told; looks = D.looks b.door; greatest = D.greatest b.door; faults = D.faults b.door }; count = w.worker.count; port_faults = P.faults b.port; gate_faults = G.faults b.gate })
+        w.ended };
+
+    fn run(&mut self, row: &NoteRow<J>, turns: u64, held: &mut Held<J>) {
+        let mut notes = RowNotes::over(row);
+        held.ended = serve_port(
+            &mut held.worker,
+            &mut self.port,
+            &mut self.gate,
+            &mut self.door,
+            &mut notes,
+            turns,
+        );
+    }
+}
+
+impl<J: Naming, P: Port, G: Gate, D: Door> Closes<Note<J>, Held<J>> for Lane<P, G, D> {
+    ghost use Rattle.std.specs.Prelude.{◌≡◌};
+    ghost use Rattle.drive.specs.Closing.{IsClosing};
+
+    ghost closed = { λ note a b v w. IsClosing note.front
+        (record { seen = v.worker.viewer.seen; told = v.worker.viewer.told; looks = D.looks a.door; greatest = D.greatest a.door; faults = D.faults a.door })
+        (record { seen = w.worker.viewer.seen; told = w.worker.viewer.told; looks = D.looks b.door; greatest = D.greatest b.door; faults = D.faults b.door })
+        v.ended w.ended × (P.told b.port ≡ P.told a.port) × (P.faults b.port ≡ P.faults a.port) × (G.told b.gate ≡ G.told a.gate) };
+
+    fn close(&mut self, note: &Note<J>, held: &mut Held<J>) {
+        held.ended = close_lane(&mut held.worker, &mut self.door, note, held.ended);
+    }
+}

@@ -1,0 +1,16 @@
+//! A mapper and its lanes at once, and behind their joins the closing look of each lane.
+#![tactic(auto)]
+
+mod desk;
+mod feeding;
+mod joins;
+mod lane;
+mod laws;
+mod whole;
+
+pub use lane::Lane;
+pub use laws::{drives_are_taken, machines_are_kept};
+pub use whole::{DriveEnd, drive};
+
+#[cfg(test)]
+mod tests;

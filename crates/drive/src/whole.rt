@@ -1,0 +1,237 @@
+//! A drive: what it takes ahead of the first lane, its run, and its ends.
+ghost use Rattle.std.specs.Prelude.{◌≡◌, ◌≢◌, ◌⊎◌, ◌+◌, ◌<◌, ◌≤◌, ◌^◌, ◌∷◌, [], ℕ, List, All, IfOk, OnErr, drop, length, map, take, vec_len};
+ghost use mathlib.Core.List.{IsPrefix};
+ghost use Rattle.outside.specs.Faults.{Rose};
+ghost use Rattle.demand_feed.specs.declared.limits.TheConstants.{MOST_TURNS};
+ghost use Rattle.published_map.specs.Version.{Version};
+ghost use Rattle.map_cell.specs.Histories.{IsHistory};
+ghost use Rattle.lane_model.specs.declared.ended.Ended.{Ended};
+ghost use Rattle.drive.specs.AllDone.{AllDone, AllFresh, AllHeld};
+ghost use Rattle.drive.specs.Done.{IsDone};
+ghost use Rattle.drive.specs.Driven.{AreEnds, IsDriven};
+ghost use Rattle.drive.specs.Fed.{IsFedBy};
+ghost use Rattle.mapper.specs.Feeding.{IsFeed};
+ghost use Rattle.mapper.specs.Scenes.{scene};
+
+use crate::desk::Desk;
+use crate::feeding::run_beside;
+use crate::joins::close_all;
+use crate::lane::{Held, Lane};
+use demand_feed::FeedEnd;
+use lane_model::Ended;
+use map_cell::{Door, Naming, NoteRow, Viewer};
+use mapper::Mapper;
+use name_workers::Worker;
+use no_memory::NoMemory;
+use outside::{Gate, Pace, Port, Sink, Source};
+use std::alloc::Global;
+use std::sync::Wait;
+use std::thread::Threads;
+
+/// How many lanes a drive can have.
+const MOST_LANES: usize = 16;
+
+/// How a drive ended.
+#[derive(Clone, Copy, Debug, PartialEq, Eq)]
+pub struct DriveEnd {
+    /// How the feed ended.
+    pub feed: FeedEnd,
+    /// How each lane ended that had a viewer.
+    pub lanes: [Option<Ended>; 16],
+}
+
+/// A worker for each viewer, numbered from 0 on.
+fn hold_all<J: Naming>(alloc: Global, viewers: Vec<Viewer<J>>) -> Result<Vec<Held<J>>, NoMemory>
+    requires { vec_len viewers ≤ 16 }
+    ensures len { IfOk result (λ w. vec_len w ≡ vec_len viewers) }
+    ensures held { (h : List Version) → All (λ e. (e.seen ≡ h) × (e.told ≡ h)) viewers.items → IfOk result (λ w. AllHeld (λ i h'. (h'.worker.number ≡ i) × (h'.worker.count ≡ 0) × (h'.worker.viewer.seen ≡ h) × (h'.worker.viewer.told ≡ h)) 0 w.items) }
+{
+    let mut left = viewers;
+    let mut works = Vec::with_capacity(alloc, left.len())?;
+    while let Some(viewer) = left.pop() {
+        let number = works.len() as u8;
+        works.push_reserved(Held {
+            worker: Worker::new(viewer, number),
+            ended: Ended::Stopped,
+        });
+    }
+    Ok(works)
+}
+
+/// The ends of the lanes.
+fn ends_of<J: Naming>(works: &Vec<Held<J>>) -> [Option<Ended>; 16]
+    requires { vec_len works.now ≤ 16 }
+    ensures { AreEnds (map (λ h. h.ended) works.now.items) result }
+{
+    let mut ends = [None; MOST_LANES];
+    for k in 0..works.len() {
+        ends[k] = Some(works[k].ended);
+    }
+    ends
+}
+
+/// Runs the feed beside the lanes, and then makes the closing look of each.
+fn run_and_close<
+    J: Naming + Send + Sync,
+    S: Source,
+    K: Sink,
+    P: Port + Send,
+    G: Gate + Send,
+    D: Door + Send,
+    M: Pace,
+    R: Threads + Wait + Sync,
+>(
+    rt: &R,
+    row: &NoteRow<J>,
+    mapper: &mut Mapper<J>,
+    works: &mut Vec<Held<J>>,
+    desk: &mut Desk<'_, '_, '_, '_, S, K, M>,
+    lanes: &mut [Lane<P, G, D>],
+    turns: u64,
+)
+    requires turns { (desk.old.turns ≡ turns) × (turns ≤ MOST_TURNS) }
+    requires first { (mapper.old.history ≡ mapper.old.newest ∷ []) × (mapper.old.newest.serial ≡ 0) }
+    requires fresh { AllHeld (λ i h. (h.worker.number ≡ i) × (h.worker.count ≡ 0) × (h.worker.viewer.seen ≡ mapper.old.history) × (h.worker.viewer.told ≡ mapper.old.history)) 0 works.old.items }
+    requires lanes { length lanes.old ≡ vec_len works.old }
+    ensures fed { IsFedBy S.told S.faults K.told K.faults M.told desk.old desk.new mapper.old mapper.new }
+    ensures history { IsHistory mapper.new.history }
+    ensures len { vec_len works.new ≡ vec_len works.old }
+    ensures done { (rest : List Version) × (mapper.new.history ≡ mapper.old.newest ∷ rest) × AllDone (λ i l k h. IsDone turns mapper.old.newest rest i
+        (record { port = P.told l.port; port_faults = P.faults l.port; gate = G.told l.gate; looks = D.looks l.door; greatest = D.greatest l.door; door_faults = D.faults l.door })
+        (record { port = P.told k.port; port_faults = P.faults k.port; gate = G.told k.gate; looks = D.looks k.door; greatest = D.greatest k.door; door_faults = D.faults k.door })
+        h.ended) 0 lanes.old lanes.new works.new.items }
+{
+    run_beside(rt, row, turns, works, lanes, mapper, desk);
+    let note = mapper.note();
+    let _ = note.front.len();
+    close_all(&note, works, lanes);
+}
+
+/// Hands on the first map's note, runs the feed beside the lanes, and then makes the closing look of each.
+fn serve_all<
+    J: Naming + Send + Sync,
+    S: Source,
+    K: Sink,
+    P: Port + Send,
+    G: Gate + Send,
+    D: Door + Send,
+    M: Pace,
+    R: Threads + Wait + Sync,
+>(
+    rt: &R,
+    row: &NoteRow<J>,
+    mapper: &mut Mapper<J>,
+    works: &mut Vec<Held<J>>,
+    feed: &mut S,
+    out: &mut K,
+    maps: &mut K,
+    lanes: &mut [Lane<P, G, D>],
+    pace: &mut M,
+    turns: u64,
+) -> FeedEnd
+    requires turns { turns ≤ MOST_TURNS }
+    requires first { (mapper.old.history ≡ mapper.old.newest ∷ []) × (mapper.old.newest.serial ≡ 0) }
+    requires fresh { AllHeld (λ i h. (h.worker.number ≡ i) × (h.worker.count ≡ 0) × (h.worker.viewer.seen ≡ mapper.old.history) × (h.worker.viewer.told ≡ mapper.old.history)) 0 works.old.items }
+    requires lanes { length lanes.old ≡ vec_len works.old }
+    ensures run { IsFeed mapper.old.newest.plan turns result (S.told feed.old) (S.told feed.new) (scene mapper.old.newest mapper.old.history (K.told out.old) (K.told maps.old) (M.told pace.old)) (scene mapper.new.newest mapper.new.history (K.told out.new) (K.told maps.new) (M.told pace.new)) }
+    ensures later { (K.faults out.old ≤ K.faults out.new) × (K.faults maps.old ≤ K.faults maps.new) × (S.faults feed.old ≤ S.faults feed.new) }
+    ensures sink { result ≡ FeedEnd.SinkFault → Rose (K.faults out.old) (K.faults out.new) ⊎ Rose (K.faults maps.old) (K.faults maps.new) }
+    ensures source { result ≡ FeedEnd.SourceFault → Rose (S.faults feed.old) (S.faults feed.new) }
+    ensures source_stays { result ≢ FeedEnd.SourceFault → S.faults feed.new ≡ S.faults feed.old }
+    ensures history { IsHistory mapper.new.history }
+    ensures len { vec_len works.new ≡ vec_len works.old }
+    ensures done { (rest : List Version) × (mapper.new.history ≡ mapper.old.newest ∷ rest) × AllDone (λ i l k h. IsDone turns mapper.old.newest rest i
+        (record { port = P.told l.port; port_faults = P.faults l.port; gate = G.told l.gate; looks = D.looks l.door; greatest = D.greatest l.door; door_faults = D.faults l.door })
+        (record { port = P.told k.port; port_faults = P.faults k.port; gate = G.told k.gate; looks = D.looks k.door; greatest = D.greatest k.door; door_faults = D.faults k.door })
+        h.ended) 0 lanes.old lanes.new works.new.items }
+{
+    let mut at = 0u32;
+    let _ = row.put(rt, &mut at, mapper.note());
+    let mut desk = Desk {
+        feed,
+        out,
+        maps,
+        pace,
+        turns,
+        end: FeedEnd::Ended,
+    };
+    run_and_close(rt, row, mapper, works, &mut desk, lanes, turns);
+    desk.end
+}
+
+/// Runs a mapper's feed beside the first lanes, one for each viewer, and then makes the closing look of each of these
+/// lanes: its worker learns of the newest map, and looks once by its lane's door. The lanes past the viewers are
+/// untouched. All memory is taken ahead of the first lane. At the end, after a refusal too, the mapper is closed.
+///
+/// Where the closing look is refused, an end by `PortEnd` or `Stopped` becomes `CellFault`; where it is at a map past
+/// the newest one, the lane ended `Above`.
+///
+/// # Errors
+///
+/// `NoMemory`; nothing that was lent is touched then.
+pub fn drive<
+    J: Naming + Send + Sync,
+    S: Source,
+    K: Sink,
+    P: Port + Send,
+    G: Gate + Send,
+    D: Door + Send,
+    M: Pace,
+    R: Threads + Wait + Sync,
+>(
+    rt: &R,
+    alloc: Global,
+    mapper: Mapper<J>,
+    viewers: Vec<Viewer<J>>,
+    feed: &mut S,
+    out: &mut K,
+    maps: &mut K,
+    lanes: &mut [Lane<P, G, D>],
+    pace: &mut M,
+    turns: u64,
+) -> Result<DriveEnd, NoMemory>
+    requires serial { mapper.newest.serial ≡ 0 }
+    requires turns { turns ≤ MOST_TURNS }
+    requires viewers { All (λ v. (v.seen ≡ mapper.history) × (v.told ≡ mapper.history)) viewers.items }
+    requires few { (vec_len viewers ≤ 16) × (vec_len viewers ≤ length lanes.old) }
+    ensures driven { IfOk result (λ r. (ends : List Ended) × (length ends ≡ vec_len viewers) × AreEnds ends r.lanes × IsDriven turns mapper.newest r.feed ends
+        (record { feed = S.told feed.old; out = K.told out.old; maps = K.told maps.old; pace = M.told pace.old; lanes = map (λ l. record { port = P.told l.port; port_faults = P.faults l.port; gate = G.told l.gate; looks = D.looks l.door; greatest = D.greatest l.door; door_faults = D.faults l.door }) lanes.old })
+        (record { feed = S.told feed.new; out = K.told out.new; maps = K.told maps.new; pace = M.told pace.new; lanes = map (λ l. record { port = P.told l.port; port_faults = P.faults l.port; gate = G.told l.gate; looks = D.looks l.door; greatest = D.greatest l.door; door_faults = D.faults l.door }) lanes.new })) }
+    ensures untouched { drop (vec_len viewers) lanes.new ≡ drop (vec_len viewers) lanes.old }
+    ensures no_memory { OnErr result ((feed.new ≡ feed.old) × (out.new ≡ out.old) × (maps.new ≡ maps.old) × (lanes.new ≡ lanes.old) × (pace.new ≡ pace.old)) }
+    ensures later { (K.faults out.old ≤ K.faults out.new) × (K.faults maps.old ≤ K.faults maps.new) × (S.faults feed.old ≤ S.faults feed.new) }
+    ensures sink { IfOk result (λ r. r.feed ≡ FeedEnd.SinkFault → Rose (K.faults out.old) (K.faults out.new) ⊎ Rose (K.faults maps.old) (K.faults maps.new)) }
+    ensures source { IfOk result (λ r. r.feed ≡ FeedEnd.SourceFault → Rose (S.faults feed.old) (S.faults feed.new)) }
+    ensures source_stays { IfOk result (λ r. r.feed ≢ FeedEnd.SourceFault → S.faults feed.new ≡ S.faults feed.old) }
+{
+    let mut mapper = mapper;
+    let _ = mapper.newest();
+    let Ok(row) = NoteRow::new(alloc) else {
+        mapper.close(rt);
+        return Err(NoMemory);
+    };
+    let count = viewers.len();
+    let Ok(held) = hold_all(alloc, viewers) else {
+        mapper.close(rt);
+        return Err(NoMemory);
+    };
+    let mut works = held;
+    let (served, _behind) = lanes.split_at_mut(count);
+    let end = serve_all(
+        rt,
+        &row,
+        &mut mapper,
+        &mut works,
+        feed,
+        out,
+        maps,
+        served,
+        pace,
+        turns,
+    );
+    mapper.close(rt);
+    Ok(DriveEnd {
+        feed: end,
+        lanes: ends_of(&works),
+    })
+}

@@ -1,0 +1,24 @@
+-- What a run of `serve` says of the task that it was given.
+use Rattle.std.proofs.Common.{◌≡◌, ℕ, sym, subst}
+use Rattle.std.specs.Prelude.{IsSome, Option, Some}
+use Rattle.glb_program.specs.declared.status.Status.{Status}
+use Rattle.glb_program.specs.declared.status.Status.TheVariants as status
+use Rattle.glb_program.specs.Words.{Service, Task, serve}
+use Rattle.glb_program.specs.Told.{Surroundings}
+use Rattle.glb_program.specs.Serve.{IsServeRun}
+use Rattle.glb_program.specs.Program.{AreQuiet, HasServeCauses, IsGoodRun, IsLeft, IsRun, IsSound}
+use Rattle.glb_program.proofs.Left.{left_of}
+use Rattle.glb_program.proofs.WellServed.{well_served}
+
+pub run_task : (turns : ℕ) (task : Option Task) (ask : Service) (before after : Surroundings) (result : Status) → task ≡ Some (serve ask) → IsServeRun turns ask before after result → IsRun turns task before after result
+run_task turns task ask before after result is run = subst (λ (t : Option Task). IsRun turns t before after result) (sym is) run
+
+pub good_task : (turns : ℕ) (task : Option Task) (ask : Service) (before after : Surroundings) (result : Status) → task ≡ Some (serve ask) → IsServeRun turns ask before after result → result ≡ status.Ok → IsGoodRun turns task before after
+good_task turns task ask before after result is run ok =
+    subst (λ (t : Option Task). IsGoodRun turns t before after) (sym is) (well_served turns ask before after (subst (λ (r : Status). IsServeRun turns ask before after r) ok run))
+
+pub left_task : (turns : ℕ) (task : Option Task) (ask : Service) (before after : Surroundings) (result : Status) → task ≡ Some (serve ask) → IsServeRun turns ask before after result → HasServeCauses before after result
+    → IsSome before.files → IsSound task before.files → AreQuiet task before after → IsLeft task result
+left_task turns task ask before after result is run causes told sound quiet =
+    subst (λ (t : Option Task). IsLeft t result) (sym is)
+    (left_of turns ask before after result run causes told (subst (λ (t : Option Task). IsSound t before.files) is sound) (subst (λ (t : Option Task). AreQuiet t before after) is quiet))

@@ -1,0 +1,45 @@
+//! Lanes that serve no network: nothing waits at their ports.
+ghost use Rattle.std.specs.Prelude.{◌≡◌, All, IfOk, vec_len};
+
+use drive::Lane;
+use map_cell::PlainDoor;
+use no_memory::NoMemory;
+use outside::{MemGate, MemPort};
+use std::alloc::Global;
+use std::collections::LinkedList;
+
+/// How many lanes there are.
+pub const LANES: usize = 16;
+
+/// A lane at which nothing waits, and which ends at its first turn.
+pub type QuietLane = Lane<MemPort, MemGate, PlainDoor>;
+
+/// A lane at which nothing waits.
+fn quiet_lane(alloc: Global) -> Result<QuietLane, NoMemory>
+    ensures { IfOk result (λ l. l.door.greatest ≡ 0) }
+{
+    let none = LinkedList::new(alloc);
+    Ok(Lane {
+        port: MemPort::new(
+            alloc,
+            none,
+            Vec::new(alloc),
+            Vec::new(alloc),
+            Vec::new(alloc),
+        )?,
+        gate: MemGate::new(alloc, 1)?,
+        door: PlainDoor::new(),
+    })
+}
+
+/// As many of them as there are lanes.
+pub fn quiet_lanes(alloc: Global) -> Result<Vec<QuietLane>, NoMemory>
+    ensures length { IfOk result (λ v. vec_len v ≡ LANES) }
+    ensures doors { IfOk result (λ v. All (λ l. l.door.greatest ≡ 0) v.items) }
+{
+    let mut lanes = Vec::with_capacity(alloc, LANES)?;
+    for _ in 0..LANES {
+        lanes.push_reserved(quiet_lane(alloc)?);
+    }
+    Ok(lanes)
+}
