@@ -1,5 +1,5 @@
 -- A sum over the first numbers, with one more of them.
-use Rattle.std.proofs.Common.{◌≡◌, ℕ, zero, suc, ◌+◌, ◌≤◌, Bool, true, false, cond, List, [], ◌∷◌, ◌++◌, refl, ap, ◌∙◌, arith}
+use Rattle.std.proofs.Common.{◌≡◌, ℕ, zero, suc, ◌+◌, ◌≤◌, Bool, true, false, cond, [], ◌∷◌, ◌++◌, ap, ◌∙◌, arith}
 use Rattle.std.specs.Prelude.{sum_by}
 use Rattle.std.specs.List.{range_with_len}
 use Rattle.std.proofs.lemmas.List.Sums.{sum_by_push}

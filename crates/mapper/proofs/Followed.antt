@@ -1,5 +1,5 @@
 -- What a feed comes to adds versions to a history, and keeps the topology.
-use Rattle.std.proofs.Common.{◌≡◌, inl, inr, ℕ, List, [], ◌∷◌, refl, sym, ap, ◌∙◌}
+use Rattle.std.proofs.Common.{◌≡◌, inl, inr, ℕ, List, refl, sym, ap, ◌∙◌}
 use Rattle.std.specs.Prelude.{Option}
 use mathlib.Core.List.{IsPrefix}
 use Rattle.outside.specs.Source.{Fed}

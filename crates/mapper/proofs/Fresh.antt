@@ -1,5 +1,5 @@
 -- How often groups may offer in a mapping from scratch.
-use Rattle.std.proofs.Common.{◌≡◌, ℕ, ◌+◌, ◌*◌, ◌-◌, ◌≤◌, length, ap, ◌∙◌, arith}
+use Rattle.std.proofs.Common.{◌≡◌, ◌+◌, ◌*◌, ◌-◌, ◌≤◌, length, ap, ◌∙◌, arith}
 use Rattle.map_model.specs.Market.{Market, choices_of, demand_of}
 use Rattle.evict.specs.Standing.{IsFresh, Standing}
 use Rattle.deferred_accept.specs.Runs.{most_proposals, proposals_of}

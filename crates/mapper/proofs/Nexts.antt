@@ -1,5 +1,5 @@
 -- What a batch makes may be published, and is then the newest version.
-use Rattle.std.proofs.Common.{◌≡◌, ℕ, ◌+◌, true, IfOk, OnOk, Result, Ok, Err, List, [], ◌∷◌, ◌++◌, length, slice_get, Some, refl, sym, ap, subst, ◌∙◌, arith, length-append, slice_index_or}
+use Rattle.std.proofs.Common.{◌≡◌, ℕ, ◌+◌, IfOk, OnOk, Result, Ok, Err, List, [], ◌∷◌, ◌++◌, length, slice_get, Some, refl, sym, subst, ◌∙◌, arith, length-append, slice_index_or}
 use Rattle.map_model.specs.declared.change.Change.{Change}
 use Rattle.map_model.specs.declared.change.Change.TheVariants.{Capacity, Demand}
 use Rattle.map_model.specs.Market.{IsMarket, IsSameShape, Market}
@@ -10,7 +10,6 @@ use Rattle.map_model.proofs.Shapes.{shape_trans}
 use Rattle.topology_text.specs.Plan.{Plan}
 use Rattle.published_map.specs.declared.delta.Delta.{Delta}
 use Rattle.published_map.specs.Between.{IsBetween}
-use Rattle.published_map.specs.Changes.{after}
 use Rattle.published_map.specs.Version.{IsVersion, Version}
 use Rattle.published_map.proofs.Within.{after_is_version, within}
 use Rattle.map_cell.specs.Histories.{IsSealed}

@@ -1,11 +1,10 @@
 -- What opening a mapper and committing a batch come to.
-use Rattle.std.specs.Prelude.{◌≡◌, ◌≢◌, ℕ, ◌+◌, ◌*◌, List, [], ◌∷◌, ◌++◌, Result, Ok, length, sum_by, IfOk}
+use Rattle.std.specs.Prelude.{◌≡◌, ℕ, ◌+◌, ◌*◌, List, [], ◌∷◌, ◌++◌, length, sum_by}
 use Rattle.std.specs.List.{range_with_len}
 use Rattle.map_model.specs.declared.change.Change.{Change}
 use Rattle.map_model.specs.Market.{Market, choices_of, demand_of}
 use Rattle.map_model.specs.Allocation.{IsGood}
 use Rattle.topology_text.specs.Plan.{Plan}
-use Rattle.published_map.specs.Version.{Version}
 use Rattle.map_cell.specs.Ends.{PublisherState}
 use Rattle.mapper.specs.Control.{IsNext}
 

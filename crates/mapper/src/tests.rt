@@ -6,10 +6,10 @@ use crate::saying::write;
 use crate::{Mapper, Saying, Spoken, Totals};
 use arrayvec::ArrayVec;
 use demand_feed::{Batch, BatchFault, FeedEnd, Line, LineFault, Refusal};
-use map_cell::{EmptyHistory, Naming, NoteRow, PlainDoor};
+use map_cell::{EmptyHistory, Naming, NoteRow, PlainDoor, RowNotes};
 use map_model::{Instance, MapLines, Steps};
 use no_memory::NoMemory;
-use outside::{MemPace, MemSink, MemSource};
+use outside::{MemPace, MemSink, MemSource, Notes, PaceCall};
 use stable_check::{CheckRoom, Verdict, check};
 use std::alloc::Global;
 use std::marker::Brand;
@@ -65,6 +65,9 @@ struct Row {
     end: FeedEnd,
     out: &'static str,
     maps: &'static str,
+    /// The calls of the pace, and how many notes went into the row.
+    calls: &'static [PaceCall],
+    notes: usize,
 }
 
 const SESSION: &str = "demand g2 4
@@ -120,6 +123,8 @@ const ROWS: [Row; 5] = [
         end: FeedEnd::Ended,
         out: SAID,
         maps: SECOND_MAP,
+        calls: &[PaceCall::Before(0), PaceCall::Before(1), PaceCall::Done(1)],
+        notes: 1,
     },
     Row {
         feed: REFUSED,
@@ -128,6 +133,8 @@ const ROWS: [Row; 5] = [
         end: FeedEnd::Ended,
         out: DROPPED,
         maps: "",
+        calls: &[PaceCall::Before(0), PaceCall::Done(0)],
+        notes: 0,
     },
     Row {
         feed: "",
@@ -136,6 +143,8 @@ const ROWS: [Row; 5] = [
         end: FeedEnd::Ended,
         out: "",
         maps: "",
+        calls: &[PaceCall::Done(0)],
+        notes: 0,
     },
     Row {
         feed: "show",
@@ -144,6 +153,8 @@ const ROWS: [Row; 5] = [
         end: FeedEnd::Ended,
         out: "show 0 placed 15 unplaced 1 full 2\n",
         maps: "",
+        calls: &[PaceCall::Done(0)],
+        notes: 0,
     },
     Row {
         feed: "ask 198.51.100.7 1234\n",
@@ -152,6 +163,8 @@ const ROWS: [Row; 5] = [
         end: FeedEnd::Ended,
         out: "answer 0 -\n",
         maps: "",
+        calls: &[PaceCall::Done(0)],
+        notes: 0,
     },
 ];
 
@@ -164,6 +177,8 @@ const CUTS: [Row; 5] = [
         end: FeedEnd::SinkFault,
         out: "",
         maps: "",
+        calls: &[PaceCall::Before(0), PaceCall::Done(1)],
+        notes: 0,
     },
     Row {
         feed: SESSION,
@@ -172,6 +187,8 @@ const CUTS: [Row; 5] = [
         end: FeedEnd::SinkFault,
         out: "",
         maps: SECOND_MAP,
+        calls: &[PaceCall::Before(0), PaceCall::Done(1)],
+        notes: 0,
     },
     Row {
         feed: SESSION,
@@ -180,6 +197,8 @@ const CUTS: [Row; 5] = [
         end: FeedEnd::SinkFault,
         out: PUBLISHED,
         maps: SECOND_MAP,
+        calls: &[PaceCall::Before(0), PaceCall::Done(1)],
+        notes: 1,
     },
     Row {
         feed: SESSION,
@@ -188,6 +207,8 @@ const CUTS: [Row; 5] = [
         end: FeedEnd::SinkFault,
         out: ANSWERED,
         maps: SECOND_MAP,
+        calls: &[PaceCall::Before(0), PaceCall::Done(1)],
+        notes: 1,
     },
     Row {
         feed: SESSION,
@@ -196,6 +217,8 @@ const CUTS: [Row; 5] = [
         end: FeedEnd::SinkFault,
         out: SHOWN,
         maps: SECOND_MAP,
+        calls: &[PaceCall::Before(0), PaceCall::Before(1), PaceCall::Done(1)],
+        notes: 1,
     },
 ];
 
@@ -231,6 +254,17 @@ fn is_as(row: &Row, end: FeedEnd, out: &[u8], maps: &[u8]) -> bool {
         return false;
     }
     end == row.end
+}
+
+/// How many notes there are in a row.
+fn count_notes<J: Naming>(row: &NoteRow<J>) -> usize {
+    let mut notes = RowNotes::over(row);
+    for count in 0..65_536usize {
+        if notes.next().is_none() {
+            return count;
+        }
+    }
+    65_536
 }
 
 /// Whether a feed that comes in pieces of a size does to a mapper what a row says.
@@ -269,7 +303,13 @@ fn feeds<J: Naming, R: Wait>(
         &notes,
         1_000_000,
     );
-    is_as(row, end, said.bytes(), texts.bytes())
+    if !is_as(row, end, said.bytes(), texts.bytes()) {
+        return false;
+    }
+    if calls.calls() != row.calls {
+        return false;
+    }
+    count_notes(&notes) == row.notes && source.shortest() == Some(32_768)
 }
 
 /// A mapper of the example.
@@ -366,6 +406,8 @@ const FULL: [Row; 2] = [
         end: FeedEnd::Ended,
         out: PUBLISHED,
         maps: SECOND_MAP,
+        calls: &[PaceCall::Before(0), PaceCall::Done(1)],
+        notes: 1,
     },
     Row {
         feed: "",
@@ -374,6 +416,8 @@ const FULL: [Row; 2] = [
         end: FeedEnd::Ended,
         out: "refused 4097 batch full\nrefused commit lines 1\n",
         maps: "",
+        calls: &[PaceCall::Before(0), PaceCall::Done(0)],
+        notes: 0,
     },
 ];
 
@@ -425,7 +469,8 @@ fn follows<J: Naming, R: Wait>(
     batch: &mut Batch,
     round: u64,
 ) -> bool
-    requires { mapper.old.newest.serial < 2 ^ 32 }
+    requires serial { mapper.old.newest.serial < 2 ^ 32 }
+    requires round { round < 2 ^ 32 }
     ensures { mapper.new.newest.serial ≤ mapper.old.newest.serial + 1 }
 {
     batch.clear();

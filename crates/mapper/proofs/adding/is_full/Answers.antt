@@ -1,5 +1,4 @@
 use Rattle.std.proofs.Common.{◌==◌, ap, sym, ◌∙◌}
-use Rattle.map_model.specs.Market.{capacity_of}
 use Rattle.map_model.specs.Allocation.{load}
 use Rattle.evict.proofs.Shaped.{load-shape}
 use Rattle.mapper.proofs.adding.is_full.Goals as goal

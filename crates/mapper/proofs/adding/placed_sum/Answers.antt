@@ -1,5 +1,5 @@
 use Rattle.std.proofs.Common.{◌<◌, length, arith}
-use Rattle.map_model.specs.Market.{demand_of, Market}
+use Rattle.map_model.specs.Market.{Market}
 use Rattle.map_model.specs.Allocation.{placed}
 use Rattle.evict.proofs.Settled.{small_demand}
 use Rattle.mapper.proofs.Counted.{sum_more}
