@@ -8,6 +8,9 @@ use Rattle.drive.proofs.whole.drive.Goals as goal
 pub serve_all-end-requires-clause-first : goal.serve_all-end-requires-clause-first
 serve_all-end-requires-clause-first g c κs within = (sole_history _ _ c.newest.ensures.last c.requires.serial, c.requires.serial)
 
+pub serve_all-end-requires-clause-fresh : goal.serve_all-end-requires-clause-fresh
+serve_all-end-requires-clause-fresh g c κs within = c.in-Ok-hold_all.ensures.held c.args.mapper.history c.requires.viewers
+
 pub returns-clause-driven : goal.returns-clause-driven
 returns-clause-driven g c =
     let s = c.serve_all-end.ensures in
