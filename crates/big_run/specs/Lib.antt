@@ -3,3 +3,4 @@ pub mod Replies
 pub mod Publishing
 pub mod Working
 pub mod Runs
+pub mod Putting

@@ -2,11 +2,13 @@
 #![tactic(auto)]
 
 mod judge;
+mod putting;
 mod replies;
 mod run;
 mod summary;
 mod work;
 
+pub use putting::put_lines;
 pub use replies::{ANSWERED, QUERY, SERVFAIL, client_of};
 pub use run::run_world;
 pub use summary::{LINE_ROOM, LINES, Summary, SummaryLine};

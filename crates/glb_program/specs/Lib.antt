@@ -14,6 +14,7 @@ pub mod Run
 pub mod Causes
 pub mod Serve
 pub mod Served
+pub mod Large
 pub mod Program
 pub mod Ran
 pub mod Starting

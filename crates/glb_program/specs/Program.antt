@@ -1,15 +1,16 @@
 -- What a run of the whole program does, by what its words ask for.
-use Rattle.std.specs.Prelude.{◌≡◌, ◌⊎◌, ℕ, ◌≤◌, List, Option, None, Some}
+use Rattle.std.specs.Prelude.{◌≡◌, ◌⊎◌, ℕ, ◌≤◌, List, [], Option, None, Some}
 use Rattle.outside.specs.Faults.{Rose}
 use Rattle.outside.specs.Shelf.{Load, Shelved}
 use Rattle.glb_program.specs.declared.status.Status.{Status}
 use Rattle.glb_program.specs.declared.status.Status.TheVariants as status
-use Rattle.glb_program.specs.Words.{Ask, Task, say, serve}
+use Rattle.glb_program.specs.Words.{Ask, Task, say, serve, large}
 use Rattle.glb_program.specs.Outcome.{HasCauses}
 use Rattle.glb_program.specs.Run as short
 use Rattle.glb_program.specs.Serve.{IsServeRun, loads_of_serve}
 use Rattle.glb_program.specs.Causes.{AnyLane, HasDoorFault, HasPortFault}
 use Rattle.glb_program.specs.Map.{HoldsTopology}
+use Rattle.glb_program.specs.Large.{HasLargeWorld, IsLargeRun, IsSummedRun}
 use Rattle.glb_program.specs.Served.{IsWellServed}
 use Rattle.glb_program.specs.Told.{IsOutAlone, Surroundings, faults_of, outside_of}
 
@@ -23,12 +24,14 @@ abbrev pub IsRun : ℕ → Option Task → Surroundings → Surroundings → Sta
 IsRun turns None before after result = IsShortRun None before after result
 IsRun turns (Some (say ask)) before after result = IsShortRun (Some ask) before after result
 IsRun turns (Some (serve ask)) before after result = IsServeRun turns ask before after result
+IsRun turns (Some (large groups)) before after result = IsLargeRun groups before after result
 
 -- the loads that are due to a run over the files
 abbrev pub loads_of : Option Task → (List ℕ → Option (List ℕ)) → List Load
 loads_of None = short.loads_of None
 loads_of (Some (say ask)) = short.loads_of (Some ask)
 loads_of (Some (serve ask)) = loads_of_serve ask
+loads_of (Some (large groups)) = λ _. []
 
 -- no count of `serve` falls, and a fault of the files, the feed or an output is answered only where its count rose
 pub record HasServeCauses (before after : Surroundings) (result : Status) : Type 0 where
@@ -44,12 +47,14 @@ abbrev pub AreCauses : Option Task → Surroundings → Surroundings → Status 
 AreCauses None before after result = HasCauses (faults_of before) (faults_of after) result
 AreCauses (Some (say ask)) before after result = HasCauses (faults_of before) (faults_of after) result
 AreCauses (Some (serve ask)) before after result = HasServeCauses before after result
+AreCauses (Some (large groups)) before after result = HasCauses (faults_of before) (faults_of after) result
 
 -- the files are such that all is well
 abbrev pub IsSound : Option Task → Option Shelved → Type 0
 IsSound None files = ⊥
 IsSound (Some (say ask)) files = short.IsSound (Some ask) files
 IsSound (Some (serve ask)) files = HoldsTopology ask.topology files
+IsSound (Some (large groups)) files = HasLargeWorld groups
 
 -- no count of faults rose: of the files, the feed and both outputs, of a port or of a door
 pub record IsServeQuiet (before after : Surroundings) : Type 0 where
@@ -65,15 +70,18 @@ abbrev pub AreQuiet : Option Task → Surroundings → Surroundings → Type 0
 AreQuiet None before after = Unit {0}
 AreQuiet (Some (say ask)) before after = (Rose before.files_faults after.files_faults → ⊥) × (Rose before.stage.out_faults after.stage.out_faults → ⊥)
 AreQuiet (Some (serve ask)) before after = IsServeQuiet before after
+AreQuiet (Some (large groups)) before after = Rose before.stage.out_faults after.stage.out_faults → ⊥
 
 -- The answers that are left then: status 0 or want of memory; of `serve` also that turns were spent, or that a door showed a serial that was not published.
 abbrev pub IsLeft : Option Task → Status → Type 0
 IsLeft None result = ⊥
 IsLeft (Some (say ask)) result = (result ≡ status.Ok) ⊎ (result ≡ status.NoMemory)
 IsLeft (Some (serve ask)) result = (result ≡ status.Ok) ⊎ (result ≡ status.NoMemory) ⊎ (result ≡ status.Spent) ⊎ (result ≡ status.CellFault)
+IsLeft (Some (large groups)) result = (result ≡ status.Ok) ⊎ (result ≡ status.NoMemory)
 
 -- what status 0 says
 abbrev pub IsGoodRun : ℕ → Option Task → Surroundings → Surroundings → Type 0
 IsGoodRun turns None before after = ⊥
 IsGoodRun turns (Some (say ask)) before after = short.IsGoodRun (Some ask) (outside_of before) (outside_of after)
 IsGoodRun turns (Some (serve ask)) before after = IsWellServed turns ask before after
+IsGoodRun turns (Some (large groups)) before after = IsSummedRun groups before after

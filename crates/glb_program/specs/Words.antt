@@ -19,10 +19,11 @@ pub record Service : Type 0 where
   pub listen : Listen
   pub workers : ℕ
 
--- what a command line asks for: a command that says one text on what files say, or to serve
+-- what a command line asks for: a command that says one text on what files say, to serve, or to run a large world of so many groups
 pub data Task : Type 0 where
   say : Ask → Task
   serve : Service → Task
+  large : ℕ → Task
 
 -- how many workers there are to be: 1 to 16, and 1 where that is not said
 abbrev pub workers_of : Option (List ℕ) → Option ℕ
@@ -44,7 +45,7 @@ asked_by (line.map_of topology) = Some (say (map_from topology))
 asked_by (line.answer topology map addr digits) = option_map say (option_map (answer topology map) (datagram_of addr digits))
 asked_by (line.repair topology map changes) = Some (say (repair topology map changes))
 asked_by (line.serve topology listen workers) = option_map serve (service_of topology listen workers)
-asked_by (line.large groups) = None
+asked_by (line.large groups) = option_map large (count_of 16384 groups)
 
 -- What the words ask for, if they are taken: the declaration of the command line takes them, and they are in their grammars. The first is the program's name.
 unfoldable pub asked : List (List ℕ) → Option Task

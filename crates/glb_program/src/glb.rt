@@ -9,6 +9,7 @@ ghost use Rattle.glb_program.specs.Commands.{IsManned, task_of};
 ghost use Rattle.glb_program.specs.Told.{lane_asked, lane_told, stage, surroundings};
 ghost use Rattle.glb_program.specs.Words.{asked};
 
+use crate::large::large;
 use crate::saying::run_files;
 use crate::serve::serve;
 use crate::status::Status;
@@ -65,6 +66,7 @@ fn run_order<
         ) => serve(
             rt, alloc, topology, listen, workers, files, feed, out, maps, lanes, pace, turns,
         ),
+        Some(Order::Large { groups }) => large(rt, alloc, groups, out),
         None => run_files(alloc, None, files, out),
     }
 }

@@ -13,6 +13,7 @@ mod check;
 mod ending;
 mod files;
 mod glb;
+mod large;
 mod map;
 mod quiet;
 mod repair;

@@ -1,8 +1,8 @@
-mod Tellings
+pub mod Tellings
 pub mod Courses
 pub mod Chains
 mod Together
 mod Followed
-mod Counted
+pub mod Counted
 mod Fresh
 pub mod Nexts

@@ -1,6 +1,7 @@
 use Rattle.std.proofs.Common.{arith}
 use Rattle.big_run.specs.Replies.{has_code}
-use Rattle.big_run.proofs.Counted.{at_most_one, count_more}
+use Rattle.mapper.proofs.Counted.{at_most_one}
+use Rattle.big_run.proofs.Counted.{count_more}
 use Rattle.big_run.proofs.replies.count_replies.Goals as goal
 
 pub loop-group-preserved : goal.loop-group-preserved
