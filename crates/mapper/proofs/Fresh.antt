@@ -1,9 +1,12 @@
--- How often groups may offer in a mapping from scratch.
+-- A mapping from scratch: how often groups may offer, and what it ends with.
 use Rattle.std.proofs.Common.{◌≡◌, ◌+◌, ◌*◌, ◌-◌, ◌≤◌, length, ap, ◌∙◌, arith}
 use Rattle.map_model.specs.Market.{Market, choices_of, demand_of}
 use Rattle.evict.specs.Standing.{IsFresh, Standing}
-use Rattle.deferred_accept.specs.Runs.{most_proposals, proposals_of}
+use Rattle.deferred_accept.specs.Runs.{HasRun, WantsBefore, most_proposals, proposals_of}
+use Rattle.deferred_accept.proofs.Past.{past_of_ended}
 use Rattle.deferred_accept.proofs.Sums.{sum-le}
+use Rattle.map_model.specs.Progress.{IsEnded}
+use Rattle.map_repair.specs.Repaired.{IsStateOf}
 use Rattle.mapper.specs.Mappers.{most_offers}
 
 pub fresh_offers : (m : Market) (state : Standing) → IsFresh m state → most_proposals m state.pointers ≤ most_offers m
@@ -11,3 +14,10 @@ fresh_offers m state fresh = sum-le (proposals_of m state.pointers) (λ g. lengt
     let none : length (choices_of m i) - 0 ≡ length (choices_of m i) = omega arith in
     let same : proposals_of m state.pointers i ≡ length (choices_of m i) * (demand_of m i + 1) = ap (λ p. (length (choices_of m i) - p) * (demand_of m i + 1)) (fresh.pointers i (omega (arith, lt))) ∙ ap (λ n. n * (demand_of m i + 1)) none in
     omega (arith, same))
+
+-- a run from a fresh state to its end leaves a state of a good map
+pub ended_state : (m : Market) (old new : Standing) → IsFresh m old → HasRun m old new → IsEnded m new.pointers new.free → (WantsBefore m old → WantsBefore m new) → IsStateOf m new
+ended_state m old new fresh run ended wanted = record {
+  ready = run.ready;
+  pointers = past_of_ended m new run.ready ended (wanted (λ g k o lt. absurd (omega (arith, fresh.pointers g o.group, lt))));
+}

@@ -3,7 +3,9 @@ ghost use Rattle.std.specs.Prelude.{◌≡◌, ◌+◌, ◌≤◌, ℕ, IfOk, On
 ghost use Rattle.map_model.specs.Market.{IsSameShape};
 ghost use Rattle.map_model.specs.Allocation.{IsGood};
 ghost use Rattle.map_model.specs.Batch.{IsApplied, IsBatch};
-ghost use Rattle.map_repair.specs.Repaired.{IsKept, IsLocal, IsWithinSpread};
+ghost use Rattle.map_model.specs.Progress.{IsEnded};
+ghost use Rattle.map_repair.specs.Asked.{AreAllListed};
+ghost use Rattle.map_repair.specs.Repaired.{IsKept, IsLocal, IsStateOf, IsWithinSpread};
 ghost use Rattle.evict.specs.Standing.{IsReady};
 ghost use Rattle.mapper.specs.Currents.{IsCurrent, IsKeptFor, Makes, version_of};
 ghost use Rattle.mapper.specs.Mappers.{most_offers};
@@ -100,23 +102,45 @@ fn dressed(
     })
 }
 
+/// A map with its state.
+#[derive(Drop)]
+pub(crate) struct First {
+    pub current: Current,
+    pub kept: Kept,
+}
+
+/// A state of a good map of the instance, mapped from scratch.
+fn mapped<L>(alloc: Global, instance: &Instance, steps: &mut Steps<L>) -> Result<Kept, NoMemory>
+    ensures state { IfOk result (λ kept. IsStateOf instance.now kept.state) }
+    ensures ended { IfOk result (λ kept. IsEnded instance.now kept.state.pointers kept.state.free) }
+    ensures asked { IfOk result (λ kept. AreAllListed instance.now kept.asked) }
+    ensures steps { OnOk result (steps.new ≤ steps.old + most_offers instance.now) }
+    ensures later { steps.old ≤ steps.new }
+{
+    let mut state = State::fresh(alloc, instance)?;
+    run(alloc, instance, &mut state, steps)?;
+    let asked = Asked::build(alloc, instance, &state)?;
+    Ok(Kept { state, asked })
+}
+
 /// The map of a topology's own instance, mapped from scratch.
 pub(crate) fn first_of<L>(
     alloc: Global,
     topology: &Topology,
     steps: &mut Steps<L>,
-) -> Result<Current, NoMemory>
-    ensures instance { IfOk result (λ c. c.instance ≡ topology.now.market) }
-    ensures good { IfOk result (λ c. IsGood topology.now.market c.map.lines.items c.map.names.items) }
-    ensures current { IfOk result (λ c. (serial : ℕ) → IsCurrent (version_of serial topology.now c) c) }
+) -> Result<First, NoMemory>
+    ensures instance { IfOk result (λ f. f.current.instance ≡ topology.now.market) }
+    ensures good { IfOk result (λ f. IsGood topology.now.market f.current.map.lines.items f.current.map.names.items) }
+    ensures current { IfOk result (λ f. (serial : ℕ) → IsCurrent (version_of serial topology.now f.current) f.current) }
+    ensures kept { IfOk result (λ f. IsKeptFor topology.now.market f.current.map.lines.items f.kept) }
     ensures steps { OnOk result (steps.new ≤ steps.old + most_offers topology.now.market) }
     ensures later { steps.old ≤ steps.new }
 {
     let instance = topology.instance().try_clone()?;
-    let mut state = State::fresh(alloc, &instance)?;
-    run(alloc, &instance, &mut state, steps)?;
-    let map = ended_map(alloc, &instance, &state)?;
-    dressed(alloc, topology, instance, map, &state)
+    let kept = mapped(alloc, &instance, steps)?;
+    let map = ended_map(alloc, &instance, &kept.state)?;
+    let current = dressed(alloc, topology, instance, map, &kept.state)?;
+    Ok(First { current, kept })
 }
 
 /// A state of a map, with the offers of its instance.

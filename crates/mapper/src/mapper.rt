@@ -10,13 +10,13 @@ ghost use Rattle.map_cell.specs.declared.door.OpenFault.TheVariants.{CellFault a
 ghost use Rattle.std.specs.Arc.{arc_value};
 ghost use Rattle.map_cell.specs.Histories.{IsSealed};
 ghost use Rattle.answer_core.specs.Reply.{Replies};
-ghost use Rattle.mapper.specs.Currents.{IsCurrent};
+ghost use Rattle.mapper.specs.Currents.{IsCurrent, IsKeptFor};
 ghost use Rattle.mapper.specs.Feeding.{IsFeed};
 ghost use Rattle.mapper.specs.Mappers.{IsFirst, IsPublished, most_offers};
 ghost use Rattle.mapper.specs.Scenes.{scene};
 ghost use Rattle.mapper.specs.Words.{map_text, reply_by, totals_of};
 
-use crate::current::{Current, first_of};
+use crate::current::{First, first_of};
 use crate::feeding::Feeding;
 use crate::maps::Maps;
 use crate::{Totals, run_feed};
@@ -61,33 +61,35 @@ impl<J: Naming> Model for Mapper<J> {
 struct Prepared {
     topology: Arc<Topology>,
     intake: Intake,
-    current: Current,
-    first: MapVersion,
+    first: First,
+    version: MapVersion,
 }
 
 /// Maps a topology from scratch, and takes all room that a feed needs.
 fn prepare<L>(alloc: Global, topology: Topology, steps: &mut Steps<L>) -> Result<Prepared, NoMemory>
-    ensures plan { IfOk result (λ p. (arc_value p.topology ≡ topology) × (p.first.plan ≡ topology)) }
-    ensures first { IfOk result (λ p. IsVersion p.first × (p.first.serial ≡ 0) × (p.first.market ≡ topology.market)) }
-    ensures current { IfOk result (λ p. IsCurrent p.first p.current) }
+    ensures plan { IfOk result (λ p. (arc_value p.topology ≡ topology) × (p.version.plan ≡ topology)) }
+    ensures version { IfOk result (λ p. IsVersion p.version × (p.version.serial ≡ 0) × (p.version.market ≡ topology.market)) }
+    ensures current { IfOk result (λ p. IsCurrent p.version p.first.current) }
+    ensures kept { IfOk result (λ p. IsKeptFor p.version.market p.version.lines p.first.kept) }
     ensures steps { OnOk result (steps.new ≤ steps.old + most_offers topology.market) }
     ensures later { steps.old ≤ steps.new }
 {
     let intake = Intake::new(alloc)?;
     let lookup = Lookup::build(alloc, topology.prefixes())?;
-    let current = first_of(alloc, &topology, steps)?;
+    let first = first_of(alloc, &topology, steps)?;
     let topology = Arc::new(alloc, topology)?;
     let shared = Shared {
         topology: Arc::try_clone(&topology)?,
         lookup,
     };
     let shared = Arc::new(alloc, shared)?;
-    let first = MapVersion::make(alloc, 0, &current.instance, &current.map, shared)?;
+    let current = &first.current;
+    let version = MapVersion::make(alloc, 0, &current.instance, &current.map, shared)?;
     Ok(Prepared {
         topology,
         intake,
-        current,
         first,
+        version,
     })
 }
 
@@ -126,11 +128,11 @@ impl<J: Naming> Mapper<J> {
         let Prepared {
             topology,
             intake,
-            current,
             first,
+            version,
         } = prepared;
-        let (publisher, seats) = map_cell::open(rt, alloc, history, first, viewers, door)?;
-        let maps = Maps::of(alloc, publisher, current);
+        let (publisher, seats) = map_cell::open(rt, alloc, history, version, viewers, door)?;
+        let maps = Maps::of(alloc, publisher, first);
         Ok((
             Mapper {
                 topology,

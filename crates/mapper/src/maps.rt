@@ -10,7 +10,7 @@ ghost use Rattle.mapper.specs.Currents.{IsCurrent, IsKeptFor, IsPrepared};
 ghost use Rattle.mapper.specs.Mappers.{IsPublished};
 ghost use Rattle.mapper.specs.Words.{reply_by};
 
-use crate::current::{Current, Kept, kept_of, next_of};
+use crate::current::{Current, First, Kept, kept_of, next_of};
 use addr_text::Addr;
 use answer_core::{Answer, reply};
 use arrayvec::ArrayVec;
@@ -63,17 +63,18 @@ fn store<T: Drop>(place: &mut T, value: T)
 
 impl<J: Naming> Maps<J> {
     /// Those of a cell that was just opened.
-    pub fn of(alloc: Global, publisher: Publisher<J>, current: Current) -> Maps<J>
+    pub fn of(alloc: Global, publisher: Publisher<J>, first: First) -> Maps<J>
         requires version { IsVersion publisher.newest }
         requires last { IsSealed publisher.history publisher.newest }
-        requires current { IsCurrent publisher.newest current }
+        requires current { IsCurrent publisher.newest first.current }
+        requires kept { IsKeptFor publisher.newest.market publisher.newest.lines first.kept }
         ensures { result ≡ publisher }
     {
         Maps {
             alloc,
             publisher,
-            current,
-            kept: None,
+            current: first.current,
+            kept: Some(first.kept),
         }
     }
 

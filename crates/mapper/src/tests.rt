@@ -6,7 +6,7 @@ use crate::saying::write;
 use crate::{Mapper, Saying, Spoken, Totals};
 use arrayvec::ArrayVec;
 use demand_feed::{Batch, BatchFault, FeedEnd, Line, LineFault, Refusal};
-use map_cell::{EmptyHistory, Naming, NoteRow, PlainDoor, RowNotes};
+use map_cell::{EmptyHistory, MemDoor, Naming, NoteRow, OpenFault, PlainDoor, RowNotes};
 use map_model::{Instance, MapLines, Steps};
 use no_memory::NoMemory;
 use outside::{MemPace, MemSink, MemSource, Notes, PaceCall};
@@ -15,7 +15,7 @@ use std::alloc::Global;
 use std::marker::Brand;
 use std::sync::Wait;
 use std::test::Fail;
-use topology_text::read_topology;
+use topology_text::{Topology, read_topology};
 use worlds::EXAMPLE_TREE;
 
 /// The proposals of these tests, as what is counted.
@@ -536,5 +536,50 @@ fn commits<R: Wait>(rt: &R, alloc: Global, batch: &mut Batch, rounds: u64) -> bo
 fn commits_in_a_row(rt: HostRuntime) -> Result<(), Fail> {
     let mut batch = Batch::new(rt.alloc())?;
     assert!(rt; commits(&rt, rt.alloc(), &mut batch, 5_000));
+    Ok(())
+}
+
+/// How an opening with two viewers is refused, and how many proposals it makes.
+fn opening<J: Naming, R: Wait>(
+    rt: &R,
+    alloc: Global,
+    history: EmptyHistory,
+    topology: Topology,
+    refused: Vec<u64>,
+) -> (Option<OpenFault>, u64)
+    requires { history ≡ J.book }
+{
+    let mut door = MemDoor::new(refused, Vec::new(alloc));
+    let mut steps = Steps::<Counted>::new();
+    match Mapper::<J>::open(rt, alloc, history, topology, 2, &mut door, &mut steps) {
+        Ok((mapper, _viewers)) => {
+            mapper.close(rt);
+            (None, steps.count())
+        }
+        Err(fault) => (Some(fault), steps.count()),
+    }
+}
+
+/// The same, of a cell of its own.
+fn opens<R: Wait>(
+    rt: &R,
+    alloc: Global,
+    topology: Topology,
+    refused: Vec<u64>,
+) -> (Option<OpenFault>, u64) {
+    opening::<Brand, R>(rt, alloc, EmptyHistory::new(), topology, refused)
+}
+
+/// The second of two places is refused, or a third one, for which nobody asks. Both groups offer at their first pool,
+/// and the second one then what it lost there at the other.
+#[test]
+fn openings(rt: HostRuntime) -> Result<(), Fail> {
+    let alloc = rt.alloc();
+    let topology = read_topology(alloc, EXAMPLE_TREE.as_bytes())?;
+    let refused = Vec::from_slice(alloc, [1].as_slice())?;
+    assert!(rt; opens(&rt, alloc, topology, refused) == (Some(OpenFault::CellFault), 3));
+    let topology = read_topology(alloc, EXAMPLE_TREE.as_bytes())?;
+    let refused = Vec::from_slice(alloc, [2].as_slice())?;
+    assert!(rt; opens(&rt, alloc, topology, refused) == (None, 3));
     Ok(())
 }

@@ -1,0 +1,11 @@
+use Rattle.std.proofs.Common.{arith}
+use Rattle.mapper.proofs.Fresh.{ended_state, fresh_offers}
+use Rattle.mapper.proofs.current.mapped.Goals as goal
+
+pub returns-clause-state : goal.returns-clause-state
+returns-clause-state g c =
+    let run = c.in_ok-run.ensures in
+    ended_state c.args.instance.now c.in_ok-state.state c.run.new.state c.in_ok-state.ensures.fresh run.run run.ended run.wanted
+
+pub returns-clause-steps : goal.returns-clause-steps
+returns-clause-steps g c = omega (arith, c.in_ok-run.ensures.steps, fresh_offers c.args.instance.now c.in_ok-state.state c.in_ok-state.ensures.fresh)
