@@ -18,7 +18,7 @@ use std::marker::Brand;
 use std::sync::Wait;
 use std::test::Fail;
 use std::thread::Threads;
-use topology_text::read_topology;
+use topology_text::{Topology, read_topology};
 use worlds::EXAMPLE_TREE;
 
 /// What the steps of these tests are counted as.
@@ -78,8 +78,26 @@ fn lane_of(alloc: Global, queries: u8, refused: &[u64]) -> Option<Lane<MemPort, 
     })
 }
 
-/// Drives the example with so many viewers over a feed: how it ended, unless something else was said.
-fn drive_example<
+/// A feed, and both outputs.
+#[derive(Drop)]
+struct Streams {
+    feed: MemSource,
+    out: MemSink,
+    maps: MemSink,
+}
+
+/// A feed of these lines, and empty outputs.
+fn streams_of(alloc: Global, lines: &[u8]) -> Option<Streams> {
+    let bytes = Vec::from_slice(alloc, lines).ok()?;
+    Some(Streams {
+        feed: MemSource::new(alloc, bytes, Vec::new(alloc), Vec::new(alloc)).ok()?,
+        out: MemSink::new(alloc, 1_000, Vec::new(alloc)).ok()?,
+        maps: MemSink::new(alloc, 1_000, Vec::new(alloc)).ok()?,
+    })
+}
+
+/// Drives a topology with so many viewers: how it ended.
+fn drive_over<
     J: Naming + Send + Sync,
     P: Port + Send,
     G: Gate + Send,
@@ -90,8 +108,8 @@ fn drive_example<
     rt: &R,
     alloc: Global,
     history: EmptyHistory,
-    lines: &[u8],
-    said: &[u8],
+    topology: Topology,
+    streams: &mut Streams,
     viewers: u8,
     lanes: &mut [Lane<P, G, D>],
     pace: &mut M,
@@ -99,25 +117,46 @@ fn drive_example<
     requires book { history ≡ J.book }
     requires few { (viewers ≤ 16) × (viewers ≤ length lanes.old) }
 {
-    let topology = read_topology(alloc, EXAMPLE_TREE.as_bytes()).ok()?;
-    let bytes = Vec::from_slice(alloc, lines).ok()?;
-    let mut feed = MemSource::new(alloc, bytes, Vec::new(alloc), Vec::new(alloc)).ok()?;
-    let mut out = MemSink::new(alloc, 1_000, Vec::new(alloc)).ok()?;
-    let mut maps = MemSink::new(alloc, 1_000, Vec::new(alloc)).ok()?;
     let mut door = PlainDoor::new();
     let mut steps = Steps::<Proposals>::new();
-    let Ok((mapper, seats)) = Mapper::<J>::open(
-        rt, alloc, history, topology, viewers, &mut door, &mut steps,
-    ) else {
-        return None;
-    };
-    let ended = drive(
-        rt, alloc, mapper, seats, &mut feed, &mut out, &mut maps, lanes, pace, 100,
-    );
-    if out.bytes() != said {
-        return None;
+    match Mapper::<J>::open(rt, alloc, history, topology, viewers, &mut door, &mut steps) {
+        Err(_) => None,
+        Ok((mapper, seats)) => {
+            let Streams { feed, out, maps } = streams;
+            drive(rt, alloc, mapper, seats, feed, out, maps, lanes, pace, 100).ok()
+        }
     }
-    ended.ok()
+}
+
+/// Drives the example with so many viewers over a feed: how it ended, unless something else was said.
+fn drive_example<P: Port + Send, G: Gate + Send, D: Door + Send, M: Pace, R: Threads + Wait + Sync>(
+    rt: &R,
+    alloc: Global,
+    lines: &[u8],
+    said: &[u8],
+    viewers: u8,
+    lanes: &mut [Lane<P, G, D>],
+    pace: &mut M,
+) -> Option<DriveEnd>
+    requires few { (viewers ≤ 16) × (viewers ≤ length lanes.old) }
+{
+    let topology = read_topology(alloc, EXAMPLE_TREE.as_bytes()).ok()?;
+    let mut streams = streams_of(alloc, lines)?;
+    let ended = drive_over::<Brand, P, G, D, M, R>(
+        rt,
+        alloc,
+        EmptyHistory::new(),
+        topology,
+        &mut streams,
+        viewers,
+        lanes,
+        pace,
+    );
+    if streams.out.bytes() == said {
+        ended
+    } else {
+        None
+    }
 }
 
 /// How a drive ended of which so many lanes, from the first on, ended so, and whose feed was read to its end.
@@ -143,15 +182,8 @@ fn one_lane<R: Threads + Wait + Sync>(
 ) -> Option<(DriveEnd, usize, usize)> {
     let mut lanes = [lane_of(alloc, queries, refused)?];
     let mut pace = MemPace::new(alloc, 10).ok()?;
-    let ended = drive_example::<Brand, MemPort, MemGate, MemDoor, MemPace, R>(
-        rt,
-        alloc,
-        EmptyHistory::new(),
-        ONE_BATCH,
-        ONE_SAID,
-        1,
-        &mut lanes,
-        &mut pace,
+    let ended = drive_example::<MemPort, MemGate, MemDoor, MemPace, R>(
+        rt, alloc, ONE_BATCH, ONE_SAID, 1, &mut lanes, &mut pace,
     )?;
     let port = &lanes[0].port;
     Some((ended, port.taken().len(), port.tries().len()))
@@ -189,10 +221,9 @@ fn some_lanes<R: Threads + Wait + Sync>(
         return None;
     }
     let mut pace = MemPace::new(alloc, 10).ok()?;
-    let ended = drive_example::<Brand, MemPort, MemGate, MemDoor, MemPace, R>(
+    let ended = drive_example::<MemPort, MemGate, MemDoor, MemPace, R>(
         rt,
         alloc,
-        EmptyHistory::new(),
         TWO_BATCHES,
         TWO_SAID,
         count,
@@ -298,10 +329,9 @@ fn run_at_once<R: Threads + Wait + Sync>(
 ) -> Option<(DriveEnd, [Option<(u64, u64)>; 4], [Option<(u64, u64)>; 4])> {
     let mut lanes = held_lanes(alloc, marks)?;
     let mut pace = held_pace(alloc, marks)?;
-    let ended = drive_example::<Brand, MemPort, HoldGate<'_>, PlainDoor, HoldPace<'_>, R>(
+    let ended = drive_example::<MemPort, HoldGate<'_>, PlainDoor, HoldPace<'_>, R>(
         rt,
         alloc,
-        EmptyHistory::new(),
         TWO_BATCHES,
         TWO_SAID,
         2,
