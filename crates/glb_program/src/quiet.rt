@@ -39,7 +39,7 @@ pub fn quiet_lanes(alloc: Global) -> Result<Vec<QuietLane>, NoMemory>
 {
     let mut lanes = Vec::with_capacity(alloc, LANES)?;
     for _ in 0..LANES {
-        lanes.push_reserved(quiet_lane(alloc)?);
+        lanes.push(quiet_lane(alloc)?)?;
     }
     Ok(lanes)
 }

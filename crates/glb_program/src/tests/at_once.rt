@@ -104,7 +104,7 @@ fn held_lanes<'a>(
     let mut lanes = Vec::with_capacity(alloc, LANES)?;
     for i in 0..LANES {
         let held = first.get(i).copied().unwrap_or(IDLE);
-        lanes.push_reserved(held_lane(alloc, marks, held)?);
+        lanes.push(held_lane(alloc, marks, held)?)?;
     }
     Ok(lanes)
 }

@@ -94,7 +94,7 @@ fn lanes_of(alloc: Global, scripts: &[Script]) -> Result<Vec<MemLane>, NoMemory>
     let mut lanes = Vec::with_capacity(alloc, LANES)?;
     for i in 0..LANES {
         let script = scripts.get(i).copied().unwrap_or(QUIET);
-        lanes.push_reserved(lane_of(alloc, script)?);
+        lanes.push(lane_of(alloc, script)?)?;
     }
     Ok(lanes)
 }
