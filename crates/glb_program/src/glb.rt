@@ -1,5 +1,5 @@
 //! The top call: words and all outside to a status.
-ghost use Rattle.std.specs.Prelude.{◌≡◌, ◌≢◌, ◌≤◌, ◌⊎◌, ◌^◌, All, IsSome, length, map, option_map};
+ghost use Rattle.std.specs.Prelude.{◌≡◌, ◌≢◌, ◌≤◌, ◌⊎◌, ◌^◌, IsSome, length, map, option_map};
 ghost use Rattle.outside.specs.Faults.{BothTell};
 ghost use Rattle.demand_feed.specs.declared.limits.TheConstants.{MOST_TURNS};
 ghost use Rattle.command_line.specs.Asked.{texts};
@@ -46,7 +46,6 @@ fn run_order<
 ) -> Status
     requires manned { IsManned order }
     requires lanes { length lanes.old ≡ 16 }
-    requires doors { All (λ l. D.greatest l.door ≡ 0) lanes.old }
     requires turns { (1 ≤ turns) × (turns ≤ 2 ^ 48) }
     ensures run { IsRun turns (option_map task_of order.entry) (surroundings (F.told files.old) (F.faults files.old) (stage (S.told feed.old) (K.told out.old) (K.told maps.old) (M.told pace.old) (map (lane_told P.told P.faults G.told D.looks D.greatest D.faults) lanes.old) (map (lane_asked D.asked) lanes.old) (S.faults feed.old) (K.faults out.old) (K.faults maps.old))) (surroundings (F.told files.new) (F.faults files.new) (stage (S.told feed.new) (K.told out.new) (K.told maps.new) (M.told pace.new) (map (lane_told P.told P.faults G.told D.looks D.greatest D.faults) lanes.new) (map (lane_asked D.asked) lanes.new) (S.faults feed.new) (K.faults out.new) (K.faults maps.new))) result }
     ensures noted { BothTell (F.told files.old) (F.told files.new) (AreLoadsOf (loads_of (option_map task_of order.entry))) }
@@ -73,7 +72,7 @@ fn run_order<
 
 /// The whole program: does what the words ask for, over these files, this feed, these outputs and these 16 lanes, and answers the status.
 ///
-/// The first word is the program's name. No door of a lane was used; lanes and feed take at most so many turns, 1 to 2^48.
+/// The first word is the program's name. Each lane and the feed take at most so many turns, 1 to 2^48.
 pub fn glb<
     R: Threads + Wait + Sync,
     F: Shelf,
@@ -96,7 +95,6 @@ pub fn glb<
     turns: u64,
 ) -> Status
     requires lanes { length lanes.old ≡ 16 }
-    requires doors { All (λ l. D.greatest l.door ≡ 0) lanes.old }
     requires turns { (1 ≤ turns) × (turns ≤ 2 ^ 48) }
     // What the run does, by the words: a command that says one text puts it on the output, and touches nothing else but the files; `serve` publishes a history of good maps, and its lanes answer from it. Where files or feed don't tell what they hold, there are octets for which that is so.
     ensures run { IsRun turns (asked (texts words.now)) (surroundings (F.told files.old) (F.faults files.old) (stage (S.told feed.old) (K.told out.old) (K.told maps.old) (M.told pace.old) (map (lane_told P.told P.faults G.told D.looks D.greatest D.faults) lanes.old) (map (lane_asked D.asked) lanes.old) (S.faults feed.old) (K.faults out.old) (K.faults maps.old))) (surroundings (F.told files.new) (F.faults files.new) (stage (S.told feed.new) (K.told out.new) (K.told maps.new) (M.told pace.new) (map (lane_told P.told P.faults G.told D.looks D.greatest D.faults) lanes.new) (map (lane_asked D.asked) lanes.new) (S.faults feed.new) (K.faults out.new) (K.faults maps.new))) result }

@@ -1,5 +1,5 @@
 //! Two lanes that run beside the feed: each side waits until the other has come to a stated point.
-ghost use Rattle.std.specs.Prelude.{◌≡◌, All, IfOk, vec_len};
+ghost use Rattle.std.specs.Prelude.{◌≡◌, IfOk, vec_len};
 
 use super::serving::queries;
 use super::{Missing, REGION, Topology, shelf, texts};
@@ -75,9 +75,7 @@ const FEED: &[u8] = b"demand g2 4\ncommit\ndemand g2 5\ncommit\nstop\n";
 
 type HoldLane<'a> = Lane<MemPort, HoldGate<'a>, PlainDoor>;
 
-fn held_lane(alloc: Global, marks: &Marks, held: Held) -> Result<HoldLane<'_>, NoMemory>
-    ensures { IfOk result (λ l. l.door.greatest ≡ 0) }
-{
+fn held_lane(alloc: Global, marks: &Marks, held: Held) -> Result<HoldLane<'_>, NoMemory> {
     let waiting = queries(alloc, held.queries)?;
     let points = Vec::from_slice(alloc, held.points)?;
     Ok(Lane {
@@ -98,13 +96,12 @@ fn held_lanes<'a>(
     marks: &'a Marks,
     first: &[Held],
 ) -> Result<Vec<HoldLane<'a>>, NoMemory>
-    ensures length { IfOk result (λ v. vec_len v ≡ LANES) }
-    ensures doors { IfOk result (λ v. All (λ l. l.door.greatest ≡ 0) v.items) }
+    ensures { IfOk result (λ v. vec_len v ≡ LANES) }
 {
     let mut lanes = Vec::with_capacity(alloc, LANES)?;
     for i in 0..LANES {
         let held = first.get(i).copied().unwrap_or(IDLE);
-        lanes.push_reserved(held_lane(alloc, marks, held)?);
+        lanes.push(held_lane(alloc, marks, held)?)?;
     }
     Ok(lanes)
 }

@@ -1,11 +1,11 @@
 //! `serve` over a region of two pools, in memory.
-ghost use Rattle.std.specs.Prelude.{◌≡◌, ◌≤◌, ◌^◌, All, IfOk, vec_len};
+ghost use Rattle.std.specs.Prelude.{◌≡◌, ◌≤◌, ◌^◌, IfOk, vec_len};
 
 use super::{Missing, REGION, Topology, shelf, texts};
 use crate::quiet::LANES;
 use crate::{Lane, Status, glb};
 use addr_text::{Addr, Peer};
-use map_cell::PlainDoor;
+use map_cell::MemDoor;
 use no_memory::NoMemory;
 use outside::{MemGate, MemPace, MemPacket, MemPort, MemSink, MemSource};
 use std::alloc::Global;
@@ -27,13 +27,15 @@ pub const QUERY: &[u8] = &[
     b'x', b'a', b'm', b'p', b'l', b'e', 0, 0, 1, 0, 1,
 ];
 
-/// What waits at a lane, how often its gate lets it go on, and which of its openings and sends fail.
+/// What waits at a lane, how often its gate lets it go on, which of its openings and sends fail, and which places and looks its door refuses.
 #[derive(Clone, Copy)]
 struct Script {
     queries: u8,
     goes: usize,
     open_fails: &'static [u64],
     send_fails: &'static [u64],
+    refused_places: &'static [u64],
+    refused_looks: &'static [u64],
 }
 
 /// A lane at which nothing waits.
@@ -42,6 +44,8 @@ const QUIET: Script = Script {
     goes: 1,
     open_fails: &[],
     send_fails: &[],
+    refused_places: &[],
+    refused_looks: &[],
 };
 
 /// One query, which the gate lets through.
@@ -50,6 +54,8 @@ const ONE: Script = Script {
     goes: 100,
     open_fails: &[],
     send_fails: &[],
+    refused_places: &[],
+    refused_looks: &[],
 };
 
 /// Three queries.
@@ -71,30 +77,29 @@ pub fn queries(alloc: Global, count: u8) -> Result<LinkedList<MemPacket>, NoMemo
     Ok(waiting)
 }
 
-type MemLane = Lane<MemPort, MemGate, PlainDoor>;
+type MemLane = Lane<MemPort, MemGate, MemDoor>;
 
-fn lane_of(alloc: Global, script: Script) -> Result<MemLane, NoMemory>
-    ensures { IfOk result (λ l. l.door.greatest ≡ 0) }
-{
+fn lane_of(alloc: Global, script: Script) -> Result<MemLane, NoMemory> {
     let waiting = queries(alloc, script.queries)?;
     let opens = Vec::from_slice(alloc, script.open_fails)?;
     let sends = Vec::from_slice(alloc, script.send_fails)?;
+    let places = Vec::from_slice(alloc, script.refused_places)?;
+    let looks = Vec::from_slice(alloc, script.refused_looks)?;
     Ok(Lane {
         port: MemPort::new(alloc, waiting, opens, Vec::new(alloc), sends)?,
         gate: MemGate::new(alloc, script.goes)?,
-        door: PlainDoor::new(),
+        door: MemDoor::new(places, looks),
     })
 }
 
 /// 16 lanes, of which the first are as the scripts say.
 fn lanes_of(alloc: Global, scripts: &[Script]) -> Result<Vec<MemLane>, NoMemory>
-    ensures length { IfOk result (λ v. vec_len v ≡ LANES) }
-    ensures doors { IfOk result (λ v. All (λ l. l.door.greatest ≡ 0) v.items) }
+    ensures { IfOk result (λ v. vec_len v ≡ LANES) }
 {
     let mut lanes = Vec::with_capacity(alloc, LANES)?;
     for i in 0..LANES {
         let script = scripts.get(i).copied().unwrap_or(QUIET);
-        lanes.push_reserved(lane_of(alloc, script)?);
+        lanes.push(lane_of(alloc, script)?)?;
     }
     Ok(lanes)
 }
@@ -246,6 +251,27 @@ const ROWS: &[Row] = &[
         turns: 3,
         status: Status::Spent,
         served: &[(3, 3)],
+        ..PLAIN
+    },
+    Row {
+        feed: "stop\n",
+        lanes: &[Script {
+            refused_looks: &[1],
+            ..THREE
+        }],
+        status: Status::CellFault,
+        served: &[(2, 1)],
+        ..PLAIN
+    },
+    Row {
+        feed: "stop\n",
+        lanes: &[Script {
+            refused_places: &[0],
+            ..THREE
+        }],
+        status: Status::CellFault,
+        maps: "",
+        served: &[(0, 0)],
         ..PLAIN
     },
     Row {
