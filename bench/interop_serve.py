@@ -371,6 +371,7 @@ PARTS = {"tools": tools, "raw": raw, "feed": feed, "resolvers": resolvers}
 def main():
     for part in sys.argv[1:] or PARTS:
         PARTS[part]()
+        print(f"{part}: {interop.passed} passed so far, {len(interop.failures)} failed", flush=True)
     interop.tell()
 
 
