@@ -3,7 +3,7 @@
 
     serve.py WORK [GROUPS [SECONDS]]        with the program in GLB
 
-The world is that of large_world.py. gdnsd and Knot get, for each group's prefix, the pool that holds most of the group
+The world is that of large_world.py with sixteen times its capacities, so that each group is placed. gdnsd and Knot get, for each group's prefix, the pool that holds most of the group
 in glb's map, so that all three look a client up among the same prefixes and answer one address. Queries come from
 127.0.0.1; those with client subnets name a network of 24 bits of each group in turn.
 """
@@ -127,8 +127,8 @@ def load(server, queries, seconds=SECONDS, rate=None):
     sent = int(re.search(r"Queries sent:\s+(\d+)", text).group(1))
     done = int(re.search(r"Queries completed:\s+(\d+)", text).group(1))
     elapsed = float(re.search(r"Run time \(s\):\s+([\d.]+)", text).group(1))
-    if not re.search(rf"NOERROR {done}\b|NOERROR.*\(100", text) and "glb" not in server.name:
-        print(text)
+    if not re.search(rf"NOERROR {done}\b", text):
+        print(f"not all replies of {server.name} are answers:", re.findall(r"Response codes:.*", text))
     user, system = ((b - a) * 1e6 / max(done, 1) for a, b in zip(before, after))
     return done / elapsed, 1 - done / sent, user, system
 
@@ -227,7 +227,7 @@ def publish(server, ends):
     number = 0
     while not ends.is_set():
         number += 1
-        server.process.stdin.write(f"capacity r0-0 {10 + number % 2}\ncommit\n".encode())
+        server.process.stdin.write(f"capacity r0-0 {160 + number % 2}\ncommit\n".encode())
         server.process.stdin.flush()
         time.sleep(0.01)
 
@@ -245,8 +245,8 @@ def while_published(server, rate):
 
 
 def main():
-    with (WORK / "topology").open("w") as file:
-        subprocess.run([sys.executable, str(HERE / "large_world.py"), str(GROUPS)], stdout=file, check=True)
+    text = subprocess.run([sys.executable, str(HERE / "large_world.py"), str(GROUPS)], capture_output=True, text=True, check=True).stdout
+    (WORK / "topology").write_text(re.sub(r"capacity = (\d+)", lambda found: f"capacity = {16 * int(found.group(1))}", text))
     with (WORK / "map").open("w") as file:
         subprocess.run([GLB, "map", str(WORK / "topology")], stdout=file, check=True)
     write_queries()
