@@ -113,9 +113,11 @@ def ask(host, port, octets, wait=2.0):
         try:
             client.connect((host, port))
             client.send(octets)
-            return client.recv(4096)
+            reply = client.recv(4096)
         except OSError:
             return None
+        # before the server is bound, the system may give a client that very port, which then hears itself
+        return reply if reply[2] & 0x80 else None
 
 
 class Server:

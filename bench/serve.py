@@ -56,8 +56,9 @@ def first_answer(port):
             try:
                 client.connect(("127.0.0.1", port))
                 client.send(query())
-                client.recv(4096)
-                return
+                # before the server is bound, the system may give a client that very port, which then hears itself
+                if client.recv(4096)[2] & 0x80:
+                    return
             except OSError:
                 time.sleep(0.001)
 
