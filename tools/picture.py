@@ -5,9 +5,9 @@
 
 Each tree has a row for each node: a frame as wide as its capacity, filled as far as it is loaded, and beside a full
 node what it refuses, that is the groups which would rather use the pool in brackets. Below stand the groups with
-units that are placed nowhere. The fullest trees come first, and a tree's fullest nodes where not all have room:
-N trees (12 if it is not given), N nodes of each (16), N groups (16). In a world of at most eight groups each has a
-colour of its own.
+units that are placed nowhere. A frame that is drawn shorter than its capacity has » behind its numbers. The fullest
+trees come first, and a tree's fullest nodes where not all have room: N trees (12 if it is not given), N nodes of each
+(16), N groups (16). In a world of at most eight groups each has a colour of its own.
 
 It reads the texts that `glb` reads and writes, takes a map as it is, and needs Python 3.11 alone. It is no part of the
 proved program.
@@ -105,6 +105,14 @@ def count(number, one, many=None):
     return f"{number:,} {one if number == 1 else many or one + 's'}"
 
 
+def short(number):
+    """A number in at most seven characters."""
+    for size, letter in [(10**12, "T"), (10**9, "G"), (10**6, "M")]:
+        if number >= size:
+            return f"{number / size:.1f} {letter}"
+    return f"{number:,}"
+
+
 def shortened(text, most):
     return text if len(text) <= most else text[: most - 1] + "…"
 
@@ -170,7 +178,7 @@ def draw_node(canvas, world, name, depth, limit):
         canvas.box(x, load * scale, FULL if world.is_full(name) else FREE)
     is_long = capacity > limit
     canvas.box(BARS, min(capacity, limit) * scale, "none", FULL if world.is_full(name) else GREY)
-    canvas.text(NUMBERS, f"{load:,} / {capacity:,}" + (" (longer)" if is_long else ""), ink)
+    canvas.text(NUMBERS, f"{short(load)} / {short(capacity)}" + (" »" if is_long else ""), ink)
     if world.refused[name]:
         canvas.text(WORDS, shortened(refusals(world.refused[name], name), 56), FULL)
     canvas.down()
@@ -211,7 +219,7 @@ def draw_unplaced(canvas, world, most):
         canvas.box(BARS, (demand - units) * scale, FREE if not colours(world) else colours(world)[name])
         canvas.box(BARS + (demand - units) * scale, units * scale, UNPLACED)
         canvas.box(BARS, demand * scale, "none", GREY)
-        canvas.text(NUMBERS, f"{units:,} of {demand:,}")
+        canvas.text(NUMBERS, f"{short(units)} of {short(demand)}")
         canvas.down()
     if len(left) > most:
         rest = left[most:]
