@@ -109,20 +109,20 @@ def run_tool(*words):
     return subprocess.run(words, capture_output=True, text=True, timeout=30).stdout
 
 
-def ask_dig(tool, port):
+def ask_dig(tool, port, host="127.0.0.1"):
     for name, kind, words, wanted in ROWS:
-        text = run_tool(tool, "@127.0.0.1", "-p", str(port), *words, "+tries=1" if tool == "dig" else "+retry=0", name, kind)
-        expect(f"{tool} {name} {kind}", parse_dig(text), wanted)
-        expect(f"{tool} {name} {kind} complains", complaints(text), [])
+        text = run_tool(tool, f"@{host}", "-p", str(port), *words, "+tries=1" if tool == "dig" else "+retry=0", name, kind)
+        expect(f"{tool} @{host} {name} {kind}", parse_dig(text), wanted)
+        expect(f"{tool} @{host} {name} {kind} complains", complaints(text), [])
 
 
-def ask_subnets(port):
-    base = ["dig", "@127.0.0.1", "-p", str(port), "+tries=1", "www.cdn.example", "A"]
+def ask_subnets(port, host="127.0.0.1", answers=({A},)):
+    base = ["dig", f"@{host}", "-p", str(port), "+tries=1", "www.cdn.example", "A"]
     for subnet, told in [("198.51.100.0/24", "198.51.100.0/24/24"), ("198.51.100.0/25", "198.51.100.0/25/24"), ("203.0.113.0/24", "203.0.113.0/24/5"), ("2001:db8::/48", "2001:db8::/48/0")]:
         text = run_tool(*base, f"+subnet={subnet}")
         found = re.search(r"CLIENT-SUBNET: (\S+)", text)
         expect(f"dig +subnet={subnet}", found and found.group(1), told)
-        expect(f"dig +subnet={subnet} answer", parse_dig(text)[1], {A})
+        expect(f"dig +subnet={subnet} answer", parse_dig(text)[1] in answers, True)
     # SOURCE 0 with a family is repeated with scope 0
     text = run_tool(*base, "+ednsopt=8:00010000")
     expect("dig source 0", re.search(r"CLIENT-SUBNET: (\S+)", text) is not None, True)
@@ -135,18 +135,18 @@ def ask_subnets(port):
     expect("dig +dnssec", re.search(r"; EDNS: version: 0, flags: do; udp: 1232", text) is not None, True)
     text = run_tool(*base, "+opcode=2")
     expect("dig +opcode=2", re.search(r"status: (\w+)", text).group(1), "NOTIMP")
-    text = run_tool("dig", "@127.0.0.1", "-p", str(port), "+tries=1", "-c", "CH", "www.cdn.example", "A")
+    text = run_tool("dig", f"@{host}", "-p", str(port), "+tries=1", "-c", "CH", "www.cdn.example", "A")
     expect("dig class CH", re.search(r"status: (\w+)", text).group(1), "REFUSED")
 
 
-def ask_drill(port):
+def ask_drill(port, host="127.0.0.1"):
     for name, kind, _, wanted in ROWS:
-        text = run_tool("drill", "-p", str(port), name, "@127.0.0.1", kind)
+        text = run_tool("drill", "-p", str(port), name, f"@{host}", kind)
         rcode = re.search(r"rcode: (\w+)", text)
-        expect(f"drill {name} {kind}", rcode and rcode.group(1), wanted[0])
+        expect(f"drill @{host} {name} {kind}", rcode and rcode.group(1), wanted[0])
 
 
-def ask_dnspython(port):
+def ask_dnspython(port, host="127.0.0.1"):
     import dns.flags
     import dns.message
     import dns.query
@@ -155,16 +155,16 @@ def ask_dnspython(port):
     for name, kind, _, wanted in ROWS:
         for edns in (False, 0):
             query = dns.message.make_query(name, kind, use_edns=edns)
-            reply = dns.query.udp(query, "127.0.0.1", timeout=10, port=port, ignore_trailing=False)
+            reply = dns.query.udp(query, host, timeout=10, port=port, ignore_trailing=False)
             data = {item.to_text() for rrset in reply.answer for item in rrset}
             authority = [item.to_text() for rrset in reply.authority for item in rrset] == [SOA]
             got = (dns.rcode.to_text(reply.rcode()), data, bool(reply.flags & dns.flags.AA), authority)
-            expect(f"dnspython {name} {kind} edns {edns}", got, wanted)
-            expect(f"dnspython {name} {kind} edns {edns}: OPT", reply.edns, -1 if edns is False else 0)
+            expect(f"dnspython @{host} {name} {kind} edns {edns}", got, wanted)
+            expect(f"dnspython @{host} {name} {kind} edns {edns}: OPT", reply.edns, -1 if edns is False else 0)
 
 
-def ask_empty(port):
-    text = run_tool("dig", "@127.0.0.1", "-p", str(port), "+tries=1", "www.cdn.example", "A")
+def ask_empty(port, host="127.0.0.1"):
+    text = run_tool("dig", f"@{host}", "-p", str(port), "+tries=1", "www.cdn.example", "A")
     expect("dig where nothing is placed", parse_dig(text), ("SERVFAIL", set(), False, False))
 
 
@@ -196,6 +196,13 @@ def ask_all(port):
     ask_dnspython(port)
 
 
+def tell():
+    for failure in failures:
+        print(failure)
+    print(f"{passed} passed, {len(failures)} failed")
+    sys.exit(1 if failures else 0)
+
+
 def main():
     missing = [tool for tool in ("dig", "kdig", "drill") if shutil.which(tool) is None]
     if missing:
@@ -203,10 +210,8 @@ def main():
     subprocess.run(["rt", "run", "--", "check", *FILES], cwd=TOP / "crates/glb_program", capture_output=True)
     while_served(FILES, ask_all)
     while_served(EMPTY, ask_empty)
-    for failure in failures:
-        print(failure)
-    print(f"{passed} passed, {len(failures)} failed")
-    sys.exit(1 if failures else 0)
+    tell()
 
 
-main()
+if __name__ == "__main__":
+    main()

@@ -1,0 +1,166 @@
+//! A port of UDP over one socket that lanes share.
+ghost use Rattle.std.specs.Prelude.{◌≡◌, ◌≤◌, ℕ, None, length};
+ghost use Rattle.outside.specs.Port.{IsShort};
+ghost use Rattle.outside.specs.declared.limits.TheConstants.{LARGEST_DATAGRAM};
+
+use crate::judged::{arrival_of, sending_of};
+use crate::peers::socket_addr;
+use addr_text::{Listen, Peer};
+use outside::{Arrival, LARGEST_DATAGRAM, Opening, Port, Sending};
+use std::marker::Model;
+use std::net::{Net, UdpSocket};
+use std::sync::OnceLock;
+use std::time::Duration;
+
+/// How long `recv` waits for a datagram, in milliseconds. So long may a lane take to see that it is to stop.
+const LONGEST_WAIT: u64 = 50;
+
+/// A socket that is bound.
+#[derive(Drop)]
+struct Bound {
+    socket: UdpSocket,
+    /// Where it was asked to be bound.
+    listen: Listen,
+    /// The port that it has, also where the system chose it.
+    port: u16,
+}
+
+/// The socket that ports share. Ports are opened one after another, before they are lent to threads.
+#[derive(Drop)]
+pub struct SharedUdp {
+    bound: OnceLock<Bound>,
+}
+
+impl SharedUdp {
+    /// One that is not bound.
+    pub fn new() -> SharedUdp {
+        SharedUdp {
+            bound: OnceLock::new(),
+        }
+    }
+
+    /// The UDP port of the socket. There is none exactly where nothing is bound.
+    pub fn port(&self) -> Option<u16> {
+        Some(self.bound.get()?.port)
+    }
+}
+
+/// A port of UDP over a shared socket, as a count of the calls that failed. The first one that is opened binds the
+/// socket, and the others share it. What a datagram brings about is no failure: a reply that the system refuses counts
+/// as lost.
+#[derive(Drop)]
+pub struct UdpPort<'a, N: Net> {
+    net: &'a N,
+    shared: &'a SharedUdp,
+    socket: Option<&'a UdpSocket>,
+    faults: u64,
+}
+
+impl<'a, N: Net> Model for UdpPort<'a, N> {
+    ghost use Rattle.std.specs.Prelude.{ℕ};
+
+    ghost Value = { ℕ };
+
+    ghost view = { λ p. p.faults };
+}
+
+impl<'a, N: Net> UdpPort<'a, N> {
+    /// One over this socket, which is not open, without a fault so far.
+    pub fn new(net: &'a N, shared: &'a SharedUdp) -> UdpPort<'a, N>
+        ensures { result ≡ 0 }
+    {
+        UdpPort {
+            net,
+            shared,
+            socket: None,
+            faults: 0,
+        }
+    }
+}
+
+/// Binds a socket there, whose `recv` waits for a while.
+fn bind<N: Net>(net: &N, listen: Listen) -> Option<Bound> {
+    let socket = UdpSocket::bind(net, socket_addr(listen.addr, listen.port)).ok()?;
+    let wait = Some(Duration::from_millis(LONGEST_WAIT));
+    socket.set_read_timeout(wait).ok()?;
+    let port = socket.local_addr().ok()?.port();
+    Some(Bound {
+        socket,
+        listen,
+        port,
+    })
+}
+
+/// The shared socket. It is bound there if it was not bound yet; there is none where it is bound elsewhere.
+fn join<'a, N: Net>(net: &N, shared: &'a SharedUdp, listen: Listen) -> Option<&'a UdpSocket> {
+    if shared.bound.get().is_none() {
+        let bound = bind(net, listen)?;
+        let _ = shared.bound.try_set(bound);
+    }
+    let bound = shared.bound.get()?;
+    if bound.listen == listen {
+        Some(&bound.socket)
+    } else {
+        None
+    }
+}
+
+/// Takes the next datagram, to the front of the buffer. One octet more than is answered has to be seen, so a buffer that
+/// has no room for it is filled from a longer one.
+fn take_datagram(socket: &UdpSocket, buffer: &mut [u8]) -> Arrival
+    requires { LARGEST_DATAGRAM ≤ length buffer.old }
+    ensures short { IsShort result }
+    ensures buffer { length buffer.new ≡ length buffer.old }
+{
+    if buffer.len() > LARGEST_DATAGRAM {
+        return arrival_of(socket.recv_from(buffer));
+    }
+    let mut longer = [0u8; LARGEST_DATAGRAM + 1];
+    let arrival = arrival_of(socket.recv_from(&mut longer));
+    if let Arrival::Arrived(len, _) = arrival {
+        buffer[..len].copy_from_slice(&longer[..len]);
+    }
+    arrival
+}
+
+impl<N: Net> Port for UdpPort<'_, N> {
+    ghost told = { λ _. None };
+
+    ghost faults = { λ p. p };
+
+    fn open(&mut self, listen: &Listen) -> Opening {
+        self.socket = join(self.net, self.shared, *listen);
+        if self.socket.is_some() {
+            Opening::Ready
+        } else {
+            self.faults = self.faults.saturating_add(1);
+            Opening::Failed
+        }
+    }
+
+    fn recv(&mut self, known: u64, buffer: &mut [u8]) -> Arrival {
+        let _ = known;
+        let arrival = match self.socket {
+            Some(socket) => take_datagram(socket, buffer),
+            None => Arrival::Failed,
+        };
+        if let Arrival::Failed = arrival {
+            self.faults = self.faults.saturating_add(1);
+        }
+        arrival
+    }
+
+    fn send(&mut self, octets: &[u8], peer: Peer, serial: u64) -> Sending {
+        let _ = serial;
+        let sending = match self.socket {
+            Some(socket) => {
+                sending_of(socket.send_to(octets, socket_addr(peer.addr, peer.port)))
+            }
+            None => Sending::Failed,
+        };
+        if let Sending::Failed = sending {
+            self.faults = self.faults.saturating_add(1);
+        }
+        sending
+    }
+}
