@@ -15,30 +15,30 @@ mod files;
 mod glb;
 mod large;
 mod map;
+mod network;
+#[cfg(test)]
 mod quiet;
 mod repair;
 mod saying;
 mod serve;
 mod starting;
 mod status;
-mod stream;
 mod text;
 mod words;
 
 pub use drive::Lane;
-use edges::{FileShelf, StreamSink, StreamSource};
+use edges::{FileShelf, FlagPace, SharedUdp, StandardStream, StopFlag, StreamSink, StreamSource};
 pub use glb::glb;
+use network::udp_lanes;
 use no_memory::NoMemory;
-use outside::MemPace;
-use quiet::quiet_lanes;
 pub use status::Status;
 use std::env;
 use std::io::{ErrorKind, Stderr, Stdin, Stdout};
+use std::net::Net;
 use std::process::ExitCode;
 use std::rt::{Env, Files};
 use std::sync::Wait;
 use std::thread::Threads;
-use stream::Stream;
 
 /// How many turns each lane has, and how many pieces the feed.
 const TURNS: u64 = 1 << 48;
@@ -67,20 +67,22 @@ struct Streams {
     maps: Stderr,
 }
 
-/// All of the program behind its words: over the files of the system, standard input as the feed, standard output, and standard error for the texts of maps. Its lanes serve no network.
-fn run_words<R: Threads + Wait + Sync + Files + AllocGlobal>(
+/// All of the program behind its words: over the files of the system, standard input as the feed, standard output, and standard error for the texts of maps. Its lanes share one socket of UDP, and stop when the feed has ended.
+fn run_words<R: Threads + Wait + Sync + Files + Net + AllocGlobal>(
     rt: &R,
     words: &[String],
     streams: Streams,
 ) -> Result<Status, NoMemory>
     ensures { IfOk result (HasRun (2 ^ 48) (asked (texts words.now))) }
 {
-    let mut lanes = quiet_lanes(rt.alloc())?;
-    let mut pace = MemPace::new(rt.alloc(), 0)?;
+    let shared = SharedUdp::new();
+    let flag = StopFlag::new();
+    let mut lanes = udp_lanes(rt.alloc(), rt, &shared, &flag)?;
+    let mut pace = FlagPace::new(&flag);
     let mut files = FileShelf::new(rt);
     let mut feed = StreamSource::new(streams.feed);
-    let mut out = StreamSink::new(Stream::Out(streams.out));
-    let mut maps = StreamSink::new(Stream::Error(streams.maps));
+    let mut out = StreamSink::new(StandardStream::Output(streams.out));
+    let mut maps = StreamSink::new(StandardStream::Error(streams.maps));
     Ok(glb(
         rt,
         rt.alloc(),
@@ -96,7 +98,7 @@ fn run_words<R: Threads + Wait + Sync + Files + AllocGlobal>(
 }
 
 /// The whole run: want of memory is a status too.
-fn run_all<R: Threads + Wait + Sync + Files + Env + AllocGlobal>(
+fn run_all<R: Threads + Wait + Sync + Files + Env + Net + AllocGlobal>(
     rt: &R,
     streams: Streams,
 ) -> Status {

@@ -1,15 +1,13 @@
-//! Lanes that serve no network: nothing waits at their ports.
+//! For tests alone: lanes at whose ports nothing waits.
 ghost use Rattle.std.specs.Prelude.{◌≡◌, IfOk, vec_len};
 
+pub use crate::network::LANES;
 use drive::Lane;
 use map_cell::PlainDoor;
 use no_memory::NoMemory;
 use outside::{MemGate, MemPort};
 use std::alloc::Global;
 use std::collections::LinkedList;
-
-/// How many lanes there are.
-pub const LANES: usize = 16;
 
 /// A lane at which nothing waits, and which ends at its first turn.
 pub type QuietLane = Lane<MemPort, MemGate, PlainDoor>;

@@ -1,0 +1,43 @@
+//! Lanes that serve a network: ports of UDP over one socket, gates that one flag stops, and plain doors.
+ghost use Rattle.std.specs.Prelude.{◌≡◌, All, IfOk, vec_len};
+
+use drive::Lane;
+use edges::{FlagGate, SharedUdp, StopFlag, UdpPort};
+use map_cell::PlainDoor;
+use no_memory::NoMemory;
+use std::alloc::Global;
+use std::net::Net;
+
+/// How many lanes there are.
+pub const LANES: usize = 16;
+
+/// A lane at a port of UDP.
+pub type UdpLane<'a, N> = Lane<UdpPort<'a, N>, FlagGate<'a>, PlainDoor>;
+
+/// A lane that is not opened.
+fn udp_lane<'a, N: Net>(net: &'a N, shared: &'a SharedUdp, flag: &'a StopFlag) -> UdpLane<'a, N>
+    ensures { result.door.greatest ≡ 0 }
+{
+    Lane {
+        port: UdpPort::new(net, shared),
+        gate: FlagGate::new(flag),
+        door: PlainDoor::new(),
+    }
+}
+
+/// As many of them as there are lanes, over one socket and with one flag.
+pub fn udp_lanes<'a, N: Net>(
+    alloc: Global,
+    net: &'a N,
+    shared: &'a SharedUdp,
+    flag: &'a StopFlag,
+) -> Result<Vec<UdpLane<'a, N>>, NoMemory>
+    ensures length { IfOk result (λ v. vec_len v ≡ LANES) }
+    ensures doors { IfOk result (λ v. All (λ l. l.door.greatest ≡ 0) v.items) }
+{
+    let mut lanes = Vec::with_capacity(alloc, LANES)?;
+    for _ in 0..LANES {
+        lanes.push_reserved(udp_lane(net, shared, flag));
+    }
+    Ok(lanes)
+}
