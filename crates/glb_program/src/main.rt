@@ -1,7 +1,7 @@
 //! `glb`, the mapping system of a content delivery network.
 #![tactic(auto)]
 
-ghost use Rattle.std.specs.Prelude.{◌≡◌, ◌^◌, IfOk};
+ghost use Rattle.std.specs.Prelude.{◌≡◌, ◌^◌, length};
 ghost use Rattle.std.specs.Process.{exit_status};
 ghost use Rattle.command_line.specs.Asked.{texts};
 ghost use Rattle.glb_program.specs.Outcome.{code_of};
@@ -29,12 +29,13 @@ mod words;
 pub use drive::Lane;
 use edges::{FileShelf, FlagPace, SharedUdp, StandardStream, StopFlag, StreamSink, StreamSource};
 pub use glb::glb;
+use map_cell::PlainDoor;
 use network::udp_lanes;
 use no_memory::NoMemory;
+use outside::{Gate, Pace, Port};
 pub use status::Status;
 use std::env;
 use std::io::{ErrorKind, Stderr, Stdin, Stdout};
-use std::net::Net;
 use std::process::ExitCode;
 use std::rt::{Env, Files};
 use std::sync::Wait;
@@ -67,23 +68,27 @@ struct Streams {
     maps: Stderr,
 }
 
-/// All of the program behind its words: over the files of the system, standard input as the feed, standard output, and standard error for the texts of maps. Its lanes share one socket of UDP, and stop when the feed has ended.
-fn run_words<R: Threads + Wait + Sync + Files + Net + AllocGlobal>(
+/// All of the program behind its words: over the files of the system, standard input as the feed, standard output, standard error for the texts of maps, and these lanes.
+fn run_words<
+    R: Threads + Wait + Sync + Files + AllocGlobal,
+    P: Port + Send,
+    G: Gate + Send,
+    M: Pace,
+>(
     rt: &R,
     words: &[String],
     streams: Streams,
-) -> Result<Status, NoMemory>
-    ensures { IfOk result (HasRun (2 ^ 48) (asked (texts words.now))) }
+    lanes: &mut [Lane<P, G, PlainDoor>],
+    pace: &mut M,
+) -> Status
+    requires { length lanes.old ≡ 16 }
+    ensures { HasRun (2 ^ 48) (asked (texts words.now)) result }
 {
-    let shared = SharedUdp::new();
-    let flag = StopFlag::new();
-    let mut lanes = udp_lanes(rt.alloc(), rt, &shared, &flag)?;
-    let mut pace = FlagPace::new(&flag);
     let mut files = FileShelf::new(rt);
     let mut feed = StreamSource::new(streams.feed);
     let mut out = StreamSink::new(StandardStream::Output(streams.out));
     let mut maps = StreamSink::new(StandardStream::Error(streams.maps));
-    Ok(glb(
+    glb(
         rt,
         rt.alloc(),
         words,
@@ -91,33 +96,42 @@ fn run_words<R: Threads + Wait + Sync + Files + Net + AllocGlobal>(
         &mut feed,
         &mut out,
         &mut maps,
-        lanes.as_mut_slice(),
-        &mut pace,
+        lanes,
+        pace,
         TURNS,
-    ))
+    )
 }
 
-/// The whole run: want of memory is a status too.
-fn run_all<R: Threads + Wait + Sync + Files + Env + Net + AllocGlobal>(
-    rt: &R,
-    streams: Streams,
-) -> Status {
+/// The whole run: want of memory for the words is a status too.
+fn run_all<
+    R: Threads + Wait + Sync + Files + Env + AllocGlobal,
+    P: Port + Send,
+    G: Gate + Send,
+    M: Pace,
+>(rt: &R, streams: Streams, lanes: &mut [Lane<P, G, PlainDoor>], pace: &mut M) -> Status
+    requires { length lanes.old ≡ 16 }
+{
     match read_args(rt) {
-        Ok(words) => match run_words(rt, words.as_slice(), streams) {
-            Ok(status) => status,
-            Err(NoMemory) => Status::NoMemory,
-        },
+        Ok(words) => run_words(rt, words.as_slice(), streams, lanes, pace),
         Err(NoMemory) => Status::NoMemory,
     }
 }
 
+/// Lanes over one socket of UDP, which stop when the feed has ended.
 fn main(rt: HostRuntime) -> ExitCode {
     let streams = Streams {
         feed: rt.stdin(),
         out: rt.stdout(),
         maps: rt.stderr(),
     };
-    exit_code(run_all(&rt, streams))
+    let shared = SharedUdp::new();
+    let flag = StopFlag::new();
+    let mut pace = FlagPace::new(&flag);
+    let status = match udp_lanes(rt.alloc(), &rt, &shared, &flag) {
+        Ok(mut lanes) => run_all(&rt, streams, lanes.as_mut_slice(), &mut pace),
+        Err(NoMemory) => Status::NoMemory,
+    };
+    exit_code(status)
 }
 
 #[cfg(test)]

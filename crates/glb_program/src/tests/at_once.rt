@@ -12,7 +12,10 @@ use outside::{
     Wanted,
 };
 use std::alloc::Global;
+use std::process::Abort;
+use std::sync::Wait;
 use std::test::Fail;
+use std::thread::Threads;
 
 /// What waits at a lane, and what is waited for at its turns.
 #[derive(Clone, Copy)]
@@ -116,30 +119,39 @@ fn are_tried(tries: &[MemTry], serials: &[u64]) -> bool {
     tries.iter().map(|t| t.serial).eq(serials.iter().copied())
 }
 
-#[test]
-fn lanes_run_at_once(rt: HostRuntime) -> Result<(), Fail> {
+/// What came of a run.
+#[derive(Drop)]
+struct HeldRun<'a> {
+    status: Status,
+    out: MemSink,
+    lanes: Vec<HoldLane<'a>>,
+}
+
+const WORDS: &[&str] = &[
+    "glb",
+    "serve",
+    "t",
+    "--listen",
+    "127.0.0.1:53",
+    "--workers",
+    "2",
+];
+
+/// A session of two lanes and a feed that hold each other by these marks.
+fn held_run<'a, R: Abort + Threads + Wait + Sync + AllocGlobal>(
+    rt: &R,
+    marks: &'a Marks,
+) -> Result<HeldRun<'a>, Fail> {
     let alloc = rt.alloc();
-    let words = texts(
-        &rt,
-        &[
-            "glb",
-            "serve",
-            "t",
-            "--listen",
-            "127.0.0.1:53",
-            "--workers",
-            "2",
-        ],
-    )?;
-    let mut files = shelf(&rt, Topology(REGION), Missing, &[])?;
+    let words = texts(rt, WORDS)?;
+    let mut files = shelf(rt, Topology(REGION), Missing, &[])?;
     let mut feed = MemSource::new(alloc, FEED.to_vec(alloc)?, Vec::new(alloc), Vec::new(alloc))?;
     let mut out = MemSink::new(alloc, 1024, Vec::new(alloc))?;
     let mut maps = MemSink::new(alloc, 1024, Vec::new(alloc))?;
-    let marks = Marks::new();
-    let mut lanes = held_lanes(alloc, &marks, &[FIRST_LANE, SECOND_LANE])?;
-    let mut pace = HoldPace::new(alloc, &marks, COMMITS.to_vec(alloc)?, 8)?;
+    let mut lanes = held_lanes(alloc, marks, &[FIRST_LANE, SECOND_LANE])?;
+    let mut pace = HoldPace::new(alloc, marks, COMMITS.to_vec(alloc)?, 8)?;
     let status = glb(
-        &rt,
+        rt,
         alloc,
         words.as_slice(),
         &mut files,
@@ -150,14 +162,28 @@ fn lanes_run_at_once(rt: HostRuntime) -> Result<(), Fail> {
         &mut pace,
         100,
     );
-    assert!(rt; status == Status::Ok && !marks.is_late());
-    assert!(rt; out.bytes() == b"published 1\npublished 2\n".as_slice());
-    let [first, second, ..] = lanes.as_slice() else {
-        return Ok(());
-    };
-    assert!(rt; are_known(first.port.taken(), &[0, 1, 2]));
-    assert!(rt; are_tried(first.port.tries(), &[0, 1, 2]));
-    assert!(rt; are_known(second.port.taken(), &[1]));
-    assert!(rt; are_tried(second.port.tries(), &[1]));
+    Ok(HeldRun { status, out, lanes })
+}
+
+/// Whether a lane knew these serials, one at each datagram, and replied by them.
+fn serves(lane: &HoldLane<'_>, serials: &[u64]) -> bool {
+    are_known(lane.port.taken(), serials) && are_tried(lane.port.tries(), serials)
+}
+
+/// Whether the first two lanes served these serials.
+fn serve_both(lanes: &[HoldLane<'_>], first: &[u64], second: &[u64]) -> bool {
+    match lanes {
+        [one, two, ..] => serves(one, first) && serves(two, second),
+        _ => false,
+    }
+}
+
+#[test]
+fn lanes_run_at_once(rt: HostRuntime) -> Result<(), Fail> {
+    let marks = Marks::new();
+    let run = held_run(&rt, &marks)?;
+    assert!(rt; run.status == Status::Ok && !marks.is_late());
+    assert!(rt; run.out.bytes() == b"published 1\npublished 2\n".as_slice());
+    assert!(rt; serve_both(run.lanes.as_slice(), &[0, 1, 2], &[1]));
     Ok(())
 }
