@@ -1,5 +1,5 @@
 -- Places that the first door was asked for, with more lanes behind it.
-use Rattle.std.proofs.Common.{◌≡◌, ℕ, ◌≤◌, List, [], ◌∷◌, ◌++◌, length, map, refl, ap, subst, sym, Result, Ok, Err, IfOk, IfErr, OnOk}
+use Rattle.std.proofs.Common.{◌≡◌, ℕ, ◌≤◌, List, [], ◌∷◌, ◌++◌, length, map, ap, Result, Ok, Err, IfOk, IfErr, OnOk}
 use Rattle.std.specs.Prelude.{slice_set}
 use Rattle.std.proofs.Common.{get_or}
 use Rattle.std.proofs.lemmas.List.{map-append}
@@ -7,7 +7,7 @@ use Rattle.outside.specs.Faults.{Rose, raised}
 use Rattle.map_cell.specs.declared.door.OpenFault.TheVariants.{CellFault as Shut}
 use Rattle.map_cell.specs.declared.door.OpenFault.{OpenFault}
 use Rattle.drive.specs.Done.{LaneTold}
-use Rattle.glb_program.specs.Serve.{AskedFirst, FirstDoorRose, IsFirstDoor}
+use Rattle.glb_program.specs.Serve.{FirstDoorRose}
 use Rattle.glb_program.specs.Starting.{IsAskedAll, IsAskedSome}
 
 more_rose : (x : LaneTold) (c b : List LaneTold) → FirstDoorRose (x ∷ []) c → FirstDoorRose (x ∷ b) (c ++ b)

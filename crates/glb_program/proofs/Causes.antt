@@ -9,13 +9,12 @@ use Rattle.published_map.specs.Version.{Version}
 use Rattle.lane_model.specs.declared.ended.Ended.{Ended}
 use Rattle.lane_model.specs.declared.ended.Ended.TheVariants as lane
 use Rattle.lane_model.specs.Sessions.{IsEnd}
-use Rattle.lane_model.specs.Turns.{Came, Fate, Turn, failures, idle, oversize, ended, failed, took, silent, refused, tried, is_refused, port_after, port_turn, refused_of}
+use Rattle.lane_model.specs.Turns.{Came, Turn, failures, idle, oversize, ended, failed, took, silent, refused, tried, is_refused, port_after, port_turn, refused_of}
 use Rattle.demand_feed.specs.declared.run.FeedEnd.{FeedEnd}
 use Rattle.demand_feed.specs.declared.run.FeedEnd.TheVariants as feed
 use Rattle.drive.specs.Closing.{shut}
 use Rattle.drive.specs.Done.{IsDone, IsOverNewest, IsOverPast, IsOverSeen, LaneTold}
 use Rattle.drive.specs.Driven.{AreDone}
-use Rattle.glb_program.specs.declared.status.Status.{Status}
 use Rattle.glb_program.specs.declared.status.Status.TheVariants as status
 use Rattle.glb_program.specs.Causes.{AnyLane, HasCellFault, HasPortFault, HasTaken}
 use Rattle.glb_program.specs.Serve.{is_cell_fault, is_port_fault, is_spent, status_by, status_of}

@@ -1,5 +1,5 @@
 -- Sessions behind the opening of the cell.
-use Rattle.std.proofs.Common.{◌≡◌, ◌⊎◌, inl, inr, ℕ, ◌≤◌, List, [], ◌∷◌, length, refl, sym, subst}
+use Rattle.std.proofs.Common.{◌≡◌, ◌⊎◌, inl, inr, ℕ, ◌≤◌, List, length, refl, sym, subst}
 use Rattle.std.specs.Prelude.{Option}
 use Rattle.addr_text.specs.declared.address.Listen.{Listen}
 use Rattle.outside.specs.Faults.{Rose}
@@ -13,7 +13,6 @@ use Rattle.published_map.specs.Version.{Version}
 use Rattle.mapper.specs.Words.{map_text}
 use Rattle.drive.specs.Done.{LaneTold}
 use Rattle.drive.specs.Driven.{AreEnds, IsDriven}
-use Rattle.glb_program.specs.declared.starting.Start.{Start}
 use Rattle.glb_program.specs.declared.starting.Start.TheVariants as start
 use Rattle.glb_program.specs.declared.status.Status.{Status}
 use Rattle.glb_program.specs.declared.status.Status.TheVariants as status

@@ -1,5 +1,5 @@
 -- The texts that a feed puts on the maps are those of the versions that it publishes.
-use Rattle.std.proofs.Common.{◌≡◌, ◌⊎◌, inl, inr, ℕ, ◌+◌, List, [], ◌∷◌, ◌++◌, length, length-append, map, refl, ap, sym, ◌∙◌, subst, append_assoc, arith}
+use Rattle.std.proofs.Common.{◌≡◌, inl, inr, ℕ, ◌+◌, List, [], ◌∷◌, ◌++◌, length, length-append, map, refl, ap, sym, ◌∙◌, subst, append_assoc, arith}
 use Rattle.std.specs.Prelude.{Option}
 use Rattle.std.specs.List.{concat}
 use Rattle.std.proofs.lemmas.List.{map-append}
@@ -14,7 +14,7 @@ use Rattle.demand_feed.proofs.Tellings.{tell_trans}
 use Rattle.published_map.specs.Version.{Version}
 use Rattle.mapper.specs.Control.{AllCome, Comes, Course, start}
 use Rattle.mapper.specs.Feeding.{AllCame, IsFeed, IsFeedRun}
-use Rattle.mapper.specs.Scenes.{IsAt, IsPrinted, Scene}
+use Rattle.mapper.specs.Scenes.{IsPrinted, Scene}
 use Rattle.mapper.specs.Words.{map_text}
 
 one_texts : (item : Item) (c d : Course) → c.maps ≡ map map_text c.versions → Comes item c d → d.maps ≡ map map_text d.versions

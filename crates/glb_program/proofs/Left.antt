@@ -1,13 +1,11 @@
 -- Where all is well, what `serve` may answer.
-use Rattle.std.proofs.Common.{◌≡◌, ◌⊎◌, inl, inr, ℕ, zero, suc, ◌≤◌, Bool, true, false, List, [], ◌∷◌, ◌++◌, refl, ap, sym, ◌∙◌, subst, arith}
+use Rattle.std.proofs.Common.{◌≡◌, ◌⊎◌, inl, inr, ℕ, zero, suc, ◌≤◌, Bool, true, false, List, [], ◌∷◌, refl, ap, sym, ◌∙◌, subst, arith}
 use Rattle.std.specs.Prelude.{IsSome, Option, None, Some}
 use Rattle.std.specs.List.{list_any}
 use Rattle.addr_text.specs.declared.address.Listen.{Listen}
-use Rattle.outside.specs.Faults.{Rose}
 use Rattle.outside.specs.Shelf.{Shelved}
 use Rattle.outside.specs.Sink.{Written}
 use Rattle.outside.specs.declared.port.Opening.{Opening}
-use Rattle.outside.specs.declared.port.Opening.TheVariants as opening
 use Rattle.demand_feed.specs.declared.run.FeedEnd.{FeedEnd}
 use Rattle.demand_feed.specs.declared.run.FeedEnd.TheVariants as feed
 use Rattle.drive.specs.Done.{LaneTold}
@@ -19,7 +17,7 @@ use Rattle.glb_program.specs.Files.{IsRefused, said, topology_file}
 use Rattle.glb_program.specs.Map.{HoldsTopology}
 use Rattle.glb_program.specs.Causes.{AnyLane, HasPortFault}
 use Rattle.glb_program.specs.Told.{Surroundings}
-use Rattle.glb_program.specs.Serve.{AreOpened, IsFirstDoor, IsServeRun, IsServed, all_ready, is_cell_fault, is_port_fault, is_spent, status_by, status_of, then_failed}
+use Rattle.glb_program.specs.Serve.{AreOpened, IsFirstDoor, IsServeRun, all_ready, is_cell_fault, is_port_fault, is_spent, status_by, status_of, then_failed}
 use Rattle.glb_program.specs.Program.{HasServeCauses, IsLeft, IsServeQuiet}
 use Rattle.glb_program.proofs.Complete.{one_answer, one_content}
 

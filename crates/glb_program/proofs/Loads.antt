@@ -1,7 +1,6 @@
 -- The loads of one file after another.
-use Rattle.std.proofs.Common.{◌≡◌, ◌≤◌, ℕ, zero, suc, List, [], ◌∷◌, ◌++◌, length, take, Option, None, Some, Result, Ok, Err, option_map, refl, ap, sym, ◌∙◌, append_assoc, inl, inr, arith}
-use Rattle.std.proofs.Math.Seq.{take-length}
-use Rattle.outside.specs.Faults.{BothTell, Rose, raised}
+use Rattle.std.proofs.Common.{◌≡◌, ◌≤◌, ℕ, zero, suc, List, [], ◌∷◌, ◌++◌, take, Option, None, Some, Result, Ok, Err, option_map, refl, ap, sym, ◌∙◌, append_assoc, inl, inr, arith}
+use Rattle.outside.specs.Faults.{BothTell, Rose}
 use Rattle.outside.specs.Shelf.{Load, Shelved}
 use Rattle.glb_program.specs.Outcome.{AreLoaded, AreLoadsOf, Outcome}
 use Rattle.glb_program.specs.Files.{IsRefused, Kind, Reads, Says, said, load_of, loads_behind, loads_from, only}

@@ -1,6 +1,6 @@
 -- A command that stopped, by what its files come to.
-use Rattle.std.proofs.Common.{◌≡◌, inl, inr, sym, subst}
-use Rattle.std.specs.Prelude.{Option, Result, Err}
+use Rattle.std.proofs.Common.{inl, inr, sym, subst}
+use Rattle.std.specs.Prelude.{Option, Err}
 use Rattle.outside.specs.Sink.{Written}
 use Rattle.glb_program.specs.declared.ending.Stop.{Stop}
 use Rattle.glb_program.specs.declared.ending.Stop.TheVariants as stop

@@ -1,5 +1,5 @@
 -- What a drive comes to, as a session.
-use Rattle.std.proofs.Common.{◌≡◌, ◌⊎◌, inl, inr, ℕ, ◌≤◌, Bool, true, List, length, refl, ap, sym, ◌∙◌}
+use Rattle.std.proofs.Common.{◌≡◌, ◌⊎◌, inl, inr, ℕ, ◌≤◌, true, List, length, refl, ap, sym, ◌∙◌}
 use Rattle.std.specs.Prelude.{Option, ◌-◌}
 use Rattle.std.specs.List.{list_any}
 use Rattle.outside.specs.Faults.{Rose}
@@ -9,7 +9,6 @@ use Rattle.demand_feed.specs.declared.run.FeedEnd.{FeedEnd}
 use Rattle.demand_feed.specs.declared.run.FeedEnd.TheVariants as feed
 use Rattle.drive.specs.Driven.{AreEnds, IsDriven}
 use Rattle.glb_program.specs.declared.status.Status.{Status}
-use Rattle.glb_program.specs.declared.status.Status.TheVariants as status
 use Rattle.glb_program.specs.Told.{Stage}
 use Rattle.glb_program.specs.Causes.{AnyLane, HasTaken}
 use Rattle.glb_program.specs.Serve.{IsServed, is_cell_fault, is_port_fault, is_spent, status_of}

@@ -1,15 +1,14 @@
 -- Counts of faults over a session.
-use Rattle.std.proofs.Common.{◌≡◌, ◌⊎◌, inl, inr, ℕ, ◌≤◌, Bool, true, false, List, refl, ap, sym, ◌∙◌, subst, arith}
+use Rattle.std.proofs.Common.{◌≡◌, inl, inr, ℕ, ◌≤◌, Bool, true, false, refl, ap, sym, ◌∙◌, arith}
 use Rattle.std.specs.List.{list_any}
 use Rattle.addr_text.specs.declared.address.Listen.{Listen}
-use Rattle.outside.specs.Faults.{Rose}
 use Rattle.topology_text.specs.Plan.{Plan}
 use Rattle.published_map.specs.Version.{Version}
 use Rattle.demand_feed.specs.declared.run.FeedEnd.{FeedEnd}
 use Rattle.demand_feed.specs.declared.run.FeedEnd.TheVariants as feed
 use Rattle.glb_program.specs.declared.status.Status.{Status}
 use Rattle.glb_program.specs.declared.status.Status.TheVariants as status
-use Rattle.glb_program.specs.Serve.{IsFirstSession, IsPlaced, IsSession, IsServed, IsStarted, is_cell_fault, is_port_fault, is_spent, status_by, status_of}
+use Rattle.glb_program.specs.Serve.{IsFirstSession, IsSession, IsServed, is_cell_fault, is_port_fault, is_spent, status_by, status_of}
 use Rattle.glb_program.specs.Starting.{IsSessionLater}
 use Rattle.glb_program.specs.Told.{Stage}
 

@@ -1,8 +1,7 @@
 -- A run of `serve` with status 0.
-use Rattle.std.proofs.Common.{◌≡◌, ◌⊎◌, inl, inr, ℕ, suc, ◌+◌, Bool, true, false, List, [], ◌∷◌, length, refl, ap, sym, ◌∙◌, subst}
+use Rattle.std.proofs.Common.{◌≡◌, ◌⊎◌, inl, inr, ℕ, ◌+◌, Bool, true, false, List, [], ◌∷◌, length, refl, ap, subst}
 use Rattle.std.specs.Prelude.{Option, ◌||◌}
 use Rattle.std.specs.List.{list_any}
-use Rattle.addr_text.specs.declared.address.Listen.{Listen}
 use Rattle.topology_text.specs.Plan.{IsPlan, Plan}
 use Rattle.published_map.specs.Version.{Version}
 use Rattle.lane_model.specs.declared.ended.Ended.{Ended}
@@ -17,7 +16,6 @@ use Rattle.mapper.specs.Scenes.{IsPrinted, scene}
 use Rattle.drive.specs.Closing.{shut}
 use Rattle.drive.specs.Done.{IsDone, LaneTold}
 use Rattle.drive.specs.Driven.{AreDone}
-use Rattle.glb_program.specs.declared.status.Status.{Status}
 use Rattle.glb_program.specs.declared.status.Status.TheVariants as status
 use Rattle.glb_program.specs.Words.{Service}
 use Rattle.glb_program.specs.Outcome.{Outcome, RunsBy}
@@ -27,7 +25,7 @@ use Rattle.outside.specs.Faults.{BothTell}
 use Rattle.outside.specs.Sink.{Written}
 use Rattle.mapper.specs.Words.{map_text}
 use Rattle.glb_program.specs.Told.{Stage, Surroundings}
-use Rattle.glb_program.specs.Serve.{IsFirstOf, IsFirstSession, IsPlaced, IsServeRun, IsServed, IsSession, IsStarted, is_cell_fault, is_port_fault, is_spent, status_by, status_of}
+use Rattle.glb_program.specs.Serve.{IsFirstOf, IsPlaced, IsServeRun, IsServed, IsStarted, is_cell_fault, is_port_fault, is_spent, status_by, status_of}
 use Rattle.glb_program.specs.Served.{AreWellDone, IsWellDone, IsWellServed}
 use Rattle.glb_program.proofs.Histories.{texts_of}
 

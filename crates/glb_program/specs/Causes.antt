@@ -1,5 +1,5 @@
 -- What came of lanes where `serve` answers a fault of theirs.
-use Rattle.std.specs.Prelude.{◌≡◌, ◌⊎◌, ℕ, ◌≤◌, List, [], ◌∷◌}
+use Rattle.std.specs.Prelude.{◌≡◌, ◌⊎◌, ℕ, ◌≤◌, List, ◌∷◌}
 use Rattle.outside.specs.Faults.{BothTell, Rose, raised}
 use Rattle.drive.specs.Done.{LaneTold}
 

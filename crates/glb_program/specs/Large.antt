@@ -1,5 +1,5 @@
 -- What is due to `large`.
-use Rattle.std.specs.Prelude.{◌≡◌, ◌⊎◌, ℕ, Result, Ok, Err}
+use Rattle.std.specs.Prelude.{◌≡◌, ◌⊎◌, ℕ, Ok, Err}
 use Rattle.outside.specs.Faults.{BothTell}
 use Rattle.big_run.specs.Runs.{IsRun}
 use Rattle.big_run.specs.Summary.{lines_of}

@@ -1,4 +1,4 @@
-use Rattle.std.proofs.Common.{rules, ◌≡◌, Result, Ok, Err, subst, sym}
+use Rattle.std.proofs.Common.{rules, ◌≡◌, Result, Ok, Err, subst}
 use Rattle.map_model.specs.declared.lines.MapLines.{MapLines}
 use Rattle.topology_text.specs.Plan.{Plan}
 use Rattle.map_text.specs.Writing.{mapped}

@@ -1,4 +1,4 @@
-use Rattle.std.proofs.Common.{◌≡◌, Result, Ok, subst}
+use Rattle.std.proofs.Common.{Result, Ok, subst}
 use Rattle.topology_text.specs.Plan.{Plan}
 use Rattle.glb_program.specs.Map.{IsMapped}
 use Rattle.glb_program.specs.Ending.{IsReading, ShelfAt}

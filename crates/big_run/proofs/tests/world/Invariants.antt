@@ -1,0 +1,5 @@
+use Rattle.big_run.proofs.tests.world.Given as goal
+
+-- the history that was just made
+abbrev pub ghosts-run_world : goal.ghosts-run_world
+ghosts-run_world g a = record { book = a.history }
