@@ -47,6 +47,11 @@ expect 1 "$usage" guess flat.toml flat.map
 expect 1 "$usage" map
 expect 1 "$usage" map flat.toml flat.map
 expect 1 "$usage" check $'\xff' flat.map
+expect 1 "$usage" large 0
+expect 1 "$usage" large 16385
+expect 1 "$usage" large 064
+expect 1 "$usage" serve tree.toml --listen x
+expect 1 "$usage" serve tree.toml --listen 127.0.0.1:0 --workers 17
 expect 2 'refused topology 2 missing key at zone ttl' check refused.toml flat.map
 expect 2 'refused topology 1 not toml' check flat.map flat.map
 expect 2 'refused topology 2 missing key at zone ttl' map refused.toml
@@ -57,6 +62,16 @@ expect 3 '' check flat.toml nowhere.map
 expect 3 '' map nowhere.toml
 expect 7 'blocking gamma zurich' check flat.toml flat-bad.map
 expect 7 'blocking g2 B' check tree.toml tree-bad.map
+# a large world: its size, seventeen good maps, a reply for each group
+summary=$("$glb" large 64)
+begins=$(head -4 <<<"$summary" | tr '\n' ' ')
+replies=$(awk '$1 == "answered" || $1 == "servfail" { n += $2 } END { print n }' <<<"$summary")
+if [ "$begins" = 'large 64 nodes 10 maps 17 good 17 ' ] && [ "$replies" = 64 ]; then passed=$((passed + 1)); else failed=$((failed + 1)) && echo "large 64: '$summary'"; fi
+# a server whose feed changes a demand, asks, and stops; its maps are on standard error
+maps=$(mktemp)
+said=$(printf 'demand g2 4\ncommit\nshow\nstop\n' | "$glb" serve tree.toml --listen 127.0.0.1:0 --workers 2 2>"$maps")
+if [ $? = 0 ] && [ "$said" = $'published 1\nshow 1 placed 12 unplaced 0 full 1' ] && [ "$(head -7 "$maps")" = "$(cat tree.map)" ]; then passed=$((passed + 1)); else failed=$((failed + 1)) && echo "serve: '$said'"; fi
+rm "$maps"
 # a full device in the place of the output
 "$glb" check flat.toml flat.map >/dev/full
 if [ $? = 4 ]; then passed=$((passed + 1)); else failed=$((failed + 1)) && echo 'a full device: wanted 4'; fi
