@@ -73,7 +73,7 @@ fn runs_well<R: Wait>(rt: &R, alloc: Global, groups: u32, nodes: u32) -> bool
                 && summary.nodes == nodes
                 && summary.maps == 17
                 && summary.good == 17
-                && summary.answered + summary.servfail == u64::from(groups)
+                && summary.answered.checked_add(summary.servfail) == Some(u64::from(groups))
         }
         Err(_) => false,
     }
