@@ -1,5 +1,5 @@
 -- A run from its parts.
-use Rattle.std.proofs.Common.{◌≡◌, ℕ, ◌≤◌, List, ap, sym, ◌∙◌}
+use Rattle.std.proofs.Common.{◌≡◌, ℕ, ◌+◌, ◌≤◌, List, ap, sym, ◌∙◌}
 use Rattle.std.specs.Prelude.{Ok}
 use Rattle.text_parts.specs.Parts.{whole_lines}
 use Rattle.topology_text.specs.Plan.{Plan}
@@ -15,8 +15,8 @@ use Rattle.big_run.specs.Runs.{IsRun, summary_of}
 use Rattle.big_run.specs.declared.summary.Summary.{Summary}
 
 pub run_is : (n : ℕ) (t : Plan) (a b : PublisherState) (text feed : List ℕ) (s : Summary) (proposals : ℕ) → text ≡ topology_of n → reading text ≡ Ok t → feed ≡ feed_of n → IsFirst t a
-    → AllDo Publishes (items a.newest.plan (whole_lines feed)) a b → s ≡ summary_of n a.newest.plan b proposals → proposals ≤ most_offers t.market → IsRun n s
-run_is n t a b text feed s proposals text_is reads feed_is first batches sums few =
+    → AllDo Publishes (items a.newest.plan (whole_lines feed)) a b → s ≡ summary_of n a.newest.plan b proposals → proposals ≤ most_offers t.market → s.maps ≡ 17 → s.answered + s.servfail ≡ s.groups → IsRun n s
+run_is n t a b text feed s proposals text_is reads feed_is first batches sums few maps replies =
     let plan = first.plan in
     let counted : s.proposals ≡ proposals = ap (λ (x : Summary). x.proposals) sums in
     let own : s ≡ summary_of n t b proposals = rw plan at sums in
@@ -31,4 +31,6 @@ run_is n t a b text feed s proposals text_is reads feed_is first batches sums fe
       batches = done;
       few = rw counted few;
       sums = own ∙ ap (summary_of n t b) (sym counted);
+      maps = maps;
+      replies = replies ∙ ap (λ (x : Summary). x.groups) sums;
     }

@@ -1,5 +1,5 @@
 -- A run over a large world, and its summary.
-use Rattle.std.specs.Prelude.{◌≡◌, ℕ, ◌≤◌, length, Ok}
+use Rattle.std.specs.Prelude.{◌≡◌, ℕ, ◌+◌, ◌≤◌, length, Ok}
 use Rattle.text_parts.specs.Parts.{whole_lines}
 use Rattle.topology_text.specs.Plan.{Plan}
 use Rattle.topology_text.specs.Faults.{reading}
@@ -27,7 +27,7 @@ summary_of n t m proposals = record {
   servfail = count_of m.newest 2 n;
 }
 
--- The world's topology was mapped from scratch, with so many proposals; each batch of its feed published the map that it leads to, of which each is good; and this is the summary.
+-- The world's topology was mapped from scratch, with so many proposals; each batch of its feed published the map that it leads to, of which each is good; there are seventeen maps, and each group's reply is an answer or a server failure; and this is the summary.
 pub record IsRun (n : ℕ) (s : Summary) : Type 0 where
   pub topology : Plan
   pub first : PublisherState
@@ -37,3 +37,5 @@ pub record IsRun (n : ℕ) (s : Summary) : Type 0 where
   pub batches : AllDo Publishes (items topology (whole_lines (feed_of n))) first last
   pub few : s.proposals ≤ most_offers topology.market
   pub sums : s ≡ summary_of n topology last s.proposals
+  pub maps : s.maps ≡ 17
+  pub replies : s.answered + s.servfail ≡ n

@@ -1,5 +1,5 @@
 //! A run over a large world.
-ghost use Rattle.std.specs.Prelude.{◌≡◌, ◌<◌, ◌≤◌, ◌+◌, ◌-◌, ◌^◌, IfOk, OnOk, Err, MatchResult, length};
+ghost use Rattle.std.specs.Prelude.{◌≡◌, ◌<◌, ◌≤◌, ◌+◌, ◌-◌, ◌^◌, IfOk, OnOk, Err, MatchResult, length, true};
 ghost use Rattle.big_world.specs.Topology.{topology_of};
 ghost use Rattle.topology_text.specs.Faults.{reading};
 ghost use Rattle.topology_text.specs.Plan.{Plan};
@@ -47,6 +47,18 @@ fn summary<J: Naming>(mapper: &Mapper<J>, groups: u32, good: u64, proposals: u64
     }
 }
 
+/// How many maps a run comes to: the first one, and one for each batch.
+pub const MAPS: u64 = 17;
+
+/// Whether a summary tells of all maps, and of each group's reply as an answer or a server failure.
+fn is_whole(summary: &Summary) -> bool
+    ensures maps { result ≡ true → summary.now.maps ≡ 17 }
+    ensures replies { result ≡ true → summary.now.answered + summary.now.servfail ≡ summary.now.groups }
+{
+    let replies = summary.answered.checked_add(summary.servfail);
+    summary.maps == MAPS && replies == Some(u64::from(summary.groups))
+}
+
 /// Works the feed from the first map on.
 fn work<J: Naming, R: Wait>(
     rt: &R,
@@ -74,7 +86,8 @@ fn work<J: Naming, R: Wait>(
 ///
 /// # Errors
 ///
-/// The fault of the world's topology, if it had one, or want of memory.
+/// The fault of the world's topology, if it had one, or want of memory. A run that came to another number of maps, or
+/// a reply of another kind, would be answered as want of memory too.
 pub fn run_world<J: Naming, R: Wait>(
     rt: &R,
     alloc: Global,
@@ -117,7 +130,13 @@ pub fn run_world<J: Naming, R: Wait>(
     );
     mapper.close(rt);
     match done {
-        Ok(summary) => Ok(summary),
+        Ok(summary) => {
+            if is_whole(&summary) {
+                Ok(summary)
+            } else {
+                Err(TopologyFault::NoMemory)
+            }
+        }
         Err(NoMemory) => Err(TopologyFault::NoMemory),
     }
 }

@@ -2,8 +2,8 @@ use Rattle.std.proofs.Common.{arith, ◌∙◌}
 use Rattle.big_run.proofs.Whole.{run_is}
 use Rattle.big_run.proofs.run.run_world.Goals as goal
 
-pub returns-in-Ok-done : goal.returns-in-Ok-done
-returns-in-Ok-done g c =
+pub returns-then-is_whole : goal.returns-then-is_whole
+returns-then-is_whole g c =
     run_is c.args.groups c.in-Ok-read_topology.topology c.in-Ok-open.mapper c.work-done.new.mapper c.as_slice.result.now c.as_slice-2.result.now c.in-Ok-done.summary c.count.result
     (c.as_slice.ensures.value ∙ c.in-Ok.ensures.topology)
     c.in-Ok-read_topology.ensures
@@ -12,3 +12,5 @@ returns-in-Ok-done g c =
     c.in-Ok-done.ensures.done
     c.in-Ok-done.ensures.sums
     (omega (arith, c.count.ensures, c.new-proposals.ensures, c.in-Ok-open.ensures.steps))
+    (c.is_whole.ensures.maps c.if-is_whole.true)
+    (c.is_whole.ensures.replies c.if-is_whole.true)
