@@ -23,6 +23,7 @@ enum Held {
 mod answers;
 mod at_once;
 mod example;
+mod large_world;
 mod serving;
 
 use Held::{Bytes, Missing, Topology, Zeros};
