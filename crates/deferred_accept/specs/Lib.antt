@@ -1,3 +1,4 @@
 pub mod Runs
 pub mod Work
 pub mod Spreading
+pub mod Turning

@@ -1,12 +1,13 @@
 -- States, and what each of their calls asks and gives.
-use Rattle.std.specs.Prelude.{◌≡◌, ℕ, ◌+◌, ◌<◌, ◌≤◌, Bool, nat_lt, ◌==◌, if◌then◌else◌, List, [], length, All, IsTrue, slice_index, slice_set}
+use Rattle.std.specs.Prelude.{◌≡◌, ℕ, ◌+◌, ◌<◌, ◌≤◌, ◌^◌, Bool, nat_lt, ◌==◌, if◌then◌else◌, List, [], length, All, IsTrue, slice_index, slice_set}
 use Rattle.map_model.specs.declared.instance.Key.{Key}
 use Rattle.map_model.specs.declared.lines.MapLine.{MapLine}
-use Rattle.map_model.specs.Market.{Market, IsMarket, IsSameShape, choices_of}
-use Rattle.map_model.specs.Allocation.{AreLines, IsOffer, amount_at, is_full_of_better, is_under, is_wanted, units_of}
-use Rattle.map_model.specs.Holding.{Takes}
+use Rattle.map_model.specs.Market.{Market, IsMarket, IsSameShape, capacity_of, choices_of}
+use Rattle.map_model.specs.Allocation.{AreLines, IsOffer, amount_at, counts_at, is_full_of_better, is_under, is_wanted, load, units_of}
+use Rattle.map_model.specs.Holding.{IsWorst, Takes}
 use Rattle.map_model.specs.Progress.{IsResumable}
 use Rattle.evict.specs.declared.freed.Eviction.{Eviction}
+use Rattle.evict.specs.declared.rival.Rival.{Rival}
 use Rattle.evict.specs.Evictions.{IsEviction, freed_units, gave_up}
 
 -- A state of deferred acceptance: the instance on whose lists and trees it rests, what is held, the pointer and the free units of each group, and whether it is whole. Want of memory in the middle of a put leaves one that is not whole: no call that changes its loads or tells them takes it, and it is only to be dropped.
@@ -68,6 +69,38 @@ pub record IsOfMap (m : Market) (held : List MapLine) (state : Standing) : Type 
   pub market : state.market ≡ m
   pub lines : state.lines ≡ held
   pub pointers : (g : ℕ) → g < length m.groups → IsPastWanted m held g (slice_index state.pointers g)
+
+-- the full node of an offer's path that is nearest to its pool
+pub record IsNearestFull (m : Market) (lines : List MapLine) (g k n : ℕ) : Type 0 where
+  pub path : IsTrue (counts_at m n g k)
+  pub full : load m lines n ≡ capacity_of m n
+  pub nearest : (c : ℕ) → IsTrue (counts_at m c g k) → IsTrue (is_under m n c) → load m lines c ≡ capacity_of m c → c ≡ n
+
+-- whom an offer would displace: at the nearest full node of its path, the worst offer that is held there, with all its units
+pub record IsRival (m : Market) (lines : List MapLine) (g k : ℕ) (rival : Rival) : Type 0 where
+  pub node : IsNearestFull m lines g k rival.node.0
+  pub worst : IsWorst m lines rival.node.0 rival.offer.group.0 rival.offer.place rival.units
+
+-- an offer displaces nobody as things stand: no node of its path is full, or nothing is held under the nearest full one
+pub record HasNoRival (m : Market) (lines : List MapLine) (g k : ℕ) : Type 0 where
+  pub nothing : (n : ℕ) → IsNearestFull m lines g k n → load m lines n ≡ 0
+
+-- held units of an offer may go to another place of its group's list: the state is whole, and the offer holds them
+pub record CanShift (state : Standing) (g from to units : ℕ) : Type 0 where
+  pub whole : IsTrue state.is_whole
+  pub from : IsOffer state.market g from
+  pub to : IsOffer state.market g to
+  pub held : units ≤ amount_at state.lines g from
+  pub room : amount_at state.lines g to + units < 2 ^ 32
+
+-- some units of a group went from one place of its list to another, and nothing else changed: said of the units that pass any test of group and place
+pub record IsShifted (old new : Standing) (g from to units : ℕ) : Type 0 where
+  pub market : new.market ≡ old.market
+  pub whole : IsTrue new.is_whole
+  pub form : AreLines new.market new.lines
+  pub pointers : new.pointers ≡ old.pointers
+  pub free : new.free ≡ old.free
+  pub held : (test : ℕ → ℕ → Bool) → units_of test new.lines + (if test g from then units else 0) ≡ units_of test old.lines + (if test g to then units else 0)
 
 -- held units may be released: the state is whole, and the offer holds them
 pub record CanRelease (state : Standing) (g k units : ℕ) : Type 0 where

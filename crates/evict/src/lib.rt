@@ -6,10 +6,12 @@ mod freed;
 mod loading;
 mod refuser;
 mod relief;
+mod rival;
 mod settle;
 mod state;
 
 pub use freed::{Eviction, Freed};
+pub use rival::Rival;
 pub use state::State;
 
 #[cfg(test)]
