@@ -1,3 +1,4 @@
+//! Addresses, prefixes and addresses to listen at, read and written.
 use crate::{Addr, Listen, Peer, Prefix, read_addr, read_listen, read_prefix, write_addr};
 use arrayvec::ArrayVec;
 use std::process::Abort;

@@ -90,7 +90,7 @@ lists_text n s length x = line (codes "pools = [" ++ list_text n s length ++ cod
 unfoldable pub prefixes_line : ℕ → List ℕ
 prefixes_line i = line (codes "prefixes = [" ++ prefixes_text i ++ codes "]")
 
--- group i, drawn behind x: demand 1 to 15, the length of its list, where it starts, and its scores
+-- group i, drawn behind x: a demand from 1 up to 15, the length of its list, where it starts, and its scores
 unfoldable pub group_text : ℕ → ℕ → ℕ → List ℕ
 group_text n i x = head_text i (1 + draw x 1 15) ++ lists_text n (draw x 3 (pools_of n)) (length_at n x) (behind x 3) ++ prefixes_line i
 

@@ -1,3 +1,4 @@
+//! Client subnet options, read and written.
 use crate::{ClientSubnet, SubnetOpt, read_options, write_subnet};
 use addr_text::Addr;
 use arrayvec::ArrayVec;

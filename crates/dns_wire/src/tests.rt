@@ -1,3 +1,4 @@
+//! Datagrams and names on the wire, worked out by hand.
 ghost use Rattle.std.specs.Prelude.{◌<◌};
 
 use crate::{

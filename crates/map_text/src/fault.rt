@@ -1,3 +1,4 @@
+//! What can be wrong with a map file.
 ghost use Rattle.std.specs.Prelude.{Some};
 
 use no_memory::NoMemory;

@@ -1,3 +1,4 @@
+//! One line of a map file.
 ghost use Rattle.std.specs.Prelude.{◌≡◌, ◌<◌, None, Some, IfSome, length, option_map};
 ghost use Rattle.map_model.specs.Market.{Market};
 ghost use Rattle.map_model.specs.Allocation.{IsOffer};

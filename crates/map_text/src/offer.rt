@@ -1,3 +1,4 @@
+//! The offer that a line of a map file names.
 ghost use Rattle.std.specs.Prelude.{◌≡◌, ◌<◌, Some, None, length, IfSome, option_map};
 ghost use Rattle.map_model.specs.Allocation.{IsOffer};
 ghost use Rattle.topology_text.specs.Plan.{number_in};

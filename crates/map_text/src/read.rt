@@ -1,3 +1,4 @@
+//! A map file read.
 ghost use Rattle.std.specs.Prelude.{◌≡◌, ◌+◌, ◌<◌, ◌≤◌, ◌^◌, None, Some, Ok, [], length, IfOk, IfErr, MatchResult, option_map, false};
 ghost use Rattle.map_model.specs.Allocation.{IsMapForm, is_before, is_name_before};
 ghost use Rattle.map_text.specs.Reading.{fault_of, is_bad, is_in_order, map_of};

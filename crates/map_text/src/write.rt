@@ -1,3 +1,4 @@
+//! A map file written.
 ghost use Rattle.std.specs.Prelude.{◌≡◌, ◌++◌, ◌<◌, ◌^◌, length, All, Ok, IfOk};
 ghost use Rattle.std.specs.List.{flat_map};
 ghost use Rattle.map_model.specs.Allocation.{AreLines, AreNames, IsMapForm, IsOffer};

@@ -1,3 +1,4 @@
+//! Names read from texts, and names that are the same or one under the other.
 use crate::{Name, NameFault, read_label, read_name, same_name, under};
 use arrayvec::ArrayVec;
 use std::test::Fail;

@@ -1,3 +1,4 @@
+//! What all versions of one topology share.
 use prefix_lookup::Lookup;
 use std::sync::Arc;
 use topology_text::Topology;

@@ -1,3 +1,4 @@
+//! Versions made, compared and moved on by deltas.
 ghost use Rattle.std.specs.Prelude.{◌≡◌, true, IfOk, IfSome};
 ghost use Rattle.map_model.specs.Market.{IsSameShape};
 ghost use Rattle.map_model.specs.Allocation.{IsGood};

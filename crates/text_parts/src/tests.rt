@@ -1,3 +1,4 @@
+//! Texts cut, and digits read.
 use crate::{after, are_digits, before, cut, decimal_value, position_of, split_first, split_last};
 
 #[test]

@@ -1,3 +1,4 @@
+//! Replies of `glb answer`, and its outcomes.
 use super::{
     Bytes, EMPTY_POOL, FLAT, GOOD_FLAT, GOOD_REGION, Held, REGION, Topology, run, shelf, texts,
 };

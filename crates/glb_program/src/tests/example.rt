@@ -1,3 +1,4 @@
+//! The files of the example, through `check` and `map`.
 use super::{GOOD_REGION, REGION, ZONE, run, texts};
 use crate::Status;
 use outside::{File, MemShelf, MemSink};
