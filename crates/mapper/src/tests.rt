@@ -18,6 +18,8 @@ use std::test::Fail;
 use topology_text::{Topology, read_topology};
 use worlds::EXAMPLE_TREE;
 
+mod looking;
+
 /// The proposals of these tests, as what is counted.
 struct Counted;
 
