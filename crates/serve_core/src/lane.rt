@@ -35,8 +35,8 @@ pub struct TryRow {
 pub struct LaneRow {
     seen: u64,
     count: u64,
-    taken: Vec<TakenRow>,
-    tries: Vec<TryRow>,
+    pub(crate) taken: Vec<TakenRow>,
+    pub(crate) tries: Vec<TryRow>,
 }
 
 impl Model for LaneRow {

@@ -236,3 +236,6 @@ impl World {
         Ok(())
     }
 }
+
+#[cfg(test)]
+mod tests;
