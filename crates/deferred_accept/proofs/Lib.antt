@@ -6,3 +6,5 @@ pub mod Listed
 pub mod Finished
 pub mod Within
 pub mod Past
+pub mod Exchange
+pub mod Nearest

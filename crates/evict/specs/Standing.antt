@@ -88,8 +88,8 @@ pub record HasNoRival (m : Market) (lines : List MapLine) (g k : ℕ) : Type 0 w
 -- held units of an offer may go to another place of its group's list: the state is whole, and the offer holds them
 pub record CanShift (state : Standing) (g from to units : ℕ) : Type 0 where
   pub whole : IsTrue state.is_whole
-  pub from : IsOffer state.market g from
-  pub to : IsOffer state.market g to
+  pub source : IsOffer state.market g from
+  pub target : IsOffer state.market g to
   pub held : units ≤ amount_at state.lines g from
   pub room : amount_at state.lines g to + units < 2 ^ 32
 
