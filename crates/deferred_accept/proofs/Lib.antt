@@ -8,3 +8,5 @@ pub mod Within
 pub mod Past
 pub mod Exchange
 pub mod Nearest
+pub mod Circles
+pub mod Signs

@@ -1,5 +1,5 @@
 -- The nearest full node of an offer's path, and the worst held offer under a node, are one.
-use Rattle.std.proofs.Common.{◌≡◌, ℕ, ◌+◌, ◌<◌, ◌≤◌, Bool, true, false, not, ◌&&◌, List, [], length, slice_index, slice_index_or, refl, sym, ap, ◌∙◌, subst, inl, inr, arith}
+use Rattle.std.proofs.Common.{◌≡◌, ℕ, ◌<◌, true, not, List, [], length, slice_index, slice_index_or, sym, ap, ◌∙◌, subst, inl, inr, arith}
 use Rattle.std.specs.declared.cmp.Ordering.{Ordering}
 use Rattle.std.specs.declared.cmp.Ordering.TheVariants.{Less, Equal, Greater}
 use Rattle.std.specs.Ordering.{is_le, nat_cmp, ordering_reverse, ordering_then}
@@ -7,9 +7,8 @@ use Rattle.std.proofs.lemmas.Bool.{and_from, and_parts, cases_lt, cases_order, f
 use Rattle.std.proofs.lemmas.List.{get_or_past}
 use Rattle.std.proofs.lemmas.Map.Lookups.{exact_unsigned}
 use Rattle.map_model.specs.declared.instance.Choice.{Choice}
-use Rattle.map_model.specs.declared.instance.Key.{Key}
 use Rattle.map_model.specs.declared.lines.MapLine.{MapLine}
-use Rattle.map_model.specs.Market.{Group, Market, IsMarket, capacity_of, choice_at, choices_of, key_of, pool_of}
+use Rattle.map_model.specs.Market.{Group, Market, IsMarket, capacity_of, choices_of, key_of, pool_of}
 use Rattle.map_model.specs.Allocation.{IsOffer, counts_at, is_under, key_cmp, key_le, load}
 use Rattle.map_model.specs.Holding.{IsWorst, under_worse}
 use Rattle.map_model.proofs.Keys.{key_le_total, key_le_trans, keys_total, then_tie}
@@ -77,6 +76,7 @@ pool_in m market f g k there = elim (cases_lt g (length m.groups)) [
     | inl l' ↦ pool_there m market g k (record { group = l; place = l' })
   ]
 ]
+
 -- the worst held offer under a node that stands under another one below it is the worst there too
 pub worst_below : (m : Market) → IsMarket m → (lines : List MapLine) (n f g k units : ℕ) → f < length m.nodes → is_under m n f ≡ true → IsWorst m lines n g k units → counts_at m f g k ≡ true → IsWorst m lines f g k units
 worst_below m market lines n f g k units there above w under = record {
