@@ -10,3 +10,4 @@ pub mod Exchange
 pub mod Nearest
 pub mod Circles
 pub mod Signs
+pub mod Many
