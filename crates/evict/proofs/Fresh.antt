@@ -53,6 +53,7 @@ sound_fresh m held tree free totals market nothing are empty count each count' e
     let start : IsSound (record { market = m; lines = [] }) tree free totals = record {
       market = market;
       agrees = agrees-nothing m tree are empty;
+      groups = sym count;
       count = count' ∙ sym count;
       sums = λ g l. let none : placed [] g ≡ 0 = refl in omega (arith, each g (omega (arith, count)), each' g (omega (arith, count)), none);
       small = λ g l. omega (arith, each' g (omega (arith, count)), small_demand m market g (omega (arith, count)));

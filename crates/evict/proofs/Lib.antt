@@ -13,3 +13,5 @@ pub mod Sound
 pub mod Worst
 pub mod Fresh
 pub mod OfMap
+pub mod Rivals
+pub mod Shifting

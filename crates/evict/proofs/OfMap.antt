@@ -98,6 +98,7 @@ sound_of m held tree lines free totals market is agrees count sums count' each =
     let start : IsSound (record { market = m; lines = lines }) tree free totals = record {
       market = market;
       agrees = agrees;
+      groups = sym count;
       count = count' ∙ sym count;
       sums = λ g l. omega (arith, sums g (omega (arith, count)), each g (omega (arith, count)));
       small = λ g l. omega (arith, each g (omega (arith, count)), small_demand m market g (omega (arith, count)));

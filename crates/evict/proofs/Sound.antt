@@ -22,6 +22,7 @@ pub sound_put : (m : Market) (g k units : ℕ) (held held' : Holdings) (tree tre
 sound_put m g k units held held' tree tree' free free' totals freed sound done same flen frees = record {
   market = subst (λ (x : Market). IsMarket x) (sym same) sound.market;
   agrees = agrees-shape m held'.market (shape_sym held'.market m done.accounted.shape) held'.lines tree' done.accounted.agrees;
+  groups = ap (λ (x : Market). length x.groups) same ∙ sound.groups ∙ sym flen;
   count = sound.count ∙ sym flen;
   sums = λ h l. omega (arith, done.accounted.accounts (λ x _. x == h), frees h l, sound.sums h (omega (arith, flen)));
   small = λ h l. sound.small h (omega (arith, flen));
@@ -48,6 +49,7 @@ sound_release held held' tree tree' free totals g k units pool now sound same ta
   market = subst (λ (x : Market). IsMarket x) (sym same) sound.market;
   agrees = subst (λ (x : Market). AgreesWith x held'.lines tree') (sym same)
       (agrees-take held.market held.lines held'.lines tree tree' g k units sound.agrees takes (subst (λ x. TakesUnits tree tree' x units) is taken));
+  groups = ap (λ (x : Market). length x.groups) same ∙ sound.groups ∙ sym (length-set free g now);
   count = sound.count ∙ sym (length-set free g now);
   sums = λ h l. sum h (omega (arith, length-set free g now));
   small = λ h l. sound.small h (omega (arith, length-set free g now));

@@ -88,6 +88,7 @@ pub record IsPlacing (m : Market) (origin : Origin) (g k units : ℕ) (held : Ho
 pub record IsSound (held : Holdings) (tree : Loads) (free totals : List ℕ) : Type 0 where
   pub market : IsMarket held.market
   pub agrees : AgreesWith held.market held.lines tree
+  pub groups : length held.market.groups ≡ length free
   pub count : length totals ≡ length free
   pub sums : (g : ℕ) → g < length free → placed held.lines g + slice_index free g ≡ slice_index totals g
   pub small : (g : ℕ) → g < length free → slice_index totals g < 2 ^ 32

@@ -6,12 +6,13 @@ ghost use Rattle.map_model.specs.Market.{demand_of};
 ghost use Rattle.map_model.specs.Progress.{root_of};
 ghost use Rattle.map_model.specs.Allocation.{AreLines, IsGood, IsOffer, amount_at, load, placed, refuser_of};
 ghost use Rattle.map_model.specs.Holding.{IsWorst};
-ghost use Rattle.evict.specs.Standing.{CanAsk, CanPut, CanRelease, IsFresh, IsOfMap, IsPut, IsReleased, Standing};
+ghost use Rattle.evict.specs.Standing.{CanAsk, CanPut, CanRelease, CanShift, HasNoRival, IsFresh, IsOfMap, IsPut, IsReleased, IsRival, IsShifted, Standing};
 
 use crate::freed::Freed;
 use crate::loading::{load_lines, wanted_counts};
 use crate::refuser::refuser;
 use crate::relief::place;
+use crate::rival::{Rival, rival_of};
 use crate::settle::settle;
 use capacity_tree::Tree;
 use map_model::{GroupId, Instance, MapLine, MapLines, NodeId, Offer, Steps, Units};
@@ -182,6 +183,16 @@ impl State {
         refuser(instance, &self.held, &self.tree, offer)
     }
 
+    /// Whom an offer would displace as things stand: the worst offer that is held under the full node of
+    /// its path nearest to its pool. None exactly where no node of the path is full, or nothing is held
+    /// under that one.
+    pub fn rival(&self, instance: &Instance, offer: Offer) -> Option<Rival>
+        requires { CanAsk instance.now self.now offer.group.0 offer.place }
+        ensures { MatchOption result (HasNoRival instance.now self.now.lines offer.group.0 offer.place) (λ r. IsRival instance.now self.now.lines offer.group.0 offer.place r) }
+    {
+        rival_of(instance, &self.held, &self.tree, offer)
+    }
+
     /// Units are offered at a group's pointer: one proposal. Each node of the path then gives up units
     /// of its worst offers until it is within its capacity; `freed` tells which.
     pub fn put<L>(
@@ -229,6 +240,26 @@ impl State {
         self.held.take(offer, units);
         self.tree.take(pool, units);
         self.free[offer.group.0 as usize] += units;
+    }
+
+    /// Moves held units of an offer to another place of its group's list, whatever the capacities.
+    pub fn shift(&mut self, from: Offer, place: u8, units: Units) -> Result<(), NoMemory>
+        requires { CanShift self.old from.group.0 from.place place units }
+        ensures { OnOk result (IsShifted self.old self.new from.group.0 from.place place units) }
+    {
+        let to = Offer {
+            group: from.group,
+            place,
+        };
+        let from_pool = self.held.pool_at(from);
+        let to_pool = self.held.pool_at(to);
+        self.whole = false;
+        self.held.take(from, units);
+        self.tree.take(from_pool, units);
+        self.held.put(to, units)?;
+        self.tree.add(to_pool, units);
+        self.whole = true;
+        Ok(())
     }
 
     /// Makes what a group holds and has free add up to a number.
