@@ -11,3 +11,7 @@ pub mod Nearest
 pub mod Circles
 pub mod Signs
 pub mod Many
+pub mod Rounds
+pub mod Amounts
+pub mod Plan
+pub mod Turned
