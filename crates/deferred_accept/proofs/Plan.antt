@@ -26,7 +26,7 @@ use Rattle.deferred_accept.proofs.Rounds.{sums-le, sums-none, sums-part, sums-sa
 abbrev pub lowers : Market → ℕ → Hop → Bool
 lowers m n hop = counts_at m n hop.rival.offer.group.0 hop.rival.offer.place && not (counts_at m n hop.offer.group.0 hop.offer.place)
 
--- Hops that may be made one after another from a state, of so many units each, which the group of the first one has free. Each hop is one in that state; no two change the load of a node in different directions, or that of each other's full nodes; and at the end all is within capacity, with no offer below nothing.
+-- Hops that may be made one after another from a state, of so many units each, which the group of the first one has free and the last one gives back to it. Each is a hop in that state; none changes the load at the full node of another, and no two change that of one node in different directions; at the end all is within capacity, and no offer gave up more than it held.
 pub record IsPlan (m : Market) (s : Standing) (start : ℕ) (plan : List Hop) (x : ℕ) : Type 0 where
   pub ready : IsReady m s
   pub some : 0 < x
@@ -53,7 +53,7 @@ pub record IsPlanned (m : Market) (s : Standing) (start : ℕ) (plan : List Hop)
   pub free : (h : ℕ) → h < length m.groups → slice_index t.free h + (if start == h then x else 0) ≡ slice_index s.free h + (if carrier start plan n == h then x else 0)
   pub held : (test : ℕ → ℕ → Bool) → units_of test t.lines + gone test x (take n plan) ≡ units_of test s.lines + came test x (take n plan)
 
--- what one hop more brings and takes
+-- what came and what went by one hop more
 came-more : (test : ℕ → ℕ → Bool) (x : ℕ) (plan : List Hop) (n : ℕ) (d : Hop) → n < length plan
     → came test x (take (suc n) plan) ≡ came test x (take n plan) + (if test (slice_index_or plan n d).offer.group.0 (slice_index_or plan n d).offer.place then x else 0)
 came-more test x plan n d l = ap (came test x) (take-suc plan n d l) ∙ sum_by_push (λ (h : Hop). if test h.offer.group.0 h.offer.place then x else 0) (take n plan) (slice_index_or plan n d)
@@ -62,7 +62,7 @@ gone-more : (test : ℕ → ℕ → Bool) (x : ℕ) (plan : List Hop) (n : ℕ) 
     → gone test x (take (suc n) plan) ≡ gone test x (take n plan) + (if test (slice_index_or plan n d).rival.offer.group.0 (slice_index_or plan n d).rival.offer.place then x else 0)
 gone-more test x plan n d l = ap (gone test x) (take-suc plan n d l) ∙ sum_by_push (λ (h : Hop). if test h.rival.offer.group.0 h.rival.offer.place then x else 0) (take n plan) (slice_index_or plan n d)
 
--- where an offer counts only if another does
+-- where one is counted only if another is
 if-le : (a w : Bool) (x : ℕ) → (a && not w) ≡ false → (if a then x else 0) ≤ (if w then x else 0)
 if-le true true x e = omega arith
 if-le true false x e = absurd (false≢true (sym e))
@@ -132,7 +132,7 @@ held_here m s t start plan x n d p q l =
     at : ℕ → ℕ → Bool
     at g k = (g == w.offer.group.0) && (k == w.offer.place)
 
--- from a state between to the next
+-- a state between, and the one after it
 pub record IsStep (m : Market) (s t u : Standing) (start : ℕ) (plan : List Hop) (x n : ℕ) (d : Hop) : Type 0 where
   pub hops : IsPlan m s start plan x
   pub there : n < length plan
@@ -313,7 +313,7 @@ next_state m s t start plan x n d p q l = (
     free : (new : List ℕ) × (length new ≡ length t.free) × ((h : ℕ) → slice_index new h + (if hopper hop == h then x else 0) ≡ slice_index t.free h + (if displaced hop == h then x else 0))
     free = carried t.free (hopper hop) (displaced hop) x (omega (arith, q.count, is.offer.group)) (omega (arith, q.count, is.rival.worst.offer.group)) (omega (arith, free_here m s t start plan x n d p q l))
 
--- the first n hops of a plan are proposals, to some state
+-- The first n hops of a plan are proposals that lead to some state.
 planned : (m : Market) (s : Standing) (start : ℕ) (plan : List Hop) (x : ℕ) (d : Hop) → IsPlan m s start plan x → (n : ℕ) → n ≤ length plan → (t : Standing) × AreProposals m n s t × IsReady m t × IsPlanned m s start plan x n t
 planned m s start plan x d p zero l = (s, refl, p.ready, record { whole = p.ready.whole; shape = p.ready.shape; form = p.ready.resumable.form; pointers = refl; count = p.ready.resumable.free_for; free = λ h lh. refl; held = λ test. refl })
 planned m s start plan x d p (suc n) l =
@@ -322,7 +322,7 @@ planned m s start plan x d p (suc n) l =
     let step : IsStep m s before.0 after.0 start plan x n d = record { hops = p; there = omega arith; ready = before.2; old = before.3; new = after.1 } in
     (after.0, (before.0, before.1, proposal m s before.0 after.0 start plan x n d step), ready_step m s before.0 after.0 start plan x n d step, after.1)
 
--- So all of them are, to any state as if they had been made.
+-- So all hops of a plan are proposals that lead to any state as if they had been made.
 pub proposals : (m : Market) (s new : Standing) (start : ℕ) (plan : List Hop) (x n : ℕ) (d : Hop) → IsPlan m s start plan x → length plan ≡ suc n → IsPlanned m s start plan x (suc n) new → AreProposals m (suc n) s new
 proposals m s new start plan x n d p count q =
     let before = planned m s start plan x d p n (omega arith) in
