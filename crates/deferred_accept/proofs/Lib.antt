@@ -6,3 +6,12 @@ pub mod Listed
 pub mod Finished
 pub mod Within
 pub mod Past
+pub mod Exchange
+pub mod Nearest
+pub mod Circles
+pub mod Signs
+pub mod Many
+pub mod Rounds
+pub mod Amounts
+pub mod Plan
+pub mod Turned
