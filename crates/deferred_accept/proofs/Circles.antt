@@ -9,13 +9,13 @@ use Rattle.deferred_accept.specs.Turning.{IsCircle, displaced, hopper}
 use Rattle.deferred_accept.proofs.Nearest.{hop_one, node_one}
 
 -- each hop but the last displaces the group of the next one
-displaces_next : (m : Market) (state : Standing) (first : Hop) (rest : List Hop) (units : ℕ) → IsCircle m state first rest units → (i : ℕ) (d : Hop) → i < length rest → displaced (get_or (first ∷ rest) i d) ≡ hopper (get_or rest i d)
+pub displaces_next : (m : Market) (state : Standing) (first : Hop) (rest : List Hop) (units : ℕ) → IsCircle m state first rest units → (i : ℕ) (d : Hop) → i < length rest → displaced (get_or (first ∷ rest) i d) ≡ hopper (get_or rest i d)
 displaces_next m state first rest units circle i d l =
     let there : i < length (map hopper rest) = omega (arith, length-map rest hopper) in
     sym (get_or-map displaced (first ∷ rest) i d 0 (omega arith)) ∙ ap (λ (xs : List ℕ). get_or xs i 0) circle.linked ∙ get_or_append_left (map hopper rest) (hopper first ∷ []) 0 i there ∙ get_or-map hopper rest i d 0 l
 
 -- and the last one displaces the first group
-displaces_first : (m : Market) (state : Standing) (first : Hop) (rest : List Hop) (units : ℕ) → IsCircle m state first rest units → (i : ℕ) (d : Hop) → i ≡ length rest → displaced (get_or (first ∷ rest) i d) ≡ hopper first
+pub displaces_first : (m : Market) (state : Standing) (first : Hop) (rest : List Hop) (units : ℕ) → IsCircle m state first rest units → (i : ℕ) (d : Hop) → i ≡ length rest → displaced (get_or (first ∷ rest) i d) ≡ hopper first
 displaces_first m state first rest units circle i d e =
     sym (get_or-map displaced (first ∷ rest) i d 0 (omega arith)) ∙ ap (λ (xs : List ℕ). get_or xs i 0) circle.linked ∙ get_or_push (map hopper rest) (hopper first) 0 i (length-map rest hopper ∙ sym e)
 

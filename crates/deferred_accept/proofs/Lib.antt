@@ -11,3 +11,5 @@ pub mod Nearest
 pub mod Circles
 pub mod Signs
 pub mod Many
+pub mod Shifts
+pub mod Rooms

@@ -3,7 +3,9 @@
 
 mod circle;
 mod finishing;
+mod rounds;
 mod running;
+mod turn;
 mod work;
 mod work_list;
 
