@@ -13,3 +13,7 @@ pub mod Signs
 pub mod Many
 pub mod Shifts
 pub mod Rooms
+pub mod Rounds
+pub mod Amounts
+pub mod Plan
+pub mod Turned
