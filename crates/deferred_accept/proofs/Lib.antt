@@ -6,3 +6,4 @@ pub mod Listed
 pub mod Finished
 pub mod Within
 pub mod Past
+pub mod Traces

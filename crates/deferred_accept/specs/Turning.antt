@@ -30,6 +30,13 @@ pub record IsCircle (m : Market) (state : Standing) (first : Hop) (rest : List H
   pub free : slice_index state.free (hopper first) ≡ units
   pub idle : All (λ h. slice_index state.free (hopper h) ≡ 0) rest
 
+-- the hops of a circle as one list, the first one in front
+pub record AreRound (m : Market) (state : Standing) (hops : List Hop) (units : ℕ) : Type 0 where
+  pub first : Hop
+  pub rest : List Hop
+  pub listed : hops ≡ first ∷ rest
+  pub circle : IsCircle m state first rest units
+
 -- a hop raises the load of a node: its offer stands under the node, and the one that it displaces does not
 abbrev pub raises : Market → ℕ → Hop → Bool
 raises m n hop = counts_at m n hop.offer.group.0 hop.offer.place && not (counts_at m n hop.rival.offer.group.0 hop.rival.offer.place)
