@@ -17,3 +17,5 @@ pub mod Rounds
 pub mod Amounts
 pub mod Plan
 pub mod Turned
+pub mod Traces
+pub mod Made

@@ -1,9 +1,10 @@
 -- Inside this crate alone: groups that displace each other round a circle, and whole rounds of it at once.
-use Rattle.std.specs.Prelude.{◌≡◌, ℕ, ◌+◌, ◌<◌, ◌≤◌, Bool, false, not, ◌&&◌, if◌then◌else◌, List, [], ◌∷◌, ◌++◌, All, AllPairs, IsTrue, length, map, slice_index, sum_by}
+use Rattle.std.specs.Prelude.{◌≡◌, ℕ, ◌+◌, ◌<◌, ◌≤◌, Bool, false, not, ◌&&◌, if◌then◌else◌, List, [], ◌∷◌, ◌++◌, All, AllPairs, IsTrue, length, map, slice_index, sum_by, ◌-◌, ◌^◌, nat_lt}
 use Rattle.map_model.specs.Market.{Market, capacity_of, key_of}
 use Rattle.map_model.specs.Allocation.{AreLines, IsOffer, counts_at, key_le, load, units_of}
 use Rattle.evict.specs.Standing.{CanShift, IsRival, Standing}
 use Rattle.deferred_accept.specs.declared.circle.Hop.{Hop}
+use Rattle.deferred_accept.specs.Runs.{AreProposals}
 
 -- the group that offers
 abbrev pub hopper : Hop → ℕ
@@ -29,6 +30,13 @@ pub record IsCircle (m : Market) (state : Standing) (first : Hop) (rest : List H
   pub some : 0 < units
   pub free : slice_index state.free (hopper first) ≡ units
   pub idle : All (λ h. slice_index state.free (hopper h) ≡ 0) rest
+
+-- the hops of a circle as one list, the first one in front
+pub record AreRound (m : Market) (state : Standing) (hops : List Hop) (units : ℕ) : Type 0 where
+  pub first : Hop
+  pub rest : List Hop
+  pub listed : hops ≡ first ∷ rest
+  pub circle : IsCircle m state first rest units
 
 -- a hop raises the load of a node: its offer stands under the node, and the one that it displaces does not
 abbrev pub raises : Market → ℕ → Hop → Bool
@@ -76,3 +84,12 @@ pub record IsPassed (old new : Standing) (hops : List Hop) (units : ℕ) : Type 
   pub pointers : new.pointers ≡ old.pointers
   pub free : new.free ≡ old.free
   pub held : (test : ℕ → ℕ → Bool) → units_of test new.lines + gone test units hops ≡ units_of test old.lines + passed test old.pointers units hops
+
+-- Whole rounds of a circle were made, or none: so many proposals lead from one state to the other as the counter rose by, which stands still at 2^64 - 1. Pointers and free units are as before.
+pub record HasTurned (m : Market) (old new : Standing) (before after : ℕ) : Type 0 where
+  pub count : ℕ
+  pub proposals : AreProposals m count old new
+  pub small : before < 2 ^ 64
+  pub counted : after ≡ (if nat_lt (before + count) (2 ^ 64) then before + count else 2 ^ 64 - 1)
+  pub pointers : new.pointers ≡ old.pointers
+  pub free : new.free ≡ old.free

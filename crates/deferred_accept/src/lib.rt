@@ -3,6 +3,7 @@
 
 mod circle;
 mod finishing;
+mod pace;
 mod rounds;
 mod running;
 mod turn;
