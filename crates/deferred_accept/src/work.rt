@@ -28,7 +28,7 @@ fn due_offer(instance: &Instance, state: &State, group: GroupId) -> Option<Offer
 
 /// The next offer that is due. Groups that are not waiting are taken off the list, and so is the
 /// group of the offer.
-fn next_offer(instance: &Instance, state: &State, work: &mut WorkList) -> Option<Offer>
+pub fn next_offer(instance: &Instance, state: &State, work: &mut WorkList) -> Option<Offer>
     requires ready { IsReady instance.now state.now }
     requires covered { CoversWork instance.now state.now work.old }
     ensures due { MatchOption result (IsEnded instance.now state.now.pointers state.now.free) (IsDueOffer instance.now state.now) }
