@@ -7,3 +7,4 @@ pub mod Finished
 pub mod Within
 pub mod Past
 pub mod Traces
+pub mod Rooms

@@ -230,27 +230,42 @@ fn pair_by_hand(rt: HostRuntime) -> Result<(), Fail> {
     let alloc = rt.alloc();
     for d in [3u32, 50, 1000, 4294967295] {
         let mut groups = Vec::new(alloc);
-        let c = |p: u32, s: u32| Choice { pool: NodeId(p), score: s };
+        let c = |p: u32, s: u32| Choice {
+            pool: NodeId(p),
+            score: s,
+        };
         groups.push(ClientGroup::new(d, vec![in alloc; c(0, 2), c(1, 1)]?))?;
         groups.push(ClientGroup::new(d, vec![in alloc; c(1, 2), c(0, 1)]?))?;
         groups.push(ClientGroup::new(1, vec![in alloc; c(0, 1)]?))?;
         let mut nodes = Vec::new(alloc);
-        nodes.push(Node { capacity: u64::from(d), parent: None, is_pool: true })?;
-        nodes.push(Node { capacity: u64::from(d), parent: None, is_pool: true })?;
+        nodes.push(Node {
+            capacity: u64::from(d),
+            parent: None,
+            is_pool: true,
+        })?;
+        nodes.push(Node {
+            capacity: u64::from(d),
+            parent: None,
+            is_pool: true,
+        })?;
         let instance = Instance::try_from_rows(groups, nodes).ok_or("no instance")?;
         let mut state = State::fresh(alloc, &instance)?;
         let mut steps: Steps<Proposals> = Steps::new();
         run(alloc, &instance, &mut state, &mut steps)?;
         println!(rt; "d {d} steps {}", steps.count())?;
         let map = finish(alloc, &instance, state)?;
-        for l in map.lines.as_slice() { println!(rt; "  {} {} {}", l.group.0, l.place, l.amount)?; }
+        for l in map.lines.as_slice() {
+            println!(rt; "  {} {} {}", l.group.0, l.place, l.amount)?;
+        }
         if d <= 1000 {
             let mut state = State::fresh(alloc, &instance)?;
             let mut steps: Steps<Proposals> = Steps::new();
             plain_run(alloc, &instance, &mut state, &mut steps)?;
             println!(rt; "plain d {d} steps {}", steps.count())?;
             let map = finish(alloc, &instance, state)?;
-            for l in map.lines.as_slice() { println!(rt; "  {} {} {}", l.group.0, l.place, l.amount)?; }
+            for l in map.lines.as_slice() {
+                println!(rt; "  {} {} {}", l.group.0, l.place, l.amount)?;
+            }
         }
     }
     Ok(())
