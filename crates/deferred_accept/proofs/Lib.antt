@@ -6,5 +6,16 @@ pub mod Listed
 pub mod Finished
 pub mod Within
 pub mod Past
-pub mod Traces
+pub mod Exchange
+pub mod Nearest
+pub mod Circles
+pub mod Signs
+pub mod Many
+pub mod Shifts
 pub mod Rooms
+pub mod Rounds
+pub mod Amounts
+pub mod Plan
+pub mod Turned
+pub mod Traces
+pub mod Made

@@ -33,6 +33,23 @@ ticked before n was now so tick = elim (cases_lt (before + suc n) (2 ^ 64)) [
       stays ∙ w ∙ sym (at_end before (suc n) full)
 ]
 
+-- a number more, and then another: a counter that stands at its end stays there
+pub risen_twice : (before k n was now : ℕ) → before < 2 ^ 64 → was ≡ risen before k → now ≡ risen was n → now ≡ risen before (k + n)
+risen_twice before k n was now l so then' = elim (cases_lt (before + k) (2 ^ 64)) [
+  | inr past ↦
+      let w : was ≡ 2 ^ 64 - 1 = so ∙ at_end before k past in
+      elim (cases_lt (was + n) (2 ^ 64)) [
+        | inl room ↦ omega (arith, then', below was n room, at_end before (k + n) (omega arith))
+        | inr full ↦ then' ∙ at_end was n full ∙ sym (at_end before (k + n) (omega arith))
+      ]
+  | inl short ↦
+      let w : was ≡ before + k = so ∙ below before k short in
+      elim (cases_lt (was + n) (2 ^ 64)) [
+        | inl room ↦ omega (arith, then', below was n room, below before (k + n) (omega arith))
+        | inr full ↦ then' ∙ at_end was n full ∙ sym (at_end before (k + n) (omega arith))
+      ]
+]
+
 -- no proposal yet
 pub proposed_none : (m : Market) (start : Standing) (before : ℕ) → HasProposed m start start before before
 proposed_none m start before = record { count = 0; proposals = refl; counted = λ l. omega (arith, below before 0 (omega arith)) }

@@ -1,23 +1,23 @@
 //! How many units may go round a circle.
 
-ghost use Rattle.std.specs.Prelude.{◌≡◌, ℕ, ◌+◌, ◌<◌, ◌≤◌, ◌^◌, ◌==◌, false, All, IsTrue, length};
+ghost use Rattle.std.specs.Prelude.{◌≡◌, ◌+◌, ◌<◌, ◌≤◌, ◌^◌, ◌==◌, false, All, List, [], ◌∷◌, length};
 ghost use Rattle.std.specs.List.{list_any};
-ghost use Rattle.map_model.specs.Allocation.{load};
 ghost use Rattle.map_model.specs.Market.{capacity_of};
+ghost use Rattle.map_model.specs.Allocation.{load};
 ghost use Rattle.evict.specs.Standing.{IsReady};
-ghost use Rattle.deferred_accept.specs.Turning.{HasRoomFor, IsHop, raises};
+ghost use Rattle.deferred_accept.specs.Turning.{HasRoomFor, IsHop};
 
 use crate::circle::Hop;
 use evict::State;
 use map_model::{Instance, NodeId, Units};
 
-/// The room that a node has, if it is not among those whose load stays.
+/// The room of a node, unless it is among some others.
 fn room_at(instance: &Instance, state: &State, node: NodeId, others: &[NodeId]) -> Units
     requires ready { IsReady instance.now state.now }
     requires node { node.0 < length instance.now.nodes }
-    ensures { list_any (λ n. n.0 == node.0) others.now ≡ false → load instance.now state.now.lines node.0 + result ≤ capacity_of instance.now node.0 }
+    ensures { list_any (λ x. x.0 == node.0) others.now ≡ false → load instance.now state.now.lines node.0 + result ≤ capacity_of instance.now node.0 }
 {
-    if others.contains(&node) {
+    if others.iter().any(|other| *other == node) {
         Units::MAX
     } else {
         instance.capacity(node) - state.load(node)
@@ -29,8 +29,7 @@ fn room_at(instance: &Instance, state: &State, node: NodeId, others: &[NodeId]) 
 fn room_of(instance: &Instance, state: &State, hop: &Hop) -> Units
     requires ready { IsReady instance.now state.now }
     requires hop { IsHop instance.now state.now hop.now }
-    ensures amount { result ≤ hop.now.rival.units }
-    ensures rooms { (n : ℕ) → n < length instance.now.nodes → IsTrue (raises instance.now n hop.now) → load instance.now state.now.lines n + result ≤ capacity_of instance.now n }
+    ensures { HasRoomFor instance.now state.now (hop.now ∷ []) result }
 {
     let path = instance.path(instance.pool_at(hop.offer));
     let others = instance.path(instance.pool_at(hop.rival.offer));
@@ -41,7 +40,7 @@ fn room_of(instance: &Instance, state: &State, hop: &Hop) -> Units
     room
 }
 
-/// How many units may go by each of some hops.
+/// How many units may go round by all of these hops.
 pub fn common_room(instance: &Instance, state: &State, hops: &[Hop]) -> Units
     requires ready { IsReady instance.now state.now }
     requires hops { All (λ h. IsHop instance.now state.now h) hops.now }

@@ -13,7 +13,7 @@ use Rattle.map_model.proofs.Units.{units_of-le}
 use Rattle.evict.proofs.Evictions.{evict_step, full-IsSaturated, within-all}
 
 -- the worst offer counts_at a node is no better than another that has units there
-no_better : (m : Market) (lines : List MapLine) (c g k g' k' : ℕ) → units_of (under_worse m c (key_of m g' k')) lines ≡ 0 → counts_at m c g k ≡ true → 0 < units_of (λ h j. (h == g) && (j == k)) lines → key_le (key_of m g k) (key_of m g' k') ≡ true
+pub no_better : (m : Market) (lines : List MapLine) (c g k g' k' : ℕ) → units_of (under_worse m c (key_of m g' k')) lines ≡ 0 → counts_at m c g k ≡ true → 0 < units_of (λ h j. (h == g) && (j == k)) lines → key_le (key_of m g k) (key_of m g' k') ≡ true
 no_better m lines c g k g' k' none here some = elim (cases_Bool (key_le (key_of m g k) (key_of m g' k'))) [
   | inl e ↦ e
   | inr e ↦ absurd (omega (
