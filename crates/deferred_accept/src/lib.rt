@@ -4,7 +4,7 @@
 mod circle;
 mod finishing;
 mod pace;
-mod rounds;
+mod room;
 mod running;
 mod turn;
 mod work;

@@ -5,7 +5,7 @@ ghost use Rattle.evict.specs.Standing.{IsReady};
 ghost use Rattle.deferred_accept.specs.Turning.{AreRound, CanPass, HasTurned, IsPassed};
 
 use crate::circle::{Hop, circle_at};
-use crate::rounds::common_room;
+use crate::room::common_room;
 use evict::State;
 use map_model::{GroupId, Instance, Steps, Units};
 use no_memory::NoMemory;

@@ -1,6 +1,6 @@
 use Rattle.std.proofs.Common.{◌<◌, ◌^◌, take}
 use Rattle.deferred_accept.specs.Turning.{HasRoomFor}
-use Rattle.deferred_accept.proofs.rounds.common_room.Given as goal
+use Rattle.deferred_accept.proofs.room.common_room.Given as goal
 
 abbrev pub invariant-loop-hop : goal.invariant-loop-hop
 invariant-loop-hop l = record {

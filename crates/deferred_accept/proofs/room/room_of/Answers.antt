@@ -3,7 +3,7 @@ use Rattle.std.proofs.lemmas.List.{take_all}
 use Rattle.map_model.specs.declared.instance.NodeId.{NodeId}
 use Rattle.map_model.specs.Market.{path, pool_of}
 use Rattle.deferred_accept.proofs.Rooms.{has_node, hop_room, path_there, rooms_more}
-use Rattle.deferred_accept.proofs.rounds.room_of.Goals as goal
+use Rattle.deferred_accept.proofs.room.room_of.Goals as goal
 
 pub room_at-requires-clause-node : goal.room_at-requires-clause-node
 room_at-requires-clause-node c =

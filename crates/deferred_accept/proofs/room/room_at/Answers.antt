@@ -1,6 +1,6 @@
 use Rattle.std.proofs.Common.{arith}
 use Rattle.evict.proofs.Shaped.{load-shape}
-use Rattle.deferred_accept.proofs.rounds.room_at.Goals as goal
+use Rattle.deferred_accept.proofs.room.room_at.Goals as goal
 
 pub overflow_sub-result : goal.overflow_sub-result
 overflow_sub-result c =

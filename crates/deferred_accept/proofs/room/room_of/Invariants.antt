@@ -3,7 +3,7 @@ use Rattle.std.specs.List.{list_any}
 use Rattle.map_model.specs.Market.{capacity_of}
 use Rattle.map_model.specs.Allocation.{load}
 use Rattle.map_model.specs.declared.instance.NodeId.{NodeId}
-use Rattle.deferred_accept.proofs.rounds.room_of.Given as goal
+use Rattle.deferred_accept.proofs.room.room_of.Given as goal
 
 abbrev pub invariant-loop-node : goal.invariant-loop-node
 invariant-loop-node l = record {

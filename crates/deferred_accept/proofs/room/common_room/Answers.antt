@@ -1,6 +1,6 @@
 use Rattle.std.proofs.Common.{arith}
 use Rattle.deferred_accept.proofs.Rooms.{room_more}
-use Rattle.deferred_accept.proofs.rounds.common_room.Goals as goal
+use Rattle.deferred_accept.proofs.room.common_room.Goals as goal
 
 pub loop-hop-preserved : goal.loop-hop-preserved
 loop-hop-preserved c = record {
