@@ -1,4 +1,4 @@
--- The hops of a circle: all groups, all displaced groups and all full nodes differ.
+-- The hops of a circle: all displaced groups differ, and all full nodes.
 use Rattle.std.proofs.Common.{◌≡◌, ℕ, zero, suc, ◌+◌, ◌-◌, ◌<◌, List, [], ◌∷◌, AllPairs, get_or, length, map, sym, ap, ◌∙◌, inl, inr, arith}
 use Rattle.std.proofs.lemmas.Bool.{cases_order}
 use Rattle.std.proofs.lemmas.List.{get_or-map, get_or_append_left, get_or_default, get_or_push, length-map}
@@ -32,11 +32,6 @@ apart m state market first rest units circle (suc more) i j d l e same =
 -- all displaced groups differ
 pub displaced_apart : (m : Market) (state : Standing) → IsMarket m → (first : Hop) (rest : List Hop) (units : ℕ) → IsCircle m state first rest units → AllPairs (λ a b. displaced a ≡ displaced b → ⊥) (first ∷ rest)
 displaced_apart m state market first rest units circle i j d l there same = apart m state market first rest units circle (length rest - j) i j d l (omega arith) same
-
--- all groups differ
-pub groups_apart : (m : Market) (state : Standing) → IsMarket m → (first : Hop) (rest : List Hop) (units : ℕ) → IsCircle m state first rest units → AllPairs (λ a b. hopper a ≡ hopper b → ⊥) (first ∷ rest)
-groups_apart m state market first rest units circle i j d l there same =
-    displaced_apart m state market first rest units circle i j d l there (hop_one m state market (get_or (first ∷ rest) i d) (get_or (first ∷ rest) j d) (circle.hops i d (omega arith)) (circle.hops j d there) same)
 
 -- all full nodes differ
 pub nodes_apart : (m : Market) (state : Standing) → IsMarket m → (first : Hop) (rest : List Hop) (units : ℕ) → IsCircle m state first rest units → AllPairs (λ a b. a.rival.node.0 ≡ b.rival.node.0 → ⊥) (first ∷ rest)

@@ -3,12 +3,28 @@
 ghost use Rattle.std.specs.Prelude.{◌≡◌, ℕ, ◌<◌, ◌||◌, All, IfSome, MatchOption, OnOk, length, slice_set, true};
 ghost use Rattle.map_model.specs.Progress.{IsEnded};
 ghost use Rattle.evict.specs.Standing.{IsReady};
+ghost use Rattle.deferred_accept.specs.Runs.{IsWaiting};
 ghost use Rattle.deferred_accept.specs.Work.{CoversRest, CoversWork, IsDueOffer, gave_any, is_on};
 
 use crate::work_list::WorkList;
 use evict::{Eviction, State};
 use map_model::{GroupId, Instance, Offer};
 use no_memory::NoMemory;
+
+/// What a group offers next, if it is waiting.
+fn due_offer(instance: &Instance, state: &State, group: GroupId) -> Option<Offer>
+    requires ready { IsReady instance.now state.now }
+    requires group { group.0 < length instance.now.groups }
+    ensures due { MatchOption result (IsWaiting instance.now state.now group.0 → ⊥) (IsDueOffer instance.now state.now) }
+    ensures group { IfSome result (λ o. o.group ≡ group) }
+{
+    let place = state.pointer(group);
+    if state.free(group) > 0 && place < instance.list_len(group) {
+        Some(Offer { group, place })
+    } else {
+        None
+    }
+}
 
 /// The next offer that is due. Groups that are not waiting are taken off the list, and so is the
 /// group of the offer.
@@ -19,26 +35,11 @@ pub fn next_offer(instance: &Instance, state: &State, work: &mut WorkList) -> Op
     ensures covered { IfSome result (λ o. CoversRest instance.now state.now o.group.0 work.new) }
 {
     while let Some(group) = work.pop() {
-        let place = state.pointer(group);
-        if state.free(group) > 0 && place < instance.list_len(group) {
-            return Some(Offer { group, place });
+        if let Some(offer) = due_offer(instance, state, group) {
+            return Some(offer);
         }
     }
     None
-}
-
-/// What a group offers next, if it is waiting.
-fn due_offer(instance: &Instance, state: &State, group: GroupId) -> Option<Offer>
-    requires ready { IsReady instance.now state.now }
-    requires group { group.0 < length instance.now.groups }
-    ensures { IfSome result (IsDueOffer instance.now state.now) }
-{
-    let place = state.pointer(group);
-    if state.free(group) > 0 && place < instance.list_len(group) {
-        Some(Offer { group, place })
-    } else {
-        None
-    }
 }
 
 /// The offer of the group that is followed, if there is one and it is waiting; else the next one of
