@@ -19,3 +19,4 @@ pub mod Plan
 pub mod Turned
 pub mod Traces
 pub mod Made
+pub mod Courses

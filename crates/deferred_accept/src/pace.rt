@@ -1,13 +1,19 @@
 //! When a run looks for circles.
 
+ghost use Rattle.std.specs.Prelude.{◌<◌, ◌≤◌, ◌^◌, OnOk, length, slice_index};
+ghost use Rattle.evict.specs.Standing.{IsReady};
+ghost use Rattle.deferred_accept.specs.Turning.{HasTurned};
+
 use crate::turn::turn_at;
 use evict::State;
 use map_model::{GroupId, Instance, Steps};
 use no_memory::NoMemory;
 use std::alloc::Global;
 
-/// Places of all lists.
-fn places(instance: &Instance) -> u64 {
+/// The places of all lists.
+fn places(instance: &Instance) -> u64
+    ensures { result ≤ 2 ^ 24 }
+{
     let mut places = 0;
     for g in 0..instance.groups() {
         places += u64::from(instance.list_len(GroupId(g)));
@@ -15,14 +21,14 @@ fn places(instance: &Instance) -> u64 {
     places
 }
 
-/// How many proposals are made before the first look. Most runs end before.
+/// How many proposals are made before the first look. Most runs end before. The last ones, one for
+/// each group, follow units from group to group.
 pub fn before_looks(instance: &Instance) -> u64 {
     2 * places(instance) + 16 + u64::from(instance.groups())
 }
 
-/// How many proposals are made between two looks: the last ones, one for each group, follow units from
-/// group to group.
-pub fn between_looks(instance: &Instance) -> u64 {
+/// How many proposals are made between two looks. The last ones follow units here too.
+fn between_looks(instance: &Instance) -> u64 {
     5 * u64::from(instance.groups()) + 16
 }
 
@@ -35,7 +41,15 @@ pub fn look<L>(
     group: GroupId,
     left: u64,
     steps: &mut Steps<L>,
-) -> Result<u64, NoMemory> {
+) -> Result<u64, NoMemory>
+    requires ready { IsReady instance.now state.old }
+    requires group { group.0 < length instance.now.groups }
+    requires some { 0 < slice_index state.old.free group.0 }
+    ensures turned { OnOk result (HasTurned instance.now state.old state.new steps.old steps.new) }
+    ensures later { steps.old ≤ steps.new }
+{
+    // Tells the proof that the count is a number of 64 bits.
+    let _count = steps.count();
     if left > 0 {
         return Ok(left - 1);
     }
