@@ -1,4 +1,4 @@
--- The hops of a circle: all groups, all displaced groups and all full nodes differ.
+-- The hops of a circle: all displaced groups differ, and all full nodes.
 use Rattle.std.proofs.Common.{◌≡◌, ℕ, zero, suc, ◌+◌, ◌-◌, ◌<◌, List, [], ◌∷◌, AllPairs, get_or, length, map, sym, ap, ◌∙◌, inl, inr, arith}
 use Rattle.std.proofs.lemmas.Bool.{cases_order}
 use Rattle.std.proofs.lemmas.List.{get_or-map, get_or_append_left, get_or_default, get_or_push, length-map}
@@ -9,13 +9,13 @@ use Rattle.deferred_accept.specs.Turning.{IsCircle, displaced, hopper}
 use Rattle.deferred_accept.proofs.Nearest.{hop_one, node_one}
 
 -- each hop but the last displaces the group of the next one
-displaces_next : (m : Market) (state : Standing) (first : Hop) (rest : List Hop) (units : ℕ) → IsCircle m state first rest units → (i : ℕ) (d : Hop) → i < length rest → displaced (get_or (first ∷ rest) i d) ≡ hopper (get_or rest i d)
+pub displaces_next : (m : Market) (state : Standing) (first : Hop) (rest : List Hop) (units : ℕ) → IsCircle m state first rest units → (i : ℕ) (d : Hop) → i < length rest → displaced (get_or (first ∷ rest) i d) ≡ hopper (get_or rest i d)
 displaces_next m state first rest units circle i d l =
     let there : i < length (map hopper rest) = omega (arith, length-map rest hopper) in
     sym (get_or-map displaced (first ∷ rest) i d 0 (omega arith)) ∙ ap (λ (xs : List ℕ). get_or xs i 0) circle.linked ∙ get_or_append_left (map hopper rest) (hopper first ∷ []) 0 i there ∙ get_or-map hopper rest i d 0 l
 
 -- and the last one displaces the first group
-displaces_first : (m : Market) (state : Standing) (first : Hop) (rest : List Hop) (units : ℕ) → IsCircle m state first rest units → (i : ℕ) (d : Hop) → i ≡ length rest → displaced (get_or (first ∷ rest) i d) ≡ hopper first
+pub displaces_first : (m : Market) (state : Standing) (first : Hop) (rest : List Hop) (units : ℕ) → IsCircle m state first rest units → (i : ℕ) (d : Hop) → i ≡ length rest → displaced (get_or (first ∷ rest) i d) ≡ hopper first
 displaces_first m state first rest units circle i d e =
     sym (get_or-map displaced (first ∷ rest) i d 0 (omega arith)) ∙ ap (λ (xs : List ℕ). get_or xs i 0) circle.linked ∙ get_or_push (map hopper rest) (hopper first) 0 i (length-map rest hopper ∙ sym e)
 
@@ -32,11 +32,6 @@ apart m state market first rest units circle (suc more) i j d l e same =
 -- all displaced groups differ
 pub displaced_apart : (m : Market) (state : Standing) → IsMarket m → (first : Hop) (rest : List Hop) (units : ℕ) → IsCircle m state first rest units → AllPairs (λ a b. displaced a ≡ displaced b → ⊥) (first ∷ rest)
 displaced_apart m state market first rest units circle i j d l there same = apart m state market first rest units circle (length rest - j) i j d l (omega arith) same
-
--- all groups differ
-pub groups_apart : (m : Market) (state : Standing) → IsMarket m → (first : Hop) (rest : List Hop) (units : ℕ) → IsCircle m state first rest units → AllPairs (λ a b. hopper a ≡ hopper b → ⊥) (first ∷ rest)
-groups_apart m state market first rest units circle i j d l there same =
-    displaced_apart m state market first rest units circle i j d l there (hop_one m state market (get_or (first ∷ rest) i d) (get_or (first ∷ rest) j d) (circle.hops i d (omega arith)) (circle.hops j d there) same)
 
 -- all full nodes differ
 pub nodes_apart : (m : Market) (state : Standing) → IsMarket m → (first : Hop) (rest : List Hop) (units : ℕ) → IsCircle m state first rest units → AllPairs (λ a b. a.rival.node.0 ≡ b.rival.node.0 → ⊥) (first ∷ rest)

@@ -4,7 +4,7 @@ use Rattle.std.proofs.lemmas.Bool.{and_from, and_parts, cases_Bool}
 use Rattle.map_model.specs.declared.instance.Key.{Key}
 use Rattle.map_model.specs.declared.lines.MapLine.{MapLine}
 use Rattle.map_model.specs.Market.{Market, IsMarket, capacity_of, key_of, pool_of}
-use Rattle.map_model.specs.Allocation.{AreLines, IsOffer, counts_at, is_full_of_better, is_under, key_le, load, refuser_of, units_of}
+use Rattle.map_model.specs.Allocation.{AreLines, IsOffer, counts_at, is_under, key_le, load, refuser_of, units_of}
 use Rattle.map_model.specs.Holding.{IsSaturated, under_within, under_worse}
 use Rattle.map_model.proofs.Keys.{key_le_itself, key_le_trans}
 use Rattle.map_model.proofs.Paths.{pool_there}
@@ -12,7 +12,7 @@ use Rattle.map_model.proofs.Trees.{comparable, under_itself, under_there, under_
 use Rattle.evict.specs.Putting.{IsSettled}
 use Rattle.evict.specs.Standing.{KeepsRefusals}
 use Rattle.evict.proofs.Evictions.{within-all}
-use Rattle.evict.proofs.Refusals.{full_from_saturated, refusals_kept, refused_at, refused_by}
+use Rattle.evict.proofs.Refusals.{refusals_kept, refused_at, refused_by}
 
 -- some units of (h, j), the worst offer under the full node n, gave way to as many of (g, k), which is better and stands under n too
 pub record IsExchange (m : Market) (old new : List MapLine) (n g k h j units : ℕ) : Type 0 where
@@ -66,11 +66,6 @@ exchange_settled m market old new n g k h j units x = record { fits = x.fits; ke
 -- so no refusal is taken back
 pub exchange_keeps : (m : Market) → IsMarket m → (old new : List MapLine) (n g k h j units : ℕ) → IsExchange m old new n g k h j units → AreLines m old → AreLines m new → KeepsRefusals m old new
 exchange_keeps m market old new n g k h j units x form form' = refusals_kept m market old new form form' (exchange_settled m market old new n g k h j units x)
-
--- and the node refuses the offer that gave way
-pub exchange_refuses : (m : Market) → IsMarket m → (old new : List MapLine) (n g k h j units : ℕ) → IsExchange m old new n g k h j units → AreLines m new → is_full_of_better m new n (key_of m h j) ≡ true
-exchange_refuses m market old new n g k h j units x form =
-    full_from_saturated m new n (key_of m h j) form (x.fits n (under_there m market n (pool_of m h j) (pool_there m market h j x.loser) x.under)) (still_full m old new n g k h j units x (key_of m h j) (key_le_itself (key_of m h j)))
 
 -- an offer that some node refused is refused still
 pub refused_still : (m : Market) → IsMarket m → (old new : List MapLine) → KeepsRefusals m old new → (g k : ℕ) → IsOffer m g k → IsSome (refuser_of m old g k) → IsSome (refuser_of m new g k)

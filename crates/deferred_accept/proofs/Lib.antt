@@ -11,7 +11,12 @@ pub mod Nearest
 pub mod Circles
 pub mod Signs
 pub mod Many
+pub mod Shifts
+pub mod Rooms
 pub mod Rounds
 pub mod Amounts
 pub mod Plan
 pub mod Turned
+pub mod Traces
+pub mod Made
+pub mod Courses

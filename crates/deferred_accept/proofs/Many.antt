@@ -83,13 +83,3 @@ added_few was n now l added = elim (cases_lt (was + n) (2 ^ 64)) [
   | inl room ↦ let e : now ≡ was + n = added ∙ ap (λ b. if b then was + n else 2 ^ 64 - 1) (lt-ltb (was + n) (2 ^ 64) room) in (omega arith, omega arith)
   | inr full ↦ let e : now ≡ 2 ^ 64 - 1 = added ∙ ap (λ b. if b then was + n else 2 ^ 64 - 1) (le-ltb (was + n) (2 ^ 64) full) in (omega arith, omega arith)
 ]
-
--- where pointers and free units are as before, the list of work covers the same
-pub covers_same : (m : Market) (old new : Standing) (work : List Bool) → CoversWork m old work → new.pointers ≡ old.pointers → new.free ≡ old.free → CoversWork m new work
-covers_same m old new work covered pointers free = record { count = covered.count; waiting = λ h w. covered.waiting h (waits h w) }
-  where
-    waits : (h : ℕ) → IsWaiting m new h → IsWaiting m old h
-    waits h w =
-        let units : slice_index new.free h ≡ slice_index old.free h = ap (λ (xs : List ℕ). slice_index xs h) free in
-        let place : slice_index new.pointers h ≡ slice_index old.pointers h = ap (λ (xs : List ℕ). slice_index xs h) pointers in
-        record { group = w.group; free = omega (arith, w.free); place = omega (arith, w.place) }

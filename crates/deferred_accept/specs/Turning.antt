@@ -1,9 +1,10 @@
 -- Inside this crate alone: groups that displace each other round a circle, and whole rounds of it at once.
-use Rattle.std.specs.Prelude.{◌≡◌, ℕ, ◌+◌, ◌*◌, ◌<◌, ◌≤◌, Bool, false, not, ◌&&◌, if◌then◌else◌, List, [], ◌∷◌, ◌++◌, All, IsTrue, length, map, slice_index, sum_by}
+use Rattle.std.specs.Prelude.{◌≡◌, ℕ, ◌+◌, ◌<◌, ◌≤◌, Bool, false, not, ◌&&◌, if◌then◌else◌, List, [], ◌∷◌, ◌++◌, All, AllPairs, IsTrue, length, map, slice_index, sum_by, ◌-◌, ◌^◌, nat_lt}
 use Rattle.map_model.specs.Market.{Market, capacity_of, key_of}
 use Rattle.map_model.specs.Allocation.{AreLines, IsOffer, counts_at, key_le, load, units_of}
-use Rattle.evict.specs.Standing.{IsRival, Standing}
+use Rattle.evict.specs.Standing.{CanShift, IsRival, Standing}
 use Rattle.deferred_accept.specs.declared.circle.Hop.{Hop}
+use Rattle.deferred_accept.specs.Runs.{AreProposals}
 
 -- the group that offers
 abbrev pub hopper : Hop → ℕ
@@ -30,6 +31,13 @@ pub record IsCircle (m : Market) (state : Standing) (first : Hop) (rest : List H
   pub free : slice_index state.free (hopper first) ≡ units
   pub idle : All (λ h. slice_index state.free (hopper h) ≡ 0) rest
 
+-- the hops of a circle as one list, the first one in front
+pub record AreRound (m : Market) (state : Standing) (hops : List Hop) (units : ℕ) : Type 0 where
+  pub first : Hop
+  pub rest : List Hop
+  pub listed : hops ≡ first ∷ rest
+  pub circle : IsCircle m state first rest units
+
 -- a hop raises the load of a node: its offer stands under the node, and the one that it displaces does not
 abbrev pub raises : Market → ℕ → Hop → Bool
 raises m n hop = counts_at m n hop.offer.group.0 hop.offer.place && not (counts_at m n hop.rival.offer.group.0 hop.rival.offer.place)
@@ -55,3 +63,33 @@ pub record IsTurned (m : Market) (old new : Standing) (hops : List Hop) (units :
   pub pointers : new.pointers ≡ old.pointers
   pub free : new.free ≡ old.free
   pub held : (test : ℕ → ℕ → Bool) → units_of test new.lines + gone test units hops ≡ units_of test old.lines + came test units hops
+
+-- the units that come to the next offers of the displaced groups, at the offers that pass a test
+abbrev pub passed : (ℕ → ℕ → Bool) → List ℕ → ℕ → List Hop → ℕ
+passed test pointers units hops = sum_by (λ (h : Hop). if test (displaced h) (slice_index pointers (displaced h)) then units else 0) hops
+
+-- units may be passed on round some hops: in a whole state each displaced offer has them, and may give them to the next offer of its own group, which no other hop displaces
+pub record CanPass (state : Standing) (hops : List Hop) (units : ℕ) : Type 0 where
+  pub whole : IsTrue state.is_whole
+  pub form : AreLines state.market state.lines
+  pub groups : All (λ h. displaced h < length state.pointers) hops
+  pub shifts : All (λ h. CanShift state (displaced h) h.rival.offer.place (slice_index state.pointers (displaced h)) units) hops
+  pub apart : AllPairs (λ a b. displaced a ≡ displaced b → ⊥) hops
+
+-- each displaced offer gave so many units to the next offer of its own group
+pub record IsPassed (old new : Standing) (hops : List Hop) (units : ℕ) : Type 0 where
+  pub market : new.market ≡ old.market
+  pub whole : IsTrue new.is_whole
+  pub form : AreLines new.market new.lines
+  pub pointers : new.pointers ≡ old.pointers
+  pub free : new.free ≡ old.free
+  pub held : (test : ℕ → ℕ → Bool) → units_of test new.lines + gone test units hops ≡ units_of test old.lines + passed test old.pointers units hops
+
+-- Whole rounds of a circle were made, or none: so many proposals lead from one state to the other as the counter rose by, which stands still at 2^64 - 1. Pointers and free units are as before.
+pub record HasTurned (m : Market) (old new : Standing) (before after : ℕ) : Type 0 where
+  pub count : ℕ
+  pub proposals : AreProposals m count old new
+  pub small : before < 2 ^ 64
+  pub counted : after ≡ (if nat_lt (before + count) (2 ^ 64) then before + count else 2 ^ 64 - 1)
+  pub pointers : new.pointers ≡ old.pointers
+  pub free : new.free ≡ old.free

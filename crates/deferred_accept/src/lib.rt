@@ -3,7 +3,10 @@
 
 mod circle;
 mod finishing;
+mod pace;
+mod room;
 mod running;
+mod turn;
 mod work;
 mod work_list;
 

@@ -6,7 +6,8 @@ ghost use Rattle.evict.specs.Standing.{IsReady};
 ghost use Rattle.deferred_accept.specs.Runs.{HasProposed, HasRun, WantsBefore, most_proposals};
 ghost use Rattle.deferred_accept.specs.Spreading.{HoldsWork, StaysInside};
 
-use crate::work::{add_again, next_offer, wake};
+use crate::pace::{before_looks, look};
+use crate::work::{add_again, follow, offer_ahead, wake};
 use crate::work_list::WorkList;
 use evict::{Freed, State};
 use map_model::{Instance, Steps};
@@ -37,12 +38,16 @@ pub fn run<L>(
 {
     let mut freed = Freed::new(alloc);
     let mut work = WorkList::all(alloc, instance)?;
-    while let Some(offer) = next_offer(instance, state, &mut work) {
+    let mut left = before_looks(instance);
+    let mut ahead = None;
+    while let Some(offer) = offer_ahead(instance, state, &mut work, ahead) {
+        left = look(alloc, instance, state, offer.group, left, steps)?;
         let units = state.free(offer.group);
         state.put(instance, offer, units, &mut freed, steps)?;
         let given_up = freed.evictions();
         add_again(&mut work, offer.group, given_up)?;
         wake(&mut work, given_up)?;
+        ahead = follow(given_up, left < u64::from(instance.groups()));
     }
     Ok(())
 }

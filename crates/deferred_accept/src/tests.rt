@@ -2,8 +2,10 @@
 
 ghost use Rattle.std.specs.Prelude.{OnOk};
 
+use crate::work::{add_again, next_offer, wake};
+use crate::work_list::WorkList;
 use crate::{finish, run};
-use evict::State;
+use evict::{Freed, State};
 use map_model::{
     Choice, ClientGroup, GroupId, Instance, MapLine, MapLines, NameLine, Node, NodeId, Steps,
 };
@@ -201,6 +203,70 @@ fn maps_small_worlds(rt: HostRuntime) -> Result<(), Fail> {
         assert_eq!(rt; lines.as_slice(), world.lines, "lines of {}", world.name);
         let names = plain_names(alloc, map.names.as_slice())?;
         assert_eq!(rt; names.as_slice(), world.names, "names of {}", world.name);
+    }
+    Ok(())
+}
+
+/// A run that only makes proposals, one after another, and counts them.
+fn plain_run(
+    alloc: Global,
+    instance: &Instance,
+    state: &mut State,
+    steps: &mut Steps<Proposals>,
+) -> Result<(), NoMemory> {
+    let mut freed = Freed::new(alloc);
+    let mut work = WorkList::all(alloc, instance)?;
+    while let Some(offer) = next_offer(instance, state, &mut work) {
+        let units = state.free(offer.group);
+        state.put(instance, offer, units, &mut freed, steps)?;
+        add_again(&mut work, offer.group, freed.evictions())?;
+        wake(&mut work, freed.evictions())?;
+    }
+    Ok(())
+}
+
+#[test]
+fn pair_by_hand(rt: HostRuntime) -> Result<(), Fail> {
+    let alloc = rt.alloc();
+    for d in [3u32, 50, 1000, 4294967295] {
+        let mut groups = Vec::new(alloc);
+        let c = |p: u32, s: u32| Choice {
+            pool: NodeId(p),
+            score: s,
+        };
+        groups.push(ClientGroup::new(d, vec![in alloc; c(0, 2), c(1, 1)]?))?;
+        groups.push(ClientGroup::new(d, vec![in alloc; c(1, 2), c(0, 1)]?))?;
+        groups.push(ClientGroup::new(1, vec![in alloc; c(0, 1)]?))?;
+        let mut nodes = Vec::new(alloc);
+        nodes.push(Node {
+            capacity: u64::from(d),
+            parent: None,
+            is_pool: true,
+        })?;
+        nodes.push(Node {
+            capacity: u64::from(d),
+            parent: None,
+            is_pool: true,
+        })?;
+        let instance = Instance::try_from_rows(groups, nodes).ok_or("no instance")?;
+        let mut state = State::fresh(alloc, &instance)?;
+        let mut steps: Steps<Proposals> = Steps::new();
+        run(alloc, &instance, &mut state, &mut steps)?;
+        println!(rt; "d {d} steps {}", steps.count())?;
+        let map = finish(alloc, &instance, state)?;
+        for l in map.lines.as_slice() {
+            println!(rt; "  {} {} {}", l.group.0, l.place, l.amount)?;
+        }
+        if d <= 1000 {
+            let mut state = State::fresh(alloc, &instance)?;
+            let mut steps: Steps<Proposals> = Steps::new();
+            plain_run(alloc, &instance, &mut state, &mut steps)?;
+            println!(rt; "plain d {d} steps {}", steps.count())?;
+            let map = finish(alloc, &instance, state)?;
+            for l in map.lines.as_slice() {
+                println!(rt; "  {} {} {}", l.group.0, l.place, l.amount)?;
+            }
+        }
     }
     Ok(())
 }

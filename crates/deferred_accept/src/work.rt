@@ -3,12 +3,28 @@
 ghost use Rattle.std.specs.Prelude.{◌≡◌, ℕ, ◌<◌, ◌||◌, All, IfSome, MatchOption, OnOk, length, slice_set, true};
 ghost use Rattle.map_model.specs.Progress.{IsEnded};
 ghost use Rattle.evict.specs.Standing.{IsReady};
+ghost use Rattle.deferred_accept.specs.Runs.{IsWaiting};
 ghost use Rattle.deferred_accept.specs.Work.{CoversRest, CoversWork, IsDueOffer, gave_any, is_on};
 
 use crate::work_list::WorkList;
 use evict::{Eviction, State};
 use map_model::{GroupId, Instance, Offer};
 use no_memory::NoMemory;
+
+/// What a group offers next, if it is waiting.
+fn due_offer(instance: &Instance, state: &State, group: GroupId) -> Option<Offer>
+    requires ready { IsReady instance.now state.now }
+    requires group { group.0 < length instance.now.groups }
+    ensures due { MatchOption result (IsWaiting instance.now state.now group.0 → ⊥) (IsDueOffer instance.now state.now) }
+    ensures group { IfSome result (λ o. o.group ≡ group) }
+{
+    let place = state.pointer(group);
+    if state.free(group) > 0 && place < instance.list_len(group) {
+        Some(Offer { group, place })
+    } else {
+        None
+    }
+}
 
 /// The next offer that is due. Groups that are not waiting are taken off the list, and so is the
 /// group of the offer.
@@ -19,12 +35,33 @@ pub fn next_offer(instance: &Instance, state: &State, work: &mut WorkList) -> Op
     ensures covered { IfSome result (λ o. CoversRest instance.now state.now o.group.0 work.new) }
 {
     while let Some(group) = work.pop() {
-        let place = state.pointer(group);
-        if state.free(group) > 0 && place < instance.list_len(group) {
-            return Some(Offer { group, place });
+        if let Some(offer) = due_offer(instance, state, group) {
+            return Some(offer);
         }
     }
     None
+}
+
+/// The offer of the group that is followed, if there is one and it is waiting; else the next one of
+/// the list that is due.
+pub fn offer_ahead(
+    instance: &Instance,
+    state: &State,
+    work: &mut WorkList,
+    ahead: Option<GroupId>,
+) -> Option<Offer>
+    requires ready { IsReady instance.now state.now }
+    requires covered { CoversWork instance.now state.now work.old }
+    requires ahead { IfSome ahead (λ g. g.0 < length instance.now.groups) }
+    ensures due { MatchOption result (IsEnded instance.now state.now.pointers state.now.free) (IsDueOffer instance.now state.now) }
+    ensures covered { IfSome result (λ o. CoversRest instance.now state.now o.group.0 work.new) }
+{
+    if let Some(group) = ahead {
+        if let Some(offer) = due_offer(instance, state, group) {
+            return Some(offer);
+        }
+    }
+    next_offer(instance, state, work)
 }
 
 /// Puts the group of a proposal on the list again: in front where it alone gave up units, since its
@@ -50,4 +87,14 @@ pub fn wake(work: &mut WorkList, freed: &[Eviction]) -> Result<(), NoMemory>
         work.add(eviction.offer.group)?;
     }
     Ok(())
+}
+
+/// The last group that gave up units, if units are followed now.
+pub fn follow(freed: &[Eviction], follows: bool) -> Option<GroupId>
+    ensures { (bound : ℕ) → All (λ e. e.offer.group.0 < bound) freed.now → IfSome result (λ g. g.0 < bound) }
+{
+    if !follows || freed.is_empty() {
+        return None;
+    }
+    Some(freed[freed.len() - 1].offer.group)
 }

@@ -22,6 +22,7 @@ enum Held {
 
 mod answers;
 mod at_once;
+mod circles;
 mod example;
 mod large_world;
 mod loopback;
@@ -330,7 +331,7 @@ fn assert_rows<R: Abort + Threads + Wait + Sync + AllocGlobal>(
     let words = texts(rt, words)?;
     for (topology, map, wanted, text, loads) in rows {
         let mut files = shelf(rt, *topology, *map, &[])?;
-        let mut out = MemSink::new(rt.alloc(), 1024, Vec::new(rt.alloc()))?;
+        let mut out = MemSink::new(rt.alloc(), 2048, Vec::new(rt.alloc()))?;
         let status = run(rt, words.as_slice(), &mut files, &mut out)?;
         assert_eq!(rt; status, *wanted, "for {text}");
         assert_eq!(rt; out.bytes(), text.as_bytes(), "for {text}");
@@ -564,6 +565,9 @@ const MAPS: &[(Held, &str)] = &[
         "glb map 1\nplace g n7 3\nfull g n7 n0\nend\n",
     ),
     (Topology(LARGEST), "glb map 1\nplace g A 4294967295\nend\n"),
+    (Topology(circles::PAIR), circles::PAIR_MAP),
+    (Topology(circles::DEEP_PAIR), circles::DEEP_PAIR_MAP),
+    (Topology(circles::RING), circles::RING_MAP),
 ];
 
 #[test]
