@@ -9,7 +9,7 @@ use Rattle.serve_core.specs.declared.event.Event.TheVariants.{Commit, Tell, Take
 use Rattle.serve_core.specs.Events.{IsEventFor}
 
 change_fits : (m v : Market) (c : Change) → length v.groups ≡ length m.groups → length v.nodes ≡ length m.nodes → IsChange m c → IsChange v c
-change_fits m v (Demand group demand) groups nodes is = (subst (λ n. group.0 < n) (sym groups) is.0, is.1.0, is.1.1)
+change_fits m v (Demand group demand) groups nodes is = (subst (λ n. group.0 < n) (sym groups) is.0, is.1, is.2)
 change_fits m v (Capacity node capacity) groups nodes is = (subst (λ n. node.0 < n) (sym nodes) is.0, is.1)
 
 -- the names of an event stay those of an instance

@@ -29,22 +29,28 @@ const QUERY: &[u8] = &[
     b'x', b'a', b'm', b'p', b'l', b'e', 0, 0, 1, 0, 1,
 ];
 
-/// A map: its lines and its names.
-type Map = (&'static [Placed], &'static [NameAt]);
+/// A map of the example: the good one where the second group asks for 4 units, two of which the first pool refuses; that where it asks for 8, as at first; and one that gives it 6 units.
+#[derive(Clone, Copy)]
+enum Which {
+    OfFour,
+    OfEight,
+    OfSix,
+}
 
-/// The good map where the second group asks for 4 units: two of them are refused by the first pool.
-const OF_FOUR: Map = (&[(0, 0, 8), (1, 0, 2), (1, 1, 2)], &[(1, 0, 1)]);
-
-/// The good map where it asks for 8, as at first.
-const OF_EIGHT: Map = (&[(0, 0, 8), (1, 0, 2), (1, 1, 5)], &[(1, 0, 1), (1, 1, 0)]);
-
-/// A map that gives it 6 units.
-const OF_SIX: Map = (&[(0, 0, 8), (1, 0, 2), (1, 1, 4)], &[(1, 0, 1)]);
+/// The map.
+fn map_by(alloc: Global, which: Which) -> Option<MapLines> {
+    let (lines, names): (&[Placed], &[NameAt]) = match which {
+        Which::OfFour => (&[(0, 0, 8), (1, 0, 2), (1, 1, 2)], &[(1, 0, 1)]),
+        Which::OfEight => (&[(0, 0, 8), (1, 0, 2), (1, 1, 5)], &[(1, 0, 1), (1, 1, 0)]),
+        Which::OfSix => (&[(0, 0, 8), (1, 0, 2), (1, 1, 4)], &[(1, 0, 1)]),
+    };
+    map_of(alloc, lines, names).ok()
+}
 
 /// What is tried: a commit of the second group's demand, or of nothing where that is 0, with a map; a tell of a lane; a take of a lane.
 #[derive(Clone, Copy)]
 enum Try {
-    Commit(u32, Map),
+    Commit(u32, Which),
     Tell(u8, u64),
     Take(u8, u64),
 }
@@ -79,9 +85,9 @@ fn event_of(alloc: Global, topology: &Topology, tried: Try) -> Option<Event>
     ensures { IfSome result (IsEventFor topology.now.market) }
 {
     match tried {
-        Try::Commit(demand, (lines, names)) => {
+        Try::Commit(demand, which) => {
             let batch = batch_of(alloc, topology, demand)?;
-            let map = map_of(alloc, lines, names).ok()?;
+            let map = map_by(alloc, which)?;
             Some(Event::Commit(batch, map))
         }
         Try::Tell(lane, serial) => Some(Event::Tell(lane, serial)),
@@ -120,7 +126,7 @@ fn opened(alloc: Global) -> Option<World> {
 
 /// Events one after the other, and what is answered to each.
 const ROWS: [(Try, Result<(), StepFault>); 8] = [
-    (Try::Commit(4, OF_FOUR), Ok(())),
+    (Try::Commit(4, Which::OfFour), Ok(())),
     (Try::Tell(0, 1), Ok(())),
     (
         Try::Take(0, 0),
@@ -137,7 +143,7 @@ const ROWS: [(Try, Result<(), StepFault>); 8] = [
     ),
     (Try::Take(2, 1), Err(StepFault::NoLane)),
     (
-        Try::Commit(0, OF_SIX),
+        Try::Commit(0, Which::OfSix),
         Err(StepFault::NotGood(Verdict::OverDemand {
             group: GroupId(1),
             placed: 6,
@@ -196,9 +202,9 @@ const FRESH: Plain = Plain {
 
 /// The three commits, the two tells and the three takes, each kind in its order.
 const COMMITS: [Try; 3] = [
-    Try::Commit(4, OF_FOUR),
-    Try::Commit(8, OF_EIGHT),
-    Try::Commit(4, OF_FOUR),
+    Try::Commit(4, Which::OfFour),
+    Try::Commit(8, Which::OfEight),
+    Try::Commit(4, Which::OfFour),
 ];
 
 const TELLS: [Try; 2] = [Try::Tell(0, 2), Try::Tell(1, 1)];
@@ -263,7 +269,10 @@ fn comes_as_due(alloc: Global, topology: &Topology, order: &[Try]) -> bool {
             return false;
         }
     }
-    let seen = [world.lanes[0].seen(), world.lanes[1].seen()];
+    let seen = match world.lanes.as_slice() {
+        [one, two] => [one.seen(), two.seen()],
+        _ => return false,
+    };
     plain
         == Plain {
             newest: world.newest(),
