@@ -1,10 +1,10 @@
 -- Many proposals at once: what one keeps they all keep, and what one lowers they lower by their number.
-use Rattle.std.proofs.Common.{◌≡◌, ℕ, zero, suc, ◌+◌, ◌-◌, ◌^◌, ◌<◌, ◌≤◌, Bool, false, List, nat_lt, if◌then◌else◌, slice_index, refl, sym, ap, ◌∙◌, subst, inl, inr, arith}
+use Rattle.std.proofs.Common.{◌≡◌, ℕ, zero, suc, ◌+◌, ◌-◌, ◌^◌, ◌<◌, ◌≤◌, Bool, false, nat_lt, if◌then◌else◌, slice_index, refl, sym, ap, ◌∙◌, subst, inl, inr, arith}
 use Rattle.std.proofs.lemmas.Bool.{cases_lt, le-ltb, lt-ltb}
 use Rattle.map_model.specs.Market.{Market}
 use Rattle.evict.specs.Standing.{CanPut, IsReady, Standing}
-use Rattle.deferred_accept.specs.Runs.{AreProposals, HasProposed, HasRun, IsProposal, IsWaiting, WantsBefore}
-use Rattle.deferred_accept.specs.Work.{CoversWork, worth}
+use Rattle.deferred_accept.specs.Runs.{AreProposals, HasProposed, HasRun, IsProposal, WantsBefore}
+use Rattle.deferred_accept.specs.Work.{worth}
 use Rattle.deferred_accept.proofs.Past.{wants_step}
 use Rattle.deferred_accept.proofs.Proposed.{risen_twice}
 use Rattle.deferred_accept.proofs.Turns.{run_step, worth_less}

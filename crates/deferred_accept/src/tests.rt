@@ -1,6 +1,9 @@
-//! Small worlds, whose maps were found by trying every one.
+//! Small worlds, whose maps were found by trying every one, and worlds in which groups displace each
+//! other round a circle.
 
 ghost use Rattle.std.specs.Prelude.{OnOk};
+ghost use Rattle.map_model.specs.Progress.{IsEnded};
+ghost use Rattle.evict.specs.Standing.{IsReady};
 
 use crate::work::{add_again, next_offer, wake};
 use crate::work_list::WorkList;
@@ -207,66 +210,151 @@ fn maps_small_worlds(rt: HostRuntime) -> Result<(), Fail> {
     Ok(())
 }
 
-/// A run that only makes proposals, one after another, and counts them.
+/// A run that only makes proposals, one after another.
 fn plain_run(
     alloc: Global,
     instance: &Instance,
     state: &mut State,
     steps: &mut Steps<Proposals>,
-) -> Result<(), NoMemory> {
+) -> Result<(), NoMemory>
+    requires { IsReady instance.now state.old }
+    ensures ready { OnOk result (IsReady instance.now state.new) }
+    ensures ended { OnOk result (IsEnded instance.now state.new.pointers state.new.free) }
+{
     let mut freed = Freed::new(alloc);
     let mut work = WorkList::all(alloc, instance)?;
     while let Some(offer) = next_offer(instance, state, &mut work) {
         let units = state.free(offer.group);
         state.put(instance, offer, units, &mut freed, steps)?;
-        add_again(&mut work, offer.group, freed.evictions())?;
-        wake(&mut work, freed.evictions())?;
+        let given_up = freed.evictions();
+        add_again(&mut work, offer.group, given_up)?;
+        wake(&mut work, given_up)?;
+    }
+    Ok(())
+}
+
+/// What groups hold at the end of a run of proposals alone, and how many there were.
+fn plain_end(alloc: Global, instance: &Instance) -> Result<(Vec<(u32, u8, u32)>, u64), NoMemory> {
+    let mut state = State::fresh(alloc, instance)?;
+    let mut steps: Steps<Proposals> = Steps::new();
+    plain_run(alloc, instance, &mut state, &mut steps)?;
+    let map = finish(alloc, instance, state)?;
+    Ok((plain_lines(alloc, map.lines.as_slice())?, steps.count()))
+}
+
+/// What groups hold at the end of a run, and how many proposals it counted.
+fn end(alloc: Global, instance: &Instance) -> Result<(Vec<(u32, u8, u32)>, u64), NoMemory> {
+    let mut state = State::fresh(alloc, instance)?;
+    let mut steps: Steps<Proposals> = Steps::new();
+    run(alloc, instance, &mut state, &mut steps)?;
+    let map = finish(alloc, instance, state)?;
+    Ok((plain_lines(alloc, map.lines.as_slice())?, steps.count()))
+}
+
+/// So many pools of so many units each.
+fn pools(alloc: Global, count: u32, units: u32) -> Result<Vec<Node>, NoMemory> {
+    let mut nodes = Vec::new(alloc);
+    for _pool in 0..count {
+        nodes.push(Node {
+            capacity: u64::from(units),
+            parent: None,
+            is_pool: true,
+        })?;
+    }
+    Ok(nodes)
+}
+
+/// A pool and a score.
+fn choice(pool: u32, score: u32) -> Choice {
+    Choice {
+        pool: NodeId(pool),
+        score,
+    }
+}
+
+/// Two pools and two groups, each of which fills one. A pool likes best the group that likes it least.
+/// The one unit of a third group comes between.
+fn pair(alloc: Global, units: u32) -> Result<Instance, Fail> {
+    let mut groups = Vec::new(alloc);
+    let first = vec![in alloc; choice(0, 3), choice(1, 1)]?;
+    groups.push(ClientGroup::new(units, first))?;
+    let second = vec![in alloc; choice(1, 2), choice(0, 1)]?;
+    groups.push(ClientGroup::new(units, second))?;
+    let third = vec![in alloc; choice(0, 2)]?;
+    groups.push(ClientGroup::new(1, third))?;
+    Ok(Instance::try_from_rows(groups, pools(alloc, 2, units)?).ok_or("no instance")?)
+}
+
+/// Ten pools in a ring, and ten groups that ask them in turn, each from another one on. A pool likes
+/// best the group that comes to it last. One more group has a unit that the first pool likes best.
+fn ring(alloc: Global, units: u32) -> Result<Instance, Fail> {
+    let mut groups = Vec::new(alloc);
+    for g in 0..10u32 {
+        let mut choices = Vec::new(alloc);
+        for place in 0..10u32 {
+            choices.push(choice((g + place) % 10, 10 - place))?;
+        }
+        groups.push(ClientGroup::new(units, choices))?;
+    }
+    groups.push(ClientGroup::new(1, vec![in alloc; choice(0, 0)]?))?;
+    Ok(Instance::try_from_rows(groups, pools(alloc, 10, units)?).ok_or("no instance")?)
+}
+
+/// Each group of the ring stands whole in its last pool, but the one that has to share that.
+fn ring_lines(alloc: Global, units: u32) -> Result<Vec<(u32, u8, u32)>, NoMemory> {
+    let mut lines = Vec::new(alloc);
+    for g in 0..10u32 {
+        lines.push((
+            g,
+            9,
+            if g == 1 {
+                units.saturating_sub(1)
+            } else {
+                units
+            },
+        ))?;
+    }
+    lines.push((10, 0, 1))?;
+    Ok(lines)
+}
+
+// The third group's unit displaces one of the first group, which displaces one of the second, and so
+// on: each of the two offers units at its last pool as often as it has units.
+#[test]
+fn turns_the_pair(rt: HostRuntime) -> Result<(), Fail> {
+    let alloc = rt.alloc();
+    for units in [50, u32::MAX] {
+        let instance = pair(alloc, units)?;
+        let (lines, proposals) = end(alloc, &instance)?;
+        assert_eq!(rt; lines.as_slice(), [(0, 1, units), (1, 1, units)].as_slice());
+        assert_eq!(rt; proposals, 2 * u64::from(units) + 3);
     }
     Ok(())
 }
 
 #[test]
-fn pair_by_hand(rt: HostRuntime) -> Result<(), Fail> {
+fn turns_the_ring(rt: HostRuntime) -> Result<(), Fail> {
     let alloc = rt.alloc();
-    for d in [3u32, 50, 1000, 4294967295] {
-        let mut groups = Vec::new(alloc);
-        let c = |p: u32, s: u32| Choice {
-            pool: NodeId(p),
-            score: s,
-        };
-        groups.push(ClientGroup::new(d, vec![in alloc; c(0, 2), c(1, 1)]?))?;
-        groups.push(ClientGroup::new(d, vec![in alloc; c(1, 2), c(0, 1)]?))?;
-        groups.push(ClientGroup::new(1, vec![in alloc; c(0, 1)]?))?;
-        let mut nodes = Vec::new(alloc);
-        nodes.push(Node {
-            capacity: u64::from(d),
-            parent: None,
-            is_pool: true,
-        })?;
-        nodes.push(Node {
-            capacity: u64::from(d),
-            parent: None,
-            is_pool: true,
-        })?;
-        let instance = Instance::try_from_rows(groups, nodes).ok_or("no instance")?;
-        let mut state = State::fresh(alloc, &instance)?;
-        let mut steps: Steps<Proposals> = Steps::new();
-        run(alloc, &instance, &mut state, &mut steps)?;
-        println!(rt; "d {d} steps {}", steps.count())?;
-        let map = finish(alloc, &instance, state)?;
-        for l in map.lines.as_slice() {
-            println!(rt; "  {} {} {}", l.group.0, l.place, l.amount)?;
-        }
-        if d <= 1000 {
-            let mut state = State::fresh(alloc, &instance)?;
-            let mut steps: Steps<Proposals> = Steps::new();
-            plain_run(alloc, &instance, &mut state, &mut steps)?;
-            println!(rt; "plain d {d} steps {}", steps.count())?;
-            let map = finish(alloc, &instance, state)?;
-            for l in map.lines.as_slice() {
-                println!(rt; "  {} {} {}", l.group.0, l.place, l.amount)?;
-            }
-        }
+    for units in [40, u32::MAX] {
+        let instance = ring(alloc, units)?;
+        let (lines, _proposals) = end(alloc, &instance)?;
+        let expected = ring_lines(alloc, units)?;
+        assert_eq!(rt; lines.as_slice(), expected.as_slice());
     }
+    Ok(())
+}
+
+#[test]
+fn turns_as_proposals_would(rt: HostRuntime) -> Result<(), Fail> {
+    let alloc = rt.alloc();
+    let instance = pair(alloc, 50)?;
+    let (lines, proposals) = end(alloc, &instance)?;
+    let (plain, counted) = plain_end(alloc, &instance)?;
+    assert_eq!(rt; lines.as_slice(), plain.as_slice());
+    assert_eq!(rt; proposals, counted);
+    let instance = ring(alloc, 40)?;
+    let (lines, _proposals) = end(alloc, &instance)?;
+    let (plain, _counted) = plain_end(alloc, &instance)?;
+    assert_eq!(rt; lines.as_slice(), plain.as_slice());
     Ok(())
 }
