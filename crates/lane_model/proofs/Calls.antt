@@ -37,7 +37,7 @@ in_order turns log end.Stopped c = ordered_calm log c.0
 in_order turns log end.PortEnd c = subst IsInOrder (sym c.2) (ordered_last c.0 c.1 c.3)
 in_order turns log end.PortFault c = ordered_calm log c.0
 in_order turns log end.CellFault c = subst IsInOrder (sym c.2) (ordered_last c.0 c.1 c.3)
-in_order turns log end.Above c = absurd c
+in_order turns log (end.Above known newest) c = absurd c
 in_order turns log end.Spent c = ordered_calm log c.0
 
 all_cons : {A : Type 0} (P : A → Type 0) (x : A) (xs : List A) → P x → All P xs → All P (x ∷ xs)
@@ -146,5 +146,5 @@ call_of {V = V} {T = T} a number w turns log m mid m' end.Stopped some s last is
 call_of a number w turns log m mid m' end.PortEnd some s last is = call_same a number w turns log m mid m' end.PortEnd some s is (λ shown g. g) last
 call_of a number w turns log m mid m' end.PortFault some s last is = call_same a number w turns log m mid m' end.PortFault some s is (λ shown g. g) last
 call_of a number w turns log m mid m' end.CellFault some s last is = call_same a number w turns log m mid m' end.CellFault some s is (λ shown g. g) last
-call_of a number w turns log m mid m' end.Above some s last is = absurd is
+call_of a number w turns log m mid m' (end.Above known newest) some s last is = absurd is
 call_of a number w turns log m mid m' end.Spent some s last is = call_same a number w turns log m mid m' end.Spent some s is (λ shown g. g) last

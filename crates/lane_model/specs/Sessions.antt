@@ -76,7 +76,7 @@ IsEnd turns log end.Stopped = AreCalm log × (failures log < 8) × (length log <
 IsEnd turns log end.PortEnd = (before : List Turn) × (t : Turn) × (log ≡ before ++ t ∷ []) × AreCalm before × (failures before < 8) × (t.came ≡ ended) × (length log ≤ turns)
 IsEnd turns log end.PortFault = AreCalm log × (failures log ≡ 8) × (length log ≤ turns)
 IsEnd turns log end.CellFault = (before : List Turn) × (t : Turn) × (log ≡ before ++ t ∷ []) × AreCalm before × (failures before < 8) × (is_refused t.came ≡ true) × (length log ≤ turns)
-IsEnd turns log end.Above = ⊥
+IsEnd turns log (end.Above known newest) = ⊥
 IsEnd turns log end.Spent = AreCalm log × (failures log < 8) × (length log ≡ turns)
 
 -- after the last turn a Stop, or nothing
@@ -85,7 +85,7 @@ IsLast end.Stopped m m' = IsStop m m'
 IsLast end.PortEnd m m' = m' ≡ m
 IsLast end.PortFault m m' = m' ≡ m
 IsLast end.CellFault m m' = m' ≡ m
-IsLast end.Above m m' = m' ≡ m
+IsLast (end.Above known newest) m m' = m' ≡ m
 IsLast end.Spent m m' = m' ≡ m
 
 -- a gate after some turns, and at Stopped after its Stop

@@ -12,7 +12,12 @@ pub enum Ended {
     /// A look for the map that was to answer a datagram was refused; the datagram has no try.
     CellFault,
     /// The closing look, behind all others, was at a map past the newest one.
-    Above,
+    Above {
+        /// The greatest serial that the worker knows.
+        known: u64,
+        /// The newest serial that was published.
+        newest: u64,
+    },
     /// As many recv answers came as there were turns, and none of the others happened.
     Spent,
 }

@@ -5,3 +5,4 @@ pub mod Tags
 pub mod Asks
 pub mod Cell
 pub mod Examples
+pub mod Doors

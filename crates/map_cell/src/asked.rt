@@ -1,3 +1,4 @@
+//! What is to be added to the history of a cell.
 ghost use Rattle.std.specs.Prelude.{◌≡◌};
 ghost use Rattle.map_cell.specs.Asks.{asked};
 ghost use Rattle.published_map.specs.Changes.{after};

@@ -1,6 +1,8 @@
+//! Doors: the way of viewers into a cell, which counts what it is asked and what it refuses.
 ghost use Rattle.std.specs.Prelude.{◌≡◌, ◌+◌, ◌<◌, ◌^◌, ◌≤◌, ◌∷◌, ◌++◌, [], ℕ, length, max, IfOk, IfErr, OnErr, OnOk, MatchResult};
 ghost use mathlib.Core.List.{IsPrefix};
 ghost use Rattle.std.specs.Fn.{FnOnceTakesAt, FnOnceReturnsAt};
+ghost use Rattle.map_cell.specs.Doors.{unused};
 ghost use Rattle.map_cell.specs.Ends.{ViewerState, LooksAt};
 ghost use Rattle.outside.specs.Faults.{Rose, raised};
 ghost use Rattle.published_map.specs.Version.{Version, IsVersion};
@@ -9,6 +11,7 @@ use crate::front::Naming;
 use crate::publisher::Publisher;
 use crate::viewer::{Note, Viewer};
 use published_map::MapVersion;
+use std::marker::Model;
 use std::sync::Wait;
 
 /// The door refused.
@@ -93,10 +96,18 @@ pub struct PlainDoor {
     greatest: u64,
 }
 
+impl Model for PlainDoor {
+    ghost use Rattle.map_cell.specs.Doors.{DoorState};
+
+    ghost Value = { DoorState };
+
+    ghost view = { λ d. record { asked = d.asked; looks = d.looks; greatest = d.greatest; faults = d.faults } };
+}
+
 impl PlainDoor {
     /// A door that was not used yet.
     pub fn new() -> PlainDoor
-        ensures { (result.faults ≡ 0) × (result.asked ≡ 0) × (result.looks ≡ 0) × (result.greatest ≡ 0) }
+        ensures { result ≡ unused }
     {
         PlainDoor {
             faults: 0,
@@ -170,9 +181,19 @@ pub struct MemDoor {
     refused_looks: Vec<u64>,
 }
 
+impl Model for MemDoor {
+    ghost use Rattle.map_cell.specs.Doors.{RefusingDoor};
+
+    ghost Value = { RefusingDoor };
+
+    ghost view = { λ d. record { state = d.inner; refused_places = d.refused_places.items; refused_looks = d.refused_looks.items } };
+}
+
 impl MemDoor {
-    /// A door that refuses these places and looks.
-    pub fn new(refused_places: Vec<u64>, refused_looks: Vec<u64>) -> MemDoor {
+    /// A door that refuses these places and looks, and was not used yet.
+    pub fn new(refused_places: Vec<u64>, refused_looks: Vec<u64>) -> MemDoor
+        ensures { result ≡ record { state = unused; refused_places = refused_places.items; refused_looks = refused_looks.items } }
+    {
         MemDoor {
             inner: PlainDoor::new(),
             refused_places,
@@ -182,13 +203,13 @@ impl MemDoor {
 }
 
 impl Door for MemDoor {
-    ghost faults = { λ d. d.inner.faults };
+    ghost faults = { λ d. d.state.faults };
 
-    ghost asked = { λ d. d.inner.asked };
+    ghost asked = { λ d. d.state.asked };
 
-    ghost looks = { λ d. d.inner.looks };
+    ghost looks = { λ d. d.state.looks };
 
-    ghost greatest = { λ d. d.inner.greatest };
+    ghost greatest = { λ d. d.state.greatest };
 
     fn admit<J: Naming, R: Wait>(
         &mut self,

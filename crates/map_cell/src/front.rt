@@ -206,6 +206,7 @@ impl<J: Naming> Front<J> {
     pub fn covers(&self, other: &Front<J>) -> bool
         ensures begins { MatchBool result (IsPrefix other.now self.now) (length self.now < length other.now) }
         ensures history { IsHistory self.now }
+        ensures other { IsHistory other.now }
     {
         let mut both = self.seen.again();
         both.learn(&other.seen);

@@ -1,10 +1,14 @@
-ghost use Rattle.std.specs.Prelude.{◌≡◌, ◌+◌, ◌<◌, ◌^◌, ◌≤◌, ℕ, length, vec_len, IfSome, IfNone, IfOk, MatchBool};
+//! Rows of notes, by which one thread tells others of published versions, and what reads them.
+ghost use Rattle.std.specs.Prelude.{◌≡◌, ◌+◌, ◌<◌, ◌^◌, ◌≤◌, ℕ, length, vec_len, IfSome, IfNone, IfOk, MatchBool, MatchOption, None, ◌-◌};
+ghost use Rattle.outside.specs.Faults.{BothTell};
+ghost use Rattle.outside.specs.Notes.{IsNextNote};
 
 use crate::front::Naming;
 use crate::viewer::Note;
 use no_memory::NoMemory;
 use outside::Notes;
 use std::alloc::Global;
+use std::marker::Model;
 use std::sync::{OnceLock, Wait};
 
 /// How many notes a row takes; of later maps nobody is told.
@@ -57,9 +61,22 @@ pub struct RowNotes<'a, J: Naming> {
     next: usize,
 }
 
+impl<'a, J: Naming> Model for RowNotes<'a, J> {
+    ghost use Rattle.std.specs.Prelude.{ℕ, ◌≤◌};
+
+    // how many notes it has given
+    ghost Value = { ℕ };
+
+    ghost view = { λ s. s.next };
+
+    ghost invariant = { λ s. s.next ≤ 65536 };
+}
+
 impl<'a, J: Naming> RowNotes<'a, J> {
     /// The notes of a row, from the first on.
-    pub fn over(row: &'a NoteRow<J>) -> RowNotes<'a, J> {
+    pub fn over(row: &'a NoteRow<J>) -> RowNotes<'a, J>
+        ensures { result ≡ 0 }
+    {
         RowNotes { row, next: 0 }
     }
 }
@@ -71,9 +88,16 @@ impl<J: Naming> Notes for RowNotes<'_, J> {
 
     ghost told = { λ s. None };
 
-    ghost left = { λ s. 65536 - s.next };
+    ghost left = { λ s. 65536 - s };
 
-    fn next(&mut self) -> Option<Note<J>> {
+    fn next(&mut self) -> Option<Note<J>>
+        ensures next { BothTell None None (IsNextNote result) }
+        ensures few { 65536 - self.old ≤ 65536 }
+        ensures some { IfSome result (λ _. 65536 - self.new < 65536 - self.old) }
+        ensures none { IfNone result (65536 - self.new ≡ 65536 - self.old) }
+        // Each note that it gives is counted, and nothing else.
+        ensures count { MatchOption result (self.new ≡ self.old) (λ _. self.new ≡ self.old + 1) }
+    {
         if self.next >= CELLS {
             return None;
         }

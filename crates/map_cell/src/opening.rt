@@ -1,3 +1,4 @@
+//! The opening of a cell, with all its viewers.
 ghost use Rattle.std.specs.Prelude.{◌≡◌, ◌+◌, ◌<◌, ◌≤◌, ◌∷◌, [], ℕ, All, IfOk, IfErr, OnOk, vec_len, vec_capacity};
 ghost use Rattle.outside.specs.Faults.{Rose, raised};
 ghost use Rattle.published_map.specs.Version.{IsVersion};

@@ -1,3 +1,4 @@
+//! The publisher of a cell: it adds versions to the history, and shows each to the viewers.
 ghost use Rattle.std.specs.Prelude.{◌≡◌, ◌+◌, ◌<◌, ◌^◌, ◌≤◌, ◌-◌, ◌∷◌, ◌++◌, [], drop, length, IfOk, IfErr, OnErr, OnOk, IsSome, IsTrue, Some, true};
 ghost use Rattle.left_right.specs.Sides.{view as client_view};
 ghost use Rattle.published_map.specs.Changes.{after, is_within, moved};

@@ -1,3 +1,4 @@
+//! The rule that every copy of a cell keeps, and what looks and publishes learn by it.
 ghost use Rattle.std.specs.Prelude.{◌≡◌, true};
 ghost use Rattle.map_cell.specs.Histories.{IsSealed};
 ghost use Rattle.map_cell.specs.Tags.{tag_of, unknown, OneBook};

@@ -1,3 +1,4 @@
+//! A copy of the newest version with the history that it ends, and the steps by which both copies go on.
 ghost use Rattle.std.specs.Prelude.{◌≡◌, ◌+◌, ◌<◌, length, IsTrue};
 ghost use Rattle.map_cell.specs.Rules.{CopyState, StepState, stepped};
 

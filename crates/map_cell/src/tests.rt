@@ -1,3 +1,4 @@
+//! Cells over the example: looks that follow publishes, doors that refuse, and a viewer beside a publisher.
 ghost use Rattle.std.specs.Prelude.{◌≡◌, ◌+◌, ◌<◌, ◌^◌, true, IfSome};
 ghost use Rattle.map_model.specs.Market.{IsSameShape};
 ghost use Rattle.map_model.specs.Allocation.{IsGood};
@@ -19,6 +20,8 @@ use std::test::Fail;
 use std::thread::{self, Threads, join_mut};
 use topology_text::{Topology, read_topology};
 use worlds::{EXAMPLE, EXAMPLE_TREE, map_of};
+
+mod rows;
 
 const G2: GroupId = GroupId(1);
 

@@ -1,10 +1,11 @@
+//! Viewers, which look at the newest version, and notes, by which they learn of it.
 ghost use Rattle.std.specs.Prelude.{◌≡◌, ◌+◌, ◌<◌, ◌^◌, ◌≤◌, ◌∷◌, ◌++◌, [], length, true, false, IfOk, OnErr, MatchBool, IfSome, slice_get, Some, ◌⊎◌};
 ghost use mathlib.Core.List.{IsPrefix};
 ghost use Rattle.std.specs.Fn.{FnOnceTakesAt, FnOnceReturnsAt};
 ghost use Rattle.map_cell.specs.Ends.{ViewerState, LooksAt};
 ghost use Rattle.left_right.specs.Sides.{view as client_view};
 ghost use Rattle.map_cell.specs.Tags.{tag_of};
-ghost use Rattle.map_cell.specs.Histories.{IsSealed};
+ghost use Rattle.map_cell.specs.Histories.{IsHistory, IsSealed};
 ghost use Rattle.published_map.specs.Version.{Version, IsVersion};
 
 use crate::front::{Front, Naming};
@@ -39,6 +40,13 @@ impl<J: Naming> Note<J> {
         Note {
             front: self.front.again(),
         }
+    }
+
+    /// The serial of the version that it names.
+    pub fn serial(&self) -> u64
+        ensures { result + 1 ≡ length self.now.front }
+    {
+        self.front.len() - 1
     }
 }
 
@@ -94,7 +102,8 @@ impl<J: Naming> Viewer<J> {
 
     /// Whether all that this viewer has seen begins the note's history.
     pub fn is_within(&self, note: &Note<J>) -> bool
-        ensures { MatchBool result (IsPrefix self.now.seen note.now.front) (length note.now.front < length self.now.seen) }
+        ensures within { MatchBool result (IsPrefix self.now.seen note.now.front) (length note.now.front < length self.now.seen) }
+        ensures history { IsHistory self.now.seen }
     {
         note.front.covers(&self.seen)
     }

@@ -1,3 +1,4 @@
+//! A lane's turns: the gate is asked, notes are learned, and a datagram is taken and answered.
 ghost use Rattle.std.specs.Prelude.{◌≡◌, ◌≤◌, ◌<◌, ◌+◌, ◌-◌, ℕ, length, List, All, IfSome, Option};
 ghost use Rattle.outside.specs.Faults.{BothTell, Rose, raised};
 ghost use Rattle.addr_text.specs.declared.address.Addr.{Addr};
@@ -49,6 +50,7 @@ fn answer_one<J: Naming, P: Port, D: Door>(
         (record { seen = worker.new.viewer.seen; told = worker.new.viewer.told; looks = D.looks door.new; greatest = D.greatest door.new; faults = D.faults door.new })
         (record { told = P.told port.old; faults = P.faults port.old }) (record { told = P.told port.new; faults = P.faults port.new }) }
     ensures count { (worker.new.count ≡ following worker.old.count) × (worker.new.number ≡ worker.old.number) }
+    ensures asked { D.asked door.new ≡ D.asked door.old }
 {
     let mut out = ArrayVec::new();
     match worker.answer(door, from.addr, octets, &mut out) {
@@ -73,6 +75,7 @@ fn learn_all<J: Naming, D: Door, N: Notes<Note = Note<J>>>(
         (record { seen = worker.new.viewer.seen; told = worker.new.viewer.told; looks = D.looks door.new; greatest = D.greatest door.new; faults = D.faults door.new }) }
     ensures looks { D.looks door.new ≡ D.looks door.old }
     ensures same { (worker.new.viewer.seen ≡ worker.old.viewer.seen) × (worker.new.count ≡ worker.old.count) × (worker.new.number ≡ worker.old.number) }
+    ensures asked { D.asked door.new ≡ D.asked door.old }
 {
     while let Some(note) = notes.next() {
         door.learn(&mut worker.viewer, &note);
@@ -103,6 +106,7 @@ fn take_one<J: Naming, P: Port, D: Door>(
         (record { seen = worker.new.viewer.seen; told = worker.new.viewer.told; looks = D.looks door.new; greatest = D.greatest door.new; faults = D.faults door.new })
         (record { told = P.told port.old; faults = P.faults port.old }) (record { told = P.told port.new; faults = P.faults port.new }) }
     ensures number { worker.new.number ≡ worker.old.number }
+    ensures asked { D.asked door.new ≡ D.asked door.old }
 {
     match port.recv(worker.known(), buffer) {
         Arrival::Arrived(len, from) => {
@@ -127,6 +131,7 @@ fn one_turn<J: Naming, P: Port, G: Gate, D: Door, N: Notes<Note = Note<J>>>(
         (record { port = P.told port.old; gate = G.told gate.old; notes = N.told notes.old; eyes = record { seen = worker.old.viewer.seen; told = worker.old.viewer.told; looks = D.looks door.old; greatest = D.greatest door.old; faults = D.faults door.old }; count = worker.old.count; port_faults = P.faults port.old; gate_faults = G.faults gate.old })
         (record { port = P.told port.new; gate = G.told gate.new; notes = N.told notes.new; eyes = record { seen = worker.new.viewer.seen; told = worker.new.viewer.told; looks = D.looks door.new; greatest = D.greatest door.new; faults = D.faults door.new }; count = worker.new.count; port_faults = P.faults port.new; gate_faults = G.faults gate.new }) }
     ensures number { worker.new.number ≡ worker.old.number }
+    ensures asked { D.asked door.new ≡ D.asked door.old }
 {
     if let Turning::Stop = gate.turn(worker.known()) {
         return Step::Stopped;
@@ -168,6 +173,7 @@ fn serve_turns<J: Naming, P: Port, G: Gate, D: Door, N: Notes<Note = Note<J>>>(
     ensures served { IsServed (λ n. length n.front - 1) worker.old.number turns
         (record { port = P.told port.old; gate = G.told gate.old; notes = N.told notes.old; eyes = record { seen = worker.old.viewer.seen; told = worker.old.viewer.told; looks = D.looks door.old; greatest = D.greatest door.old; faults = D.faults door.old }; count = worker.old.count; port_faults = P.faults port.old; gate_faults = G.faults gate.old })
         (record { port = P.told port.new; gate = G.told gate.new; notes = N.told notes.new; eyes = record { seen = worker.new.viewer.seen; told = worker.new.viewer.told; looks = D.looks door.new; greatest = D.greatest door.new; faults = D.faults door.new }; count = worker.new.count; port_faults = P.faults port.new; gate_faults = G.faults gate.new }) result }
+    ensures asked { D.asked door.new ≡ D.asked door.old }
 {
     let mut buffer = [0u8; LARGEST_DATAGRAM];
     let mut failed = 0u8;
@@ -192,6 +198,8 @@ pub fn serve_port<J: Naming, P: Port, G: Gate, D: Door, N: Notes<Note = Note<J>>
     ensures call { IsLaneCall replies (λ n. length n.front - 1) worker.old.number turns
         (record { port = P.told port.old; gate = G.told gate.old; notes = N.told notes.old; eyes = record { seen = worker.old.viewer.seen; told = worker.old.viewer.told; looks = D.looks door.old; greatest = D.greatest door.old; faults = D.faults door.old }; count = worker.old.count; port_faults = P.faults port.old; gate_faults = G.faults gate.old })
         (record { port = P.told port.new; gate = G.told gate.new; notes = N.told notes.new; eyes = record { seen = worker.new.viewer.seen; told = worker.new.viewer.told; looks = D.looks door.new; greatest = D.greatest door.new; faults = D.faults door.new }; count = worker.new.count; port_faults = P.faults port.new; gate_faults = G.faults gate.new }) result }
+    // No place is asked for.
+    ensures asked { D.asked door.new ≡ D.asked door.old }
 {
     let _ = worker.known();
     serve_turns(worker, port, gate, door, notes, turns)

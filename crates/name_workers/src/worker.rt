@@ -1,5 +1,5 @@
 //! Workers, which answer datagrams from the newest map that they look at.
-ghost use Rattle.std.specs.Prelude.{◌≡◌, ◌≤◌, ◌+◌, ◌⊎◌, false, length, Some};
+ghost use Rattle.std.specs.Prelude.{◌≡◌, ◌≤◌, ◌+◌, ◌⊎◌, false, length, max, Some};
 ghost use mathlib.Core.List.{IsPrefix};
 ghost use Rattle.outside.specs.Faults.{raised};
 ghost use Rattle.published_map.specs.Version.{IsVersion};
@@ -75,6 +75,8 @@ impl<J: Naming> Worker<J> {
         ensures kept { IsPrefix self.old.viewer.told self.new.viewer.told }
         ensures note { IsPrefix note.now.front self.new.viewer.told }
         ensures same { (self.new.number ≡ self.old.number) × (self.new.count ≡ self.old.count) }
+        ensures counts { (D.faults door.new ≡ D.faults door.old) × (D.looks door.new ≡ D.looks door.old) × (D.asked door.new ≡ D.asked door.old) }
+        ensures greatest { D.greatest door.new + 1 ≡ max (D.greatest door.old + 1) (length self.new.viewer.told) }
     {
         door.learn(&mut self.viewer, note);
     }
@@ -96,6 +98,7 @@ impl<J: Naming> Worker<J> {
         ensures looks { D.looks door.new ≡ raised (D.looks door.old) (looked_by octets.now) }
         ensures count { (self.new.count ≡ following self.old.count) × (self.new.number ≡ self.old.number) }
         ensures short { length out.new.items ≤ 512 }
+        ensures asked { D.asked door.new ≡ D.asked door.old }
     {
         let draw = draw_of(self.number, self.count);
         self.count = next_number(self.count);

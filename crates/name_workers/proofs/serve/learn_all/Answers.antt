@@ -16,4 +16,5 @@ loop-note-preserved g c =
       l.seen ∙ i.3,
       i.4,
       i.5,
+      l.counts.2 ∙ i.6,
     )
