@@ -1,5 +1,5 @@
 -- Which replies the groups of a large world get.
-use Rattle.std.specs.Prelude.{ℕ, ◌+◌, ◌*◌, ◌/◌, ◌%◌, ◌==◌, Bool, false, List, Option, None, Some, count_by, slice_get, if◌then◌else◌}
+use Rattle.std.specs.Prelude.{◌≡◌, refl, ℕ, ◌+◌, ◌*◌, ◌/◌, ◌%◌, ◌==◌, Bool, false, List, [], ◌∷◌, Option, None, Some, count_by, slice_get, if◌then◌else◌}
 use Rattle.std.specs.List.{range_with_len}
 use Rattle.addr_text.specs.declared.address.Addr.{Addr}
 use Rattle.addr_text.specs.declared.address.Addr.TheVariants.{V4}
@@ -15,6 +15,14 @@ dotted a b c d = V4 (((a * 256 + b) * 256 + c) * 256 + d)
 unfoldable pub client_of : ℕ → Addr
 client_of g = if g == 0 then dotted 192 0 2 9 else dotted 100 (64 + g / 256) (g % 256) 1
 
+-- the query that asks for each group (RFC 1035 section 4.1): the identifier 0x1234 and RD, one question, and nothing else; www.cdn.example; type A, class IN
+abbrev pub question : List ℕ
+question = 18 ∷ 52 ∷ 1 ∷ 0 ∷ 0 ∷ 1 ∷ 0 ∷ 0 ∷ 0 ∷ 0 ∷ 0 ∷ 0 ∷ 3 ∷ 119 ∷ 119 ∷ 119 ∷ 3 ∷ 99 ∷ 100 ∷ 110 ∷ 7 ∷ 101 ∷ 120 ∷ 97 ∷ 109 ∷ 112 ∷ 108 ∷ 101 ∷ 0 ∷ 0 ∷ 1 ∷ 0 ∷ 1 ∷ []
+
+-- the constant of the code is this query
+pub query_is : QUERY ≡ question
+query_is = refl
+
 -- octets of a reply have that response code: the low half of the fourth (RFC 1035 section 4.1.1)
 abbrev pub is_low_half : ℕ → Option ℕ → Bool
 is_low_half code None = false
@@ -29,7 +37,7 @@ is_reply_of code (Some octets) = is_code_of code octets
 
 -- whether a group's reply by a version has that code
 unfoldable pub has_code : Version → ℕ → ℕ → Bool
-has_code v code g = is_reply_of code (reply_by v (client_of g) QUERY)
+has_code v code g = is_reply_of code (reply_by v (client_of g) question)
 
 -- how many of the first groups have a reply with that code
 unfoldable pub count_of : Version → ℕ → ℕ → ℕ

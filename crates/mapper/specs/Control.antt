@@ -51,7 +51,7 @@ pub record IsNext (old : Version) (changes : List Change) (new : Version) : Type
   pub kept : IsKept old.market old.lines new.market new.lines
   pub local : IsLocal old.market old.lines new.market new.lines
 
--- a batch is published, or memory was wanting
+-- a batch is published: the version behind the newest one is its map
 abbrev pub IsCommit : Course → List Change → Course → Type 0
 IsCommit c changes d = (version : Version) × IsNext c.newest changes version × (d ≡ with_version c version)
 
