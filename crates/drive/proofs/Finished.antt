@@ -6,6 +6,7 @@ use Rattle.outside.specs.Faults.{BothTell, Rose, raised}
 use Rattle.outside.specs.Gate.{GateTold}
 use Rattle.outside.specs.Port.{PortTold}
 use Rattle.published_map.specs.Version.{Version}
+use Rattle.map_cell.specs.Histories.{IsHistory}
 use Rattle.lane_model.specs.declared.ended.Ended.{Ended}
 use Rattle.lane_model.specs.Lanes.{IsLaneRun}
 use Rattle.lane_model.specs.Replies.{replies}
@@ -23,16 +24,16 @@ rose_later x y z le r = omega (arith, le, r)
 later_rose : (x y z : ℕ) → Rose x y → y ≤ z → Rose x z
 later_rose x y z r le = omega (arith, le, r)
 
--- a moment of a lane, as it tells it
-abbrev pub told_of : {T : Type 0} → Moment Version T → Eyes Version → LaneTold
-told_of m e = record { port = m.port; port_faults = m.port_faults; gate = m.gate; looks = e.looks; greatest = e.greatest; door_faults = e.faults }
+-- a moment of a lane, as it tells it, whose door was asked for so many places
+abbrev pub told_of : {T : Type 0} → Moment Version T → Eyes Version → ℕ → LaneTold
+told_of m e n = record { port = m.port; port_faults = m.port_faults; gate = m.gate; asked = n; looks = e.looks; greatest = e.greatest; door_faults = e.faults }
 
 -- the same of a lane over one history or another
-done_over : {T : Type 0} (number : T → ℕ) (turns : ℕ) (first : Version) (rest : List Version) (w : ℕ) (m m' : Moment Version T) (f : Eyes Version) (served e : Ended) → length m.eyes.told ≡ 1
+done_over : {T : Type 0} (number : T → ℕ) (turns : ℕ) (first : Version) (rest : List Version) (w : ℕ) (m m' : Moment Version T) (f : Eyes Version) (served e : Ended) (n n' : ℕ) → n' ≡ n → length m.eyes.told ≡ 1
     → (c : IsLaneCall replies number w turns m m' served) → IsClosing (first ∷ rest) m'.eyes f served e → (over : List Version) → IsLaneRun replies over w 0 0 (entries_of c.log) (tries_of c.log)
-    → (IsOverNewest (first ∷ rest) over c.log served e (told_of m m.eyes) (told_of m' f) ⊎ IsOverSeen first over served e (told_of m m.eyes) (told_of m' f) ⊎ IsOverPast (first ∷ rest) over e (told_of m m.eyes) (told_of m' f))
-    → IsDone turns first rest w (told_of m m.eyes) (told_of m' f) e
-done_over number turns first rest w m m' f served e one c q over run which =
+    → (IsOverNewest (first ∷ rest) over c.log served e (told_of m m.eyes n) (told_of m' f n') ⊎ IsOverSeen first over served e (told_of m m.eyes n) (told_of m' f n') ⊎ IsOverPast (first ∷ rest) over e (told_of m m.eyes n) (told_of m' f n'))
+    → IsDone turns first rest w (told_of m m.eyes n) (told_of m' f n') e
+done_over number turns first rest w m m' f served e n n' asked one c q over run which =
     let some : 0 < length m.eyes.told = omega (arith, one) in
     let rise = rise_trans m.eyes m'.eyes f c.all.rise q.rise in
     record {
@@ -47,6 +48,7 @@ done_over number turns first rest w m m' f served e one c q over run which =
       port = c.all.port;
       gate = c.gate;
       ending = c.ending;
+      asked = asked;
       looks = omega (arith, c.all.looks, q.looks);
       failing = c.all.failing;
       refusal = λ x. later_rose m.eyes.faults m'.eyes.faults f.faults (c.all.refusal x) q.rise.faults;
@@ -58,18 +60,18 @@ done_over number turns first rest w m m' f served e one c q over run which =
 shown_past : (known before after : ℕ) → known ≤ after + 1 → after + 1 ≤ max (before + 1) known → (after + 1 ≡ known) ⊎ (known ≤ before)
 shown_past known before after le most = ⊎_elim (λ (is : known ≡ after + 1). inl (sym is)) (λ (lt : known < after + 1). inr (omega (arith, lt, most))) (eq-or-lt_of_le le)
 
-pub done_of : {T : Type 0} (number : T → ℕ) (turns : ℕ) (first : Version) (rest : List Version) (w : ℕ) (m m' : Moment Version T) (f : Eyes Version) (served e : Ended) → m.eyes.seen ≡ first ∷ [] → m.eyes.told ≡ first ∷ [] → m.count ≡ 0
-    → IsLaneCall replies number w turns m m' served → IsClosing (first ∷ rest) m'.eyes f served e → IsDone turns first rest w (told_of m m.eyes) (told_of m' f) e
-done_of number turns first rest w m m' f served e seen told count c q =
+pub done_of : {T : Type 0} (number : T → ℕ) (turns : ℕ) (first : Version) (rest : List Version) (w : ℕ) (m m' : Moment Version T) (f : Eyes Version) (served e : Ended) (n n' : ℕ) → n' ≡ n → m.eyes.seen ≡ first ∷ [] → m.eyes.told ≡ first ∷ [] → m.count ≡ 0
+    → IsLaneCall replies number w turns m m' served → IsClosing (first ∷ rest) m'.eyes f served e → IsDone turns first rest w (told_of m m.eyes n) (told_of m' f n') e
+done_of number turns first rest w m m' f served e n n' asked seen told count c q =
     let one : length m.eyes.told ≡ 1 = ap length told in
     let some : 0 < length m.eyes.told = omega (arith, one) in
     let run : IsLaneRun replies m'.eyes.seen w 0 0 (entries_of c.log) (tries_of c.log) = subst (λ (n : ℕ). IsLaneRun replies m'.eyes.seen w n 0 (entries_of c.log) (tries_of c.log)) count (c.all.run 0 some) in
     let begins : IsPrefix (first ∷ []) m'.eyes.seen = subst (λ (l : List Version). IsPrefix l m'.eyes.seen) seen c.all.rise.seen in
     let rise = rise_trans m.eyes m'.eyes f c.all.rise q.rise in
-    let by = done_over number turns first rest w m m' f served e one c q in
+    let by = done_over number turns first rest w m m' f served e n n' asked one c q in
     ⊎_elim
     (λ (s : IsShut m'.eyes f served e).
-    by m'.eyes.seen run (inr (inl (record { first_is = begins; rose = rose_later m.eyes.faults m'.eyes.faults f.faults c.all.rise.faults s.rose; ended_is = s.ended_is }))))
+    by m'.eyes.seen run (inr (inl (record { first_is = begins; history = subst IsHistory s.seen s.history; rose = rose_later m.eyes.faults m'.eyes.faults f.faults c.all.rise.faults s.rose; ended_is = s.ended_is }))))
     (λ (t : IsWithin (first ∷ rest) m'.eyes f served e ⊎ IsPast (first ∷ rest) m'.eyes f e).
     ⊎_elim
     (λ (s : IsWithin (first ∷ rest) m'.eyes f served e).
@@ -80,14 +82,14 @@ done_of number turns first rest w m m' f served e seen told count c q =
     (λ (s : IsPast (first ∷ rest) m'.eyes f e).
     let is : length f.told ≡ length f.seen = ap length s.told in
     by f.seen (run_longer replies m'.eyes.seen f.seen w 0 0 (entries_of c.log) (tries_of c.log) s.seen run)
-    (inr (inr (record { begins = s.begins; longer = s.longer; history = s.history; shown = shown_past (length f.seen) m.eyes.greatest f.greatest (omega (arith, one, is, rise.above, s.longer)) (omega (arith, is, rise.greatest)); ended_is = s.ended_is }))))
+    (inr (inr (record { begins = s.begins; longer = s.longer; history = s.history; shown = shown_past (length f.seen) m.eyes.greatest f.greatest (omega (arith, one, is, rise.above, s.longer)) (omega (arith, is, rise.greatest)); last = s.known; newest = s.newest; last_is = s.known_is; newest_is = s.newest_is; ended_is = s.ended_is }))))
     t)
     q.case
 
 -- the same, where some things are told by equations
-pub done_by : {T : Type 0} (number : T → ℕ) (turns : ℕ) (first : Version) (rest : List Version) (i w : ℕ) (m m' : Moment Version T) (f : Eyes Version) (served e : Ended) (h0 h : List Version) (port : Option PortTold) (faults : ℕ) (gate : Option GateTold) → w ≡ i → h ≡ first ∷ rest → h0 ≡ first ∷ []
-    → m.eyes.seen ≡ h0 → m.eyes.told ≡ h0 → m.count ≡ 0 → IsLaneCall replies number w turns m m' served → IsClosing h m'.eyes f served e → port ≡ m'.port → faults ≡ m'.port_faults → gate ≡ m'.gate
-    → IsDone turns first rest i (told_of m m.eyes) (record { port = port; port_faults = faults; gate = gate; looks = f.looks; greatest = f.greatest; door_faults = f.faults }) e
-done_by number turns first rest i w m m' f served e h0 h port faults gate same is opened seen told count c q p1 p2 p3 =
-    let done = done_of number turns first rest i m m' f served e (seen ∙ opened) (told ∙ opened) count (subst (λ (x : ℕ). IsLaneCall replies number x turns m m' served) same c) (subst (λ (x : List Version). IsClosing x m'.eyes f served e) is q) in
-    subst (λ (x : LaneTold). IsDone turns first rest i (told_of m m.eyes) x e) (cc (p1, p2, p3)) done
+pub done_by : {T : Type 0} (number : T → ℕ) (turns : ℕ) (first : Version) (rest : List Version) (i w : ℕ) (m m' : Moment Version T) (f : Eyes Version) (served e : Ended) (h0 h : List Version) (port : Option PortTold) (faults : ℕ) (gate : Option GateTold) (n n' n'' : ℕ) → w ≡ i → h ≡ first ∷ rest → h0 ≡ first ∷ []
+    → m.eyes.seen ≡ h0 → m.eyes.told ≡ h0 → m.count ≡ 0 → IsLaneCall replies number w turns m m' served → IsClosing h m'.eyes f served e → port ≡ m'.port → faults ≡ m'.port_faults → gate ≡ m'.gate → n' ≡ n → n'' ≡ n'
+    → IsDone turns first rest i (told_of m m.eyes n) (record { port = port; port_faults = faults; gate = gate; asked = n''; looks = f.looks; greatest = f.greatest; door_faults = f.faults }) e
+done_by number turns first rest i w m m' f served e h0 h port faults gate n n' n'' same is opened seen told count c q p1 p2 p3 p4 p5 =
+    let done = done_of number turns first rest i m m' f served e n n' p4 (seen ∙ opened) (told ∙ opened) count (subst (λ (x : ℕ). IsLaneCall replies number x turns m m' served) same c) (subst (λ (x : List Version). IsClosing x m'.eyes f served e) is q) in
+    subst (λ (x : LaneTold). IsDone turns first rest i (told_of m m.eyes n) x e) (cc (p1, p2, p3, p5)) done

@@ -1,5 +1,5 @@
 -- The closing look of a lane.
-use Rattle.std.specs.Prelude.{◌≡◌, ◌⊎◌, ℕ, ◌<◌, List, length}
+use Rattle.std.specs.Prelude.{◌≡◌, ◌⊎◌, ℕ, ◌+◌, ◌<◌, List, length}
 use mathlib.Core.List.{IsPrefix}
 use Rattle.outside.specs.Faults.{Rose, raised}
 use Rattle.published_map.specs.Version.{Version}
@@ -14,12 +14,13 @@ shut Stopped = CellFault
 shut PortEnd = CellFault
 shut PortFault = PortFault
 shut CellFault = CellFault
-shut Above = Above
+shut (Above known newest) = Above known newest
 shut Spent = Spent
 
--- the look was refused
+-- the look was refused: what was seen stays, which is a history
 pub record IsShut (before after : Eyes Version) (served ended : Ended) : Type 0 where
   pub seen : after.seen ≡ before.seen
+  pub history : IsHistory after.seen
   pub rose : Rose before.faults after.faults
   pub ended_is : ended ≡ shut served
 
@@ -29,14 +30,18 @@ pub record IsWithin (h : List Version) (before after : Eyes Version) (served end
   pub told : IsPrefix after.told h
   pub ended_is : ended ≡ served
 
--- the look was past the newest map, at the end of a longer history
+-- the look was past the newest map, at the end of a longer history; the end tells both last serials
 pub record IsPast (h : List Version) (before after : Eyes Version) (ended : Ended) : Type 0 where
   pub seen : IsPrefix before.seen after.seen
   pub begins : IsPrefix h after.seen
   pub longer : length h < length after.seen
   pub told : after.told ≡ after.seen
   pub history : IsHistory after.seen
-  pub ended_is : ended ≡ Above
+  pub known : ℕ
+  pub newest : ℕ
+  pub known_is : known + 1 ≡ length after.seen
+  pub newest_is : newest + 1 ≡ length h
+  pub ended_is : ended ≡ Above known newest
 
 -- one look, by what it came to
 pub record IsClosing (h : List Version) (before after : Eyes Version) (served ended : Ended) : Type 0 where

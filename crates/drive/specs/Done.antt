@@ -14,11 +14,12 @@ use Rattle.lane_model.specs.Turns.{Turn, IsTold, entries_of, failures, floor_aft
 use Rattle.lane_model.specs.Sessions.{IsEnd, IsGateRun}
 use Rattle.drive.specs.Closing.{shut}
 
--- what a lane tells at one moment: its port and gate, where they tell, the port's count of faults, and its door's numbers
+-- what a lane tells at one moment: its port and gate, where they tell, the port's count of faults, and its door's numbers: the places and the looks that it was asked for, the greatest serial, and its faults
 pub record LaneTold : Type 0 where
   pub port : Option PortTold
   pub port_faults : ℕ
   pub gate : Option GateTold
+  pub asked : ℕ
   pub looks : ℕ
   pub greatest : ℕ
   pub door_faults : ℕ
@@ -30,21 +31,26 @@ pub record IsOverNewest (h over : List Version) (log : List Turn) (served ended 
   pub shown : after.greatest + 1 ≤ max (before.greatest + 1) (length h)
   pub ended_is : ended ≡ served
 
--- or, where its closing look was refused, over what it had seen, from the same first version on;
+-- or, where its closing look was refused, over what it had seen, which is a history from the same first version on;
 pub record IsOverSeen (first : Version) (over : List Version) (served ended : Ended) (before after : LaneTold) : Type 0 where
   pub first_is : IsPrefix (first ∷ []) over
+  pub history : IsHistory over
   pub rose : Rose before.door_faults after.door_faults
   pub ended_is : ended ≡ shut served
 
--- or, where that look was past the newest map, over a history that goes on from the mapper's, up to the serial that its door showed, if its door had shown none above that before.
+-- or, where that look was past the newest map, over a history that goes on from the mapper's, up to the serial that its door showed, if its door had shown none above that before. The end tells the last serial of either history.
 pub record IsOverPast (h over : List Version) (ended : Ended) (before after : LaneTold) : Type 0 where
   pub begins : IsPrefix h over
   pub longer : length h < length over
   pub history : IsHistory over
   pub shown : (after.greatest + 1 ≡ length over) ⊎ (length over ≤ before.greatest)
-  pub ended_is : ended ≡ Above
+  pub last : ℕ
+  pub newest : ℕ
+  pub last_is : last + 1 ≡ length over
+  pub newest_is : newest + 1 ≡ length h
+  pub ended_is : ended ≡ Above last newest
 
--- Lane w after a drive, whose worker knew the first version alone: the turns that it made, as a lane run; what was told; what port, gate and door tell; why it ended; and over which history it stands.
+-- Lane w after a drive, whose worker knew the first version alone: the turns that it made, as a lane run; what was told; what port, gate and door tell, which was asked for no place; why it ended; and over which history it stands.
 pub record IsDone (turns : ℕ) (first : Version) (rest : List Version) (w : ℕ) (before after : LaneTold) (ended : Ended) : Type 0 where
   pub log : List Turn
   pub over : List Version
@@ -57,6 +63,7 @@ pub record IsDone (turns : ℕ) (first : Version) (rest : List Version) (w : ℕ
   pub port : BothTell before.port after.port (λ b c. c ≡ fold port_turn b log)
   pub gate : BothTell before.gate after.gate (IsGateRun shown log served)
   pub ending : IsEnd turns log served
+  pub asked : after.asked ≡ before.asked
   pub looks : after.looks ≡ raised before.looks (sum_by (λ t. looks_of t.came) log + 1)
   pub failing : 0 < failures log → Rose before.port_faults after.port_faults
   pub refusal : 0 < sum_by (λ t. refused_of t.came) log → Rose before.door_faults after.door_faults

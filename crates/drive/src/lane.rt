@@ -35,7 +35,7 @@ fn shut(ended: Ended) -> Ended
         Ended::PortEnd => Ended::CellFault,
         Ended::PortFault => Ended::PortFault,
         Ended::CellFault => Ended::CellFault,
-        Ended::Above => Ended::Above,
+        Ended::Above { known, newest } => Ended::Above { known, newest },
         Ended::Spent => Ended::Spent,
     }
 }
@@ -51,6 +51,7 @@ fn close_lane<J: Naming, D: Door>(
         (record { seen = worker.old.viewer.seen; told = worker.old.viewer.told; looks = D.looks door.old; greatest = D.greatest door.old; faults = D.faults door.old })
         (record { seen = worker.new.viewer.seen; told = worker.new.viewer.told; looks = D.looks door.new; greatest = D.greatest door.new; faults = D.faults door.new })
         served result }
+    ensures asked { D.asked door.new ≡ D.asked door.old }
 {
     door.learn(&mut worker.viewer, note);
     let looked = door.look(
@@ -59,13 +60,17 @@ fn close_lane<J: Naming, D: Door>(
             ensures { result ≡ m.now.serial }
         { m.serial() },
     );
+    let within = worker.viewer.is_within(note);
     match looked {
         Err(CellFault) => shut(served),
         Ok(_serial) => {
-            if worker.viewer.is_within(note) {
+            if within {
                 served
             } else {
-                Ended::Above
+                Ended::Above {
+                    known: worker.known(),
+                    newest: note.serial(),
+                }
             }
         }
     }
@@ -88,7 +93,7 @@ pub(crate) trait Closes<N, H> {
 }
 
 impl<J: Naming, P: Port, G: Gate, D: Door> Runs<NoteRow<J>, Held<J>> for Lane<P, G, D> {
-    ghost use Rattle.std.specs.Prelude.{None, ◌-◌, length};
+    ghost use Rattle.std.specs.Prelude.{◌≡◌, None, ◌-◌, length};
     ghost use Rattle.lane_model.specs.Sessions.{IsLaneCall};
     ghost use Rattle.lane_model.specs.Replies.{replies};
     ghost use Rattle.map_cell.specs.declared.viewer.Note.{Note};
@@ -96,7 +101,7 @@ impl<J: Naming, P: Port, G: Gate, D: Door> Runs<NoteRow<J>, Held<J>> for Lane<P,
     ghost ran = { λ turns a b v w. IsLaneCall replies (λ (n : Note J J.Naming). length n.front - 1) v.worker.number turns
         (record { port = P.told a.port; gate = G.told a.gate; notes = None; eyes = record { seen = v.worker.viewer.seen; told = v.worker.viewer.told; looks = D.looks a.door; greatest = D.greatest a.door; faults = D.faults a.door }; count = v.worker.count; port_faults = P.faults a.port; gate_faults = G.faults a.gate })
         (record { port = P.told b.port; gate = G.told b.gate; notes = None; eyes = record { seen = w.worker.viewer.seen; told = w.worker.viewer.told; looks = D.looks b.door; greatest = D.greatest b.door; faults = D.faults b.door }; count = w.worker.count; port_faults = P.faults b.port; gate_faults = G.faults b.gate })
-        w.ended };
+        w.ended × (D.asked b.door ≡ D.asked a.door) };
 
     fn run(&mut self, row: &NoteRow<J>, turns: u64, held: &mut Held<J>) {
         let mut notes = RowNotes::over(row);
@@ -118,7 +123,7 @@ impl<J: Naming, P: Port, G: Gate, D: Door> Closes<Note<J>, Held<J>> for Lane<P, 
     ghost closed = { λ note a b v w. IsClosing note.front
         (record { seen = v.worker.viewer.seen; told = v.worker.viewer.told; looks = D.looks a.door; greatest = D.greatest a.door; faults = D.faults a.door })
         (record { seen = w.worker.viewer.seen; told = w.worker.viewer.told; looks = D.looks b.door; greatest = D.greatest b.door; faults = D.faults b.door })
-        v.ended w.ended × (P.told b.port ≡ P.told a.port) × (P.faults b.port ≡ P.faults a.port) × (G.told b.gate ≡ G.told a.gate) };
+        v.ended w.ended × (P.told b.port ≡ P.told a.port) × (P.faults b.port ≡ P.faults a.port) × (G.told b.gate ≡ G.told a.gate) × (D.asked b.door ≡ D.asked a.door) };
 
     fn close(&mut self, note: &Note<J>, held: &mut Held<J>) {
         held.ended = close_lane(&mut held.worker, &mut self.door, note, held.ended);

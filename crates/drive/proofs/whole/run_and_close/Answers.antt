@@ -12,5 +12,5 @@ returns-clause-done g c =
     let is : c.run_beside.new.mapper.history ≡ c.args.mapper.now.newest ∷ kept.0 = sym kept.1 ∙ ap (λ l. l ++ kept.0) opened in (
       kept.0,
       is,
-      all_done _ _ _ _ (λ i a b k v w x fr ran cl. done_by _ c.args.turns c.args.mapper.now.newest kept.0 i _ _ _ _ _ _ _ _ _ _ _ fr.0 (c.note-note.ensures ∙ is) opened fr.2 fr.3 fr.1 ran cl.0 cl.1 cl.2 cl.3) 0 _ _ _ _ _ _ (fresh_of _ 0 _ _ size c.requires.fresh) c.run_beside.ensures.ran c.close_all.ensures.closed,
+      all_done _ _ _ _ (λ i a b k v w x fr ran cl. done_by _ c.args.turns c.args.mapper.now.newest kept.0 i _ _ _ _ _ _ _ _ _ _ _ _ _ _ fr.0 (c.note-note.ensures ∙ is) opened fr.2 fr.3 fr.1 ran.0 cl.0 cl.1 cl.2 cl.3 ran.1 cl.4) 0 _ _ _ _ _ _ (fresh_of _ 0 _ _ size c.requires.fresh) c.run_beside.ensures.ran c.close_all.ensures.closed,
     )
