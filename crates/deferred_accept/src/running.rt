@@ -1,18 +1,43 @@
 //! Proposals until none is left.
 
-ghost use Rattle.std.specs.Prelude.{◌≡◌, ◌+◌, ◌≤◌, ℕ, Bool, OnOk};
+ghost use Rattle.std.specs.Prelude.{◌≡◌, ◌+◌, ◌<◌, ◌≤◌, ℕ, Bool, OnOk, length, slice_index};
 ghost use Rattle.map_model.specs.Progress.{IsEnded};
 ghost use Rattle.evict.specs.Standing.{IsReady};
 ghost use Rattle.deferred_accept.specs.Runs.{HasProposed, HasRun, WantsBefore, most_proposals};
 ghost use Rattle.deferred_accept.specs.Spreading.{HoldsWork, StaysInside};
+ghost use Rattle.deferred_accept.specs.Turning.{HasTurned};
 
-use crate::pace::{before_looks, look};
-use crate::work::{add_again, follow, offer_ahead, wake};
+use crate::pace::Pace;
+use crate::turn::turn_at;
+use crate::work::{add_again, offer_ahead, wake};
 use crate::work_list::WorkList;
 use evict::{Freed, State};
-use map_model::{Instance, Steps};
+use map_model::{GroupId, Instance, Steps};
 use no_memory::NoMemory;
 use std::alloc::Global;
+
+/// Turns the circle at a waiting group, where units have come round to it and a circle stands there.
+fn look<L>(
+    alloc: Global,
+    instance: &Instance,
+    state: &mut State,
+    group: GroupId,
+    pace: &mut Pace,
+    steps: &mut Steps<L>,
+) -> Result<(), NoMemory>
+    requires ready { IsReady instance.now state.old }
+    requires group { group.0 < length instance.now.groups }
+    requires some { 0 < slice_index state.old.free group.0 }
+    ensures turned { OnOk result (HasTurned instance.now state.old state.new steps.old steps.new) }
+    ensures later { steps.old ≤ steps.new }
+{
+    // Tells the proof that the count is a number of 64 bits.
+    let _count = steps.count();
+    if !pace.meets(group) {
+        return Ok(());
+    }
+    turn_at(alloc, instance, state, group, steps)
+}
 
 /// Offers free units until no group has any before the end of its list. Each offer is one step: a
 /// group makes at most one for each unit of its demand and one more, at each place from its pointer on.
@@ -38,16 +63,16 @@ pub fn run<L>(
 {
     let mut freed = Freed::new(alloc);
     let mut work = WorkList::all(alloc, instance)?;
-    let mut left = before_looks(instance);
+    let mut pace = Pace::new(instance);
     let mut ahead = None;
     while let Some(offer) = offer_ahead(instance, state, &mut work, ahead) {
-        left = look(alloc, instance, state, offer.group, left, steps)?;
+        look(alloc, instance, state, offer.group, &mut pace, steps)?;
         let units = state.free(offer.group);
         state.put(instance, offer, units, &mut freed, steps)?;
         let given_up = freed.evictions();
         add_again(&mut work, offer.group, given_up)?;
         wake(&mut work, given_up)?;
-        ahead = follow(given_up, left < u64::from(instance.groups()));
+        ahead = pace.next_group(given_up);
     }
     Ok(())
 }

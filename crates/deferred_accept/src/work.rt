@@ -88,13 +88,3 @@ pub fn wake(work: &mut WorkList, freed: &[Eviction]) -> Result<(), NoMemory>
     }
     Ok(())
 }
-
-/// The last group that gave up units, if units are followed now.
-pub fn follow(freed: &[Eviction], follows: bool) -> Option<GroupId>
-    ensures { (bound : ℕ) → All (λ e. e.offer.group.0 < bound) freed.now → IfSome result (λ g. g.0 < bound) }
-{
-    if !follows || freed.is_empty() {
-        return None;
-    }
-    Some(freed[freed.len() - 1].offer.group)
-}

@@ -20,8 +20,8 @@ pub put-requires : goal.put-requires
 put-requires g c =
     let m : Market = c.args.instance.now in
     let o = c.in-Some.offer in
-    let course = course_turned m c.args.state.now c.loop-offer.state c.look.new.state c.args.steps.now c.loop-offer.steps c.look.new.steps c.loop-offer.invariant.course c.in_ok-left.ensures.turned in
-    can_put m c.look.new.state o c.free-units.result course.run.ready (due_turned m c.loop-offer.state c.look.new.state c.loop-offer.steps c.look.new.steps o c.in_ok-left.ensures.turned c.in-Some.ensures.due) c.free-units.ensures
+    let course = course_turned m c.args.state.now c.loop-offer.state c.look.new.state c.args.steps.now c.loop-offer.steps c.look.new.steps c.loop-offer.invariant.course c.in_ok-look.ensures.turned in
+    can_put m c.look.new.state o c.free-units.result course.run.ready (due_turned m c.loop-offer.state c.look.new.state c.loop-offer.steps c.look.new.steps o c.in_ok-look.ensures.turned c.in-Some.ensures.due) c.free-units.ensures
 
 pub wake-requires : goal.wake-requires
 wake-requires g c = subst (λ (es : List Eviction). All (λ (e : Eviction). e.offer.group.0 < length c.add_again.new.work) es) (sym c.evictions-given_up.ensures)
@@ -31,11 +31,11 @@ pub loop-offer-smaller : goal.loop-offer-smaller
 loop-offer-smaller g c =
     let m : Market = c.args.instance.now in
     let o = c.in-Some.offer in
-    let course = course_turned m c.args.state.now c.loop-offer.state c.look.new.state c.args.steps.now c.loop-offer.steps c.look.new.steps c.loop-offer.invariant.course c.in_ok-left.ensures.turned in
-    let due = due_turned m c.loop-offer.state c.look.new.state c.loop-offer.steps c.look.new.steps o c.in_ok-left.ensures.turned c.in-Some.ensures.due in
+    let course = course_turned m c.args.state.now c.loop-offer.state c.look.new.state c.args.steps.now c.loop-offer.steps c.look.new.steps c.loop-offer.invariant.course c.in_ok-look.ensures.turned in
+    let due = due_turned m c.loop-offer.state c.look.new.state c.loop-offer.steps c.look.new.steps o c.in_ok-look.ensures.turned c.in-Some.ensures.due in
     omega (
       arith,
-      worth_turned m c.loop-offer.state c.look.new.state c.loop-offer.steps c.look.new.steps c.loop-offer.invariant.course.run.ready c.in_ok-left.ensures.turned,
+      worth_turned m c.loop-offer.state c.look.new.state c.loop-offer.steps c.look.new.steps c.loop-offer.invariant.course.run.ready c.in_ok-look.ensures.turned,
       worth_put m c.look.new.state c.put.new.self o c.free-units.result c.put.new.freed course.run.ready due c.free-units.ensures c.in_ok-put.ensures.put,
     )
 
@@ -43,7 +43,7 @@ pub loop-offer-preserved : goal.loop-offer-preserved
 loop-offer-preserved g c =
     let m : Market = c.args.instance.now in
     let o = c.in-Some.offer in
-    let turned = c.in_ok-left.ensures.turned in
+    let turned = c.in_ok-look.ensures.turned in
     let course = course_turned m c.args.state.now c.loop-offer.state c.look.new.state c.args.steps.now c.loop-offer.steps c.look.new.steps c.loop-offer.invariant.course turned in
     let due = due_turned m c.loop-offer.state c.look.new.state c.loop-offer.steps c.look.new.steps o turned c.in-Some.ensures.due in
     let rest = rest_turned m c.loop-offer.state c.look.new.state c.loop-offer.steps c.look.new.steps o.group.0 c.offer_ahead.new.work turned c.in-Some.ensures.covered in
@@ -55,7 +55,7 @@ loop-offer-preserved g c =
           (c.in_ok-wake.ensures.count ∙ ap length c.in_ok-add_again.ensures ∙ length-set c.offer_ahead.new.work o.group.0 true)
           (λ h l. c.in_ok-wake.ensures.each h (omega (arith, ap length c.in_ok-add_again.ensures, length-set c.offer_ahead.new.work o.group.0 true)) ∙ ap (λ ws. is_on ws h || gave_any c.evictions-given_up.result.now h) c.in_ok-add_again.ensures ∙ ap (λ f. is_on (slice_set c.offer_ahead.new.work o.group.0 true) h || gave_any f h) c.evictions-given_up.ensures);
       later = omega (arith, c.loop-offer.invariant.later, c.look.ensures.later, c.put.ensures.later);
-      ahead = c.follow-ahead.ensures (length m.groups) groups;
+      ahead = c.next_group-ahead.ensures (length m.groups) groups;
     }
 
 pub returns-clause-steps : goal.returns-clause-steps
