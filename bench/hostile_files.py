@@ -7,6 +7,7 @@
     octets    the same, with each octet changed to each other one; --stride N does every Nth alone
     words     some words of the topology gone, doubled or replaced: this reaches the faults that one octet does not
     limits    lengths and numbers at each limit and one past it
+    large     the same of nodes, groups, prefixes and whole files, up to 256 MiB
 
 GLB names the program, the built one if it is not set. Runs are split over the processors. Of a file that glb takes,
 the map that it writes has to be good by the second reading. The last line counts; the status is 0 where nothing differs.
@@ -286,7 +287,7 @@ def feed_limits():
         yield "changes", f"{length} octets", (line * 1200)[: length - 12] + b"\ndemand h 3\n"
 
 
-def large_limits():
+def large(_):
     for count in [8191, 8192, 8193]:
         yield "topology", f"{count} nodes", world(nodes=[A] + [node(f"n{i}") for i in range(count - 1)], groups=[FIRST])
     for count in [65535, 65536, 65537]:
@@ -301,10 +302,10 @@ def large_limits():
 
 
 def limits(_):
-    return itertools.chain(small_limits(), feed_limits(), large_limits())
+    return itertools.chain(small_limits(), feed_limits())
 
 
-PARTS = {"cuts": cuts, "words": words, "limits": limits, "octets": octets}
+PARTS = {"cuts": cuts, "words": words, "limits": limits, "large": large, "octets": octets}
 
 
 def main():
@@ -318,8 +319,8 @@ def main():
         for part in options.parts or PARTS:
             count = differ = 0
             cases = PARTS[part](options.stride)
-            while batch := list(itertools.islice(cases, 64 if part == "limits" else 4096)):
-                for told in pool.map(judge, batch, chunksize=1 if part == "limits" else 16):
+            while batch := list(itertools.islice(cases, 8 if part == "large" else 4096)):
+                for told in pool.map(judge, batch, chunksize=1 if part in ("limits", "large") else 16):
                     count += 1
                     if told is not None:
                         differ += 1

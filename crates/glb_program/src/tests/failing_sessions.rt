@@ -42,7 +42,7 @@ struct Failing {
 }
 
 /// How many queries wait at the two lanes.
-const WAITING: [usize; 2] = [3, 10];
+const WAITING: &[u8] = &[3, 10];
 
 /// It comes in pieces of twelve octets: the first commit ends in the second piece, `ask` and `show` in the ninth, and the rest in the tenth.
 const FEED: &[u8] =
@@ -254,7 +254,7 @@ const AT_MAPS: &[Due] = &[
 ];
 
 /// A port is not opened, nor any behind it, and no text is put.
-const AT_OPENS: [Due; 2] = [
+const AT_OPENS: &[Due] = &[
     Due {
         status: Status::PortFault,
         ..UNOPENED
@@ -280,78 +280,68 @@ const AT_PLACES: &[Due] = &[
 
 /// One failing receive costs a lane one turn. Eight end it.
 fn at_receives(waiting: usize, first: usize, count: u64) -> (Status, Served) {
+    let whole = all_of(waiting);
     if first > waiting {
-        (Status::Ok, all_of(waiting))
-    } else if count < 8 {
-        (
-            Status::Ok,
-            Served {
-                turns: waiting + 2,
-                ..all_of(waiting)
-            },
-        )
+        (Status::Ok, whole)
+    } else if count == 1 {
+        let turns = whole.turns.saturating_add(1);
+        (Status::Ok, Served { turns, ..whole })
     } else {
-        (
-            Status::PortFault,
-            Served {
-                opens: 1,
-                turns: first + 8,
-                taken: first,
-                went: first,
-            },
-        )
+        let served = Served {
+            opens: 1,
+            turns: first.saturating_add(8),
+            taken: first,
+            went: first,
+        };
+        (Status::PortFault, served)
     }
 }
 
 /// A send that fails costs its reply. Eight end the lane.
 fn at_sends(waiting: usize, first: usize, count: u64) -> (Status, Served) {
-    if first >= waiting {
-        (Status::Ok, all_of(waiting))
+    let whole = all_of(waiting);
+    let left = waiting.saturating_sub(first);
+    if left == 0 {
+        (Status::Ok, whole)
     } else if count == 1 {
+        let went = waiting.saturating_sub(1);
+        (Status::Ok, Served { went, ..whole })
+    } else if left < 8 {
         (
             Status::Ok,
             Served {
-                went: waiting - 1,
-                ..all_of(waiting)
-            },
-        )
-    } else if first + 8 <= waiting {
-        (
-            Status::PortFault,
-            Served {
-                opens: 1,
-                turns: first + 8,
-                taken: first + 8,
                 went: first,
+                ..whole
             },
         )
     } else {
-        (
-            Status::Ok,
-            Served {
-                went: first,
-                ..all_of(waiting)
-            },
-        )
+        let taken = first.saturating_add(8);
+        let served = Served {
+            opens: 1,
+            turns: taken,
+            taken,
+            went: first,
+        };
+        (Status::PortFault, served)
     }
 }
 
 /// A look that is refused ends a lane at its datagram, or at the look behind its end.
 fn at_looks(waiting: usize, first: usize) -> (Status, Served) {
-    if first < waiting {
-        (
-            Status::CellFault,
-            Served {
-                opens: 1,
-                turns: first + 1,
-                taken: first + 1,
-                went: first,
-            },
-        )
+    let whole = all_of(waiting);
+    if first > waiting {
+        (Status::Ok, whole)
     } else if first == waiting {
-        (Status::CellFault, all_of(waiting))
+        (Status::CellFault, whole)
     } else {
-        (Status::Ok, all_of(waiting))
+        let taken = first.saturating_add(1);
+        let served = Served {
+            opens: 1,
+            turns: taken,
+            taken,
+            went: first,
+        };
+        (Status::CellFault, served)
     }
 }
 
@@ -359,7 +349,7 @@ fn at_looks(waiting: usize, first: usize) -> (Status, Served) {
 fn all_of(waiting: usize) -> Served {
     Served {
         opens: 1,
-        turns: waiting + 1,
+        turns: waiting.saturating_add(1),
         taken: waiting,
         went: waiting,
     }
@@ -383,11 +373,8 @@ fn lane_differs(lane: u8, (status, served): (Status, Served)) -> Due {
 }
 
 /// How many queries wait at a lane.
-fn waiting_at(lane: u8) -> usize {
-    match WAITING.get(lane as usize) {
-        Some(waiting) => *waiting,
-        None => 0,
-    }
+fn waiting_at(lane: u8) -> u8 {
+    WAITING.get(lane as usize).copied().unwrap_or(0)
 }
 
 /// The row of a table for a call, or what is due where nothing fails.
@@ -398,18 +385,19 @@ fn row_of(rows: &[Due], call: usize) -> Due {
 /// What is due.
 fn due_at(failing: Failing) -> Due {
     let call = failing.first;
+    let count = failing.count;
     match failing.device {
         Load => row_of(AT_LOADS, call),
         Read => row_of(AT_READS, call),
         Line => row_of(AT_LINES, call),
         Map => row_of(AT_MAPS, call),
-        Open(lane) if call == 0 => row_of(&AT_OPENS, lane as usize),
+        Open(lane) if call == 0 => row_of(AT_OPENS, lane as usize),
         Open(_) => WHOLE,
         Place(0) => row_of(AT_PLACES, call),
         Place(_) => WHOLE,
-        Receive(lane) => lane_differs(lane, at_receives(waiting_at(lane), call, failing.count)),
-        Send(lane) => lane_differs(lane, at_sends(waiting_at(lane), call, failing.count)),
-        Look(lane) => lane_differs(lane, at_looks(waiting_at(lane), call)),
+        Receive(lane) => lane_differs(lane, at_receives(waiting_at(lane) as usize, call, count)),
+        Send(lane) => lane_differs(lane, at_sends(waiting_at(lane) as usize, call, count)),
+        Look(lane) => lane_differs(lane, at_looks(waiting_at(lane) as usize, call)),
     }
 }
 
@@ -425,7 +413,7 @@ fn fails_of(alloc: Global, failing: Failing, device: Device) -> Result<Vec<u64>,
 type MemLane = Lane<MemPort, MemGate, MemDoor>;
 
 fn lane_of(alloc: Global, failing: Failing, lane: u8) -> Result<MemLane, NoMemory> {
-    let waiting = queries(alloc, waiting_at(lane) as u8)?;
+    let waiting = queries(alloc, waiting_at(lane))?;
     let opens = fails_of(alloc, failing, Open(lane))?;
     let receives = fails_of(alloc, failing, Receive(lane))?;
     let sends = fails_of(alloc, failing, Send(lane))?;
@@ -443,7 +431,8 @@ fn lanes_of(alloc: Global, failing: Failing) -> Result<Vec<MemLane>, NoMemory>
 {
     let mut lanes = Vec::with_capacity(alloc, LANES)?;
     for lane in 0..LANES {
-        lanes.push(lane_of(alloc, failing, lane as u8)?)?;
+        let lane = u8::try_from(lane).unwrap_or(u8::MAX);
+        lanes.push(lane_of(alloc, failing, lane)?)?;
     }
     Ok(lanes)
 }

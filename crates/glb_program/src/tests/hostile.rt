@@ -1,8 +1,12 @@
 //! Octets that nobody should send: datagrams and lines of the feed by a table, and files and feeds that are cut at each octet or differ in one.
+ghost use Rattle.std.specs.Prelude.{◌≤◌, length};
+
 use super::{Bytes, GOOD_REGION, Held, REGION, Topology, ZONE, run, shelf, texts};
 use crate::quiet::quiet_lanes;
 use crate::{Status, glb};
+use no_memory::NoMemory;
 use outside::{File, MemPace, MemShelf, MemSink, MemSource};
+use std::alloc::Global;
 use std::process::Abort;
 use std::sync::Wait;
 use std::test::Fail;
@@ -120,17 +124,33 @@ const NO_TOPOLOGIES: &[(Held, &str)] = &[
     ),
 ];
 
-#[test]
-fn files_that_hold_no_topology(rt: HostRuntime) -> Result<(), Fail> {
-    for (file, text) in NO_TOPOLOGIES {
-        let words = texts(&rt, &["glb", "map", "t"])?;
-        let mut files = shelf(&rt, *file, Bytes(b""), &[])?;
-        let mut out = MemSink::new(rt.alloc(), 1024, Vec::new(rt.alloc()))?;
-        let status = run(&rt, words.as_slice(), &mut files, &mut out)?;
-        assert_eq!(rt; status, Status::Refused, "for {text}");
-        assert_eq!(rt; out.bytes(), text.as_bytes(), "for {text}");
+fn assert_no_topology<R: Abort + Threads + Wait + Sync + AllocGlobal>(
+    rt: &R,
+    file: Held,
+    text: &str,
+) -> Result<(), Fail> {
+    let words = texts(rt, &["glb", "map", "t"])?;
+    let mut files = shelf(rt, file, Bytes(b""), &[])?;
+    let mut out = MemSink::new(rt.alloc(), 1024, Vec::new(rt.alloc()))?;
+    let status = run(rt, words.as_slice(), &mut files, &mut out)?;
+    assert_eq!(rt; status, Status::Refused, "for {text}");
+    assert_eq!(rt; out.bytes(), text.as_bytes(), "for {text}");
+    Ok(())
+}
+
+fn assert_no_topologies<R: Abort + Threads + Wait + Sync + AllocGlobal>(
+    rt: &R,
+    rows: &[(Held, &str)],
+) -> Result<(), Fail> {
+    for (file, text) in rows {
+        assert_no_topology(rt, *file, text)?;
     }
     Ok(())
+}
+
+#[test]
+fn files_that_hold_no_topology(rt: HostRuntime) -> Result<(), Fail> {
+    assert_no_topologies(&rt, NO_TOPOLOGIES)
 }
 
 /// A session of one quiet lane over a feed, and its control text.
@@ -263,7 +283,7 @@ const FEED: &[u8] =
     b"demand g2 4\ncapacity R 12\ncommit\nask 198.51.100.7 00\nshow\ncommit\nstop\n";
 
 /// What an octet is changed to, in turn.
-const OTHERS: [u8; 8] = [0, b'\n', b' ', b'"', b'9', b'=', 0x80, 0xff];
+const OTHERS: &[u8] = &[0, b'\n', b' ', b'"', b'9', b'=', 0x80, 0xff];
 
 /// A text that ends before an octet, or has another one there.
 #[derive(Clone, Copy)]
@@ -272,8 +292,7 @@ enum Harm {
     Change(u8),
 }
 
-fn harmed<R: AllocGlobal>(rt: &R, text: &[u8], at: usize, harm: Harm) -> Result<Vec<u8>, Fail> {
-    let mut text = Vec::from_slice(rt.alloc(), text)?;
+fn harm_text(text: &mut Vec<u8>, at: usize, harm: Harm) {
     match harm {
         Harm::Cut => text.truncate(at),
         Harm::Change(octet) => {
@@ -282,6 +301,11 @@ fn harmed<R: AllocGlobal>(rt: &R, text: &[u8], at: usize, harm: Harm) -> Result<
             }
         }
     }
+}
+
+fn harmed(alloc: Global, text: &[u8], at: usize, harm: Harm) -> Result<Vec<u8>, NoMemory> {
+    let mut text = Vec::from_slice(alloc, text)?;
+    harm_text(&mut text, at, harm);
     Ok(text)
 }
 
@@ -294,47 +318,83 @@ fn is_allowed(status: Status, text: &[u8]) -> bool {
     }
 }
 
-/// A command over files of which one is harmed.
+/// Which of the three files is harmed.
+#[derive(Clone, Copy, PartialEq, Eq, Debug)]
+enum Which {
+    Topology,
+    Map,
+    Changes,
+}
+
+/// A file, harmed where it is the one that is to be.
+fn file_of(
+    alloc: Global,
+    name: &str,
+    text: &[u8],
+    is_harmed: bool,
+    at: usize,
+    harm: Harm,
+) -> Result<File, NoMemory>
+    requires { length name.now ≤ 255 }
+{
+    let mut text = Vec::from_slice(alloc, text)?;
+    if is_harmed {
+        harm_text(&mut text, at, harm);
+    }
+    Ok(File::new(name, text))
+}
+
+fn files_of(
+    alloc: Global,
+    topology: &[u8],
+    which: Which,
+    at: usize,
+    harm: Harm,
+) -> Result<MemShelf, NoMemory> {
+    let mut files = Vec::new(alloc);
+    files.push(file_of(alloc, "t", topology, which == Which::Topology, at, harm)?)?;
+    files.push(file_of(alloc, "m", GOOD_REGION, which == Which::Map, at, harm)?)?;
+    files.push(file_of(alloc, "c", CHANGES, which == Which::Changes, at, harm)?)?;
+    MemShelf::new(alloc, files, 8, Vec::new(alloc))
+}
+
+/// `repair` over files of which one is harmed.
 fn assert_harmed<R: Abort + Threads + Wait + Sync + AllocGlobal>(
     rt: &R,
-    whole: &[&[u8]],
-    which: usize,
+    topology: &[u8],
+    which: Which,
     at: usize,
     harm: Harm,
 ) -> Result<(), Fail> {
-    let alloc = rt.alloc();
     let words = texts(rt, &["glb", "repair", "t", "m", "c"])?;
-    let mut held = Vec::new(alloc);
-    for (number, name) in ["t", "m", "c"].iter().enumerate() {
-        if let Some(text) = whole.get(number) {
-            let text = if number == which {
-                harmed(rt, text, at, harm)?
-            } else {
-                Vec::from_slice(alloc, text)?
-            };
-            held.push(File::new(name, text))?;
-        }
-    }
-    let mut files = MemShelf::new(alloc, held, 8, Vec::new(alloc))?;
-    let mut out = MemSink::new(alloc, 1024, Vec::new(alloc))?;
+    let mut files = files_of(rt.alloc(), topology, which, at, harm)?;
+    let mut out = MemSink::new(rt.alloc(), 1024, Vec::new(rt.alloc()))?;
     let status = run(rt, words.as_slice(), &mut files, &mut out)?;
-    assert!(rt; is_allowed(status, out.bytes()), "for file {which} at {at}");
-    assert_eq!(rt; out.puts(), 1);
-    if which == 1 && matches!(harm, Harm::Cut) {
-        assert_eq!(rt; out.bytes(), b"refused map truncated\n".as_slice());
+    assert!(rt; is_allowed(status, out.bytes()), "for {which:?} at {at}");
+    assert!(rt; out.puts() == 1, "for {which:?} at {at}");
+    if which == Which::Map && matches!(harm, Harm::Cut) {
+        assert!(rt;
+            out.bytes() == b"refused map truncated\n".as_slice(),
+            "for a map cut at {at}"
+        );
     }
     Ok(())
 }
 
+/// What an octet at a place is changed to.
+fn other_at(at: usize) -> u8 {
+    OTHERS.get(at % 8).copied().unwrap_or(0)
+}
+
 fn assert_file<R: Abort + Threads + Wait + Sync + AllocGlobal>(
     rt: &R,
-    whole: &[&[u8]],
-    which: usize,
+    topology: &[u8],
+    which: Which,
     length: usize,
 ) -> Result<(), Fail> {
     for at in 0..length {
-        assert_harmed(rt, whole, which, at, Harm::Cut)?;
-        assert_harmed(rt, whole, which, at, Harm::Change(OTHERS[at % 8]))?;
+        assert_harmed(rt, topology, which, at, Harm::Cut)?;
+        assert_harmed(rt, topology, which, at, Harm::Change(other_at(at)))?;
     }
     Ok(())
 }
@@ -342,10 +402,10 @@ fn assert_file<R: Abort + Threads + Wait + Sync + AllocGlobal>(
 #[test]
 fn harmed_files(rt: HostRuntime) -> Result<(), Fail> {
     let topology = format!(in rt.alloc(); "{ZONE}{REGION}")?;
-    let whole = [topology.as_bytes(), GOOD_REGION, CHANGES];
-    assert_file(&rt, whole.as_slice(), 0, topology.len())?;
-    assert_file(&rt, whole.as_slice(), 1, GOOD_REGION.len())?;
-    assert_file(&rt, whole.as_slice(), 2, CHANGES.len())
+    let topology = topology.as_bytes();
+    assert_file(&rt, topology, Which::Topology, topology.len())?;
+    assert_file(&rt, topology, Which::Map, GOOD_REGION.len())?;
+    assert_file(&rt, topology, Which::Changes, CHANGES.len())
 }
 
 /// Whether each line is one of control text.
@@ -366,17 +426,24 @@ fn assert_feed<R: Abort + Threads + Wait + Sync + AllocGlobal>(
     at: usize,
     harm: Harm,
 ) -> Result<(), Fail> {
-    let (status, out) = control_text(rt, harmed(rt, FEED, at, harm)?)?;
+    let (status, out) = control_text(rt, harmed(rt.alloc(), FEED, at, harm)?)?;
     assert_eq!(rt; status, Status::Ok, "for a feed harmed at {at}");
     assert!(rt; are_control_lines(out.bytes()), "for a feed harmed at {at}");
     Ok(())
 }
 
-#[test]
-fn harmed_feeds(rt: HostRuntime) -> Result<(), Fail> {
-    for at in 0..FEED.len() {
-        assert_feed(&rt, at, Harm::Cut)?;
-        assert_feed(&rt, at, Harm::Change(OTHERS[at % 8]))?;
+fn assert_feeds<R: Abort + Threads + Wait + Sync + AllocGlobal>(
+    rt: &R,
+    length: usize,
+) -> Result<(), Fail> {
+    for at in 0..length {
+        assert_feed(rt, at, Harm::Cut)?;
+        assert_feed(rt, at, Harm::Change(other_at(at)))?;
     }
     Ok(())
+}
+
+#[test]
+fn harmed_feeds(rt: HostRuntime) -> Result<(), Fail> {
+    assert_feeds(&rt, FEED.len())
 }
