@@ -563,25 +563,21 @@ fn assert_session<R: Abort + Threads + Wait + Sync + AllocGlobal>(
 }
 
 /// How many calls of each device a session makes where nothing fails. A failing call behind them changes nothing, so there are no more; each of them changes something, so there are no fewer.
-const CALLS: &[(Device, usize)] = &[
-    (Load, 1),
-    (Read, 10),
-    (Line, 4),
-    (Map, 2),
+const STREAMS: &[(Device, usize)] = &[(Load, 1), (Read, 10), (Line, 4), (Map, 2)];
+
+const OPENINGS: &[(Device, usize)] = &[
     (Open(0), 1),
     (Open(1), 1),
     (Open(2), 0),
-    (Receive(0), 4),
-    (Receive(1), 11),
-    (Receive(2), 0),
-    (Send(0), 3),
-    (Send(1), 10),
     (Place(0), 2),
     (Place(1), 0),
-    (Look(0), 4),
-    (Look(1), 11),
-    (Look(2), 0),
 ];
+
+const RECEIVES: &[(Device, usize)] = &[(Receive(0), 4), (Receive(1), 11), (Receive(2), 0)];
+
+const SENDS: &[(Device, usize)] = &[(Send(0), 3), (Send(1), 10), (Send(2), 0)];
+
+const LOOKS: &[(Device, usize)] = &[(Look(0), 4), (Look(1), 11), (Look(2), 0)];
 
 fn assert_device<R: Abort + Threads + Wait + Sync + AllocGlobal>(
     rt: &R,
@@ -606,6 +602,26 @@ fn assert_devices<R: Abort + Threads + Wait + Sync + AllocGlobal>(
 }
 
 #[test]
-fn sessions_whose_calls_fail(rt: HostRuntime) -> Result<(), Fail> {
-    assert_devices(&rt, CALLS)
+fn streams_that_fail(rt: HostRuntime) -> Result<(), Fail> {
+    assert_devices(&rt, STREAMS)
+}
+
+#[test]
+fn openings_that_fail(rt: HostRuntime) -> Result<(), Fail> {
+    assert_devices(&rt, OPENINGS)
+}
+
+#[test]
+fn receives_that_fail(rt: HostRuntime) -> Result<(), Fail> {
+    assert_devices(&rt, RECEIVES)
+}
+
+#[test]
+fn sends_that_fail(rt: HostRuntime) -> Result<(), Fail> {
+    assert_devices(&rt, SENDS)
+}
+
+#[test]
+fn looks_that_are_refused(rt: HostRuntime) -> Result<(), Fail> {
+    assert_devices(&rt, LOOKS)
 }

@@ -432,18 +432,32 @@ fn assert_feed<R: Abort + Threads + Wait + Sync + AllocGlobal>(
     Ok(())
 }
 
-fn assert_feeds<R: Abort + Threads + Wait + Sync + AllocGlobal>(
+fn assert_cut_feeds<R: Abort + Threads + Wait + Sync + AllocGlobal>(
     rt: &R,
     length: usize,
 ) -> Result<(), Fail> {
     for at in 0..length {
         assert_feed(rt, at, Harm::Cut)?;
+    }
+    Ok(())
+}
+
+fn assert_changed_feeds<R: Abort + Threads + Wait + Sync + AllocGlobal>(
+    rt: &R,
+    length: usize,
+) -> Result<(), Fail> {
+    for at in 0..length {
         assert_feed(rt, at, Harm::Change(other_at(at)))?;
     }
     Ok(())
 }
 
 #[test]
-fn harmed_feeds(rt: HostRuntime) -> Result<(), Fail> {
-    assert_feeds(&rt, FEED.len())
+fn cut_feeds(rt: HostRuntime) -> Result<(), Fail> {
+    assert_cut_feeds(&rt, FEED.len())
+}
+
+#[test]
+fn changed_feeds(rt: HostRuntime) -> Result<(), Fail> {
+    assert_changed_feeds(&rt, FEED.len())
 }
