@@ -138,12 +138,24 @@ def judge_feed(octets):
     return (status, (0, (out.decode(), True))) == (0, got), (status, out, got)
 
 
+def judge_reply(asked):
+    """`glb answer`: the very reply, over the map that `glb map` writes."""
+    octets, query = asked
+    _, found, _ = run(["map", "t"], {"t": octets})
+    status, out, _ = run(["answer", "t", "m", "2001:db8::7", query.hex()], {"t": octets, "m": found})
+    topology = Topology(octets)
+    got = second.replies(topology, Map(topology, found), second.address_of("2001:db8::7"), query)
+    text = f"answer {'-' if got is None else got.at(0).hex()}\n"
+    return (status, out) == (0, text.encode()), (status, out, text)
+
+
 JUDGES = {"topology": (judge_map, TOPOLOGY), "map": (judge_check, MAP), "changes": (judge_repair, CHANGES), "feed": (judge_feed, FEED)}
+OTHER_JUDGES = {"reply": judge_reply}
 
 
 def judge(case):
     kind, what, octets = case
-    good, told = JUDGES[kind][0](octets)
+    good, told = (OTHER_JUDGES[kind] if kind in OTHER_JUDGES else JUDGES[kind][0])(octets)
     return None if good else f"{kind}, {what}: {told!r}"[:600]
 
 
@@ -288,6 +300,8 @@ def feed_limits():
 
 
 def large(_):
+    # more maps than there are cells in which lanes are told of them
+    yield "feed", "65,540 maps", b"".join(b"demand h %d\ncommit\n" % (1 + i % 9) for i in range(65540)) + FEED
     for count in [8191, 8192, 8193]:
         yield "topology", f"{count} nodes", world(nodes=[A] + [node(f"n{i}") for i in range(count - 1)], groups=[FIRST])
     for count in [65535, 65536, 65537]:
@@ -301,8 +315,29 @@ def large(_):
         yield "map", f"{length} octets", MAP.ljust(length, b"x")
 
 
+def wire(labels):
+    return b"".join(bytes([len(label)]) + label for label in labels) + b"\0"
+
+
+def reply_limits():
+    """The longest replies: 466 octets without an answer, 347 of a service's addresses, and all name servers."""
+    apex = long_name(64)
+    labels = apex.encode().split(b".")
+    zone = {key: f'"{apex}"' for key in ["apex", "mname", "rname"]} | {"ns": quoted(long_name(60 + i) + "x" for i in range(4)), "services": quoted(["s" * 63])}
+    addresses = quoted(f"2001:db8::{i}" for i in range(1, 7))
+    octets = world(zone=zone, nodes=[node("A", 5, pool=True, more=f"aaaa = {addresses}")], groups=[FIRST])
+    subnet = bytes.fromhex("0008001400028000") + second.read_v6("2001:db8::7")[1].to_bytes(16)
+    opt = bytes.fromhex("00002904d000000000") + len(subnet).to_bytes(2) + subnet
+    for name, kind in [([b"x" * 62, b"y" * 63, b"z" * 63] + labels, 1), ([b"S" * 63] + labels, 28), ([b"S" * 63] + labels, 1), (labels, 2), (labels, 6)]:
+        for size in range(-1, 2):
+            changed = [name[0] + b"x" * size if size >= 0 else name[0][:-1]] + name[1:]
+            for more in [b"", opt]:
+                head = bytes.fromhex("123401000001") + bytes(4) + (1 if more else 0).to_bytes(2)
+                yield "reply", f"type {kind}, {len(wire(changed))} octets", (octets, head + wire(changed) + kind.to_bytes(2) + b"\0\1" + more)
+
+
 def limits(_):
-    return itertools.chain(small_limits(), feed_limits())
+    return itertools.chain(small_limits(), feed_limits(), reply_limits())
 
 
 PARTS = {"cuts": cuts, "words": words, "limits": limits, "large": large, "octets": octets}

@@ -1,5 +1,6 @@
 //! A query with a client subnet, each of whose octets is changed to each other one, and which is cut before each: at a lane.
 ghost use Rattle.std.specs.Prelude.{◌≡◌};
+ghost use Rattle.published_map.specs.Version.{IsVersion};
 
 use super::{CLIENT, first_version};
 use crate::{Worker, serve_port};
@@ -97,7 +98,9 @@ fn has_number(reply: &[u8], query: &[u8]) -> bool {
 }
 
 /// Whether a reply is that of the version for the worker's datagram of that number, and goes to its sender.
-fn is_reply(version: &MapVersion, taken: &MemTaken, tried: &MemTry, number: u64) -> bool {
+fn is_reply(version: &MapVersion, taken: &MemTaken, tried: &MemTry, number: u64) -> bool
+    requires { IsVersion version.now }
+{
     let Peer { addr, .. } = taken.packet.from;
     let octets = taken.packet.octets.as_slice();
     let mut due = ArrayVec::new();
@@ -111,23 +114,46 @@ fn is_reply(version: &MapVersion, taken: &MemTaken, tried: &MemTry, number: u64)
         && has_number(due.as_slice(), octets)
 }
 
-/// Whether each datagram that has a reply has it, in turn, and there are no others.
-fn are_replies(version: &MapVersion, taken: &[MemTaken], tries: &[MemTry]) -> bool {
-    let mut tries = tries;
-    let mut number = 0;
-    for one in taken {
-        if !is_unanswered(one.packet.octets.as_slice()) {
-            let [tried, rest @ ..] = tries else {
-                return false;
-            };
-            if !is_reply(version, one, tried, number) {
-                return false;
-            }
-            tries = rest;
-        }
-        number = next_number(number);
+/// How far a lane was looked at: datagrams, replies, and whether all these were as they are due.
+#[derive(Clone, Copy)]
+struct Looked {
+    number: u64,
+    replies: usize,
+    good: bool,
+}
+
+/// One datagram more: it has the next reply, if there is one for it.
+fn look_further(version: &MapVersion, taken: &MemTaken, tries: &[MemTry], looked: Looked) -> Looked
+    requires { IsVersion version.now }
+{
+    let number = next_number(looked.number);
+    if is_unanswered(taken.packet.octets.as_slice()) {
+        return Looked { number, ..looked };
     }
-    tries.is_empty()
+    let is_due = match tries.get(looked.replies) {
+        Some(tried) => is_reply(version, taken, tried, looked.number),
+        None => false,
+    };
+    Looked {
+        number,
+        replies: looked.replies.saturating_add(1),
+        good: looked.good && is_due,
+    }
+}
+
+/// Whether each datagram that has a reply has it, in turn, and there are no others.
+fn are_replies(version: &MapVersion, taken: &[MemTaken], tries: &[MemTry]) -> bool
+    requires { IsVersion version.now }
+{
+    let mut looked = Looked {
+        number: 0,
+        replies: 0,
+        good: true,
+    };
+    for one in taken {
+        looked = look_further(version, one, tries, looked);
+    }
+    looked.good && looked.replies == tries.len()
 }
 
 /// How a lane with a viewer ends.
