@@ -1,13 +1,12 @@
 /* Preloaded: refuses the allocations from the number FAIL_FIRST on, FAIL_COUNT of them, counted from 1 over all threads.
-   How many were asked for is written to the file FAIL_TOLD when the program ends. */
+   How many were asked for stands in the file FAIL_TOLD, as eight octets, whatever way the program ends. */
 #define _GNU_SOURCE
 #include <dlfcn.h>
 #include <errno.h>
 #include <fcntl.h>
 #include <stdatomic.h>
-#include <stdio.h>
 #include <stdlib.h>
-#include <string.h>
+#include <sys/mman.h>
 #include <unistd.h>
 
 extern void *__libc_malloc(size_t);
@@ -15,7 +14,8 @@ extern void *__libc_calloc(size_t, size_t);
 extern void *__libc_realloc(void *, size_t);
 extern void *__libc_memalign(size_t, size_t);
 
-static atomic_ulong asked;
+static atomic_ulong own;
+static atomic_ulong *asked = &own;
 static unsigned long first, count;
 static atomic_int is_read;
 
@@ -27,12 +27,25 @@ static void read_numbers(void) {
     atomic_store(&is_read, 1);
 }
 
-__attribute__((constructor)) static void begin(void) { read_numbers(); }
+static void share_count(const char *path) {
+    int file = open(path, O_RDWR | O_CREAT | O_TRUNC, 0644);
+    if (file < 0 || ftruncate(file, sizeof *asked) != 0) _exit(99);
+    void *mapped = mmap(0, sizeof *asked, PROT_READ | PROT_WRITE, MAP_SHARED, file, 0);
+    if (mapped == MAP_FAILED) _exit(99);
+    asked = mapped;
+    close(file);
+}
+
+__attribute__((constructor)) static void begin(void) {
+    const char *path = getenv("FAIL_TOLD");
+    if (path && *path) share_count(path);
+    read_numbers();
+}
 
 static int is_refused(void) {
     /* what the loader asks for before any code of the program is not counted */
     if (!atomic_load(&is_read)) return 0;
-    unsigned long number = atomic_fetch_add(&asked, 1) + 1;
+    unsigned long number = atomic_fetch_add(asked, 1) + 1;
     if (first && number >= first && number - first < count) {
         errno = ENOMEM;
         return 1;
@@ -51,15 +64,4 @@ int posix_memalign(void **out, size_t to, size_t size) {
     if (!got) return ENOMEM;
     *out = got;
     return 0;
-}
-
-__attribute__((destructor)) static void end(void) {
-    const char *path = getenv("FAIL_TOLD");
-    if (!path) return;
-    char text[32];
-    int length = snprintf(text, sizeof text, "%lu\n", atomic_load(&asked));
-    int file = open(path, O_WRONLY | O_CREAT | O_TRUNC, 0644);
-    if (file < 0) return;
-    if (write(file, text, (size_t)length) < 0) _exit(99);
-    close(file);
 }

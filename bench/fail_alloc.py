@@ -8,7 +8,9 @@ The commands are check, map, answer, repair, large and serve, all of them if non
     without serve   status 8 with nothing written, or status 0 with all that is due
     serve           status 8 (or 9) with no line of control text, no map's text but the first, and no reply to a client
                     that asks without rest; or status 0 with replies, where each commit either published its map, or was
-                    answered `refused commit memory` and left nothing behind
+                    answered `refused commit memory` and left nothing behind; or status 0 without replies, which is
+                    what a join does where the system makes no thread: its two sides come one behind the other, the
+                    feed first
 
 It says at which number it stands, and with --state it goes on there after a break. The last line counts.
 """
@@ -27,6 +29,7 @@ from pathlib import Path
 TOP = Path(__file__).resolve().parent.parent
 GLB = os.environ.get("GLB", str(TOP / "crates/glb_program/out/glb_program"))
 FILES = TOP / "examples"
+PATIENCE = 8
 QUERY = bytes.fromhex("123401000001000000000000037777770363646e076578616d706c650000010001")
 FIRST = b"glb map 1\nplace g1 A 8\nplace g2 A 2\nplace g2 B 5\nfull g2 A A\nfull g2 B R\nend\n"
 GOOD = {
@@ -73,9 +76,9 @@ def free_port():
 
 
 def ask_until_reply(process, port):
-    """Asks without rest until there is a reply or the program has ended."""
+    """Asks without rest until there is a reply, the program has ended, or its lanes should long have answered."""
     replied = False
-    end = time.monotonic() + 60
+    end = time.monotonic() + PATIENCE
     while not replied and process.poll() is None and time.monotonic() < end:
         with socket.socket(socket.AF_INET, socket.SOCK_DGRAM) as client:
             client.settimeout(0.01)
@@ -89,13 +92,13 @@ def ask_until_reply(process, port):
 
 
 def run_serve(shim, number, count, told=""):
-    """Status, control text, texts of maps, and whether a client had a reply. The feed comes behind the first reply."""
+    """Status, control text, texts of maps, and whether a client had a reply. The feed comes behind the first reply, or where there is none."""
     port = free_port()
     words = [GLB, "serve", "tree.toml", "--listen", f"127.0.0.1:{port}", "--workers", "2"]
     process = subprocess.Popen(words, cwd=FILES, env=environment(shim, number, count, told), stdin=subprocess.PIPE, stdout=subprocess.PIPE, stderr=subprocess.PIPE)
     replied = ask_until_reply(process, port)
     try:
-        out, maps = process.communicate(FEED if replied else b"", timeout=60)
+        out, maps = process.communicate(FEED if process.poll() is None else None, timeout=60)
     except subprocess.TimeoutExpired:
         process.kill()
         return "hangs", b"", b"", replied
@@ -118,6 +121,8 @@ def judge_serve(shim, number, count):
         return str(status) + (" with the first map" if maps else ""), None
     if status == 0 and replied and (out, maps) in SESSIONS:
         return ["0", "0, first commit refused", "0, second commit refused", "0, both commits refused"][SESSIONS.index((out, maps))], None
+    if status == 0 and (out, maps) in SESSIONS:
+        return "0, no thread for the lanes, which came behind the feed", None
     return "wrong", ("serve", number, count, status, out, maps, replied)
 
 
@@ -139,7 +144,7 @@ def count_allocations(shim, command):
             good = status == 0 and out == GOOD[command]
         if not good:
             sys.exit(f"{command}: status {status}, {out!r}")
-        return int(Path(told).read_text())
+        return int.from_bytes(Path(told).read_bytes(), sys.byteorder)
 
 
 def sweep(shim, command, count, options, state, pool):
