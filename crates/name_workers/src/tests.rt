@@ -20,6 +20,8 @@ use std::test::Fail;
 use topology_text::{Topology, read_topology};
 use worlds::{EXAMPLE, EXAMPLE_TREE};
 
+mod hostile;
+
 /// A client of the second group.
 const CLIENT: Peer = Peer {
     addr: Addr::V4(0xc633_6407),

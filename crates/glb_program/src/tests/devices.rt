@@ -1,0 +1,253 @@
+//! Commands of one output, whose calls of a device fail: each alone, each with all behind it, and an output whose room ends at each octet.
+use super::{Bytes, GOOD_REGION, Held, REGION, Topology, held_file, run, texts};
+use crate::Status;
+use no_memory::NoMemory;
+use outside::{MemShelf, MemSink};
+use std::alloc::Global;
+use std::process::Abort;
+use std::sync::Wait;
+use std::test::Fail;
+use std::thread::Threads;
+
+/// A command, the files of its words in their order, and what it puts where nothing fails.
+struct Command {
+    words: &'static [&'static str],
+    files: &'static [(&'static str, Held)],
+    pieces: &'static [&'static str],
+}
+
+const CHANGES: &[u8] = b"demand g1 6\ncapacity A 9\n";
+
+const COMMANDS: &[Command] = &[
+    Command {
+        words: &["glb", "check", "t", "m"],
+        files: &[("t", Topology(REGION)), ("m", Bytes(GOOD_REGION))],
+        pieces: &["good\n"],
+    },
+    Command {
+        words: &["glb", "map", "t"],
+        files: &[("t", Topology(REGION))],
+        pieces: &[
+            "glb map 1\nplace g1 A 8\nplace g2 A 2\nplace g2 B 5\nfull g2 A A\nfull g2 B R\nend\n",
+        ],
+    },
+    Command {
+        words: &[
+            "glb",
+            "answer",
+            "t",
+            "m",
+            "198.51.100.7",
+            "000000000000000000000000",
+        ],
+        files: &[("t", Topology(REGION)), ("m", Bytes(GOOD_REGION))],
+        pieces: &["answer 000080010000000000000000\n"],
+    },
+    Command {
+        words: &["glb", "repair", "t", "m", "c"],
+        files: &[
+            ("t", Topology(REGION)),
+            ("m", Bytes(GOOD_REGION)),
+            ("c", Bytes(CHANGES)),
+        ],
+        pieces: &["glb map 1\nplace g1 A 6\nplace g2 A 3\nplace g2 B 5\nfull g2 A A\nend\n"],
+    },
+    Command {
+        words: &["glb", "large", "1"],
+        files: &[],
+        pieces: &[
+            "large 1\n",
+            "nodes 5\n",
+            "maps 17\n",
+            "good 17\n",
+            "placed 4\n",
+            "unplaced 0\n",
+            "full 0\n",
+            "proposals 1\n",
+            "answered 1\n",
+            "servfail 0\n",
+        ],
+    },
+    Command {
+        words: &["glb", "check", "t"],
+        files: &[],
+        pieces: &["usage: glb check, answer, map, repair, serve or large\n"],
+    },
+];
+
+/// The numbers of so many calls, from one on.
+pub fn calls_from(alloc: Global, first: u64, count: u64) -> Result<Vec<u64>, NoMemory> {
+    let mut calls = Vec::new(alloc);
+    for number in first..first.saturating_add(count) {
+        calls.push(number)?;
+    }
+    Ok(calls)
+}
+
+/// The first pieces, one behind the other.
+pub fn joined(alloc: Global, pieces: &[&str], count: usize) -> Result<Vec<u8>, NoMemory> {
+    let mut text = Vec::new(alloc);
+    for piece in pieces.iter().take(count) {
+        text.extend_from_slice(piece.as_bytes())?;
+    }
+    Ok(text)
+}
+
+/// What came of a command: the status, the files and the output.
+#[derive(Drop)]
+struct Came {
+    status: Status,
+    files: MemShelf,
+    out: MemSink,
+}
+
+/// A command over its files, of which these loads fail, and an output with room for so many octets, of which these puts fail.
+fn came_of<R: Abort + Threads + Wait + Sync + AllocGlobal>(
+    rt: &R,
+    command: &Command,
+    loads: Vec<u64>,
+    puts: Vec<u64>,
+    room: usize,
+) -> Result<Came, Fail> {
+    let alloc = rt.alloc();
+    let words = texts(rt, command.words)?;
+    let mut held = Vec::new(alloc);
+    for (name, file) in command.files {
+        if let Some(file) = held_file(rt, name, *file)? {
+            held.push(file)?;
+        }
+    }
+    let mut files = MemShelf::new(alloc, held, 8, loads)?;
+    let mut out = MemSink::new(alloc, room, puts)?;
+    let status = run(rt, words.as_slice(), &mut files, &mut out)?;
+    Ok(Came { status, files, out })
+}
+
+/// The status where a call of this number fails, of so many.
+fn status_at(first: usize, calls: usize, fault: Status, whole: Status) -> Status {
+    if first < calls { fault } else { whole }
+}
+
+/// The status where nothing fails.
+fn whole_status(command: &Command) -> Status {
+    match command.words {
+        ["glb", "check", "t"] => Status::Usage,
+        _ => Status::Ok,
+    }
+}
+
+/// So many loads fail from one on: nothing is loaded behind the first of them, and nothing is put.
+fn assert_loads<R: Abort + Threads + Wait + Sync + AllocGlobal>(
+    rt: &R,
+    command: &Command,
+    first: usize,
+    count: u64,
+) -> Result<(), Fail> {
+    let fails = calls_from(rt.alloc(), first as u64, count)?;
+    let came = came_of(rt, command, fails, Vec::new(rt.alloc()), 1024)?;
+    let calls = command.files.len();
+    let status = status_at(first, calls, Status::SourceFault, whole_status(command));
+    let puts = if first < calls {
+        0
+    } else {
+        command.pieces.len()
+    };
+    let text = joined(rt.alloc(), command.pieces, puts)?;
+    assert_eq!(rt;
+        came.status,
+        status,
+        "at load {first} of {:?}",
+        command.words
+    );
+    assert_eq!(rt;
+        came.files.asked().len(),
+        calls.min(first.saturating_add(1))
+    );
+    assert_eq!(rt; came.out.puts(), puts as u64);
+    assert_eq!(rt; came.out.bytes(), text.as_slice());
+    Ok(())
+}
+
+/// So many puts fail from one on: what was put before them stands, and nothing is put behind the first of them.
+fn assert_puts<R: Abort + Threads + Wait + Sync + AllocGlobal>(
+    rt: &R,
+    command: &Command,
+    first: usize,
+    count: u64,
+) -> Result<(), Fail> {
+    let fails = calls_from(rt.alloc(), first as u64, count)?;
+    let came = came_of(rt, command, Vec::new(rt.alloc()), fails, 1024)?;
+    let calls = command.pieces.len();
+    let status = status_at(first, calls, Status::SinkFault, whole_status(command));
+    let text = joined(rt.alloc(), command.pieces, first)?;
+    assert_eq!(rt;
+        came.status,
+        status,
+        "at put {first} of {:?}",
+        command.words
+    );
+    assert_eq!(rt; came.files.asked().len(), command.files.len());
+    assert_eq!(rt; came.out.puts(), calls.min(first.saturating_add(1)) as u64);
+    assert_eq!(rt; came.out.bytes(), text.as_slice());
+    Ok(())
+}
+
+/// The output has room for so many octets, and takes them.
+fn assert_room<R: Abort + Threads + Wait + Sync + AllocGlobal>(
+    rt: &R,
+    command: &Command,
+    whole: &[u8],
+    room: usize,
+) -> Result<(), Fail> {
+    let came = came_of(
+        rt,
+        command,
+        Vec::new(rt.alloc()),
+        Vec::new(rt.alloc()),
+        room,
+    )?;
+    let status = status_at(room, whole.len(), Status::SinkFault, whole_status(command));
+    assert_eq!(rt;
+        came.status,
+        status,
+        "with room {room} of {:?}",
+        command.words
+    );
+    assert_eq!(rt; came.out.bytes().len(), room.min(whole.len()));
+    assert!(rt; whole.starts_with(came.out.bytes()));
+    Ok(())
+}
+
+fn assert_command<R: Abort + Threads + Wait + Sync + AllocGlobal>(
+    rt: &R,
+    command: &Command,
+) -> Result<(), Fail> {
+    for first in 0..=command.files.len() {
+        assert_loads(rt, command, first, 1)?;
+        assert_loads(rt, command, first, 64)?;
+    }
+    for first in 0..=command.pieces.len() {
+        assert_puts(rt, command, first, 1)?;
+        assert_puts(rt, command, first, 64)?;
+    }
+    let whole = joined(rt.alloc(), command.pieces, command.pieces.len())?;
+    for room in 0..=whole.len() {
+        assert_room(rt, command, whole.as_slice(), room)?;
+    }
+    Ok(())
+}
+
+fn assert_commands<R: Abort + Threads + Wait + Sync + AllocGlobal>(
+    rt: &R,
+    commands: &[Command],
+) -> Result<(), Fail> {
+    for command in commands {
+        assert_command(rt, command)?;
+    }
+    Ok(())
+}
+
+#[test]
+fn calls_that_fail(rt: HostRuntime) -> Result<(), Fail> {
+    assert_commands(&rt, COMMANDS)
+}
