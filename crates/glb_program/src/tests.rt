@@ -25,6 +25,7 @@ mod at_once;
 mod example;
 mod large_world;
 mod loopback;
+mod repairs;
 mod serving;
 mod usage;
 

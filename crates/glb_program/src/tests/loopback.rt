@@ -17,8 +17,8 @@ use std::time::Duration;
 /// What the client gets: the header of an answer, the question, and one address of the first group's pool.
 const REPLY: &[u8] = &[
     0x12, 0x34, 0x85, 0, 0, 1, 0, 1, 0, 0, 0, 0, 3, b'w', b'w', b'w', 3, b'c', b'd', b'n', 7, b'e',
-    b'x', b'a', b'm', b'p', b'l', b'e', 0, 0, 1, 0, 1, 0xc0, 12, 0, 1, 0, 1, 0, 0, 0, 20, 0, 4, 192,
-    0, 2, 1,
+    b'x', b'a', b'm', b'p', b'l', b'e', 0, 0, 1, 0, 1, 0xc0, 12, 0, 1, 0, 1, 0, 0, 0, 20, 0, 4,
+    192, 0, 2, 1,
 ];
 
 /// How long the client waits for a reply, and the pace for the client's word, in seconds.
@@ -90,7 +90,15 @@ fn serves_a_client_on_loopback(rt: HostRuntime) -> Result<(), Fail> {
     let alloc = rt.alloc();
     let words = texts(
         &rt,
-        &["glb", "serve", "t", "--listen", "127.0.0.1:0", "--workers", "2"],
+        &[
+            "glb",
+            "serve",
+            "t",
+            "--listen",
+            "127.0.0.1:0",
+            "--workers",
+            "2",
+        ],
     )?;
     let mut files = shelf(&rt, Topology(REGION), Missing, &[])?;
     let mut feed = MemSource::new(alloc, Vec::new(alloc), Vec::new(alloc), Vec::new(alloc))?;
