@@ -177,10 +177,21 @@ impl Kind {
             count = count.saturating_mul(3);
         }
         for _ in 0..self.groups {
-            let group = 2 * self.lists() * self.scores();
-            count = count.saturating_mul(group);
+            count = count
+                .saturating_mul(2)
+                .saturating_mul(self.lists())
+                .saturating_mul(self.scores());
         }
         count
+    }
+
+    /// How many nodes there are.
+    fn size(&self) -> u32 {
+        match self.parents.len() {
+            1 => 1,
+            2 => 2,
+            _ => 3,
+        }
     }
 
     fn parent(&self, node: u32) -> Option<u32> {
@@ -255,7 +266,7 @@ impl Kind {
 
     fn nodes(&self, alloc: Global, numbers: &Numbers) -> Result<Vec<Node>, NoMemory> {
         let mut nodes = Vec::new(alloc);
-        for n in 0..self.parents.len() as u32 {
+        for n in 0..self.size() {
             nodes.push(Node {
                 capacity: numbers.capacity(n),
                 parent: self.parent(n).map(NodeId),
@@ -279,7 +290,7 @@ impl Kind {
     /// Each change of one number within the bounds.
     pub fn changes(&self, alloc: Global, numbers: &Numbers) -> Result<Vec<Change>, NoMemory> {
         let mut changes = Vec::new(alloc);
-        for n in 0..self.parents.len() as u32 {
+        for n in 0..self.size() {
             for more in 1..3u64 {
                 changes.push(Capacity {
                     node: NodeId(n),
