@@ -7,4 +7,4 @@
 #
 #     bench/serve.sh [GROUPS [SECONDS]]       1,024 groups and 10 seconds a row if they are not given
 . "$(dirname "$0")/set-up.sh"
-GLB=${GLB:-$glb} python3 "$here/serve.py" "$work" "$@"
+GLB=$glb python3 "$here/serve.py" "$work" "$@"

@@ -29,6 +29,7 @@ mod failing_sessions;
 mod hostile;
 mod large_world;
 mod loopback;
+mod repairs;
 mod serving;
 mod usage;
 

@@ -3,6 +3,10 @@ ghost use Rattle.std.specs.Prelude.{◌≡◌, true, IfOk};
 ghost use Rattle.map_model.specs.Market.{IsSameShape};
 ghost use Rattle.map_model.specs.Allocation.{IsGood};
 
+mod definitions;
+mod every_change;
+mod smallest;
+
 use crate::repair;
 use map_model::Change::{Capacity, Demand};
 use map_model::{Change, GroupId, Instance, MapLines, NodeId, Steps};

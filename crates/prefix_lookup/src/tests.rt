@@ -3,13 +3,16 @@ ghost use Rattle.std.specs.Prelude.{All};
 ghost use Rattle.addr_text.specs.Addresses.{IsPrefix};
 
 mod agree;
+mod drawn;
 mod plain;
 
+use self::drawn::{Draws, drawn};
 use self::plain::{longest, scope};
 use crate::Lookup;
 use addr_text::{Addr, Prefix};
 use map_model::{GroupId, Steps};
 use no_memory::NoMemory;
+use std::alloc::Global;
 
 /// 198.51.100.0/24 belongs to group 2, but for its upper half.
 const SMALL: [(Prefix, GroupId); 5] = [
@@ -120,13 +123,36 @@ fn edges(prefix: Prefix) -> [Addr; 4] {
     }
 }
 
+/// How many prefixes of the address's family there are.
+fn prefixes_beside(table: &[(Prefix, GroupId)], addr: Addr) -> u64 {
+    let mut count: u64 = 0;
+    for (prefix, _) in table {
+        if prefix.addr.bits() == addr.bits() {
+            count = count.saturating_add(1);
+        }
+    }
+    count
+}
+
+/// Whether `probe` finds the group, and two to its comparisons is at most four times the prefixes of the family.
+fn is_probed(lookup: &Lookup, table: &[(Prefix, GroupId)], addr: Addr, group: GroupId) -> bool {
+    let mut steps: Steps<Lookup> = Steps::new();
+    let found = lookup.probe(addr, &mut steps);
+    let most = prefixes_beside(table, addr).saturating_mul(4);
+    found == group && steps.count() < 64 && most >> steps.count() > 0
+}
+
 /// Whether the lookup says what the search over all prefixes says.
 fn is_plain(lookup: &Lookup, table: &[(Prefix, GroupId)], addr: Addr) -> bool
     requires { All (λ e. IsPrefix e.0) table.now }
 {
     let group = lookup.group(addr);
+    let scope = scope(table, addr);
     let found = longest(table, addr).is_some_and(|entry| entry.1 == group);
-    found && lookup.find(addr) == (group, scope(table, addr))
+    found
+        && lookup.find(addr) == (group, scope)
+        && lookup.scope(addr) == scope
+        && is_probed(lookup, table, addr, group)
 }
 
 /// Whether it does so at the edges of each prefix.
@@ -168,5 +194,29 @@ fn each_address_has_its_group_and_scope(rt: HostRuntime) -> Result<(), NoMemory>
 fn drawn_prefixes_are_found(rt: HostRuntime) -> Result<(), NoMemory> {
     let drawn = Lookup::build(rt.alloc(), &DRAWN)?;
     assert!(&rt; is_plain_at_edges(&drawn, &DRAWN));
+    Ok(())
+}
+
+/// How many prefixes the next table has that is drawn, where its lookup says what the search over all says.
+fn plain_prefixes(alloc: Global, draws: &mut Draws) -> Result<Option<usize>, NoMemory> {
+    let table = drawn(alloc, draws)?;
+    let lookup = Lookup::build(alloc, &table)?;
+    if is_plain_at_edges(&lookup, &table) {
+        Ok(Some(table.len()))
+    } else {
+        Ok(None)
+    }
+}
+
+#[test]
+fn drawn_tables_are_looked_up_as_plainly(rt: HostRuntime) -> Result<(), NoMemory> {
+    let mut draws = Draws::from(1);
+    let mut prefixes: usize = 0;
+    for table in 0..3000usize {
+        let more = plain_prefixes(rt.alloc(), &mut draws)?;
+        assert!(rt; more.is_some(), "table {table}");
+        prefixes = prefixes.saturating_add(more.unwrap_or(0));
+    }
+    assert!(rt; prefixes > 30000, "{prefixes}");
     Ok(())
 }

@@ -1,0 +1,166 @@
+//! Each single change of each smallest world, there and back, against the definitions.
+use super::{Proposals, changed, is_good, repaired};
+use crate::tests::definitions::{
+    Row, Side, is_kept, is_local, most_inside, moved, outside, reached, rows_of, spread,
+};
+use crate::tests::smallest::{KINDS, Kind, Numbers, Small, back};
+use deferred_accept::{finish, run};
+use evict::State;
+use map_model::{Change, Instance, MapLines, Steps};
+use no_memory::NoMemory;
+use std::alloc::Global;
+use std::test::Fail;
+
+/// How many worlds of each kind are tried, spread over all of them. With `u64::MAX` all are: see bench/README.md.
+const EACH: u64 = 24;
+
+/// Prime, so that its multiples go through all numbers of a kind.
+const STRIDE: u64 = 1_000_003;
+
+/// A world with a good map.
+#[derive(Drop)]
+struct Standing {
+    numbers: Numbers,
+    instance: Instance,
+    map: MapLines,
+}
+
+/// How many repairs there were, and how many places of them stood outside the spread trees.
+#[derive(Clone, Copy)]
+struct Tally {
+    repairs: u64,
+    outside: u64,
+}
+
+impl Tally {
+    fn and(self, more: Tally) -> Tally {
+        Tally {
+            repairs: self.repairs.saturating_add(more.repairs),
+            outside: self.outside.saturating_add(more.outside),
+        }
+    }
+}
+
+/// The map of an instance from scratch.
+fn mapped(alloc: Global, instance: &Instance) -> Result<MapLines, NoMemory> {
+    let mut state = State::fresh(alloc, instance)?;
+    let mut steps: Steps<Proposals> = Steps::new();
+    run(alloc, instance, &mut state, &mut steps)?;
+    finish(alloc, instance, state)
+}
+
+/// Whether a repair keeps what the definitions say, in that many proposals; how many places are outside its trees.
+fn judged(rows: &[Row], moved: u8, proposals: u64) -> Option<u64> {
+    let reached = reached(rows, moved);
+    let spread = spread(rows, reached);
+    let kept = rows.iter().all(|row| is_kept(rows, reached, row));
+    let local = rows.iter().all(|row| is_local(spread, row));
+    if kept && local && proposals <= most_inside(rows, spread) {
+        Some(outside(rows, spread))
+    } else {
+        None
+    }
+}
+
+/// What stands after a change, where its repair is as it should be.
+fn stepped(
+    alloc: Global,
+    kind: &Kind,
+    small: &Small,
+    old: &Standing,
+    change: Change,
+) -> Result<(Standing, u64), Fail> {
+    let numbers = old.numbers.changed(change);
+    let instance = changed(alloc, &old.instance, &[change])?;
+    let mut steps = Steps::new();
+    let map = repaired(alloc, &old.instance, &old.map, &instance, &mut steps)?;
+    if !is_good(alloc, &instance, &map)? {
+        return Err(Fail::from("the repaired map is not good"));
+    }
+    let before = Side {
+        numbers: old.numbers,
+        map: &old.map,
+    };
+    let after = Side { numbers, map: &map };
+    let rows = rows_of(alloc, &small.places, before, after)?;
+    let moved = moved(kind, &old.numbers, &numbers);
+    let outside = judged(&rows, moved, steps.count()).ok_or("the repaired map moves too much")?;
+    Ok((
+        Standing {
+            numbers,
+            instance,
+            map,
+        },
+        outside,
+    ))
+}
+
+/// A change and the one that leads back.
+fn there_and_back(
+    alloc: Global,
+    kind: &Kind,
+    small: &Small,
+    old: &Standing,
+    change: Change,
+) -> Result<Tally, Fail> {
+    let (new, there) = stepped(alloc, kind, small, old, change)?;
+    let (_, again) = stepped(alloc, kind, small, &new, back(&old.numbers, change))?;
+    Ok(Tally {
+        repairs: 2,
+        outside: there.saturating_add(again),
+    })
+}
+
+/// All changes of one world.
+fn tried(alloc: Global, kind: &Kind, small: &Small) -> Result<Tally, Fail> {
+    let instance = kind.instance(alloc, small)?;
+    let map = mapped(alloc, &instance)?;
+    let numbers = small.numbers;
+    let old = Standing {
+        numbers,
+        instance,
+        map,
+    };
+    let mut tally = Tally {
+        repairs: 0,
+        outside: 0,
+    };
+    for change in kind.changes(alloc, &numbers)?.as_slice() {
+        tally = tally.and(there_and_back(alloc, kind, small, &old, *change)?);
+    }
+    Ok(tally)
+}
+
+/// All changes of the worlds of a kind.
+fn tried_kind(alloc: Global, kind: &Kind) -> Result<Tally, Fail> {
+    let mut tally = Tally {
+        repairs: 0,
+        outside: 0,
+    };
+    let worlds = kind.worlds().max(1);
+    for i in 0..worlds.min(EACH) {
+        let number = i.wrapping_mul(STRIDE) % worlds;
+        if let Some(small) = kind.world(alloc, number)? {
+            tally = tally.and(tried(alloc, kind, &small)?);
+        }
+    }
+    Ok(tally)
+}
+
+#[test]
+fn repairs_each_change_of_the_smallest_worlds(rt: HostRuntime) -> Result<(), Fail> {
+    let mut tally = Tally {
+        repairs: 0,
+        outside: 0,
+    };
+    for kind in KINDS {
+        tally = tally.and(tried_kind(rt.alloc(), &Kind::of(*kind))?);
+    }
+    assert!(rt;
+        tally.repairs > 100 * EACH && tally.outside > 10 * EACH,
+        "{} repairs, {} places outside",
+        tally.repairs,
+        tally.outside
+    );
+    Ok(())
+}
