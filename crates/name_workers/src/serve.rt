@@ -17,6 +17,10 @@ use lane_model::Ended;
 use map_cell::{CellFault, Door, Naming, Note};
 use outside::{Arrival, Gate, LARGEST_DATAGRAM, Notes, Port, Sending, Turning};
 
+/// The room for a datagram: one octet more than the longest that is answered, so that a port sees a longer one without a
+/// copy of its own.
+const BUFFER: usize = LARGEST_DATAGRAM + 1;
+
 /// What became of a datagram.
 #[derive(Clone, Copy)]
 pub(crate) enum Fared {
@@ -99,7 +103,7 @@ fn take_one<J: Naming, P: Port, D: Door>(
     worker: &mut Worker<J>,
     port: &mut P,
     door: &mut D,
-    buffer: &mut [u8; LARGEST_DATAGRAM],
+    buffer: &mut [u8; BUFFER],
 ) -> Step
     ensures taken { IsTaken worker.old.number worker.old.count worker.new.count result
         (record { seen = worker.old.viewer.seen; told = worker.old.viewer.told; looks = D.looks door.old; greatest = D.greatest door.old; faults = D.faults door.old })
@@ -125,7 +129,7 @@ fn one_turn<J: Naming, P: Port, G: Gate, D: Door, N: Notes<Note = Note<J>>>(
     gate: &mut G,
     door: &mut D,
     notes: &mut N,
-    buffer: &mut [u8; LARGEST_DATAGRAM],
+    buffer: &mut [u8; BUFFER],
 ) -> Step
     ensures turned { IsTurned (λ n. length n.front - 1) worker.old.number result
         (record { port = P.told port.old; gate = G.told gate.old; notes = N.told notes.old; eyes = record { seen = worker.old.viewer.seen; told = worker.old.viewer.told; looks = D.looks door.old; greatest = D.greatest door.old; faults = D.faults door.old }; count = worker.old.count; port_faults = P.faults port.old; gate_faults = G.faults gate.old })
@@ -175,7 +179,7 @@ fn serve_turns<J: Naming, P: Port, G: Gate, D: Door, N: Notes<Note = Note<J>>>(
         (record { port = P.told port.new; gate = G.told gate.new; notes = N.told notes.new; eyes = record { seen = worker.new.viewer.seen; told = worker.new.viewer.told; looks = D.looks door.new; greatest = D.greatest door.new; faults = D.faults door.new }; count = worker.new.count; port_faults = P.faults port.new; gate_faults = G.faults gate.new }) result }
     ensures asked { D.asked door.new ≡ D.asked door.old }
 {
-    let mut buffer = [0u8; LARGEST_DATAGRAM];
+    let mut buffer = [0u8; BUFFER];
     let mut failed = 0u8;
     for _ in 0..turns {
         let step = one_turn(worker, port, gate, door, notes, &mut buffer);
