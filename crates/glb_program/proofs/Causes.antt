@@ -24,7 +24,7 @@ is_port lane.PortFault h = refl
 is_port lane.Stopped h = absurd (cc)
 is_port lane.PortEnd h = absurd (cc)
 is_port lane.CellFault h = absurd (cc)
-is_port lane.Above h = absurd (cc)
+is_port (lane.Above known newest) h = absurd (cc)
 is_port lane.Spent h = absurd (cc)
 
 is_over : (e : Ended) → is_spent e ≡ true → e ≡ lane.Spent
@@ -32,7 +32,7 @@ is_over lane.Spent h = refl
 is_over lane.Stopped h = absurd (cc)
 is_over lane.PortEnd h = absurd (cc)
 is_over lane.CellFault h = absurd (cc)
-is_over lane.Above h = absurd (cc)
+is_over (lane.Above known newest) h = absurd (cc)
 is_over lane.PortFault h = absurd (cc)
 
 -- a closing look that was refused leaves a port's fault and what was spent
@@ -41,7 +41,7 @@ shut_port lane.PortFault h = refl
 shut_port lane.Stopped h = absurd (cc)
 shut_port lane.PortEnd h = absurd (cc)
 shut_port lane.CellFault h = absurd (cc)
-shut_port lane.Above h = absurd (cc)
+shut_port (lane.Above known newest) h = absurd (cc)
 shut_port lane.Spent h = absurd (cc)
 
 shut_spent : (served : Ended) → lane.Spent ≡ shut served → served ≡ lane.Spent
@@ -49,7 +49,7 @@ shut_spent lane.Spent h = refl
 shut_spent lane.Stopped h = absurd (cc)
 shut_spent lane.PortEnd h = absurd (cc)
 shut_spent lane.CellFault h = absurd (cc)
-shut_spent lane.Above h = absurd (cc)
+shut_spent (lane.Above known newest) h = absurd (cc)
 shut_spent lane.PortFault h = absurd (cc)
 
 served_port : (turns : ℕ) (first : Version) (rest : List Version) (w : ℕ) (b c : LaneTold) → IsDone turns first rest w b c lane.PortFault → HasPortFault b c
@@ -83,7 +83,7 @@ took_all : (log : List Turn) (p : PortTold) → (fold port_turn p log).recvs ≡
 took_all [] p = sym (raised_none p.recvs)
 took_all (t ∷ log) p = took_all log (port_turn p t) ∙ ap (λ n. raised n (length log)) (took_one t.known t.came p) ∙ raised_next p.recvs (length log)
 
-tell_weaker : {A : Type 0} (R S : A → A → Type 0) (a b : Option A) → ((x y : A) → R x y → S x y) → BothTell a b R → BothTell a b S
+pub tell_weaker : {A : Type 0} (R S : A → A → Type 0) (a b : Option A) → ((x y : A) → R x y → S x y) → BothTell a b R → BothTell a b S
 tell_weaker R S None None f h = tt
 tell_weaker R S (Some x) (Some y) f h = f x y h
 tell_weaker R S None (Some y) f h = absurd h
@@ -115,7 +115,7 @@ served_cell turns first rest w b c e fault d = go d.which
   where
     refused : (served : Ended) → e ≡ served → IsEnd turns d.log served → Rose b.door_faults c.door_faults
     refused lane.CellFault is ending = d.refusal (has_refused ending.0 ending.1 d.log ending.2 ending.5)
-    refused lane.Above is ending = absurd ending
+    refused (lane.Above known newest) is ending = absurd ending
     refused lane.Stopped is ending = let no : is_cell_fault lane.Stopped ≡ true = subst (λ (x : Ended). is_cell_fault x ≡ true) is fault in absurd (cc)
     refused lane.PortEnd is ending = let no : is_cell_fault lane.PortEnd ≡ true = subst (λ (x : Ended). is_cell_fault x ≡ true) is fault in absurd (cc)
     refused lane.PortFault is ending = let no : is_cell_fault lane.PortFault ≡ true = subst (λ (x : Ended). is_cell_fault x ≡ true) is fault in absurd (cc)
@@ -132,25 +132,25 @@ served_cell turns first rest w b c e fault d = go d.which
 
 -- where some lane ended so, some lane has that
 any_done : (test : Ended → Bool) (P : LaneTold → LaneTold → Type 0) (turns : ℕ) (first : Version) (rest : List Version) (w : ℕ) (ends : List Ended) (before after : List LaneTold)
-    → ((w : ℕ) (b c : LaneTold) (e : Ended) → test e ≡ true → IsDone turns first rest w b c e → P b c) → AreDone turns first rest w ends before after → list_any test ends ≡ true → AnyLane P before after
+    → ((w : ℕ) (b c : LaneTold) (e : Ended) → test e ≡ true → IsDone turns first rest w b c e → P b c) → AreDone turns first rest w ends before after → list_any test ends ≡ true → AnyLane (length ends) P before after
 any_done test P turns first rest w [] before after f h some = absurd (cc)
 any_done test P turns first rest w (e ∷ ends) (b ∷ before) (c ∷ after) f h some = go (test e) refl (any_done test P turns first rest (w + 1) ends before after f h.1)
   where
-    go : (x : Bool) → test e ≡ x → (list_any test ends ≡ true → AnyLane P before after) → P b c ⊎ AnyLane P before after
+    go : (x : Bool) → test e ≡ x → (list_any test ends ≡ true → AnyLane (length ends) P before after) → P b c ⊎ AnyLane (length ends) P before after
     go true is more = inl (f w b c e is h.0)
     go false is more = inr (more (subst (λ (y : Bool). (y || list_any test ends) ≡ true) is some))
 any_done test P turns first rest w (e ∷ ends) [] after f h some = absurd h
 any_done test P turns first rest w (e ∷ ends) (b ∷ before) [] f h some = absurd h
 
-pub any_port : (turns : ℕ) (first : Version) (rest : List Version) (ends : List Ended) (before after : List LaneTold) → AreDone turns first rest 0 ends before after → list_any is_port_fault ends ≡ true → AnyLane HasPortFault before after
+pub any_port : (turns : ℕ) (first : Version) (rest : List Version) (ends : List Ended) (before after : List LaneTold) → AreDone turns first rest 0 ends before after → list_any is_port_fault ends ≡ true → AnyLane (length ends) HasPortFault before after
 any_port turns first rest ends before after h some =
     any_done is_port_fault HasPortFault turns first rest 0 ends before after (λ w b c e is d. served_port turns first rest w b c (subst (IsDone turns first rest w b c) (is_port e is) d)) h some
 
-pub any_spent : (turns : ℕ) (first : Version) (rest : List Version) (ends : List Ended) (before after : List LaneTold) → AreDone turns first rest 0 ends before after → list_any is_spent ends ≡ true → AnyLane (HasTaken turns) before after
+pub any_spent : (turns : ℕ) (first : Version) (rest : List Version) (ends : List Ended) (before after : List LaneTold) → AreDone turns first rest 0 ends before after → list_any is_spent ends ≡ true → AnyLane (length ends) (HasTaken turns) before after
 any_spent turns first rest ends before after h some =
     any_done is_spent (HasTaken turns) turns first rest 0 ends before after (λ w b c e is d. served_spent turns first rest w b c (subst (IsDone turns first rest w b c) (is_over e is) d)) h some
 
-pub any_cell : (turns : ℕ) (first : Version) (rest : List Version) (ends : List Ended) (before after : List LaneTold) → AreDone turns first rest 0 ends before after → list_any is_cell_fault ends ≡ true → AnyLane (HasCellFault (length (first ∷ rest))) before after
+pub any_cell : (turns : ℕ) (first : Version) (rest : List Version) (ends : List Ended) (before after : List LaneTold) → AreDone turns first rest 0 ends before after → list_any is_cell_fault ends ≡ true → AnyLane (length ends) (HasCellFault (length (first ∷ rest))) before after
 any_cell turns first rest ends before after h some =
     any_done is_cell_fault (HasCellFault (length (first ∷ rest))) turns first rest 0 ends before after (λ w b c e is d. served_cell turns first rest w b c e is d) h some
 

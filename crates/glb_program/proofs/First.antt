@@ -22,27 +22,27 @@ use Rattle.glb_program.specs.Told.{Stage, stage}
 use Rattle.glb_program.proofs.Served.{is_served}
 
 -- a port failed to open
-pub shut_session : (turns : ℕ) (listen : Listen) (workers : ℕ) (first : Version) (text : List ℕ) (fed : Option Fed) (out maps maps' : Option Written) (pace : Option (List PaceCall)) (lanes lanes' : List LaneTold) (asked asked' : List ℕ) (ff of mf mf' : ℕ)
-    → IsStart listen workers text start.NoPort (record { maps = maps; maps_faults = mf; lanes = lanes }) (record { maps = maps'; maps_faults = mf'; lanes = lanes' }) → asked' ≡ asked
-    → IsFirstSession turns listen workers first (stage fed out maps pace lanes asked ff of mf) (stage fed out maps' pace lanes' asked' ff of mf') status.PortFault
-shut_session turns listen workers first text fed out maps maps' pace lanes lanes' asked asked' ff of mf mf' h same =
-    inl (record { why = refl; opened = h.0; lent = rw h.1 refl; rest = rw (same, h.2) refl })
+pub shut_session : (turns : ℕ) (listen : Listen) (workers : ℕ) (first : Version) (text : List ℕ) (fed : Option Fed) (out maps maps' : Option Written) (pace : Option (List PaceCall)) (lanes lanes' : List LaneTold) (ff of mf mf' : ℕ)
+    → IsStart listen workers text start.NoPort (record { maps = maps; maps_faults = mf; lanes = lanes }) (record { maps = maps'; maps_faults = mf'; lanes = lanes' })
+    → IsFirstSession turns listen workers first (stage fed out maps pace lanes ff of mf) (stage fed out maps' pace lanes' ff of mf') status.PortFault
+shut_session turns listen workers first text fed out maps maps' pace lanes lanes' ff of mf mf' h =
+    inl (record { why = refl; opened = h.0; lent = rw h.1 refl; rest = rw h.2 refl })
 
 -- the put of the first text failed
-pub unput_session : (turns : ℕ) (listen : Listen) (workers : ℕ) (first : Version) (text : List ℕ) (fed : Option Fed) (out maps maps' : Option Written) (pace : Option (List PaceCall)) (lanes lanes' : List LaneTold) (asked asked' : List ℕ) (ff of mf mf' : ℕ)
-    → text ≡ map_text first → IsStart listen workers text start.NoSink (record { maps = maps; maps_faults = mf; lanes = lanes }) (record { maps = maps'; maps_faults = mf'; lanes = lanes' }) → asked' ≡ asked
-    → IsFirstSession turns listen workers first (stage fed out maps pace lanes asked ff of mf) (stage fed out maps' pace lanes' asked' ff of mf') status.SinkFault
-unput_session turns listen workers first text fed out maps maps' pace lanes lanes' asked asked' ff of mf mf' is h same =
+pub unput_session : (turns : ℕ) (listen : Listen) (workers : ℕ) (first : Version) (text : List ℕ) (fed : Option Fed) (out maps maps' : Option Written) (pace : Option (List PaceCall)) (lanes lanes' : List LaneTold) (ff of mf mf' : ℕ)
+    → text ≡ map_text first → IsStart listen workers text start.NoSink (record { maps = maps; maps_faults = mf; lanes = lanes }) (record { maps = maps'; maps_faults = mf'; lanes = lanes' })
+    → IsFirstSession turns listen workers first (stage fed out maps pace lanes ff of mf) (stage fed out maps' pace lanes' ff of mf') status.SinkFault
+unput_session turns listen workers first text fed out maps maps' pace lanes lanes' ff of mf mf' is h =
     let k = subst (λ t. IsStart listen workers t start.NoSink (record { maps = maps; maps_faults = mf; lanes = lanes }) (record { maps = maps'; maps_faults = mf'; lanes = lanes' })) is h in
-    inr (inl (record { why = refl; opened = k.0; cut = k.1; rose = k.2; lent = refl; rest = rw same refl }))
+    inr (inl (record { why = refl; opened = k.0; cut = k.1; rose = k.2; lent = refl; rest = refl }))
 
 -- the session was started
-pub starts : (listen : Listen) (workers : ℕ) (first : Version) (text : List ℕ) (fed : Option Fed) (out maps maps' : Option Written) (pace : Option (List PaceCall)) (lanes lanes' : List LaneTold) (asked asked' : List ℕ) (ff of mf mf' : ℕ)
-    → text ≡ map_text first → IsStart listen workers text start.Ready (record { maps = maps; maps_faults = mf; lanes = lanes }) (record { maps = maps'; maps_faults = mf'; lanes = lanes' }) → asked' ≡ asked
-    → IsStarted listen workers first (stage fed out maps pace lanes asked ff of mf) (stage fed out maps' pace lanes' asked' ff of mf')
-starts listen workers first text fed out maps maps' pace lanes lanes' asked asked' ff of mf mf' is h same =
+pub starts : (listen : Listen) (workers : ℕ) (first : Version) (text : List ℕ) (fed : Option Fed) (out maps maps' : Option Written) (pace : Option (List PaceCall)) (lanes lanes' : List LaneTold) (ff of mf mf' : ℕ)
+    → text ≡ map_text first → IsStart listen workers text start.Ready (record { maps = maps; maps_faults = mf; lanes = lanes }) (record { maps = maps'; maps_faults = mf'; lanes = lanes' })
+    → IsStarted listen workers first (stage fed out maps pace lanes ff of mf) (stage fed out maps' pace lanes' ff of mf')
+starts listen workers first text fed out maps maps' pace lanes lanes' ff of mf mf' is h =
     let k = subst (λ t. IsStart listen workers t start.Ready (record { maps = maps; maps_faults = mf; lanes = lanes }) (record { maps = maps'; maps_faults = mf'; lanes = lanes' })) is h in
-    record { opened = k.0; put = k.1; later = k.2; lent = refl; rest = rw same refl }
+    record { opened = k.0; put = k.1; later = k.2; lent = refl; rest = refl }
 
 -- it was started, and then memory was wanting
 pub unfed_session : (turns : ℕ) (listen : Listen) (workers : ℕ) (first : Version) (before started after : Stage) → IsStarted listen workers first before started → after ≡ started → IsFirstSession turns listen workers first before after status.NoMemory

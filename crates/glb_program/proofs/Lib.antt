@@ -8,6 +8,7 @@ mod Asked
 mod Histories
 mod Causes
 mod Served
+mod Lanes
 mod Left
 mod Reports
 mod Tasks

@@ -1,5 +1,5 @@
 -- What a drive comes to, as a session.
-use Rattle.std.proofs.Common.{◌≡◌, ◌⊎◌, inl, inr, ℕ, ◌≤◌, true, List, length, refl, ap, sym, ◌∙◌}
+use Rattle.std.proofs.Common.{◌≡◌, ◌⊎◌, inl, inr, ℕ, ◌≤◌, true, List, ◌∷◌, length, refl, ap, sym, subst, ◌∙◌}
 use Rattle.std.specs.Prelude.{Option, ◌-◌}
 use Rattle.std.specs.List.{list_any}
 use Rattle.outside.specs.Faults.{Rose}
@@ -7,10 +7,11 @@ use Rattle.published_map.specs.Version.{Version}
 use Rattle.lane_model.specs.declared.ended.Ended.{Ended}
 use Rattle.demand_feed.specs.declared.run.FeedEnd.{FeedEnd}
 use Rattle.demand_feed.specs.declared.run.FeedEnd.TheVariants as feed
+use Rattle.drive.specs.Done.{LaneTold}
 use Rattle.drive.specs.Driven.{AreEnds, IsDriven}
 use Rattle.glb_program.specs.declared.status.Status.{Status}
 use Rattle.glb_program.specs.Told.{Stage}
-use Rattle.glb_program.specs.Causes.{AnyLane, HasTaken}
+use Rattle.glb_program.specs.Causes.{AnyLane, HasCellFault, HasPortFault, HasTaken}
 use Rattle.glb_program.specs.Serve.{IsServed, is_cell_fault, is_port_fault, is_spent, status_of}
 use Rattle.glb_program.specs.Starting.{at_place, status_at}
 use Rattle.glb_program.proofs.Causes.{any_cell, any_port, any_spent, cell_means, port_means, spent_means}
@@ -41,12 +42,15 @@ is_served turns workers first before after end places result (ends, as_many, are
       result_is = is;
       source = source;
       sink = sink;
-      port = λ h. any_port turns first driven.rest ends before.lent.lanes after.lent.lanes driven.lanes (port_means end p s c (sym h ∙ is));
+      port = λ h. of_workers HasPortFault (any_port turns first driven.rest ends before.lent.lanes after.lent.lanes driven.lanes (port_means end p s c (sym h ∙ is)));
       spent = λ h. spent_by (spent_means end p s c (sym h ∙ is));
-      cell = λ h. any_cell turns first driven.rest ends before.lent.lanes after.lent.lanes driven.lanes (cell_means end p s c (sym h ∙ is));
+      cell = λ h. of_workers (HasCellFault (length (first ∷ driven.rest))) (any_cell turns first driven.rest ends before.lent.lanes after.lent.lanes driven.lanes (cell_means end p s c (sym h ∙ is)));
       later = later;
     }
   where
-    spent_by : (end ≡ feed.Spent) ⊎ (list_any is_spent ends ≡ true) → (end ≡ feed.Spent) ⊎ AnyLane (HasTaken turns) before.lent.lanes after.lent.lanes
+    of_workers : (P : LaneTold → LaneTold → Type 0) → AnyLane (length ends) P before.lent.lanes after.lent.lanes → AnyLane workers P before.lent.lanes after.lent.lanes
+    of_workers P h = subst (λ (n : ℕ). AnyLane n P before.lent.lanes after.lent.lanes) as_many h
+
+    spent_by : (end ≡ feed.Spent) ⊎ (list_any is_spent ends ≡ true) → (end ≡ feed.Spent) ⊎ AnyLane workers (HasTaken turns) before.lent.lanes after.lent.lanes
     spent_by (inl h) = inl h
-    spent_by (inr h) = inr (any_spent turns first driven.rest ends before.lent.lanes after.lent.lanes driven.lanes h)
+    spent_by (inr h) = inr (of_workers (HasTaken turns) (any_spent turns first driven.rest ends before.lent.lanes after.lent.lanes driven.lanes h))

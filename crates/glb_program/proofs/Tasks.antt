@@ -17,8 +17,8 @@ pub good_task : (turns : ℕ) (task : Option Task) (ask : Service) (before after
 good_task turns task ask before after result is run ok =
     subst (λ (t : Option Task). IsGoodRun turns t before after) (sym is) (well_served turns ask before after (subst (λ (r : Status). IsServeRun turns ask before after r) ok run))
 
-pub left_task : (turns : ℕ) (task : Option Task) (ask : Service) (before after : Surroundings) (result : Status) → task ≡ Some (serve ask) → IsServeRun turns ask before after result → HasServeCauses before after result
-    → IsSome before.files → IsSound task before.files → AreQuiet task before after → IsLeft task result
+pub left_task : (turns : ℕ) (task : Option Task) (ask : Service) (before after : Surroundings) (result : Status) → task ≡ Some (serve ask) → IsServeRun turns ask before after result → HasServeCauses turns ask.workers before after result
+    → IsSome before.files → IsSound task before.files → AreQuiet task before after → IsLeft turns task before after result
 left_task turns task ask before after result is run causes told sound quiet =
-    subst (λ (t : Option Task). IsLeft t result) (sym is)
+    subst (λ (t : Option Task). IsLeft turns t before after result) (sym is)
     (left_of turns ask before after result run causes told (subst (λ (t : Option Task). IsSound t before.files) is sound) (subst (λ (t : Option Task). AreQuiet t before after) is quiet))

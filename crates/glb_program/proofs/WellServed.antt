@@ -34,7 +34,7 @@ well_end lane.Stopped p s c = inl refl
 well_end lane.PortEnd p s c = inr refl
 well_end lane.PortFault p s c = absurd (cc)
 well_end lane.CellFault p s c = absurd (cc)
-well_end lane.Above p s c = absurd (cc)
+well_end (lane.Above known newest) p s c = absurd (cc)
 well_end lane.Spent p s c = absurd (cc)
 
 -- a lane whose closing look was refused did not end well
@@ -47,14 +47,14 @@ not_shut lane.PortFault e is (inl h) = cc
 not_shut lane.PortFault e is (inr h) = cc
 not_shut lane.CellFault e is (inl h) = cc
 not_shut lane.CellFault e is (inr h) = cc
-not_shut lane.Above e is (inl h) = cc
-not_shut lane.Above e is (inr h) = cc
+not_shut (lane.Above known newest) e is (inl h) = cc
+not_shut (lane.Above known newest) e is (inr h) = cc
 not_shut lane.Spent e is (inl h) = cc
 not_shut lane.Spent e is (inr h) = cc
 
-not_past : (e : Ended) → e ≡ lane.Above → (e ≡ lane.Stopped) ⊎ (e ≡ lane.PortEnd) → ⊥
-not_past e is (inl h) = cc
-not_past e is (inr h) = cc
+not_past : (e : Ended) (known newest : ℕ) → e ≡ lane.Above known newest → (e ≡ lane.Stopped) ⊎ (e ≡ lane.PortEnd) → ⊥
+not_past e known newest is (inl h) = cc
+not_past e known newest is (inr h) = cc
 
 -- a lane that ended well stands over the newest history
 well_done : (turns : ℕ) (first : Version) (rest : List Version) (w : ℕ) (b c : LaneTold) (e : Ended) → IsDone turns first rest w b c e → (e ≡ lane.Stopped) ⊎ (e ≡ lane.PortEnd) → IsWellDone turns (first ∷ rest) w b c
@@ -71,7 +71,7 @@ well_done turns first rest w b c e d well = elim d.which [
     well = subst (λ (x : Ended). (x ≡ lane.Stopped) ⊎ (x ≡ lane.PortEnd)) newest.ended_is well;
   }
   | inr (inl seen) ↦ absurd (not_shut d.served e seen.ended_is well)
-  | inr (inr past) ↦ absurd (not_past e past.ended_is well)
+  | inr (inr past) ↦ absurd (not_past e past.last past.newest past.ended_is well)
 ]
 
 none_of : (test : Ended → Bool) (e : Ended) (ends : List Ended) → list_any test (e ∷ ends) ≡ false → (test e ≡ false) × (list_any test ends ≡ false)

@@ -8,7 +8,7 @@ use Rattle.glb_program.specs.Words.{Ask, Task, say, serve, large}
 use Rattle.glb_program.specs.Outcome.{HasCauses}
 use Rattle.glb_program.specs.Run as short
 use Rattle.glb_program.specs.Serve.{IsServeRun, loads_of_serve}
-use Rattle.glb_program.specs.Causes.{AnyLane, HasDoorFault, HasPortFault}
+use Rattle.glb_program.specs.Causes.{AnyLane, AreSpent, HasDoorFault, HasLaneCauses, HasPortFault, IsPastMaps}
 use Rattle.glb_program.specs.Map.{HoldsTopology}
 use Rattle.glb_program.specs.Large.{HasLargeWorld, IsLargeRun, IsSummedRun}
 use Rattle.glb_program.specs.Served.{IsWellServed}
@@ -33,21 +33,22 @@ loads_of (Some (say ask)) = short.loads_of (Some ask)
 loads_of (Some (serve ask)) = loads_of_serve ask
 loads_of (Some (large groups)) = λ _. []
 
--- no count of `serve` falls, and a fault of the files, the feed or an output is answered only where its count rose
-pub record HasServeCauses (before after : Surroundings) (result : Status) : Type 0 where
+-- no count of `serve` falls, and a fault of the files, the feed or an output is answered only where its count rose, and one of the lanes only with its cause
+pub record HasServeCauses (turns workers : ℕ) (before after : Surroundings) (result : Status) : Type 0 where
   pub files_later : before.files_faults ≤ after.files_faults
   pub feed_later : before.stage.feed_faults ≤ after.stage.feed_faults
   pub out_later : before.stage.out_faults ≤ after.stage.out_faults
   pub maps_later : before.stage.maps_faults ≤ after.stage.maps_faults
   pub source : result ≡ status.SourceFault → Rose before.files_faults after.files_faults ⊎ Rose before.stage.feed_faults after.stage.feed_faults
   pub sink : result ≡ status.SinkFault → Rose before.stage.out_faults after.stage.out_faults ⊎ Rose before.stage.maps_faults after.stage.maps_faults
+  pub lanes : HasLaneCauses turns workers before.stage.lent after.stage.lent result
 
 -- what the counts of faults say of an answer
-abbrev pub AreCauses : Option Task → Surroundings → Surroundings → Status → Type 0
-AreCauses None before after result = HasCauses (faults_of before) (faults_of after) result
-AreCauses (Some (say ask)) before after result = HasCauses (faults_of before) (faults_of after) result
-AreCauses (Some (serve ask)) before after result = HasServeCauses before after result
-AreCauses (Some (large groups)) before after result = HasCauses (faults_of before) (faults_of after) result
+abbrev pub AreCauses : ℕ → Option Task → Surroundings → Surroundings → Status → Type 0
+AreCauses turns None before after result = HasCauses (faults_of before) (faults_of after) result
+AreCauses turns (Some (say ask)) before after result = HasCauses (faults_of before) (faults_of after) result
+AreCauses turns (Some (serve ask)) before after result = HasServeCauses turns ask.workers before after result
+AreCauses turns (Some (large groups)) before after result = HasCauses (faults_of before) (faults_of after) result
 
 -- the files are such that all is well
 abbrev pub IsSound : Option Task → Option Shelved → Type 0
@@ -56,28 +57,30 @@ IsSound (Some (say ask)) files = short.IsSound (Some ask) files
 IsSound (Some (serve ask)) files = HoldsTopology ask.topology files
 IsSound (Some (large groups)) files = HasLargeWorld groups
 
--- no count of faults rose: of the files, the feed and both outputs, of a port or of a door
-pub record IsServeQuiet (before after : Surroundings) : Type 0 where
+-- no count of faults rose: of the files, the feed and both outputs, of a port or a door of the first lanes
+pub record IsServeQuiet (workers : ℕ) (before after : Surroundings) : Type 0 where
   pub files : Rose before.files_faults after.files_faults → ⊥
   pub feed : Rose before.stage.feed_faults after.stage.feed_faults → ⊥
   pub out : Rose before.stage.out_faults after.stage.out_faults → ⊥
   pub maps : Rose before.stage.maps_faults after.stage.maps_faults → ⊥
-  pub ports : AnyLane HasPortFault before.stage.lent.lanes after.stage.lent.lanes → ⊥
-  pub doors : AnyLane HasDoorFault before.stage.lent.lanes after.stage.lent.lanes → ⊥
+  pub ports : AnyLane workers HasPortFault before.stage.lent.lanes after.stage.lent.lanes → ⊥
+  pub doors : AnyLane workers HasDoorFault before.stage.lent.lanes after.stage.lent.lanes → ⊥
 
 -- no count of faults rose of what the task asks
 abbrev pub AreQuiet : Option Task → Surroundings → Surroundings → Type 0
 AreQuiet None before after = Unit {0}
 AreQuiet (Some (say ask)) before after = (Rose before.files_faults after.files_faults → ⊥) × (Rose before.stage.out_faults after.stage.out_faults → ⊥)
-AreQuiet (Some (serve ask)) before after = IsServeQuiet before after
+AreQuiet (Some (serve ask)) before after = IsServeQuiet ask.workers before after
 AreQuiet (Some (large groups)) before after = Rose before.stage.out_faults after.stage.out_faults → ⊥
 
--- The answers that are left then: status 0 or want of memory; of `serve` also that turns were spent, or that a door showed a serial that was not published.
-abbrev pub IsLeft : Option Task → Status → Type 0
-IsLeft None result = ⊥
-IsLeft (Some (say ask)) result = (result ≡ status.Ok) ⊎ (result ≡ status.NoMemory)
-IsLeft (Some (serve ask)) result = (result ≡ status.Ok) ⊎ (result ≡ status.NoMemory) ⊎ (result ≡ status.Spent) ⊎ (result ≡ status.CellFault)
-IsLeft (Some (large groups)) result = (result ≡ status.Ok) ⊎ (result ≡ status.NoMemory)
+-- The answers that are left then: status 0 or want of memory; of `serve` also that turns were spent, where they were, and that a door showed a serial that was not published, where one did.
+abbrev pub IsLeft : ℕ → Option Task → Surroundings → Surroundings → Status → Type 0
+IsLeft turns None before after result = ⊥
+IsLeft turns (Some (say ask)) before after result = (result ≡ status.Ok) ⊎ (result ≡ status.NoMemory)
+IsLeft turns (Some (serve ask)) before after result = (result ≡ status.Ok) ⊎ (result ≡ status.NoMemory)
+    ⊎ ((result ≡ status.Spent) × AreSpent turns ask.workers before.stage.lent after.stage.lent)
+    ⊎ ((result ≡ status.CellFault) × IsPastMaps ask.workers before.stage.lent after.stage.lent)
+IsLeft turns (Some (large groups)) before after result = (result ≡ status.Ok) ⊎ (result ≡ status.NoMemory)
 
 -- what status 0 says
 abbrev pub IsGoodRun : ℕ → Option Task → Surroundings → Surroundings → Type 0

@@ -41,7 +41,7 @@ is_spent _ = false
 
 abbrev pub is_cell_fault : Ended → Bool
 is_cell_fault lane.CellFault = true
-is_cell_fault lane.Above = true
+is_cell_fault (lane.Above known newest) = true
 is_cell_fault _ = false
 
 -- a port's fault comes first, then what was spent, then the cell's fault
@@ -55,15 +55,10 @@ status_of feed.SinkFault port spent cell = status.SinkFault
 status_of feed.Spent port spent cell = status_by port true cell
 status_of feed.Ended port spent cell = status_by port spent cell
 
--- the first door was asked for k places
-abbrev pub AskedFirst : ℕ → List ℕ → List ℕ → Type 0
+-- the first door was asked for k places, and may have counted faults; nothing else was asked of the lanes
+abbrev pub AskedFirst : ℕ → List LaneTold → List LaneTold → Type 0
 AskedFirst k [] after = after ≡ []
-AskedFirst k (a ∷ before) after = after ≡ raised a k ∷ before
-
--- nothing is told of the lanes but that the first door may have counted faults
-abbrev pub IsFirstDoor : List LaneTold → List LaneTold → Type 0
-IsFirstDoor [] after = after ≡ []
-IsFirstDoor (b ∷ before) after = (faults : ℕ) × (b.door_faults ≤ faults) × (after ≡ record b { door_faults = faults } ∷ before)
+AskedFirst k (b ∷ before) after = (faults : ℕ) × (b.door_faults ≤ faults) × (after ≡ record b { asked = raised b.asked k; door_faults = faults } ∷ before)
 
 -- the count of the first lane's door rose
 abbrev pub FirstDoorRose : List LaneTold → List LaneTold → Type 0
@@ -94,17 +89,15 @@ then_failed n = all_ready n ++ opening.Failed ∷ []
 -- The map cell was not opened: a place in it was refused, or memory was wanting.
 pub record IsUnopened (workers : ℕ) (before after : Stage) (result : Status) : Type 0 where
   pub why : (result ≡ status.NoMemory) ⊎ ((result ≡ status.CellFault) × FirstDoorRose before.lent.lanes after.lent.lanes)
-  pub asked : (k : ℕ) × (k ≤ workers) × AskedFirst k before.asked after.asked
-  pub door : IsFirstDoor before.lent.lanes after.lent.lanes
+  pub asked : (k : ℕ) × (k ≤ workers) × AskedFirst k before.lent.lanes after.lent.lanes
   pub lent : after.lent ≡ record before.lent { lanes = after.lent.lanes }
-  pub rest : after ≡ record before { lent = after.lent; asked = after.asked }
+  pub rest : after ≡ record before { lent = after.lent }
 
 -- The map cell was opened, with a place for each worker.
 pub record IsPlaced (workers : ℕ) (before after : Stage) : Type 0 where
-  pub asked : AskedFirst workers before.asked after.asked
-  pub door : IsFirstDoor before.lent.lanes after.lent.lanes
+  pub asked : AskedFirst workers before.lent.lanes after.lent.lanes
   pub lent : after.lent ≡ record before.lent { lanes = after.lent.lanes }
-  pub rest : after ≡ record before { lent = after.lent; asked = after.asked }
+  pub rest : after ≡ record before { lent = after.lent }
 
 -- A port did not open, and none behind it was opened.
 pub record IsShut (listen : Listen) (workers : ℕ) (before after : Stage) (result : Status) : Type 0 where
@@ -139,9 +132,9 @@ pub record IsServed (turns workers : ℕ) (first : Version) (before after : Stag
   pub result_is : result ≡ status_of end (list_any is_port_fault ends) (list_any is_spent ends) (list_any is_cell_fault ends)
   pub source : end ≡ feed.SourceFault → Rose before.feed_faults after.feed_faults
   pub sink : end ≡ feed.SinkFault → Rose before.out_faults after.out_faults ⊎ Rose before.maps_faults after.maps_faults
-  pub port : result ≡ status.PortFault → AnyLane HasPortFault before.lent.lanes after.lent.lanes
-  pub spent : result ≡ status.Spent → (end ≡ feed.Spent) ⊎ AnyLane (HasTaken turns) before.lent.lanes after.lent.lanes
-  pub cell : result ≡ status.CellFault → AnyLane (HasCellFault (length (first ∷ driven.rest))) before.lent.lanes after.lent.lanes
+  pub port : result ≡ status.PortFault → AnyLane workers HasPortFault before.lent.lanes after.lent.lanes
+  pub spent : result ≡ status.Spent → (end ≡ feed.Spent) ⊎ AnyLane workers (HasTaken turns) before.lent.lanes after.lent.lanes
+  pub cell : result ≡ status.CellFault → AnyLane workers (HasCellFault (length (first ∷ driven.rest))) before.lent.lanes after.lent.lanes
   pub later : (before.feed_faults ≤ after.feed_faults) × (before.out_faults ≤ after.out_faults) × (before.maps_faults ≤ after.maps_faults)
 
 -- what follows where the map cell was opened with a first version

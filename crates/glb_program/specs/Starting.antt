@@ -17,7 +17,7 @@ use Rattle.glb_program.specs.declared.starting.Start.{Start}
 use Rattle.glb_program.specs.declared.starting.Start.TheVariants as start
 use Rattle.map_cell.specs.declared.door.OpenFault.{OpenFault}
 use Rattle.map_cell.specs.declared.door.OpenFault.TheVariants.{CellFault as Shut}
-use Rattle.glb_program.specs.Serve.{AreOpened, AskedFirst, FirstDoorRose, IsFirstDoor, all_ready, is_cell_fault, is_port_fault, is_spent, status_of, then_failed}
+use Rattle.glb_program.specs.Serve.{AreOpened, AskedFirst, FirstDoorRose, all_ready, is_cell_fault, is_port_fault, is_spent, status_of, then_failed}
 
 -- the ports of the first n lanes were opened, or those up to one that failed
 abbrev pub HasOpened : Listen → ℕ → Opening → List LaneTold → List LaneTold → Type 0
@@ -39,12 +39,9 @@ IsStart listen n text start.NoPort before after =
 IsStart listen n text start.NoSink before after =
     AreOpened listen (all_ready n) before.lanes after.lanes × BothTell before.maps after.maps (IsCut [] text) × Rose before.maps_faults after.maps_faults
 
--- The first door was asked for n places; or, where it was not to give one or memory was wanting, for no more than n, and then its count rose where it was the door.
-abbrev pub IsAskedAll : ℕ → List ℕ → List ℕ → List LaneTold → List LaneTold → Type 0
-IsAskedAll n asked asked' before after = AskedFirst n asked asked' × IsFirstDoor before after
-
-abbrev pub IsAskedSome : ℕ → OpenFault → List ℕ → List ℕ → List LaneTold → List LaneTold → Type 0
-IsAskedSome n fault asked asked' before after = ((k : ℕ) × (k ≤ n) × AskedFirst k asked asked') × IsFirstDoor before after × (fault ≡ Shut → FirstDoorRose before after)
+-- Where the first door was not to give a place or memory was wanting, it was asked for no more than n, and its count rose where it was the door.
+abbrev pub IsAskedSome : ℕ → OpenFault → List LaneTold → List LaneTold → Type 0
+IsAskedSome n fault before after = ((k : ℕ) × (k ≤ n) × AskedFirst k before after) × (fault ≡ Shut → FirstDoorRose before after)
 
 -- a test of the end at a place, where there is one
 abbrev pub at_place : (Ended → Bool) → Option Ended → Bool

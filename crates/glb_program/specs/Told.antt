@@ -11,10 +11,9 @@ use Rattle.drive.specs.Driven.{Lent}
 use Rattle.drive.specs.declared.lane.Lane.{Lane}
 use Rattle.glb_program.specs.Outcome.{Faults, Outside}
 
--- What all but the files tells at one moment: what a drive is lent, how often the door of each lane was asked for a place, and the counts of faults of the feed and of both outputs.
+-- What all but the files tells at one moment: what a drive is lent, and the counts of faults of the feed and of both outputs.
 pub record Stage : Type 0 where
   pub lent : Lent
-  pub asked : List ℕ
   pub feed_faults : ℕ
   pub out_faults : ℕ
   pub maps_faults : ℕ
@@ -26,24 +25,20 @@ pub record Surroundings : Type 0 where
   pub stage : Stage
 
 -- a lane, by what its port, gate and door tell
-abbrev pub lane_told : {P G D : Type 0} → (P → Option PortTold) → (P → ℕ) → (G → Option GateTold) → (D → ℕ) → (D → ℕ) → (D → ℕ) → Lane P G D → LaneTold
-lane_told port port_faults gate looks greatest door_faults lane = record {
+abbrev pub lane_told : {P G D : Type 0} → (P → Option PortTold) → (P → ℕ) → (G → Option GateTold) → (D → ℕ) → (D → ℕ) → (D → ℕ) → (D → ℕ) → Lane P G D → LaneTold
+lane_told port port_faults gate asked looks greatest door_faults lane = record {
   port = port lane.port;
   port_faults = port_faults lane.port;
   gate = gate lane.gate;
+  asked = asked lane.door;
   looks = looks lane.door;
   greatest = greatest lane.door;
   door_faults = door_faults lane.door;
 }
 
--- how often a lane's door was asked for a place
-abbrev pub lane_asked : {P G D : Type 0} → (D → ℕ) → Lane P G D → ℕ
-lane_asked asked lane = asked lane.door
-
-abbrev pub stage : Option Fed → Option Written → Option Written → Option (List PaceCall) → List LaneTold → List ℕ → ℕ → ℕ → ℕ → Stage
-stage feed out maps pace lanes asked feed_faults out_faults maps_faults = record {
+abbrev pub stage : Option Fed → Option Written → Option Written → Option (List PaceCall) → List LaneTold → ℕ → ℕ → ℕ → Stage
+stage feed out maps pace lanes feed_faults out_faults maps_faults = record {
   lent = record { feed = feed; out = out; maps = maps; pace = pace; lanes = lanes };
-  asked = asked;
   feed_faults = feed_faults;
   out_faults = out_faults;
   maps_faults = maps_faults;

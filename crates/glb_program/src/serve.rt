@@ -6,9 +6,9 @@ ghost use Rattle.demand_feed.specs.declared.limits.TheConstants.{MOST_TURNS};
 ghost use Rattle.mapper.specs.Mappers.{IsFirst};
 ghost use Rattle.glb_program.specs.Outcome.{AreLoaded, AreLoadsOf};
 ghost use Rattle.glb_program.specs.Program.{HasServeCauses};
-ghost use Rattle.glb_program.specs.Serve.{IsFirstSession, IsServeRun, IsSession, is_cell_fault, is_port_fault, is_spent, loads_of_serve, status_by};
-ghost use Rattle.glb_program.specs.Starting.{IsAskedAll, IsAskedSome, at_place, status_at};
-ghost use Rattle.glb_program.specs.Told.{lane_asked, lane_told, stage, surroundings};
+ghost use Rattle.glb_program.specs.Serve.{AskedFirst, IsFirstSession, IsServeRun, IsSession, is_cell_fault, is_port_fault, is_spent, loads_of_serve, status_by};
+ghost use Rattle.glb_program.specs.Starting.{IsAskedSome, at_place, status_at};
+ghost use Rattle.glb_program.specs.Told.{lane_told, stage, surroundings};
 
 use crate::ending::finish;
 use crate::files::load_topology;
@@ -52,7 +52,7 @@ fn has_spent(places: &[Option<Ended>]) -> bool
 fn has_cell_fault(places: &[Option<Ended>]) -> bool
     ensures { result ≡ list_any (at_place is_cell_fault) places.now }
 {
-    places.iter().any(|place| matches!(place, Some(Ended::CellFault | Ended::Above)))
+    places.iter().any(|place| matches!(place, Some(Ended::CellFault | Ended::Above { .. })))
 }
 
 fn status_by(port: bool, spent: bool, cell: bool) -> Status
@@ -108,8 +108,8 @@ fn open_by<J: Naming, R: Wait, P: Port, G: Gate, D: Door>(
     requires workers { workers ≤ 16 }
     ensures mapper { IfOk result (λ r. IsFirst topology r.0) }
     ensures viewers { IfOk result (λ r. (vec_len r.1 ≡ workers) × All (λ v. (v.seen ≡ r.0.history) × (v.told ≡ r.0.history)) r.1.items) }
-    ensures asked { IfOk result (λ _. IsAskedAll workers (lane_asked D.asked lane.old ∷ []) (lane_asked D.asked lane.new ∷ []) (lane_told P.told P.faults G.told D.looks D.greatest D.faults lane.old ∷ []) (lane_told P.told P.faults G.told D.looks D.greatest D.faults lane.new ∷ [])) }
-    ensures refused { IfErr result (λ e. IsAskedSome workers e (lane_asked D.asked lane.old ∷ []) (lane_asked D.asked lane.new ∷ []) (lane_told P.told P.faults G.told D.looks D.greatest D.faults lane.old ∷ []) (lane_told P.told P.faults G.told D.looks D.greatest D.faults lane.new ∷ [])) }
+    ensures asked { IfOk result (λ _. AskedFirst workers (lane_told P.told P.faults G.told D.asked D.looks D.greatest D.faults lane.old ∷ []) (lane_told P.told P.faults G.told D.asked D.looks D.greatest D.faults lane.new ∷ [])) }
+    ensures refused { IfErr result (λ e. IsAskedSome workers e (lane_told P.told P.faults G.told D.asked D.looks D.greatest D.faults lane.old ∷ []) (lane_told P.told P.faults G.told D.asked D.looks D.greatest D.faults lane.new ∷ [])) }
 {
     let mut steps = Steps::<Proposals>::new();
     Mapper::<J>::open(
@@ -138,8 +138,8 @@ fn open_first<J: Naming, R: Wait, P: Port, G: Gate, D: Door>(
     ensures mapper { IfOk result (λ r. IsFirst topology r.0) }
     ensures viewers { IfOk result (λ r. (vec_len r.1 ≡ workers) × All (λ v. (v.seen ≡ r.0.history) × (v.told ≡ r.0.history)) r.1.items) }
     ensures length { length lanes.new ≡ length lanes.old }
-    ensures asked { IfOk result (λ _. IsAskedAll workers (map (lane_asked D.asked) lanes.old) (map (lane_asked D.asked) lanes.new) (map (lane_told P.told P.faults G.told D.looks D.greatest D.faults) lanes.old) (map (lane_told P.told P.faults G.told D.looks D.greatest D.faults) lanes.new)) }
-    ensures refused { IfErr result (λ e. IsAskedSome workers e (map (lane_asked D.asked) lanes.old) (map (lane_asked D.asked) lanes.new) (map (lane_told P.told P.faults G.told D.looks D.greatest D.faults) lanes.old) (map (lane_told P.told P.faults G.told D.looks D.greatest D.faults) lanes.new)) }
+    ensures asked { IfOk result (λ _. AskedFirst workers (map (lane_told P.told P.faults G.told D.asked D.looks D.greatest D.faults) lanes.old) (map (lane_told P.told P.faults G.told D.asked D.looks D.greatest D.faults) lanes.new)) }
+    ensures refused { IfErr result (λ e. IsAskedSome workers e (map (lane_told P.told P.faults G.told D.asked D.looks D.greatest D.faults) lanes.old) (map (lane_told P.told P.faults G.told D.asked D.looks D.greatest D.faults) lanes.new)) }
 {
     open_by::<J, R, P, G, D>(rt, alloc, history, topology, workers, &mut lanes[0])
 }
@@ -159,8 +159,8 @@ fn open_mapper<J: Naming, R: Wait, P: Port, G: Gate, D: Door>(
     ensures mapper { IfOk result (λ r. IsFirst topology r.0) }
     ensures viewers { IfOk result (λ r. (vec_len r.1 ≡ workers) × All (λ v. (v.seen ≡ r.0.history) × (v.told ≡ r.0.history)) r.1.items) }
     ensures length { length lanes.new ≡ length lanes.old }
-    ensures asked { IfOk result (λ _. IsAskedAll workers (map (lane_asked D.asked) lanes.old) (map (lane_asked D.asked) lanes.new) (map (lane_told P.told P.faults G.told D.looks D.greatest D.faults) lanes.old) (map (lane_told P.told P.faults G.told D.looks D.greatest D.faults) lanes.new)) }
-    ensures refused { IfErr result (λ e. IsAskedSome workers e (map (lane_asked D.asked) lanes.old) (map (lane_asked D.asked) lanes.new) (map (lane_told P.told P.faults G.told D.looks D.greatest D.faults) lanes.old) (map (lane_told P.told P.faults G.told D.looks D.greatest D.faults) lanes.new)) }
+    ensures asked { IfOk result (λ _. AskedFirst workers (map (lane_told P.told P.faults G.told D.asked D.looks D.greatest D.faults) lanes.old) (map (lane_told P.told P.faults G.told D.asked D.looks D.greatest D.faults) lanes.new)) }
+    ensures refused { IfErr result (λ e. IsAskedSome workers e (map (lane_told P.told P.faults G.told D.asked D.looks D.greatest D.faults) lanes.old) (map (lane_told P.told P.faults G.told D.asked D.looks D.greatest D.faults) lanes.new)) }
 {
     let (first, _others) = lanes.split_at_mut(1);
     open_first::<J, R, P, G, D>(rt, alloc, history, topology, workers, first)
@@ -194,7 +194,7 @@ fn serve_first<
     requires viewers { (vec_len viewers ≡ workers) × All (λ v. (v.seen ≡ mapper.history) × (v.told ≡ mapper.history)) viewers.items }
     requires workers { (workers ≤ 16) × (workers ≤ length lanes.old) }
     requires turns { turns ≤ MOST_TURNS }
-    ensures { IsFirstSession turns listen workers mapper.newest (stage (S.told feed.old) (K.told out.old) (K.told maps.old) (M.told pace.old) (map (lane_told P.told P.faults G.told D.looks D.greatest D.faults) lanes.old) (map (lane_asked D.asked) lanes.old) (S.faults feed.old) (K.faults out.old) (K.faults maps.old)) (stage (S.told feed.new) (K.told out.new) (K.told maps.new) (M.told pace.new) (map (lane_told P.told P.faults G.told D.looks D.greatest D.faults) lanes.new) (map (lane_asked D.asked) lanes.new) (S.faults feed.new) (K.faults out.new) (K.faults maps.new)) result }
+    ensures { IsFirstSession turns listen workers mapper.newest (stage (S.told feed.old) (K.told out.old) (K.told maps.old) (M.told pace.old) (map (lane_told P.told P.faults G.told D.asked D.looks D.greatest D.faults) lanes.old) (S.faults feed.old) (K.faults out.old) (K.faults maps.old)) (stage (S.told feed.new) (K.told out.new) (K.told maps.new) (M.told pace.new) (map (lane_told P.told P.faults G.told D.asked D.looks D.greatest D.faults) lanes.new) (S.faults feed.new) (K.faults out.new) (K.faults maps.new)) result }
 {
     match start_lanes(mapper.text(), &listen, workers, maps, lanes) {
         Start::NoPort => {
@@ -241,7 +241,7 @@ fn serve_topology<
     requires book { history ≡ J.book }
     requires workers { (workers ≤ 16) × (workers ≤ length lanes.old) × (1 ≤ length lanes.old) }
     requires turns { turns ≤ MOST_TURNS }
-    ensures { IsSession turns listen workers topology (stage (S.told feed.old) (K.told out.old) (K.told maps.old) (M.told pace.old) (map (lane_told P.told P.faults G.told D.looks D.greatest D.faults) lanes.old) (map (lane_asked D.asked) lanes.old) (S.faults feed.old) (K.faults out.old) (K.faults maps.old)) (stage (S.told feed.new) (K.told out.new) (K.told maps.new) (M.told pace.new) (map (lane_told P.told P.faults G.told D.looks D.greatest D.faults) lanes.new) (map (lane_asked D.asked) lanes.new) (S.faults feed.new) (K.faults out.new) (K.faults maps.new)) result }
+    ensures { IsSession turns listen workers topology (stage (S.told feed.old) (K.told out.old) (K.told maps.old) (M.told pace.old) (map (lane_told P.told P.faults G.told D.asked D.looks D.greatest D.faults) lanes.old) (S.faults feed.old) (K.faults out.old) (K.faults maps.old)) (stage (S.told feed.new) (K.told out.new) (K.told maps.new) (M.told pace.new) (map (lane_told P.told P.faults G.told D.asked D.looks D.greatest D.faults) lanes.new) (S.faults feed.new) (K.faults out.new) (K.faults maps.new)) result }
 {
     match open_mapper::<J, R, P, G, D>(rt, alloc, history, topology, workers, lanes) {
         Ok((mapper, viewers)) => serve_first(
@@ -278,10 +278,10 @@ pub fn serve<
     requires workers { (1 ≤ workers) × (workers ≤ 16) }
     requires lanes { length lanes.old ≡ 16 }
     requires turns { turns ≤ MOST_TURNS }
-    ensures run { IsServeRun turns (record { topology = topology.now; listen = listen; workers = workers }) (surroundings (F.told files.old) (F.faults files.old) (stage (S.told feed.old) (K.told out.old) (K.told maps.old) (M.told pace.old) (map (lane_told P.told P.faults G.told D.looks D.greatest D.faults) lanes.old) (map (lane_asked D.asked) lanes.old) (S.faults feed.old) (K.faults out.old) (K.faults maps.old))) (surroundings (F.told files.new) (F.faults files.new) (stage (S.told feed.new) (K.told out.new) (K.told maps.new) (M.told pace.new) (map (lane_told P.told P.faults G.told D.looks D.greatest D.faults) lanes.new) (map (lane_asked D.asked) lanes.new) (S.faults feed.new) (K.faults out.new) (K.faults maps.new))) result }
+    ensures run { IsServeRun turns (record { topology = topology.now; listen = listen; workers = workers }) (surroundings (F.told files.old) (F.faults files.old) (stage (S.told feed.old) (K.told out.old) (K.told maps.old) (M.told pace.old) (map (lane_told P.told P.faults G.told D.asked D.looks D.greatest D.faults) lanes.old) (S.faults feed.old) (K.faults out.old) (K.faults maps.old))) (surroundings (F.told files.new) (F.faults files.new) (stage (S.told feed.new) (K.told out.new) (K.told maps.new) (M.told pace.new) (map (lane_told P.told P.faults G.told D.asked D.looks D.greatest D.faults) lanes.new) (S.faults feed.new) (K.faults out.new) (K.faults maps.new))) result }
     ensures noted { BothTell (F.told files.old) (F.told files.new) (AreLoadsOf (loads_of_serve (record { topology = topology.now; listen = listen; workers = workers }))) }
     ensures loaded { result ≢ Status.SourceFault → result ≢ Status.NoMemory → BothTell (F.told files.old) (F.told files.new) (AreLoaded (loads_of_serve (record { topology = topology.now; listen = listen; workers = workers }))) }
-    ensures causes { HasServeCauses (surroundings (F.told files.old) (F.faults files.old) (stage (S.told feed.old) (K.told out.old) (K.told maps.old) (M.told pace.old) (map (lane_told P.told P.faults G.told D.looks D.greatest D.faults) lanes.old) (map (lane_asked D.asked) lanes.old) (S.faults feed.old) (K.faults out.old) (K.faults maps.old))) (surroundings (F.told files.new) (F.faults files.new) (stage (S.told feed.new) (K.told out.new) (K.told maps.new) (M.told pace.new) (map (lane_told P.told P.faults G.told D.looks D.greatest D.faults) lanes.new) (map (lane_asked D.asked) lanes.new) (S.faults feed.new) (K.faults out.new) (K.faults maps.new))) result }
+    ensures causes { HasServeCauses turns workers (surroundings (F.told files.old) (F.faults files.old) (stage (S.told feed.old) (K.told out.old) (K.told maps.old) (M.told pace.old) (map (lane_told P.told P.faults G.told D.asked D.looks D.greatest D.faults) lanes.old) (S.faults feed.old) (K.faults out.old) (K.faults maps.old))) (surroundings (F.told files.new) (F.faults files.new) (stage (S.told feed.new) (K.told out.new) (K.told maps.new) (M.told pace.new) (map (lane_told P.told P.faults G.told D.asked D.looks D.greatest D.faults) lanes.new) (S.faults feed.new) (K.faults out.new) (K.faults maps.new))) result }
 {
     match load_topology(alloc, files, topology) {
         Ok(topology) => serve_topology::<Brand, R, S, K, P, G, D, M>(

@@ -1,7 +1,7 @@
 //! The start of a session: the ports are opened, and the first map's text is put.
 ghost use Rattle.std.specs.Prelude.{◌≡◌, ◌≤◌, length, map};
 ghost use Rattle.glb_program.specs.Starting.{HasOpened, IsStart};
-ghost use Rattle.glb_program.specs.Told.{lane_asked, lane_told};
+ghost use Rattle.glb_program.specs.Told.{lane_told};
 
 use addr_text::Listen;
 use drive::Lane;
@@ -22,8 +22,8 @@ pub enum Start {
 /// Opens the port of one lane.
 fn open_port<P: Port, G: Gate, D: Door>(lanes: &mut [Lane<P, G, D>], listen: &Listen) -> Opening
     requires { length lanes.old ≡ 1 }
-    ensures same { (length lanes.new ≡ length lanes.old) × (map (lane_asked D.asked) lanes.new ≡ map (lane_asked D.asked) lanes.old) }
-    ensures opened { HasOpened listen.now 1 result (map (lane_told P.told P.faults G.told D.looks D.greatest D.faults) lanes.old) (map (lane_told P.told P.faults G.told D.looks D.greatest D.faults) lanes.new) }
+    ensures same { length lanes.new ≡ length lanes.old }
+    ensures opened { HasOpened listen.now 1 result (map (lane_told P.told P.faults G.told D.asked D.looks D.greatest D.faults) lanes.old) (map (lane_told P.told P.faults G.told D.asked D.looks D.greatest D.faults) lanes.new) }
 {
     lanes[0].port.open(listen)
 }
@@ -35,8 +35,8 @@ fn open_ports<P: Port, G: Gate, D: Door>(
     listen: &Listen,
 ) -> Opening
     requires { count ≤ length lanes.old }
-    ensures same { (length lanes.new ≡ length lanes.old) × (map (lane_asked D.asked) lanes.new ≡ map (lane_asked D.asked) lanes.old) }
-    ensures opened { HasOpened listen.now count result (map (lane_told P.told P.faults G.told D.looks D.greatest D.faults) lanes.old) (map (lane_told P.told P.faults G.told D.looks D.greatest D.faults) lanes.new) }
+    ensures same { length lanes.new ≡ length lanes.old }
+    ensures opened { HasOpened listen.now count result (map (lane_told P.told P.faults G.told D.asked D.looks D.greatest D.faults) lanes.old) (map (lane_told P.told P.faults G.told D.asked D.looks D.greatest D.faults) lanes.new) }
 {
     if count == 0 {
         return Opening::Ready;
@@ -57,10 +57,10 @@ pub fn start_lanes<K: Sink, P: Port, G: Gate, D: Door>(
     lanes: &mut [Lane<P, G, D>],
 ) -> Start
     requires { workers ≤ length lanes.old }
-    ensures same { (length lanes.new ≡ length lanes.old) × (map (lane_asked D.asked) lanes.new ≡ map (lane_asked D.asked) lanes.old) }
+    ensures same { length lanes.new ≡ length lanes.old }
     ensures start { IsStart listen.now workers text.now result
-        (record { maps = K.told maps.old; maps_faults = K.faults maps.old; lanes = map (lane_told P.told P.faults G.told D.looks D.greatest D.faults) lanes.old })
-        (record { maps = K.told maps.new; maps_faults = K.faults maps.new; lanes = map (lane_told P.told P.faults G.told D.looks D.greatest D.faults) lanes.new }) }
+        (record { maps = K.told maps.old; maps_faults = K.faults maps.old; lanes = map (lane_told P.told P.faults G.told D.asked D.looks D.greatest D.faults) lanes.old })
+        (record { maps = K.told maps.new; maps_faults = K.faults maps.new; lanes = map (lane_told P.told P.faults G.told D.asked D.looks D.greatest D.faults) lanes.new }) }
 {
     match open_ports(lanes, workers, listen) {
         Opening::Failed => Start::NoPort,
