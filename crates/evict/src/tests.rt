@@ -1,6 +1,6 @@
 //! Plays by hand, put by put.
 
-ghost use Rattle.std.specs.Prelude.{◌≡◌, IsTrue, OnOk, length};
+ghost use Rattle.std.specs.Prelude.{OnOk};
 ghost use Rattle.evict.specs.Standing.{IsReady};
 
 use crate::{Eviction, Freed, State};
@@ -32,8 +32,6 @@ struct Turn {
     free: &'static [u64],
     /// Group, place and the node that refuses it, if any.
     refusers: &'static [(u32, u8, Option<u32>)],
-    /// Group, place and whom it would displace, if anybody: the node, and the group, place and units.
-    rivals: &'static [(u32, u8, Option<(u32, u32, u8, u64)>)],
 }
 
 /// Turns on an instance, worked out by hand.
@@ -63,7 +61,6 @@ const PLAYS: &[Play] = &[
                 pointers: &[0, 0],
                 free: &[8, 0],
                 refusers: &[(1, 0, None)],
-                rivals: &[(0, 0, None)],
             },
             Turn {
                 group: 0,
@@ -73,7 +70,6 @@ const PLAYS: &[Play] = &[
                 pointers: &[0, 1],
                 free: &[0, 6],
                 refusers: &[(1, 0, Some(1)), (1, 1, None)],
-                rivals: &[(0, 0, Some((1, 1, 0, 2))), (1, 1, None)],
             },
             Turn {
                 group: 1,
@@ -83,7 +79,6 @@ const PLAYS: &[Play] = &[
                 pointers: &[0, 2],
                 free: &[0, 1],
                 refusers: &[(1, 0, Some(1)), (1, 1, Some(0)), (0, 1, None)],
-                rivals: &[(0, 0, Some((1, 1, 0, 2))), (0, 1, Some((0, 1, 1, 5)))],
             },
         ],
         lines: &[(0, 0, 8), (1, 0, 2), (1, 1, 5)],
@@ -103,7 +98,6 @@ const PLAYS: &[Play] = &[
                 pointers: &[0, 0, 0],
                 free: &[0, 4, 8],
                 refusers: &[(2, 0, None)],
-                rivals: &[(1, 0, Some((1, 0, 0, 6))), (2, 0, None)],
             },
             Turn {
                 group: 1,
@@ -113,7 +107,6 @@ const PLAYS: &[Play] = &[
                 pointers: &[0, 1, 0],
                 free: &[0, 4, 8],
                 refusers: &[(1, 0, Some(1))],
-                rivals: &[(1, 0, Some((1, 0, 0, 6)))],
             },
             Turn {
                 group: 2,
@@ -123,7 +116,6 @@ const PLAYS: &[Play] = &[
                 pointers: &[1, 1, 0],
                 free: &[4, 4, 0],
                 refusers: &[(0, 0, Some(0)), (1, 0, Some(0)), (2, 0, None)],
-                rivals: &[(0, 0, Some((0, 0, 0, 2))), (2, 0, Some((0, 0, 0, 2)))],
             },
         ],
         lines: &[(0, 0, 2), (2, 0, 8)],
@@ -141,7 +133,6 @@ const PLAYS: &[Play] = &[
             pointers: &[1],
             free: &[7],
             refusers: &[(0, 0, Some(0))],
-            rivals: &[(0, 0, Some((0, 0, 0, 5)))],
         }],
         lines: &[(0, 0, 5)],
     },
@@ -219,8 +210,7 @@ fn has_lines(lines: &[MapLine], expected: &[(u32, u8, u32)]) -> bool {
 
 /// Whether the nodes have those loads.
 fn has_loads(instance: &Instance, state: &State, loads: &[u64]) -> bool
-    requires whole { IsTrue state.now.is_whole }
-    requires nodes { length state.now.market.nodes ≡ length instance.now.nodes }
+    requires { IsReady instance.now state.now }
 {
     for n in 0..instance.nodes() {
         if n as usize >= loads.len() || state.load(NodeId(n)) != loads[n as usize] {
@@ -272,47 +262,6 @@ fn has_refusers(instance: &Instance, state: &State, refusers: &[(u32, u8, Option
     true
 }
 
-/// Whether an offer would displace that offer with those units, at that node, or nobody.
-fn has_rival(
-    instance: &Instance,
-    state: &State,
-    offer: Offer,
-    expected: Option<(u32, u32, u8, u64)>,
-) -> bool
-    requires { IsReady instance.now state.now }
-{
-    if offer.group.0 >= instance.groups() || offer.place >= instance.list_len(offer.group) {
-        return false;
-    }
-    match state.rival(instance, offer) {
-        Some(rival) => {
-            let worst = rival.offer;
-            expected == Some((rival.node.0, worst.group.0, worst.place, rival.units))
-        }
-        None => expected.is_none(),
-    }
-}
-
-/// Whether those offers would displace those.
-fn has_rivals(
-    instance: &Instance,
-    state: &State,
-    rivals: &[(u32, u8, Option<(u32, u32, u8, u64)>)],
-) -> bool
-    requires { IsReady instance.now state.now }
-{
-    for &(group, place, rival) in rivals {
-        let offer = Offer {
-            group: GroupId(group),
-            place,
-        };
-        if !has_rival(instance, state, offer, rival) {
-            return false;
-        }
-    }
-    true
-}
-
 /// What is wrong after a turn, if anything is.
 fn wrong_after(
     instance: &Instance,
@@ -333,9 +282,6 @@ fn wrong_after(
     }
     if !has_refusers(instance, state, turn.refusers) {
         return Some("refusers");
-    }
-    if !has_rivals(instance, state, turn.rivals) {
-        return Some("rivals");
     }
     None
 }
@@ -381,76 +327,5 @@ fn plays_by_hand(rt: HostRuntime) -> Result<(), Fail> {
             play.name
         );
     }
-    Ok(())
-}
-
-/// Moves units of an offer to another place of its group's list, where both are there and it has them.
-/// Answers whether they were moved.
-fn move_units(
-    instance: &Instance,
-    state: &mut State,
-    from: Offer,
-    place: u8,
-    units: Units,
-) -> Result<bool, Fail>
-    requires { IsReady instance.now state.old }
-    ensures whole { OnOk result (IsTrue state.new.is_whole) }
-    ensures nodes { OnOk result (length state.new.market.nodes ≡ length instance.now.nodes) }
-{
-    if from.group.0 >= instance.groups() || from.place >= instance.list_len(from.group) {
-        return Ok(false);
-    }
-    let to = Offer {
-        group: from.group,
-        place,
-    };
-    if to.place >= instance.list_len(to.group) || state.units(from) < units {
-        return Ok(false);
-    }
-    if state.units(to).saturating_add(units) > u64::from(u32::MAX) {
-        return Ok(false);
-    }
-    state.shift(from, place, units)?;
-    Ok(true)
-}
-
-/// Makes the first turns of a play. Answers how many.
-fn first_turns(
-    instance: &Instance,
-    state: &mut State,
-    freed: &mut Freed,
-    steps: &mut Steps<Proposals>,
-    turns: &[Turn],
-) -> Result<usize, Fail>
-    requires { IsReady instance.now state.old }
-    ensures { OnOk result (IsReady instance.now state.new) }
-{
-    for turn in turns {
-        let _offered = offer_all(instance, state, GroupId(turn.group), freed, steps)?;
-    }
-    Ok(turns.len())
-}
-
-// After the second turn of the first play: the two units that are left of the worse group go to its
-// other pool, and with them their load.
-#[test]
-fn shifts_by_hand(rt: HostRuntime) -> Result<(), Fail> {
-    let alloc = rt.alloc();
-    let play = &PLAYS[0];
-    let instance = instance_of(alloc, play)?;
-    let mut state = State::fresh(alloc, &instance)?;
-    let mut freed = Freed::new(alloc);
-    let mut steps: Steps<Proposals> = Steps::new();
-    let turns = &play.turns[..2];
-    let made = first_turns(&instance, &mut state, &mut freed, &mut steps, turns)?;
-    assert_eq!(rt; made, 2);
-    let from = Offer {
-        group: GroupId(1),
-        place: 0,
-    };
-    assert!(rt; move_units(&instance, &mut state, from, 1, 2)?);
-    assert!(rt; has_loads(&instance, &state, &[10, 8, 2]));
-    let lines = state.lines(alloc)?;
-    assert!(rt; has_lines(lines.as_slice(), &[(0, 0, 8), (1, 1, 2)]));
     Ok(())
 }
