@@ -1,6 +1,6 @@
 //! Plays by hand, put by put.
 
-ghost use Rattle.std.specs.Prelude.{◌≡◌, IsTrue, OnOk, length};
+ghost use Rattle.std.specs.Prelude.{OnOk};
 ghost use Rattle.evict.specs.Standing.{IsReady};
 
 use crate::{Eviction, Freed, State};
@@ -219,8 +219,7 @@ fn has_lines(lines: &[MapLine], expected: &[(u32, u8, u32)]) -> bool {
 
 /// Whether the nodes have those loads.
 fn has_loads(instance: &Instance, state: &State, loads: &[u64]) -> bool
-    requires whole { IsTrue state.now.is_whole }
-    requires nodes { length state.now.market.nodes ≡ length instance.now.nodes }
+    requires { IsReady instance.now state.now }
 {
     for n in 0..instance.nodes() {
         if n as usize >= loads.len() || state.load(NodeId(n)) != loads[n as usize] {
@@ -381,76 +380,5 @@ fn plays_by_hand(rt: HostRuntime) -> Result<(), Fail> {
             play.name
         );
     }
-    Ok(())
-}
-
-/// Moves units of an offer to another place of its group's list, where both are there and it has them.
-/// Answers whether they were moved.
-fn move_units(
-    instance: &Instance,
-    state: &mut State,
-    from: Offer,
-    place: u8,
-    units: Units,
-) -> Result<bool, Fail>
-    requires { IsReady instance.now state.old }
-    ensures whole { OnOk result (IsTrue state.new.is_whole) }
-    ensures nodes { OnOk result (length state.new.market.nodes ≡ length instance.now.nodes) }
-{
-    if from.group.0 >= instance.groups() || from.place >= instance.list_len(from.group) {
-        return Ok(false);
-    }
-    let to = Offer {
-        group: from.group,
-        place,
-    };
-    if to.place >= instance.list_len(to.group) || state.units(from) < units {
-        return Ok(false);
-    }
-    if state.units(to).saturating_add(units) > u64::from(u32::MAX) {
-        return Ok(false);
-    }
-    state.shift(from, place, units)?;
-    Ok(true)
-}
-
-/// Makes the first turns of a play. Answers how many.
-fn first_turns(
-    instance: &Instance,
-    state: &mut State,
-    freed: &mut Freed,
-    steps: &mut Steps<Proposals>,
-    turns: &[Turn],
-) -> Result<usize, Fail>
-    requires { IsReady instance.now state.old }
-    ensures { OnOk result (IsReady instance.now state.new) }
-{
-    for turn in turns {
-        let _offered = offer_all(instance, state, GroupId(turn.group), freed, steps)?;
-    }
-    Ok(turns.len())
-}
-
-// After the second turn of the first play: the two units that are left of the worse group go to its
-// other pool, and with them their load.
-#[test]
-fn shifts_by_hand(rt: HostRuntime) -> Result<(), Fail> {
-    let alloc = rt.alloc();
-    let play = &PLAYS[0];
-    let instance = instance_of(alloc, play)?;
-    let mut state = State::fresh(alloc, &instance)?;
-    let mut freed = Freed::new(alloc);
-    let mut steps: Steps<Proposals> = Steps::new();
-    let turns = &play.turns[..2];
-    let made = first_turns(&instance, &mut state, &mut freed, &mut steps, turns)?;
-    assert_eq!(rt; made, 2);
-    let from = Offer {
-        group: GroupId(1),
-        place: 0,
-    };
-    assert!(rt; move_units(&instance, &mut state, from, 1, 2)?);
-    assert!(rt; has_loads(&instance, &state, &[10, 8, 2]));
-    let lines = state.lines(alloc)?;
-    assert!(rt; has_lines(lines.as_slice(), &[(0, 0, 8), (1, 1, 2)]));
     Ok(())
 }
