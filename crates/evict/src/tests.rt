@@ -32,6 +32,8 @@ struct Turn {
     free: &'static [u64],
     /// Group, place and the node that refuses it, if any.
     refusers: &'static [(u32, u8, Option<u32>)],
+    /// Group, place and whom it would displace, if anybody: the node, and the group, place and units.
+    rivals: &'static [(u32, u8, Option<(u32, u32, u8, u64)>)],
 }
 
 /// Turns on an instance, worked out by hand.
@@ -61,6 +63,7 @@ const PLAYS: &[Play] = &[
                 pointers: &[0, 0],
                 free: &[8, 0],
                 refusers: &[(1, 0, None)],
+                rivals: &[(0, 0, None)],
             },
             Turn {
                 group: 0,
@@ -70,6 +73,7 @@ const PLAYS: &[Play] = &[
                 pointers: &[0, 1],
                 free: &[0, 6],
                 refusers: &[(1, 0, Some(1)), (1, 1, None)],
+                rivals: &[(0, 0, Some((1, 1, 0, 2))), (1, 1, None)],
             },
             Turn {
                 group: 1,
@@ -79,6 +83,7 @@ const PLAYS: &[Play] = &[
                 pointers: &[0, 2],
                 free: &[0, 1],
                 refusers: &[(1, 0, Some(1)), (1, 1, Some(0)), (0, 1, None)],
+                rivals: &[(0, 0, Some((1, 1, 0, 2))), (0, 1, Some((0, 1, 1, 5)))],
             },
         ],
         lines: &[(0, 0, 8), (1, 0, 2), (1, 1, 5)],
@@ -98,6 +103,7 @@ const PLAYS: &[Play] = &[
                 pointers: &[0, 0, 0],
                 free: &[0, 4, 8],
                 refusers: &[(2, 0, None)],
+                rivals: &[(1, 0, Some((1, 0, 0, 6))), (2, 0, None)],
             },
             Turn {
                 group: 1,
@@ -107,6 +113,7 @@ const PLAYS: &[Play] = &[
                 pointers: &[0, 1, 0],
                 free: &[0, 4, 8],
                 refusers: &[(1, 0, Some(1))],
+                rivals: &[(1, 0, Some((1, 0, 0, 6)))],
             },
             Turn {
                 group: 2,
@@ -116,6 +123,7 @@ const PLAYS: &[Play] = &[
                 pointers: &[1, 1, 0],
                 free: &[4, 4, 0],
                 refusers: &[(0, 0, Some(0)), (1, 0, Some(0)), (2, 0, None)],
+                rivals: &[(0, 0, Some((0, 0, 0, 2))), (2, 0, Some((0, 0, 0, 2)))],
             },
         ],
         lines: &[(0, 0, 2), (2, 0, 8)],
@@ -133,6 +141,7 @@ const PLAYS: &[Play] = &[
             pointers: &[1],
             free: &[7],
             refusers: &[(0, 0, Some(0))],
+            rivals: &[(0, 0, Some((0, 0, 0, 5)))],
         }],
         lines: &[(0, 0, 5)],
     },
@@ -262,6 +271,47 @@ fn has_refusers(instance: &Instance, state: &State, refusers: &[(u32, u8, Option
     true
 }
 
+/// Whether an offer would displace that offer with those units, at that node, or nobody.
+fn has_rival(
+    instance: &Instance,
+    state: &State,
+    offer: Offer,
+    expected: Option<(u32, u32, u8, u64)>,
+) -> bool
+    requires { IsReady instance.now state.now }
+{
+    if offer.group.0 >= instance.groups() || offer.place >= instance.list_len(offer.group) {
+        return false;
+    }
+    match state.rival(instance, offer) {
+        Some(rival) => {
+            let worst = rival.offer;
+            expected == Some((rival.node.0, worst.group.0, worst.place, rival.units))
+        }
+        None => expected.is_none(),
+    }
+}
+
+/// Whether those offers would displace those.
+fn has_rivals(
+    instance: &Instance,
+    state: &State,
+    rivals: &[(u32, u8, Option<(u32, u32, u8, u64)>)],
+) -> bool
+    requires { IsReady instance.now state.now }
+{
+    for &(group, place, rival) in rivals {
+        let offer = Offer {
+            group: GroupId(group),
+            place,
+        };
+        if !has_rival(instance, state, offer, rival) {
+            return false;
+        }
+    }
+    true
+}
+
 /// What is wrong after a turn, if anything is.
 fn wrong_after(
     instance: &Instance,
@@ -282,6 +332,9 @@ fn wrong_after(
     }
     if !has_refusers(instance, state, turn.refusers) {
         return Some("refusers");
+    }
+    if !has_rivals(instance, state, turn.rivals) {
+        return Some("rivals");
     }
     None
 }
