@@ -22,14 +22,8 @@ enum Held {
 
 mod answers;
 mod at_once;
-mod circles;
-mod devices;
 mod example;
-mod failing_sessions;
-mod hostile;
 mod large_world;
-mod loopback;
-mod repairs;
 mod serving;
 mod usage;
 
