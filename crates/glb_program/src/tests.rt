@@ -25,7 +25,6 @@ mod at_once;
 mod example;
 mod large_world;
 mod serving;
-mod usage;
 
 use Held::{Bytes, Missing, Topology, Zeros};
 
@@ -329,7 +328,7 @@ fn assert_rows<R: Abort + Threads + Wait + Sync + AllocGlobal>(
     let words = texts(rt, words)?;
     for (topology, map, wanted, text, loads) in rows {
         let mut files = shelf(rt, *topology, *map, &[])?;
-        let mut out = MemSink::new(rt.alloc(), 2048, Vec::new(rt.alloc()))?;
+        let mut out = MemSink::new(rt.alloc(), 1024, Vec::new(rt.alloc()))?;
         let status = run(rt, words.as_slice(), &mut files, &mut out)?;
         assert_eq!(rt; status, *wanted, "for {text}");
         assert_eq!(rt; out.bytes(), text.as_bytes(), "for {text}");
@@ -563,9 +562,6 @@ const MAPS: &[(Held, &str)] = &[
         "glb map 1\nplace g n7 3\nfull g n7 n0\nend\n",
     ),
     (Topology(LARGEST), "glb map 1\nplace g A 4294967295\nend\n"),
-    (Topology(circles::PAIR), circles::PAIR_MAP),
-    (Topology(circles::DEEP_PAIR), circles::DEEP_PAIR_MAP),
-    (Topology(circles::RING), circles::RING_MAP),
 ];
 
 #[test]
@@ -671,6 +667,76 @@ fn map_texts(rt: HostRuntime) -> Result<(), Fail> {
         let text = format!(in rt.alloc(); "refused map {wanted}\n")?;
         assert_eq!(rt; status, Status::Refused, "for {wanted}");
         assert_eq!(rt; out.bytes(), text.as_bytes(), "for {map:?}");
+    }
+    Ok(())
+}
+
+#[test]
+fn usage(rt: HostRuntime) -> Result<(), Fail> {
+    let rows: [&[&str]; 30] = [
+        &[],
+        &["glb"],
+        &["glb", "check"],
+        &["glb", "check", "t"],
+        &["glb", "check", "t", "m", "m"],
+        &["glb", "check", "-t", "m"],
+        &["glb", "check", "t", "-m"],
+        &["glb", "--", "check", "t", "m"],
+        &["glb", "check", "t", "m", "--version"],
+        &["glb", "chec", "t", "m"],
+        &["glb", "t", "m", "check"],
+        &["glb", "map"],
+        &["glb", "map", "-t"],
+        &["glb", "map", "t", "m"],
+        &["glb", "answer", "t", "m"],
+        &["glb", "answer", "t", "m", "198.51.100", "00"],
+        &["glb", "answer", "t", "m", "198.51.100.7", "123"],
+        &["glb", "serve", "t"],
+        &["glb", "serve", "t", "--listen", "x"],
+        &["glb", "serve", "t", "--listen", "127.0.0.1"],
+        &["glb", "serve", "t", "--listen", "127.0.0.1:65536"],
+        &["glb", "serve", "t", "--listen", "::1:53"],
+        &["glb", "serve", "--listen", "127.0.0.1:53"],
+        &[
+            "glb",
+            "serve",
+            "t",
+            "--listen",
+            "127.0.0.1:53",
+            "--workers",
+            "0",
+        ],
+        &[
+            "glb",
+            "serve",
+            "t",
+            "--listen",
+            "127.0.0.1:53",
+            "--workers",
+            "17",
+        ],
+        &[
+            "glb",
+            "serve",
+            "t",
+            "--listen",
+            "127.0.0.1:53",
+            "--workers",
+            "01",
+        ],
+        &["glb", "large", "0"],
+        &["glb", "repair", "t", "m"],
+        &["glb", "--help"],
+        &["check", "t", "m"],
+    ];
+    for words in rows {
+        let words = texts(&rt, words)?;
+        let mut files = shelf(&rt, Topology(FLAT), Bytes(GOOD_FLAT), &[])?;
+        let mut out = MemSink::new(rt.alloc(), 1024, Vec::new(rt.alloc()))?;
+        let status = run(&rt, words.as_slice(), &mut files, &mut out)?;
+        assert_eq!(rt; status, Status::Usage, "for {words:?}");
+        assert_eq!(rt; out.bytes(), USAGE, "for {words:?}");
+        assert_eq!(rt; files.asked().len(), 0, "for {words:?}");
     }
     Ok(())
 }
