@@ -21,7 +21,6 @@ use std::thread::Threads;
 use topology_text::{Topology, read_topology};
 use worlds::EXAMPLE_TREE;
 
-
 /// What the steps of these tests are counted as.
 struct Proposals;
 
