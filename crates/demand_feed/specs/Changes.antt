@@ -55,6 +55,6 @@ abbrev pub changes_behind : Plan → ℕ → List (List ℕ) → List Change →
 changes_behind t number [] changes = Ok changes
 changes_behind t number (line ∷ lines) changes = onward (changes_behind t (number + 1) lines) (number + 1) (with_said t changes (change_line_of line))
 
--- The changes of a file, or its first line that is refused, numbered from 1. A last line without LF counts where it isn't empty.
+-- The changes of a file, or its first line that is refused, numbered from 1. Octets behind the last LF are a line of their own.
 unfoldable pub changes_of : Plan → List ℕ → Result (List Change) ChangesFault
 changes_of t text = changes_behind t 0 (lines_of true text) []

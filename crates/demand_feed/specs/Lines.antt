@@ -2,7 +2,7 @@
 use Rattle.std.specs.Prelude.{ℕ, Bool, ◌==◌, if◌then◌else◌, List, [], ◌∷◌, ◌++◌, length}
 use Rattle.text_parts.specs.Parts.{unfinished, whole_lines}
 
--- a last line without LF counts where it isn't empty
+-- what stands behind the last LF is a line too, unless nothing does
 abbrev pub last_line : List ℕ → List (List ℕ)
 last_line bytes = if length (unfinished bytes) == 0 then [] else unfinished bytes ∷ []
 

@@ -1,6 +1,6 @@
 //! A feed: lines that change demands and capacities, batch by batch, and ask about the map.
 //!
-//! A line ends at LF, and its words are the runs of octets other than space. `demand GROUP N` and `capacity NODE N`
+//! LF ends each line, and spaces part its words. `demand GROUP N` and `capacity NODE N`
 //! add a change to the batch, `commit` ends it, `ask ADDR HEX` and `show` ask, and `stop` ends the feed.
 #![tactic(auto)]
 

@@ -21,9 +21,9 @@ use offer_pool::Held;
 use std::alloc::Global;
 use std::marker::Model;
 
-/// A state of deferred acceptance: what is held, and a pointer and free units for each group. Want of
-/// memory in the middle of a put leaves a state that is not whole: no call that changes its loads or
-/// tells them takes it, and it is only to be dropped.
+/// A state of deferred acceptance: the units that offers hold, and for each group the place that it asks at next and its
+/// free units. A put or a shift that met want of memory on its way leaves a state that is not whole: no call that
+/// changes its loads or tells them takes it, and all that is left to do is drop it.
 #[derive(Debug, Drop)]
 pub struct State {
     tree: Tree,
@@ -243,6 +243,10 @@ impl State {
     }
 
     /// Moves held units of an offer to another place of its group's list, whatever the capacities.
+    ///
+    /// # Errors
+    ///
+    /// `NoMemory`; the state is not whole then.
     pub fn shift(&mut self, from: Offer, place: u8, units: Units) -> Result<(), NoMemory>
         requires { CanShift self.old from.group.0 from.place place units }
         ensures { OnOk result (IsShifted self.old self.new from.group.0 from.place place units) }

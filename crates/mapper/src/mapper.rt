@@ -200,8 +200,8 @@ impl<J: Naming> Mapper<J> {
     }
 
     /// Publishes the map that a batch leads to, by repair of the newest one, and answers its serial; `steps` counts the
-    /// proposals. An empty batch publishes nothing, takes no memory, and answers the newest serial. It may wait for
-    /// viewers that look at the map before the newest.
+    /// proposals. Where the batch has no changes there is no new map: the serial is the newest one's, and no memory is
+    /// taken. It may wait for viewers that look at the map before the newest.
     ///
     /// # Errors
     ///

@@ -57,7 +57,7 @@ answered known port = record port { recvs = raised port.recvs 1; greatest = max 
 abbrev pub taking : Packet → ℕ → PortTold → PortTold
 taking packet known port = record (answered known port) { waiting = drop 1 port.waiting; taken = port.taken ++ (record { packet = packet; known = known; place = port.recvs }) ∷ [] }
 
--- A port after an answer of recv. Idle, End and Failed take nothing.
+-- What each answer of recv leaves of a port: a datagram that fits and one that is too long go from the queue, and nothing else does.
 abbrev pub received : ℕ → List ℕ → Arrival → PortTold → PortTold
 received known buffer (Arrived len from) port = taking (packet_in buffer len from) known port
 received known buffer Idle port = answered known port
