@@ -33,7 +33,7 @@ abbrev pub IsOne : List Version → ℕ → LaneLog → Type 0
 IsOne h w l = IsLaneRun replies h w 0 0 l.taken l.tries × All (λ e. e.known < length h) l.taken
 
 one_run : (first : Version) (rest : List Version) (w : ℕ) (log : List Turn) (over : List Version) (served e : Ended) (before after : LaneTold) → IsLaneRun replies over w 0 0 (entries_of log) (tries_of log)
-    → (which : IsOverNewest (first ∷ rest) over log served e before after ⊎ IsOverSeen first over served e before after ⊎ IsOverPast (first ∷ rest) over e before after) → IsOne (first ∷ rest) w (log_over log which)
+    → (which : IsOverNewest (first ∷ rest) over log served e before after ⊎ IsOverSeen first over served e before after ⊎ IsOverPast (first ∷ rest) over log e before after) → IsOne (first ∷ rest) w (log_over log which)
 one_run first rest w log over served e before after run (inl newest) = (subst (λ h. IsLaneRun replies h w 0 0 (entries_of log) (tries_of log)) newest.same run, entries_known (length (first ∷ rest)) log newest.known)
 one_run first rest w log over served e before after run (inr other) = (tt, λ k d lt. absurd (omega (arith, lt)))
 

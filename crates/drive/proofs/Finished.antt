@@ -11,7 +11,9 @@ use Rattle.lane_model.specs.declared.ended.Ended.{Ended}
 use Rattle.lane_model.specs.Lanes.{IsLaneRun}
 use Rattle.lane_model.specs.Replies.{replies}
 use Rattle.lane_model.specs.Turns.{Turn, entries_of, floor_after, looks_of, tries_of}
-use Rattle.lane_model.specs.Sessions.{Eyes, IsLaneCall, Moment}
+use Rattle.lane_model.specs.declared.ended.Ended.TheVariants.{CellFault}
+use Rattle.lane_model.specs.Sessions.{Eyes, IsEnd, IsLaneCall, Moment}
+use Rattle.lane_model.proofs.Calls.{refused_last}
 use Rattle.lane_model.proofs.Prefixes.{prefix_length}
 use Rattle.lane_model.proofs.Going.{rise_trans}
 use Rattle.lane_model.proofs.Runs.{run_longer}
@@ -24,6 +26,9 @@ rose_later x y z le r = omega (arith, le, r)
 later_rose : (x y z : ℕ) → Rose x y → y ≤ z → Rose x z
 later_rose x y z r le = omega (arith, le, r)
 
+rose_twice : (x y z : ℕ) → Rose x y → Rose y z → raised x 2 ≤ z
+rose_twice x y z r q = omega (arith, r, q)
+
 -- a moment of a lane, as it tells it, whose door was asked for so many places
 abbrev pub told_of : {T : Type 0} → Moment Version T → Eyes Version → ℕ → LaneTold
 told_of m e n = record { port = m.port; port_faults = m.port_faults; gate = m.gate; asked = n; looks = e.looks; greatest = e.greatest; door_faults = e.faults }
@@ -31,7 +36,7 @@ told_of m e n = record { port = m.port; port_faults = m.port_faults; gate = m.ga
 -- the same of a lane over one history or another
 done_over : {T : Type 0} (number : T → ℕ) (turns : ℕ) (first : Version) (rest : List Version) (w : ℕ) (m m' : Moment Version T) (f : Eyes Version) (served e : Ended) (n n' : ℕ) → n' ≡ n → length m.eyes.told ≡ 1
     → (c : IsLaneCall replies number w turns m m' served) → IsClosing (first ∷ rest) m'.eyes f served e → (over : List Version) → IsLaneRun replies over w 0 0 (entries_of c.log) (tries_of c.log)
-    → (IsOverNewest (first ∷ rest) over c.log served e (told_of m m.eyes n) (told_of m' f n') ⊎ IsOverSeen first over served e (told_of m m.eyes n) (told_of m' f n') ⊎ IsOverPast (first ∷ rest) over e (told_of m m.eyes n) (told_of m' f n'))
+    → (IsOverNewest (first ∷ rest) over c.log served e (told_of m m.eyes n) (told_of m' f n') ⊎ IsOverSeen first over served e (told_of m m.eyes n) (told_of m' f n') ⊎ IsOverPast (first ∷ rest) over c.log e (told_of m m.eyes n) (told_of m' f n'))
     → IsDone turns first rest w (told_of m m.eyes n) (told_of m' f n') e
 done_over number turns first rest w m m' f served e n n' asked one c q over run which =
     let some : 0 < length m.eyes.told = omega (arith, one) in
@@ -52,6 +57,8 @@ done_over number turns first rest w m m' f served e n n' asked one c q over run 
       looks = omega (arith, c.all.looks, q.looks);
       failing = c.all.failing;
       refusal = λ x. later_rose m.eyes.faults m'.eyes.faults f.faults (c.all.refusal x) q.rise.faults;
+      missed = c.all.missed;
+      learned = let known = prefix_length (first ∷ rest) f.told q.learned in omega (arith, one, known, rise.above);
       rising = (rise.rising, c.all.port_later, rise.faults);
       which = which;
     }
@@ -71,18 +78,18 @@ done_of number turns first rest w m m' f served e n n' asked seen told count c q
     let by = done_over number turns first rest w m m' f served e n n' asked one c q in
     ⊎_elim
     (λ (s : IsShut m'.eyes f served e).
-    by m'.eyes.seen run (inr (inl (record { first_is = begins; history = subst IsHistory s.seen s.history; rose = rose_later m.eyes.faults m'.eyes.faults f.faults c.all.rise.faults s.rose; ended_is = s.ended_is }))))
+    by m'.eyes.seen run (inr (inl (record { first_is = begins; history = subst IsHistory s.seen s.history; rose = rose_later m.eyes.faults m'.eyes.faults f.faults c.all.rise.faults s.rose; twice = λ is. rose_twice m.eyes.faults m'.eyes.faults f.faults (c.all.refusal (refused_last turns c.log (subst (IsEnd turns c.log) is c.ending))) s.rose; ended_is = s.ended_is }))))
     (λ (t : IsWithin (first ∷ rest) m'.eyes f served e ⊎ IsPast (first ∷ rest) m'.eyes f e).
     ⊎_elim
     (λ (s : IsWithin (first ∷ rest) m'.eyes f served e).
     let told_le = prefix_length m'.eyes.told f.told q.rise.told in
     let le = prefix_length f.told (first ∷ rest) s.told in
     by (first ∷ rest) (run_longer replies m'.eyes.seen (first ∷ rest) w 0 0 (entries_of c.log) (tries_of c.log) s.seen run)
-    (inl (record { same = refl; known = λ k d lt. let r = c.all.known k d lt in omega (arith, r, told_le, le); shown = omega (arith, rise.greatest, le); ended_is = s.ended_is })))
+    (inl (record { same = refl; known = λ k d lt. let r = c.all.known k d lt in omega (arith, r, told_le, le); shown = omega (arith, rise.greatest, le); stays = λ none. s.stays ∙ c.all.stays none; ended_is = s.ended_is })))
     (λ (s : IsPast (first ∷ rest) m'.eyes f e).
     let is : length f.told ≡ length f.seen = ap length s.told in
     by f.seen (run_longer replies m'.eyes.seen f.seen w 0 0 (entries_of c.log) (tries_of c.log) s.seen run)
-    (inr (inr (record { begins = s.begins; longer = s.longer; history = s.history; shown = shown_past (length f.seen) m.eyes.greatest f.greatest (omega (arith, one, is, rise.above, s.longer)) (omega (arith, is, rise.greatest)); last = s.known; newest = s.newest; last_is = s.known_is; newest_is = s.newest_is; ended_is = s.ended_is }))))
+    (inr (inr (record { begins = s.begins; longer = s.longer; history = s.history; shown = shown_past (length f.seen) m.eyes.greatest f.greatest (omega (arith, one, is, rise.above, s.longer)) (omega (arith, is, rise.greatest)); stays = λ none. s.stays ∙ c.all.stays none; last = s.known; newest = s.newest; last_is = s.known_is; newest_is = s.newest_is; ended_is = s.ended_is }))))
     t)
     q.case
 

@@ -28,6 +28,7 @@ pub record IsShut (before after : Eyes Version) (served ended : Ended) : Type 0 
 pub record IsWithin (h : List Version) (before after : Eyes Version) (served ended : Ended) : Type 0 where
   pub seen : IsPrefix before.seen h
   pub told : IsPrefix after.told h
+  pub stays : after.faults ≡ before.faults
   pub ended_is : ended ≡ served
 
 -- the look was past the newest map, at the end of a longer history; the end tells both last serials
@@ -36,6 +37,7 @@ pub record IsPast (h : List Version) (before after : Eyes Version) (ended : Ende
   pub begins : IsPrefix h after.seen
   pub longer : length h < length after.seen
   pub told : after.told ≡ after.seen
+  pub stays : after.faults ≡ before.faults
   pub history : IsHistory after.seen
   pub known : ℕ
   pub newest : ℕ
@@ -43,8 +45,9 @@ pub record IsPast (h : List Version) (before after : Eyes Version) (ended : Ende
   pub newest_is : newest + 1 ≡ length h
   pub ended_is : ended ≡ Above known newest
 
--- one look, by what it came to
+-- One look, by what it came to. The whole history was learned ahead of it.
 pub record IsClosing (h : List Version) (before after : Eyes Version) (served ended : Ended) : Type 0 where
   pub rise : IsRise before after
+  pub learned : IsPrefix h after.told
   pub looks : after.looks ≡ raised before.looks 1
   pub case : IsShut before after served ended ⊎ IsWithin h before after served ended ⊎ IsPast h before after ended

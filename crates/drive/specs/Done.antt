@@ -1,16 +1,16 @@
 -- A lane after a drive.
-use Rattle.std.specs.Prelude.{◌≡◌, ◌⊎◌, ℕ, ◌+◌, ◌<◌, ◌≤◌, All, List, [], ◌∷◌, length, fold, max, sum_by, Option}
+use Rattle.std.specs.Prelude.{◌≡◌, ◌⊎◌, ℕ, ◌+◌, ◌<◌, ◌≤◌, false, All, List, [], ◌∷◌, length, fold, max, sum_by, Option}
 use mathlib.Core.List.{IsPrefix}
 use Rattle.outside.specs.Faults.{BothTell, Rose, raised}
-use Rattle.outside.specs.Port.{PortTold}
+use Rattle.outside.specs.Port.{Packet, PortTold}
 use Rattle.outside.specs.Gate.{GateTold}
 use Rattle.published_map.specs.Version.{Version}
 use Rattle.map_cell.specs.Histories.{IsHistory}
 use Rattle.lane_model.specs.declared.ended.Ended.{Ended}
-use Rattle.lane_model.specs.declared.ended.Ended.TheVariants.{Above}
+use Rattle.lane_model.specs.declared.ended.Ended.TheVariants.{Above, CellFault}
 use Rattle.lane_model.specs.Lanes.{IsLaneRun}
-use Rattle.lane_model.specs.Replies.{replies}
-use Rattle.lane_model.specs.Turns.{Turn, IsTold, entries_of, failures, floor_after, looks_of, port_turn, refused_of, tries_of}
+use Rattle.lane_model.specs.Replies.{is_silent, replies}
+use Rattle.lane_model.specs.Turns.{Turn, IsTold, entries_of, failures, floor_after, looks_of, port_turn, refused, refused_of, took, tries_of}
 use Rattle.lane_model.specs.Sessions.{IsEnd, IsGateRun}
 use Rattle.drive.specs.Closing.{shut}
 
@@ -29,28 +29,31 @@ pub record IsOverNewest (h over : List Version) (log : List Turn) (served ended 
   pub same : over ≡ h
   pub known : All (λ t. t.known < length h) log
   pub shown : after.greatest + 1 ≤ max (before.greatest + 1) (length h)
+  pub stays : sum_by (λ t. refused_of t.came) log ≡ 0 → after.door_faults ≡ before.door_faults
   pub ended_is : ended ≡ served
 
--- or, where its closing look was refused, over what it had seen, which is a history from the same first version on;
+-- or, where its closing look was refused, over what it had seen, which is a history from the same first version on, and then, if a look at a datagram was refused too, its door counted both;
 pub record IsOverSeen (first : Version) (over : List Version) (served ended : Ended) (before after : LaneTold) : Type 0 where
   pub first_is : IsPrefix (first ∷ []) over
   pub history : IsHistory over
   pub rose : Rose before.door_faults after.door_faults
+  pub twice : served ≡ CellFault → raised before.door_faults 2 ≤ after.door_faults
   pub ended_is : ended ≡ shut served
 
 -- or, where that look was past the newest map, over a history that goes on from the mapper's, up to the serial that its door showed, if its door had shown none above that before. The end tells the last serial of either history.
-pub record IsOverPast (h over : List Version) (ended : Ended) (before after : LaneTold) : Type 0 where
+pub record IsOverPast (h over : List Version) (log : List Turn) (ended : Ended) (before after : LaneTold) : Type 0 where
   pub begins : IsPrefix h over
   pub longer : length h < length over
   pub history : IsHistory over
   pub shown : (after.greatest + 1 ≡ length over) ⊎ (length over ≤ before.greatest)
+  pub stays : sum_by (λ t. refused_of t.came) log ≡ 0 → after.door_faults ≡ before.door_faults
   pub last : ℕ
   pub newest : ℕ
   pub last_is : last + 1 ≡ length over
   pub newest_is : newest + 1 ≡ length h
   pub ended_is : ended ≡ Above last newest
 
--- Lane w after a drive, whose worker knew the first version alone: the turns that it made, as a lane run; what was told; what port, gate and door tell, which was asked for no place; why it ended; and over which history it stands.
+-- Lane w after a drive, whose worker knew the first version alone: the turns that it made, as a lane run; what was told; what port, gate and door tell, which was asked for no place; why it ended; that a datagram whose look was refused has a reply, which it missed; that the whole history was learned ahead of the closing look; and over which history it stands.
 pub record IsDone (turns : ℕ) (first : Version) (rest : List Version) (w : ℕ) (before after : LaneTold) (ended : Ended) : Type 0 where
   pub log : List Turn
   pub over : List Version
@@ -67,5 +70,7 @@ pub record IsDone (turns : ℕ) (first : Version) (rest : List Version) (w : ℕ
   pub looks : after.looks ≡ raised before.looks (sum_by (λ t. looks_of t.came) log + 1)
   pub failing : 0 < failures log → Rose before.port_faults after.port_faults
   pub refusal : 0 < sum_by (λ t. refused_of t.came) log → Rose before.door_faults after.door_faults
+  pub missed : All (λ t. (d : Packet) → t.came ≡ took d refused → is_silent d.octets ≡ false) log
+  pub learned : length (first ∷ rest) ≤ after.greatest + 1
   pub rising : (before.greatest ≤ after.greatest) × (before.port_faults ≤ after.port_faults) × (before.door_faults ≤ after.door_faults)
-  pub which : IsOverNewest (first ∷ rest) over log served ended before after ⊎ IsOverSeen first over served ended before after ⊎ IsOverPast (first ∷ rest) over ended before after
+  pub which : IsOverNewest (first ∷ rest) over log served ended before after ⊎ IsOverSeen first over served ended before after ⊎ IsOverPast (first ∷ rest) over log ended before after

@@ -21,6 +21,8 @@ use std::thread::Threads;
 use topology_text::{Topology, read_topology};
 use worlds::EXAMPLE_TREE;
 
+mod turns;
+
 /// What the steps of these tests are counted as.
 struct Proposals;
 

@@ -163,8 +163,8 @@ fn serve_all<
 /// lanes: its worker learns of the newest map, and looks once by its lane's door. The lanes past the viewers are
 /// untouched. All memory is taken ahead of the first lane. At the end, after a refusal too, the mapper is closed.
 ///
-/// Where the closing look is refused, an end by `PortEnd` or `Stopped` becomes `CellFault`; where it is at a map past
-/// the newest one, the lane ended `Above`.
+/// A lane that its port or its gate has ended counts as ended by `CellFault` if its closing look is refused. One whose
+/// closing look shows a map past the newest one has ended `Above`.
 ///
 /// # Errors
 ///

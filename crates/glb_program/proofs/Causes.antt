@@ -55,7 +55,7 @@ shut_spent lane.PortFault h = absurd (cc)
 served_port : (turns : ℕ) (first : Version) (rest : List Version) (w : ℕ) (b c : LaneTold) → IsDone turns first rest w b c lane.PortFault → HasPortFault b c
 served_port turns first rest w b c d = d.failing (eight (served d.which))
   where
-    served : IsOverNewest (first ∷ rest) d.over d.log d.served lane.PortFault b c ⊎ IsOverSeen first d.over d.served lane.PortFault b c ⊎ IsOverPast (first ∷ rest) d.over lane.PortFault b c → d.served ≡ lane.PortFault
+    served : IsOverNewest (first ∷ rest) d.over d.log d.served lane.PortFault b c ⊎ IsOverSeen first d.over d.served lane.PortFault b c ⊎ IsOverPast (first ∷ rest) d.over d.log lane.PortFault b c → d.served ≡ lane.PortFault
     served (inl newest) = sym newest.ended_is
     served (inr (inl seen)) = shut_port d.served seen.ended_is
     served (inr (inr past)) = let is = past.ended_is in absurd (cc)
@@ -94,7 +94,7 @@ served_spent turns first rest w b c d =
     tell_weaker (λ (p q : PortTold). q ≡ fold port_turn p d.log) (λ (p q : PortTold). q.recvs ≡ raised p.recvs turns) b.port c.port
     (λ p q h. ap (λ (x : PortTold). x.recvs) h ∙ took_all d.log p ∙ ap (raised p.recvs) (all (served d.which))) d.port
   where
-    served : IsOverNewest (first ∷ rest) d.over d.log d.served lane.Spent b c ⊎ IsOverSeen first d.over d.served lane.Spent b c ⊎ IsOverPast (first ∷ rest) d.over lane.Spent b c → d.served ≡ lane.Spent
+    served : IsOverNewest (first ∷ rest) d.over d.log d.served lane.Spent b c ⊎ IsOverSeen first d.over d.served lane.Spent b c ⊎ IsOverPast (first ∷ rest) d.over d.log lane.Spent b c → d.served ≡ lane.Spent
     served (inl newest) = sym newest.ended_is
     served (inr (inl seen)) = shut_spent d.served seen.ended_is
     served (inr (inr past)) = let is = past.ended_is in absurd (cc)
@@ -121,7 +121,7 @@ served_cell turns first rest w b c e fault d = go d.which
     refused lane.PortFault is ending = let no : is_cell_fault lane.PortFault ≡ true = subst (λ (x : Ended). is_cell_fault x ≡ true) is fault in absurd (cc)
     refused lane.Spent is ending = let no : is_cell_fault lane.Spent ≡ true = subst (λ (x : Ended). is_cell_fault x ≡ true) is fault in absurd (cc)
 
-    go : IsOverNewest (first ∷ rest) d.over d.log d.served e b c ⊎ IsOverSeen first d.over d.served e b c ⊎ IsOverPast (first ∷ rest) d.over e b c → HasCellFault (length (first ∷ rest)) b c
+    go : IsOverNewest (first ∷ rest) d.over d.log d.served e b c ⊎ IsOverSeen first d.over d.served e b c ⊎ IsOverPast (first ∷ rest) d.over d.log e b c → HasCellFault (length (first ∷ rest)) b c
     go (inl newest) = inl (refused d.served newest.ended_is d.ending)
     go (inr (inl seen)) = inl seen.rose
     go (inr (inr past)) = inr (above past.shown)

@@ -21,12 +21,12 @@ abbrev pub IsSummed : ℕ → Outcome → Type 0
 IsSummed n due = (s : Summary) × IsRun n s × (due ≡ record { status = status.Ok; pieces = lines_of s })
 
 -- the refusal of the world's topology, if that has a fault
-abbrev pub IsUnread : ℕ → Outcome → Type 0
-IsUnread n due = (fault : TopologyFault) × (reading (topology_of n) ≡ Err fault) × (due ≡ refused (text.topology_fault fault))
+abbrev pub IsWorldRefused : ℕ → Outcome → Type 0
+IsWorldRefused n due = (fault : TopologyFault) × (reading (topology_of n) ≡ Err fault) × (due ≡ refused (text.topology_fault fault))
 
 -- what is due to `large`
 abbrev pub IsLargeDue : ℕ → Outcome → Type 0
-IsLargeDue n due = IsSummed n due ⊎ IsUnread n due
+IsLargeDue n due = IsSummed n due ⊎ IsWorldRefused n due
 
 -- a run of `large`: nothing but the output is touched
 pub record IsLargeRun (n : ℕ) (before after : Surroundings) (result : Status) : Type 0 where

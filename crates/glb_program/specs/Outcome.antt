@@ -71,7 +71,7 @@ pub record IsWhole (Due : Outcome → Type 0) (before after : Option Written) (r
   pub puts : BothTell before after (IsPrinted due.pieces)
 
 -- a put of what is due failed
-pub record IsCut (Due : Outcome → Type 0) (before after : Option Written) (result : Status) : Type 0 where
+pub record IsPutInPart (Due : Outcome → Type 0) (before after : Option Written) (result : Status) : Type 0 where
   pub due : Outcome
   pub is_due : Due due
   pub status : result ≡ SinkFault
@@ -84,11 +84,11 @@ pub record IsSilent (before after : Option Written) (result : Status) : Type 0 w
 
 -- the outcome that is due was answered with its text, or the put of the text failed
 abbrev pub Speaks : (Outcome → Type 0) → Option Written → Option Written → Status → Type 0
-Speaks Due before after result = IsWhole Due before after result ⊎ IsCut Due before after result
+Speaks Due before after result = IsWhole Due before after result ⊎ IsPutInPart Due before after result
 
 -- The run of a command that puts its texts at its end. `Due` says which outcomes are due.
 abbrev pub RunsBy : (Outcome → Type 0) → Option Written → Option Written → Status → Type 0
-RunsBy Due before after result = IsWhole Due before after result ⊎ IsCut Due before after result ⊎ IsSilent before after result
+RunsBy Due before after result = IsWhole Due before after result ⊎ IsPutInPart Due before after result ⊎ IsSilent before after result
 
 -- the loads are the first of those that are due over the files, in order and once each, and the files stay
 pub record AreLoadsOf (due : (List ℕ → Option (List ℕ)) → List Load) (before after : Shelved) : Type 0 where

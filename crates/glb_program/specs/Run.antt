@@ -25,13 +25,13 @@ IsDue (answer topology map datagram) files = IsAnswerDue topology map datagram f
 IsDue (repair topology map changes) files = IsRepairDue topology map changes files
 
 -- memory was wanting for the reading of the words, and nothing was put
-pub record IsUnread (before after : Option Written) (result : Status) : Type 0 where
+pub record AreWordsUnread (before after : Option Written) (result : Status) : Type 0 where
   pub status : result ≡ NoMemory
   pub puts : BothTell before after (λ b a. a ≡ b)
 
 -- what a run does
 abbrev pub IsRun : Option Ask → Outside → Outside → Status → Type 0
-IsRun None before after result = Speaks IsUsage before.out after.out result ⊎ IsUnread before.out after.out result
+IsRun None before after result = Speaks IsUsage before.out after.out result ⊎ AreWordsUnread before.out after.out result
 IsRun (Some ask) before after result = RunsBy (IsDue ask before.files) before.out after.out result
 
 -- the loads that are due to a command over the files: in the order of its words with their limits, each where all before it say something

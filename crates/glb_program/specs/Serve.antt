@@ -100,7 +100,7 @@ pub record IsPlaced (workers : ℕ) (before after : Stage) : Type 0 where
   pub rest : after ≡ record before { lent = after.lent }
 
 -- A port did not open, and none behind it was opened.
-pub record IsShut (listen : Listen) (workers : ℕ) (before after : Stage) (result : Status) : Type 0 where
+pub record IsPortUnopened (listen : Listen) (workers : ℕ) (before after : Stage) (result : Status) : Type 0 where
   pub why : result ≡ status.PortFault
   pub opened : (k : ℕ) × (k < workers) × AreOpened listen (then_failed k) before.lent.lanes after.lent.lanes
   pub lent : after.lent ≡ record before.lent { lanes = after.lent.lanes }
@@ -139,7 +139,7 @@ pub record IsServed (turns workers : ℕ) (first : Version) (before after : Stag
 
 -- what follows where the map cell was opened with a first version
 abbrev pub IsFirstSession : ℕ → Listen → ℕ → Version → Stage → Stage → Status → Type 0
-IsFirstSession turns listen workers first before after result = IsShut listen workers before after result
+IsFirstSession turns listen workers first before after result = IsPortUnopened listen workers before after result
     ⊎ IsUnput listen workers first before after result
     ⊎ ((result ≡ status.NoMemory) × IsStarted listen workers first before after)
     ⊎ ((started : Stage) × IsStarted listen workers first before started × IsServed turns workers first started after result)

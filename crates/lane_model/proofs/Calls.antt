@@ -1,13 +1,14 @@
 -- What a whole call of a lane promises.
 use Rattle.std.proofs.Common.{◌≡◌, ◌≢◌, ℕ, zero, suc, ◌+◌, ◌-◌, ◌<◌, ◌≤◌, Bool, true, false, if◌then◌else◌, List, [], ◌∷◌, ◌++◌, length, fold, sum_by, All, Option, refl, sym, ap, subst, ◌∙◌, arith}
-use Rattle.std.proofs.lemmas.List.Sums.{sum_by-cons}
+use Rattle.std.proofs.lemmas.List.Sums.{sum_by-cons, sum_by_push}
 use Rattle.outside.specs.Faults.{BothTell, Rose, raised}
 use Rattle.outside.specs.Gate.{GateTold, IsTurning}
+use Rattle.outside.specs.Port.{Packet}
 use Rattle.outside.specs.declared.gate.Turning.TheVariants.{Stop}
 use Rattle.lane_model.specs.declared.ended.Ended.{Ended}
 use Rattle.lane_model.specs.declared.ended.Ended.TheVariants as end
 use Rattle.lane_model.specs.Lanes.{Answers}
-use Rattle.lane_model.specs.Turns.{Turn, Came, Fate, AreCalm, fails_of, failures, floor_after, gate_turn, is_calm, is_refused, looks_of, refused_of, idle, oversize, ended, failed, took, silent, refused, tried}
+use Rattle.lane_model.specs.Turns.{Turn, Came, Fate, AreCalm, IsCame, fails_of, failures, floor_after, gate_turn, is_calm, is_refused, looks_of, refused_of, idle, oversize, ended, failed, took, silent, refused, tried}
 use Rattle.lane_model.specs.Sessions.{IsEnd, IsGateRun, IsLaneCall, IsLaneLog, IsLast, IsSession, IsStop, IsTurn, Moment}
 use Rattle.lane_model.proofs.Prefixes.{prefix_length}
 use Rattle.lane_model.proofs.Runs.{IsInOrder, session_gate, session_notes, session_port, session_rises, session_run, session_told, tells_on}
@@ -98,6 +99,30 @@ session_refusal a number w [] m m' s lt = absurd (omega (arith, lt))
 session_refusal a number w (t ∷ log) m m' s lt =
     rises_by (refused_of t.came) (sum_by (λ x. refused_of x.came) log) m.eyes.faults s.0.eyes.faults m'.eyes.faults s.1.eyes.faults (session_rises a number w log s.0 m' s.2).faults (λ l. s.1.refusal (refused_by (is_refused t.came) l)) (session_refusal a number w log s.0 m' s.2) (subst (λ (k : ℕ). 0 < k) (sum_by-cons (λ x. refused_of x.came) t log) lt)
 
+-- where no look was refused, the door's count stays
+calm_by : (b : Bool) (n : ℕ) → n ≡ (if b then 1 else 0) → n ≡ 0 → b ≡ false
+calm_by true n is none = absurd (omega (arith, is, none))
+calm_by false n is none = refl
+
+session_stays : {V T : Type 0} (a : Answers V) (number : T → ℕ) (w : ℕ) (log : List Turn) (m m' : Moment V T) → IsSession a number w log m m' → sum_by (λ t. refused_of t.came) log ≡ 0 → m'.eyes.faults ≡ m.eyes.faults
+session_stays a number w [] m m' s none = ap (λ k. k.eyes.faults) s
+session_stays a number w (t ∷ log) m m' s none =
+    let sum = sum_by-cons (λ x. refused_of x.came) t log in
+    session_stays a number w log s.0 m' s.2 (omega (arith, sum, none)) ∙ s.1.stays (calm_by (is_refused t.came) (refused_of t.came) refl (omega (arith, sum, none)))
+
+-- a datagram whose look was refused isn't silent
+session_missed : {V T : Type 0} (a : Answers V) (number : T → ℕ) (w : ℕ) (log : List Turn) (m m' : Moment V T) → IsSession a number w log m m' → All (λ t. (d : Packet) → t.came ≡ took d refused → a.silent d.octets ≡ false) log
+session_missed a number w [] m m' s = λ k d lt. absurd (omega (arith, lt))
+session_missed a number w (t ∷ log) m m' s =
+    all_cons (λ x. (d : Packet) → x.came ≡ took d refused → a.silent d.octets ≡ false) t log (λ d is. subst (λ (c : Came). IsCame a s.0.eyes.seen w m.count t.known c) is s.1.came) (session_missed a number w log s.0 m' s.2)
+
+-- a lane that a refused look ended met one
+pub refused_last : (turns : ℕ) (log : List Turn) → IsEnd turns log end.CellFault → 0 < sum_by (λ t. refused_of t.came) log
+refused_last turns log is =
+    let one : refused_of is.1.came ≡ 1 = rw is.5 refl in
+    let count : sum_by (λ t. refused_of t.came) log ≡ sum_by (λ t. refused_of t.came) is.0 + refused_of is.1.came = ap (sum_by (λ t. refused_of t.came)) is.2 ∙ sum_by_push (λ (t : Turn). refused_of t.came) is.0 is.1 in
+    omega (arith, count, one)
+
 log_of : {V T : Type 0} (a : Answers V) (number : T → ℕ) (w : ℕ) (log : List Turn) (m m' : Moment V T) → IsSession a number w log m m' → IsInOrder log → IsLaneLog a number w log m m'
 log_of a number w log m m' s o = record {
   run = λ floor lt. session_run a number w floor log m m' s o lt;
@@ -110,12 +135,14 @@ log_of a number w log m m' s o = record {
   looks = session_looks a number w log m m' s;
   failing = session_failing a number w log m m' s;
   refusal = session_refusal a number w log m m' s;
+  stays = session_stays a number w log m m' s;
+  missed = session_missed a number w log m m' s;
   port_later = session_later a number w log m m' s;
 }
 
 -- a gate alone was asked
 log_gate : {V T : Type 0} (a : Answers V) (number : T → ℕ) (w : ℕ) (log : List Turn) (m mid : Moment V T) (gate : Option GateTold) (faults : ℕ) → IsLaneLog a number w log m mid → IsLaneLog a number w log m (record mid { gate = gate; gate_faults = faults })
-log_gate a number w log m mid gate faults c = record { run = c.run; told = c.told; port = c.port; notes = c.notes; rise = c.rise; known = c.known; within = c.within; looks = c.looks; failing = c.failing; refusal = c.refusal; port_later = c.port_later }
+log_gate a number w log m mid gate faults c = record { run = c.run; told = c.told; port = c.port; notes = c.notes; rise = c.rise; known = c.known; within = c.within; looks = c.looks; failing = c.failing; refusal = c.refusal; stays = c.stays; missed = c.missed; port_later = c.port_later }
 
 call_same : {V T : Type 0} (a : Answers V) (number : T → ℕ) (w turns : ℕ) (log : List Turn) (m mid m' : Moment V T) (e : Ended) → 0 < length m.eyes.told → IsSession a number w log m mid → IsEnd turns log e
     → ((shown : ℕ) → BothTell m.gate mid.gate (λ b c. c ≡ fold gate_turn b log) → BothTell m.gate mid.gate (IsGateRun shown log e)) → m' ≡ mid → IsLaneCall a number w turns m m' e

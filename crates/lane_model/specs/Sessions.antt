@@ -1,15 +1,15 @@
 -- What one call of a lane does, moment by moment.
-use Rattle.std.specs.Prelude.{◌≡◌, ℕ, ◌+◌, ◌<◌, ◌≤◌, true, List, [], ◌∷◌, ◌++◌, All, length, max, fold, sum_by, Option}
+use Rattle.std.specs.Prelude.{◌≡◌, ℕ, ◌+◌, ◌<◌, ◌≤◌, true, false, List, [], ◌∷◌, ◌++◌, All, length, max, fold, sum_by, Option}
 use mathlib.Core.List.{IsPrefix}
 use Rattle.outside.specs.Faults.{BothTell, Rose, raised}
-use Rattle.outside.specs.Port.{PortTold}
+use Rattle.outside.specs.Port.{Packet, PortTold}
 use Rattle.outside.specs.Gate.{GateTold, IsTurning, going}
 use Rattle.outside.specs.declared.gate.Turning.TheVariants.{Stop}
 use Rattle.outside.specs.Notes.{NotesTold}
 use Rattle.lane_model.specs.declared.ended.Ended.{Ended}
 use Rattle.lane_model.specs.declared.ended.Ended.TheVariants as end
 use Rattle.lane_model.specs.Lanes.{Answers, IsLaneRun}
-use Rattle.lane_model.specs.Turns.{Turn, AreCalm, AreGiven, IsCame, IsGiven, IsTold, count_after, entries_of, fails_of, failures, floor_after, gate_turn, is_refused, looks_of, refused_of, port_after, port_turn, tries_of, ended}
+use Rattle.lane_model.specs.Turns.{Turn, AreCalm, AreGiven, IsCame, IsGiven, IsTold, count_after, entries_of, fails_of, failures, floor_after, gate_turn, is_refused, looks_of, refused_of, port_after, port_turn, tries_of, ended, refused, took}
 
 -- what a viewer has seen and was told of, and its door's numbers
 pub record Eyes (V : Type 0) : Type 0 where
@@ -55,6 +55,7 @@ pub record IsTurn {V T : Type 0} (a : Answers V) (number : T → ℕ) (w : ℕ) 
   pub port_later : m.port_faults ≤ m'.port_faults
   pub gate_later : m.gate_faults ≤ m'.gate_faults
   pub refusal : is_refused t.came ≡ true → Rose m.eyes.faults m'.eyes.faults
+  pub stays : is_refused t.came ≡ false → m'.eyes.faults ≡ m.eyes.faults
   pub failing : 0 < fails_of t.came → Rose m.port_faults m'.port_faults
 
 -- some turns, one after the other
@@ -93,7 +94,7 @@ abbrev pub IsGateRun : ℕ → List Turn → Ended → GateTold → GateTold →
 IsGateRun shown log end.Stopped before after = IsTurning shown Stop (fold gate_turn before log) after
 IsGateRun shown log _ before after = after ≡ fold gate_turn before log
 
--- What a call of a lane promises, over the turns that it made: a lane run over what its viewer has seen by then; that what was told is minded; what port and notes tell by then; one look for each datagram that isn't silent; that nothing that was handed out is past what is known by then; that faults have their causes.
+-- What a call of a lane promises, over the turns that it made: a lane run over what its viewer has seen by then; that what was told is minded; what port and notes tell by then; one look for each datagram that isn't silent; that nothing that was handed out is past what is known by then; that faults have their causes; and that a datagram whose look was refused has a reply, which it missed.
 pub record IsLaneLog {V T : Type 0} (a : Answers V) (number : T → ℕ) (w : ℕ) (log : List Turn) (m m' : Moment V T) : Type 0 where
   pub run : (floor : ℕ) → floor < length m.eyes.told → IsLaneRun a m'.eyes.seen w m.count floor (entries_of log) (tries_of log)
   pub told : (floor : ℕ) → floor < length m.eyes.told → IsTold floor log
@@ -105,6 +106,8 @@ pub record IsLaneLog {V T : Type 0} (a : Answers V) (number : T → ℕ) (w : �
   pub looks : m'.eyes.looks ≡ raised m.eyes.looks (sum_by (λ t. looks_of t.came) log)
   pub failing : 0 < failures log → Rose m.port_faults m'.port_faults
   pub refusal : 0 < sum_by (λ t. refused_of t.came) log → Rose m.eyes.faults m'.eyes.faults
+  pub stays : sum_by (λ t. refused_of t.came) log ≡ 0 → m'.eyes.faults ≡ m.eyes.faults
+  pub missed : All (λ t. (d : Packet) → t.came ≡ took d refused → a.silent d.octets ≡ false) log
   pub port_later : m.port_faults ≤ m'.port_faults
 
 -- what a call of a lane promises

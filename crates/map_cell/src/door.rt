@@ -1,5 +1,5 @@
 //! Doors: the way of viewers into a cell, which counts what it is asked and what it refuses.
-ghost use Rattle.std.specs.Prelude.{◌≡◌, ◌+◌, ◌<◌, ◌^◌, ◌≤◌, ◌∷◌, ◌++◌, [], ℕ, length, max, IfOk, IfErr, OnErr, OnOk, MatchResult};
+ghost use Rattle.std.specs.Prelude.{◌≡◌, ◌⊎◌, ◌+◌, ◌<◌, ◌^◌, ◌≤◌, ◌∷◌, ◌++◌, [], ℕ, length, max, IfOk, IfErr, IsErrOf, OnErr, OnOk};
 ghost use mathlib.Core.List.{IsPrefix};
 ghost use Rattle.std.specs.Fn.{FnOnceTakesAt, FnOnceReturnsAt};
 ghost use Rattle.map_cell.specs.Doors.{unused};
@@ -55,13 +55,15 @@ pub trait Door: Drop {
         ensures seen { IfOk result (λ v. (v.seen ≡ publisher.old.history) × (v.told ≡ publisher.old.history)) }
         ensures counts { (asked self.new ≡ raised (asked self.old) 1) × (looks self.new ≡ looks self.old) × (greatest self.new ≡ greatest self.old) }
         ensures later { faults self.old ≤ faults self.new }
-        ensures cause { IfErr result (λ e. e ≡ Shut → Rose (faults self.old) (faults self.new)) };
+        ensures cause { IfErr result (λ e. e ≡ Shut → Rose (faults self.old) (faults self.new)) }
+        ensures stays { ¬ IsErrOf result Shut → faults self.new ≡ faults self.old };
 
-    /// Tells the viewer of a published version.
+    /// Tells the viewer of a published version, and of no more.
     fn learn<J: Naming>(&mut self, viewer: &mut Viewer<J>, note: &Note<J>)
         ensures seen { viewer.new.seen ≡ viewer.old.seen }
         ensures kept { IsPrefix viewer.old.told viewer.new.told }
         ensures note { IsPrefix note.now.front viewer.new.told }
+        ensures one { (viewer.new.told ≡ viewer.old.told) ⊎ (viewer.new.told ≡ note.now.front) }
         ensures counts { (faults self.new ≡ faults self.old) × (looks self.new ≡ looks self.old) × (asked self.new ≡ asked self.old) }
         ensures greatest { greatest self.new + 1 ≡ max (greatest self.old + 1) (length viewer.new.told) };
 
@@ -84,7 +86,8 @@ pub trait Door: Drop {
         ensures greatest { OnOk result (greatest self.new + 1 ≡ max (greatest self.old + 1) (length viewer.new.told)) }
         ensures err { OnErr result ((viewer.new ≡ viewer.old) × (greatest self.new ≡ greatest self.old)) }
         ensures looks { (looks self.new ≡ raised (looks self.old) 1) × (asked self.new ≡ asked self.old) }
-        ensures cause { MatchResult result (λ _. faults self.old ≤ faults self.new) (λ _. Rose (faults self.old) (faults self.new)) };
+        ensures cause { OnErr result (Rose (faults self.old) (faults self.new)) }
+        ensures stays { OnOk result (faults self.new ≡ faults self.old) };
 }
 
 /// Goes straight to the cell, and counts each refusal of it that is not for want of memory.

@@ -35,7 +35,7 @@ impl<J: Naming> NoteRow<J> {
         Ok(NoteRow { cells })
     }
 
-    /// Sets the first cell from `at` on that takes the note, and leaves `at` behind it; or answers false, where none took it.
+    /// Puts the note into the first free cell, not looking at those before `at`, and moves `at` past that cell. False means that no cell was free.
     pub fn put<R: Wait>(&self, rt: &R, at: &mut u32, note: Note<J>) -> bool
         ensures { MatchBool result ((at.old < at.new) × (at.new ≤ 65536)) (at.new ≡ 65536) }
     {

@@ -40,6 +40,7 @@ pub fn open<J: Naming, D: Door, R: Wait>(
     ensures same { (D.looks door.new ≡ D.looks door.old) × (D.greatest door.new ≡ D.greatest door.old) }
     ensures later { D.faults door.old ≤ D.faults door.new }
     ensures cause { IfErr result (λ e. e ≡ Shut → Rose (D.faults door.old) (D.faults door.new)) }
+    ensures stays { OnOk result (D.faults door.new ≡ D.faults door.old) }
 {
     let (book, empty) = history.named::<J>();
     let Ok(second) = first.try_clone() else {
@@ -80,6 +81,7 @@ fn fill<J: Naming, D: Door, R: Wait>(
     ensures untouched { (D.looks door.new ≡ D.looks door.old) × (D.greatest door.new ≡ D.greatest door.old) }
     ensures later { D.faults door.old ≤ D.faults door.new }
     ensures cause { IfErr result (λ e. e ≡ Shut → Rose (D.faults door.old) (D.faults door.new)) }
+    ensures stays { OnOk result (D.faults door.new ≡ D.faults door.old) }
 {
     for _ in 0..viewers {
         let viewer = door.admit(rt, publisher)?;

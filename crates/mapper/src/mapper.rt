@@ -119,6 +119,7 @@ impl<J: Naming> Mapper<J> {
         ensures same { (D.looks door.new ≡ D.looks door.old) × (D.greatest door.new ≡ D.greatest door.old) }
         ensures later { D.faults door.old ≤ D.faults door.new }
         ensures cause { IfErr result (λ e. e ≡ Shut → Rose (D.faults door.old) (D.faults door.new)) }
+        ensures stays { OnOk result (D.faults door.new ≡ D.faults door.old) }
         ensures steps { OnOk result (steps.new ≤ steps.old + most_offers topology.market) }
         ensures steps_later { steps.old ≤ steps.new }
     {

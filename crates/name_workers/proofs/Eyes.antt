@@ -2,7 +2,7 @@
 use Rattle.std.proofs.Common.{◌≡◌, ℕ, ◌+◌, ◌-◌, ◌<◌, ◌≤◌, true, false, List, [], ◌∷◌, ◌++◌, length, map, max, replicate, All, Option, None, Some, refl, sym, ap, subst, ◌∙◌, arith, append_assoc, append-nil, length-append}
 use Rattle.std.proofs.lemmas.Grind.{common_steps}
 use mathlib.Core.List.{IsPrefix}
-use Rattle.outside.specs.Faults.{BothTell, raised}
+use Rattle.outside.specs.Faults.{BothTell, Rose, raised}
 use Rattle.published_map.specs.Version.{Version}
 use Rattle.outside.specs.Notes.{NotesTold, IsNextNote}
 use Rattle.lane_model.specs.Sessions.{Eyes, IsRise}
@@ -11,6 +11,7 @@ use Rattle.lane_model.proofs.Going.{rise_none, rise_trans}
 use Rattle.lane_model.proofs.Prefixes.{prefix_self, prefix_length}
 use Rattle.lane_model.proofs.Runs.{tells_on}
 use Rattle.name_workers.specs.Given.{AreGivenSoFar, AreSome}
+use Rattle.name_workers.specs.Worker.{IsLookRefused}
 
 none_given : {T : Type 0} (number : T → ℕ) (b : NotesTold T) → AreSome number [] b b
 none_given number b = record { coming = refl; places = sym (append-nil b.places); nones = refl }
@@ -63,4 +64,15 @@ rise_learned e f seen told greatest faults = record {
   greatest = omega (arith, greatest);
   rising = omega (arith, greatest);
   faults = omega (arith, faults);
+}
+
+-- a look was refused
+pub rise_refused : (octets : List ℕ) (e f : Eyes Version) → IsLookRefused octets e f → IsRise e f
+rise_refused octets e f r = record {
+  seen = subst (λ (l : List Version). IsPrefix e.seen l) (sym r.seen) (prefix_self e.seen);
+  told = subst (λ (l : List Version). IsPrefix e.told l) (sym r.told) (prefix_self e.told);
+  above = omega (arith, ap length r.told);
+  greatest = omega (arith, r.greatest);
+  rising = omega (arith, r.greatest);
+  faults = omega (arith, r.rose);
 }

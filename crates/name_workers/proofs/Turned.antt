@@ -19,6 +19,7 @@ use Rattle.name_workers.specs.declared.serve.Fared.TheVariants as fared
 use Rattle.name_workers.specs.declared.serve.Step.{Step}
 use Rattle.name_workers.specs.declared.serve.Step.TheVariants as step
 use Rattle.lane_model.specs.Replies.{replies}
+use Rattle.name_workers.proofs.Eyes.{rise_refused}
 use Rattle.name_workers.specs.Steps.{IsFared, IsReceived, IsTaken, IsTurned, Wire, step_of, step_of_fared}
 
 rose_later : (x y z : ℕ) → x ≤ y → Rose y z → Rose x z
@@ -52,9 +53,9 @@ turned number w step.PortFailed m m' t q e = (t, q, e)
 turned number w step.Refused m m' t q e = (t, q, e)
 
 pub turn_of : {T : Type 0} (number : T → ℕ) (w w1 n1 shown : ℕ) (s : Step) (e1 : Eyes Version) (m m' : Moment Version T) → shown + 1 ≡ length m.eyes.told → BothTell m.gate m'.gate (IsTurning shown Go) → m.gate_faults ≤ m'.gate_faults
-    → ((serials : List ℕ) × BothTell m.notes m'.notes (IsGiven number serials) × All (λ x. x < length e1.told) serials) → IsRise m.eyes e1 → e1.looks ≡ m.eyes.looks → w1 ≡ w → n1 ≡ m.count
+    → ((serials : List ℕ) × BothTell m.notes m'.notes (IsGiven number serials) × All (λ x. x < length e1.told) serials) → IsRise m.eyes e1 → e1.looks ≡ m.eyes.looks → e1.faults ≡ m.eyes.faults → w1 ≡ w → n1 ≡ m.count
     → IsTaken w1 n1 m'.count s e1 m'.eyes (record { told = m.port; faults = m.port_faults }) (record { told = m'.port; faults = m'.port_faults }) → IsTurned number w s m m'
-turn_of number w w1 n1 shown s e1 m m' is gate gl given rise looks same count q =
+turn_of number w w1 n1 shown s e1 m m' is gate gl given rise looks faults same count q =
     let r = q.received in
     let longer = prefix_length m.eyes.told e1.told rise.told in
     turned number w s m m' (record { shown = shown; notes = given.0; known = q.known; came = q.came }) (record {
@@ -73,6 +74,7 @@ turn_of number w w1 n1 shown s e1 m m' is gate gl given rise looks same count q 
       port_later = r.later;
       gate_later = gl;
       refusal = λ x. rose_later m.eyes.faults e1.faults m'.eyes.faults rise.faults (r.refusal x);
+      stays = λ x. r.stays x ∙ faults;
       failing = r.failing;
     }) q.step
 
@@ -98,6 +100,7 @@ arrived w n n' known len buffer from fared.Silent s e g p q r is recv later x co
     looks = ap (λ k. k.looks) x.1 ∙ raised_none e.looks;
     later = subst (λ (k : Wire). p.faults ≤ k.faults) (sym x.2) later;
     refusal = λ b. absurd (cc b);
+    stays = λ b. ap (λ k. k.faults) x.1;
     failing = λ b. absurd (omega (arith, b));
   };
   count = count;
@@ -108,13 +111,14 @@ arrived w n n' known len buffer from fared.Refused s e g p q r is recv later x c
   came = took (packet_in buffer len from) refused;
   received = record {
     known_is = is;
-    port = subst (λ (k : Wire). BothTell p.told k.told (λ b c. c ≡ taking (packet_in buffer len from) known b)) (sym x.port) (tells_on p.told q.told q.told (IsRecv known buffer (Arrived len from)) (λ b c. c ≡ b) (λ b c. c ≡ taking (packet_in buffer len from) known b) (λ b c d u v. v ∙ u.port) recv (tells_itself q.told));
-    came_is = x.spoken;
-    rise = x.rise;
-    knows = subst (λ (k : List Version). known < length k) (sym x.same) (omega (arith, is));
-    looks = x.looks;
-    later = subst (λ (k : Wire). p.faults ≤ k.faults) (sym x.port) later;
-    refusal = λ b. x.rose;
+    port = subst (λ (k : Wire). BothTell p.told k.told (λ b c. c ≡ taking (packet_in buffer len from) known b)) (sym x.1) (tells_on p.told q.told q.told (IsRecv known buffer (Arrived len from)) (λ b c. c ≡ b) (λ b c. c ≡ taking (packet_in buffer len from) known b) (λ b c d u v. v ∙ u.port) recv (tells_itself q.told));
+    came_is = x.0.spoken;
+    rise = rise_refused (packet_in buffer len from).octets e g x.0;
+    knows = subst (λ (k : List Version). known < length k) (sym x.0.told) (omega (arith, is));
+    looks = x.0.looks;
+    later = subst (λ (k : Wire). p.faults ≤ k.faults) (sym x.1) later;
+    refusal = λ b. x.0.rose;
+    stays = λ b. absurd (cc b);
     failing = λ b. absurd (omega (arith, b));
   };
   count = count;
@@ -133,6 +137,7 @@ arrived w n n' known len buffer from fared.Sent s e g p q r is recv later x coun
     looks = x.2.looks;
     later = let l = x.2.later in omega (arith, later, l);
     refusal = λ b. absurd (cc b);
+    stays = λ b. x.2.replied.stays;
     failing = λ b. absurd (omega (arith, b));
   };
   count = count;
@@ -151,6 +156,7 @@ arrived w n n' known len buffer from fared.Failed s e g p q r is recv later x co
     looks = x.2.looks;
     later = let l = x.2.later in omega (arith, later, l);
     refusal = λ b. absurd (cc b);
+    stays = λ b. x.2.replied.stays;
     failing = λ b. rose_later p.faults q.faults r.faults later x.3;
   };
   count = count;

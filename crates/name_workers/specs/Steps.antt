@@ -13,7 +13,7 @@ use Rattle.name_workers.specs.declared.serve.Fared.TheVariants as fared
 use Rattle.name_workers.specs.declared.serve.Step.{Step}
 use Rattle.name_workers.specs.declared.serve.Step.TheVariants as step
 use Rattle.lane_model.specs.Replies.{is_silent, replies}
-use Rattle.name_workers.specs.Worker.{IsReplied}
+use Rattle.name_workers.specs.Worker.{IsLookRefused, IsReplied}
 
 -- what a port tells, and its faults
 pub record Wire : Type 0 where
@@ -28,19 +28,10 @@ pub record IsTried (w n : ℕ) (d : Packet) (e f : Eyes Version) (p q : Wire) (s
   pub port : BothTell p.told q.told (λ b c. c ≡ trying t b)
   pub later : p.faults ≤ q.faults
 
--- the look was refused
-pub record IsShut (d : Packet) (e f : Eyes Version) (p q : Wire) : Type 0 where
-  pub spoken : is_silent d.octets ≡ false
-  pub rise : IsRise e f
-  pub same : f.told ≡ e.told
-  pub looks : f.looks ≡ raised e.looks 1
-  pub rose : Rose e.faults f.faults
-  pub port : q ≡ p
-
 -- what became of a datagram that was taken
 abbrev pub IsFared : ℕ → ℕ → Packet → Fared → Eyes Version → Eyes Version → Wire → Wire → Type 0
 IsFared w n d fared.Silent e f p q = (is_silent d.octets ≡ true) × (f ≡ e) × (q ≡ p)
-IsFared w n d fared.Refused e f p q = IsShut d e f p q
+IsFared w n d fared.Refused e f p q = IsLookRefused d.octets e f × (q ≡ p)
 IsFared w n d fared.Sent e f p q = (serial : ℕ) × (octets : List ℕ) × IsTried w n d e f p q serial octets (record { octets = octets; to = d.from; serial = serial; went = true })
 IsFared w n d fared.Failed e f p q = (serial : ℕ) × (octets : List ℕ) × IsTried w n d e f p q serial octets (record { octets = octets; to = d.from; serial = serial; went = false }) × Rose p.faults q.faults
 
@@ -74,6 +65,7 @@ pub record IsReceived (w n known : ℕ) (came : Came) (e f : Eyes Version) (p q 
   pub looks : f.looks ≡ raised e.looks (looks_of came)
   pub later : p.faults ≤ q.faults
   pub refusal : is_refused came ≡ true → Rose e.faults f.faults
+  pub stays : is_refused came ≡ false → f.faults ≡ e.faults
   pub failing : 0 < fails_of came → Rose p.faults q.faults
 
 -- the same, of what came by then

@@ -2,7 +2,7 @@
 use Rattle.std.specs.Prelude.{◌≡◌, ℕ, ◌+◌, ◌≤◌, true, false, List, [], length, Option, None, Some, Result, Ok, Err, slice_get}
 use mathlib.Core.List.{IsPrefix}
 use Rattle.addr_text.specs.declared.address.Addr.{Addr}
-use Rattle.outside.specs.Faults.{Rose}
+use Rattle.outside.specs.Faults.{Rose, raised}
 use Rattle.published_map.specs.Version.{Version}
 use Rattle.map_cell.specs.declared.door.CellFault.{CellFault}
 use Rattle.lane_model.specs.Lanes.{draw}
@@ -16,9 +16,19 @@ pub record IsReplied (w n : ℕ) (from : Addr) (octets : List ℕ) (serial : ℕ
   pub fresh : length e.told ≤ serial + 1
   pub known : length f.told ≡ serial + 1
   pub rise : IsRise e f
+  pub stays : f.faults ≡ e.faults
+
+-- The look was refused: nothing but the door's counts of looks and of faults has changed.
+pub record IsLookRefused (octets : List ℕ) (e f : Eyes Version) : Type 0 where
+  pub spoken : is_silent octets ≡ false
+  pub seen : f.seen ≡ e.seen
+  pub told : f.told ≡ e.told
+  pub greatest : f.greatest ≡ e.greatest
+  pub looks : f.looks ≡ raised e.looks 1
+  pub rose : Rose e.faults f.faults
 
 -- the answer, by cases
 abbrev pub IsAnswer : ℕ → ℕ → Addr → List ℕ → Eyes Version → Eyes Version → List ℕ → Result (Option ℕ) CellFault → Type 0
 IsAnswer w n from octets e f out (Ok None) = (is_silent octets ≡ true) × (f ≡ e) × (out ≡ [])
 IsAnswer w n from octets e f out (Ok (Some serial)) = IsReplied w n from octets serial e f out
-IsAnswer w n from octets e f out (Err fault) = (is_silent octets ≡ false) × IsRise e f × (f.told ≡ e.told) × Rose e.faults f.faults
+IsAnswer w n from octets e f out (Err fault) = IsLookRefused octets e f × (out ≡ [])

@@ -78,6 +78,7 @@ fn learn_all<J: Naming, D: Door, N: Notes<Note = Note<J>>>(
         (record { seen = worker.old.viewer.seen; told = worker.old.viewer.told; looks = D.looks door.old; greatest = D.greatest door.old; faults = D.faults door.old })
         (record { seen = worker.new.viewer.seen; told = worker.new.viewer.told; looks = D.looks door.new; greatest = D.greatest door.new; faults = D.faults door.new }) }
     ensures looks { D.looks door.new ≡ D.looks door.old }
+    ensures faults { D.faults door.new ≡ D.faults door.old }
     ensures same { (worker.new.viewer.seen ≡ worker.old.viewer.seen) × (worker.new.count ≡ worker.old.count) × (worker.new.number ≡ worker.old.number) }
     ensures asked { D.asked door.new ≡ D.asked door.old }
 {

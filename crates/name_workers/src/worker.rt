@@ -69,11 +69,12 @@ impl<J: Naming> Worker<J> {
         self.viewer.known()
     }
 
-    /// Tells it of a published map.
+    /// Tells it of a published map, and of no later one.
     pub fn learn<D: Door>(&mut self, door: &mut D, note: &Note<J>)
         ensures seen { self.new.viewer.seen ≡ self.old.viewer.seen }
         ensures kept { IsPrefix self.old.viewer.told self.new.viewer.told }
         ensures note { IsPrefix note.now.front self.new.viewer.told }
+        ensures one { (self.new.viewer.told ≡ self.old.viewer.told) ⊎ (self.new.viewer.told ≡ note.now.front) }
         ensures same { (self.new.number ≡ self.old.number) × (self.new.count ≡ self.old.count) }
         ensures counts { (D.faults door.new ≡ D.faults door.old) × (D.looks door.new ≡ D.looks door.old) × (D.asked door.new ≡ D.asked door.old) }
         ensures greatest { D.greatest door.new + 1 ≡ max (D.greatest door.old + 1) (length self.new.viewer.told) }
@@ -86,7 +87,7 @@ impl<J: Naming> Worker<J> {
     ///
     /// # Errors
     ///
-    /// `CellFault` where the look was refused.
+    /// `CellFault` where the look was refused; what was seen and told stays.
     pub fn answer<D: Door>(
         &mut self,
         door: &mut D,

@@ -5,7 +5,7 @@ use Rattle.map_cell.proofs.Counts.{raised_more, raised_none}
 use Rattle.map_cell.proofs.opening.fill.Goals as goal
 
 pub loop-init : goal.loop-init
-loop-init g c = record { same = refl; size = c.requires.0; room = refl; seen = search rules; later = omega arith; asked = raised_none (g.D.Door.asked c.args.door.now); looks = refl; greatest = refl }
+loop-init g c = record { same = refl; size = c.requires.0; room = refl; seen = search rules; faults = refl; asked = raised_none (g.D.Door.asked c.args.door.now); looks = refl; greatest = refl }
 
 pub loop-preserved : goal.loop-preserved
 loop-preserved g c = record {
@@ -14,7 +14,7 @@ loop-preserved g c = record {
   room = c.push_reserved.ensures.capacity ∙ c.loop.invariant.room;
   seen = let one : (c.in_ok-viewer.viewer.seen ≡ c.args.publisher.now.history) × (c.in_ok-viewer.viewer.told ≡ c.args.publisher.now.history) = rw (← c.loop.invariant.same) c.in_ok-viewer.ensures.seen in
       rw c.push_reserved.ensures.items (All-push (λ v. (v.seen ≡ c.args.publisher.now.history) × (v.told ≡ c.args.publisher.now.history)) c.loop.seats.items c.in_ok-viewer.viewer c.loop.invariant.seen one);
-  later = let l = c.admit.ensures.later in omega (arith, l, c.loop.invariant.later);
+  faults = c.admit.ensures.stays (λ h. cc (h, c.in_ok-viewer.is)) ∙ c.loop.invariant.faults;
   asked = c.admit.ensures.counts.0 ∙ (ap (λ (n : ℕ). raised n 1) c.loop.invariant.asked ∙ raised_more (g.D.Door.asked c.args.door.now) c.loop.counter 1);
   looks = c.admit.ensures.counts.1 ∙ c.loop.invariant.looks;
   greatest = c.admit.ensures.counts.2 ∙ c.loop.invariant.greatest;

@@ -8,7 +8,7 @@ invariant-loop g l = record {
   size : vec_len l.seats ≡ l.counter;
   room : vec_capacity l.seats ≡ vec_capacity l.fn.seats;
   seen : All (λ v. (v.seen ≡ l.fn.publisher.history) × (v.told ≡ l.fn.publisher.history)) l.seats.items;
-  later : g.D.Door.faults l.fn.door ≤ g.D.Door.faults l.door;
+  faults : g.D.Door.faults l.door ≡ g.D.Door.faults l.fn.door;
   asked : g.D.Door.asked l.door ≡ raised (g.D.Door.asked l.fn.door) l.counter;
   looks : g.D.Door.looks l.door ≡ g.D.Door.looks l.fn.door;
   greatest : g.D.Door.greatest l.door ≡ g.D.Door.greatest l.fn.door;

@@ -17,4 +17,5 @@ loop-note-preserved g c =
       i.4,
       i.5,
       l.counts.2 ∙ i.6,
+      l.counts.0 ∙ i.7,
     )

@@ -8,7 +8,7 @@ abbrev pub invariant-loop-note : goal.invariant-loop-note
 invariant-loop-note g l = AreGivenSoFar (λ n. length n.front - 1) (g.N.Notes.told l.fn.notes) (g.N.Notes.told l.notes) (length l.worker.viewer.told)
     × IsRise (record { seen = l.fn.worker.viewer.seen; told = l.fn.worker.viewer.told; looks = g.D.Door.looks l.fn.door; greatest = g.D.Door.greatest l.fn.door; faults = g.D.Door.faults l.fn.door })
     (record { seen = l.worker.viewer.seen; told = l.worker.viewer.told; looks = g.D.Door.looks l.door; greatest = g.D.Door.greatest l.door; faults = g.D.Door.faults l.door })
-    × (g.D.Door.looks l.door ≡ g.D.Door.looks l.fn.door) × (l.worker.viewer.seen ≡ l.fn.worker.viewer.seen) × (l.worker.count ≡ l.fn.worker.count) × (l.worker.number ≡ l.fn.worker.number) × (g.D.Door.asked l.door ≡ g.D.Door.asked l.fn.door)
+    × (g.D.Door.looks l.door ≡ g.D.Door.looks l.fn.door) × (l.worker.viewer.seen ≡ l.fn.worker.viewer.seen) × (l.worker.count ≡ l.fn.worker.count) × (l.worker.number ≡ l.fn.worker.number) × (g.D.Door.asked l.door ≡ g.D.Door.asked l.fn.door) × (g.D.Door.faults l.door ≡ g.D.Door.faults l.fn.door)
 
 abbrev pub decreases-loop-note : goal.decreases-loop-note
 decreases-loop-note g l = g.N.Notes.left l.notes
