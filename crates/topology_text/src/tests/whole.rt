@@ -4,16 +4,17 @@ use crate::read::read_topology;
 use crate::{Names, Topology, Zone};
 use addr_text::{Addr, Prefix};
 use map_model::{GroupId, Instance, NodeId, Offer};
+use name_text::Name;
 use std::alloc::Global;
 use std::process::Abort;
 
-fn read_example(alloc: Global) -> Option<Topology> {
-    let text = example(alloc)?;
-    read_topology(alloc, text.as_bytes()).ok()
+fn topology_of(alloc: Global, text: &[u8]) -> Option<Topology> {
+    read_topology(alloc, text).ok()
 }
 
 fn read(rt: &impl Abort, alloc: Global) -> Topology {
-    read_example(alloc).expect(rt, "a topology")
+    let text = example(alloc).expect(rt, "memory");
+    topology_of(alloc, text.as_bytes()).expect(rt, "a topology")
 }
 
 /// A group's name, its demand, and the pools of its list beside their scores.
@@ -62,11 +63,15 @@ fn are_groups(topology: &Topology, rows: &[GroupRow]) -> bool {
     rows.len() == count as usize
 }
 
+fn names_no_group(topology: &Topology, name: &[u8]) -> bool {
+    topology.group_named(name).is_none()
+}
+
 #[test]
 fn example_groups(rt: HostRuntime) {
     let topology = read(&rt, rt.alloc());
     assert!(rt; are_groups(&topology, GROUPS));
-    assert!(rt; topology.group_named(b"G1").is_none());
+    assert!(rt; names_no_group(&topology, b"G1"));
 }
 
 /// A node's name, its capacity and its parent, and its addresses.
@@ -113,11 +118,15 @@ fn are_nodes(topology: &Topology, rows: &[NodeRow]) -> bool {
     rows.len() == count as usize
 }
 
+fn names_no_node(topology: &Topology, name: &[u8]) -> bool {
+    topology.node_named(name).is_none()
+}
+
 #[test]
 fn example_nodes(rt: HostRuntime) {
     let topology = read(&rt, rt.alloc());
     assert!(rt; are_nodes(&topology, NODES));
-    assert!(rt; topology.node_named(b"").is_none());
+    assert!(rt; names_no_node(&topology, b""));
 }
 
 const PREFIXES: &[(Prefix, GroupId)] = &[
@@ -144,10 +153,14 @@ const PREFIXES: &[(Prefix, GroupId)] = &[
     ),
 ];
 
+fn has_prefixes(topology: &Topology, prefixes: &[(Prefix, GroupId)]) -> bool {
+    topology.prefixes() == prefixes
+}
+
 #[test]
 fn example_prefixes(rt: HostRuntime) {
     let topology = read(&rt, rt.alloc());
-    assert!(rt; topology.prefixes() == PREFIXES);
+    assert!(rt; has_prefixes(&topology, PREFIXES));
 }
 
 /// The zone's own names, as they are on the wire.
@@ -164,18 +177,22 @@ const NAME_SERVERS: &[&[u8]] = &[
 
 const SERVICES: &[&[u8]] = &[b"\x03www\x00"];
 
+fn is_name(name: &Name, wire: &[u8]) -> bool {
+    name.wire() == wire
+}
+
 fn are_names(names: &Names, wires: &[&[u8]]) -> bool {
     let names = names.as_slice();
     names.len() == wires.len()
         && names
             .iter()
             .zip(wires)
-            .all(|(name, wire)| name.wire() == *wire)
+            .all(|(name, wire)| is_name(name, *wire))
 }
 
 fn has_names(zone: &Zone, wires: &[&[u8]; 3]) -> bool {
     let [apex, mname, rname] = wires;
-    zone.apex.wire() == *apex && zone.mname.wire() == *mname && zone.rname.wire() == *rname
+    is_name(&zone.apex, *apex) && is_name(&zone.mname, *mname) && is_name(&zone.rname, *rname)
 }
 
 #[test]
