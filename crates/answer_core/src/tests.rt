@@ -13,7 +13,7 @@ use stable_check::{CheckRoom, Verdict, check};
 use std::alloc::Global;
 use std::process::Abort;
 use std::sync::Arc;
-use topology_text::{Topology, read_topology};
+use topology_text::{Topology, TopologyFault, read_topology};
 
 /// Two pools under a region; the second group is spread over both.
 const EXAMPLE: &str = r#"
@@ -127,15 +127,16 @@ fn is_good(alloc: Global, instance: &Instance, map: &MapLines) -> bool
     }
 }
 
-fn topology_of(alloc: Global, text: &str) -> Option<Topology> {
-    read_topology(alloc, text.as_bytes()).ok()
+/// What is read, with no word on it: the checks of those who call this are short.
+fn topology_of(alloc: Global, text: &str) -> Result<Topology, TopologyFault> {
+    read_topology(alloc, text.as_bytes())
 }
 
 /// The version of a topology and a map that is good for it.
 fn version_of(alloc: Global, text: &str, map: &MapLines) -> Option<MapVersion>
     ensures { IfSome result IsVersion }
 {
-    let Some(topology) = topology_of(alloc, text) else {
+    let Ok(topology) = topology_of(alloc, text) else {
         return None;
     };
     let Ok(instance) = topology.instance().try_clone() else {

@@ -10,13 +10,19 @@ use addr_text::Addr;
 use outside::MemSource;
 use std::alloc::Global;
 use std::process::Abort;
-use topology_text::{Topology, read_topology};
+use topology_text::{Topology, TopologyFault, read_topology};
 use worlds::EXAMPLE_TREE;
+
+/// What is read, with no word on it: the checks of those who call this are short.
+fn topology_of(alloc: Global, text: &str) -> Result<Topology, TopologyFault> {
+    read_topology(alloc, text.as_bytes())
+}
 
 /// The example that feeds are of.
 fn example(rt: &impl Abort, alloc: Global) -> Topology {
-    let topology = read_topology(alloc, EXAMPLE_TREE.as_bytes()).ok();
-    topology.expect(rt, "no topology")
+    topology_of(alloc, EXAMPLE_TREE)
+        .ok()
+        .expect(rt, "a topology")
 }
 
 /// Whether a line has that fault.
@@ -98,7 +104,7 @@ fn lines(rt: HostRuntime) {
 }
 
 /// What a recorder was handed.
-#[derive(Clone, Copy, Debug, PartialEq, Eq)]
+#[derive(Clone, Copy, PartialEq, Eq)]
 enum Seen {
     Refused(u64, Refusal),
     Batch(usize),

@@ -17,7 +17,7 @@ use std::sync::atomic::AtomicU64;
 use std::sync::atomic::Ordering::SeqCst;
 use std::sync::{Arc, Wait};
 use std::thread::{self, Threads, join_mut};
-use topology_text::{Topology, read_topology};
+use topology_text::{Topology, TopologyFault, read_topology};
 use worlds::{EXAMPLE, EXAMPLE_TREE, map_of};
 
 mod rows;
@@ -127,8 +127,9 @@ struct Start {
     version: MapVersion,
 }
 
-fn example(alloc: Global) -> Option<Topology> {
-    read_topology(alloc, EXAMPLE_TREE.as_bytes()).ok()
+/// What is read, with no word on it: the checks of those who call this are short.
+fn topology_of(alloc: Global, text: &str) -> Result<Topology, TopologyFault> {
+    read_topology(alloc, text.as_bytes())
 }
 
 fn started(alloc: Global) -> Option<Start>
@@ -136,7 +137,7 @@ fn started(alloc: Global) -> Option<Start>
     ensures old { IfSome result (λ s. IsGood s.worlds.old s.worlds.old_map.lines.items s.worlds.old_map.names.items) }
     ensures new { IfSome result (λ s. IsSameShape s.worlds.old s.worlds.new × IsSameShape s.worlds.new s.worlds.old × IsGood s.worlds.new s.worlds.new_map.lines.items s.worlds.new_map.names.items) }
 {
-    let Some(topology) = example(alloc) else {
+    let Ok(topology) = topology_of(alloc, EXAMPLE_TREE) else {
         return None;
     };
     let Some(worlds) = worlds_of(alloc, &topology) else {

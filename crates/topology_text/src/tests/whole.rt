@@ -1,20 +1,23 @@
 //! The example topology, read whole.
 use super::example;
 use crate::read::read_topology;
-use crate::{Names, Topology, Zone};
+use crate::{Names, Topology, TopologyFault, Zone};
 use addr_text::{Addr, Prefix};
 use map_model::{GroupId, Instance, NodeId, Offer};
 use name_text::Name;
 use std::alloc::Global;
 use std::process::Abort;
 
-fn topology_of(alloc: Global, text: &[u8]) -> Option<Topology> {
-    read_topology(alloc, text).ok()
+/// What is read, with no word on it: the checks of those who call this are short.
+fn topology_of(alloc: Global, text: &[u8]) -> Result<Topology, TopologyFault> {
+    read_topology(alloc, text)
 }
 
 fn read(rt: &impl Abort, alloc: Global) -> Topology {
     let text = example(alloc).expect(rt, "memory");
-    topology_of(alloc, text.as_bytes()).expect(rt, "a topology")
+    topology_of(alloc, text.as_bytes())
+        .ok()
+        .expect(rt, "a topology")
 }
 
 /// A group's name, its demand, and the pools of its list beside their scores.
