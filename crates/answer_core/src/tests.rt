@@ -122,29 +122,30 @@ fn is_good(alloc: Global, instance: &Instance, map: &MapLines) -> bool
     ensures { result ≡ true → IsGood instance.now map.now.lines.items map.now.names.items }
 {
     match CheckRoom::new(alloc, instance) {
-        Ok(mut room) => matches!(check(instance, map, &mut room), Verdict::Good),
         Err(_) => false,
+        Ok(room) => {
+            let mut room = room;
+            matches!(check(instance, map, &mut room), Verdict::Good)
+        }
     }
 }
 
 /// What is read, with no word on it: the checks of those who call this are short.
-fn topology_of(alloc: Global, text: &str) -> Result<Topology, TopologyFault> {
-    read_topology(alloc, text.as_bytes())
+fn topology_of(alloc: Global, text: &[u8]) -> Result<Topology, TopologyFault> {
+    read_topology(alloc, text)
 }
 
-/// The version of a topology and a map that is good for it.
-fn version_of(alloc: Global, text: &str, map: &MapLines) -> Option<MapVersion>
+/// The version of a topology and a map that is good for its instance.
+fn first_version(
+    alloc: Global,
+    topology: Topology,
+    instance: &Instance,
+    map: &MapLines,
+) -> Option<MapVersion>
+    requires instance { instance.now ≡ topology.market }
+    requires good { IsGood instance.now map.now.lines.items map.now.names.items }
     ensures { IfSome result IsVersion }
 {
-    let Ok(topology) = topology_of(alloc, text) else {
-        return None;
-    };
-    let Ok(instance) = topology.instance().try_clone() else {
-        return None;
-    };
-    if !is_good(alloc, &instance, map) {
-        return None;
-    }
     let Ok(lookup) = Lookup::build(alloc, topology.prefixes()) else {
         return None;
     };
@@ -154,7 +155,26 @@ fn version_of(alloc: Global, text: &str, map: &MapLines) -> Option<MapVersion>
     let Ok(shared) = Arc::new(alloc, Shared { topology, lookup }) else {
         return None;
     };
-    MapVersion::make(alloc, 0, &instance, map, shared).ok()
+    match MapVersion::make(alloc, 0, instance, map, shared) {
+        Ok(version) => Some(version),
+        Err(_) => None,
+    }
+}
+
+/// The version of a text and a map that is good for it.
+fn version_of(alloc: Global, text: &str, map: &MapLines) -> Option<MapVersion>
+    ensures { IfSome result IsVersion }
+{
+    let Ok(topology) = topology_of(alloc, text.as_bytes()) else {
+        return None;
+    };
+    let Ok(instance) = topology.instance().try_clone() else {
+        return None;
+    };
+    if !is_good(alloc, &instance, map) {
+        return None;
+    }
+    first_version(alloc, topology, &instance, map)
 }
 
 const LINES: &[(u32, u8, u32)] = &[(0, 0, 8), (1, 0, 2), (1, 1, 5)];
@@ -252,6 +272,10 @@ const REPLIES: &[ReplyRow] = &[
     ),
 ];
 
+fn has(out: &ArrayVec<u8, 512>, octets: &[u8]) -> bool {
+    out.as_slice() == octets
+}
+
 /// Whether a datagram has the reply that its row says.
 fn replies_so(version: &MapVersion, out: &mut ArrayVec<u8, 512>, row: &ReplyRow) -> bool
     requires { IsVersion version.now }
@@ -259,7 +283,7 @@ fn replies_so(version: &MapVersion, out: &mut ArrayVec<u8, 512>, row: &ReplyRow)
     let (octets, draw, answer, want) = row;
     silent(*octets) == (*answer == Answer::Silent)
         && reply(version, FROM, *octets, *draw, out) == *answer
-        && out.as_slice() == *want
+        && has(out, *want)
 }
 
 /// The same of each, into one buffer.

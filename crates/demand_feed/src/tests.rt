@@ -104,7 +104,7 @@ fn lines(rt: HostRuntime) {
 }
 
 /// What a recorder was handed.
-#[derive(Clone, Copy, PartialEq, Eq)]
+#[derive(Clone, Copy, Debug, PartialEq, Eq)]
 enum Seen {
     Refused(u64, Refusal),
     Batch(usize),
