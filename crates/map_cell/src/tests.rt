@@ -16,8 +16,9 @@ use std::marker::Brand;
 use std::sync::atomic::AtomicU64;
 use std::sync::atomic::Ordering::SeqCst;
 use std::sync::{Arc, Wait};
+use std::test::Fail;
 use std::thread::{self, Threads, join_mut};
-use topology_text::{Topology, TopologyFault, read_topology};
+use topology_text::{Topology, read_topology};
 use worlds::{EXAMPLE, EXAMPLE_TREE, map_of};
 
 mod rows;
@@ -120,35 +121,6 @@ fn first_version(alloc: Global, topology: Topology, worlds: &Worlds) -> Option<M
     }
 }
 
-/// The example and what it becomes, and the first version of a cell of it.
-#[derive(Drop)]
-struct Start {
-    worlds: Worlds,
-    version: MapVersion,
-}
-
-/// What is read, with no word on it: the checks of those who call this are short.
-fn topology_of(alloc: Global, text: &str) -> Result<Topology, TopologyFault> {
-    read_topology(alloc, text.as_bytes())
-}
-
-fn started(alloc: Global) -> Option<Start>
-    ensures first { IfSome result (λ s. IsOf s.worlds.old s.worlds.old_map.lines.items s.worlds.old_map.names.items s.version × (s.version.serial ≡ 0)) }
-    ensures old { IfSome result (λ s. IsGood s.worlds.old s.worlds.old_map.lines.items s.worlds.old_map.names.items) }
-    ensures new { IfSome result (λ s. IsSameShape s.worlds.old s.worlds.new × IsSameShape s.worlds.new s.worlds.old × IsGood s.worlds.new s.worlds.new_map.lines.items s.worlds.new_map.names.items) }
-{
-    let Ok(topology) = topology_of(alloc, EXAMPLE_TREE) else {
-        return None;
-    };
-    let Some(worlds) = worlds_of(alloc, &topology) else {
-        return None;
-    };
-    let Some(version) = first_version(alloc, topology, &worlds) else {
-        return None;
-    };
-    Some(Start { worlds, version })
-}
-
 /// What a look shows: the serial, and of the second group the demand and the units at its two places.
 #[derive(Clone, Copy, Debug, PartialEq, Eq)]
 struct Sight {
@@ -245,7 +217,13 @@ fn opened<J: Naming, R: Wait, D: Door>(
 ) -> Result<Option<(Sight, u64, Sight)>, OpenFault>
     requires { history ≡ J.book }
 {
-    let Some(Start { worlds, version }) = started(alloc) else {
+    let Ok(topology) = read_topology(alloc, EXAMPLE_TREE.as_bytes()) else {
+        return Ok(None);
+    };
+    let Some(worlds) = worlds_of(alloc, &topology) else {
+        return Ok(None);
+    };
+    let Some(version) = first_version(alloc, topology, &worlds) else {
         return Ok(None);
     };
     let (publisher, viewers) = open::<J, D, R>(rt, alloc, history, version, 1, door)?;
@@ -285,31 +263,25 @@ const NEW: Sight = Sight {
 };
 
 #[test]
-fn looks_follow_publishes(rt: HostRuntime) {
+fn looks_follow_publishes(rt: HostRuntime) -> Result<(), Fail> {
     let mut door = PlainDoor::new();
     let seen = seen_by(&rt, rt.alloc(), &mut door);
     assert!(rt; seen == Ok(Some((OLD, 1, NEW))));
+    Ok(())
 }
 
-/// A door that refuses these places and these looks, by their numbers from 0.
-fn refusing(alloc: Global, places: &[u64], looks: &[u64]) -> Option<MemDoor> {
-    let places = Vec::from_slice(alloc, places).ok()?;
-    let looks = Vec::from_slice(alloc, looks).ok()?;
-    Some(MemDoor::new(places, looks))
-}
-
+/// A door that refuses its first place, and one that refuses its second look.
 #[test]
-fn a_door_refuses_its_first_place(rt: HostRuntime) {
-    let mut door = refusing(rt.alloc(), &[0], &[]).expect(&rt, "memory");
+fn doors_refuse(rt: HostRuntime) -> Result<(), Fail> {
+    let first = Vec::from_slice(rt.alloc(), [0].as_slice())?;
+    let mut door = MemDoor::new(first, Vec::new(rt.alloc()));
     let seen = seen_by(&rt, rt.alloc(), &mut door);
     assert!(rt; seen == Err(OpenFault::CellFault));
-}
-
-#[test]
-fn a_door_refuses_its_second_look(rt: HostRuntime) {
-    let mut door = refusing(rt.alloc(), &[], &[1]).expect(&rt, "memory");
+    let second = Vec::from_slice(rt.alloc(), [1].as_slice())?;
+    let mut door = MemDoor::new(Vec::new(rt.alloc()), second);
     let seen = seen_by(&rt, rt.alloc(), &mut door);
     assert!(rt; seen == Ok(None));
+    Ok(())
 }
 
 /// How many times two maps follow each other, and how often the publisher waits until the viewer has come as far.
@@ -482,7 +454,13 @@ fn opened_beside<J: Naming + Send + Sync, R: Wait + Threads + Sync>(
 ) -> bool
     requires { history ≡ J.book }
 {
-    let Some(Start { worlds, version }) = started(alloc) else {
+    let Ok(topology) = read_topology(alloc, EXAMPLE_TREE.as_bytes()) else {
+        return false;
+    };
+    let Some(worlds) = worlds_of(alloc, &topology) else {
+        return false;
+    };
+    let Some(version) = first_version(alloc, topology, &worlds) else {
         return false;
     };
     let mut door = PlainDoor::new();
@@ -520,6 +498,7 @@ fn beside<R: Wait + Threads + Sync>(rt: &R, alloc: Global) -> bool {
 /// A publisher of ten thousand maps, and beside it a viewer that looks all the time: serials never fall, and each look
 /// is at one map.
 #[test]
-fn looks_beside_publishes(rt: HostRuntime) {
+fn looks_beside_publishes(rt: HostRuntime) -> Result<(), Fail> {
     assert!(rt; beside(&rt, rt.alloc()));
+    Ok(())
 }

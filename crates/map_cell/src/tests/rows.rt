@@ -4,12 +4,15 @@ ghost use Rattle.map_model.specs.Market.{IsSameShape};
 ghost use Rattle.map_model.specs.Allocation.{IsGood};
 ghost use Rattle.map_cell.specs.Examples.{IsOf};
 
-use super::{Start, Worlds, publish_to, started};
+use super::{Worlds, first_version, publish_to, worlds_of};
 use crate::{EmptyHistory, Naming, NoteRow, PlainDoor, Publisher, RowNotes, open};
 use outside::Notes;
 use std::alloc::Global;
 use std::marker::Brand;
 use std::sync::Wait;
+use std::test::Fail;
+use topology_text::read_topology;
+use worlds::EXAMPLE_TREE;
 
 /// The serial of the next note, if one is there.
 fn next_serial<J: Naming>(notes: &mut RowNotes<'_, J>) -> Option<u64> {
@@ -112,12 +115,10 @@ struct Filled {
 fn opened_row<J: Naming, R: Wait>(rt: &R, alloc: Global, history: EmptyHistory) -> Option<Filled>
     requires { history ≡ J.book }
 {
-    let Some(Start { worlds, version }) = started(alloc) else {
-        return None;
-    };
-    let Ok(row) = NoteRow::new(alloc) else {
-        return None;
-    };
+    let topology = read_topology(alloc, EXAMPLE_TREE.as_bytes()).ok()?;
+    let worlds = worlds_of(alloc, &topology)?;
+    let version = first_version(alloc, topology, &worlds)?;
+    let row = NoteRow::new(alloc).ok()?;
     let mut door = PlainDoor::new();
     let Ok((publisher, _viewers)) = open::<J, PlainDoor, R>(
         rt, alloc, history, version, 0, &mut door,
@@ -142,7 +143,7 @@ fn filled_row<R: Wait>(rt: &R, alloc: Global) -> Option<Filled> {
 
 /// Two notes in turns, and then 65,534 more of the second map, after which the row is full.
 #[test]
-fn rows_are_read_in_order(rt: HostRuntime) {
+fn rows_are_read_in_order(rt: HostRuntime) -> Result<(), Fail> {
     let turns = Turns {
         unset: None,
         first: Some(0),
@@ -157,4 +158,5 @@ fn rows_are_read_in_order(rt: HostRuntime) {
         held: (1, 65_535),
     };
     assert!(rt; filled_row(&rt, rt.alloc()) == Some(filled));
+    Ok(())
 }
