@@ -1,18 +1,19 @@
 //! Replies of worked examples, octet for octet, and of each datagram that differs from them in one octet.
-ghost use Rattle.std.specs.Prelude.{◌<◌, IfOk};
+ghost use Rattle.std.specs.Prelude.{◌≡◌, ◌<◌, true, length, IfSome};
+ghost use Rattle.map_model.specs.Allocation.{IsGood};
 ghost use Rattle.published_map.specs.Version.{IsVersion};
 
 use crate::{Answer, pick, reply, silent};
 use addr_text::Addr;
 use arrayvec::ArrayVec;
-use map_model::{GroupId, MapLine, MapLines, NameLine, NodeId};
+use map_model::{GroupId, Instance, MapLine, MapLines, NameLine, NodeId};
 use prefix_lookup::Lookup;
 use published_map::{MapVersion, Shared};
 use stable_check::{CheckRoom, Verdict, check};
 use std::alloc::Global;
+use std::process::Abort;
 use std::sync::Arc;
-use std::test::Fail;
-use topology_text::read_topology;
+use topology_text::{Topology, TopologyFault, read_topology};
 
 /// Two pools under a region; the second group is spread over both.
 const EXAMPLE: &str = r#"
@@ -90,160 +91,297 @@ scores = [1]
 prefixes = ["0.0.0.0/0", "::/0"]
 "#;
 
-/// Lines of (group, place, amount), and names of (group, place, node).
-fn map_of(
-    alloc: Global,
-    lines: &[(u32, u8, u32)],
-    names: &[(u32, u8, u32)],
-) -> Result<MapLines, Fail> {
-    let mut map = MapLines {
-        lines: Vec::new(alloc),
-        names: Vec::new(alloc),
-    };
-    for &(group, place, amount) in lines {
-        map.lines.push(MapLine {
-            group: GroupId(group),
-            place,
-            amount,
-        })?;
+/// Lines of (group, place, amount).
+fn lines_of(alloc: Global, rows: &[(u32, u8, u32)]) -> Option<Vec<MapLine>> {
+    let mut lines = Vec::new(alloc);
+    for &(group, place, amount) in rows {
+        let group = GroupId(group);
+        lines
+            .push(MapLine {
+                group,
+                place,
+                amount,
+            })
+            .ok()?;
     }
-    for &(group, place, node) in names {
-        map.names.push(NameLine {
-            group: GroupId(group),
-            place,
-            node: NodeId(node),
-        })?;
-    }
-    Ok(map)
+    Some(lines)
 }
 
-/// The version of a topology and a map that is good for it.
-fn version_of(alloc: Global, text: &str, map: MapLines) -> Result<MapVersion, Fail>
-    ensures { IfOk result IsVersion }
-{
-    let topology = read_topology(alloc, text.as_bytes())?;
-    let instance = topology.instance().try_clone()?;
-    let mut room = CheckRoom::new(alloc, &instance)?;
-    let Verdict::Good = check(&instance, &map, &mut room) else {
-        return Err("not good".into());
-    };
-    let lookup = Lookup::build(alloc, topology.prefixes())?;
-    let topology = Arc::new(alloc, topology)?;
-    let shared = Arc::new(alloc, Shared { topology, lookup })?;
-    Ok(MapVersion::make(alloc, 0, &instance, &map, shared)?)
+/// Names of (group, place, node).
+fn names_of(alloc: Global, rows: &[(u32, u8, u32)]) -> Option<Vec<NameLine>> {
+    let mut names = Vec::new(alloc);
+    for &(group, place, node) in rows {
+        let (group, node) = (GroupId(group), NodeId(node));
+        names.push(NameLine { group, place, node }).ok()?;
+    }
+    Some(names)
 }
+
+/// Whether the map is good for the instance.
+fn is_good(alloc: Global, instance: &Instance, map: &MapLines) -> bool
+    ensures { result ≡ true → IsGood instance.now map.now.lines.items map.now.names.items }
+{
+    match CheckRoom::new(alloc, instance) {
+        Err(_) => false,
+        Ok(room) => {
+            let mut room = room;
+            matches!(check(instance, map, &mut room), Verdict::Good)
+        }
+    }
+}
+
+/// What is read, with no word on it: the checks of those who call this are short.
+fn topology_of(alloc: Global, text: &[u8]) -> Result<Topology, TopologyFault> {
+    read_topology(alloc, text)
+}
+
+/// The version of a topology and a map that is good for its instance.
+fn first_version(
+    alloc: Global,
+    topology: Topology,
+    instance: &Instance,
+    map: &MapLines,
+) -> Option<MapVersion>
+    requires instance { instance.now ≡ topology.market }
+    requires good { IsGood instance.now map.now.lines.items map.now.names.items }
+    ensures { IfSome result IsVersion }
+{
+    let Ok(lookup) = Lookup::build(alloc, topology.prefixes()) else {
+        return None;
+    };
+    let Ok(topology) = Arc::new(alloc, topology) else {
+        return None;
+    };
+    let Ok(shared) = Arc::new(alloc, Shared { topology, lookup }) else {
+        return None;
+    };
+    match MapVersion::make(alloc, 0, instance, map, shared) {
+        Ok(version) => Some(version),
+        Err(_) => None,
+    }
+}
+
+/// The version of a text and a map that is good for it.
+fn version_of(alloc: Global, text: &str, map: &MapLines) -> Option<MapVersion>
+    ensures { IfSome result IsVersion }
+{
+    let Ok(topology) = topology_of(alloc, text.as_bytes()) else {
+        return None;
+    };
+    let Ok(instance) = topology.instance().try_clone() else {
+        return None;
+    };
+    if !is_good(alloc, &instance, map) {
+        return None;
+    }
+    first_version(alloc, topology, &instance, map)
+}
+
+const LINES: &[(u32, u8, u32)] = &[(0, 0, 8), (1, 0, 2), (1, 1, 5)];
+
+const NAMES: &[(u32, u8, u32)] = &[(1, 0, 1), (1, 1, 0)];
 
 /// The example and its map.
-fn example(alloc: Global) -> Result<MapVersion, Fail>
-    ensures { IfOk result IsVersion }
+fn example(rt: &impl Abort, alloc: Global) -> MapVersion
+    ensures { IsVersion result }
 {
-    let lines = [(0, 0, 8), (1, 0, 2), (1, 1, 5)];
-    let map = map_of(alloc, &lines, &[(1, 0, 1), (1, 1, 0)])?;
-    version_of(alloc, EXAMPLE, map)
+    made(rt, alloc, EXAMPLE, LINES, NAMES)
+}
+
+/// The same of any rows.
+fn made(
+    rt: &impl Abort,
+    alloc: Global,
+    text: &str,
+    lines: &[(u32, u8, u32)],
+    names: &[(u32, u8, u32)],
+) -> MapVersion
+    ensures { IsVersion result }
+{
+    let lines = lines_of(alloc, lines).expect(rt, "memory");
+    let names = names_of(alloc, names).expect(rt, "memory");
+    let map = MapLines { lines, names };
+    version_of(alloc, text, &map).expect(rt, "no version")
+}
+
+/// Draws, and the place of the second group's list on which each falls.
+const DRAWS: &[(u64, u8)] = &[
+    (0, 0),
+    // The last draw of slot 1, and the first of slot 2.
+    (5_270_498_306_774_157_604, 0),
+    (5_270_498_306_774_157_605, 1),
+    (1 << 63, 1),
+    (u64::MAX, 1),
+    // The first two draws of the first worker, slots 4 and 1, and the first of the second, slot 4.
+    (11_400_714_819_323_198_485, 1),
+    (4_354_685_564_936_845_354, 0),
+    (12_553_636_323_930_045_461, 1),
+];
+
+fn fall_so(version: &MapVersion, draws: &[(u64, u8)]) -> bool
+    requires version { IsVersion version.now }
+    requires group { 1 < length version.now.market.groups }
+{
+    for (draw, place) in draws {
+        if pick(version, GroupId(1), *draw) != Some(*place) {
+            return false;
+        }
+    }
+    true
 }
 
 /// The first two of seven units are at the first pool.
 #[test]
-fn picks_by_draw(rt: HostRuntime) -> Result<(), Fail> {
-    let version = example(rt.alloc())?;
-    assert_eq!(rt; version.groups(), 2);
-    let rows = [
-        (0, 0),
-        // The last draw of slot 1, and the first of slot 2.
-        (5_270_498_306_774_157_604, 0),
-        (5_270_498_306_774_157_605, 1),
-        (1 << 63, 1),
-        (u64::MAX, 1),
-        // The first two draws of the first worker, slots 4 and 1, and the first of the second, slot 4.
-        (11_400_714_819_323_198_485, 1),
-        (4_354_685_564_936_845_354, 0),
-        (12_553_636_323_930_045_461, 1),
-    ];
-    for (draw, place) in rows {
-        assert_eq!(rt; pick(&version, GroupId(1), draw), Some(place), "{draw}");
+fn picks_by_draw(rt: HostRuntime) {
+    let version = example(&rt, rt.alloc());
+    assert!(rt; version.groups() == 2);
+    assert!(rt; fall_so(&version, DRAWS));
+}
+
+const FROM: Addr = Addr::V4(0xc633_6407);
+
+/// A datagram and a draw, whether there is a reply, and the reply.
+type ReplyRow = (&'static [u8], u64, Answer, &'static [u8]);
+
+const REPLIES: &[ReplyRow] = &[
+    // The address of the pool that a draw picks.
+    (
+        b"\x12\x34\x01\0\0\x01\0\0\0\0\0\0\x03www\x03cdn\x07example\0\0\x01\0\x01",
+        1 << 63,
+        Answer::Sent,
+        b"\x12\x34\x85\0\0\x01\0\x01\0\0\0\0\x03www\x03cdn\x07example\0\0\x01\0\x01\
+        \xc0\x0c\0\x01\0\x01\0\0\0\x14\0\x04\xc0\0\x02\x02",
+    ),
+    // A response has no reply, whatever was in the buffer.
+    (
+        b"\x12\x34\x81\0\0\x01\0\0\0\0\0\0\0\0\x01\0\x01",
+        0,
+        Answer::Silent,
+        b"",
+    ),
+    // A name that is not there, with a subnet, which is repeated with scope 0.
+    (
+        b"\x12\x34\x01\0\0\x01\0\0\0\0\0\x01\x01x\x03cdn\x07example\0\0\x01\0\x01\
+        \0\0\x29\x04\xd0\0\0\0\0\0\x0b\0\x08\0\x07\0\x01\x18\0\xc6\x33\x64",
+        0,
+        Answer::Sent,
+        b"\x12\x34\x85\x03\0\x01\0\0\0\x01\0\x01\x01x\x03cdn\x07example\0\0\x01\0\x01\
+        \xc0\x0e\0\x06\0\x01\0\0\0\x14\0\x38\x03ns1\x03ops\x07example\0\x05admin\x03ops\x07example\0\
+        \0\0\0\x01\0\0\x0e\x10\0\0\x02\x58\0\x01\x51\x80\0\0\0\x3c\
+        \0\0\x29\x04\xd0\0\0\0\0\0\x0b\0\x08\0\x07\0\x01\x18\0\xc6\x33\x64",
+    ),
+];
+
+fn has(out: &ArrayVec<u8, 512>, octets: &[u8]) -> bool {
+    out.as_slice() == octets
+}
+
+/// Whether a datagram has the reply that its row says.
+fn replies_so(version: &MapVersion, out: &mut ArrayVec<u8, 512>, row: &ReplyRow) -> bool
+    requires { IsVersion version.now }
+{
+    let (octets, draw, answer, want) = row;
+    silent(*octets) == (*answer == Answer::Silent)
+        && reply(version, FROM, *octets, *draw, out) == *answer
+        && has(out, *want)
+}
+
+/// The same of each, into one buffer.
+fn all_reply_so(version: &MapVersion, rows: &[ReplyRow]) -> bool
+    requires { IsVersion version.now }
+{
+    let mut out = ArrayVec::new();
+    for row in rows {
+        if !replies_so(version, &mut out, row) {
+            return false;
+        }
     }
-    Ok(())
+    true
 }
 
 #[test]
-fn replies(rt: HostRuntime) -> Result<(), Fail> {
-    let version = example(rt.alloc())?;
-    let rows = [
-        // The address of the pool that a draw picks.
-        (
-            b"\x12\x34\x01\0\0\x01\0\0\0\0\0\0\x03www\x03cdn\x07example\0\0\x01\0\x01".as_slice(),
-            1 << 63,
-            Answer::Sent,
-            b"\x12\x34\x85\0\0\x01\0\x01\0\0\0\0\x03www\x03cdn\x07example\0\0\x01\0\x01\
-            \xc0\x0c\0\x01\0\x01\0\0\0\x14\0\x04\xc0\0\x02\x02"
-                .as_slice(),
-        ),
-        // A response has no reply, whatever was in the buffer.
-        (
-            b"\x12\x34\x81\0\0\x01\0\0\0\0\0\0\0\0\x01\0\x01",
-            0,
-            Answer::Silent,
-            b"",
-        ),
-        // A name that is not there, with a subnet, which is repeated with scope 0.
-        (
-            b"\x12\x34\x01\0\0\x01\0\0\0\0\0\x01\x01x\x03cdn\x07example\0\0\x01\0\x01\
-            \0\0\x29\x04\xd0\0\0\0\0\0\x0b\0\x08\0\x07\0\x01\x18\0\xc6\x33\x64",
-            0,
-            Answer::Sent,
-            b"\x12\x34\x85\x03\0\x01\0\0\0\x01\0\x01\x01x\x03cdn\x07example\0\0\x01\0\x01\
-            \xc0\x0e\0\x06\0\x01\0\0\0\x14\0\x38\x03ns1\x03ops\x07example\0\x05admin\x03ops\x07example\0\
-            \0\0\0\x01\0\0\x0e\x10\0\0\x02\x58\0\x01\x51\x80\0\0\0\x3c\
-            \0\0\x29\x04\xd0\0\0\0\0\0\x0b\0\x08\0\x07\0\x01\x18\0\xc6\x33\x64",
-        ),
-    ];
-    let from = Addr::V4(0xc633_6407);
-    let mut out = ArrayVec::new();
-    for (octets, draw, answer, reply_octets) in rows {
-        assert_eq!(rt; silent(octets), answer == Answer::Silent);
-        assert_eq!(rt; reply(&version, from, octets, draw, &mut out), answer);
-        assert_eq!(rt; out.as_slice(), reply_octets);
-    }
-    Ok(())
+fn replies(rt: HostRuntime) {
+    let version = example(&rt, rt.alloc());
+    assert!(rt; all_reply_so(&version, REPLIES));
 }
 
 /// The code of a reply; 15 where there is none.
-fn code_of(out: &ArrayVec<u8, 512>) -> usize
+fn code_of(octets: &[u8]) -> u8
     ensures { result < 16 }
 {
-    match out.as_slice().get(3) {
-        Some(flags) => usize::from(*flags % 16),
+    match octets.get(3) {
+        Some(flags) => *flags % 16,
         None => 15,
     }
 }
 
+/// The code and the size of the reply to a datagram from an address.
+fn replied(version: &MapVersion, from: Addr, octets: &[u8]) -> (u8, usize)
+    requires { IsVersion version.now }
+    ensures { result.0 < 16 }
+{
+    let mut out = ArrayVec::new();
+    let _ = reply(version, from, octets, 0, &mut out);
+    (code_of(out.as_slice()), out.len())
+}
+
+/// How often each code came, and how many octets in all.
+#[derive(Clone, Copy)]
+struct Counts {
+    codes: [u32; 16],
+    octets: usize,
+}
+
+fn count_reply(version: &MapVersion, octets: &[u8], counts: &mut Counts)
+    requires { IsVersion version.now }
+{
+    let (code, size) = replied(version, FROM, octets);
+    let codes = &mut counts.codes[usize::from(code)];
+    *codes = codes.wrapping_add(1);
+    counts.octets = counts.octets.wrapping_add(size);
+}
+
+/// A query with a subnet.
+const QUERY: [u8; 55] =
+    *b"\x12\x34\x01\0\0\x01\0\0\0\0\0\x01\x03www\x03cdn\x07example\0\0\x01\0\x01\
+    \0\0\x29\x04\xd0\0\0\0\0\0\x0b\0\x08\0\x07\0\x01\x18\0\xc6\x33\x64";
+
+/// Counts the replies to the query with one octet set to each value.
+fn count_values(version: &MapVersion, at: usize, counts: &mut Counts)
+    requires version { IsVersion version.now }
+    requires at { at < 55 }
+{
+    let mut changed = QUERY;
+    for value in 0..=255u8 {
+        changed[at] = value;
+        count_reply(version, &changed, counts);
+    }
+}
+
+fn counts_of(version: &MapVersion) -> Counts
+    requires { IsVersion version.now }
+{
+    let mut counts = Counts {
+        codes: [0; 16],
+        octets: 0,
+    };
+    for at in 0..55usize {
+        count_values(version, at, &mut counts);
+    }
+    counts
+}
+
+const CODES: [u32; 16] = [
+    4671, 5334, 0, 762, 120, 3065, 0, 0, 0, 0, 0, 0, 0, 0, 0, 128,
+];
+
 /// Each octet of a query with a subnet set to each value: how often each code comes, and how many octets are replied in all, was counted by another program.
 #[test]
-fn replies_to_each_change(rt: HostRuntime) -> Result<(), Fail> {
-    let query = *b"\x12\x34\x01\0\0\x01\0\0\0\0\0\x01\x03www\x03cdn\x07example\0\0\x01\0\x01\
-        \0\0\x29\x04\xd0\0\0\0\0\0\x0b\0\x08\0\x07\0\x01\x18\0\xc6\x33\x64";
-    let version = example(rt.alloc())?;
-    let mut out = ArrayVec::new();
-    let mut counts = [0u32; 16];
-    let mut octets = 0usize;
-    for at in 0..55usize {
-        for value in 0..=255u8 {
-            let mut changed = query;
-            changed[at] = value;
-            let _ = reply(&version, Addr::V4(0xc633_6407), &changed, 0, &mut out);
-            octets = octets.wrapping_add(out.len());
-            let code = code_of(&out);
-            counts[code] = counts[code].wrapping_add(1);
-        }
-    }
-    assert_eq!(rt;
-        counts,
-        [
-            4671, 5334, 0, 762, 120, 3065, 0, 0, 0, 0, 0, 0, 0, 0, 0, 128
-        ]
-    );
-    assert_eq!(rt; octets, 677_457);
-    Ok(())
+fn replies_to_each_change(rt: HostRuntime) {
+    let version = example(&rt, rt.alloc());
+    let counts = counts_of(&version);
+    assert!(rt; counts.codes == CODES);
+    assert!(rt; counts.octets == 677_457);
 }
 
 fn push_label(octets: &mut ArrayVec<u8, 512>, size: u8, letter: u8) {
@@ -253,37 +391,57 @@ fn push_label(octets: &mut ArrayVec<u8, 512>, size: u8, letter: u8) {
     }
 }
 
-/// A query for a name in the zone of long names, with a subnet of 128 bits.
-fn long_query(labels: &[(u8, u8)], kind: u8) -> ArrayVec<u8, 512> {
-    let mut octets = ArrayVec::new();
-    let _ = octets.try_extend_from_slice(b"\x12\x34\x01\0\0\x01\0\0\0\0\0\x01");
+fn push(octets: &mut ArrayVec<u8, 512>, more: &[u8]) {
+    let _ = octets.try_extend_from_slice(more);
+}
+
+/// Labels of so many times a letter.
+type Labels = &'static [(u8, u8)];
+
+fn push_labels(octets: &mut ArrayVec<u8, 512>, labels: Labels) {
     for &(size, letter) in labels {
-        push_label(&mut octets, size, letter);
+        push_label(octets, size, letter);
     }
+}
+
+/// A query for a name in the zone of long names, with a subnet of 128 bits.
+fn long_query(labels: Labels, kind: u8) -> ArrayVec<u8, 512> {
+    let mut octets = ArrayVec::new();
+    push(&mut octets, b"\x12\x34\x01\0\0\x01\0\0\0\0\0\x01");
+    push_labels(&mut octets, labels);
     push_label(&mut octets, 62, b'a');
-    let _ = octets.try_extend_from_slice(&[0, 0, kind, 0, 1]);
-    let _ = octets.try_extend_from_slice(
+    push(&mut octets, &[0, 0, kind, 0, 1]);
+    push(
+        &mut octets,
         b"\0\0\x29\x04\xd0\0\0\0\0\0\x18\0\x08\0\x14\0\x02\x80\0                ",
     );
     octets
 }
 
+/// Labels before the zone's name and a type, and the code and the size of the reply.
+const LONG_REPLIES: &[(Labels, u8, (u8, usize))] = &[
+    (&[(63, b'x'), (63, b'y'), (62, b'z')], 1, (3, 466)),
+    (&[(63, b's')], 28, (0, 347)),
+    (&[], 2, (0, 419)),
+    // A name of 256 octets is no query.
+    (&[(63, b'x'), (63, b'y'), (63, b'z')], 1, (1, 12)),
+];
+
+fn are_replied(version: &MapVersion, rows: &[(Labels, u8, (u8, usize))]) -> bool
+    requires { IsVersion version.now }
+{
+    for (labels, kind, want) in rows {
+        let query = long_query(*labels, *kind);
+        if replied(version, Addr::V4(0), query.as_slice()) != *want {
+            return false;
+        }
+    }
+    true
+}
+
 /// The longest replies there are, with their codes and sizes: no such name, addresses, name servers.
 #[test]
-fn bounds_replies(rt: HostRuntime) -> Result<(), Fail> {
-    let version = version_of(rt.alloc(), LONG, map_of(rt.alloc(), &[(0, 0, 1)], &[])?)?;
-    let rows = [
-        (long_query(&[(63, b'x'), (63, b'y'), (62, b'z')], 1), 3, 466),
-        (long_query(&[(63, b's')], 28), 0, 347),
-        (long_query(&[], 2), 0, 419),
-        // A name of 256 octets is no query.
-        (long_query(&[(63, b'x'), (63, b'y'), (63, b'z')], 1), 1, 12),
-    ];
-    let mut out = ArrayVec::new();
-    for (query, code, size) in rows {
-        let _ = reply(&version, Addr::V4(0), query.as_slice(), 0, &mut out);
-        assert_eq!(rt; code_of(&out), code);
-        assert_eq!(rt; out.len(), size);
-    }
-    Ok(())
+fn bounds_replies(rt: HostRuntime) {
+    let version = made(&rt, rt.alloc(), LONG, &[(0, 0, 1)], &[]);
+    assert!(rt; are_replied(&version, LONG_REPLIES));
 }

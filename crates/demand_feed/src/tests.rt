@@ -1,5 +1,5 @@
 //! Lines, a feed in pieces of any size, and changes files.
-ghost use Rattle.std.specs.Prelude.{◌≡◌, ◌↔◌, None};
+ghost use Rattle.std.specs.Prelude.{◌≡◌, ◌≤◌, ◌↔◌, ◌^◌, None};
 ghost use Rattle.demand_feed.specs.Clerk.{item_by};
 
 use crate::{
@@ -9,9 +9,21 @@ use crate::{
 use addr_text::Addr;
 use outside::MemSource;
 use std::alloc::Global;
-use std::test::Fail;
-use topology_text::{Topology, read_topology};
+use std::process::Abort;
+use topology_text::{Topology, TopologyFault, read_topology};
 use worlds::EXAMPLE_TREE;
+
+/// What is read, with no word on it: the checks of those who call this are short.
+fn topology_of(alloc: Global, text: &str) -> Result<Topology, TopologyFault> {
+    read_topology(alloc, text.as_bytes())
+}
+
+/// The example that feeds are of.
+fn example(rt: &impl Abort, alloc: Global) -> Topology {
+    topology_of(alloc, EXAMPLE_TREE)
+        .ok()
+        .expect(rt, "a topology")
+}
 
 /// Whether a line has that fault.
 fn has_fault(line: &[u8], fault: LineFault) -> bool {
@@ -21,65 +33,74 @@ fn has_fault(line: &[u8], fault: LineFault) -> bool {
     }
 }
 
+const FAULTS: &[(&[u8], LineFault)] = &[
+    (b"\xff", LineFault::BadByte),
+    (b"show\r", LineFault::BadByte),
+    (b"show\0", LineFault::BadByte),
+    (b"\tshow", LineFault::BadByte),
+    (b"", LineFault::UnknownWord),
+    (b"   ", LineFault::UnknownWord),
+    (b"Show", LineFault::UnknownWord),
+    (b"demand g1 4 5", LineFault::WrongCount),
+    (b"demand g1", LineFault::WrongCount),
+    (b"show now", LineFault::WrongCount),
+    (b"demand g1 x", LineFault::BadNumber),
+    (b"demand g1 12345678901234567890", LineFault::BadNumber),
+    (b"ask 1.2.3 abc", LineFault::BadAddress),
+    (b"ask 1.2.3.4 abc", LineFault::BadHex),
+    (b"ask 1.2.3.4 0g", LineFault::BadHex),
+];
+
+fn have_faults(rows: &[(&[u8], LineFault)]) -> bool {
+    rows.iter().all(|(line, fault)| has_fault(*line, *fault))
+}
+
 #[test]
-fn faults(rt: HostRuntime) -> Result<(), Fail> {
-    let long = vec![in rt.alloc(); b'a'; 8_301]?;
-    assert!(rt; has_fault(long.as_slice(), LineFault::TooLong));
-    assert!(rt; has_fault(&long[..8_300], LineFault::UnknownWord));
-    let rows: [(&[u8], LineFault); 15] = [
-        (b"\xff", LineFault::BadByte),
-        (b"show\r", LineFault::BadByte),
-        (b"show\0", LineFault::BadByte),
-        (b"\tshow", LineFault::BadByte),
-        (b"", LineFault::UnknownWord),
-        (b"   ", LineFault::UnknownWord),
-        (b"Show", LineFault::UnknownWord),
-        (b"demand g1 4 5", LineFault::WrongCount),
-        (b"demand g1", LineFault::WrongCount),
-        (b"show now", LineFault::WrongCount),
-        (b"demand g1 x", LineFault::BadNumber),
-        (b"demand g1 12345678901234567890", LineFault::BadNumber),
-        (b"ask 1.2.3 abc", LineFault::BadAddress),
-        (b"ask 1.2.3.4 abc", LineFault::BadHex),
-        (b"ask 1.2.3.4 0g", LineFault::BadHex),
-    ];
-    for (line, fault) in rows {
-        assert!(rt; has_fault(line, fault));
+fn faults(rt: HostRuntime) {
+    assert!(rt; have_faults(FAULTS));
+}
+
+const LINES: &[(&[u8], Line<'static>)] = &[
+    (
+        b"  demand   g1 0004 ",
+        Line::Demand {
+            group: b"g1",
+            number: 4,
+        },
+    ),
+    (
+        b"capacity A 9999999999999999999",
+        Line::Capacity {
+            node: b"A",
+            number: 9_999_999_999_999_999_999,
+        },
+    ),
+    (b"commit", Line::Commit),
+    (
+        b"ask 1.2.3.4 aB",
+        Line::Ask {
+            addr: Addr::V4(0x0102_0304),
+            digits: b"aB",
+        },
+    ),
+    (b"show", Line::Show),
+    (b" stop", Line::Stop),
+];
+
+fn is_line(line: &[u8], want: &Line) -> bool {
+    match read_line(line) {
+        Ok(found) => found == *want,
+        Err(_) => false,
     }
-    Ok(())
+}
+
+fn are_lines(rows: &[(&[u8], Line<'static>)]) -> bool {
+    rows.iter().all(|(line, want)| is_line(*line, want))
 }
 
 #[test]
 fn lines(rt: HostRuntime) {
-    let rows: [(&[u8], Line<'static>); 6] = [
-        (
-            b"  demand   g1 0004 ",
-            Line::Demand {
-                group: b"g1",
-                number: 4,
-            },
-        ),
-        (
-            b"capacity A 9999999999999999999",
-            Line::Capacity {
-                node: b"A",
-                number: 9_999_999_999_999_999_999,
-            },
-        ),
-        (b"commit", Line::Commit),
-        (
-            b"ask 1.2.3.4 aB",
-            Line::Ask {
-                addr: Addr::V4(0x0102_0304),
-                digits: b"aB",
-            },
-        ),
-        (b"show", Line::Show),
-        (b" stop", Line::Stop),
-    ];
-    for (line, want) in rows {
-        assert_eq!(rt; read_line(line), Ok(want));
-    }
+    assert!(rt; are_lines(LINES));
 }
 
 /// What a recorder was handed.
@@ -139,34 +160,52 @@ impl TakesItems for Recorder<'_> {
     }
 }
 
-/// How a feed in pieces of that size ended, what came of it, and how many pieces were read.
-fn run_pieces(
+/// How a feed is read: in pieces of that size, of which those with these numbers, from 0, fail, by a recorder that fails
+/// at the item of that number, from 1, and in so many turns.
+#[derive(Clone, Copy)]
+struct Course {
+    size: usize,
+    fails: &'static [u64],
+    fails_at: usize,
+    turns: u64,
+}
+
+fn feed_of(alloc: Global, text: &[u8], course: &Course) -> Option<MemSource> {
+    let bytes = Vec::from_slice(alloc, text).ok()?;
+    let sizes = vec![in alloc; course.size; text.len()].ok()?;
+    let fails = Vec::from_slice(alloc, course.fails).ok()?;
+    MemSource::new(alloc, bytes, sizes, fails).ok()
+}
+
+/// How a run ends that hands its items to a recorder.
+fn record(
+    alloc: Global,
+    feed: &mut MemSource,
+    recorder: &mut Recorder<'_>,
+    turns: u64,
+) -> Option<FeedEnd>
+    requires { 2 ^ 63 ≤ recorder.old.left }
+{
+    let mut intake = Intake::new(alloc).ok()?;
+    let turns = turns.min(MOST_TURNS);
+    Some(run_lines(recorder.topology, &mut intake, feed, recorder, turns))
+}
+
+/// How a feed ended, what came of it, and how many pieces were read.
+fn run_feed(
     alloc: Global,
     topology: &Topology,
     text: &[u8],
-    size: usize,
-    fails: &[u64],
-    fails_at: usize,
-    turns: u64,
+    course: &Course,
 ) -> Option<(FeedEnd, Vec<Seen>, usize)> {
-    let bytes = Vec::from_slice(alloc, text).ok()?;
-    let sizes = vec![in alloc; size; text.len()].ok()?;
-    let fails = Vec::from_slice(alloc, fails).ok()?;
-    let mut feed = MemSource::new(alloc, bytes, sizes, fails).ok()?;
-    let mut intake = Intake::new(alloc).ok()?;
+    let mut feed = feed_of(alloc, text, course)?;
     let mut recorder = Recorder {
         topology,
         seen: Vec::new(alloc),
-        fails_at,
+        fails_at: course.fails_at,
         left: u64::MAX,
     };
-    let end = run_lines(
-        topology,
-        &mut intake,
-        &mut feed,
-        &mut recorder,
-        turns.min(MOST_TURNS),
-    );
+    let end = record(alloc, &mut feed, &mut recorder, course.turns)?;
     Some((end, recorder.seen, feed.pieces()))
 }
 
@@ -179,7 +218,13 @@ fn comes(
     want: &[Seen],
     pieces: usize,
 ) -> bool {
-    match run_pieces(alloc, topology, text, size, &[], 0, 1_000_000) {
+    let smooth = Course {
+        size,
+        fails: &[],
+        fails_at: 0,
+        turns: 1_000_000,
+    };
+    match run_feed(alloc, topology, text, &smooth) {
         Some((end, seen, read)) => {
             end == FeedEnd::Ended && seen.as_slice() == want && read == pieces
         }
@@ -206,7 +251,7 @@ capacity A 281474976710656
 commit
 show";
 
-const CAME: [Seen; 13] = [
+const CAME: &[Seen] = &[
     Seen::Batch(1),
     Seen::Refused(3, Refusal::Line(LineFault::UnknownWord)),
     Seen::Refused(4, Refusal::Batch(BatchFault::UnknownName)),
@@ -220,6 +265,7 @@ const CAME: [Seen; 13] = [
     Seen::Totals,
     Seen::Spoiled(2),
     Seen::Batch(2),
+    Seen::Totals,
 ];
 
 /// Whether the same comes of the feed in pieces of each size.
@@ -234,58 +280,101 @@ fn comes_by_any_size(alloc: Global, topology: &Topology, want: &[Seen]) -> bool 
 }
 
 #[test]
-fn pieces(rt: HostRuntime) -> Result<(), Fail> {
-    let alloc = rt.alloc();
-    let Ok(topology) = read_topology(alloc, EXAMPLE_TREE.as_bytes()) else {
-        return Err(Fail::from("no topology"));
-    };
-    let mut want = Vec::from_slice(alloc, CAME.as_slice())?;
-    want.push(Seen::Totals)?;
-    assert!(rt; comes_by_any_size(alloc, &topology, want.as_slice()));
-    Ok(())
+fn pieces(rt: HostRuntime) {
+    let topology = example(&rt, rt.alloc());
+    assert!(rt; comes_by_any_size(rt.alloc(), &topology, CAME));
+}
+
+// Nothing is read behind the piece that ends `stop`. A feed of no octets ends without a piece.
+#[test]
+fn ends(rt: HostRuntime) {
+    let topology = example(&rt, rt.alloc());
+    let stopped = b"show\nstop\nshow\n";
+    assert!(rt; comes(rt.alloc(), &topology, stopped, 1, &[Seen::Totals], 10));
+    assert!(rt; comes(rt.alloc(), &topology, b"", 1, &[], 0));
+}
+
+/// How two lines that ask for totals end, read in two pieces, after how many items.
+const ENDS: &[(&Course, FeedEnd, usize)] = &[
+    (
+        &Course {
+            size: 7,
+            fails: &[9],
+            fails_at: 0,
+            turns: 1,
+        },
+        FeedEnd::Spent,
+        1,
+    ),
+    (
+        &Course {
+            size: 7,
+            fails: &[9],
+            fails_at: 0,
+            turns: 2,
+        },
+        FeedEnd::Spent,
+        2,
+    ),
+    (
+        &Course {
+            size: 7,
+            fails: &[9],
+            fails_at: 0,
+            turns: 3,
+        },
+        FeedEnd::Ended,
+        2,
+    ),
+    (
+        &Course {
+            size: 7,
+            fails: &[1],
+            fails_at: 0,
+            turns: 9,
+        },
+        FeedEnd::SourceFault,
+        1,
+    ),
+    (
+        &Course {
+            size: 7,
+            fails: &[9],
+            fails_at: 1,
+            turns: 9,
+        },
+        FeedEnd::SinkFault,
+        1,
+    ),
+];
+
+/// Whether a feed ends so, after so many items.
+fn ends_so(
+    alloc: Global,
+    topology: &Topology,
+    course: &Course,
+    end: FeedEnd,
+    items: usize,
+) -> bool {
+    match run_feed(alloc, topology, b"show\nshow\n", course) {
+        Some((found, seen, _)) => found == end && seen.len() == items,
+        None => false,
+    }
+}
+
+fn all_end_so(alloc: Global, topology: &Topology, rows: &[(&Course, FeedEnd, usize)]) -> bool {
+    for (course, end, items) in rows {
+        if !ends_so(alloc, topology, *course, *end, *items) {
+            return false;
+        }
+    }
+    true
 }
 
 #[test]
-fn ends(rt: HostRuntime) -> Result<(), Fail> {
-    let alloc = rt.alloc();
-    let Ok(topology) = read_topology(alloc, EXAMPLE_TREE.as_bytes()) else {
-        return Err(Fail::from("no topology"));
-    };
-    // Nothing is read behind the piece that ends `stop`. A feed of no octets ends without a piece.
-    assert!(rt;
-        comes(
-            alloc,
-            &topology,
-            b"show\nstop\nshow\n",
-            1,
-            &[Seen::Totals],
-            10
-        )
-    );
-    assert!(rt; comes(alloc, &topology, b"", 1, &[], 0));
-    let rows: [(u64, usize, u64, FeedEnd, usize); 5] = [
-        (9, 0, 1, FeedEnd::Spent, 1),
-        (9, 0, 2, FeedEnd::Spent, 2),
-        (9, 0, 3, FeedEnd::Ended, 2),
-        (1, 0, 9, FeedEnd::SourceFault, 1),
-        (9, 1, 9, FeedEnd::SinkFault, 1),
-    ];
-    for (fails, fails_at, turns, want, items) in rows {
-        let Some((end, seen, _)) = run_pieces(
-            alloc,
-            &topology,
-            b"show\nshow\n",
-            7,
-            &[fails],
-            fails_at,
-            turns,
-        ) else {
-            return Err(Fail::from("memory"));
-        };
-        assert_eq!(rt; end, want);
-        assert_eq!(rt; seen.len(), items);
-    }
-    Ok(())
+fn ends_that_fail(rt: HostRuntime) {
+    let topology = example(&rt, rt.alloc());
+    assert!(rt; all_end_so(rt.alloc(), &topology, ENDS));
 }
 
 /// A line of so many letters, and then one that asks for totals.
@@ -295,24 +384,37 @@ fn long_feed(alloc: Global, letters: usize) -> Option<Vec<u8>> {
     Some(text)
 }
 
-#[test]
-fn long_lines(rt: HostRuntime) -> Result<(), Fail> {
-    let alloc = rt.alloc();
-    let Ok(topology) = read_topology(alloc, EXAMPLE_TREE.as_bytes()) else {
-        return Err(Fail::from("no topology"));
+/// How many letters a line has, and its fault.
+const LETTERS: &[(usize, LineFault)] = &[
+    (8_300, LineFault::UnknownWord),
+    (8_301, LineFault::TooLong),
+    (20_000, LineFault::TooLong),
+];
+
+/// Whether so long a line has that fault, by itself and in a feed.
+fn is_refused(alloc: Global, topology: &Topology, letters: usize, fault: LineFault) -> bool {
+    let Some(text) = long_feed(alloc, letters) else {
+        return false;
     };
-    let rows = [
-        (8_300, LineFault::UnknownWord),
-        (8_301, LineFault::TooLong),
-        (20_000, LineFault::TooLong),
-    ];
+    let want = [Seen::Refused(1, Refusal::Line(fault)), Seen::Totals];
+    let pieces = text.len().div_ceil(4_000);
+    has_fault(text.as_slice().get(..letters).unwrap_or(b""), fault)
+        && comes(alloc, topology, text.as_slice(), 4_000, &want, pieces)
+}
+
+fn are_refused(alloc: Global, topology: &Topology, rows: &[(usize, LineFault)]) -> bool {
     for (letters, fault) in rows {
-        let text = long_feed(alloc, letters).ok_or("memory")?;
-        let want = [Seen::Refused(1, Refusal::Line(fault)), Seen::Totals];
-        let pieces = text.len().div_ceil(4_000);
-        assert!(rt; comes(alloc, &topology, text.as_slice(), 4_000, &want, pieces));
+        if !is_refused(alloc, topology, *letters, *fault) {
+            return false;
+        }
     }
-    Ok(())
+    true
+}
+
+#[test]
+fn long_lines(rt: HostRuntime) {
+    let topology = example(&rt, rt.alloc());
+    assert!(rt; are_refused(rt.alloc(), &topology, LETTERS));
 }
 
 /// How many changes a file has, or its fault.
@@ -323,56 +425,70 @@ fn changes(alloc: Global, topology: &Topology, text: &[u8]) -> Result<usize, Cha
     }
 }
 
-/// So many changes, one a line.
-fn many_changes(alloc: Global, count: usize) -> Option<Vec<u8>> {
-    let mut text = Vec::new(alloc);
-    for _ in 0..count {
-        text.extend_from_slice(b"demand g1 1\n").ok()?;
+/// A file, and how many changes it has, or its fault.
+type FileRow = (&'static [u8], Result<usize, ChangesFault>);
+
+const FILES: &[FileRow] = &[
+    (b"", Ok(0)),
+    (b"demand g1 5\ncapacity R 0", Ok(2)),
+    (
+        b"demand g1 5\n\n",
+        Err(ChangesFault::Refused(2, Refusal::Line(LineFault::UnknownWord))),
+    ),
+    (
+        b"commit now\n",
+        Err(ChangesFault::Refused(1, Refusal::Line(LineFault::UnknownWord))),
+    ),
+    (
+        b"stop",
+        Err(ChangesFault::Refused(1, Refusal::Line(LineFault::UnknownWord))),
+    ),
+    (
+        b"demand g1\n",
+        Err(ChangesFault::Refused(1, Refusal::Line(LineFault::WrongCount))),
+    ),
+    (
+        b"capacity g1 0\n",
+        Err(ChangesFault::Refused(1, Refusal::Batch(BatchFault::UnknownName))),
+    ),
+    (
+        b"demand g1 1\ndemand g2 4294967296",
+        Err(ChangesFault::Refused(2, Refusal::Batch(BatchFault::Range))),
+    ),
+];
+
+fn have_changes(alloc: Global, topology: &Topology, rows: &[FileRow]) -> bool {
+    for (text, want) in rows {
+        if changes(alloc, topology, *text) != *want {
+            return false;
+        }
     }
-    Some(text)
+    true
 }
 
 #[test]
-fn changes_files(rt: HostRuntime) -> Result<(), Fail> {
-    let alloc = rt.alloc();
-    let Ok(topology) = read_topology(alloc, EXAMPLE_TREE.as_bytes()) else {
-        return Err(Fail::from("no topology"));
-    };
-    let rows: [(&[u8], Result<usize, ChangesFault>); 8] = [
-        (b"", Ok(0)),
-        (b"demand g1 5\ncapacity R 0", Ok(2)),
-        (
-            b"demand g1 5\n\n",
-            Err(ChangesFault::Refused(2, Refusal::Line(LineFault::UnknownWord))),
-        ),
-        (
-            b"commit now\n",
-            Err(ChangesFault::Refused(1, Refusal::Line(LineFault::UnknownWord))),
-        ),
-        (
-            b"stop",
-            Err(ChangesFault::Refused(1, Refusal::Line(LineFault::UnknownWord))),
-        ),
-        (
-            b"demand g1\n",
-            Err(ChangesFault::Refused(1, Refusal::Line(LineFault::WrongCount))),
-        ),
-        (
-            b"capacity g1 0\n",
-            Err(ChangesFault::Refused(1, Refusal::Batch(BatchFault::UnknownName))),
-        ),
-        (
-            b"demand g1 1\ndemand g2 4294967296",
-            Err(ChangesFault::Refused(2, Refusal::Batch(BatchFault::Range))),
-        ),
-    ];
-    for (text, want) in rows {
-        assert_eq!(rt; changes(alloc, &topology, text), want);
+fn changes_files(rt: HostRuntime) {
+    let topology = example(&rt, rt.alloc());
+    assert!(rt; have_changes(rt.alloc(), &topology, FILES));
+}
+
+/// Whether this comes of a file of so many changes, one a line.
+fn comes_of_many(
+    alloc: Global,
+    topology: &Topology,
+    count: usize,
+    want: Result<usize, ChangesFault>,
+) -> bool {
+    match b"demand g1 1\n".as_slice().repeat(alloc, count) {
+        Ok(text) => changes(alloc, topology, text.as_slice()) == want,
+        Err(_) => false,
     }
-    let most = many_changes(alloc, 4_096).ok_or("memory")?;
-    assert_eq!(rt; changes(alloc, &topology, most.as_slice()), Ok(4_096));
-    let more = many_changes(alloc, 4_097).ok_or("memory")?;
+}
+
+#[test]
+fn full_changes_files(rt: HostRuntime) {
+    let topology = example(&rt, rt.alloc());
+    assert!(rt; comes_of_many(rt.alloc(), &topology, 4_096, Ok(4_096)));
     let full = Err(ChangesFault::Refused(4_097, Refusal::Batch(BatchFault::Full)));
-    assert_eq!(rt; changes(alloc, &topology, more.as_slice()), full);
-    Ok(())
+    assert!(rt; comes_of_many(rt.alloc(), &topology, 4_097, full));
 }

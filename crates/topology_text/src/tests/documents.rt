@@ -1,8 +1,7 @@
 //! Whole texts, and those that are no documents.
-use super::{GROUPS, NODES, ZONE, assert_outcome};
-use std::alloc::{AllocError, Global};
+use super::{GROUPS, NODES, ZONE, is_read_as, joined};
+use std::alloc::Global;
 use std::process::Abort;
-use std::test::Fail;
 
 /// Texts, and what each is read as.
 const TEXTS: &[(&[u8], &str)] = &[
@@ -27,17 +26,18 @@ const TEXTS: &[(&[u8], &str)] = &[
     (b"a = \"\xff\"", "1 not toml"),
 ];
 
-fn assert_texts(rt: &impl Abort, alloc: Global, rows: &[(&[u8], &str)]) -> Result<(), AllocError> {
+fn texts_are_read(rt: &impl Abort, alloc: Global, rows: &[(&[u8], &str)]) -> bool {
     for (text, expected) in rows {
-        assert_outcome(rt, alloc, *text, *expected)?;
+        if !is_read_as(rt, alloc, *text, *expected) {
+            return false;
+        }
     }
-    Ok(())
+    true
 }
 
 #[test]
-fn whole_texts(rt: HostRuntime) -> Result<(), Fail> {
-    assert_texts(&rt, rt.alloc(), TEXTS)?;
-    Ok(())
+fn whole_texts(rt: HostRuntime) {
+    assert!(rt; texts_are_read(&rt, rt.alloc(), TEXTS));
 }
 
 /// Texts in front of the example's zone, and what is read then.
@@ -48,33 +48,41 @@ const FRONTS: &[(&str, &str)] = &[
     ("node = []\ngroup = []", "14 no default at family 4"),
 ];
 
-fn assert_fronts(rt: &impl Abort, alloc: Global, rows: &[(&str, &str)]) -> Result<(), AllocError> {
-    for (front, expected) in rows {
-        let text = format!(in alloc; "{front}\n{ZONE}")?;
-        assert_outcome(rt, alloc, text.as_bytes(), *expected)?;
+fn front_is_read(rt: &impl Abort, alloc: Global, front: &str, expected: &str) -> bool {
+    match joined(alloc, &[front, "\n", ZONE]) {
+        Some(text) => is_read_as(rt, alloc, text.as_bytes(), expected),
+        None => false,
     }
-    Ok(())
+}
+
+fn fronts_are_read(rt: &impl Abort, alloc: Global, rows: &[(&str, &str)]) -> bool {
+    for (front, expected) in rows {
+        if !front_is_read(rt, alloc, *front, *expected) {
+            return false;
+        }
+    }
+    true
 }
 
 #[test]
-fn arrays_beside_the_zone(rt: HostRuntime) -> Result<(), Fail> {
-    assert_fronts(&rt, rt.alloc(), FRONTS)?;
-    Ok(())
+fn arrays_beside_the_zone(rt: HostRuntime) {
+    assert!(rt; fronts_are_read(&rt, rt.alloc(), FRONTS));
 }
 
 #[test]
-fn byte_order_mark(rt: HostRuntime) -> Result<(), Fail> {
-    let alloc = rt.alloc();
-    let marked = format!(in alloc; "\u{feff}{ZONE}{NODES}{GROUPS}")?;
-    assert_outcome(&rt, alloc, marked.as_bytes(), "good")?;
-    Ok(())
+fn byte_order_mark(rt: HostRuntime) {
+    let marked = joined(rt.alloc(), &["\u{feff}", ZONE, NODES, GROUPS]).expect(&rt, "memory");
+    assert!(rt; is_read_as(&rt, rt.alloc(), marked.as_bytes(), "good"));
+}
+
+/// A text with so many arrays in one another.
+fn nested(alloc: Global, depth: usize) -> Option<String> {
+    let deep = "[".repeat(alloc, depth).ok()?;
+    joined(alloc, &["zone = ", deep.as_str()])
 }
 
 #[test]
-fn nested_too_deep(rt: HostRuntime) -> Result<(), Fail> {
-    let alloc = rt.alloc();
-    let deep = "[".repeat(alloc, 10_000)?;
-    let nested = format!(in alloc; "zone = {deep}")?;
-    assert_outcome(&rt, alloc, nested.as_bytes(), "1 not toml")?;
-    Ok(())
+fn nested_too_deep(rt: HostRuntime) {
+    let text = nested(rt.alloc(), 10_000).expect(&rt, "memory");
+    assert!(rt; is_read_as(&rt, rt.alloc(), text.as_bytes(), "1 not toml"));
 }

@@ -1,6 +1,5 @@
 //! Names, and what they lead to.
-use super::{Row, assert_rows};
-use std::test::Fail;
+use super::{Row, rows_are_read};
 
 /// Names against their rule.
 const AGAINST_THE_RULE: &[Row] = &[
@@ -22,9 +21,8 @@ const AGAINST_THE_RULE: &[Row] = &[
 ];
 
 #[test]
-fn bad_names(rt: HostRuntime) -> Result<(), Fail> {
-    assert_rows(&rt, rt.alloc(), AGAINST_THE_RULE)?;
-    Ok(())
+fn bad_names(rt: HostRuntime) {
+    assert!(rt; rows_are_read(&rt, rt.alloc(), AGAINST_THE_RULE));
 }
 
 /// Names that stand twice.
@@ -45,9 +43,8 @@ const TWICE: &[Row] = &[
 ];
 
 #[test]
-fn duplicate_names(rt: HostRuntime) -> Result<(), Fail> {
-    assert_rows(&rt, rt.alloc(), TWICE)?;
-    Ok(())
+fn duplicate_names(rt: HostRuntime) {
+    assert!(rt; rows_are_read(&rt, rt.alloc(), TWICE));
 }
 
 /// Names of nothing.
@@ -67,9 +64,8 @@ const NAMES_OF_NOTHING: &[Row] = &[
 ];
 
 #[test]
-fn unknown_names(rt: HostRuntime) -> Result<(), Fail> {
-    assert_rows(&rt, rt.alloc(), NAMES_OF_NOTHING)?;
-    Ok(())
+fn unknown_names(rt: HostRuntime) {
+    assert!(rt; rows_are_read(&rt, rt.alloc(), NAMES_OF_NOTHING));
 }
 
 /// Parents that stand elsewhere.
@@ -96,7 +92,6 @@ const MISPLACED: &[Row] = &[
 ];
 
 #[test]
-fn parents(rt: HostRuntime) -> Result<(), Fail> {
-    assert_rows(&rt, rt.alloc(), MISPLACED)?;
-    Ok(())
+fn parents(rt: HostRuntime) {
+    assert!(rt; rows_are_read(&rt, rt.alloc(), MISPLACED));
 }

@@ -1,6 +1,5 @@
 //! Numbers, addresses and prefixes.
-use super::{Row, assert_rows};
-use std::test::Fail;
+use super::{Row, rows_are_read};
 
 /// Numbers out of range.
 const OUT_OF_RANGE: &[Row] = &[
@@ -35,9 +34,8 @@ const OUT_OF_RANGE: &[Row] = &[
 ];
 
 #[test]
-fn ranges(rt: HostRuntime) -> Result<(), Fail> {
-    assert_rows(&rt, rt.alloc(), OUT_OF_RANGE)?;
-    Ok(())
+fn ranges(rt: HostRuntime) {
+    assert!(rt; rows_are_read(&rt, rt.alloc(), OUT_OF_RANGE));
 }
 
 /// Texts that are no addresses of their family, or no prefixes.
@@ -65,9 +63,8 @@ const NO_TEXTS_OF_THEIR_KIND: &[Row] = &[
 ];
 
 #[test]
-fn addresses_and_prefixes(rt: HostRuntime) -> Result<(), Fail> {
-    assert_rows(&rt, rt.alloc(), NO_TEXTS_OF_THEIR_KIND)?;
-    Ok(())
+fn addresses_and_prefixes(rt: HostRuntime) {
+    assert!(rt; rows_are_read(&rt, rt.alloc(), NO_TEXTS_OF_THEIR_KIND));
 }
 
 /// Prefixes that stand twice, and default prefixes that are missing.
@@ -90,7 +87,6 @@ const TWICE_OR_MISSING: &[Row] = &[
 ];
 
 #[test]
-fn prefixes_beside_one_another(rt: HostRuntime) -> Result<(), Fail> {
-    assert_rows(&rt, rt.alloc(), TWICE_OR_MISSING)?;
-    Ok(())
+fn prefixes_beside_one_another(rt: HostRuntime) {
+    assert!(rt; rows_are_read(&rt, rt.alloc(), TWICE_OR_MISSING));
 }

@@ -1,6 +1,5 @@
 //! Which of two faults counts.
-use super::{Row, assert_rows};
-use std::test::Fail;
+use super::{Row, rows_are_read};
 
 /// Two faults, the later in the file first by its number or the earlier by its place.
 const TWO_FAULTS: &[Row] = &[
@@ -56,7 +55,6 @@ const TWO_FAULTS: &[Row] = &[
 ];
 
 #[test]
-fn first_of_two(rt: HostRuntime) -> Result<(), Fail> {
-    assert_rows(&rt, rt.alloc(), TWO_FAULTS)?;
-    Ok(())
+fn first_of_two(rt: HostRuntime) {
+    assert!(rt; rows_are_read(&rt, rt.alloc(), TWO_FAULTS));
 }

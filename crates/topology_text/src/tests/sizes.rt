@@ -1,19 +1,27 @@
 //! Names, lists, paths and whole topologies at their limits and just past them.
-use super::{GROUPS, NODES, ZONE, assert_outcome, example};
-use std::alloc::{AllocError, Global};
+use super::{GROUPS, NODES, ZONE, example, is_read_as, joined, replaced};
+use std::alloc::Global;
 use std::process::Abort;
-use std::test::Fail;
 
-/// The example with the first place of a text changed to another.
-fn assert_replaced(
-    rt: &impl Abort,
-    alloc: Global,
-    from: &str,
-    to: &str,
-    expected: &str,
-) -> Result<(), AllocError> {
-    let text = example(alloc)?.as_str().replacen(alloc, from, to, 1)?;
-    assert_outcome(rt, alloc, text.as_bytes(), expected)
+/// The example is read as expected, with the first place of a text changed to another.
+fn replaced_is_read(rt: &impl Abort, alloc: Global, from: &str, to: &str, expected: &str) -> bool {
+    let Some(text) = example(alloc) else {
+        return false;
+    };
+    match replaced(alloc, text.as_str(), from, to) {
+        Some(text) => is_read_as(rt, alloc, text.as_bytes(), expected),
+        None => false,
+    }
+}
+
+/// So many texts, each of a front, its number from 0 and a back.
+fn numbered(alloc: Global, front: &str, count: usize, back: &str) -> Option<String> {
+    let mut text = String::new(alloc);
+    for i in 0..count {
+        let item = format!(in alloc; "{front}{i}{back}").ok()?;
+        text.push_str(item.as_str()).ok()?;
+    }
+    Some(text)
 }
 
 /// A text of the example, what it is changed to (a number of letters and an end, in quotes), and what is read then.
@@ -41,33 +49,41 @@ const NAMES: &[NameRow] = &[
     ("\"www\"", 64, "", "5 bad name at zone services 0"),
 ];
 
-fn assert_names(rt: &impl Abort, alloc: Global, rows: &[NameRow]) -> Result<(), AllocError> {
-    for (from, length, end, expected) in rows {
-        let letters = "x".repeat(alloc, *length)?;
-        let quoted = format!(in alloc; "\"{letters}{end}\"")?;
-        assert_replaced(rt, alloc, *from, quoted.as_str(), *expected)?;
+/// So many letters and an end, in quotes.
+fn quoted(alloc: Global, length: usize, end: &str) -> Option<String> {
+    let letters = "x".repeat(alloc, length).ok()?;
+    joined(alloc, &["\"", letters.as_str(), end, "\""])
+}
+
+fn name_is_read(rt: &impl Abort, alloc: Global, row: &NameRow) -> bool {
+    let (from, length, end, expected) = row;
+    match quoted(alloc, *length, *end) {
+        Some(name) => replaced_is_read(rt, alloc, *from, name.as_str(), *expected),
+        None => false,
     }
-    Ok(())
+}
+
+fn names_are_read(rt: &impl Abort, alloc: Global, rows: &[NameRow]) -> bool {
+    for row in rows {
+        if !name_is_read(rt, alloc, row) {
+            return false;
+        }
+    }
+    true
 }
 
 #[test]
-fn lengths_of_names(rt: HostRuntime) -> Result<(), Fail> {
-    assert_names(&rt, rt.alloc(), NAMES)?;
-    Ok(())
+fn lengths_of_names(rt: HostRuntime) {
+    assert!(rt; names_are_read(&rt, rt.alloc(), NAMES));
 }
 
-/// A list of texts `FRONT0` to `FRONTn`, each in quotes and with the same end.
-fn listed(alloc: Global, front: &str, count: usize, back: &str) -> Result<String, AllocError> {
-    let mut text = String::from_str(alloc, "[")?;
-    for i in 0..count {
-        let item = format!(in alloc; "\"{front}{i}{back}\",")?;
-        text.push_str(item.as_str())?;
-    }
-    text.push_str("]")?;
-    Ok(text)
+/// A list of texts `FRONT0` to `FRONTn`, each with the same back.
+fn listed(alloc: Global, front: &str, count: usize, back: &str) -> Option<String> {
+    let items = numbered(alloc, front, count, back)?;
+    joined(alloc, &["[", items.as_str(), "]"])
 }
 
-/// A list of the example, the front, the number and the end of the texts that stand in its place, and what is read then.
+/// A list of the example, the front, the number and the back of the texts that stand in its place, and what is read then.
 type ListRow = (
     &'static str,
     &'static str,
@@ -77,51 +93,72 @@ type ListRow = (
 );
 
 const LISTS: &[ListRow] = &[
-    ("[\"www\"]", "s", 64, "", "good"),
-    ("[\"www\"]", "s", 65, "", "17 too many at zone services"),
+    ("[\"www\"]", "\"s", 64, "\",", "good"),
+    (
+        "[\"www\"]",
+        "\"s",
+        65,
+        "\",",
+        "17 too many at zone services",
+    ),
     (
         "[\"2001:db8::1\"]",
-        "::",
+        "\"::",
         7,
-        "",
+        "\",",
         "17 too many at node 1 aaaa",
     ),
     (
         "[\"198.51.100.0/24\"]",
-        "2001:db8::",
+        "\"2001:db8::",
         50_000,
-        "/128",
+        "/128\",",
         "12 bad prefix at group 1 prefixes 10000",
     ),
 ];
 
-fn assert_lists(rt: &impl Abort, alloc: Global, rows: &[ListRow]) -> Result<(), AllocError> {
-    for (from, front, count, back, expected) in rows {
-        let list = listed(alloc, *front, *count, *back)?;
-        assert_replaced(rt, alloc, *from, list.as_str(), *expected)?;
+fn list_is_read(rt: &impl Abort, alloc: Global, row: &ListRow) -> bool {
+    let (from, front, count, back, expected) = row;
+    match listed(alloc, *front, *count, *back) {
+        Some(list) => replaced_is_read(rt, alloc, *from, list.as_str(), *expected),
+        None => false,
     }
-    Ok(())
+}
+
+fn lists_are_read(rt: &impl Abort, alloc: Global, rows: &[ListRow]) -> bool {
+    for row in rows {
+        if !list_is_read(rt, alloc, row) {
+            return false;
+        }
+    }
+    true
 }
 
 #[test]
-fn lengths_of_lists(rt: HostRuntime) -> Result<(), Fail> {
-    assert_lists(&rt, rt.alloc(), LISTS)?;
-    Ok(())
+fn lengths_of_lists(rt: HostRuntime) {
+    assert!(rt; lists_are_read(&rt, rt.alloc(), LISTS));
+}
+
+/// A node under the one of the number before.
+fn below(alloc: Global, number: usize) -> Option<String> {
+    let above = number.saturating_sub(1);
+    format!(in alloc; "[[node]]\nname = \"n{number}\"\ncapacity = 1\nparent = \"n{above}\"\n").ok()
+}
+
+/// Nodes under one another, so many behind the first one.
+fn path(alloc: Global, more: usize) -> Option<String> {
+    let mut text = String::from_str(alloc, "[[node]]\nname = \"n0\"\ncapacity = 1\n").ok()?;
+    for number in 1..=more {
+        let node = below(alloc, number)?;
+        text.push_str(node.as_str()).ok()?;
+    }
+    Some(text)
 }
 
 /// The example with a path of so many nodes before its own nodes.
-fn with_path(alloc: Global, length: usize) -> Result<String, AllocError> {
-    let mut text = format!(in alloc; "{ZONE}[[node]]\nname = \"n0\"\ncapacity = 1\n")?;
-    for i in 1..length {
-        let above = i - 1;
-        let row = format!(in alloc;
-            "[[node]]\nname = \"n{i}\"\ncapacity = 1\nparent = \"n{above}\"\n"
-        )?;
-        text.push_str(row.as_str())?;
-    }
-    text.push_str(NODES)?;
-    text.push_str(GROUPS)?;
-    Ok(text)
+fn with_path(alloc: Global, length: usize) -> Option<String> {
+    let path = path(alloc, length.saturating_sub(1))?;
+    joined(alloc, &[ZONE, path.as_str(), NODES, GROUPS])
 }
 
 /// So many of something, and what is read then.
@@ -133,38 +170,51 @@ const PATHS: &[CountRow] = &[
     (10, "9 too deep at node 8 parent"),
 ];
 
-fn assert_paths(rt: &impl Abort, alloc: Global, rows: &[CountRow]) -> Result<(), AllocError> {
-    for (length, expected) in rows {
-        let text = with_path(alloc, *length)?;
-        assert_outcome(rt, alloc, text.as_bytes(), *expected)?;
+fn path_is_read(rt: &impl Abort, alloc: Global, row: &CountRow) -> bool {
+    let (count, expected) = row;
+    match with_path(alloc, *count) {
+        Some(text) => is_read_as(rt, alloc, text.as_bytes(), *expected),
+        None => false,
     }
-    Ok(())
+}
+
+fn paths_are_read(rt: &impl Abort, alloc: Global, rows: &[CountRow]) -> bool {
+    for row in rows {
+        if !path_is_read(rt, alloc, row) {
+            return false;
+        }
+    }
+    true
 }
 
 #[test]
-fn depth(rt: HostRuntime) -> Result<(), Fail> {
-    assert_paths(&rt, rt.alloc(), PATHS)?;
-    Ok(())
+fn depth(rt: HostRuntime) {
+    assert!(rt; paths_are_read(&rt, rt.alloc(), PATHS));
+}
+
+/// So many nodes, each a pool.
+fn pool_nodes(alloc: Global, count: usize) -> Option<String> {
+    let back = "\"\ncapacity = 1\npool = true\n";
+    numbered(alloc, "[[node]]\nname = \"p", count, back)
+}
+
+/// A group that asks so many of them.
+fn wide_group(alloc: Global, count: usize) -> Option<String> {
+    let pools = listed(alloc, "\"p", count, "\",")?;
+    let scores = "7,".repeat(alloc, count).ok()?;
+    format!(in alloc;
+        "[[group]]\nname = \"wide\"\ndemand = 1\npools = {pools}\nscores = [{scores}]\nprefixes = []\n"
+    ).ok()
 }
 
 /// The example with so many more nodes, each a pool, and a group that asks them.
-fn with_pools(alloc: Global, count: usize) -> Result<String, AllocError> {
-    let mut text = format!(in alloc; "{ZONE}{NODES}")?;
-    let mut pools = String::new(alloc);
-    let mut scores = String::new(alloc);
-    for i in 0..count {
-        let row = format!(in alloc; "[[node]]\nname = \"p{i}\"\ncapacity = 1\npool = true\n")?;
-        text.push_str(row.as_str())?;
-        let pool = format!(in alloc; "\"p{i}\",")?;
-        pools.push_str(pool.as_str())?;
-        scores.push_str("7,")?;
-    }
-    text.push_str(GROUPS)?;
-    let row = format!(in alloc;
-        "[[group]]\nname = \"wide\"\ndemand = 1\npools = [{pools}]\nscores = [{scores}]\nprefixes = []\n"
-    )?;
-    text.push_str(row.as_str())?;
-    Ok(text)
+fn with_pools(alloc: Global, count: usize) -> Option<String> {
+    let nodes = pool_nodes(alloc, count)?;
+    let group = wide_group(alloc, count)?;
+    joined(
+        alloc,
+        &[ZONE, NODES, nodes.as_str(), GROUPS, group.as_str()],
+    )
 }
 
 const POOLS: &[CountRow] = &[
@@ -173,72 +223,97 @@ const POOLS: &[CountRow] = &[
     (17, "15 list shape at group 2 pools"),
 ];
 
-fn assert_pools(rt: &impl Abort, alloc: Global, rows: &[CountRow]) -> Result<(), AllocError> {
-    for (count, expected) in rows {
-        let text = with_pools(alloc, *count)?;
-        assert_outcome(rt, alloc, text.as_bytes(), *expected)?;
+fn pool_is_read(rt: &impl Abort, alloc: Global, row: &CountRow) -> bool {
+    let (count, expected) = row;
+    match with_pools(alloc, *count) {
+        Some(text) => is_read_as(rt, alloc, text.as_bytes(), *expected),
+        None => false,
     }
-    Ok(())
+}
+
+fn pools_are_read(rt: &impl Abort, alloc: Global, rows: &[CountRow]) -> bool {
+    for row in rows {
+        if !pool_is_read(rt, alloc, row) {
+            return false;
+        }
+    }
+    true
 }
 
 #[test]
-fn pools_in_a_list(rt: HostRuntime) -> Result<(), Fail> {
-    assert_pools(&rt, rt.alloc(), POOLS)?;
-    Ok(())
+fn pools_in_a_list(rt: HostRuntime) {
+    assert!(rt; pools_are_read(&rt, rt.alloc(), POOLS));
 }
 
 /// The example with so many more nodes and groups.
-fn with_many(alloc: Global, nodes: usize, groups: usize) -> Result<String, AllocError> {
-    let mut text = format!(in alloc; "{ZONE}{NODES}")?;
-    for i in 0..nodes {
-        let row = format!(in alloc; "[[node]]\nname = \"n{i}\"\ncapacity = 1\n")?;
-        text.push_str(row.as_str())?;
-    }
-    text.push_str(GROUPS)?;
-    for i in 0..groups {
-        let row = format!(in alloc;
-            "[[group]]\nname = \"x{i}\"\ndemand = 1\npools = [\"A\"]\nscores = [1]\nprefixes = []\n"
-        )?;
-        text.push_str(row.as_str())?;
-    }
-    Ok(text)
+fn with_many(alloc: Global, nodes: usize, groups: usize) -> Option<String> {
+    let node_back = "\"\ncapacity = 1\n";
+    let nodes = numbered(alloc, "[[node]]\nname = \"n", nodes, node_back)?;
+    let group_back = "\"\ndemand = 1\npools = [\"A\"]\nscores = [1]\nprefixes = []\n";
+    let groups = numbered(alloc, "[[group]]\nname = \"x", groups, group_back)?;
+    joined(
+        alloc,
+        &[ZONE, NODES, nodes.as_str(), GROUPS, groups.as_str()],
+    )
 }
 
 /// So many more nodes and groups, and what is read then.
-const MANY: &[(usize, usize, &str)] = &[
+type ManyRow = (usize, usize, &'static str);
+
+const MANY: &[ManyRow] = &[
     (8_189, 0, "good"),
     (8_190, 0, "17 too many at top node"),
     (0, 65_535, "17 too many at top group"),
 ];
 
-fn assert_many(
-    rt: &impl Abort,
-    alloc: Global,
-    rows: &[(usize, usize, &str)],
-) -> Result<(), AllocError> {
-    for (nodes, groups, expected) in rows {
-        let text = with_many(alloc, *nodes, *groups)?;
-        assert_outcome(rt, alloc, text.as_bytes(), *expected)?;
+fn is_read_with(rt: &impl Abort, alloc: Global, row: &ManyRow) -> bool {
+    let (nodes, groups, expected) = row;
+    match with_many(alloc, *nodes, *groups) {
+        Some(text) => is_read_as(rt, alloc, text.as_bytes(), *expected),
+        None => false,
     }
-    Ok(())
+}
+
+fn many_are_read(rt: &impl Abort, alloc: Global, rows: &[ManyRow]) -> bool {
+    for row in rows {
+        if !is_read_with(rt, alloc, row) {
+            return false;
+        }
+    }
+    true
 }
 
 #[test]
-fn many_nodes_and_groups(rt: HostRuntime) -> Result<(), Fail> {
-    assert_many(&rt, rt.alloc(), MANY)?;
-    Ok(())
+fn many_nodes_and_groups(rt: HostRuntime) {
+    assert!(rt; many_are_read(&rt, rt.alloc(), MANY));
 }
 
-/// A list of so many prefixes, each of one address.
-fn addresses_from(alloc: Global, count: usize) -> Result<String, AllocError> {
-    let mut text = String::from_str(alloc, "[")?;
-    for i in 0..count {
-        let (high, middle, low) = (i / 65_536, i / 256 % 256, i % 256);
-        let item = format!(in alloc; "\"10.{high}.{middle}.{low}/32\",")?;
-        text.push_str(item.as_str())?;
+/// A prefix of one address, and a comma.
+fn one_address(alloc: Global, number: usize) -> Option<String> {
+    let (high, middle, low) = (number / 65_536, number / 256 % 256, number % 256);
+    format!(in alloc; "\"10.{high}.{middle}.{low}/32\",").ok()
+}
+
+/// So many prefixes, each of one address.
+fn addresses(alloc: Global, count: usize) -> Option<String> {
+    let mut text = String::new(alloc);
+    for number in 0..count {
+        let item = one_address(alloc, number)?;
+        text.push_str(item.as_str()).ok()?;
     }
-    text.push_str("]")?;
-    Ok(text)
+    Some(text)
+}
+
+/// The example with so many prefixes in place of the last one.
+fn with_addresses(alloc: Global, count: usize) -> Option<String> {
+    let text = example(alloc)?;
+    let addresses = addresses(alloc, count)?;
+    replaced(
+        alloc,
+        text.as_str(),
+        "\"198.51.100.0/24\"",
+        addresses.as_str(),
+    )
 }
 
 /// The example has two prefixes beside these.
@@ -247,16 +322,24 @@ const PREFIXES: &[CountRow] = &[
     (262_143, "17 too many at group 1 prefixes"),
 ];
 
-fn assert_prefixes(rt: &impl Abort, alloc: Global, rows: &[CountRow]) -> Result<(), AllocError> {
-    for (count, expected) in rows {
-        let list = addresses_from(alloc, *count)?;
-        assert_replaced(rt, alloc, "[\"198.51.100.0/24\"]", list.as_str(), *expected)?;
+fn total_is_read(rt: &impl Abort, alloc: Global, row: &CountRow) -> bool {
+    let (count, expected) = row;
+    match with_addresses(alloc, *count) {
+        Some(text) => is_read_as(rt, alloc, text.as_bytes(), *expected),
+        None => false,
     }
-    Ok(())
+}
+
+fn totals_are_read(rt: &impl Abort, alloc: Global, rows: &[CountRow]) -> bool {
+    for row in rows {
+        if !total_is_read(rt, alloc, row) {
+            return false;
+        }
+    }
+    true
 }
 
 #[test]
-fn total_of_prefixes(rt: HostRuntime) -> Result<(), Fail> {
-    assert_prefixes(&rt, rt.alloc(), PREFIXES)?;
-    Ok(())
+fn total_of_prefixes(rt: HostRuntime) {
+    assert!(rt; totals_are_read(&rt, rt.alloc(), PREFIXES));
 }

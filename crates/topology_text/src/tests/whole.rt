@@ -1,16 +1,23 @@
 //! The example topology, read whole.
 use super::example;
 use crate::read::read_topology;
-use crate::{Names, Topology};
+use crate::{Names, Topology, TopologyFault, Zone};
 use addr_text::{Addr, Prefix};
-use map_model::{GroupId, NodeId, Offer};
+use map_model::{GroupId, Instance, NodeId, Offer};
+use name_text::Name;
 use std::alloc::Global;
 use std::process::Abort;
-use std::test::Fail;
 
-fn read(alloc: Global) -> Result<Topology, Fail> {
-    let text = example(alloc)?;
-    Ok(read_topology(alloc, text.as_bytes())?)
+/// What is read, with no word on it: the checks of those who call this are short.
+fn topology_of(alloc: Global, text: &[u8]) -> Result<Topology, TopologyFault> {
+    read_topology(alloc, text)
+}
+
+fn read(rt: &impl Abort, alloc: Global) -> Topology {
+    let text = example(alloc).expect(rt, "memory");
+    topology_of(alloc, text.as_bytes())
+        .ok()
+        .expect(rt, "a topology")
 }
 
 /// A group's name, its demand, and the pools of its list beside their scores.
@@ -21,35 +28,53 @@ const GROUPS: &[GroupRow] = &[
     (b"g2", 8, &[(NodeId(1), 3), (NodeId(2), 4)]),
 ];
 
-fn assert_list(rt: &impl Abort, topology: &Topology, group: GroupId, list: &[(NodeId, u32)]) {
-    let instance = topology.instance();
-    assert!(rt; group.0 < instance.groups());
-    assert_eq!(rt; instance.list_len(group) as usize, list.len());
+fn has_list(instance: &Instance, group: GroupId, list: &[(NodeId, u32)]) -> bool {
+    if group.0 >= instance.groups() {
+        return false;
+    }
+    if usize::from(instance.list_len(group)) != list.len() {
+        return false;
+    }
     for place in 0..instance.list_len(group) {
         let offer = Offer { group, place };
-        let (pool, score) = list[place as usize];
-        assert_eq!(rt; instance.pool_at(offer), pool);
-        assert_eq!(rt; instance.key(offer).score, score);
+        let (pool, score) = list[usize::from(place)];
+        if instance.pool_at(offer) != pool || instance.key(offer).score != score {
+            return false;
+        }
     }
+    true
 }
 
-fn assert_group(rt: &impl Abort, topology: &Topology, group: GroupId, row: &GroupRow) {
-    assert!(rt; group.0 < topology.instance().groups());
+fn is_group(topology: &Topology, group: GroupId, row: &GroupRow) -> bool {
     let (name, demand, list) = row;
-    assert_eq!(rt; topology.group_name(group), *name);
-    assert_eq!(rt; topology.group_named(*name), Some(group));
-    assert_eq!(rt; topology.instance().demand(group), *demand);
-    assert_list(rt, topology, group, *list);
+    if group.0 >= topology.instance().groups() {
+        return false;
+    }
+    topology.group_name(group) == *name
+        && topology.group_named(*name) == Some(group)
+        && topology.instance().demand(group) == *demand
+        && has_list(topology.instance(), group, *list)
+}
+
+fn are_groups(topology: &Topology, rows: &[GroupRow]) -> bool {
+    let count = topology.instance().groups();
+    for (row, g) in rows.iter().zip(0..count) {
+        if !is_group(topology, GroupId(g), row) {
+            return false;
+        }
+    }
+    rows.len() == count as usize
+}
+
+fn names_no_group(topology: &Topology, name: &[u8]) -> bool {
+    topology.group_named(name).is_none()
 }
 
 #[test]
-fn example_groups(rt: HostRuntime) -> Result<(), Fail> {
-    let topology = read(rt.alloc())?;
-    assert_eq!(rt; topology.instance().groups(), 2);
-    assert_group(&rt, &topology, GroupId(0), &GROUPS[0]);
-    assert_group(&rt, &topology, GroupId(1), &GROUPS[1]);
-    assert_eq!(rt; topology.group_named(b"G1"), None);
-    Ok(())
+fn example_groups(rt: HostRuntime) {
+    let topology = read(&rt, rt.alloc());
+    assert!(rt; are_groups(&topology, GROUPS));
+    assert!(rt; names_no_group(&topology, b"G1"));
 }
 
 /// A node's name, its capacity and its parent, and its addresses.
@@ -73,26 +98,38 @@ const NODES: &[NodeRow] = &[
     (b"B", 10, Some(NodeId(0)), &[Addr::V4(0xc000_0202)], &[]),
 ];
 
-fn assert_node(rt: &impl Abort, topology: &Topology, node: NodeId, row: &NodeRow) {
-    assert!(rt; node.0 < topology.instance().nodes());
+fn is_node(topology: &Topology, node: NodeId, row: &NodeRow) -> bool {
     let (name, capacity, parent, a, aaaa) = row;
-    assert_eq!(rt; topology.node_name(node), *name);
-    assert_eq!(rt; topology.node_named(*name), Some(node));
-    assert_eq!(rt; topology.instance().capacity(node), *capacity);
-    assert_eq!(rt; topology.instance().parent(node), *parent);
-    assert_eq!(rt; topology.addresses(node, 1), *a);
-    assert_eq!(rt; topology.addresses(node, 28), *aaaa);
+    if node.0 >= topology.instance().nodes() {
+        return false;
+    }
+    topology.node_name(node) == *name
+        && topology.node_named(*name) == Some(node)
+        && topology.instance().capacity(node) == *capacity
+        && topology.instance().parent(node) == *parent
+        && topology.addresses(node, 1) == *a
+        && topology.addresses(node, 28) == *aaaa
+}
+
+fn are_nodes(topology: &Topology, rows: &[NodeRow]) -> bool {
+    let count = topology.instance().nodes();
+    for (row, n) in rows.iter().zip(0..count) {
+        if !is_node(topology, NodeId(n), row) {
+            return false;
+        }
+    }
+    rows.len() == count as usize
+}
+
+fn names_no_node(topology: &Topology, name: &[u8]) -> bool {
+    topology.node_named(name).is_none()
 }
 
 #[test]
-fn example_nodes(rt: HostRuntime) -> Result<(), Fail> {
-    let topology = read(rt.alloc())?;
-    assert_eq!(rt; topology.instance().nodes(), 3);
-    assert_node(&rt, &topology, NodeId(0), &NODES[0]);
-    assert_node(&rt, &topology, NodeId(1), &NODES[1]);
-    assert_node(&rt, &topology, NodeId(2), &NODES[2]);
-    assert_eq!(rt; topology.node_named(b""), None);
-    Ok(())
+fn example_nodes(rt: HostRuntime) {
+    let topology = read(&rt, rt.alloc());
+    assert!(rt; are_nodes(&topology, NODES));
+    assert!(rt; names_no_node(&topology, b""));
 }
 
 const PREFIXES: &[(Prefix, GroupId)] = &[
@@ -119,39 +156,22 @@ const PREFIXES: &[(Prefix, GroupId)] = &[
     ),
 ];
 
-#[test]
-fn example_prefixes(rt: HostRuntime) -> Result<(), Fail> {
-    let topology = read(rt.alloc())?;
-    assert_eq!(rt; topology.prefixes(), PREFIXES);
-    Ok(())
-}
-
-fn are_names(names: &Names, wires: &[&[u8]]) -> bool {
-    let names = names.as_slice();
-    names.len() == wires.len()
-        && names
-            .iter()
-            .zip(wires)
-            .all(|(name, wire)| name.wire() == *wire)
+fn has_prefixes(topology: &Topology, prefixes: &[(Prefix, GroupId)]) -> bool {
+    topology.prefixes() == prefixes
 }
 
 #[test]
-fn example_zone_names(rt: HostRuntime) -> Result<(), Fail> {
-    let topology = read(rt.alloc())?;
-    let zone = topology.zone();
-    assert_eq!(rt; zone.apex.wire(), b"\x03cdn\x07example\x00".as_slice());
-    assert_eq!(rt;
-        zone.mname.wire(),
-        b"\x03ns1\x03ops\x07example\x00".as_slice()
-    );
-    assert_eq!(rt;
-        zone.rname.wire(),
-        b"\x05admin\x03ops\x07example\x00".as_slice()
-    );
-    assert!(rt; are_names(&zone.ns, NAME_SERVERS));
-    assert!(rt; are_names(&zone.services, SERVICES));
-    Ok(())
+fn example_prefixes(rt: HostRuntime) {
+    let topology = read(&rt, rt.alloc());
+    assert!(rt; has_prefixes(&topology, PREFIXES));
 }
+
+/// The zone's own names, as they are on the wire.
+const ZONE_NAMES: [&[u8]; 3] = [
+    b"\x03cdn\x07example\x00",
+    b"\x03ns1\x03ops\x07example\x00",
+    b"\x05admin\x03ops\x07example\x00",
+];
 
 const NAME_SERVERS: &[&[u8]] = &[
     b"\x03ns1\x03ops\x07example\x00",
@@ -160,18 +180,47 @@ const NAME_SERVERS: &[&[u8]] = &[
 
 const SERVICES: &[&[u8]] = &[b"\x03www\x00"];
 
+fn is_name(name: &Name, wire: &[u8]) -> bool {
+    name.wire() == wire
+}
+
+fn are_names(names: &Names, wires: &[&[u8]]) -> bool {
+    let names = names.as_slice();
+    names.len() == wires.len()
+        && names
+            .iter()
+            .zip(wires)
+            .all(|(name, wire)| is_name(name, *wire))
+}
+
+fn has_names(zone: &Zone, wires: &[&[u8]; 3]) -> bool {
+    let [apex, mname, rname] = wires;
+    is_name(&zone.apex, *apex) && is_name(&zone.mname, *mname) && is_name(&zone.rname, *rname)
+}
+
 #[test]
-fn example_zone_numbers(rt: HostRuntime) -> Result<(), Fail> {
-    let topology = read(rt.alloc())?;
+fn example_zone_names(rt: HostRuntime) {
+    let topology = read(&rt, rt.alloc());
     let zone = topology.zone();
-    let numbers = [
+    assert!(rt; has_names(zone, &ZONE_NAMES));
+    assert!(rt; are_names(&zone.ns, NAME_SERVERS));
+    assert!(rt; are_names(&zone.services, SERVICES));
+}
+
+/// The serial, refresh, retry, expire, minimum and ttl of a zone.
+fn numbers(zone: &Zone) -> [u32; 6] {
+    [
         zone.serial,
         zone.refresh,
         zone.retry,
         zone.expire,
         zone.minimum,
         zone.ttl,
-    ];
-    assert_eq!(rt; numbers, [1, 3600, 600, 86400, 60, 20]);
-    Ok(())
+    ]
+}
+
+#[test]
+fn example_zone_numbers(rt: HostRuntime) {
+    let topology = read(&rt, rt.alloc());
+    assert!(rt; numbers(topology.zone()) == [1, 3600, 600, 86400, 60, 20]);
 }
