@@ -15,7 +15,7 @@ use Rattle.topology_text.proofs.SoundPrefixes.{prefixes_sound}
 use Rattle.topology_text.specs.Names.{Entries, entries_of}
 use Rattle.topology_text.specs.Code.{visit}
 use Rattle.topology_text.specs.Walk.{first, walk}
-use Rattle.topology_text.specs.declared.walk.TableAt.{TableAt}
+use Rattle.topology_text.specs.declared.visited.TableAt.{TableAt}
 use Rattle.topology_text.specs.declared.fault.TopologyFault.{TopologyFault}
 
 pub document_of_text : (bytes text : List ℕ) → IsUtf8 bytes → text ≡ bytes → document bytes ≡ parse_document text

@@ -1,5 +1,6 @@
 pub mod Firsts
 pub mod Walks
+pub mod Placed
 pub mod Looked
 pub mod Documents
 pub mod Numbers

@@ -1,13 +1,13 @@
 -- A value that was looked up, and what it is.
 use Rattle.std.proofs.lemmas.List.{drop_more}
-use Rattle.std.proofs.Common.{◌≡◌, ℕ, ◌+◌, ◌<◌, length, drop, get_or, Bool, ◌&&◌, String, string_bytes, Vec, Global, List, [], ◌∷◌, map, Option, None, Some, option_map, Bor, refl, ap, sym, ◌∙◌}
+use Rattle.std.proofs.Common.{◌≡◌, ℕ, ◌+◌, ◌<◌, length, drop, get_or, Bool, false, ◌&&◌, String, string_bytes, Vec, Global, List, [], ◌∷◌, map, Option, None, Some, option_map, Bor, refl, ap, sym, ◌∙◌}
 use Rattle.std.specs.List.{cons_option, list_all}
 use Rattle.std.specs.Map.{keys_of}
 use Rattle.topology_text.specs.Names.{texts_of}
-use Rattle.toml.specs.Data.{Data, as_str}
+use Rattle.toml.specs.Data.{Data, as_str, string, integer, float, boolean, datetime, array, table}
 use Rattle.toml.specs.View.{view, items_view, members_view}
 use Rattle.toml.specs.declared.value.Value.{Value, Array}
-use Rattle.topology_text.specs.Walk.{list_of, names_of, items_where}
+use Rattle.topology_text.specs.Walk.{list_of, names_of, items_from, items_where}
 use Rattle.topology_text.specs.Values.{failing}
 use Rattle.toml.proofs.Views.{view-Array}
 
@@ -40,3 +40,19 @@ texts_skip vs i d h none = texts_step vs i d h ∙ ap (λ o. cons_option o (text
 -- an item that is one
 pub texts_here : (vs : List Value) (i : ℕ) (d : Value) (t : List ℕ) → i < length vs → as_str (view (get_or vs i d)) ≡ Some t → texts_of (map view (drop i vs)) ≡ t ∷ texts_of (map view (drop (i + 1) vs))
 texts_here vs i d t h some = texts_step vs i d h ∙ ap (λ o. cons_option o (texts_of (map view (drop (i + 1) vs)))) some
+
+-- a test that fails nothing finds nothing among items
+unread_items : (test : Data → Bool) → ((d : Data) → test d ≡ false) → (i : ℕ) (ds : List Data) → items_from test i ds ≡ []
+unread_items test never i [] = refl
+unread_items test never i (d ∷ ds) = rw (never d) (unread_items test never (i + 1) ds)
+
+-- nor in a value
+pub unread : (test : Data → Bool) → ((d : Data) → test d ≡ false) → (o : Option Data) → failing test o ≡ []
+unread test never None = refl
+unread test never (Some (array ds)) = unread_items test never 0 (list_of ds)
+unread test never (Some (string t)) = rw (never (string t)) refl
+unread test never (Some (integer z)) = rw (never (integer z)) refl
+unread test never (Some (float f)) = rw (never (float f)) refl
+unread test never (Some (boolean b)) = rw (never (boolean b)) refl
+unread test never (Some (datetime t)) = rw (never (datetime t)) refl
+unread test never (Some (table ms)) = rw (never (table ms)) refl

@@ -8,7 +8,7 @@ use Rattle.topology_text.specs.Prefixes.{count_at, is_past, passing, total}
 use Rattle.topology_text.specs.Walk.{Visit, first, items_at, marked, marked_from}
 use Rattle.topology_text.specs.declared.schema.At.TheVariants.{Whole}
 use Rattle.topology_text.specs.declared.schema.Key.TheVariants.{Prefixes}
-use Rattle.topology_text.specs.declared.walk.TableAt.{TableAt}
+use Rattle.topology_text.specs.declared.visited.TableAt.{TableAt}
 use Rattle.topology_text.proofs.Firsts.{first-map}
 use Rattle.topology_text.proofs.Repeats.{marked_here, marked_on}
 

@@ -8,7 +8,7 @@ use Rattle.toml.specs.declared.value.Value.{Value}
 use Rattle.topology_text.specs.declared.schema.Key.{Key}
 use Rattle.topology_text.specs.declared.schema.Key.TheVariants.{Node, Group}
 use Rattle.topology_text.specs.declared.schema.At.TheVariants.{Item}
-use Rattle.topology_text.specs.declared.walk.TableAt.{TableAt}
+use Rattle.topology_text.specs.declared.visited.TableAt.{TableAt}
 use Rattle.topology_text.specs.Code.{visit}
 use Rattle.topology_text.specs.Walk.{Visit, first, items_from, entries_from, entry_spot, visit_of}
 

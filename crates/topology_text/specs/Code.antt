@@ -3,7 +3,7 @@ use Rattle.std.specs.Prelude.{map, option_map}
 use Rattle.toml.specs.View.{table_view, view}
 use Rattle.topology_text.specs.declared.names.Entries.{Entries as CodeEntries}
 use Rattle.topology_text.specs.Names.{Entries}
-use Rattle.topology_text.specs.declared.walk.TableAt.{TableAt}
+use Rattle.topology_text.specs.declared.visited.TableAt.{TableAt}
 use Rattle.topology_text.specs.Walk.{Visit}
 
 -- a table on the walk

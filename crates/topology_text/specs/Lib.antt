@@ -1,6 +1,7 @@
 pub mod Schema
 pub mod Texts
 pub mod Walk
+pub mod Found
 pub mod Code
 pub mod Values
 pub mod Names

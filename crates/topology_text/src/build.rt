@@ -8,7 +8,7 @@ ghost use Rattle.topology_text.specs.Topology.{IsSound, IsSoundGroup, choice_of,
 
 use crate::names::{Entries, is_pool, text_at};
 use crate::schema::Key;
-use crate::walk::{items_of, value_of};
+use crate::visited::{items_of, value_of};
 use map_model::{Choice, ClientGroup, Instance, Node, NodeId};
 use std::alloc::{AllocError, Global};
 use toml::Value;

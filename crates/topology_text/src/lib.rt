@@ -15,6 +15,7 @@ mod texts;
 mod topology;
 mod unknown;
 mod values;
+mod visited;
 mod walk;
 mod zone;
 

@@ -20,3 +20,6 @@ pub const LONGEST_ENTRY_NAME: usize = 32;
 
 /// The highest number of seconds in a record (RFC 2181 section 8).
 pub const MOST_SECONDS: u64 = 0x7fff_ffff;
+
+/// How many keys a table has at most.
+pub const MOST_KEYS: usize = 11;

@@ -1,5 +1,5 @@
 //! Rules that look at names, and at what they lead to.
-ghost use Rattle.std.specs.Prelude.{◌≡◌, ◌≤◌, map, length, option_map, Some, IsNone};
+ghost use Rattle.std.specs.Prelude.{◌≡◌, ◌≤◌, true, map, length, option_map, Some, IsNone};
 ghost use Rattle.std.specs.List.{list_any};
 ghost use Rattle.std.specs.Str.{bytes_eq};
 ghost use Rattle.toml.specs.View.{table_view, view};
@@ -8,15 +8,15 @@ ghost use Rattle.topology_text.specs.Names.{ascend, count_at, duplicate_name, ha
 ghost use Rattle.topology_text.specs.Values.{whole_if};
 ghost use Rattle.topology_text.specs.Walk.{first, value_at};
 
-use crate::names::{Entries, flag_of, text_of};
+use crate::names::Entries;
 use crate::rule::Rule;
 use crate::schema::{At, Key, Spot};
 use crate::texts::zone_name;
 use crate::values::Test;
-use crate::walk::{TableAt, items_of, value_of};
+use crate::visited::TableAt;
 use map_model::{LEVELS, PLACES};
 use name_text::{Name, under};
-use toml::{Table, Value};
+use toml::Value;
 
 /// The whole value, where it is bad.
 fn whole_if(bad: bool) -> Option<At>
@@ -56,7 +56,7 @@ impl<'a> Rule for DuplicateName<'a> {
     fn first(&self, table: &TableAt<'_>, key: Key) -> Option<At> {
         match key {
             Key::Name => {
-                let name = text_of(table.table, Key::Name)?;
+                let name = table.text(Key::Name)?;
                 whole_if(repeats_name(self.0, table.spot, name))
             }
             Key::Ns => self.0.ns_repeat(),
@@ -82,6 +82,10 @@ pub struct UnknownName<'a>(pub &'a Entries<'a>);
 
 impl<'a> Test for UnknownName<'a> {
     ghost fails = { λ r k d. is_unknown_name (entries r.0.now) k d };
+
+    fn reads(&self, key: Key) -> bool {
+        matches!(key, Key::Parent | Key::Pools)
+    }
 
     fn is_bad(&self, key: Key, value: &Value) -> bool {
         match (key, value) {
@@ -146,13 +150,30 @@ impl<'a> Rule for TooDeep<'a> {
     }
 }
 
+/// Two texts end alike, or are both empty, which is soon seen.
+fn end_alike(one: &str, other: &str) -> bool
+    ensures { bytes_eq one.now other.now ≡ true → result ≡ true }
+{
+    match (one.as_bytes().last(), other.as_bytes().last()) {
+        (Some(end), Some(other_end)) => end == other_end,
+        _ => true,
+    }
+}
+
+/// Two texts are the same.
+fn is_same_text(one: &str, other: &str) -> bool
+    ensures { result ≡ bytes_eq one.now other.now }
+{
+    end_alike(one, other) && one == other
+}
+
 /// Some item is that text.
 fn has_text(items: &[Value], text: &str) -> bool
     ensures { result ≡ list_any (bytes_eq text.now) (texts_of (map view items.now)) }
 {
     for item in items {
         if let Some(other) = item.as_str() {
-            if text == other {
+            if is_same_text(text, other) {
                 return true;
             }
         }
@@ -175,20 +196,18 @@ fn has_repeat(items: &[Value]) -> bool
 }
 
 /// The list at a key is against its shape.
-fn is_misshapen(table: &Table, key: Key) -> bool
-    ensures { result ≡ is_misshapen (table_view table.now) key }
+fn is_misshapen(table: &TableAt<'_>, key: Key) -> bool
+    ensures { result ≡ is_misshapen (table_view table.now.table.now) key }
 {
-    let count = items_of(table, key).len();
+    let count = table.items(key).len();
     match key {
-        Key::Ns => value_of(table, key).is_some() && count == 0,
-        Key::A | Key::Aaaa => count > 0 && !flag_of(table, Key::Pool),
+        Key::Ns => table.value(key).is_some() && count == 0,
+        Key::A | Key::Aaaa => count > 0 && !table.flag(Key::Pool),
         Key::Pools => {
-            value_of(table, key).is_some()
-                && (count == 0 || count > PLACES || has_repeat(items_of(table, key)))
+            table.value(key).is_some()
+                && (count == 0 || count > PLACES || has_repeat(table.items(key)))
         }
-        Key::Scores => {
-            value_of(table, key).is_some() && count != items_of(table, Key::Pools).len()
-        }
+        Key::Scores => table.value(key).is_some() && count != table.items(Key::Pools).len(),
         _ => false,
     }
 }
@@ -201,7 +220,7 @@ impl Rule for ListShape {
     ghost finds = { λ _ v k. list_shape v k };
 
     fn first(&self, table: &TableAt<'_>, key: Key) -> Option<At> {
-        whole_if(is_misshapen(table.table, key))
+        whole_if(is_misshapen(table, key))
     }
 }
 
@@ -221,6 +240,10 @@ pub struct NsInside<'a>(pub &'a Entries<'a>);
 
 impl<'a> Test for NsInside<'a> {
     ghost fails = { λ r k d. is_inside (entries r.0.now) k d };
+
+    fn reads(&self, key: Key) -> bool {
+        matches!(key, Key::Ns)
+    }
 
     fn is_bad(&self, key: Key, value: &Value) -> bool {
         match (key, value) {

@@ -11,7 +11,7 @@ ghost use Rattle.topology_text.specs.declared.schema.Key.TheVariants.{Apex, Ns, 
 
 use crate::schema::{At, Key};
 use crate::texts::zone_name;
-use crate::walk::{items_of, value_of};
+use crate::visited::{items_of, value_of};
 use crate::zone::{first_repeat, zone_items, zone_table, zone_text};
 use name_text::Name;
 use std::alloc::{AllocError, Global};

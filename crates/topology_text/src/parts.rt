@@ -14,7 +14,7 @@ use crate::prefixes::PrefixAt;
 use crate::schema::Key;
 use crate::texts::{v4_address, v6_address, zone_name};
 use crate::topology::{Hosts, Names, Topology, Zone};
-use crate::walk::value_of;
+use crate::visited::value_of;
 use crate::zone::{name_in, zone_items, zone_text};
 use addr_text::{Addr, Prefix};
 use indexmap::IndexSet;

@@ -9,7 +9,7 @@ ghost use Rattle.topology_text.specs.Walk.{first, items_at};
 
 use crate::limits::MOST_PREFIXES;
 use crate::schema::{At, Key, Place, Spot};
-use crate::walk::{TableAt, items_of};
+use crate::visited::TableAt;
 use addr_text::{Addr, Prefix, read_prefix};
 use indexmap::IndexSet;
 use std::alloc::{AllocError, Global};
@@ -58,9 +58,7 @@ fn push_table(prefixes: &mut Vec<PrefixAt>, table: &TableAt<'_>) -> Result<(), A
     ensures { OnOk result (prefixes.new.items ≡ prefixes.old.items ++ prefixes_at table.now.spot (items_at (table_view table.now.table.now) Key.Prefixes)) }
 {
     match table.spot {
-        Spot::GroupTable(group) => {
-            push_prefixes(prefixes, group, items_of(table.table, Key::Prefixes))
-        }
+        Spot::GroupTable(group) => { push_prefixes(prefixes, group, table.items(Key::Prefixes)) }
         _ => Ok(()),
     }
 }
@@ -137,13 +135,12 @@ pub fn first_lacking(prefixes: &[PrefixAt]) -> Option<Place>
     }
 }
 
-/// How many items the prefixes of a table have, if it is a group.
 /// How many prefixes a group's table has.
 fn count_at(table: &TableAt<'_>) -> usize
     ensures { result ≡ count_at table.now.spot (items_at (table_view table.now.table.now) Key.Prefixes) }
 {
     match table.spot {
-        Spot::GroupTable(_) => items_of(table.table, Key::Prefixes).len(),
+        Spot::GroupTable(_) => table.items(Key::Prefixes).len(),
         _ => 0,
     }
 }

@@ -18,7 +18,8 @@ use crate::unknown::first_unknown;
 use crate::values::{
     BadAddress, BadName, BadPrefix, EachValue, MissingKey, OutOfRange, TooMany, WrongKind,
 };
-use crate::walk::{TableAt, walk};
+use crate::visited::TableAt;
+use crate::walk::walk;
 use std::alloc::Global;
 use toml::Table;
 

@@ -4,7 +4,7 @@ ghost use Rattle.topology_text.specs.Walk.{Visit, first, places_in, places_of};
 ghost use Rattle.topology_text.specs.Code.{visit};
 
 use crate::schema::{At, Key, Place};
-use crate::walk::TableAt;
+use crate::visited::TableAt;
 
 /// What is a fault at a key of a table.
 pub trait Rule {

@@ -1,5 +1,5 @@
 //! The keys of a topology's tables, their kinds, and the places of faults.
-ghost use Rattle.std.specs.Prelude.{◌≡◌, Some};
+ghost use Rattle.std.specs.Prelude.{◌≡◌, ◌<◌, Some};
 ghost use Rattle.topology_text.specs.FaultTexts.{at_part, key_part, place_text, spot_text};
 ghost use Rattle.topology_text.specs.Schema.{key_text, kind_of, is_required, keys_of};
 
@@ -121,6 +121,25 @@ impl Key {
                 Kind::Integer
             }
             Key::Capacity | Key::Demand => Kind::Integer,
+        }
+    }
+
+    /// Where the key stands among those of its table. Were it wrong, the value would be looked up by the key's text.
+    pub fn place(self) -> usize
+        ensures { result < 11 }
+    {
+        match self {
+            Key::Zone | Key::Apex | Key::Name => 0,
+            Key::Node | Key::Mname | Key::Parent | Key::Demand => 1,
+            Key::Group | Key::Rname | Key::Capacity | Key::Pools => 2,
+            Key::Serial | Key::Pool | Key::Scores => 3,
+            Key::Refresh | Key::A | Key::Prefixes => 4,
+            Key::Retry | Key::Aaaa => 5,
+            Key::Expire => 6,
+            Key::Minimum => 7,
+            Key::Ttl => 8,
+            Key::Ns => 9,
+            Key::Services => 10,
         }
     }
 

@@ -7,7 +7,7 @@ ghost use Rattle.topology_text.specs.Code.{visit};
 ghost use Rattle.topology_text.specs.Values.{is_key_of, unknown};
 
 use crate::schema::{At, Place, Spot};
-use crate::walk::TableAt;
+use crate::visited::TableAt;
 use toml::Table;
 
 fn is_key_of(spot: Spot, name: &str) -> bool

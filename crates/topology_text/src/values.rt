@@ -1,5 +1,5 @@
 //! Rules that look at one value alone.
-ghost use Rattle.std.specs.Prelude.{◌≡◌, ℕ, map, length, List, Bool, not, Option, option_map};
+ghost use Rattle.std.specs.Prelude.{◌≡◌, ℕ, map, length, List, Bool, false, not, Option, option_map};
 ghost use Rattle.toml.specs.Data.{Data};
 ghost use Rattle.toml.specs.View.{view};
 ghost use Rattle.topology_text.specs.Schema.{is_kind, is_item_kind, kind_of};
@@ -11,7 +11,7 @@ use crate::limits::{MOST_ADDRESSES, MOST_NAME_SERVERS, MOST_SECONDS, MOST_SERVIC
 use crate::rule::Rule;
 use crate::schema::{At, Key, Kind};
 use crate::texts::{is_name, service_name, v4_address, v6_address, zone_name};
-use crate::walk::{TableAt, items_of, value_of};
+use crate::visited::{TableAt, items_of_value};
 use addr_text::read_prefix;
 use map_model::{MOST_CAPACITY, MOST_GROUPS, MOST_NODES};
 use toml::Value;
@@ -21,6 +21,10 @@ pub trait Test {
     ghost use Rattle.topology_text.specs.declared.schema.Key.{Key};
 
     ghost fails: { Self → Key → Data → Bool };
+
+    /// Whether the test looks at the values of a key: it fails nothing at another.
+    fn reads(&self, key: Key) -> bool
+        ensures { (d : Data) → result ≡ false → fails self.now key d ≡ false };
 
     fn is_bad(&self, key: Key, value: &Value) -> bool
         ensures { result ≡ fails self.now key (view value.now) };
@@ -57,7 +61,11 @@ impl<T: Test> Rule for EachValue<T> {
     ghost finds = { λ r v k. failing (T.fails r.0 k) (value_at v.members k) };
 
     fn first(&self, table: &TableAt<'_>, key: Key) -> Option<At> {
-        first_failing(&self.0, key, value_of(table.table, key)?)
+        if self.0.reads(key) {
+            first_failing(&self.0, key, table.value(key)?)
+        } else {
+            None
+        }
     }
 }
 
@@ -69,7 +77,7 @@ impl Rule for MissingKey {
     ghost finds = { λ _ v k. missing v k };
 
     fn first(&self, table: &TableAt<'_>, key: Key) -> Option<At> {
-        if key.is_required() && value_of(table.table, key).is_none() {
+        if key.is_required() && table.value(key).is_none() {
             Some(At::Whole)
         } else {
             None
@@ -98,6 +106,10 @@ struct ItemKind;
 impl Test for ItemKind {
     ghost fails = { λ _ k d. not (is_item_kind (kind_of k) d) };
 
+    fn reads(&self, key: Key) -> bool {
+        matches!(key.kind(), Kind::Texts | Kind::Integers | Kind::Tables)
+    }
+
     fn is_bad(&self, key: Key, value: &Value) -> bool {
         match key.kind() {
             Kind::Texts => !is_kind(Kind::Text, value),
@@ -116,9 +128,9 @@ impl Rule for WrongKind {
     ghost finds = { λ _ v k. wrong_kind v k };
 
     fn first(&self, table: &TableAt<'_>, key: Key) -> Option<At> {
-        let value = value_of(table.table, key)?;
+        let value = table.value(key)?;
         if is_kind(key.kind(), value) {
-            first_item(&ItemKind, key, items_of(table.table, key))
+            first_item(&ItemKind, key, items_of_value(value))
         } else {
             Some(At::Whole)
         }
@@ -131,6 +143,13 @@ pub struct BadName;
 
 impl Test for BadName {
     ghost fails = { λ _ k d. is_bad_name k d };
+
+    fn reads(&self, key: Key) -> bool {
+        matches!(
+            key,
+            Key::Apex | Key::Mname | Key::Rname | Key::Ns | Key::Services | Key::Name
+        )
+    }
 
     fn is_bad(&self, key: Key, value: &Value) -> bool {
         match (key, value) {
@@ -176,6 +195,10 @@ pub struct OutOfRange;
 impl Test for OutOfRange {
     ghost fails = { λ _ k d. is_out_of_range k d };
 
+    fn reads(&self, key: Key) -> bool {
+        matches!(key.kind(), Kind::Integer | Kind::Integers)
+    }
+
     fn is_bad(&self, key: Key, value: &Value) -> bool {
         match value {
             Value::Integer(number) => !is_in_range(key, *number),
@@ -190,6 +213,10 @@ pub struct BadAddress;
 
 impl Test for BadAddress {
     ghost fails = { λ _ k d. is_bad_address k d };
+
+    fn reads(&self, key: Key) -> bool {
+        matches!(key, Key::A | Key::Aaaa)
+    }
 
     fn is_bad(&self, key: Key, value: &Value) -> bool {
         match (key, value) {
@@ -206,6 +233,10 @@ pub struct BadPrefix;
 
 impl Test for BadPrefix {
     ghost fails = { λ _ k d. is_bad_prefix k d };
+
+    fn reads(&self, key: Key) -> bool {
+        matches!(key, Key::Prefixes)
+    }
 
     fn is_bad(&self, key: Key, value: &Value) -> bool {
         match (key, value) {
@@ -238,7 +269,7 @@ impl Rule for TooMany {
 
     fn first(&self, table: &TableAt<'_>, key: Key) -> Option<At> {
         match limit_of(key) {
-            Some(limit) if items_of(table.table, key).len() > limit => Some(At::Whole),
+            Some(limit) if table.items(key).len() > limit => Some(At::Whole),
             _ => None,
         }
     }

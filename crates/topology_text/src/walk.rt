@@ -1,26 +1,13 @@
 //! The walk over the tables of a document, in which faults of one number are ordered.
-ghost use Rattle.std.specs.Prelude.{◌≡◌, ◌++◌, map, OnOk, IfOk, option_map, Some, None};
+ghost use Rattle.std.specs.Prelude.{◌≡◌, ◌++◌, map, OnOk, IfOk, option_map};
 ghost use Rattle.toml.specs.View.{view, table_view};
-ghost use Rattle.topology_text.specs.Walk.{entries_from, entry_spot, value_at, visit_of, walk, zone_visits, items_of_value};
+ghost use Rattle.topology_text.specs.Walk.{entries_from, entry_spot, value_at, visit_of, walk, zone_visits};
 ghost use Rattle.topology_text.specs.Code.{visit};
 
 use crate::schema::{Key, Spot};
+use crate::visited::{TableAt, items_of, value_of};
 use std::alloc::{AllocError, Global};
 use toml::{Table, Value};
-
-/// A table on the walk, and where it stands.
-#[derive(Clone, Copy)]
-pub struct TableAt<'a> {
-    pub spot: Spot,
-    pub table: &'a Table,
-}
-
-/// The value at a key.
-pub fn value_of<'a>(table: &'a Table, key: Key) -> Option<&'a Value>
-    ensures { option_map (λ v. view v.now) result ≡ value_at (table_view table.now) key }
-{
-    table.get(key.text())
-}
 
 /// The place of an entry of `node` or `group`.
 fn entry_spot(key: Key, index: usize) -> Spot
@@ -37,7 +24,7 @@ fn table_in(spot: Spot, value: &Value) -> Option<TableAt<'_>>
     ensures { option_map (λ t. visit t) result ≡ visit_of spot (view value.now) }
 {
     match value {
-        Value::Table(table) => Some(TableAt { spot, table }),
+        Value::Table(table) => Some(TableAt::new(spot, table)),
         _ => None,
     }
 }
@@ -71,25 +58,12 @@ fn push_zone<'a>(tables: &mut Vec<TableAt<'a>>, top: &'a Table) -> Result<(), Al
     Ok(())
 }
 
-/// The items of the array at a key.
-pub fn items_of<'a>(table: &'a Table, key: Key) -> &'a [Value]
-    ensures { map view result.now ≡ items_of_value (value_at (table_view table.now) key) }
-{
-    match value_of(table, key) {
-        Some(Value::Array(items)) => items.as_slice(),
-        _ => &[],
-    }
-}
-
 /// The tables, in the order of the walk.
 pub fn walk(alloc: Global, top: &Table) -> Result<Vec<TableAt<'_>>, AllocError>
     ensures { IfOk result (λ v. map visit v.items ≡ walk (table_view top.now)) }
 {
     let mut tables = Vec::new(alloc);
-    tables.push(TableAt {
-        spot: Spot::Top,
-        table: top,
-    })?;
+    tables.push(TableAt::new(Spot::Top, top))?;
     push_zone(&mut tables, top)?;
     push_entries(&mut tables, Key::Node, items_of(top, Key::Node))?;
     push_entries(&mut tables, Key::Group, items_of(top, Key::Group))?;

@@ -8,7 +8,7 @@ ghost use Rattle.topology_text.specs.Walk.{first, table_in, value_at};
 use crate::names::text_of;
 use crate::schema::{At, Key};
 use crate::texts::{service_name, zone_name};
-use crate::walk::{items_of, value_of};
+use crate::visited::{items_of, value_of};
 use indexmap::IndexSet;
 use name_text::Name;
 use std::alloc::{AllocError, Global};

@@ -1,7 +1,7 @@
 use Rattle.std.proofs.Common.{sym, ap, ◌∙◌, None, Some, ◌≡◌, get_or}
 use Rattle.topology_text.specs.Walk.{first}
 use Rattle.topology_text.specs.Values.{unknown}
-use Rattle.topology_text.specs.declared.walk.TableAt.{TableAt}
+use Rattle.topology_text.specs.declared.visited.TableAt.{TableAt}
 use Rattle.topology_text.specs.Code.{visit}
 use Rattle.topology_text.proofs.Firsts.{first_on_view, first_here_view, firsts_end_view}
 use Rattle.topology_text.proofs.unknown.first_unknown.Goals as goal

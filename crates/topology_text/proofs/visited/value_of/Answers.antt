@@ -1,0 +1,13 @@
+use Rattle.std.proofs.Common.{ap, ◌∙◌}
+use Rattle.toml.proofs.Views.{table_get}
+use Rattle.toml.specs.View.{table_view}
+use Rattle.toml.specs.Data.{get_member}
+use Rattle.topology_text.proofs.visited.value_of.Goals as goal
+
+pub returns : goal.returns
+returns c = record {
+  value =
+      table_get c.get.result c.text.result.now c.args.table.now.entries c.get.ensures.value
+      ∙ ap (λ k. get_member k (table_view c.args.table.now)) c.text.ensures;
+  found = rw (← c.text.ensures) c.get.ensures.value;
+}
