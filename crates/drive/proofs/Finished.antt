@@ -11,7 +11,6 @@ use Rattle.lane_model.specs.declared.ended.Ended.{Ended}
 use Rattle.lane_model.specs.Lanes.{IsLaneRun}
 use Rattle.lane_model.specs.Replies.{replies}
 use Rattle.lane_model.specs.Turns.{Turn, entries_of, floor_after, looks_of, tries_of}
-use Rattle.lane_model.specs.declared.ended.Ended.TheVariants.{CellFault}
 use Rattle.lane_model.specs.Sessions.{Eyes, IsEnd, IsLaneCall, Moment}
 use Rattle.lane_model.proofs.Calls.{refused_last}
 use Rattle.lane_model.proofs.Prefixes.{prefix_length}

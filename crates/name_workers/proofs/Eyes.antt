@@ -2,7 +2,7 @@
 use Rattle.std.proofs.Common.{◌≡◌, ℕ, ◌+◌, ◌-◌, ◌<◌, ◌≤◌, true, false, List, [], ◌∷◌, ◌++◌, length, map, max, replicate, All, Option, None, Some, refl, sym, ap, subst, ◌∙◌, arith, append_assoc, append-nil, length-append}
 use Rattle.std.proofs.lemmas.Grind.{common_steps}
 use mathlib.Core.List.{IsPrefix}
-use Rattle.outside.specs.Faults.{BothTell, Rose, raised}
+use Rattle.outside.specs.Faults.{BothTell, raised}
 use Rattle.published_map.specs.Version.{Version}
 use Rattle.outside.specs.Notes.{NotesTold, IsNextNote}
 use Rattle.lane_model.specs.Sessions.{Eyes, IsRise}
