@@ -383,6 +383,22 @@ fn feeds_in_pieces(rt: HostRuntime) -> Result<(), Fail> {
     Ok(())
 }
 
+/// Whether a row is so in pieces of 24 octets and more, up to more than the session has.
+fn all_larger<R: Wait>(rt: &R, alloc: Global, row: &Row) -> bool {
+    for size in 24..122 {
+        if !runs(rt, alloc, row.feed.as_bytes(), row, size) {
+            return false;
+        }
+    }
+    true
+}
+
+#[test]
+fn the_session_in_larger_pieces(rt: HostRuntime) -> Result<(), Fail> {
+    assert!(rt; all_larger(&rt, rt.alloc(), &ROWS[0]));
+    Ok(())
+}
+
 #[test]
 fn puts_fail_in_turn(rt: HostRuntime) -> Result<(), Fail> {
     assert!(rt; all_run(&rt, rt.alloc(), &CUTS, 100));
