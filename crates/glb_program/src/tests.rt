@@ -22,9 +22,16 @@ enum Held {
 
 mod answers;
 mod at_once;
+mod circles;
+mod devices;
 mod example;
+mod failing_sessions;
+mod hostile;
 mod large_world;
+mod loopback;
+mod repairs;
 mod serving;
+mod usage;
 
 use Held::{Bytes, Missing, Topology, Zeros};
 
@@ -315,8 +322,6 @@ const GOOD_FLAT: &[u8] = b"glb map 1\nplace g A 4\nend\n";
 const GOOD_REGION: &[u8] =
     b"glb map 1\nplace g1 A 8\nplace g2 A 2\nplace g2 B 5\nfull g2 A A\nfull g2 B R\nend\n";
 
-const USAGE: &[u8] = b"usage: glb check, answer, map, repair, serve or large\n";
-
 /// Two files, and what comes of a command over them: the status, what the output got, and how many files were asked for.
 type Row = (Held, Held, Status, &'static str, usize);
 
@@ -328,7 +333,7 @@ fn assert_rows<R: Abort + Threads + Wait + Sync + AllocGlobal>(
     let words = texts(rt, words)?;
     for (topology, map, wanted, text, loads) in rows {
         let mut files = shelf(rt, *topology, *map, &[])?;
-        let mut out = MemSink::new(rt.alloc(), 1024, Vec::new(rt.alloc()))?;
+        let mut out = MemSink::new(rt.alloc(), 2048, Vec::new(rt.alloc()))?;
         let status = run(rt, words.as_slice(), &mut files, &mut out)?;
         assert_eq!(rt; status, *wanted, "for {text}");
         assert_eq!(rt; out.bytes(), text.as_bytes(), "for {text}");
@@ -562,24 +567,34 @@ const MAPS: &[(Held, &str)] = &[
         "glb map 1\nplace g n7 3\nfull g n7 n0\nend\n",
     ),
     (Topology(LARGEST), "glb map 1\nplace g A 4294967295\nend\n"),
+    (Topology(circles::PAIR), circles::PAIR_MAP),
+    (Topology(circles::DEEP_PAIR), circles::DEEP_PAIR_MAP),
+    (Topology(circles::RING), circles::RING_MAP),
 ];
+
+/// Each topology has this map, which is good.
+fn assert_maps<R: Abort + Threads + Wait + Sync + AllocGlobal>(
+    rt: &R,
+    rows: &[(Held, &'static str)],
+) -> Result<(), Fail> {
+    for (topology, map) in rows {
+        let row = (*topology, Missing, Status::Ok, *map, 1usize);
+        assert_rows(rt, &["glb", "map", "t"], &[row])?;
+        let row = (
+            *topology,
+            Bytes(map.as_bytes()),
+            Status::Ok,
+            "good\n",
+            2usize,
+        );
+        assert_rows(rt, &["glb", "check", "t", "m"], &[row])?;
+    }
+    Ok(())
+}
 
 #[test]
 fn maps(rt: HostRuntime) -> Result<(), Fail> {
-    for (topology, map) in MAPS {
-        assert_rows(
-            &rt,
-            &["glb", "map", "t"],
-            &[(*topology, Missing, Status::Ok, *map, 1)],
-        )?;
-        let written = Bytes(map.as_bytes());
-        assert_rows(
-            &rt,
-            &["glb", "check", "t", "m"],
-            &[(*topology, written, Status::Ok, "good\n", 2)],
-        )?;
-    }
-    Ok(())
+    assert_maps(&rt, MAPS)
 }
 
 #[test]
@@ -667,76 +682,6 @@ fn map_texts(rt: HostRuntime) -> Result<(), Fail> {
         let text = format!(in rt.alloc(); "refused map {wanted}\n")?;
         assert_eq!(rt; status, Status::Refused, "for {wanted}");
         assert_eq!(rt; out.bytes(), text.as_bytes(), "for {map:?}");
-    }
-    Ok(())
-}
-
-#[test]
-fn usage(rt: HostRuntime) -> Result<(), Fail> {
-    let rows: [&[&str]; 30] = [
-        &[],
-        &["glb"],
-        &["glb", "check"],
-        &["glb", "check", "t"],
-        &["glb", "check", "t", "m", "m"],
-        &["glb", "check", "-t", "m"],
-        &["glb", "check", "t", "-m"],
-        &["glb", "--", "check", "t", "m"],
-        &["glb", "check", "t", "m", "--version"],
-        &["glb", "chec", "t", "m"],
-        &["glb", "t", "m", "check"],
-        &["glb", "map"],
-        &["glb", "map", "-t"],
-        &["glb", "map", "t", "m"],
-        &["glb", "answer", "t", "m"],
-        &["glb", "answer", "t", "m", "198.51.100", "00"],
-        &["glb", "answer", "t", "m", "198.51.100.7", "123"],
-        &["glb", "serve", "t"],
-        &["glb", "serve", "t", "--listen", "x"],
-        &["glb", "serve", "t", "--listen", "127.0.0.1"],
-        &["glb", "serve", "t", "--listen", "127.0.0.1:65536"],
-        &["glb", "serve", "t", "--listen", "::1:53"],
-        &["glb", "serve", "--listen", "127.0.0.1:53"],
-        &[
-            "glb",
-            "serve",
-            "t",
-            "--listen",
-            "127.0.0.1:53",
-            "--workers",
-            "0",
-        ],
-        &[
-            "glb",
-            "serve",
-            "t",
-            "--listen",
-            "127.0.0.1:53",
-            "--workers",
-            "17",
-        ],
-        &[
-            "glb",
-            "serve",
-            "t",
-            "--listen",
-            "127.0.0.1:53",
-            "--workers",
-            "01",
-        ],
-        &["glb", "large", "0"],
-        &["glb", "repair", "t", "m"],
-        &["glb", "--help"],
-        &["check", "t", "m"],
-    ];
-    for words in rows {
-        let words = texts(&rt, words)?;
-        let mut files = shelf(&rt, Topology(FLAT), Bytes(GOOD_FLAT), &[])?;
-        let mut out = MemSink::new(rt.alloc(), 1024, Vec::new(rt.alloc()))?;
-        let status = run(&rt, words.as_slice(), &mut files, &mut out)?;
-        assert_eq!(rt; status, Status::Usage, "for {words:?}");
-        assert_eq!(rt; out.bytes(), USAGE, "for {words:?}");
-        assert_eq!(rt; files.asked().len(), 0, "for {words:?}");
     }
     Ok(())
 }
