@@ -26,9 +26,11 @@ mod circles;
 mod devices;
 mod example;
 mod failing_sessions;
+mod faults;
 mod hostile;
 mod large_world;
 mod loopback;
+mod map_texts;
 mod repairs;
 mod serving;
 mod usage;
@@ -273,22 +275,26 @@ fn held_file<R: Abort + AllocGlobal>(rt: &R, name: &str, held: Held) -> Result<O
     })
 }
 
-fn shelf<R: Abort + AllocGlobal>(
+/// What stands under these names, of which these loads fail.
+fn shelf_of<R: Abort + AllocGlobal>(
     rt: &R,
-    topology: Held,
-    map: Held,
+    held: &[(&str, Held)],
     fails: &[u64],
 ) -> Result<MemShelf, Fail> {
     let alloc = rt.alloc();
     let mut files = Vec::new(alloc);
-    if let Some(file) = held_file(rt, "t", topology)? {
-        files.push(file)?;
-    }
-    if let Some(file) = held_file(rt, "m", map)? {
-        files.push(file)?;
+    for (name, file) in held {
+        if let Some(file) = held_file(rt, name, *file)? {
+            files.push(file)?;
+        }
     }
     let fails = fails.to_vec(alloc)?;
     Ok(MemShelf::new(alloc, files, 8, fails)?)
+}
+
+/// A topology and a map.
+fn shelf<R: Abort + AllocGlobal>(rt: &R, topology: Held, map: Held) -> Result<MemShelf, Fail> {
+    shelf_of(rt, &[("t", topology), ("m", map)], &[])
 }
 
 fn texts<R: AllocGlobal>(rt: &R, words: &[&str]) -> Result<Vec<String>, Fail> {
@@ -317,6 +323,64 @@ fn run<R: Threads + Wait + Sync + AllocGlobal>(
     ))
 }
 
+/// What came of a command: the status, the files and the output.
+#[derive(Drop)]
+struct Came {
+    status: Status,
+    files: MemShelf,
+    out: MemSink,
+}
+
+/// A command over these files, and an output with room for so many octets, of which these puts fail.
+fn came_over<R: Abort + Threads + Wait + Sync + AllocGlobal>(
+    rt: &R,
+    words: &[&str],
+    files: MemShelf,
+    puts: &[u64],
+    room: usize,
+) -> Result<Came, Fail> {
+    let mut files = files;
+    let words = texts(rt, words)?;
+    let puts = puts.to_vec(rt.alloc())?;
+    let mut out = MemSink::new(rt.alloc(), room, puts)?;
+    let status = run(rt, words.as_slice(), &mut files, &mut out)?;
+    Ok(Came { status, files, out })
+}
+
+/// A command over what stands under these names, and an output that has room.
+fn came_of<R: Abort + Threads + Wait + Sync + AllocGlobal>(
+    rt: &R,
+    words: &[&str],
+    held: &[(&str, Held)],
+) -> Result<Came, Fail> {
+    let files = shelf_of(rt, held, &[])?;
+    came_over(rt, words, files, &[], ROOM)
+}
+
+/// Whether a command ended with this status, put this text at once, or nothing where it is empty, and asked for so many files.
+fn came_is(came: &Came, status: Status, text: &[u8], loads: usize) -> bool {
+    let puts = if text.is_empty() { 0 } else { 1 };
+    came.status == status
+        && came.out.bytes() == text
+        && came.out.puts() == puts
+        && came.files.asked().len() == loads
+}
+
+/// Whether these octets are the first pieces, one behind the other.
+fn are_joined(octets: &[u8], pieces: &[&str], count: usize) -> bool {
+    let mut rest = octets;
+    for piece in pieces.iter().take(count) {
+        match rest.strip_prefix(piece.as_bytes()) {
+            Some(behind) => rest = behind,
+            None => return false,
+        }
+    }
+    rest.is_empty()
+}
+
+/// How many octets an output takes where it has room.
+const ROOM: usize = 2048;
+
 const GOOD_FLAT: &[u8] = b"glb map 1\nplace g A 4\nend\n";
 
 const GOOD_REGION: &[u8] =
@@ -330,19 +394,12 @@ fn assert_rows<R: Abort + Threads + Wait + Sync + AllocGlobal>(
     words: &[&str],
     rows: &[Row],
 ) -> Result<(), Fail> {
-    let words = texts(rt, words)?;
-    for (topology, map, wanted, text, loads) in rows {
-        let mut files = shelf(rt, *topology, *map, &[])?;
-        let mut out = MemSink::new(rt.alloc(), 2048, Vec::new(rt.alloc()))?;
-        let status = run(rt, words.as_slice(), &mut files, &mut out)?;
-        assert_eq!(rt; status, *wanted, "for {text}");
-        assert_eq!(rt; out.bytes(), text.as_bytes(), "for {text}");
-        assert_eq!(rt;
-            out.puts(),
-            if text.is_empty() { 0 } else { 1 },
+    for (topology, map, status, text, loads) in rows {
+        let came = came_of(rt, words, &[("t", *topology), ("m", *map)])?;
+        assert!(rt;
+            came_is(&came, *status, text.as_bytes(), *loads),
             "for {text}"
         );
-        assert_eq!(rt; files.asked().len(), *loads, "for {text}");
     }
     Ok(())
 }
@@ -597,183 +654,26 @@ fn maps(rt: HostRuntime) -> Result<(), Fail> {
     assert_maps(&rt, MAPS)
 }
 
+/// Files of which there is no map.
+const NO_MAPS: &[Row] = &[
+    (
+        Zeros(67_108_865),
+        Missing,
+        Status::Refused,
+        "refused topology too long\n",
+        1,
+    ),
+    (
+        Topology(NO_DEFAULT),
+        Missing,
+        Status::Refused,
+        "refused topology 14 no default at family 6\n",
+        1,
+    ),
+    (Missing, Bytes(GOOD_FLAT), Status::SourceFault, "", 1),
+];
+
 #[test]
 fn topologies_without_a_map(rt: HostRuntime) -> Result<(), Fail> {
-    assert_rows(
-        &rt,
-        &["glb", "map", "t"],
-        &[
-            (
-                Zeros(67_108_865),
-                Missing,
-                Status::Refused,
-                "refused topology too long\n",
-                1,
-            ),
-            (
-                Topology(NO_DEFAULT),
-                Missing,
-                Status::Refused,
-                "refused topology 14 no default at family 6\n",
-                1,
-            ),
-            (Missing, Bytes(GOOD_FLAT), Status::SourceFault, "", 1),
-        ],
-    )
-}
-
-/// Texts over REGION that are no maps, and why.
-const MAP_FAULTS: &[(&[u8], &str)] = &[
-    (b"", "truncated"),
-    (b"glb map 1", "truncated"),
-    (b"glb map 1\n", "truncated"),
-    (b"glb map 1\nend", "truncated"),
-    (b"glb map 1\nend\n\xff", "truncated"),
-    (b"glb map 1\nplace g1 A 8\nnonsense", "truncated"),
-    (
-        b"glb map 1\nplace g1 A 8\nplace g2 A 2\nplace g2 B 5\nfull g2 A A\n",
-        "truncated",
-    ),
-    (b"\n", "bad line at line 1"),
-    (b"end\n", "bad line at line 1"),
-    (b"glb map 2\nend\n", "bad line at line 1"),
-    (b"place g9 A 1\n", "bad line at line 1"),
-    (b"glb map 1\nglb map 1\nend\n", "bad line at line 2"),
-    (b"glb map 1\nend\n\n", "bad line at line 3"),
-    (b"glb map 1\r\nend\r\n", "bad line at line 1"),
-    (b"glb map 1\nplaces g1 A 8\nend\n", "bad line at line 2"),
-    (b"glb map 1\nplace g1 A 8 \nend\n", "bad line at line 2"),
-    (b"glb map 1\nplace g1  8\nend\n", "bad line at line 2"),
-    (b"glb map 1\nplace g1 A\nend\n", "bad line at line 2"),
-    (b"glb map 1\nplace g1 A 0\nend\n", "bad line at line 2"),
-    (b"glb map 1\nplace g9 A 08\nend\n", "bad line at line 2"),
-    (
-        b"glb map 1\nplace g1 A 8\nplace g2 A 4294967296\nend\n",
-        "bad line at line 3",
-    ),
-    (b"glb map 1\nplace g1 A +8\nend\n", "bad line at line 2"),
-    (
-        b"glb map 1\nplace g1 A 8\nfull g2 A C\nend\n",
-        "unknown name at line 3",
-    ),
-    (b"glb map 1\nplace g1 R 8\nend\n", "unknown name at line 2"),
-    (
-        b"glb map 1\nplace g1 A 8\nplace g2 A 2\nplace g1 B 8\nplace g2 B 5\nend\n",
-        "order at line 4",
-    ),
-    (
-        b"glb map 1\nplace g1 A 8\nplace g1 A 8\nend\n",
-        "order at line 3",
-    ),
-    (
-        b"glb map 1\nfull g1 A A\nplace g2 A 8\nend\n",
-        "order at line 3",
-    ),
-    (b"glb map 1\nplace g9 A 1\nend\n", "unknown name at line 2"),
-];
-
-#[test]
-fn map_texts(rt: HostRuntime) -> Result<(), Fail> {
-    let words = texts(&rt, &["glb", "check", "t", "m"])?;
-    for (map, wanted) in MAP_FAULTS {
-        let mut files = shelf(&rt, Topology(REGION), Bytes(*map), &[])?;
-        let mut out = MemSink::new(rt.alloc(), 1024, Vec::new(rt.alloc()))?;
-        let status = run(&rt, words.as_slice(), &mut files, &mut out)?;
-        let text = format!(in rt.alloc(); "refused map {wanted}\n")?;
-        assert_eq!(rt; status, Status::Refused, "for {wanted}");
-        assert_eq!(rt; out.bytes(), text.as_bytes(), "for {map:?}");
-    }
-    Ok(())
-}
-
-/// The words, the loads that are to fail, the puts that are to fail, the room of the output, and what comes of it.
-type Faulty = (
-    &'static [&'static str],
-    &'static [u64],
-    &'static [u64],
-    usize,
-    Status,
-    &'static [u8],
-);
-
-const FAULTS: &[Faulty] = &[
-    (
-        &["glb", "check", "t", "m"],
-        &[0],
-        &[],
-        99,
-        Status::SourceFault,
-        b"",
-    ),
-    (
-        &["glb", "check", "t", "m"],
-        &[1],
-        &[],
-        99,
-        Status::SourceFault,
-        b"",
-    ),
-    (
-        &["glb", "check", "t", "m"],
-        &[2],
-        &[],
-        99,
-        Status::Ok,
-        b"good\n",
-    ),
-    (
-        &["glb", "check", "t", "m"],
-        &[],
-        &[0],
-        99,
-        Status::SinkFault,
-        b"",
-    ),
-    (
-        &["glb", "check", "t", "m"],
-        &[],
-        &[],
-        3,
-        Status::SinkFault,
-        b"goo",
-    ),
-    (
-        &["glb", "map", "t"],
-        &[],
-        &[],
-        14,
-        Status::SinkFault,
-        b"glb map 1\nplac",
-    ),
-    (&["glb"], &[], &[], 5, Status::SinkFault, b"usage"),
-    (
-        &["glb", "check", "m", "t"],
-        &[],
-        &[],
-        99,
-        Status::Refused,
-        b"refused topology 1 not toml\n",
-    ),
-    (
-        &["glb", "answer", "t", "m", "198.51.100.7", "00"],
-        &[1],
-        &[],
-        99,
-        Status::SourceFault,
-        b"",
-    ),
-];
-
-#[test]
-fn faults_outside(rt: HostRuntime) -> Result<(), Fail> {
-    for (words, loads, puts, room, wanted, text) in FAULTS {
-        let words = texts(&rt, words)?;
-        let mut files = shelf(&rt, Topology(FLAT), Bytes(GOOD_FLAT), loads)?;
-        let puts = puts.to_vec(rt.alloc())?;
-        let mut out = MemSink::new(rt.alloc(), *room, puts)?;
-        let status = run(&rt, words.as_slice(), &mut files, &mut out)?;
-        assert_eq!(rt; status, *wanted);
-        assert_eq!(rt; out.bytes(), *text);
-    }
-    Ok(())
+    assert_rows(&rt, &["glb", "map", "t"], NO_MAPS)
 }

@@ -1,7 +1,6 @@
 //! Words that the declaration does not take.
-use super::{Bytes, FLAT, GOOD_FLAT, Topology, run, shelf, texts};
+use super::{Bytes, FLAT, GOOD_FLAT, Topology, came_is, came_of};
 use crate::Status;
-use outside::MemSink;
 use std::process::Abort;
 use std::sync::Wait;
 use std::test::Fail;
@@ -71,13 +70,8 @@ fn assert_usage<R: Abort + Threads + Wait + Sync + AllocGlobal>(
     rt: &R,
     words: &[&str],
 ) -> Result<(), Fail> {
-    let words = texts(rt, words)?;
-    let mut files = shelf(rt, Topology(FLAT), Bytes(GOOD_FLAT), &[])?;
-    let mut out = MemSink::new(rt.alloc(), 1024, Vec::new(rt.alloc()))?;
-    let status = run(rt, words.as_slice(), &mut files, &mut out)?;
-    assert_eq!(rt; status, Status::Usage, "for {words:?}");
-    assert_eq!(rt; out.bytes(), USAGE, "for {words:?}");
-    assert_eq!(rt; files.asked().len(), 0, "for {words:?}");
+    let came = came_of(rt, words, &[("t", Topology(FLAT)), ("m", Bytes(GOOD_FLAT))])?;
+    assert!(rt; came_is(&came, Status::Usage, USAGE, 0), "for {words:?}");
     Ok(())
 }
 
