@@ -63,7 +63,7 @@ const MAPS: &[&str] = &[
 ];
 
 /// What was done at a lane: openings that went, turns of its gate, datagrams that it took, replies that went.
-#[derive(Clone, Copy, PartialEq, Eq, Debug)]
+#[derive(Clone, Copy, PartialEq)]
 struct Served {
     opens: usize,
     turns: usize,
@@ -72,7 +72,7 @@ struct Served {
 }
 
 /// What comes of a session: the status, the loads, the pieces of the feed, the puts of both outputs, the lines and texts that they hold, and the two lanes.
-#[derive(Clone, Copy, PartialEq, Eq, Debug)]
+#[derive(Clone, Copy, PartialEq)]
 struct Due {
     status: Status,
     loads: usize,

@@ -86,14 +86,6 @@ fn ask(client: &UdpSocket, shared: &SharedUdp, word: SocketAddr) -> bool {
     client.send_to(b".", word).is_ok() && is_right
 }
 
-/// One that serves, beside one that asks.
-trait Serves {
-    ghost ready: { Self → Type 0 };
-
-    fn serve<R: Threads + Wait + Sync + AllocGlobal>(&mut self, rt: &R) -> Status
-        requires { ready self.old };
-}
-
 /// All that `serve` is lent.
 #[derive(Drop)]
 struct Server<P, G, M> {
@@ -106,23 +98,25 @@ struct Server<P, G, M> {
     pace: M,
 }
 
-impl<P: Port + Send, G: Gate + Send, M: Pace> Serves for Server<P, G, M> {
-    ghost ready = { λ s. vec_len s.lanes ≡ LANES };
-
-    fn serve<R: Threads + Wait + Sync + AllocGlobal>(&mut self, rt: &R) -> Status {
-        glb(
-            rt,
-            rt.alloc(),
-            self.words.as_slice(),
-            &mut self.files,
-            &mut self.feed,
-            &mut self.out,
-            &mut self.maps,
-            self.lanes.as_mut_slice(),
-            &mut self.pace,
-            1_000_000,
-        )
-    }
+/// Serves with what is lent.
+fn serve<R: Threads + Wait + Sync + AllocGlobal, P: Port + Send, G: Gate + Send, M: Pace>(
+    rt: &R,
+    server: &mut Server<P, G, M>,
+) -> Status
+    requires { vec_len server.old.lanes ≡ LANES }
+{
+    glb(
+        rt,
+        rt.alloc(),
+        server.words.as_slice(),
+        &mut server.files,
+        &mut server.feed,
+        &mut server.out,
+        &mut server.maps,
+        server.lanes.as_mut_slice(),
+        &mut server.pace,
+        1_000_000,
+    )
 }
 
 const WORDS: &[&str] = &[
@@ -156,21 +150,20 @@ fn server_of<R: Abort + AllocGlobal, P: Port + Drop, G: Gate + Drop, M: Pace + D
     })
 }
 
-/// Asks and serves at once: whether the reply was the right one, and the status.
-fn run_both<S: Serves, R: Threads + Wait + Sync + AllocGlobal>(
-    rt: &R,
-    client: &UdpSocket,
-    shared: &SharedUdp,
-    word: SocketAddr,
-    server: &mut S,
-) -> (bool, Status)
-    requires { S.ready server.old }
-{
-    let mut asking = || ask(client, shared, word);
-    let mut serving = || -> Status
-        requires { S.ready server.now }
-    { server.serve(rt) };
-    join_mut(rt, &mut asking, &mut serving)
+/// One that serves, beside one that asks.
+trait ServesA {
+    ghost ready: { Self → Type 0 };
+
+    fn serve_a<R: Threads + Wait + Sync + AllocGlobal>(&mut self, rt: &R) -> Status
+        requires { ready self.old };
+}
+
+impl ServesA for Server<UdpPort<'_, HostRuntime>, FlagGate<'_>, WordPace<'_>> {
+    ghost ready = { λ s. vec_len s.lanes ≡ LANES };
+
+    fn serve_a<R: Threads + Wait + Sync + AllocGlobal>(&mut self, rt: &R) -> Status {
+        serve(rt, self)
+    }
 }
 
 #[test]
@@ -181,7 +174,11 @@ fn serves_a_client_on_loopback(rt: HostRuntime) -> Result<(), Fail> {
     let word = socket_of(&rt).ok_or("no socket for the word")?;
     let to = word.local_addr().map_err(|_| "no address")?;
     let mut server = server_of(&rt, lanes, WordPace { word, flag: &flag })?;
-    let (is_right, status) = run_both(&rt, &client, &shared, to, &mut server);
+    let mut asking = || ask(&client, &shared, to);
+    let mut serving = || -> Status
+        requires { vec_len server.now.lanes ≡ LANES }
+    { serve(&rt, &mut server) };
+    let (is_right, status) = join_mut(&rt, &mut asking, &mut serving);
     assert!(rt; is_right);
     assert!(rt; status == Status::Ok);
     Ok(())
