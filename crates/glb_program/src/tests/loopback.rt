@@ -150,22 +150,6 @@ fn server_of<R: Abort + AllocGlobal, P: Port + Drop, G: Gate + Drop, M: Pace + D
     })
 }
 
-/// One that serves, beside one that asks.
-trait ServesA {
-    ghost ready: { Self → Type 0 };
-
-    fn serve_a<R: Threads + Wait + Sync + AllocGlobal>(&mut self, rt: &R) -> Status
-        requires { ready self.old };
-}
-
-impl ServesA for Server<UdpPort<'_, HostRuntime>, FlagGate<'_>, WordPace<'_>> {
-    ghost ready = { λ s. vec_len s.lanes ≡ LANES };
-
-    fn serve_a<R: Threads + Wait + Sync + AllocGlobal>(&mut self, rt: &R) -> Status {
-        serve(rt, self)
-    }
-}
-
 #[test]
 fn serves_a_client_on_loopback(rt: HostRuntime) -> Result<(), Fail> {
     let (shared, flag) = (SharedUdp::new(), StopFlag::new());
