@@ -1,7 +1,9 @@
 //! The program over files and an output in memory.
 use crate::quiet::quiet_lanes;
 use crate::{Status, glb};
+use no_memory::NoMemory;
 use outside::{File, MemPace, MemShelf, MemSink, MemSource};
+use std::alloc::Global;
 use std::process::Abort;
 use std::sync::Wait;
 use std::test::Fail;
@@ -256,23 +258,26 @@ const NO_DEFAULT: &str = "node = [{name = \"A\", capacity = 10, pool = true}]
 group = [{name = \"g\", demand = 4, pools = [\"A\"], scores = [0], prefixes = [\"0.0.0.0/0\"]}]
 ";
 
+/// A topology's text. A table that is written as inline values stands above the header of the zone.
+fn zoned(alloc: Global, rest: &str) -> Result<Vec<u8>, NoMemory> {
+    let (first, second) = if rest.starts_with("node") {
+        (rest, ZONE)
+    } else {
+        (ZONE, rest)
+    };
+    let mut text = Vec::from_slice(alloc, first.as_bytes())?;
+    text.extend_from_slice(second.as_bytes())?;
+    Ok(text)
+}
+
 fn held_file<R: Abort + AllocGlobal>(rt: &R, name: &str, held: Held) -> Result<Option<File>, Fail> {
     assert!(rt; name.len() < 256);
-    let alloc = rt.alloc();
-    Ok(match held {
-        Topology(rest) => {
-            // A table that is written as inline values stands above the header of the zone.
-            let text = if rest.starts_with("node") {
-                format!(in alloc; "{rest}{ZONE}")?
-            } else {
-                format!(in alloc; "{ZONE}{rest}")?
-            };
-            Some(File::new(name, text.into_bytes()))
-        }
-        Bytes(bytes) => Some(File::new(name, bytes.to_vec(alloc)?)),
-        Zeros(count) => Some(File::zeros(name, count)),
-        Missing => None,
-    })
+    match held {
+        Topology(rest) => Ok(Some(File::new(name, zoned(rt.alloc(), rest)?))),
+        Bytes(bytes) => Ok(Some(File::new(name, bytes.to_vec(rt.alloc())?))),
+        Zeros(count) => Ok(Some(File::zeros(name, count))),
+        Missing => Ok(None),
+    }
 }
 
 /// What stands under these names, of which these loads fail.

@@ -160,7 +160,7 @@ fn serves_a_client_on_loopback(rt: HostRuntime) -> Result<(), Fail> {
     let mut server = server_of(&rt, lanes, WordPace { word, flag: &flag })?;
     let mut asking = || ask(&client, &shared, to);
     let mut serving = || -> Status
-        requires { vec_len server.now.lanes ≡ LANES }
+        requires { vec_len server.lanes ≡ LANES }
     { serve(&rt, &mut server) };
     let (is_right, status) = join_mut(&rt, &mut asking, &mut serving);
     assert!(rt; is_right);
