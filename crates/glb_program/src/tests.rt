@@ -1,7 +1,9 @@
 //! The program over files and an output in memory.
 use crate::quiet::quiet_lanes;
 use crate::{Status, glb};
+use no_memory::NoMemory;
 use outside::{File, MemPace, MemShelf, MemSink, MemSource};
+use std::alloc::Global;
 use std::process::Abort;
 use std::sync::Wait;
 use std::test::Fail;
@@ -22,9 +24,18 @@ enum Held {
 
 mod answers;
 mod at_once;
+mod circles;
+mod devices;
 mod example;
+mod failing_sessions;
+mod faults;
+mod hostile;
 mod large_world;
+mod loopback;
+mod map_texts;
+mod repairs;
 mod serving;
+mod usage;
 
 use Held::{Bytes, Missing, Topology, Zeros};
 
@@ -247,41 +258,48 @@ const NO_DEFAULT: &str = "node = [{name = \"A\", capacity = 10, pool = true}]
 group = [{name = \"g\", demand = 4, pools = [\"A\"], scores = [0], prefixes = [\"0.0.0.0/0\"]}]
 ";
 
-fn held_file<R: Abort + AllocGlobal>(rt: &R, name: &str, held: Held) -> Result<Option<File>, Fail> {
-    assert!(rt; name.len() < 256);
-    let alloc = rt.alloc();
-    Ok(match held {
-        Topology(rest) => {
-            // A table that is written as inline values stands above the header of the zone.
-            let text = if rest.starts_with("node") {
-                format!(in alloc; "{rest}{ZONE}")?
-            } else {
-                format!(in alloc; "{ZONE}{rest}")?
-            };
-            Some(File::new(name, text.into_bytes()))
-        }
-        Bytes(bytes) => Some(File::new(name, bytes.to_vec(alloc)?)),
-        Zeros(count) => Some(File::zeros(name, count)),
-        Missing => None,
-    })
+/// A topology's text. A table that is written as inline values stands above the header of the zone.
+fn zoned(alloc: Global, rest: &str) -> Result<Vec<u8>, NoMemory> {
+    let (first, second) = if rest.starts_with("node") {
+        (rest, ZONE)
+    } else {
+        (ZONE, rest)
+    };
+    let mut text = Vec::from_slice(alloc, first.as_bytes())?;
+    text.extend_from_slice(second.as_bytes())?;
+    Ok(text)
 }
 
-fn shelf<R: Abort + AllocGlobal>(
+fn held_file<R: Abort + AllocGlobal>(rt: &R, name: &str, held: Held) -> Result<Option<File>, Fail> {
+    assert!(rt; name.len() < 256);
+    match held {
+        Topology(rest) => Ok(Some(File::new(name, zoned(rt.alloc(), rest)?))),
+        Bytes(bytes) => Ok(Some(File::new(name, bytes.to_vec(rt.alloc())?))),
+        Zeros(count) => Ok(Some(File::zeros(name, count))),
+        Missing => Ok(None),
+    }
+}
+
+/// What stands under these names, of which these loads fail.
+fn shelf_of<R: Abort + AllocGlobal>(
     rt: &R,
-    topology: Held,
-    map: Held,
+    held: &[(&str, Held)],
     fails: &[u64],
 ) -> Result<MemShelf, Fail> {
     let alloc = rt.alloc();
     let mut files = Vec::new(alloc);
-    if let Some(file) = held_file(rt, "t", topology)? {
-        files.push(file)?;
-    }
-    if let Some(file) = held_file(rt, "m", map)? {
-        files.push(file)?;
+    for (name, file) in held {
+        if let Some(file) = held_file(rt, name, *file)? {
+            files.push(file)?;
+        }
     }
     let fails = fails.to_vec(alloc)?;
     Ok(MemShelf::new(alloc, files, 8, fails)?)
+}
+
+/// A topology and a map.
+fn shelf<R: Abort + AllocGlobal>(rt: &R, topology: Held, map: Held) -> Result<MemShelf, Fail> {
+    shelf_of(rt, &[("t", topology), ("m", map)], &[])
 }
 
 fn texts<R: AllocGlobal>(rt: &R, words: &[&str]) -> Result<Vec<String>, Fail> {
@@ -310,12 +328,68 @@ fn run<R: Threads + Wait + Sync + AllocGlobal>(
     ))
 }
 
+/// What came of a command: the status, the files and the output.
+#[derive(Drop)]
+struct Came {
+    status: Status,
+    files: MemShelf,
+    out: MemSink,
+}
+
+/// A command over these files, and an output with room for so many octets, of which these puts fail.
+fn came_over<R: Abort + Threads + Wait + Sync + AllocGlobal>(
+    rt: &R,
+    words: &[&str],
+    files: MemShelf,
+    puts: &[u64],
+    room: usize,
+) -> Result<Came, Fail> {
+    let mut files = files;
+    let words = texts(rt, words)?;
+    let puts = puts.to_vec(rt.alloc())?;
+    let mut out = MemSink::new(rt.alloc(), room, puts)?;
+    let status = run(rt, words.as_slice(), &mut files, &mut out)?;
+    Ok(Came { status, files, out })
+}
+
+/// A command over what stands under these names, and an output that has room.
+fn came_of<R: Abort + Threads + Wait + Sync + AllocGlobal>(
+    rt: &R,
+    words: &[&str],
+    held: &[(&str, Held)],
+) -> Result<Came, Fail> {
+    let files = shelf_of(rt, held, &[])?;
+    came_over(rt, words, files, &[], ROOM)
+}
+
+/// Whether a command ended with this status, put this text at once, or nothing where it is empty, and asked for so many files.
+fn came_is(came: &Came, status: Status, text: &[u8], loads: usize) -> bool {
+    let puts = if text.is_empty() { 0 } else { 1 };
+    came.status == status
+        && came.out.bytes() == text
+        && came.out.puts() == puts
+        && came.files.asked().len() == loads
+}
+
+/// Whether these octets are the first pieces, one behind the other.
+fn are_joined(octets: &[u8], pieces: &[&str], count: usize) -> bool {
+    let mut rest = octets;
+    for piece in pieces.iter().take(count) {
+        match rest.strip_prefix(piece.as_bytes()) {
+            Some(behind) => rest = behind,
+            None => return false,
+        }
+    }
+    rest.is_empty()
+}
+
+/// How many octets an output takes where it has room.
+const ROOM: usize = 2048;
+
 const GOOD_FLAT: &[u8] = b"glb map 1\nplace g A 4\nend\n";
 
 const GOOD_REGION: &[u8] =
     b"glb map 1\nplace g1 A 8\nplace g2 A 2\nplace g2 B 5\nfull g2 A A\nfull g2 B R\nend\n";
-
-const USAGE: &[u8] = b"usage: glb check, answer, map, repair, serve or large\n";
 
 /// Two files, and what comes of a command over them: the status, what the output got, and how many files were asked for.
 type Row = (Held, Held, Status, &'static str, usize);
@@ -325,19 +399,12 @@ fn assert_rows<R: Abort + Threads + Wait + Sync + AllocGlobal>(
     words: &[&str],
     rows: &[Row],
 ) -> Result<(), Fail> {
-    let words = texts(rt, words)?;
-    for (topology, map, wanted, text, loads) in rows {
-        let mut files = shelf(rt, *topology, *map, &[])?;
-        let mut out = MemSink::new(rt.alloc(), 1024, Vec::new(rt.alloc()))?;
-        let status = run(rt, words.as_slice(), &mut files, &mut out)?;
-        assert_eq!(rt; status, *wanted, "for {text}");
-        assert_eq!(rt; out.bytes(), text.as_bytes(), "for {text}");
-        assert_eq!(rt;
-            out.puts(),
-            if text.is_empty() { 0 } else { 1 },
+    for (topology, map, status, text, loads) in rows {
+        let came = came_of(rt, words, &[("t", *topology), ("m", *map)])?;
+        assert!(rt;
+            came_is(&came, *status, text.as_bytes(), *loads),
             "for {text}"
         );
-        assert_eq!(rt; files.asked().len(), *loads, "for {text}");
     }
     Ok(())
 }
@@ -562,273 +629,56 @@ const MAPS: &[(Held, &str)] = &[
         "glb map 1\nplace g n7 3\nfull g n7 n0\nend\n",
     ),
     (Topology(LARGEST), "glb map 1\nplace g A 4294967295\nend\n"),
+    (Topology(circles::PAIR), circles::PAIR_MAP),
+    (Topology(circles::DEEP_PAIR), circles::DEEP_PAIR_MAP),
+    (Topology(circles::RING), circles::RING_MAP),
 ];
+
+/// Each topology has this map, which is good.
+fn assert_maps<R: Abort + Threads + Wait + Sync + AllocGlobal>(
+    rt: &R,
+    rows: &[(Held, &'static str)],
+) -> Result<(), Fail> {
+    for (topology, map) in rows {
+        let row = (*topology, Missing, Status::Ok, *map, 1usize);
+        assert_rows(rt, &["glb", "map", "t"], &[row])?;
+        let row = (
+            *topology,
+            Bytes(map.as_bytes()),
+            Status::Ok,
+            "good\n",
+            2usize,
+        );
+        assert_rows(rt, &["glb", "check", "t", "m"], &[row])?;
+    }
+    Ok(())
+}
 
 #[test]
 fn maps(rt: HostRuntime) -> Result<(), Fail> {
-    for (topology, map) in MAPS {
-        assert_rows(
-            &rt,
-            &["glb", "map", "t"],
-            &[(*topology, Missing, Status::Ok, *map, 1)],
-        )?;
-        let written = Bytes(map.as_bytes());
-        assert_rows(
-            &rt,
-            &["glb", "check", "t", "m"],
-            &[(*topology, written, Status::Ok, "good\n", 2)],
-        )?;
-    }
-    Ok(())
+    assert_maps(&rt, MAPS)
 }
+
+/// Files of which there is no map.
+const NO_MAPS: &[Row] = &[
+    (
+        Zeros(67_108_865),
+        Missing,
+        Status::Refused,
+        "refused topology too long\n",
+        1,
+    ),
+    (
+        Topology(NO_DEFAULT),
+        Missing,
+        Status::Refused,
+        "refused topology 14 no default at family 6\n",
+        1,
+    ),
+    (Missing, Bytes(GOOD_FLAT), Status::SourceFault, "", 1),
+];
 
 #[test]
 fn topologies_without_a_map(rt: HostRuntime) -> Result<(), Fail> {
-    assert_rows(
-        &rt,
-        &["glb", "map", "t"],
-        &[
-            (
-                Zeros(67_108_865),
-                Missing,
-                Status::Refused,
-                "refused topology too long\n",
-                1,
-            ),
-            (
-                Topology(NO_DEFAULT),
-                Missing,
-                Status::Refused,
-                "refused topology 14 no default at family 6\n",
-                1,
-            ),
-            (Missing, Bytes(GOOD_FLAT), Status::SourceFault, "", 1),
-        ],
-    )
-}
-
-/// Texts over REGION that are no maps, and why.
-const MAP_FAULTS: &[(&[u8], &str)] = &[
-    (b"", "truncated"),
-    (b"glb map 1", "truncated"),
-    (b"glb map 1\n", "truncated"),
-    (b"glb map 1\nend", "truncated"),
-    (b"glb map 1\nend\n\xff", "truncated"),
-    (b"glb map 1\nplace g1 A 8\nnonsense", "truncated"),
-    (
-        b"glb map 1\nplace g1 A 8\nplace g2 A 2\nplace g2 B 5\nfull g2 A A\n",
-        "truncated",
-    ),
-    (b"\n", "bad line at line 1"),
-    (b"end\n", "bad line at line 1"),
-    (b"glb map 2\nend\n", "bad line at line 1"),
-    (b"place g9 A 1\n", "bad line at line 1"),
-    (b"glb map 1\nglb map 1\nend\n", "bad line at line 2"),
-    (b"glb map 1\nend\n\n", "bad line at line 3"),
-    (b"glb map 1\r\nend\r\n", "bad line at line 1"),
-    (b"glb map 1\nplaces g1 A 8\nend\n", "bad line at line 2"),
-    (b"glb map 1\nplace g1 A 8 \nend\n", "bad line at line 2"),
-    (b"glb map 1\nplace g1  8\nend\n", "bad line at line 2"),
-    (b"glb map 1\nplace g1 A\nend\n", "bad line at line 2"),
-    (b"glb map 1\nplace g1 A 0\nend\n", "bad line at line 2"),
-    (b"glb map 1\nplace g9 A 08\nend\n", "bad line at line 2"),
-    (
-        b"glb map 1\nplace g1 A 8\nplace g2 A 4294967296\nend\n",
-        "bad line at line 3",
-    ),
-    (b"glb map 1\nplace g1 A +8\nend\n", "bad line at line 2"),
-    (
-        b"glb map 1\nplace g1 A 8\nfull g2 A C\nend\n",
-        "unknown name at line 3",
-    ),
-    (b"glb map 1\nplace g1 R 8\nend\n", "unknown name at line 2"),
-    (
-        b"glb map 1\nplace g1 A 8\nplace g2 A 2\nplace g1 B 8\nplace g2 B 5\nend\n",
-        "order at line 4",
-    ),
-    (
-        b"glb map 1\nplace g1 A 8\nplace g1 A 8\nend\n",
-        "order at line 3",
-    ),
-    (
-        b"glb map 1\nfull g1 A A\nplace g2 A 8\nend\n",
-        "order at line 3",
-    ),
-    (b"glb map 1\nplace g9 A 1\nend\n", "unknown name at line 2"),
-];
-
-#[test]
-fn map_texts(rt: HostRuntime) -> Result<(), Fail> {
-    let words = texts(&rt, &["glb", "check", "t", "m"])?;
-    for (map, wanted) in MAP_FAULTS {
-        let mut files = shelf(&rt, Topology(REGION), Bytes(*map), &[])?;
-        let mut out = MemSink::new(rt.alloc(), 1024, Vec::new(rt.alloc()))?;
-        let status = run(&rt, words.as_slice(), &mut files, &mut out)?;
-        let text = format!(in rt.alloc(); "refused map {wanted}\n")?;
-        assert_eq!(rt; status, Status::Refused, "for {wanted}");
-        assert_eq!(rt; out.bytes(), text.as_bytes(), "for {map:?}");
-    }
-    Ok(())
-}
-
-#[test]
-fn usage(rt: HostRuntime) -> Result<(), Fail> {
-    let rows: [&[&str]; 30] = [
-        &[],
-        &["glb"],
-        &["glb", "check"],
-        &["glb", "check", "t"],
-        &["glb", "check", "t", "m", "m"],
-        &["glb", "check", "-t", "m"],
-        &["glb", "check", "t", "-m"],
-        &["glb", "--", "check", "t", "m"],
-        &["glb", "check", "t", "m", "--version"],
-        &["glb", "chec", "t", "m"],
-        &["glb", "t", "m", "check"],
-        &["glb", "map"],
-        &["glb", "map", "-t"],
-        &["glb", "map", "t", "m"],
-        &["glb", "answer", "t", "m"],
-        &["glb", "answer", "t", "m", "198.51.100", "00"],
-        &["glb", "answer", "t", "m", "198.51.100.7", "123"],
-        &["glb", "serve", "t"],
-        &["glb", "serve", "t", "--listen", "x"],
-        &["glb", "serve", "t", "--listen", "127.0.0.1"],
-        &["glb", "serve", "t", "--listen", "127.0.0.1:65536"],
-        &["glb", "serve", "t", "--listen", "::1:53"],
-        &["glb", "serve", "--listen", "127.0.0.1:53"],
-        &[
-            "glb",
-            "serve",
-            "t",
-            "--listen",
-            "127.0.0.1:53",
-            "--workers",
-            "0",
-        ],
-        &[
-            "glb",
-            "serve",
-            "t",
-            "--listen",
-            "127.0.0.1:53",
-            "--workers",
-            "17",
-        ],
-        &[
-            "glb",
-            "serve",
-            "t",
-            "--listen",
-            "127.0.0.1:53",
-            "--workers",
-            "01",
-        ],
-        &["glb", "large", "0"],
-        &["glb", "repair", "t", "m"],
-        &["glb", "--help"],
-        &["check", "t", "m"],
-    ];
-    for words in rows {
-        let words = texts(&rt, words)?;
-        let mut files = shelf(&rt, Topology(FLAT), Bytes(GOOD_FLAT), &[])?;
-        let mut out = MemSink::new(rt.alloc(), 1024, Vec::new(rt.alloc()))?;
-        let status = run(&rt, words.as_slice(), &mut files, &mut out)?;
-        assert_eq!(rt; status, Status::Usage, "for {words:?}");
-        assert_eq!(rt; out.bytes(), USAGE, "for {words:?}");
-        assert_eq!(rt; files.asked().len(), 0, "for {words:?}");
-    }
-    Ok(())
-}
-
-/// The words, the loads that are to fail, the puts that are to fail, the room of the output, and what comes of it.
-type Faulty = (
-    &'static [&'static str],
-    &'static [u64],
-    &'static [u64],
-    usize,
-    Status,
-    &'static [u8],
-);
-
-const FAULTS: &[Faulty] = &[
-    (
-        &["glb", "check", "t", "m"],
-        &[0],
-        &[],
-        99,
-        Status::SourceFault,
-        b"",
-    ),
-    (
-        &["glb", "check", "t", "m"],
-        &[1],
-        &[],
-        99,
-        Status::SourceFault,
-        b"",
-    ),
-    (
-        &["glb", "check", "t", "m"],
-        &[2],
-        &[],
-        99,
-        Status::Ok,
-        b"good\n",
-    ),
-    (
-        &["glb", "check", "t", "m"],
-        &[],
-        &[0],
-        99,
-        Status::SinkFault,
-        b"",
-    ),
-    (
-        &["glb", "check", "t", "m"],
-        &[],
-        &[],
-        3,
-        Status::SinkFault,
-        b"goo",
-    ),
-    (
-        &["glb", "map", "t"],
-        &[],
-        &[],
-        14,
-        Status::SinkFault,
-        b"glb map 1\nplac",
-    ),
-    (&["glb"], &[], &[], 5, Status::SinkFault, b"usage"),
-    (
-        &["glb", "check", "m", "t"],
-        &[],
-        &[],
-        99,
-        Status::Refused,
-        b"refused topology 1 not toml\n",
-    ),
-    (
-        &["glb", "answer", "t", "m", "198.51.100.7", "00"],
-        &[1],
-        &[],
-        99,
-        Status::SourceFault,
-        b"",
-    ),
-];
-
-#[test]
-fn faults_outside(rt: HostRuntime) -> Result<(), Fail> {
-    for (words, loads, puts, room, wanted, text) in FAULTS {
-        let words = texts(&rt, words)?;
-        let mut files = shelf(&rt, Topology(FLAT), Bytes(GOOD_FLAT), loads)?;
-        let puts = puts.to_vec(rt.alloc())?;
-        let mut out = MemSink::new(rt.alloc(), *room, puts)?;
-        let status = run(&rt, words.as_slice(), &mut files, &mut out)?;
-        assert_eq!(rt; status, *wanted);
-        assert_eq!(rt; out.bytes(), *text);
-    }
-    Ok(())
+    assert_rows(&rt, &["glb", "map", "t"], NO_MAPS)
 }

@@ -1,9 +1,9 @@
 //! Replies of `glb answer`, and its outcomes.
 use super::{
-    Bytes, EMPTY_POOL, FLAT, GOOD_FLAT, GOOD_REGION, Held, REGION, Topology, run, shelf, texts,
+    Bytes, Came, EMPTY_POOL, FLAT, GOOD_FLAT, GOOD_REGION, Held, REGION, Topology, are_joined,
+    came_of,
 };
 use crate::Status;
-use outside::MemSink;
 use std::process::Abort;
 use std::sync::Wait;
 use std::test::Fail;
@@ -508,24 +508,23 @@ fn due_loads(row: &Row) -> &'static [&'static str] {
     }
 }
 
+/// Whether a run came out as its row says, with one put, and asked for just the files that are due.
+fn came_so(came: &Came, row: &Row) -> bool {
+    let asked = came.files.asked().iter().map(|load| load.name.as_str());
+    came.status == row.status
+        && came.out.puts() == 1
+        && are_joined(came.out.bytes(), &[row.line, "\n"], 2)
+        && asked.eq(due_loads(row).iter().copied())
+}
+
 fn answer_rows<R: Abort + Threads + Wait + Sync + AllocGlobal>(
     rt: &R,
     rows: &[Row],
 ) -> Result<(), Fail> {
     for row in rows {
-        let words = texts(rt, &["glb", "answer", "t", "m", row.from, row.query])?;
-        let mut files = shelf(rt, row.topology, Bytes(row.map), &[])?;
-        let mut out = MemSink::new(rt.alloc(), 1024, Vec::new(rt.alloc()))?;
-        let status = run(rt, words.as_slice(), &mut files, &mut out)?;
-        assert_eq!(rt; status, row.status);
-        let line = format!(in rt.alloc(); "{}\n", row.line)?;
-        assert_eq!(rt; out.bytes(), line.as_bytes());
-        assert_eq!(rt; out.puts(), 1);
-        let loads = due_loads(row);
-        assert_eq!(rt; files.asked().len(), loads.len());
-        for (load, name) in files.asked().iter().zip(loads) {
-            assert_eq!(rt; load.name.as_str(), *name);
-        }
+        let words = &["glb", "answer", "t", "m", row.from, row.query];
+        let came = came_of(rt, words, &[("t", row.topology), ("m", Bytes(row.map))])?;
+        assert!(rt; came_so(&came, row), "for {} from {}", row.query, row.from);
     }
     Ok(())
 }

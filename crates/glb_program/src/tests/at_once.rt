@@ -144,7 +144,7 @@ fn held_run<'a, R: Abort + Threads + Wait + Sync + AllocGlobal>(
 ) -> Result<HeldRun<'a>, Fail> {
     let alloc = rt.alloc();
     let words = texts(rt, WORDS)?;
-    let mut files = shelf(rt, Topology(REGION), Missing, &[])?;
+    let mut files = shelf(rt, Topology(REGION), Missing)?;
     let mut feed = MemSource::new(alloc, FEED.to_vec(alloc)?, Vec::new(alloc), Vec::new(alloc))?;
     let mut out = MemSink::new(alloc, 1024, Vec::new(alloc))?;
     let mut maps = MemSink::new(alloc, 1024, Vec::new(alloc))?;

@@ -1,8 +1,11 @@
 //! The files of the example, through `check` and `map`.
-use super::{GOOD_REGION, REGION, ZONE, run, texts};
+use super::{GOOD_REGION, REGION, ROOM, ZONE, are_joined, came_over};
 use crate::Status;
-use outside::{File, MemShelf, MemSink};
+use outside::{File, MemShelf};
+use std::process::Abort;
+use std::sync::Wait;
 use std::test::Fail;
+use std::thread::Threads;
 
 /// What stands in the region's topology, what is written there instead, and how that is refused.
 const CHANGES: &[(&str, &str, &str)] = &[
@@ -42,22 +45,37 @@ capacity = 15
     ),
 ];
 
-#[test]
-fn changed_topologies(rt: HostRuntime) -> Result<(), Fail> {
+/// The changed topology beside the region's map.
+fn changed_files<R: AllocGlobal>(
+    rt: &R,
+    whole: &str,
+    old: &str,
+    new: &str,
+) -> Result<MemShelf, Fail> {
     let alloc = rt.alloc();
-    let words = texts(&rt, &["glb", "check", "t", "m"])?;
-    let whole = format!(in alloc; "{ZONE}{REGION}")?;
-    for (old, new, fault) in CHANGES {
-        let changed = whole.replacen(alloc, *old, *new, 1)?;
-        let mut files = Vec::new(alloc);
-        files.push(File::new("t", changed.into_bytes()))?;
-        files.push(File::new("m", GOOD_REGION.to_vec(alloc)?))?;
-        let mut files = MemShelf::new(alloc, files, 8, Vec::new(alloc))?;
-        let mut out = MemSink::new(alloc, 1024, Vec::new(alloc))?;
-        let status = run(&rt, words.as_slice(), &mut files, &mut out)?;
-        let text = format!(in alloc; "refused topology {fault}\n")?;
-        assert_eq!(rt; status, Status::Refused, "for {fault}");
-        assert_eq!(rt; out.bytes(), text.as_bytes(), "for {fault}");
+    let changed = whole.replacen(alloc, old, new, 1)?;
+    let mut files = Vec::new(alloc);
+    files.push(File::new("t", changed.into_bytes()))?;
+    files.push(File::new("m", GOOD_REGION.to_vec(alloc)?))?;
+    Ok(MemShelf::new(alloc, files, 8, Vec::new(alloc))?)
+}
+
+fn assert_changes<R: Abort + Threads + Wait + Sync + AllocGlobal>(
+    rt: &R,
+    rows: &[(&str, &str, &str)],
+) -> Result<(), Fail> {
+    let whole = format!(in rt.alloc(); "{ZONE}{REGION}")?;
+    for (old, new, fault) in rows {
+        let files = changed_files(rt, whole.as_str(), old, new)?;
+        let came = came_over(rt, &["glb", "check", "t", "m"], files, &[], ROOM)?;
+        assert_eq!(rt; came.status, Status::Refused, "for {fault}");
+        let pieces = &["refused topology ", *fault, "\n"];
+        assert!(rt; are_joined(came.out.bytes(), pieces, 3), "for {fault}");
     }
     Ok(())
+}
+
+#[test]
+fn changed_topologies(rt: HostRuntime) -> Result<(), Fail> {
+    assert_changes(&rt, CHANGES)
 }

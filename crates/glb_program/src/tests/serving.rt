@@ -333,7 +333,7 @@ fn came_of<R: Abort + Threads + Wait + Sync + AllocGlobal>(rt: &R, row: &Row) ->
 {
     let alloc = rt.alloc();
     let words = words_of(rt, row)?;
-    let mut files = shelf(rt, Topology(REGION), Missing, &[])?;
+    let mut files = shelf(rt, Topology(REGION), Missing)?;
     let mut feed = feed_of(alloc, row)?;
     let mut out = sink_of(alloc, row.failing_lines)?;
     let mut maps = sink_of(alloc, row.failing_maps)?;

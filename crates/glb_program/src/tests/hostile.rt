@@ -1,7 +1,10 @@
 //! Octets that nobody should send: datagrams and lines of the feed by a table, and files and feeds that are cut at each octet or differ in one.
 ghost use Rattle.std.specs.Prelude.{◌≤◌, length};
 
-use super::{Bytes, GOOD_REGION, Held, REGION, Topology, ZONE, run, shelf, texts};
+use super::{
+    Bytes, Came, GOOD_REGION, Held, Missing, REGION, ROOM, Row, Topology, ZONE, are_joined,
+    assert_rows, came_of, came_over, shelf, texts,
+};
 use crate::quiet::quiet_lanes;
 use crate::{Status, glb};
 use no_memory::NoMemory;
@@ -80,19 +83,20 @@ const DATAGRAMS: &[(&str, &str)] = &[
     ),
 ];
 
+/// The region's topology and map.
+const FILES: &[(&str, Held)] = &[("t", Topology(REGION)), ("m", Bytes(GOOD_REGION))];
+
 /// One datagram is answered so.
 fn assert_datagram<R: Abort + Threads + Wait + Sync + AllocGlobal>(
     rt: &R,
     datagram: &str,
     reply: &str,
 ) -> Result<(), Fail> {
-    let words = texts(rt, &["glb", "answer", "t", "m", "198.51.100.7", datagram])?;
-    let mut files = shelf(rt, Topology(REGION), Bytes(GOOD_REGION), &[])?;
-    let mut out = MemSink::new(rt.alloc(), 1024, Vec::new(rt.alloc()))?;
-    let status = run(rt, words.as_slice(), &mut files, &mut out)?;
-    let text = format!(in rt.alloc(); "answer {reply}\n")?;
-    assert_eq!(rt; status, Status::Ok, "for {datagram}");
-    assert_eq!(rt; out.bytes(), text.as_bytes(), "for {datagram}");
+    let words = &["glb", "answer", "t", "m", "198.51.100.7", datagram];
+    let came = came_of(rt, words, FILES)?;
+    assert_eq!(rt; came.status, Status::Ok, "for {datagram}");
+    let pieces = &["answer ", reply, "\n"];
+    assert!(rt; are_joined(came.out.bytes(), pieces, 3), "for {datagram}");
     Ok(())
 }
 
@@ -112,45 +116,33 @@ fn datagrams(rt: HostRuntime) -> Result<(), Fail> {
 }
 
 /// Files that hold no topology, and how that is said.
-const NO_TOPOLOGIES: &[(Held, &str)] = &[
-    (Bytes(b""), "refused topology 2 missing key at top zone\n"),
+const NO_TOPOLOGIES: &[Row] = &[
+    (
+        Bytes(b""),
+        Missing,
+        Status::Refused,
+        "refused topology 2 missing key at top zone\n",
+        1,
+    ),
     (
         Bytes(b"[zone]\n"),
+        Missing,
+        Status::Refused,
         "refused topology 2 missing key at top node\n",
+        1,
     ),
     (
         Bytes(b"[zone]\napex = \"cdn.ex"),
+        Missing,
+        Status::Refused,
         "refused topology 1 not toml\n",
+        1,
     ),
 ];
 
-fn assert_no_topology<R: Abort + Threads + Wait + Sync + AllocGlobal>(
-    rt: &R,
-    file: Held,
-    text: &str,
-) -> Result<(), Fail> {
-    let words = texts(rt, &["glb", "map", "t"])?;
-    let mut files = shelf(rt, file, Bytes(b""), &[])?;
-    let mut out = MemSink::new(rt.alloc(), 1024, Vec::new(rt.alloc()))?;
-    let status = run(rt, words.as_slice(), &mut files, &mut out)?;
-    assert_eq!(rt; status, Status::Refused, "for {text}");
-    assert_eq!(rt; out.bytes(), text.as_bytes(), "for {text}");
-    Ok(())
-}
-
-fn assert_no_topologies<R: Abort + Threads + Wait + Sync + AllocGlobal>(
-    rt: &R,
-    rows: &[(Held, &str)],
-) -> Result<(), Fail> {
-    for (file, text) in rows {
-        assert_no_topology(rt, *file, text)?;
-    }
-    Ok(())
-}
-
 #[test]
 fn files_that_hold_no_topology(rt: HostRuntime) -> Result<(), Fail> {
-    assert_no_topologies(&rt, NO_TOPOLOGIES)
+    assert_rows(&rt, &["glb", "map", "t"], NO_TOPOLOGIES)
 }
 
 /// A session of one quiet lane over a feed, and its control text.
@@ -160,7 +152,7 @@ fn control_text<R: Abort + Threads + Wait + Sync + AllocGlobal>(
 ) -> Result<(Status, MemSink), Fail> {
     let alloc = rt.alloc();
     let words = texts(rt, &["glb", "serve", "t", "--listen", "127.0.0.1:53"])?;
-    let mut files = shelf(rt, Topology(REGION), Bytes(b""), &[])?;
+    let mut files = shelf(rt, Topology(REGION), Missing)?;
     let mut feed = MemSource::new(alloc, feed, Vec::new(alloc), Vec::new(alloc))?;
     let mut out = MemSink::new(alloc, 4096, Vec::new(alloc))?;
     let mut maps = MemSink::new(alloc, 4096, Vec::new(alloc))?;
@@ -358,6 +350,15 @@ fn files_of(
     MemShelf::new(alloc, files, 8, Vec::new(alloc))
 }
 
+/// Whether a command over a harmed file put one text that may be.
+fn is_sound(came: &Came, which: Which, harm: Harm) -> bool {
+    let text = came.out.bytes();
+    let is_cut_map = which == Which::Map && matches!(harm, Harm::Cut);
+    is_allowed(came.status, text)
+        && came.out.puts() == 1
+        && (!is_cut_map || text == b"refused map truncated\n".as_slice())
+}
+
 /// `repair` over files of which one is harmed.
 fn assert_harmed<R: Abort + Threads + Wait + Sync + AllocGlobal>(
     rt: &R,
@@ -366,18 +367,9 @@ fn assert_harmed<R: Abort + Threads + Wait + Sync + AllocGlobal>(
     at: usize,
     harm: Harm,
 ) -> Result<(), Fail> {
-    let words = texts(rt, &["glb", "repair", "t", "m", "c"])?;
-    let mut files = files_of(rt.alloc(), topology, which, at, harm)?;
-    let mut out = MemSink::new(rt.alloc(), 1024, Vec::new(rt.alloc()))?;
-    let status = run(rt, words.as_slice(), &mut files, &mut out)?;
-    assert!(rt; is_allowed(status, out.bytes()), "for {which:?} at {at}");
-    assert!(rt; out.puts() == 1, "for {which:?} at {at}");
-    if which == Which::Map && matches!(harm, Harm::Cut) {
-        assert!(rt;
-            out.bytes() == b"refused map truncated\n".as_slice(),
-            "for a map cut at {at}"
-        );
-    }
+    let files = files_of(rt.alloc(), topology, which, at, harm)?;
+    let came = came_over(rt, &["glb", "repair", "t", "m", "c"], files, &[], ROOM)?;
+    assert!(rt; is_sound(&came, which, harm), "for {which:?} at {at}");
     Ok(())
 }
 

@@ -1,8 +1,9 @@
 //! Commands of one output, whose calls of a device fail: each alone, each with all behind it, and an output whose room ends at each octet.
-use super::{Bytes, GOOD_REGION, Held, REGION, Topology, held_file, run, texts};
+use super::{
+    Bytes, Came, GOOD_REGION, Held, REGION, ROOM, Topology, are_joined, came_over, shelf_of,
+};
 use crate::Status;
 use no_memory::NoMemory;
-use outside::{MemShelf, MemSink};
 use std::alloc::Global;
 use std::process::Abort;
 use std::sync::Wait;
@@ -84,43 +85,13 @@ pub fn calls_from(alloc: Global, first: u64, count: u64) -> Result<Vec<u64>, NoM
     Ok(calls)
 }
 
-/// The first pieces, one behind the other.
-pub fn joined(alloc: Global, pieces: &[&str], count: usize) -> Result<Vec<u8>, NoMemory> {
+/// The pieces, one behind the other.
+fn joined(alloc: Global, pieces: &[&str]) -> Result<Vec<u8>, NoMemory> {
     let mut text = Vec::new(alloc);
-    for piece in pieces.iter().take(count) {
+    for piece in pieces {
         text.extend_from_slice(piece.as_bytes())?;
     }
     Ok(text)
-}
-
-/// What came of a command: the status, the files and the output.
-#[derive(Drop)]
-struct Came {
-    status: Status,
-    files: MemShelf,
-    out: MemSink,
-}
-
-/// A command over its files, of which these loads fail, and an output with room for so many octets, of which these puts fail.
-fn came_of<R: Abort + Threads + Wait + Sync + AllocGlobal>(
-    rt: &R,
-    command: &Command,
-    loads: Vec<u64>,
-    puts: Vec<u64>,
-    room: usize,
-) -> Result<Came, Fail> {
-    let alloc = rt.alloc();
-    let words = texts(rt, command.words)?;
-    let mut held = Vec::new(alloc);
-    for (name, file) in command.files {
-        if let Some(file) = held_file(rt, name, *file)? {
-            held.push(file)?;
-        }
-    }
-    let mut files = MemShelf::new(alloc, held, 8, loads)?;
-    let mut out = MemSink::new(alloc, room, puts)?;
-    let status = run(rt, words.as_slice(), &mut files, &mut out)?;
-    Ok(Came { status, files, out })
 }
 
 /// The status where a call of this number fails, of so many.
@@ -136,7 +107,18 @@ fn whole_status(command: &Command) -> Status {
     }
 }
 
-/// So many loads fail from one on: nothing is loaded behind the first of them, and nothing is put.
+/// Whether the load of this number failed: nothing was loaded behind it, and nothing was put.
+fn stopped_at_load(came: &Came, command: &Command, first: usize) -> bool {
+    let calls = command.files.len();
+    let pieces = command.pieces;
+    let puts = if first < calls { 0 } else { pieces.len() };
+    came.status == status_at(first, calls, Status::SourceFault, whole_status(command))
+        && came.files.asked().len() == calls.min(first.saturating_add(1))
+        && came.out.puts() == puts as u64
+        && are_joined(came.out.bytes(), pieces, puts)
+}
+
+/// So many loads fail from one on.
 fn assert_loads<R: Abort + Threads + Wait + Sync + AllocGlobal>(
     rt: &R,
     command: &Command,
@@ -144,31 +126,26 @@ fn assert_loads<R: Abort + Threads + Wait + Sync + AllocGlobal>(
     count: u64,
 ) -> Result<(), Fail> {
     let fails = calls_from(rt.alloc(), first as u64, count)?;
-    let came = came_of(rt, command, fails, Vec::new(rt.alloc()), 1024)?;
-    let calls = command.files.len();
-    let status = status_at(first, calls, Status::SourceFault, whole_status(command));
-    let puts = if first < calls {
-        0
-    } else {
-        command.pieces.len()
-    };
-    let text = joined(rt.alloc(), command.pieces, puts)?;
-    assert_eq!(rt;
-        came.status,
-        status,
+    let files = shelf_of(rt, command.files, fails.as_slice())?;
+    let came = came_over(rt, command.words, files, &[], ROOM)?;
+    assert!(rt;
+        stopped_at_load(&came, command, first),
         "at load {first} of {:?}",
         command.words
     );
-    assert_eq!(rt;
-        came.files.asked().len(),
-        calls.min(first.saturating_add(1))
-    );
-    assert_eq!(rt; came.out.puts(), puts as u64);
-    assert_eq!(rt; came.out.bytes(), text.as_slice());
     Ok(())
 }
 
-/// So many puts fail from one on: what was put before them stands, and nothing is put behind the first of them.
+/// Whether the put of this number failed: what was put before it stands, and nothing was put behind it.
+fn stopped_at_put(came: &Came, command: &Command, first: usize) -> bool {
+    let calls = command.pieces.len();
+    came.status == status_at(first, calls, Status::SinkFault, whole_status(command))
+        && came.files.asked().len() == command.files.len()
+        && came.out.puts() == calls.min(first.saturating_add(1)) as u64
+        && are_joined(came.out.bytes(), command.pieces, first)
+}
+
+/// So many puts fail from one on.
 fn assert_puts<R: Abort + Threads + Wait + Sync + AllocGlobal>(
     rt: &R,
     command: &Command,
@@ -176,45 +153,37 @@ fn assert_puts<R: Abort + Threads + Wait + Sync + AllocGlobal>(
     count: u64,
 ) -> Result<(), Fail> {
     let fails = calls_from(rt.alloc(), first as u64, count)?;
-    let came = came_of(rt, command, Vec::new(rt.alloc()), fails, 1024)?;
-    let calls = command.pieces.len();
-    let status = status_at(first, calls, Status::SinkFault, whole_status(command));
-    let text = joined(rt.alloc(), command.pieces, first)?;
-    assert_eq!(rt;
-        came.status,
-        status,
+    let files = shelf_of(rt, command.files, &[])?;
+    let came = came_over(rt, command.words, files, fails.as_slice(), ROOM)?;
+    assert!(rt;
+        stopped_at_put(&came, command, first),
         "at put {first} of {:?}",
         command.words
     );
-    assert_eq!(rt; came.files.asked().len(), command.files.len());
-    assert_eq!(rt; came.out.puts(), calls.min(first.saturating_add(1)) as u64);
-    assert_eq!(rt; came.out.bytes(), text.as_slice());
     Ok(())
 }
 
-/// The output has room for so many octets, and takes them.
+/// Whether the output took as many octets of the whole text as it had room for.
+fn filled(came: &Came, command: &Command, whole: &[u8], room: usize) -> bool {
+    came.status == status_at(room, whole.len(), Status::SinkFault, whole_status(command))
+        && came.out.bytes().len() == room.min(whole.len())
+        && whole.starts_with(came.out.bytes())
+}
+
+/// The output has room for so many octets.
 fn assert_room<R: Abort + Threads + Wait + Sync + AllocGlobal>(
     rt: &R,
     command: &Command,
     whole: &[u8],
     room: usize,
 ) -> Result<(), Fail> {
-    let came = came_of(
-        rt,
-        command,
-        Vec::new(rt.alloc()),
-        Vec::new(rt.alloc()),
-        room,
-    )?;
-    let status = status_at(room, whole.len(), Status::SinkFault, whole_status(command));
-    assert_eq!(rt;
-        came.status,
-        status,
+    let files = shelf_of(rt, command.files, &[])?;
+    let came = came_over(rt, command.words, files, &[], room)?;
+    assert!(rt;
+        filled(&came, command, whole, room),
         "with room {room} of {:?}",
         command.words
     );
-    assert_eq!(rt; came.out.bytes().len(), room.min(whole.len()));
-    assert!(rt; whole.starts_with(came.out.bytes()));
     Ok(())
 }
 
@@ -230,7 +199,7 @@ fn assert_command<R: Abort + Threads + Wait + Sync + AllocGlobal>(
         assert_puts(rt, command, first, 1)?;
         assert_puts(rt, command, first, 64)?;
     }
-    let whole = joined(rt.alloc(), command.pieces, command.pieces.len())?;
+    let whole = joined(rt.alloc(), command.pieces)?;
     for room in 0..=whole.len() {
         assert_room(rt, command, whole.as_slice(), room)?;
     }

@@ -1,9 +1,9 @@
 //! `serve` with two lanes, whose calls of a device fail: each alone, and each with all behind it.
 ghost use Rattle.std.specs.Prelude.{◌≡◌, IfOk, vec_len};
 
-use super::devices::{calls_from, joined};
+use super::devices::calls_from;
 use super::serving::queries;
-use super::{REGION, Topology, held_file, texts};
+use super::{REGION, Topology, are_joined, shelf_of, texts};
 use crate::quiet::LANES;
 use crate::{Lane, Status, glb};
 use map_cell::MemDoor;
@@ -63,7 +63,7 @@ const MAPS: &[&str] = &[
 ];
 
 /// What was done at a lane: openings that went, turns of its gate, datagrams that it took, replies that went.
-#[derive(Clone, Copy, PartialEq, Eq, Debug)]
+#[derive(Clone, Copy, PartialEq)]
 struct Served {
     opens: usize,
     turns: usize,
@@ -72,7 +72,7 @@ struct Served {
 }
 
 /// What comes of a session: the status, the loads, the pieces of the feed, the puts of both outputs, the lines and texts that they hold, and the two lanes.
-#[derive(Clone, Copy, PartialEq, Eq, Debug)]
+#[derive(Clone, Copy, PartialEq)]
 struct Due {
     status: Status,
     loads: usize,
@@ -430,8 +430,8 @@ fn lanes_of(alloc: Global, failing: Failing) -> Result<Vec<MemLane>, NoMemory>
     ensures { IfOk result (λ v. vec_len v ≡ LANES) }
 {
     let mut lanes = Vec::with_capacity(alloc, LANES)?;
-    for lane in 0..LANES {
-        let lane = u8::try_from(lane).unwrap_or(u8::MAX);
+    for i in 0..LANES {
+        let lane = u8::try_from(i).unwrap_or(u8::MAX);
         lanes.push(lane_of(alloc, failing, lane)?)?;
     }
     Ok(lanes)
@@ -459,19 +459,21 @@ const WORDS: &[&str] = &[
 ];
 
 /// The topology alone.
-fn files_of<R: Abort + AllocGlobal>(rt: &R, fails: Vec<u64>) -> Result<MemShelf, Fail> {
-    let mut files = Vec::new(rt.alloc());
-    if let Some(file) = held_file(rt, "t", Topology(REGION))? {
-        files.push(file)?;
-    }
-    Ok(MemShelf::new(rt.alloc(), files, 8, fails)?)
+fn files_of<R: Abort + AllocGlobal>(rt: &R, failing: Failing) -> Result<MemShelf, Fail> {
+    let fails = fails_of(rt.alloc(), failing, Load)?;
+    shelf_of(rt, &[("t", Topology(REGION))], fails.as_slice())
 }
 
 /// The feed in pieces of twelve octets.
-fn feed_of(alloc: Global, fails: Vec<u64>) -> Result<MemSource, NoMemory> {
+fn feed_of(alloc: Global, failing: Failing) -> Result<MemSource, NoMemory> {
     let bytes = Vec::from_slice(alloc, FEED)?;
     let sizes = Vec::from_slice(alloc, [12; 16].as_slice())?;
-    MemSource::new(alloc, bytes, sizes, fails)
+    MemSource::new(alloc, bytes, sizes, fails_of(alloc, failing, Read)?)
+}
+
+/// An output.
+fn sink_of(alloc: Global, failing: Failing, device: Device) -> Result<MemSink, NoMemory> {
+    MemSink::new(alloc, 1024, fails_of(alloc, failing, device)?)
 }
 
 fn came_of<R: Abort + Threads + Wait + Sync + AllocGlobal>(
@@ -480,10 +482,10 @@ fn came_of<R: Abort + Threads + Wait + Sync + AllocGlobal>(
 ) -> Result<Came, Fail> {
     let alloc = rt.alloc();
     let words = texts(rt, WORDS)?;
-    let mut files = files_of(rt, fails_of(alloc, failing, Load)?)?;
-    let mut feed = feed_of(alloc, fails_of(alloc, failing, Read)?)?;
-    let mut out = MemSink::new(alloc, 1024, fails_of(alloc, failing, Line)?)?;
-    let mut maps = MemSink::new(alloc, 1024, fails_of(alloc, failing, Map)?)?;
+    let mut files = files_of(rt, failing)?;
+    let mut feed = feed_of(alloc, failing)?;
+    let mut out = sink_of(alloc, failing, Line)?;
+    let mut maps = sink_of(alloc, failing, Map)?;
     let mut lanes = lanes_of(alloc, failing)?;
     let mut pace = MemPace::new(alloc, 100)?;
     let status = glb(
@@ -540,25 +542,20 @@ fn is_untouched(lane: &MemLane) -> bool {
     served_by(Some(lane)) == UNTOUCHED
 }
 
+/// Whether a session came out so: what was done, both outputs, and nothing at any lane but the first two.
+fn is_due(came: &Came, due: Due) -> bool {
+    done_by(came, due.lines, due.maps) == due
+        && are_joined(came.out.bytes(), LINES, due.lines)
+        && are_joined(came.maps.bytes(), MAPS, due.maps)
+        && came.lanes.iter().skip(2).all(is_untouched)
+}
+
 fn assert_session<R: Abort + Threads + Wait + Sync + AllocGlobal>(
     rt: &R,
-    device: Device,
-    first: usize,
-    count: u64,
+    failing: Failing,
 ) -> Result<(), Fail> {
-    let failing = Failing {
-        device,
-        first,
-        count,
-    };
     let came = came_of(rt, failing)?;
-    let due = due_at(failing);
-    assert_eq!(rt; done_by(&came, due.lines, due.maps), due, "for {failing:?}");
-    let lines = joined(rt.alloc(), LINES, due.lines)?;
-    assert_eq!(rt; came.out.bytes(), lines.as_slice(), "for {failing:?}");
-    let maps = joined(rt.alloc(), MAPS, due.maps)?;
-    assert_eq!(rt; came.maps.bytes(), maps.as_slice(), "for {failing:?}");
-    assert!(rt; came.lanes.iter().skip(2).all(is_untouched));
+    assert!(rt; is_due(&came, due_at(failing)), "for {failing:?}");
     Ok(())
 }
 
@@ -585,8 +582,16 @@ fn assert_device<R: Abort + Threads + Wait + Sync + AllocGlobal>(
     calls: usize,
 ) -> Result<(), Fail> {
     for first in 0..=calls {
-        assert_session(rt, device, first, 1)?;
-        assert_session(rt, device, first, 64)?;
+        for count in [1, 64] {
+            assert_session(
+                rt,
+                Failing {
+                    device,
+                    first,
+                    count,
+                },
+            )?;
+        }
     }
     Ok(())
 }

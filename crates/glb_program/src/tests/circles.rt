@@ -1,8 +1,7 @@
 //! Groups that would push each other round by single units, billions of times.
 
-use super::{ZONE, run, texts};
+use super::{Bytes, Held, Topology, came_is, came_of};
 use crate::Status;
-use outside::{File, MemShelf, MemSink};
 use std::test::Fail;
 
 /// Two groups that like each other's last pool best, and a third one with one unit for the first pool.
@@ -202,7 +201,7 @@ end
 ";
 
 /// The pair, where the first group asks for one unit less: all are at their first places.
-pub const NEAR_PAIR: &str = "node = [
+const NEAR_PAIR: &str = "node = [
 {name = \"a\", capacity = 4294967295, pool = true},
 {name = \"b\", capacity = 4294967295, pool = true},
 ]
@@ -214,27 +213,24 @@ group = [
 ";
 
 /// And its map.
-pub const NEAR_PAIR_MAP: &str = "glb map 1
+const NEAR_PAIR_MAP: &[u8] = b"glb map 1
 place g a 4294967294
 place h b 4294967295
 place t a 1
 end
 ";
 
+/// The pair, where the first group asks for one unit less, its map, and one unit more.
+const ONE_MORE: &[(&str, Held)] = &[
+    ("t", Topology(NEAR_PAIR)),
+    ("m", Bytes(NEAR_PAIR_MAP)),
+    ("c", Bytes(b"demand g 4294967295\n")),
+];
+
 /// One unit more makes the pair of the world beside it.
 #[test]
 fn a_demand_makes_the_pair(rt: HostRuntime) -> Result<(), Fail> {
-    let alloc = rt.alloc();
-    let words = texts(&rt, &["glb", "repair", "t", "m", "c"])?;
-    let topology = format!(in alloc; "{NEAR_PAIR}{ZONE}")?;
-    let mut files = Vec::new(alloc);
-    files.push(File::new("t", topology.into_bytes()))?;
-    files.push(File::new("m", NEAR_PAIR_MAP.as_bytes().to_vec(alloc)?))?;
-    files.push(File::new("c", b"demand g 4294967295\n".to_vec(alloc)?))?;
-    let mut files = MemShelf::new(alloc, files, 8, Vec::new(alloc))?;
-    let mut out = MemSink::new(alloc, 1024, Vec::new(alloc))?;
-    let status = run(&rt, words.as_slice(), &mut files, &mut out)?;
-    assert_eq!(rt; status, Status::Ok);
-    assert_eq!(rt; out.bytes(), PAIR_MAP.as_bytes());
+    let came = came_of(&rt, &["glb", "repair", "t", "m", "c"], ONE_MORE)?;
+    assert!(rt; came_is(&came, Status::Ok, PAIR_MAP.as_bytes(), 3));
     Ok(())
 }

@@ -1,12 +1,13 @@
 //! A client on loopback and `serve` over real ports, in one process.
-ghost use Rattle.std.specs.Prelude.{None};
+ghost use Rattle.std.specs.Prelude.{◌≡◌, IfOk, None, vec_len};
 
 use super::serving::QUERY;
 use super::{Missing, REGION, Topology, shelf, texts};
-use crate::network::udp_lanes;
-use crate::{Status, glb};
+use crate::network::{LANES, udp_lanes};
+use crate::{Lane, Status, glb};
 use edges::{SharedUdp, StopFlag};
-use outside::{MemSink, MemSource, Pace};
+use map_cell::PlainDoor;
+use outside::{Gate, MemShelf, MemSink, MemSource, Pace, Port};
 use std::net::{IpAddr, Ipv4Addr, Net, SocketAddr, UdpSocket};
 use std::process::Abort;
 use std::sync::Wait;
@@ -85,49 +86,83 @@ fn ask(client: &UdpSocket, shared: &SharedUdp, word: SocketAddr) -> bool {
     client.send_to(b".", word).is_ok() && is_right
 }
 
+/// All that `serve` is lent.
+#[derive(Drop)]
+struct Server<P, G, M> {
+    words: Vec<String>,
+    files: MemShelf,
+    feed: MemSource,
+    out: MemSink,
+    maps: MemSink,
+    lanes: Vec<Lane<P, G, PlainDoor>>,
+    pace: M,
+}
+
+/// Serves with what is lent.
+fn serve<R: Threads + Wait + Sync + AllocGlobal, P: Port + Send, G: Gate + Send, M: Pace>(
+    rt: &R,
+    server: &mut Server<P, G, M>,
+) -> Status
+    requires { vec_len server.old.lanes ≡ LANES }
+{
+    glb(
+        rt,
+        rt.alloc(),
+        server.words.as_slice(),
+        &mut server.files,
+        &mut server.feed,
+        &mut server.out,
+        &mut server.maps,
+        server.lanes.as_mut_slice(),
+        &mut server.pace,
+        1_000_000,
+    )
+}
+
+const WORDS: &[&str] = &[
+    "glb",
+    "serve",
+    "t",
+    "--listen",
+    "127.0.0.1:0",
+    "--workers",
+    "2",
+];
+
+/// `serve` on loopback over the region, with an empty feed.
+fn server_of<R: Abort + AllocGlobal, P: Port + Drop, G: Gate + Drop, M: Pace + Drop>(
+    rt: &R,
+    lanes: Vec<Lane<P, G, PlainDoor>>,
+    pace: M,
+) -> Result<Server<P, G, M>, Fail>
+    requires { vec_len lanes ≡ LANES }
+    ensures { IfOk result (λ s. vec_len s.lanes ≡ LANES) }
+{
+    let alloc = rt.alloc();
+    Ok(Server {
+        words: texts(rt, WORDS)?,
+        files: shelf(rt, Topology(REGION), Missing)?,
+        feed: MemSource::new(alloc, Vec::new(alloc), Vec::new(alloc), Vec::new(alloc))?,
+        out: MemSink::new(alloc, 0, Vec::new(alloc))?,
+        maps: MemSink::new(alloc, 1024, Vec::new(alloc))?,
+        lanes,
+        pace,
+    })
+}
+
 #[test]
 fn serves_a_client_on_loopback(rt: HostRuntime) -> Result<(), Fail> {
-    let alloc = rt.alloc();
-    let words = texts(
-        &rt,
-        &[
-            "glb",
-            "serve",
-            "t",
-            "--listen",
-            "127.0.0.1:0",
-            "--workers",
-            "2",
-        ],
-    )?;
-    let mut files = shelf(&rt, Topology(REGION), Missing, &[])?;
-    let mut feed = MemSource::new(alloc, Vec::new(alloc), Vec::new(alloc), Vec::new(alloc))?;
-    let mut out = MemSink::new(alloc, 0, Vec::new(alloc))?;
-    let mut maps = MemSink::new(alloc, 1024, Vec::new(alloc))?;
     let (shared, flag) = (SharedUdp::new(), StopFlag::new());
-    let mut lanes = udp_lanes(alloc, &rt, &shared, &flag)?;
+    let lanes = udp_lanes(rt.alloc(), &rt, &shared, &flag)?;
     let client = socket_of(&rt).ok_or("no client")?;
     let word = socket_of(&rt).ok_or("no socket for the word")?;
     let to = word.local_addr().map_err(|_| "no address")?;
-    let mut pace = WordPace { word, flag: &flag };
-    let (is_right, status) = join_mut(
-        &rt,
-        &mut || ask(&client, &shared, to),
-        &mut || {
-            glb(
-                &rt,
-                alloc,
-                words.as_slice(),
-                &mut files,
-                &mut feed,
-                &mut out,
-                &mut maps,
-                lanes.as_mut_slice(),
-                &mut pace,
-                1_000_000,
-            )
-        },
-    );
+    let mut server = server_of(&rt, lanes, WordPace { word, flag: &flag })?;
+    let mut asking = || ask(&client, &shared, to);
+    let mut serving = || -> Status
+        requires { vec_len server.lanes ≡ LANES }
+    { serve(&rt, &mut server) };
+    let (is_right, status) = join_mut(&rt, &mut asking, &mut serving);
     assert!(rt; is_right);
     assert!(rt; status == Status::Ok);
     Ok(())

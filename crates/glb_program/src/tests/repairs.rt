@@ -1,10 +1,9 @@
 //! `repair` over files: maps that were worked out by hand.
 use super::{
-    Bytes, GOOD_REGION, Held, Missing, REGION, TWO_GOOD, Topology, Zeros, assert_rows, held_file,
-    run, texts,
+    Bytes, GOOD_REGION, Held, Missing, REGION, TWO_GOOD, Topology, Zeros, assert_rows, came_is,
+    came_of,
 };
 use crate::Status;
-use outside::{MemShelf, MemSink};
 use std::process::Abort;
 use std::sync::Wait;
 use std::test::Fail;
@@ -55,38 +54,18 @@ const TURNED: &[u8] =
 /// Topology, map and changes, and what comes of them: the status, the text, and how many files were asked for.
 type RepairRow = (Held, Held, Held, Status, &'static str, usize);
 
-fn three_files<R: Abort + AllocGlobal>(
-    rt: &R,
-    topology: Held,
-    map: Held,
-    changes: Held,
-) -> Result<MemShelf, Fail> {
-    let alloc = rt.alloc();
-    let mut files = Vec::new(alloc);
-    if let Some(file) = held_file(rt, "t", topology)? {
-        files.push(file)?;
-    }
-    if let Some(file) = held_file(rt, "m", map)? {
-        files.push(file)?;
-    }
-    if let Some(file) = held_file(rt, "c", changes)? {
-        files.push(file)?;
-    }
-    Ok(MemShelf::new(alloc, files, 8, Vec::new(alloc))?)
-}
-
 fn assert_repairs<R: Abort + Threads + Wait + Sync + AllocGlobal>(
     rt: &R,
     rows: &[RepairRow],
 ) -> Result<(), Fail> {
-    let words = texts(rt, &["glb", "repair", "t", "m", "c"])?;
-    for (topology, map, changes, wanted, text, loads) in rows {
-        let mut files = three_files(rt, *topology, *map, *changes)?;
-        let mut out = MemSink::new(rt.alloc(), 1024, Vec::new(rt.alloc()))?;
-        let status = run(rt, words.as_slice(), &mut files, &mut out)?;
-        assert_eq!(rt; status, *wanted, "for {text}");
-        assert_eq!(rt; out.bytes(), text.as_bytes(), "for {text}");
-        assert_eq!(rt; files.asked().len(), *loads, "for {text}");
+    let words = &["glb", "repair", "t", "m", "c"];
+    for (topology, map, changes, status, text, loads) in rows {
+        let held = [("t", *topology), ("m", *map), ("c", *changes)];
+        let came = came_of(rt, words, &held)?;
+        assert!(rt;
+            came_is(&came, *status, text.as_bytes(), *loads),
+            "for {text}"
+        );
     }
     Ok(())
 }
@@ -141,25 +120,33 @@ const REGION_ROWS: &[(&[u8], &str)] = &[
     ),
 ];
 
-#[test]
-fn repairs_a_region(rt: HostRuntime) -> Result<(), Fail> {
-    for (changes, text) in REGION_ROWS {
-        let old = Bytes(GOOD_REGION);
-        let row = (
-            Topology(REGION),
-            old,
-            Bytes(*changes),
-            Status::Ok,
-            *text,
-            3usize,
-        );
-        assert_repairs(&rt, &[row])?;
+fn assert_changes<R: Abort + Threads + Wait + Sync + AllocGlobal>(
+    rt: &R,
+    rows: &[(&'static [u8], &'static str)],
+) -> Result<(), Fail> {
+    for (changes, text) in rows {
+        let (old, changes) = (Bytes(GOOD_REGION), Bytes(*changes));
+        let row = (Topology(REGION), old, changes, Status::Ok, *text, 3usize);
+        assert_repairs(rt, &[row])?;
     }
     Ok(())
 }
 
-/// Worlds with two good maps: topology, the worse map, changes, the repaired map, and the map from scratch.
-const TWO_MAPS: &[(&str, &[u8], &[u8], &str, &str)] = &[
+#[test]
+fn repairs_a_region(rt: HostRuntime) -> Result<(), Fail> {
+    assert_changes(&rt, REGION_ROWS)
+}
+
+/// A world with two good maps: topology, the worse map, changes, the repaired map, and the map from scratch.
+type TwoMaps = (
+    &'static str,
+    &'static [u8],
+    &'static [u8],
+    &'static str,
+    &'static str,
+);
+
+const TWO_MAPS: &[TwoMaps] = &[
     (
         TWO_GOOD,
         SWAPPED,
@@ -183,23 +170,23 @@ const TWO_MAPS: &[(&str, &[u8], &[u8], &str, &str)] = &[
     ),
 ];
 
-#[test]
-fn repairs_are_not_maps_from_scratch(rt: HostRuntime) -> Result<(), Fail> {
-    for (topology, map, changes, repaired, scratch) in TWO_MAPS {
-        let topology = Topology(*topology);
-        let row = (
-            topology,
-            Bytes(*map),
-            Bytes(*changes),
-            Status::Ok,
-            *repaired,
-            3usize,
-        );
-        assert_repairs(&rt, &[row])?;
+fn assert_two_maps<R: Abort + Threads + Wait + Sync + AllocGlobal>(
+    rt: &R,
+    rows: &[TwoMaps],
+) -> Result<(), Fail> {
+    for (topology, map, changes, repaired, scratch) in rows {
+        let (topology, map, changes) = (Topology(*topology), Bytes(*map), Bytes(*changes));
+        let row = (topology, map, changes, Status::Ok, *repaired, 3usize);
+        assert_repairs(rt, &[row])?;
         let row = (topology, Missing, Status::Ok, *scratch, 1usize);
-        assert_rows(&rt, &["glb", "map", "t"], &[row])?;
+        assert_rows(rt, &["glb", "map", "t"], &[row])?;
     }
     Ok(())
+}
+
+#[test]
+fn repairs_are_not_maps_from_scratch(rt: HostRuntime) -> Result<(), Fail> {
+    assert_two_maps(&rt, TWO_MAPS)
 }
 
 /// Repairs of worlds with two good maps in which another tree is changed, and one that gives all their first place.
