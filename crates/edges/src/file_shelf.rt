@@ -4,7 +4,7 @@ ghost use Rattle.std.specs.Prelude.{◌≡◌, ◌≤◌, None, IfOk, vec_len};
 use crate::pieces::{fault_of, read_within};
 use outside::{LoadFault, Shelf};
 use std::alloc::Global;
-use std::fs;
+use std::fs::{self, OpenFile};
 use std::marker::Model;
 use std::rt::Files;
 
@@ -42,7 +42,12 @@ fn read_file<R: Files>(
     ensures { IfOk result (λ bytes. vec_len bytes ≤ limit) }
 {
     let file = fs::open(rt, name).map_err(fault_of)?;
-    read_within(file, alloc, limit)
+    // what is no plain file may not say how long it is
+    let expected = match file.metadata() {
+        Ok(metadata) => metadata.len(),
+        Err(_) => 0,
+    };
+    read_within(file, alloc, limit, expected)
 }
 
 impl<R: Files> Shelf for FileShelf<'_, R> {

@@ -20,29 +20,37 @@ pub(crate) fn fault_of(error: Error) -> LoadFault
     }
 }
 
-/// The first octets of a reader, so many at most.
-fn read_most<T: io::Read + Drop>(reader: T, alloc: Global, most: u64) -> Result<Vec<u8>, LoadFault>
+/// The first octets of a reader, so many at most, in room for as many as are expected.
+fn read_most<T: io::Read + Drop>(
+    reader: T,
+    alloc: Global,
+    most: u64,
+    expected: u64,
+) -> Result<Vec<u8>, LoadFault>
     ensures first { IfOk result (λ bytes. IfSome (T.remaining reader) (λ octets. bytes.items ≡ take most octets)) }
     ensures long { IsErrOf result LoadFault.TooLong → ⊥ }
 {
-    let mut bytes = Vec::new(alloc);
+    let room = expected.min(most) as usize;
+    let mut bytes = Vec::with_capacity(alloc, room).map_err(|_| LoadFault::NoMemory)?;
     match reader.take(most).read_to_end(&mut bytes) {
         Ok(_) => Ok(bytes),
         Err(error) => Err(fault_of(error)),
     }
 }
 
-/// All octets of a reader, if there are at most `limit`. No more than one past it are read.
+/// All octets of a reader, if there are at most `limit`. No more than one past it are read. Room is taken once for as
+/// many as are expected, and more where more come.
 pub fn read_within<T: io::Read + Drop>(
     reader: T,
     alloc: Global,
     limit: usize,
+    expected: u64,
 ) -> Result<Vec<u8>, LoadFault>
     ensures within { IfOk result (λ bytes. vec_len bytes ≤ limit) }
     ensures whole { IfOk result (λ bytes. IfSome (T.remaining reader) (λ octets. bytes.items ≡ octets)) }
     ensures long { IsErrOf result LoadFault.TooLong → IfSome (T.remaining reader) (λ octets. limit < length octets) }
 {
-    let bytes = read_most(reader, alloc, (limit as u64).saturating_add(1))?;
+    let bytes = read_most(reader, alloc, (limit as u64).saturating_add(1), expected)?;
     if bytes.len() > limit {
         return Err(LoadFault::TooLong);
     }

@@ -17,8 +17,14 @@ use std::time::Duration;
 #[test]
 fn reads_to_the_limit(rt: HostRuntime) -> Result<(), Fail> {
     let octets: &[u8] = b"abcd";
-    for (limit, is_whole) in [(3, false), (4, true), (5, true)] {
-        match read_within(octets, rt.alloc(), limit) {
+    for (limit, expected, is_whole) in [
+        (3, 4, false),
+        (3, 0, false),
+        (4, 4, true),
+        (5, 0, true),
+        (5, u64::MAX, true),
+    ] {
+        match read_within(octets, rt.alloc(), limit, expected) {
             Ok(bytes) => assert!(rt; is_whole && bytes.as_slice() == octets, "at {limit}"),
             Err(fault) => assert!(rt; !is_whole && fault == LoadFault::TooLong, "at {limit}"),
         }
