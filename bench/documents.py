@@ -1,0 +1,178 @@
+#!/usr/bin/env python3
+"""Runs each example that the documents show, and looks up each path, name and clause that they cite.
+
+    documents.py             both
+    documents.py examples    each `$ glb ..`, and what stands below it
+    documents.py names       each path, word and clause in backquotes
+
+A path has to be there: from the top, or in a crate that the same line or heading names. A word has to stand somewhere
+in the code, the specifications or the files of examples. A clause, `x` of `f` or (`x`) in docs/PROVED.md, has to be an
+`ensures` or a field of a record, in a crate that the line names. GLB names the program, the built one if it is not set.
+The status is 0 where all is found and each example writes what is shown.
+"""
+
+import os
+import re
+import shutil
+import subprocess
+import sys
+import tempfile
+from pathlib import Path
+
+TOP = Path(__file__).resolve().parent.parent
+GLB = os.environ.get("GLB", str(TOP / "crates/glb_program/out/glb_program"))
+CRATES = [folder.name for folder in (TOP / "crates").iterdir()]
+# docs/PROOFS.md is not among them: its pitfalls name what is not there
+DOCUMENTS = ["README.md", "bench/README.md", "docs/open/README.md", *sorted(f"docs/{path.name}" for path in (TOP / "docs").glob("*.md") if path.name != "PROOFS.md")]
+# other programs, of whose words only the paths are looked up, and words of the system
+PROGRAMS = {"dig", "echo", "ls", "man", "mkfifo", "nstat", "python3", "rt", "systemd-analyze", "tail"}
+ELSEWHERE = {"PIPE_BUF", "net", "core", "rmem_default"}
+# places that are made when they are used
+MADE = re.compile(r"/(run|var|etc|proc|dev)/|.*/out/")
+# words in capitals stand for others
+STANDS_FOR_OTHERS = re.compile(r"[A-Z]+")
+
+
+def examples_of(path):
+    """The commands that a document shows, each with the lines below it."""
+    lines = (TOP / path).read_text().splitlines()
+    indent = "" if path.endswith(".1") else "    "
+    shown = []
+    for number, line in enumerate(lines):
+        if line.startswith(f"{indent}$ glb") or line.startswith(f"{indent}$ printf"):
+            below = []
+            for later in lines[number + 1 :]:
+                if not later.startswith(indent) or not later.strip() or later.startswith((f"{indent}$", ".EE")):
+                    break
+                below.append(later.removeprefix(indent).replace("\\-", "-"))
+            shown.append((line.removeprefix(f"{indent}$ "), "".join(f"{text}\n" for text in below)))
+    return shown
+
+
+def run_examples():
+    """Runs the examples in a folder that has the example files, by their names alone and under examples/."""
+    failed = count = 0
+    with tempfile.TemporaryDirectory() as work:
+        shutil.copytree(TOP / "examples", f"{work}/examples")
+        for file in (TOP / "examples").iterdir():
+            shutil.copy(file, work)
+        os.mkdir(f"{work}/bin")
+        os.symlink(GLB, f"{work}/bin/glb")
+        environment = {**os.environ, "PATH": f"{work}/bin:{os.environ['PATH']}"}
+        for path in [*DOCUMENTS, "docs/glb.1"]:
+            for command, below in examples_of(path):
+                count += 1
+                done = subprocess.run(["bash", "-c", command], cwd=work, env=environment, capture_output=True, text=True, timeout=60)
+                if done.stdout != below:
+                    failed += 1
+                    print(f"{path}: $ {command}\nwrites\n{done.stdout}in place of\n{below}")
+    print(f"examples: {count - failed} as shown, {failed} not")
+    return failed
+
+
+def sources():
+    """The tracked files, and all words that stand in code, specifications, examples and the other scripts."""
+    files = subprocess.run(["git", "ls-files"], cwd=TOP, capture_output=True, text=True, check=True).stdout.splitlines()
+    text = "\n".join((TOP / file).read_text(errors="replace") for file in files if not file.endswith(".md") and file != "bench/documents.py" and not file.endswith(".svg"))
+    return files, text
+
+
+def is_path(word):
+    is_prefix = re.fullmatch(r"[\d.:a-fA-F]*/\d*", word)
+    return not is_prefix and re.fullmatch(r"[\w./*-]*/[\w./*-]*|[\w-]+\.(md|sh|py|rt|toml|map|txt|changes|service|antt|c|rs)", word)
+
+
+def files_of(word, files, crates):
+    """The files of a path from the top, beside a document, or in one of the crates; a specification without its ending."""
+    pattern = re.escape(word.removeprefix("./").rstrip("/")).replace(r"\*", "[^/]*")
+    places = ["", "docs/", "bench/", "examples/", "crates/", *(f"crates/{crate}/" for crate in crates)]
+    found = re.compile(f"({'|'.join(map(re.escape, places))}){pattern}(\\.antt|\\.rt)?(/.*)?")
+    return [file for file in files if found.fullmatch(file)]
+
+
+def crates_in(line):
+    return [crate for crate in CRATES if re.search(rf"\b{crate}\b", line)]
+
+
+def cited_in(line):
+    """What stands in backquotes, cut into paths and words."""
+    for cited in re.findall(r"`([^`]+)`", line):
+        pieces = [piece.strip("(),;:<>\"'|\\") for piece in cited.split()]
+        for piece in pieces:
+            if is_path(piece):
+                yield "file", piece
+            elif pieces[0] not in PROGRAMS and re.fullmatch(r"[A-Za-z_]\w*((::|\.)\w+)*(\(.*\)?)?", piece):
+                yield from (("word", word) for word in re.findall(r"[A-Za-z_]\w*", piece))
+
+
+def look_up():
+    """Each path and word in backquotes, and whether `a`, `b` (`path`) have these words in that file."""
+    files, text = sources()
+    words = set(re.findall(r"\w+", text)) | {Path(file).name.split(".")[0] for file in files}
+    told = Tally("paths and words")
+    for path in DOCUMENTS:
+        heading = ""
+        for number, line in enumerate((TOP / path).read_text().splitlines(), 1):
+            heading = line if line.startswith("#") else heading
+            crates = crates_in(f"{heading} {line}") or CRATES
+            for kind, cited in cited_in(line):
+                if any(STANDS_FOR_OTHERS.fullmatch(part) for part in re.split(r"[./]", cited)) and kind == "file" or MADE.match(cited):
+                    continue
+                if kind == "word" and STANDS_FOR_OTHERS.fullmatch(cited):
+                    continue
+                is_there = files_of(cited, files, crates) if kind == "file" else cited in words or cited in ELSEWHERE
+                told.take(is_there, f"{path}:{number}: no {kind} {cited}")
+            for names, place in re.findall(r"((?:`\w+`(?:, | and )?)+) \(`([\w/.]+/[\w/.]+)`", line):
+                beside = "\n".join((TOP / file).read_text() for file in files_of(place, files, crates))
+                for name in re.findall(r"`(\w+)`", names):
+                    told.take(re.search(rf"\b{name}\b", beside), f"{path}:{number}: no {name} in {place}")
+    return told.end()
+
+
+def clauses():
+    """The clauses that docs/PROVED.md cites: `x` of `f`, and (`x`) in a paragraph of a crate."""
+    files, _ = sources()
+    code = {file: (TOP / file).read_text() for file in files if file.startswith("crates/") and file.endswith((".rt", ".antt"))}
+    told = Tally("clauses")
+    for number, line in enumerate((TOP / "docs/PROVED.md").read_text().splitlines(), 1):
+        crates = crates_in(line) or CRATES
+        cited = [(name, "") for inside in re.findall(r"\((`[^()]*`)\)", line) for name in re.findall(r"`(\w+)`", inside)]
+        cited += [(name, owner) for some, owner in re.findall(r"((?:`\w+`(?:, | and )?)+) of `(?:\w+::)*(\w+)`", line) for name in re.findall(r"`(\w+)`", some)]
+        for name, owner in cited:
+            is_definition = name[0].isupper() or name.endswith("_of")
+            form = rf"\b(abbrev|unfoldable|record|data|type|struct|enum|trait|fn|pub)\s+(pub\s+)?{name}\b" if is_definition else rf"\bensures {name} |\b(fn|pub) {name}\b"
+            owned = rf"\b(fn|struct|trait|enum|impl) {owner}\b|\bfor {owner}\b" if owner else ""
+            inside = [file for file in code if is_definition or owner or file.split("/")[1] in crates]
+            is_there = any(re.search(form, code[file]) and re.search(owned, code[file]) for file in inside)
+            told.take(is_there, f"docs/PROVED.md:{number}: no {name}" + (f" of {owner}" if owner else f" in {', '.join(crates)}"))
+    return told.end()
+
+
+class Tally:
+    """Counts what is found, and says what is not."""
+
+    def __init__(self, kind):
+        self.kind, self.found, self.failed = kind, 0, 0
+
+    def take(self, is_there, text):
+        if is_there:
+            self.found += 1
+        else:
+            self.failed += 1
+            print(text)
+
+    def end(self):
+        print(f"{self.kind}: {self.found} found, {self.failed} not")
+        return self.failed
+
+
+def main():
+    asked = sys.argv[1:] or ["examples", "names"]
+    failed = run_examples() if "examples" in asked else 0
+    if "names" in asked:
+        failed += look_up() + clauses()
+    sys.exit(1 if failed else 0)
+
+
+if __name__ == "__main__":
+    main()
