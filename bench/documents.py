@@ -23,7 +23,7 @@ TOP = Path(__file__).resolve().parent.parent
 GLB = os.environ.get("GLB", str(TOP / "crates/glb_program/out/glb_program"))
 CRATES = [folder.name for folder in (TOP / "crates").iterdir()]
 # docs/PROOFS.md is not among them: its pitfalls name what is not there
-DOCUMENTS = ["README.md", "bench/README.md", "docs/open/README.md", *sorted(f"docs/{path.name}" for path in (TOP / "docs").glob("*.md") if path.name != "PROOFS.md")]
+DOCUMENTS = sorted(str(path.relative_to(TOP)) for folder in (".", "bench", "docs", "docs/open") for path in (TOP / folder).glob("*.md") if path.name != "PROOFS.md")
 # other programs, of whose words only the paths are looked up, and words of the system
 PROGRAMS = {"dig", "echo", "ls", "man", "mkfifo", "nstat", "python3", "rt", "systemd-analyze", "tail"}
 ELSEWHERE = {"PIPE_BUF", "net", "core", "rmem_default"}
@@ -73,7 +73,8 @@ def run_examples():
 def sources():
     """The tracked files, and all words that stand in code, specifications, examples and the other scripts."""
     files = subprocess.run(["git", "ls-files"], cwd=TOP, capture_output=True, text=True, check=True).stdout.splitlines()
-    text = "\n".join((TOP / file).read_text(errors="replace") for file in files if not file.endswith(".md") and file != "bench/documents.py" and not file.endswith(".svg"))
+    read = [file for file in files if not file.endswith((".md", ".svg")) and file != "bench/documents.py"]
+    text = "\n".join((TOP / file).read_text(errors="replace") for file in read)
     return files, text
 
 
