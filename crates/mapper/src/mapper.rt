@@ -12,7 +12,7 @@ ghost use Rattle.map_cell.specs.Histories.{IsSealed};
 ghost use Rattle.answer_core.specs.Reply.{Replies};
 ghost use Rattle.mapper.specs.Currents.{IsCurrent, IsKeptFor};
 ghost use Rattle.mapper.specs.Feeding.{IsFeed};
-ghost use Rattle.mapper.specs.Mappers.{IsFirst, IsPublished, most_offers};
+ghost use Rattle.mapper.specs.Mappers.{IsFirst, IsMapping, IsPublished, most_offers};
 ghost use Rattle.mapper.specs.Scenes.{scene};
 ghost use Rattle.mapper.specs.Words.{map_text, reply_by, totals_of};
 
@@ -71,6 +71,7 @@ fn prepare<L>(alloc: Global, topology: Topology, steps: &mut Steps<L>) -> Result
     ensures version { IfOk result (λ p. IsVersion p.version × (p.version.serial ≡ 0) × (p.version.market ≡ topology.market)) }
     ensures current { IfOk result (λ p. IsCurrent p.version p.first.current) }
     ensures kept { IfOk result (λ p. IsKeptFor p.version.market p.version.lines p.first.kept) }
+    ensures counted { IfOk result (λ p. IsMapping topology.market p.version.lines steps.old steps.new) }
     ensures steps { OnOk result (steps.new ≤ steps.old + most_offers topology.market) }
     ensures later { steps.old ≤ steps.new }
 {
@@ -120,6 +121,7 @@ impl<J: Naming> Mapper<J> {
         ensures later { D.faults door.old ≤ D.faults door.new }
         ensures cause { IfErr result (λ e. e ≡ Shut → Rose (D.faults door.old) (D.faults door.new)) }
         ensures stays { OnOk result (D.faults door.new ≡ D.faults door.old) }
+        ensures counted { IfOk result (λ r. IsMapping topology.market r.0.newest.lines steps.old steps.new) }
         ensures steps { OnOk result (steps.new ≤ steps.old + most_offers topology.market) }
         ensures steps_later { steps.old ≤ steps.new }
     {
