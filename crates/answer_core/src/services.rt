@@ -34,7 +34,7 @@ pub(crate) fn is_apex(zone: &Zone, name: &[u8]) -> bool
 }
 
 /// Whether a name under the apex is that of a service in the zone: its label and the apex, which is not compared again.
-#[tactic(auto, using(crate::proofs::Labels::no_shorter, crate::proofs::Labels::by_labels))]
+#[tactic(auto, using(crate::proofs::Labels::no_shorter))]
 pub(crate) fn is_service(zone: &Zone, name: &[u8]) -> bool
     requires { is_under name.now zone.now.apex ≡ true }
     ensures { result ≡ is_service zone.now name.now }
