@@ -207,6 +207,20 @@ fn example_zone_names(rt: HostRuntime) {
     assert!(rt; are_names(&zone.services, SERVICES));
 }
 
+/// The data of its SOA record: both names, and the numbers 1, 3600, 600, 86400 and 60 in four octets each.
+const SOA: &[u8] =
+    b"\x03ns1\x03ops\x07example\x00\x05admin\x03ops\x07example\x00\x00\x00\x00\x01\x00\x00\x0e\x10\x00\x00\x02\x58\x00\x01\x51\x80\x00\x00\x00\x3c";
+
+fn has_soa(zone: &Zone, octets: &[u8]) -> bool {
+    zone.soa.as_slice() == octets
+}
+
+#[test]
+fn example_zone_soa(rt: HostRuntime) {
+    let topology = read(&rt, rt.alloc());
+    assert!(rt; has_soa(topology.zone(), SOA));
+}
+
 /// The serial, refresh, retry, expire, minimum and ttl of a zone.
 fn numbers(zone: &Zone) -> [u32; 6] {
     [
