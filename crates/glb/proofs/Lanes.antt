@@ -26,7 +26,7 @@ use Rattle.glb.specs.declared.status.Status.TheVariants as status
 use Rattle.glb.specs.Causes.{AnyLane, AreSpent, HasCellFault, HasDoorFault, HasGiven, HasLaneCauses, HasPortFault, HasShown, HasTaken, IsPastMaps}
 use Rattle.glb.specs.Outcome.{Outcome, RunsBy}
 use Rattle.glb.specs.Files.{Kind, IsRefused}
-use Rattle.glb.specs.Serve.{AreOpened, AskedFirst, FirstDoorRose, IsFirstSession, IsOpening, IsPlaced, IsServed, IsSession, IsStarted, all_ready, is_cell_fault, is_port_fault, is_spent, status_by, status_of, then_failed}
+use Rattle.glb.specs.Serve.{AreOpened, FirstDoorRose, IsFirstSession, IsOpening, IsPlaced, IsServed, IsSession, IsStarted, PlacedFirst, all_ready, is_cell_fault, is_port_fault, is_spent, status_by, status_of, then_failed}
 use Rattle.glb.specs.Told.{Stage}
 use Rattle.glb.proofs.Causes.{tell_weaker}
 use Rattle.glb.proofs.Histories.{texts_of}
@@ -50,9 +50,9 @@ begun_same : (xs : List LaneTold) → AreBegun xs xs
 begun_same [] = tt
 begun_same (x ∷ xs) = (record { port = tells_same x.port; port_faults = omega arith; door_faults = omega arith }, begun_same xs)
 
-pub door_begun : (k : ℕ) (xs ys : List LaneTold) → AskedFirst k xs ys → AreBegun xs ys
+pub door_begun : (k : ℕ) (xs ys : List LaneTold) → PlacedFirst k xs ys → AreBegun xs ys
 door_begun k [] ys h = subst (AreBegun []) (sym h) tt
-door_begun k (x ∷ xs) ys h = subst (AreBegun (x ∷ xs)) (sym h.2) (record { port = tells_same x.port; port_faults = omega arith; door_faults = h.1 }, begun_same xs)
+door_begun k (x ∷ xs) ys h = subst (AreBegun (x ∷ xs)) (sym h) (record { port = tells_same x.port; port_faults = omega arith; door_faults = omega arith }, begun_same xs)
 
 open_same : (listen : Listen) (r : Opening) (b c : PortTold) → IsOpen listen r b c → c.recvs ≡ b.recvs
 open_same listen opening.Ready b c h = ap (λ (p : PortTold). p.recvs) h

@@ -60,6 +60,11 @@ abbrev pub AskedFirst : ℕ → List LaneTold → List LaneTold → Type 0
 AskedFirst k [] after = after ≡ []
 AskedFirst k (b ∷ before) after = (faults : ℕ) × (b.door_faults ≤ faults) × (after ≡ record b { asked = raised b.asked k; door_faults = faults } ∷ before)
 
+-- the first door was asked for k places and counted no fault; nothing else was asked of the lanes
+abbrev pub PlacedFirst : ℕ → List LaneTold → List LaneTold → Type 0
+PlacedFirst k [] after = after ≡ []
+PlacedFirst k (b ∷ before) after = after ≡ record b { asked = raised b.asked k } ∷ before
+
 -- the count of the first lane's door rose
 abbrev pub FirstDoorRose : List LaneTold → List LaneTold → Type 0
 FirstDoorRose (b ∷ before) (c ∷ after) = Rose b.door_faults c.door_faults
@@ -93,9 +98,9 @@ pub record IsUnopened (workers : ℕ) (before after : Stage) (result : Status) :
   pub lent : after.lent ≡ record before.lent { lanes = after.lent.lanes }
   pub rest : after ≡ record before { lent = after.lent }
 
--- The map cell was opened, with a place for each worker.
+-- The map cell was opened, with a place for each worker, and none was refused.
 pub record IsPlaced (workers : ℕ) (before after : Stage) : Type 0 where
-  pub asked : AskedFirst workers before.lent.lanes after.lent.lanes
+  pub asked : PlacedFirst workers before.lent.lanes after.lent.lanes
   pub lent : after.lent ≡ record before.lent { lanes = after.lent.lanes }
   pub rest : after ≡ record before { lent = after.lent }
 

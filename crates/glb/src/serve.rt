@@ -6,7 +6,7 @@ ghost use Rattle.demand_feed.specs.declared.limits.TheConstants.{MOST_TURNS};
 ghost use Rattle.mapper.specs.Mappers.{IsFirst};
 ghost use Rattle.glb.specs.Outcome.{AreLoaded, AreLoadsOf};
 ghost use Rattle.glb.specs.Program.{HasServeCauses};
-ghost use Rattle.glb.specs.Serve.{AskedFirst, IsFirstSession, IsServeRun, IsSession, is_cell_fault, is_port_fault, is_spent, loads_of_serve, status_by};
+ghost use Rattle.glb.specs.Serve.{IsFirstSession, IsServeRun, IsSession, PlacedFirst, is_cell_fault, is_port_fault, is_spent, loads_of_serve, status_by};
 ghost use Rattle.glb.specs.Starting.{IsAskedSome, at_place, status_at};
 ghost use Rattle.glb.specs.Told.{lane_told, stage, surroundings};
 
@@ -108,7 +108,7 @@ fn open_by<J: Naming, R: Wait, P: Port, G: Gate, D: Door>(
     requires workers { workers ≤ 16 }
     ensures mapper { IfOk result (λ r. IsFirst topology r.0) }
     ensures viewers { IfOk result (λ r. (vec_len r.1 ≡ workers) × All (λ v. (v.seen ≡ r.0.history) × (v.told ≡ r.0.history)) r.1.items) }
-    ensures asked { IfOk result (λ _. AskedFirst workers (lane_told P.told P.faults G.told D.asked D.looks D.greatest D.faults lane.old ∷ []) (lane_told P.told P.faults G.told D.asked D.looks D.greatest D.faults lane.new ∷ [])) }
+    ensures asked { IfOk result (λ _. PlacedFirst workers (lane_told P.told P.faults G.told D.asked D.looks D.greatest D.faults lane.old ∷ []) (lane_told P.told P.faults G.told D.asked D.looks D.greatest D.faults lane.new ∷ [])) }
     ensures refused { IfErr result (λ e. IsAskedSome workers e (lane_told P.told P.faults G.told D.asked D.looks D.greatest D.faults lane.old ∷ []) (lane_told P.told P.faults G.told D.asked D.looks D.greatest D.faults lane.new ∷ [])) }
 {
     let mut steps = Steps::<Proposals>::new();
@@ -138,7 +138,7 @@ fn open_first<J: Naming, R: Wait, P: Port, G: Gate, D: Door>(
     ensures mapper { IfOk result (λ r. IsFirst topology r.0) }
     ensures viewers { IfOk result (λ r. (vec_len r.1 ≡ workers) × All (λ v. (v.seen ≡ r.0.history) × (v.told ≡ r.0.history)) r.1.items) }
     ensures length { length lanes.new ≡ length lanes.old }
-    ensures asked { IfOk result (λ _. AskedFirst workers (map (lane_told P.told P.faults G.told D.asked D.looks D.greatest D.faults) lanes.old) (map (lane_told P.told P.faults G.told D.asked D.looks D.greatest D.faults) lanes.new)) }
+    ensures asked { IfOk result (λ _. PlacedFirst workers (map (lane_told P.told P.faults G.told D.asked D.looks D.greatest D.faults) lanes.old) (map (lane_told P.told P.faults G.told D.asked D.looks D.greatest D.faults) lanes.new)) }
     ensures refused { IfErr result (λ e. IsAskedSome workers e (map (lane_told P.told P.faults G.told D.asked D.looks D.greatest D.faults) lanes.old) (map (lane_told P.told P.faults G.told D.asked D.looks D.greatest D.faults) lanes.new)) }
 {
     open_by::<J, R, P, G, D>(rt, alloc, history, topology, workers, &mut lanes[0])
@@ -159,7 +159,7 @@ fn open_mapper<J: Naming, R: Wait, P: Port, G: Gate, D: Door>(
     ensures mapper { IfOk result (λ r. IsFirst topology r.0) }
     ensures viewers { IfOk result (λ r. (vec_len r.1 ≡ workers) × All (λ v. (v.seen ≡ r.0.history) × (v.told ≡ r.0.history)) r.1.items) }
     ensures length { length lanes.new ≡ length lanes.old }
-    ensures asked { IfOk result (λ _. AskedFirst workers (map (lane_told P.told P.faults G.told D.asked D.looks D.greatest D.faults) lanes.old) (map (lane_told P.told P.faults G.told D.asked D.looks D.greatest D.faults) lanes.new)) }
+    ensures asked { IfOk result (λ _. PlacedFirst workers (map (lane_told P.told P.faults G.told D.asked D.looks D.greatest D.faults) lanes.old) (map (lane_told P.told P.faults G.told D.asked D.looks D.greatest D.faults) lanes.new)) }
     ensures refused { IfErr result (λ e. IsAskedSome workers e (map (lane_told P.told P.faults G.told D.asked D.looks D.greatest D.faults) lanes.old) (map (lane_told P.told P.faults G.told D.asked D.looks D.greatest D.faults) lanes.new)) }
 {
     let (first, _others) = lanes.split_at_mut(1);
