@@ -23,6 +23,3 @@ pub use fault::TopologyFault;
 pub use read::read_topology;
 pub use schema::{At, Key, Place, Spot};
 pub use topology::{Names, Topology, Zone};
-
-#[cfg(test)]
-mod tests;
