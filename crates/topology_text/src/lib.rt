@@ -25,6 +25,3 @@ pub use read::read_topology;
 pub use schema::{At, Key, Place, Spot};
 pub use soa::SoaContent;
 pub use topology::{Names, Topology, Zone};
-
-#[cfg(test)]
-mod tests;

@@ -1,63 +1,16 @@
 //! Replies of worked examples, octet for octet, and of each datagram that differs from them in one octet.
-ghost use Rattle.std.specs.Prelude.{◌≡◌, ◌<◌, true, length, IfSome};
-ghost use Rattle.map_model.specs.Allocation.{IsGood};
+ghost use Rattle.std.specs.Prelude.{◌<◌, length, IfSome};
 ghost use Rattle.published_map.specs.Version.{IsVersion};
 
-use crate::{Answer, pick, reply, silent};
 use addr_text::Addr;
+use answer_core::{Answer, pick, reply, silent};
 use arrayvec::ArrayVec;
-use map_model::{GroupId, Instance, MapLine, MapLines, NameLine, NodeId};
-use prefix_lookup::Lookup;
-use published_map::{MapVersion, Shared};
-use stable_check::{CheckRoom, Verdict, check};
+use map_model::GroupId;
+use published_map::MapVersion;
 use std::alloc::Global;
-use std::process::Abort;
-use std::sync::Arc;
-use topology_text::{Topology, TopologyFault, read_topology};
-
-/// Two pools under a region; the second group is spread over both.
-const EXAMPLE: &str = r#"
-[zone]
-apex = "cdn.example"
-mname = "ns1.ops.example"
-rname = "admin.ops.example"
-serial = 1
-refresh = 3600
-retry = 600
-expire = 86400
-minimum = 60
-ttl = 20
-ns = ["ns1.ops.example", "ns2.ops.example"]
-services = ["www"]
-[[node]]
-name = "R"
-capacity = 15
-[[node]]
-name = "A"
-parent = "R"
-capacity = 10
-pool = true
-a = ["192.0.2.1"]
-aaaa = ["2001:db8::1"]
-[[node]]
-name = "B"
-parent = "R"
-capacity = 10
-pool = true
-a = ["192.0.2.2"]
-[[group]]
-name = "g1"
-demand = 8
-pools = ["A", "B"]
-scores = [1, 2]
-prefixes = ["0.0.0.0/0", "::/0"]
-[[group]]
-name = "g2"
-demand = 8
-pools = ["A", "B"]
-scores = [3, 4]
-prefixes = ["198.51.100.0/24"]
-"#;
+use topology_text::{Topology, read_topology};
+use world_versions::{first_version, is_good, version_of};
+use worlds::{NameAt, Placed, map_of};
 
 /// Names as long as they may be, and as many servers and addresses.
 const LONG: &str = r#"
@@ -91,120 +44,44 @@ scores = [1]
 prefixes = ["0.0.0.0/0", "::/0"]
 "#;
 
-/// Lines of (group, place, amount).
-fn lines_of(alloc: Global, rows: &[(u32, u8, u32)]) -> Option<Vec<MapLine>> {
-    let mut lines = Vec::new(alloc);
-    for &(group, place, amount) in rows {
-        let group = GroupId(group);
-        lines
-            .push(MapLine {
-                group,
-                place,
-                amount,
-            })
-            .ok()?;
-    }
-    Some(lines)
-}
-
-/// Names of (group, place, node).
-fn names_of(alloc: Global, rows: &[(u32, u8, u32)]) -> Option<Vec<NameLine>> {
-    let mut names = Vec::new(alloc);
-    for &(group, place, node) in rows {
-        let (group, node) = (GroupId(group), NodeId(node));
-        names.push(NameLine { group, place, node }).ok()?;
-    }
-    Some(names)
-}
-
-/// Whether the map is good for the instance.
-fn is_good(alloc: Global, instance: &Instance, map: &MapLines) -> bool
-    ensures { result ≡ true → IsGood instance.now map.now.lines.items map.now.names.items }
-{
-    match CheckRoom::new(alloc, instance) {
-        Err(_) => false,
-        Ok(room) => {
-            let mut room = room;
-            matches!(check(instance, map, &mut room), Verdict::Good)
-        }
-    }
-}
-
-/// What is read, with no word on it: the checks of those who call this are short.
-fn topology_of(alloc: Global, text: &[u8]) -> Result<Topology, TopologyFault> {
-    read_topology(alloc, text)
-}
-
-/// The version of a topology and a map that is good for its instance.
-fn first_version(
+/// The first version of a topology with the map of these rows, if that is good.
+fn version_with(
     alloc: Global,
     topology: Topology,
-    instance: &Instance,
-    map: &MapLines,
+    lines: &[Placed],
+    names: &[NameAt],
 ) -> Option<MapVersion>
-    requires instance { instance.now ≡ topology.market }
-    requires good { IsGood instance.now map.now.lines.items map.now.names.items }
     ensures { IfSome result IsVersion }
 {
-    let Ok(lookup) = Lookup::build(alloc, topology.prefixes()) else {
+    let Ok(instance) = topology.instance().try_clone() else {
         return None;
     };
-    let Ok(topology) = Arc::new(alloc, topology) else {
+    let Ok(map) = map_of(alloc, lines, names) else {
         return None;
     };
-    let Ok(shared) = Arc::new(alloc, Shared { topology, lookup }) else {
+    if !is_good(alloc, &instance, &map) {
         return None;
-    };
-    match MapVersion::make(alloc, 0, instance, map, shared) {
-        Ok(version) => Some(version),
+    }
+    version_of(alloc, 0, topology, &instance, &map)
+}
+
+/// The same of a text.
+fn version_of_text(
+    alloc: Global,
+    text: &str,
+    lines: &[Placed],
+    names: &[NameAt],
+) -> Option<MapVersion>
+    ensures { IfSome result IsVersion }
+{
+    match read_topology(alloc, text.as_bytes()) {
+        Ok(topology) => version_with(alloc, topology, lines, names),
         Err(_) => None,
     }
 }
 
-/// The version of a text and a map that is good for it.
-fn version_of(alloc: Global, text: &str, map: &MapLines) -> Option<MapVersion>
-    ensures { IfSome result IsVersion }
-{
-    let Ok(topology) = topology_of(alloc, text.as_bytes()) else {
-        return None;
-    };
-    let Ok(instance) = topology.instance().try_clone() else {
-        return None;
-    };
-    if !is_good(alloc, &instance, map) {
-        return None;
-    }
-    first_version(alloc, topology, &instance, map)
-}
-
-const LINES: &[(u32, u8, u32)] = &[(0, 0, 8), (1, 0, 2), (1, 1, 5)];
-
-const NAMES: &[(u32, u8, u32)] = &[(1, 0, 1), (1, 1, 0)];
-
-/// The example and its map.
-fn example(rt: &impl Abort, alloc: Global) -> MapVersion
-    ensures { IsVersion result }
-{
-    made(rt, alloc, EXAMPLE, LINES, NAMES)
-}
-
-/// The same of any rows.
-fn made(
-    rt: &impl Abort,
-    alloc: Global,
-    text: &str,
-    lines: &[(u32, u8, u32)],
-    names: &[(u32, u8, u32)],
-) -> MapVersion
-    ensures { IsVersion result }
-{
-    let lines = lines_of(alloc, lines).expect(rt, "memory");
-    let names = names_of(alloc, names).expect(rt, "memory");
-    let map = MapLines { lines, names };
-    version_of(alloc, text, &map).expect(rt, "no version")
-}
-
 /// Draws, and the place of the second group's list on which each falls.
+// The first two of seven units are at the first pool.
 const DRAWS: &[(u64, u8)] = &[
     (0, 0),
     // The last draw of slot 1, and the first of slot 2.
@@ -228,14 +105,6 @@ fn fall_so(version: &MapVersion, draws: &[(u64, u8)]) -> bool
         }
     }
     true
-}
-
-/// The first two of seven units are at the first pool.
-#[test]
-fn picks_by_draw(rt: HostRuntime) {
-    let version = example(&rt, rt.alloc());
-    assert!(rt; version.groups() == 2);
-    assert!(rt; fall_so(&version, DRAWS));
 }
 
 const FROM: Addr = Addr::V4(0xc633_6407);
@@ -297,12 +166,6 @@ fn all_reply_so(version: &MapVersion, rows: &[ReplyRow]) -> bool
         }
     }
     true
-}
-
-#[test]
-fn replies(rt: HostRuntime) {
-    let version = example(&rt, rt.alloc());
-    assert!(rt; all_reply_so(&version, REPLIES));
 }
 
 /// The code of a reply; 15 where there is none.
@@ -371,17 +234,50 @@ fn counts_of(version: &MapVersion) -> Counts
     counts
 }
 
+/// How often each code comes, and how many octets are replied in all, as another program counted them.
 const CODES: [u32; 16] = [
     4671, 5334, 0, 762, 120, 3065, 0, 0, 0, 0, 0, 0, 0, 0, 0, 128,
 ];
 
-/// Each octet of a query with a subnet set to each value: how often each code comes, and how many octets are replied in all, was counted by another program.
+const OCTETS: usize = 677_457;
+
+/// Whether just these replies come where each octet of a query with a subnet is set to each value.
+fn counts_are_right(version: &MapVersion) -> bool
+    requires { IsVersion version.now }
+{
+    let counts = counts_of(version);
+    counts.codes == CODES && counts.octets == OCTETS
+}
+
+/// What is not as it is to be over the first version of the example, if anything is.
+fn wrong_over(version: &MapVersion) -> Option<&'static str>
+    requires { IsVersion version.now }
+{
+    if version.groups() != 2 {
+        return Some("groups");
+    }
+    if !fall_so(version, DRAWS) {
+        return Some("picks by draw");
+    }
+    if !all_reply_so(version, REPLIES) {
+        return Some("replies");
+    }
+    if !counts_are_right(version) {
+        return Some("replies to each change");
+    }
+    None
+}
+
+fn wrong_in_example(alloc: Global) -> Option<&'static str> {
+    match first_version(alloc) {
+        Some(version) => wrong_over(&version),
+        None => Some("no version"),
+    }
+}
+
 #[test]
-fn replies_to_each_change(rt: HostRuntime) {
-    let version = example(&rt, rt.alloc());
-    let counts = counts_of(&version);
-    assert!(rt; counts.codes == CODES);
-    assert!(rt; counts.octets == 677_457);
+fn replies_of_the_example(rt: HostRuntime) {
+    assert_eq!(rt; wrong_in_example(rt.alloc()), None);
 }
 
 fn push_label(octets: &mut ArrayVec<u8, 512>, size: u8, letter: u8) {
@@ -439,9 +335,15 @@ fn are_replied(version: &MapVersion, rows: &[(Labels, u8, (u8, usize))]) -> bool
     true
 }
 
+fn are_bounded(alloc: Global) -> bool {
+    match version_of_text(alloc, LONG, &[(0, 0, 1)], &[]) {
+        Some(version) => are_replied(&version, LONG_REPLIES),
+        None => false,
+    }
+}
+
 /// The longest replies there are, with their codes and sizes: no such name, addresses, name servers.
 #[test]
 fn bounds_replies(rt: HostRuntime) {
-    let version = made(&rt, rt.alloc(), LONG, &[(0, 0, 1)], &[]);
-    assert!(rt; are_replied(&version, LONG_REPLIES));
+    assert!(rt; are_bounded(rt.alloc()));
 }

@@ -1,23 +1,14 @@
 //! The example topology, read whole.
 use super::example;
-use crate::read::read_topology;
-use crate::{Names, Topology, TopologyFault, Zone};
 use addr_text::{Addr, Prefix};
 use map_model::{GroupId, Instance, NodeId, Offer};
 use name_text::Name;
 use std::alloc::Global;
-use std::process::Abort;
+use topology_text::{Names, Topology, TopologyFault, Zone, read_topology};
 
 /// What is read, with no word on it: the checks of those who call this are short.
 fn topology_of(alloc: Global, text: &[u8]) -> Result<Topology, TopologyFault> {
     read_topology(alloc, text)
-}
-
-fn read(rt: &impl Abort, alloc: Global) -> Topology {
-    let text = example(alloc).expect(rt, "memory");
-    topology_of(alloc, text.as_bytes())
-        .ok()
-        .expect(rt, "a topology")
 }
 
 /// A group's name, its demand, and the pools of its list beside their scores.
@@ -70,13 +61,6 @@ fn names_no_group(topology: &Topology, name: &[u8]) -> bool {
     topology.group_named(name).is_none()
 }
 
-#[test]
-fn example_groups(rt: HostRuntime) {
-    let topology = read(&rt, rt.alloc());
-    assert!(rt; are_groups(&topology, GROUPS));
-    assert!(rt; names_no_group(&topology, b"G1"));
-}
-
 /// A node's name, its capacity and its parent, and its addresses.
 type NodeRow = (
     &'static [u8],
@@ -125,13 +109,6 @@ fn names_no_node(topology: &Topology, name: &[u8]) -> bool {
     topology.node_named(name).is_none()
 }
 
-#[test]
-fn example_nodes(rt: HostRuntime) {
-    let topology = read(&rt, rt.alloc());
-    assert!(rt; are_nodes(&topology, NODES));
-    assert!(rt; names_no_node(&topology, b""));
-}
-
 const PREFIXES: &[(Prefix, GroupId)] = &[
     (
         Prefix {
@@ -158,12 +135,6 @@ const PREFIXES: &[(Prefix, GroupId)] = &[
 
 fn has_prefixes(topology: &Topology, prefixes: &[(Prefix, GroupId)]) -> bool {
     topology.prefixes() == prefixes
-}
-
-#[test]
-fn example_prefixes(rt: HostRuntime) {
-    let topology = read(&rt, rt.alloc());
-    assert!(rt; has_prefixes(&topology, PREFIXES));
 }
 
 /// The zone's own names, as they are on the wire.
@@ -198,27 +169,12 @@ fn has_names(zone: &Zone, wires: &[&[u8]; 3]) -> bool {
     is_name(&zone.apex, *apex) && is_name(&zone.mname, *mname) && is_name(&zone.rname, *rname)
 }
 
-#[test]
-fn example_zone_names(rt: HostRuntime) {
-    let topology = read(&rt, rt.alloc());
-    let zone = topology.zone();
-    assert!(rt; has_names(zone, &ZONE_NAMES));
-    assert!(rt; are_names(&zone.ns, NAME_SERVERS));
-    assert!(rt; are_names(&zone.services, SERVICES));
-}
-
 /// The data of its SOA record: both names, and the numbers 1, 3600, 600, 86400 and 60 in four octets each.
 const SOA: &[u8] =
     b"\x03ns1\x03ops\x07example\x00\x05admin\x03ops\x07example\x00\x00\x00\x00\x01\x00\x00\x0e\x10\x00\x00\x02\x58\x00\x01\x51\x80\x00\x00\x00\x3c";
 
 fn has_soa(zone: &Zone, octets: &[u8]) -> bool {
     zone.soa.as_slice() == octets
-}
-
-#[test]
-fn example_zone_soa(rt: HostRuntime) {
-    let topology = read(&rt, rt.alloc());
-    assert!(rt; has_soa(topology.zone(), SOA));
 }
 
 /// The serial, refresh, retry, expire, minimum and ttl of a zone.
@@ -233,8 +189,50 @@ fn numbers(zone: &Zone) -> [u32; 6] {
     ]
 }
 
+/// What of the zone is not as the example has it, if anything is.
+fn wrong_in_zone(zone: &Zone) -> Option<&'static str> {
+    if !has_names(zone, &ZONE_NAMES) {
+        return Some("names of the zone");
+    }
+    if !are_names(&zone.ns, NAME_SERVERS) {
+        return Some("name servers");
+    }
+    if !are_names(&zone.services, SERVICES) {
+        return Some("services");
+    }
+    if !has_soa(zone, SOA) {
+        return Some("data of the SOA record");
+    }
+    if numbers(zone) != [1, 3600, 600, 86400, 60, 20] {
+        return Some("numbers of the zone");
+    }
+    None
+}
+
+/// What is not as the example has it, if anything is.
+fn wrong_in(topology: &Topology) -> Option<&'static str> {
+    if !are_groups(topology, GROUPS) || !names_no_group(topology, b"G1") {
+        return Some("groups");
+    }
+    if !are_nodes(topology, NODES) || !names_no_node(topology, b"") {
+        return Some("nodes");
+    }
+    if !has_prefixes(topology, PREFIXES) {
+        return Some("prefixes");
+    }
+    wrong_in_zone(topology.zone())
+}
+
+/// The same of a text that is read.
+fn wrong_in_text(alloc: Global, text: &str) -> Option<&'static str> {
+    match topology_of(alloc, text.as_bytes()) {
+        Ok(topology) => wrong_in(&topology),
+        Err(_) => Some("no topology"),
+    }
+}
+
 #[test]
-fn example_zone_numbers(rt: HostRuntime) {
-    let topology = read(&rt, rt.alloc());
-    assert!(rt; numbers(topology.zone()) == [1, 3600, 600, 86400, 60, 20]);
+fn example_whole(rt: HostRuntime) {
+    let text = example(rt.alloc()).expect(&rt, "memory");
+    assert_eq!(rt; wrong_in_text(rt.alloc(), text.as_str()), None);
 }

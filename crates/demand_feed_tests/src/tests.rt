@@ -2,27 +2,19 @@
 ghost use Rattle.std.specs.Prelude.{◌≡◌, ◌≤◌, ◌↔◌, ◌^◌, None};
 ghost use Rattle.demand_feed.specs.Clerk.{item_by};
 
-use crate::{
+use addr_text::Addr;
+use demand_feed::{
     Batch, BatchFault, ChangesFault, FeedEnd, Intake, Line, LineFault, MOST_TURNS, Next, Refusal,
     Taken, TakesItems, read_changes, read_line, run_lines,
 };
-use addr_text::Addr;
 use outside::MemSource;
 use std::alloc::Global;
-use std::process::Abort;
 use topology_text::{Topology, TopologyFault, read_topology};
 use worlds::EXAMPLE_TREE;
 
 /// What is read, with no word on it: the checks of those who call this are short.
 fn topology_of(alloc: Global, text: &str) -> Result<Topology, TopologyFault> {
     read_topology(alloc, text.as_bytes())
-}
-
-/// The example that feeds are of.
-fn example(rt: &impl Abort, alloc: Global) -> Topology {
-    topology_of(alloc, EXAMPLE_TREE)
-        .ok()
-        .expect(rt, "a topology")
 }
 
 /// Whether a line has that fault.
@@ -279,19 +271,19 @@ fn comes_by_any_size(alloc: Global, topology: &Topology, want: &[Seen]) -> bool 
     true
 }
 
-#[test]
-fn pieces(rt: HostRuntime) {
-    let topology = example(&rt, rt.alloc());
-    assert!(rt; comes_by_any_size(rt.alloc(), &topology, CAME));
-}
+/// A feed that is read octet by octet, what comes of it, and how many pieces are read.
+type ShortRow = (&'static [u8], &'static [Seen], usize);
 
 // Nothing is read behind the piece that ends `stop`. A feed of no octets ends without a piece.
-#[test]
-fn ends(rt: HostRuntime) {
-    let topology = example(&rt, rt.alloc());
-    let stopped = b"show\nstop\nshow\n";
-    assert!(rt; comes(rt.alloc(), &topology, stopped, 1, &[Seen::Totals], 10));
-    assert!(rt; comes(rt.alloc(), &topology, b"", 1, &[], 0));
+const SHORT: &[ShortRow] = &[(b"show\nstop\nshow\n", &[Seen::Totals], 10), (b"", &[], 0)];
+
+fn all_come(alloc: Global, topology: &Topology, rows: &[ShortRow]) -> bool {
+    for (text, want, pieces) in rows {
+        if !comes(alloc, topology, *text, 1, *want, *pieces) {
+            return false;
+        }
+    }
+    true
 }
 
 /// How two lines that ask for totals end, read in two pieces, after how many items.
@@ -371,12 +363,6 @@ fn all_end_so(alloc: Global, topology: &Topology, rows: &[(&Course, FeedEnd, usi
     true
 }
 
-#[test]
-fn ends_that_fail(rt: HostRuntime) {
-    let topology = example(&rt, rt.alloc());
-    assert!(rt; all_end_so(rt.alloc(), &topology, ENDS));
-}
-
 /// A line of so many letters, and then one that asks for totals.
 fn long_feed(alloc: Global, letters: usize) -> Option<Vec<u8>> {
     let mut text = vec![in alloc; b'a'; letters].ok()?;
@@ -409,12 +395,6 @@ fn are_refused(alloc: Global, topology: &Topology, rows: &[(usize, LineFault)]) 
         }
     }
     true
-}
-
-#[test]
-fn long_lines(rt: HostRuntime) {
-    let topology = example(&rt, rt.alloc());
-    assert!(rt; are_refused(rt.alloc(), &topology, LETTERS));
 }
 
 /// How many changes a file has, or its fault.
@@ -466,12 +446,6 @@ fn have_changes(alloc: Global, topology: &Topology, rows: &[FileRow]) -> bool {
     true
 }
 
-#[test]
-fn changes_files(rt: HostRuntime) {
-    let topology = example(&rt, rt.alloc());
-    assert!(rt; have_changes(rt.alloc(), &topology, FILES));
-}
-
 /// Whether this comes of a file of so many changes, one a line.
 fn comes_of_many(
     alloc: Global,
@@ -485,10 +459,64 @@ fn comes_of_many(
     }
 }
 
+/// So many changes, and how many there are then, or the fault.
+type ManyRow = (usize, Result<usize, ChangesFault>);
+
+const MANY: &[ManyRow] = &[
+    (4_096, Ok(4_096)),
+    (
+        4_097,
+        Err(ChangesFault::Refused(4_097, Refusal::Batch(BatchFault::Full))),
+    ),
+];
+
+fn all_come_of_many(alloc: Global, topology: &Topology, rows: &[ManyRow]) -> bool {
+    for (count, want) in rows {
+        if !comes_of_many(alloc, topology, *count, *want) {
+            return false;
+        }
+    }
+    true
+}
+
+/// What is not as it is to be of a feed over a topology, if anything is.
+fn wrong_feed(alloc: Global, topology: &Topology) -> Option<&'static str> {
+    if !comes_by_any_size(alloc, topology, CAME) {
+        return Some("pieces of any size");
+    }
+    if !all_come(alloc, topology, SHORT) {
+        return Some("ends");
+    }
+    if !all_end_so(alloc, topology, ENDS) {
+        return Some("ends that fail");
+    }
+    if !are_refused(alloc, topology, LETTERS) {
+        return Some("long lines");
+    }
+    None
+}
+
+/// The same of changes files.
+fn wrong_file(alloc: Global, topology: &Topology) -> Option<&'static str> {
+    if !have_changes(alloc, topology, FILES) {
+        return Some("changes files");
+    }
+    if !all_come_of_many(alloc, topology, MANY) {
+        return Some("full changes files");
+    }
+    None
+}
+
+/// The same of both, over the topology that a text says.
+fn wrong_over(alloc: Global, text: &str) -> Option<&'static str> {
+    match topology_of(alloc, text) {
+        Ok(topology) => wrong_feed(alloc, &topology).or(wrong_file(alloc, &topology)),
+        Err(_) => Some("no topology"),
+    }
+}
+
+/// Feeds and changes files over the example.
 #[test]
-fn full_changes_files(rt: HostRuntime) {
-    let topology = example(&rt, rt.alloc());
-    assert!(rt; comes_of_many(rt.alloc(), &topology, 4_096, Ok(4_096)));
-    let full = Err(ChangesFault::Refused(4_097, Refusal::Batch(BatchFault::Full)));
-    assert!(rt; comes_of_many(rt.alloc(), &topology, 4_097, full));
+fn feeds_and_files(rt: HostRuntime) {
+    assert_eq!(rt; wrong_over(rt.alloc(), EXAMPLE_TREE), None);
 }
