@@ -1,4 +1,4 @@
-use Rattle.map_cell.proofs.tests.beside.Given as goal
+use Rattle.map_cell_tests.proofs.tests.beside.Given as goal
 
 -- the history that was just made
 abbrev pub ghosts-opened_beside : goal.ghosts-opened_beside

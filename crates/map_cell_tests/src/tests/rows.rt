@@ -1,18 +1,14 @@
 //! Rows of notes: what is put is what is read, in its order, up to a row that is full.
 ghost use Rattle.std.specs.Prelude.{◌≡◌, ◌<◌, ◌^◌};
-ghost use Rattle.map_model.specs.Market.{IsSameShape};
-ghost use Rattle.map_model.specs.Allocation.{IsGood};
-ghost use Rattle.map_cell.specs.Examples.{IsOf};
+ghost use Rattle.map_cell_tests.specs.Examples.{AreGood, IsOf};
 
-use super::{Worlds, first_version, publish_to, worlds_of};
-use crate::{EmptyHistory, Naming, NoteRow, PlainDoor, Publisher, RowNotes, open};
+use super::{Worlds, first_version, publish_to};
+use map_cell::{EmptyHistory, Naming, NoteRow, PlainDoor, Publisher, RowNotes, open};
 use outside::Notes;
 use std::alloc::Global;
 use std::marker::Brand;
 use std::sync::Wait;
 use std::test::Fail;
-use topology_text::read_topology;
-use worlds::EXAMPLE_TREE;
 
 /// The serial of the next note, if one is there.
 fn next_serial<J: Naming>(notes: &mut RowNotes<'_, J>) -> Option<u64> {
@@ -24,7 +20,7 @@ fn next_serial<J: Naming>(notes: &mut RowNotes<'_, J>) -> Option<u64> {
 
 /// What was read of a row ahead of all puts, behind the first, behind the second twice, and by a reader that began then;
 /// and where the puts left off.
-#[derive(Clone, Copy, Debug, PartialEq, Eq)]
+#[derive(Clone, Copy, PartialEq, Eq)]
 struct Turns {
     unset: Option<u64>,
     first: Option<u64>,
@@ -42,8 +38,8 @@ fn turns_of<J: Naming, R: Wait>(
     publisher: &mut Publisher<J>,
     worlds: &Worlds,
 ) -> Option<Turns>
-    requires newest { IsOf worlds.now.old worlds.now.old_map.lines.items worlds.now.old_map.names.items publisher.old.newest × (publisher.old.newest.serial ≡ 0) }
-    requires new { IsSameShape worlds.now.old worlds.now.new × IsGood worlds.now.new worlds.now.new_map.lines.items worlds.now.new_map.names.items }
+    requires newest { IsOf worlds.now.old publisher.old.newest × (publisher.old.newest.serial ≡ 0) }
+    requires good { AreGood worlds.now.old worlds.now.new }
 {
     let mut notes = RowNotes::over(row);
     let unset = next_serial(&mut notes);
@@ -51,10 +47,10 @@ fn turns_of<J: Naming, R: Wait>(
     let took = row.put(rt, &mut at, publisher.note());
     let first_at = at;
     let first = next_serial(&mut notes);
-    let old = (&worlds.old, &worlds.old_map);
-    let new = (&worlds.new, &worlds.new_map);
-    publish_to(rt, alloc, publisher, old, new)?;
-    if !took || !row.put(rt, &mut at, publisher.note()) {
+    if !took || publish_to(rt, alloc, publisher, &worlds.old, &worlds.new).is_none() {
+        return None;
+    }
+    if !row.put(rt, &mut at, publisher.note()) {
         return None;
     }
     let second = next_serial(&mut notes);
@@ -104,35 +100,52 @@ fn count_row<J: Naming>(row: &NoteRow<J>) -> (u32, u32) {
 
 /// What comes of a row that is then filled from its first cell on: the turns, how many notes more it took and where
 /// that ended, and how many of each map it holds.
-#[derive(Clone, Copy, Debug, PartialEq, Eq)]
+#[derive(Clone, Copy, PartialEq, Eq)]
 struct Filled {
     turns: Turns,
     more: (u32, u32),
     held: (u32, u32),
 }
 
+/// The turns over a row, which is then filled and counted.
+fn fill<J: Naming, R: Wait>(
+    rt: &R,
+    alloc: Global,
+    row: &NoteRow<J>,
+    publisher: &mut Publisher<J>,
+    worlds: &Worlds,
+) -> Option<Filled>
+    requires newest { IsOf worlds.now.old publisher.old.newest × (publisher.old.newest.serial ≡ 0) }
+    requires good { AreGood worlds.now.old worlds.now.new }
+{
+    match turns_of(rt, alloc, row, publisher, worlds) {
+        None => None,
+        Some(turns) => Some(Filled {
+            turns,
+            more: fill_row(rt, row, publisher, 0),
+            held: count_row(row),
+        }),
+    }
+}
+
 /// The same over a cell of the example, which is closed.
 fn opened_row<J: Naming, R: Wait>(rt: &R, alloc: Global, history: EmptyHistory) -> Option<Filled>
     requires { history ≡ J.book }
 {
-    let topology = read_topology(alloc, EXAMPLE_TREE.as_bytes()).ok()?;
-    let worlds = worlds_of(alloc, &topology)?;
-    let version = first_version(alloc, topology, &worlds)?;
-    let row = NoteRow::new(alloc).ok()?;
-    let mut door = PlainDoor::new();
-    let Ok((publisher, _viewers)) = open::<J, PlainDoor, R>(
-        rt, alloc, history, version, 0, &mut door,
-    ) else {
-        return None;
-    };
-    let mut publisher = publisher;
-    let turns = turns_of(rt, alloc, &row, &mut publisher, &worlds);
-    let more = fill_row(rt, &row, &publisher, 0);
-    let held = count_row(&row);
-    publisher.close(rt);
-    match turns {
-        None => None,
-        Some(turns) => Some(Filled { turns, more, held }),
+    match (first_version(alloc), NoteRow::new(alloc)) {
+        (Some((version, worlds)), Ok(row)) => {
+            let mut door = PlainDoor::new();
+            match open::<J, PlainDoor, R>(rt, alloc, history, version, 0, &mut door) {
+                Err(_) => None,
+                Ok((publisher, _viewers)) => {
+                    let mut publisher = publisher;
+                    let filled = fill(rt, alloc, &row, &mut publisher, &worlds);
+                    publisher.close(rt);
+                    filled
+                }
+            }
+        }
+        _ => None,
     }
 }
 

@@ -1,4 +1,4 @@
-use Rattle.map_cell.proofs.tests.seen_by.Given as goal
+use Rattle.map_cell_tests.proofs.tests.seen_by.Given as goal
 
 -- the history that was just made
 abbrev pub ghosts-opened : goal.ghosts-opened

@@ -1,67 +1,36 @@
 //! Cells over the example: looks that follow publishes, doors that refuse, and a viewer beside a publisher.
-ghost use Rattle.std.specs.Prelude.{◌≡◌, ◌+◌, ◌<◌, ◌^◌, true, IfSome};
+ghost use Rattle.std.specs.Prelude.{◌≡◌, ◌+◌, ◌<◌, ◌^◌, IfSome};
 ghost use Rattle.map_model.specs.Market.{IsSameShape};
 ghost use Rattle.map_model.specs.Allocation.{IsGood};
 ghost use Rattle.published_map.specs.Version.{IsVersion};
 ghost use Rattle.std.specs.Thread.{IsSend, IsSync};
-ghost use Rattle.map_cell.specs.Examples.{IsOf, IsReady};
+ghost use Rattle.map_cell_tests.specs.Examples.{AreGood, IsOf, IsReady};
 
-use crate::{Door, EmptyHistory, MemDoor, Naming, OpenFault, PlainDoor, Publisher, Viewer, open};
-use map_model::{GroupId, Instance, MapLines};
-use prefix_lookup::Lookup;
-use published_map::{Delta, MapVersion, Shared};
-use stable_check::{CheckRoom, Verdict, check};
+use map_cell::{
+    Door, EmptyHistory, MemDoor, Naming, OpenFault, PlainDoor, Publisher, Viewer, open,
+};
+use map_model::{GroupId, Instance};
+use published_map::{Delta, MapVersion};
 use std::alloc::Global;
 use std::marker::Brand;
+use std::sync::Wait;
 use std::sync::atomic::AtomicU64;
 use std::sync::atomic::Ordering::SeqCst;
-use std::sync::{Arc, Wait};
 use std::test::Fail;
 use std::thread::{self, Threads, join_mut};
 use topology_text::{Topology, read_topology};
-use worlds::{EXAMPLE, EXAMPLE_TREE, map_of};
+use world_versions::{GoodMap, example, example_of_four, version_of};
+use worlds::EXAMPLE_TREE;
 
 mod rows;
 
 const G2: GroupId = GroupId(1);
 
-/// Whether the map is good for the instance.
-fn is_good(alloc: Global, instance: &Instance, map: &MapLines) -> bool
-    ensures { result ≡ true → IsGood instance.now map.now.lines.items map.now.names.items }
-{
-    match CheckRoom::new(alloc, instance) {
-        Err(_) => false,
-        Ok(room) => {
-            let mut room = room;
-            matches!(check(instance, map, &mut room), Verdict::Good)
-        }
-    }
-}
-
 /// The example, and the same where the second group asks for four units, which then are all placed.
 #[derive(Drop)]
 struct Worlds {
-    old: Instance,
-    old_map: MapLines,
-    new: Instance,
-    new_map: MapLines,
-}
-
-/// The instance where the second group asks for four units.
-fn asking_four(old: &Instance) -> Option<Instance>
-    ensures { IfSome result (λ new. IsSameShape old.now new) }
-{
-    match old.try_clone() {
-        Err(_) => None,
-        Ok(instance) => {
-            let mut instance = instance;
-            if instance.groups() != 2 {
-                return None;
-            }
-            instance.set_demand(G2, 4);
-            Some(instance)
-        }
-    }
+    old: GoodMap,
+    new: GoodMap,
 }
 
 /// What has a shape with another is of the other's shape.
@@ -74,55 +43,48 @@ fn check_shape(old: &Instance, new: &Instance)
 
 /// The example of a topology and what it becomes, with their good maps.
 fn worlds_of(alloc: Global, topology: &Topology) -> Option<Worlds>
-    ensures old { IfSome result (λ w. (w.old ≡ topology.now.market) × IsGood w.old w.old_map.lines.items w.old_map.names.items) }
-    ensures new { IfSome result (λ w. IsSameShape w.old w.new × IsSameShape w.new w.old × IsGood w.new w.new_map.lines.items w.new_map.names.items) }
+    ensures first { IfSome result (λ w. w.old.instance ≡ topology.now.market) }
+    ensures good { IfSome result (λ w. AreGood w.old w.new) }
 {
-    let Ok(old) = topology.instance().try_clone() else {
-        return None;
-    };
-    let Some(new) = asking_four(&old) else {
-        return None;
-    };
-    check_shape(&old, &new);
-    let old_map = EXAMPLE.map(alloc).ok()?;
-    let new_map = map_of(alloc, &[(0, 0, 8), (1, 0, 2), (1, 1, 2)], &[(1, 0, 1)]).ok()?;
-    if !is_good(alloc, &old, &old_map) {
-        return None;
+    match (example(alloc, topology), example_of_four(alloc, topology)) {
+        (Some(old), Some(new)) => {
+            check_shape(&old.instance, &new.instance);
+            Some(Worlds { old, new })
+        }
+        _ => None,
     }
-    if !is_good(alloc, &new, &new_map) {
-        return None;
-    }
-    Some(Worlds {
-        old,
-        old_map,
-        new,
-        new_map,
-    })
 }
 
-/// The first version of the example.
-fn first_version(alloc: Global, topology: Topology, worlds: &Worlds) -> Option<MapVersion>
-    requires old { worlds.now.old ≡ topology.market }
-    requires good { IsGood worlds.now.old worlds.now.old_map.lines.items worlds.now.old_map.names.items }
-    ensures { IfSome result (λ v. IsOf worlds.now.old worlds.now.old_map.lines.items worlds.now.old_map.names.items v × (v.serial ≡ 0)) }
+/// The first version of the example, and what it becomes.
+fn first_of(alloc: Global, topology: Topology) -> Option<(MapVersion, Worlds)>
+    ensures first { IfSome result (λ r. IsOf r.1.old r.0 × (r.0.serial ≡ 0)) }
+    ensures good { IfSome result (λ r. AreGood r.1.old r.1.new) }
 {
-    let Ok(lookup) = Lookup::build(alloc, topology.prefixes()) else {
-        return None;
-    };
-    let Ok(topology) = Arc::new(alloc, topology) else {
-        return None;
-    };
-    let Ok(shared) = Arc::new(alloc, Shared { topology, lookup }) else {
-        return None;
-    };
-    match MapVersion::make(alloc, 0, &worlds.old, &worlds.old_map, shared) {
-        Ok(version) => Some(version),
+    match worlds_of(alloc, &topology) {
+        None => None,
+        Some(worlds) => {
+            let old = &worlds.old;
+            match version_of(alloc, 0, topology, &old.instance, &old.map) {
+                None => None,
+                Some(version) => Some((version, worlds)),
+            }
+        }
+    }
+}
+
+/// The same, of the example.
+fn first_version(alloc: Global) -> Option<(MapVersion, Worlds)>
+    ensures first { IfSome result (λ r. IsOf r.1.old r.0 × (r.0.serial ≡ 0)) }
+    ensures good { IfSome result (λ r. AreGood r.1.old r.1.new) }
+{
+    match read_topology(alloc, EXAMPLE_TREE.as_bytes()) {
         Err(_) => None,
+        Ok(topology) => first_of(alloc, topology),
     }
 }
 
 /// What a look shows: the serial, and of the second group the demand and the units at its two places.
-#[derive(Clone, Copy, Debug, PartialEq, Eq)]
+#[derive(Clone, Copy, PartialEq, Eq)]
 struct Sight {
     serial: u64,
     demand: u32,
@@ -165,19 +127,26 @@ fn publish_to<J: Naming, R: Wait>(
     rt: &R,
     alloc: Global,
     publisher: &mut Publisher<J>,
-    old: (&Instance, &MapLines),
-    new: (&Instance, &MapLines),
+    old: &GoodMap,
+    new: &GoodMap,
 ) -> Option<u64>
-    requires newest { IsOf old.0.now old.1.now.lines.items old.1.now.names.items publisher.old.newest }
-    requires good { IsGood new.0.now new.1.now.lines.items new.1.now.names.items }
-    requires shape { IsSameShape old.0.now new.0.now }
+    requires newest { IsOf old.now publisher.old.newest }
+    requires good { IsGood new.now.instance new.now.map.lines.items new.now.map.names.items }
+    requires shape { IsSameShape old.now.instance new.now.instance }
     requires room { publisher.old.newest.serial < 2 ^ 32 }
-    ensures newest { IfSome result (λ s. IsOf new.entry.0.now new.entry.1.now.lines.items new.entry.1.now.names.items publisher.new.newest × (publisher.new.newest.serial ≡ s)) }
+    ensures newest { IfSome result (λ s. IsOf new.now publisher.new.newest × (publisher.new.newest.serial ≡ s)) }
     ensures serial { IfSome result (λ s. s ≡ publisher.old.newest.serial + 1) }
 {
-    let _ = (old.0.groups(), new.0.groups());
+    let _ = (old.instance.groups(), new.instance.groups());
     let base = publisher.newest().serial();
-    let Ok(delta) = Delta::between(alloc, base, old.0, old.1, new.0, new.1) else {
+    let Ok(delta) = Delta::between(
+        alloc,
+        base,
+        &old.instance,
+        &old.map,
+        &new.instance,
+        &new.map,
+    ) else {
         return None;
     };
     match publisher.publish(rt, delta) {
@@ -195,17 +164,45 @@ fn looks<J: Naming, R: Wait, D: Door>(
     door: &mut D,
     worlds: &Worlds,
 ) -> Option<(Sight, u64, Sight)>
-    requires newest { IsOf worlds.now.old worlds.now.old_map.lines.items worlds.now.old_map.names.items publisher.old.newest × (publisher.old.newest.serial ≡ 0) }
-    requires new { IsSameShape worlds.now.old worlds.now.new × IsGood worlds.now.new worlds.now.new_map.lines.items worlds.now.new_map.names.items }
+    requires newest { IsOf worlds.now.old publisher.old.newest × (publisher.old.newest.serial ≡ 0) }
+    requires good { AreGood worlds.now.old worlds.now.new }
 {
-    let first = look(door, viewer)?;
-    let old = (&worlds.old, &worlds.old_map);
-    let new = (&worlds.new, &worlds.new_map);
-    publish_to(rt, alloc, publisher, old, new)?;
-    door.learn(viewer, &publisher.note());
-    let known = viewer.known();
-    let second = look(door, viewer)?;
-    Some((first, known, second))
+    match look(door, viewer) {
+        None => None,
+        Some(first) => match publish_to(rt, alloc, publisher, &worlds.old, &worlds.new) {
+            None => None,
+            Some(_) => {
+                door.learn(viewer, &publisher.note());
+                let known = viewer.known();
+                match look(door, viewer) {
+                    None => None,
+                    Some(second) => Some((first, known, second)),
+                }
+            }
+        },
+    }
+}
+
+/// The same, of the last of some viewers.
+fn looks_of<J: Naming, R: Wait, D: Door>(
+    rt: &R,
+    alloc: Global,
+    publisher: &mut Publisher<J>,
+    viewers: Vec<Viewer<J>>,
+    door: &mut D,
+    worlds: &Worlds,
+) -> Option<(Sight, u64, Sight)>
+    requires newest { IsOf worlds.now.old publisher.old.newest × (publisher.old.newest.serial ≡ 0) }
+    requires good { AreGood worlds.now.old worlds.now.new }
+{
+    let mut viewers = viewers;
+    match viewers.pop() {
+        None => None,
+        Some(viewer) => {
+            let mut viewer = viewer;
+            looks(rt, alloc, publisher, &mut viewer, door, worlds)
+        }
+    }
 }
 
 /// The same, of a cell of the example that is opened by the door with one viewer, and closed.
@@ -217,25 +214,20 @@ fn opened<J: Naming, R: Wait, D: Door>(
 ) -> Result<Option<(Sight, u64, Sight)>, OpenFault>
     requires { history ≡ J.book }
 {
-    let Ok(topology) = read_topology(alloc, EXAMPLE_TREE.as_bytes()) else {
-        return Ok(None);
-    };
-    let Some(worlds) = worlds_of(alloc, &topology) else {
-        return Ok(None);
-    };
-    let Some(version) = first_version(alloc, topology, &worlds) else {
-        return Ok(None);
-    };
-    let (publisher, viewers) = open::<J, D, R>(rt, alloc, history, version, 1, door)?;
-    let mut publisher = publisher;
-    let mut viewers = viewers;
-    let mut seen = None;
-    if let Some(viewer) = viewers.pop() {
-        let mut viewer = viewer;
-        seen = looks(rt, alloc, &mut publisher, &mut viewer, door, &worlds);
+    match first_version(alloc) {
+        None => Ok(None),
+        Some((version, worlds)) => {
+            match open::<J, D, R>(rt, alloc, history, version, 1, door) {
+                Err(fault) => Err(fault),
+                Ok((publisher, viewers)) => {
+                    let mut publisher = publisher;
+                    let seen = looks_of(rt, alloc, &mut publisher, viewers, door, &worlds);
+                    publisher.close(rt);
+                    Ok(seen)
+                }
+            }
+        }
     }
-    publisher.close(rt);
-    Ok(seen)
 }
 
 /// The same, of a history of its own.
@@ -308,17 +300,15 @@ fn publish_both<J: Naming, R: Wait>(
     publisher: &mut Publisher<J>,
     worlds: &Worlds,
 ) -> Option<u64>
-    requires newest { IsOf worlds.now.old worlds.now.old_map.lines.items worlds.now.old_map.names.items publisher.old.newest }
+    requires newest { IsOf worlds.now.old publisher.old.newest }
     requires room { publisher.old.newest.serial + 1 < 2 ^ 32 }
-    requires worlds { IsSameShape worlds.now.old worlds.now.new × IsSameShape worlds.now.new worlds.now.old × IsGood worlds.now.old worlds.now.old_map.lines.items worlds.now.old_map.names.items × IsGood worlds.now.new worlds.now.new_map.lines.items worlds.now.new_map.names.items }
-    ensures newest { IfSome result (λ s. IsOf worlds.now.old worlds.now.old_map.lines.items worlds.now.old_map.names.items publisher.new.newest × (publisher.new.newest.serial ≡ s)) }
+    requires worlds { AreGood worlds.now.old worlds.now.new }
+    ensures newest { IfSome result (λ s. IsOf worlds.now.old publisher.new.newest × (publisher.new.newest.serial ≡ s)) }
     ensures serial { IfSome result (λ s. s ≡ publisher.old.newest.serial + 2) }
 {
-    let old = (&worlds.old, &worlds.old_map);
-    let new = (&worlds.new, &worlds.new_map);
-    match publish_to(rt, alloc, publisher, old, new) {
+    match publish_to(rt, alloc, publisher, &worlds.old, &worlds.new) {
         None => None,
-        Some(_) => publish_to(rt, alloc, publisher, new, old),
+        Some(_) => publish_to(rt, alloc, publisher, &worlds.new, &worlds.old),
     }
 }
 
@@ -330,7 +320,7 @@ fn publish_all<J: Naming, R: Wait>(
     worlds: &Worlds,
     shown: &AtomicU64,
 ) -> bool
-    requires { IsReady worlds.now.old worlds.now.old_map.lines.items worlds.now.old_map.names.items worlds.now.new worlds.now.new_map.lines.items worlds.now.new_map.names.items publisher.old.newest }
+    requires { IsReady worlds.now.old worlds.now.new publisher.old.newest }
 {
     for round in 0..ROUNDS {
         let Some(serial) = publish_both(rt, alloc, publisher, worlds) else {
@@ -393,9 +383,9 @@ struct Feeder<J: Naming> {
 }
 
 impl<J: Naming> Publishes for Feeder<J> {
-    ghost use Rattle.map_cell.specs.Examples.{IsReady};
+    ghost use Rattle.map_cell_tests.specs.Examples.{IsReady};
 
-    ghost ready = { λ f. IsReady f.worlds.old f.worlds.old_map.lines.items f.worlds.old_map.names.items f.worlds.new f.worlds.new_map.lines.items f.worlds.new_map.names.items f.publisher.newest };
+    ghost ready = { λ f. IsReady f.worlds.old f.worlds.new f.publisher.newest };
 
     fn publish_all<R: Wait>(&mut self, rt: &R, shown: &AtomicU64) -> bool {
         publish_all(rt, self.alloc, &mut self.publisher, &self.worlds, shown)
@@ -446,35 +436,17 @@ fn look_beside<W: Watches, R: Wait>(_rt: &R, watcher: &mut W, shown: &AtomicU64)
     }
 }
 
-/// The same over a cell of the example.
-fn opened_beside<J: Naming + Send + Sync, R: Wait + Threads + Sync>(
+/// The same for the last of some viewers, and the cell is closed.
+fn fed_beside<J: Naming + Send + Sync, R: Wait + Threads + Sync>(
     rt: &R,
-    alloc: Global,
-    history: EmptyHistory,
+    feeder: Feeder<J>,
+    viewers: Vec<Viewer<J>>,
+    door: PlainDoor,
 ) -> bool
-    requires { history ≡ J.book }
+    requires { IsReady feeder.worlds.old feeder.worlds.new feeder.publisher.newest }
 {
-    let Ok(topology) = read_topology(alloc, EXAMPLE_TREE.as_bytes()) else {
-        return false;
-    };
-    let Some(worlds) = worlds_of(alloc, &topology) else {
-        return false;
-    };
-    let Some(version) = first_version(alloc, topology, &worlds) else {
-        return false;
-    };
-    let mut door = PlainDoor::new();
-    let Ok((publisher, viewers)) = open::<J, PlainDoor, R>(
-        rt, alloc, history, version, 1, &mut door,
-    ) else {
-        return false;
-    };
+    let mut feeder = feeder;
     let mut viewers = viewers;
-    let mut feeder = Feeder {
-        alloc,
-        publisher,
-        worlds,
-    };
     let mut ran = false;
     if let Some(viewer) = viewers.pop() {
         let mut watcher = Watcher { viewer, door };
@@ -488,6 +460,33 @@ fn opened_beside<J: Naming + Send + Sync, R: Wait + Threads + Sync>(
     } = feeder;
     publisher.close(rt);
     ran
+}
+
+/// The same over a cell of the example.
+fn opened_beside<J: Naming + Send + Sync, R: Wait + Threads + Sync>(
+    rt: &R,
+    alloc: Global,
+    history: EmptyHistory,
+) -> bool
+    requires { history ≡ J.book }
+{
+    match first_version(alloc) {
+        None => false,
+        Some((version, worlds)) => {
+            let mut door = PlainDoor::new();
+            match open::<J, PlainDoor, R>(rt, alloc, history, version, 1, &mut door) {
+                Err(_) => false,
+                Ok((publisher, viewers)) => {
+                    let feeder = Feeder {
+                        alloc,
+                        publisher,
+                        worlds,
+                    };
+                    fed_beside(rt, feeder, viewers, door)
+                }
+            }
+        }
+    }
 }
 
 /// The same, of a history of its own.
