@@ -1,4 +1,4 @@
-use Rattle.name_workers.proofs.tests.hostile.is_unharmed.Given as goal
+use Rattle.name_workers_tests.proofs.tests.ends.Given as goal
 
 -- the history that was just made
 abbrev pub ghosts-opened : goal.ghosts-opened

@@ -1,22 +1,19 @@
 //! A query with a client subnet, each of whose octets is changed to each other one, and which is cut before each: at a lane.
-ghost use Rattle.std.specs.Prelude.{◌≡◌};
 ghost use Rattle.published_map.specs.Version.{IsVersion};
 
-use super::{CLIENT, first_version};
-use crate::{Worker, serve_port};
+use super::{CLIENT, ends};
 use addr_text::Peer;
 use answer_core::{Answer, reply};
 use arrayvec::ArrayVec;
 use lane_model::{Ended, draw_of, next_number};
-use map_cell::{EmptyHistory, Naming, Note, PlainDoor, Viewer, open};
 use no_memory::NoMemory;
-use outside::{MemGate, MemNotes, MemPacket, MemPort, MemTaken, MemTry};
+use outside::{MemPacket, MemPort, MemTaken, MemTry};
 use published_map::MapVersion;
 use std::alloc::Global;
 use std::collections::LinkedList;
-use std::marker::Brand;
 use std::sync::Wait;
 use std::test::Fail;
+use world_versions::first_version;
 
 /// A query of type A for www.cdn.example, with an OPT record and the client subnet 198.51.100.0/24.
 const WITH_SUBNET: &[u8] = &[
@@ -97,6 +94,11 @@ fn has_number(reply: &[u8], query: &[u8]) -> bool {
     reply.get(0) == query.get(0) && reply.get(1) == query.get(1)
 }
 
+/// Whether a try went to the sender of a datagram, from the first version.
+fn is_sent_back(taken: &MemTaken, tried: &MemTry) -> bool {
+    tried.went && tried.serial == 0 && tried.to == taken.packet.from
+}
+
 /// Whether a reply is that of the version for the worker's datagram of that number, and goes to its sender.
 fn is_reply(version: &MapVersion, taken: &MemTaken, tried: &MemTry, number: u64) -> bool
     requires { IsVersion version.now }
@@ -105,13 +107,10 @@ fn is_reply(version: &MapVersion, taken: &MemTaken, tried: &MemTry, number: u64)
     let octets = taken.packet.octets.as_slice();
     let mut due = ArrayVec::new();
     let draw = draw_of(WORKER, number);
-    let is_sent = reply(version, addr, octets, draw, &mut due) == Answer::Sent;
-    is_sent
-        && tried.went
-        && tried.serial == 0
-        && tried.to == taken.packet.from
-        && tried.octets.as_slice() == due.as_slice()
-        && has_number(due.as_slice(), octets)
+    if reply(version, addr, octets, draw, &mut due) != Answer::Sent || !is_sent_back(taken, tried) {
+        return false;
+    }
+    tried.octets.as_slice() == due.as_slice() && has_number(due.as_slice(), octets)
 }
 
 /// How far a lane was looked at: datagrams, replies, and whether all these were as they are due.
@@ -156,62 +155,44 @@ fn are_replies(version: &MapVersion, taken: &[MemTaken], tries: &[MemTry]) -> bo
     looked.good && looked.replies == tries.len()
 }
 
-/// How a lane with a viewer ends.
-fn serve_all<J: Naming>(alloc: Global, viewer: Viewer<J>, port: &mut MemPort) -> Option<Ended> {
-    let mut worker = Worker::new(viewer, WORKER);
-    let mut gate = MemGate::new(alloc, TURNS).ok()?;
-    let mut notes: MemNotes<Note<J>> = MemNotes::new(alloc, LinkedList::new(alloc)).ok()?;
-    let mut door = PlainDoor::new();
-    Some(serve_port(
-        &mut worker,
-        port,
-        &mut gate,
-        &mut door,
-        &mut notes,
-        TURNS as u64,
-    ))
-}
-
-/// The same over a cell of the example that is opened and closed.
-fn opened<J: Naming, R: Wait>(
-    rt: &R,
-    alloc: Global,
-    history: EmptyHistory,
-    port: &mut MemPort,
-) -> Option<Ended>
-    requires { history ≡ J.book }
+/// Whether the lane went on to its port's end, and each datagram but the one that is too long was taken and has the reply that is due.
+fn is_as_due(version: &MapVersion, port: &MemPort, ended: Ended, count: usize) -> bool
+    requires { IsVersion version.now }
 {
-    let version = first_version(alloc)?;
-    let mut door = PlainDoor::new();
-    let Ok((publisher, viewers)) = open::<J, PlainDoor, R>(
-        rt, alloc, history, version, 1, &mut door,
-    ) else {
-        return None;
-    };
-    let mut viewers = viewers;
-    let mut ended = None;
-    if let Some(viewer) = viewers.pop() {
-        ended = serve_all(alloc, viewer, port);
+    let taken = port.taken();
+    if ended != Ended::PortEnd || taken.len() != 55 * 256 + 57 {
+        return false;
     }
-    publisher.close(rt);
-    ended
+    count == 55 * 256 + 58 && are_replies(version, taken, port.tries())
 }
 
-/// Whether the lane goes on to its port's end, and each datagram but the one that is too long was taken and has the reply that is due.
+/// A port at which they all wait, and how many they are.
+fn port_of_all(alloc: Global) -> Option<(MemPort, usize)> {
+    match waiting(alloc) {
+        Err(_) => None,
+        Ok(waiting) => {
+            let count = waiting.len();
+            let none = Vec::new(alloc);
+            match MemPort::new(alloc, waiting, none, Vec::new(alloc), Vec::new(alloc)) {
+                Err(_) => None,
+                Ok(port) => Some((port, count)),
+            }
+        }
+    }
+}
+
+/// Whether a lane over that port is as it is due.
 fn is_unharmed<R: Wait>(rt: &R, alloc: Global) -> Option<bool> {
-    let waiting = waiting(alloc).ok()?;
-    let count = waiting.len();
-    let none = Vec::new(alloc);
-    let mut port = MemPort::new(alloc, waiting, none, Vec::new(alloc), Vec::new(alloc)).ok()?;
-    let ended = opened::<Brand, R>(rt, alloc, EmptyHistory::new(), &mut port)?;
-    let version = first_version(alloc)?;
-    let taken = port.taken();
-    Some(
-        ended == Ended::PortEnd
-            && count == 55 * 256 + 58
-            && taken.len() + 1 == count
-            && are_replies(&version, taken, port.tries()),
-    )
+    match (port_of_all(alloc), first_version(alloc)) {
+        (Some((port, count)), Some(version)) => {
+            let mut port = port;
+            match ends(rt, alloc, WORKER, &mut port, TURNS) {
+                None => None,
+                Some(ended) => Some(is_as_due(&version, &port, ended, count)),
+            }
+        }
+        _ => None,
+    }
 }
 
 #[test]
