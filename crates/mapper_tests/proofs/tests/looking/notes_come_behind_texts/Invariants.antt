@@ -1,4 +1,4 @@
-use Rattle.mapper.proofs.tests.looking.notes_come_behind_texts.Given as goal
+use Rattle.mapper_tests.proofs.tests.looking.notes_come_behind_texts.Given as goal
 
 -- the history that was just made
 abbrev pub ghosts-opens_in_order : goal.ghosts-opens_in_order

@@ -2,9 +2,9 @@
 ghost use Rattle.std.specs.Prelude.{◌≡◌, ◌<◌, ◌^◌, None};
 
 use super::{count_notes, opened};
-use crate::Mapper;
 use demand_feed::FeedEnd;
 use map_cell::{EmptyHistory, Naming, NoteRow, RowNotes};
+use mapper::Mapper;
 use no_memory::NoMemory;
 use outside::{MemPace, MemSource, Notes, Put, Sink};
 use std::alloc::Global;
@@ -69,6 +69,12 @@ fn saw<J: Naming>(sink: &Looking<'_, J>, count: usize) -> bool {
     !sink.is_wrong && sink.told == count
 }
 
+/// The feed.
+fn feed_of(alloc: Global) -> Result<MemSource, NoMemory> {
+    let bytes = Vec::from_slice(alloc, FEED)?;
+    MemSource::new(alloc, bytes, Vec::new(alloc), Vec::new(alloc))
+}
+
 /// Whether the notes of a feed come so.
 fn is_in_order<J: Naming, R: Wait>(
     rt: &R,
@@ -77,12 +83,7 @@ fn is_in_order<J: Naming, R: Wait>(
 ) -> Result<bool, NoMemory>
     requires { mapper.old.newest.serial < 2 ^ 63 }
 {
-    let mut feed = MemSource::new(
-        alloc,
-        Vec::from_slice(alloc, FEED)?,
-        Vec::new(alloc),
-        Vec::new(alloc),
-    )?;
+    let mut feed = feed_of(alloc)?;
     let mut pace = MemPace::new(alloc, 64)?;
     let row = NoteRow::new(alloc)?;
     let mut out = Looking::over(&row);
@@ -90,7 +91,8 @@ fn is_in_order<J: Naming, R: Wait>(
     let end = mapper.run_feed(
         rt, &mut feed, &mut out, &mut maps, &mut pace, &row, 1_000_000,
     );
-    Ok(end == FeedEnd::Ended && saw(&out, 3) && saw(&maps, 3) && count_notes(&row) == 3)
+    let came = (end, saw(&out, 3), saw(&maps, 3), count_notes(&row));
+    Ok(came == (FeedEnd::Ended, true, true, 3))
 }
 
 /// The same, of a mapper of the example.

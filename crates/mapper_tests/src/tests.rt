@@ -2,12 +2,11 @@
 ghost use Rattle.std.specs.Prelude.{◌≡◌, ◌+◌, ◌<◌, ◌≤◌, ◌^◌, IfSome};
 ghost use Rattle.demand_feed.specs.Changing.{IsChangeLine};
 
-use crate::saying::write;
-use crate::{Mapper, Saying, Spoken, Totals};
 use arrayvec::ArrayVec;
 use demand_feed::{Batch, BatchFault, FeedEnd, Line, LineFault, Refusal};
 use map_cell::{EmptyHistory, MemDoor, Naming, NoteRow, OpenFault, PlainDoor, RowNotes};
 use map_model::{Instance, MapLines, Steps};
+use mapper::{Mapper, Saying, Spoken, Totals, write_saying};
 use no_memory::NoMemory;
 use outside::{MemPace, MemSink, MemSource, Notes, PaceCall};
 use stable_check::{CheckRoom, Verdict, check};
@@ -26,8 +25,8 @@ struct Counted;
 /// Whether a line of control text is this one.
 fn says(saying: &Saying, text: &[u8]) -> bool {
     let mut line = Spoken::new();
-    write(&mut line, &Saying::Published(u64::MAX));
-    write(&mut line, saying);
+    write_saying(&mut line, &Saying::Published(u64::MAX));
+    write_saying(&mut line, saying);
     line.as_slice() == text
 }
 
@@ -233,17 +232,30 @@ struct Around {
     pace: MemPace,
 }
 
-/// A feed in pieces of a size, with sinks that fail where the row says so.
-fn with_faults(alloc: Global, feed: &[u8], row: &Row, size: usize) -> Result<Around, NoMemory> {
+/// A feed in pieces of a size.
+fn source_of(alloc: Global, feed: &[u8], size: usize) -> Result<MemSource, NoMemory> {
     let bytes = Vec::from_slice(alloc, feed)?;
     let sizes = vec![in alloc; size; feed.len()]?;
-    let out_fails = Vec::from_slice(alloc, row.out_fails)?;
-    let maps_fails = Vec::from_slice(alloc, row.maps_fails)?;
+    MemSource::new(alloc, bytes, sizes, Vec::new(alloc))
+}
+
+/// A sink whose puts of these numbers fail.
+fn sink_of(alloc: Global, fails: &[u64]) -> Result<MemSink, NoMemory> {
+    let fails = Vec::from_slice(alloc, fails)?;
+    MemSink::new(alloc, 65_536, fails)
+}
+
+/// A feed in pieces of a size, with sinks that fail where the row says so.
+fn with_faults(alloc: Global, feed: &[u8], row: &Row, size: usize) -> Result<Around, NoMemory> {
+    let feed = source_of(alloc, feed, size)?;
+    let out = sink_of(alloc, row.out_fails)?;
+    let maps = sink_of(alloc, row.maps_fails)?;
+    let pace = MemPace::new(alloc, 64)?;
     Ok(Around {
-        feed: MemSource::new(alloc, bytes, sizes, Vec::new(alloc))?,
-        out: MemSink::new(alloc, 65_536, out_fails)?,
-        maps: MemSink::new(alloc, 65_536, maps_fails)?,
-        pace: MemPace::new(alloc, 64)?,
+        feed,
+        out,
+        maps,
+        pace,
     })
 }
 
@@ -439,12 +451,18 @@ const FULL: [Row; 2] = [
     },
 ];
 
+/// Whether so many changes do to a mapper of the example what a row says.
+fn runs_many<R: Wait>(rt: &R, alloc: Global, count: usize, row: &Row) -> bool {
+    match many_changes(alloc, count) {
+        Err(NoMemory) => false,
+        Ok(feed) => runs(rt, alloc, feed.as_slice(), row, 32_768),
+    }
+}
+
 #[test]
 fn full_batches(rt: HostRuntime) -> Result<(), Fail> {
-    let full = many_changes(rt.alloc(), 4_096)?;
-    assert!(rt; runs(&rt, rt.alloc(), full.as_slice(), &FULL[0], 32_768));
-    let more = many_changes(rt.alloc(), 4_097)?;
-    assert!(rt; runs(&rt, rt.alloc(), more.as_slice(), &FULL[1], 32_768));
+    assert!(rt; runs_many(&rt, rt.alloc(), 4_096, &FULL[0]));
+    assert!(rt; runs_many(&rt, rt.alloc(), 4_097, &FULL[1]));
     Ok(())
 }
 
@@ -588,16 +606,22 @@ fn opens<R: Wait>(
     opening::<Brand, R>(rt, alloc, EmptyHistory::new(), topology, refused)
 }
 
+/// The same of the example, where the place of that number is refused.
+fn opens_but<R: Wait>(rt: &R, alloc: Global, refused: u64) -> Option<(Option<OpenFault>, u64)> {
+    match Vec::from_slice(alloc, &[refused]) {
+        Err(_) => None,
+        Ok(refused) => match read_topology(alloc, EXAMPLE_TREE.as_bytes()) {
+            Err(_) => None,
+            Ok(topology) => Some(opens(rt, alloc, topology, refused)),
+        },
+    }
+}
+
 /// The second of two places is refused, or a third one, for which nobody asks. Both groups offer at their first pool,
 /// and the second one then what it lost there at the other.
 #[test]
 fn openings(rt: HostRuntime) -> Result<(), Fail> {
-    let alloc = rt.alloc();
-    let topology = read_topology(alloc, EXAMPLE_TREE.as_bytes())?;
-    let refused = Vec::from_slice(alloc, [1].as_slice())?;
-    assert!(rt; opens(&rt, alloc, topology, refused) == (Some(OpenFault::CellFault), 3));
-    let topology = read_topology(alloc, EXAMPLE_TREE.as_bytes())?;
-    let refused = Vec::from_slice(alloc, [2].as_slice())?;
-    assert!(rt; opens(&rt, alloc, topology, refused) == (None, 3));
+    assert!(rt; opens_but(&rt, rt.alloc(), 1) == Some((Some(OpenFault::CellFault), 3)));
+    assert!(rt; opens_but(&rt, rt.alloc(), 2) == Some((None, 3)));
     Ok(())
 }

@@ -1,4 +1,4 @@
-use Rattle.mapper.proofs.tests.commits.Given as goal
+use Rattle.mapper_tests.proofs.tests.commits.Given as goal
 
 -- the history that was just made
 abbrev pub ghosts-commits_on : goal.ghosts-commits_on

@@ -1,4 +1,4 @@
-use Rattle.mapper.proofs.tests.runs.Given as goal
+use Rattle.mapper_tests.proofs.tests.runs.Given as goal
 
 -- the history that was just made
 abbrev pub ghosts-runs_on : goal.ghosts-runs_on

@@ -1,4 +1,4 @@
-use Rattle.mapper.proofs.tests.opens.Given as goal
+use Rattle.mapper_tests.proofs.tests.opens.Given as goal
 
 -- the history that was just made
 abbrev pub ghosts-opening : goal.ghosts-opening
