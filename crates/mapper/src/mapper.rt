@@ -1,5 +1,5 @@
 //! The mapper: the newest map of a topology, in a cell.
-ghost use Rattle.std.specs.Prelude.{◌≡◌, ◌≢◌, ◌⊎◌, ◌+◌, ◌-◌, ◌<◌, ◌≤◌, ◌^◌, [], ℕ, All, IfErr, IfOk, OnErr, OnOk, Ok, vec_len};
+ghost use Rattle.std.specs.Prelude.{◌≡◌, ◌≢◌, ◌⊎◌, ◌+◌, ◌-◌, ◌<◌, ◌≤◌, ◌^◌, [], ◌∷◌, ℕ, All, IfErr, IfOk, OnErr, OnOk, Ok, vec_len};
 ghost use mathlib.Core.List.{IsPrefix};
 ghost use Rattle.outside.specs.Faults.{Rose, raised};
 ghost use Rattle.map_model.specs.Batch.{IsBatch};
@@ -14,7 +14,7 @@ ghost use Rattle.map_cell.specs.Histories.{IsSealed};
 ghost use Rattle.answer_core.specs.Reply.{Replies};
 ghost use Rattle.mapper.specs.Currents.{IsCurrent, IsKeptFor, version_of};
 ghost use Rattle.mapper.specs.Feeding.{IsFeed};
-ghost use Rattle.mapper.specs.Mappers.{IsFirst, IsPublished, most_offers};
+ghost use Rattle.mapper.specs.Mappers.{IsFirst, IsMapping, IsPublished, most_offers};
 ghost use Rattle.mapper.specs.Scenes.{scene};
 ghost use Rattle.mapper.specs.Words.{map_text, reply_by, totals_of};
 
@@ -130,8 +130,10 @@ fn prepare_first(
 fn prepare<L>(alloc: Global, topology: Topology, steps: &mut Steps<L>) -> Result<Prepared, NoMemory>
     ensures plan { IfOk result (λ p. (arc_value p.topology ≡ topology) × (p.version.plan ≡ topology)) }
     ensures version { IfOk result (λ p. IsVersion p.version × (p.version.serial ≡ 0) × (p.version.market ≡ topology.market)) }
+    ensures first { IfOk result (λ p. IsFirst topology (record { history = p.version ∷ []; newest = p.version })) }
     ensures current { IfOk result (λ p. IsCurrent p.version p.first.current) }
     ensures kept { IfOk result (λ p. IsKeptFor p.version.market p.version.lines p.first.kept) }
+    ensures counted { IfOk result (λ p. IsMapping topology.market p.version.lines steps.old steps.new) }
     ensures steps { OnOk result (steps.new ≤ steps.old + most_offers topology.market) }
     ensures later { steps.old ≤ steps.new }
 {
@@ -171,6 +173,7 @@ impl<J: Naming> Mapper<J> {
         ensures later { D.faults door.old ≤ D.faults door.new }
         ensures cause { IfErr result (λ e. e ≡ Shut → Rose (D.faults door.old) (D.faults door.new)) }
         ensures stays { OnOk result (D.faults door.new ≡ D.faults door.old) }
+        ensures counted { IfOk result (λ r. IsMapping topology.market r.0.newest.lines steps.old steps.new) }
         ensures steps { OnOk result (steps.new ≤ steps.old + most_offers topology.market) }
         ensures steps_later { steps.old ≤ steps.new }
     {
@@ -183,7 +186,10 @@ impl<J: Naming> Mapper<J> {
             first,
             version,
         } = prepared;
-        let (publisher, seats) = map_cell::open(rt, alloc, history, version, viewers, door)?;
+        let (publisher, seats) = match map_cell::open(rt, alloc, history, version, viewers, door) {
+            Ok(opened) => opened,
+            Err(fault) => return Err(fault),
+        };
         let maps = Maps::of(alloc, publisher, first);
         Ok((
             Mapper {
