@@ -106,6 +106,8 @@ fn prepare_first(
     requires kept { IsKeptFor topology.market first.current.map.lines.items first.kept }
     ensures plan { IfOk result (λ p. (arc_value p.topology ≡ topology) × (p.version.plan ≡ topology)) }
     ensures version { IfOk result (λ p. IsVersion p.version × (p.version.serial ≡ 0) × (p.version.market ≡ topology.market)) }
+    ensures first { IfOk result (λ p. IsFirst topology (record { history = p.version ∷ []; newest = p.version })) }
+    ensures lines { IfOk result (λ p. p.version.lines ≡ first.current.map.lines.items) }
     ensures current { IfOk result (λ p. IsCurrent p.version p.first.current) }
     ensures kept { IfOk result (λ p. IsKeptFor p.version.market p.version.lines p.first.kept) }
 {
