@@ -1,5 +1,5 @@
 -- The first version, published alone.
-use Rattle.std.proofs.Common.{◌≡◌, ℕ, [], ◌∷◌, refl}
+use Rattle.std.proofs.Common.{◌≡◌, [], ◌∷◌, refl}
 use Rattle.map_model.specs.Allocation.{IsGood}
 use Rattle.topology_text.specs.Plan.{Plan}
 use Rattle.published_map.specs.Version.{IsVersion, Version}
