@@ -1,21 +1,82 @@
--- A name that is some octets and then an apex, whatever the case of letters.
-use Rattle.std.proofs.Common.{◌≡◌, ℕ, ◌<◌, ◌≤◌, Bool, false, ◌&&◌, eqb, List, [], ◌∷◌, ◌++◌, length, take, drop, refl, ap, ◌∙◌, arith}
+-- A name that stands under an apex, whatever the case of letters.
+use Rattle.std.proofs.Common.{◌≡◌, ℕ, zero, suc, ◌-◌, ◌≤◌, Bool, true, false, ◌&&◌, ◌||◌, ◌==◌, eqb, List, [], ◌∷◌, ◌++◌, length, take, refl, sym, ap, ◌∙◌, arith, length-append}
 use Rattle.std.specs.Char.{to_ascii_lowercase}
-use Rattle.std.proofs.Math.Bool.{and_assoc, and-false}
-use Rattle.name_text.specs.Names.{is_same}
+use Rattle.std.specs.List.{list_any}
+use Rattle.std.proofs.Math.Seq.{take-append_seam}
+use Rattle.std.proofs.lemmas.Bool.{and_parts, eq-eqb, false_from_ne_true, ne_eqb}
+use Rattle.name_text.specs.Names.{is_same, is_under, labels_part, rests_after}
 
--- two parts are the same, and so is the whole
-same_parts : (xs labels apex : List ℕ) → length labels ≤ length xs → (is_same (take (length labels) xs) labels && is_same (drop (length labels) xs) apex) ≡ is_same xs (labels ++ apex)
-same_parts xs [] apex le = refl
-same_parts [] (y ∷ ys) apex le = absurd (omega arith)
-same_parts (x ∷ xs) (y ∷ ys) apex le =
-    and_assoc (eqb (to_ascii_lowercase x) (to_ascii_lowercase y)) (is_same (take (length ys) xs) ys) (is_same (drop (length ys) xs) apex)
-    ∙ ap (λ (b : Bool). eqb (to_ascii_lowercase x) (to_ascii_lowercase y) && b) (same_parts xs ys apex (omega arith))
+-- some octets, and then those of the apex
+record Ends (name apex : List ℕ) : Type 0 where
+  front : List ℕ
+  back : List ℕ
+  parts : name ≡ front ++ back
+  same : is_same back apex ≡ true
 
-pub too_short : (xs labels apex : List ℕ) → length xs < length labels → is_same xs (labels ++ apex) ≡ false
-too_short xs [] apex lt = absurd (omega arith)
-too_short [] (y ∷ ys) apex lt = refl
-too_short (x ∷ xs) (y ∷ ys) apex lt = ap (λ (b : Bool). eqb (to_ascii_lowercase x) (to_ascii_lowercase y) && b) (too_short xs ys apex (omega arith)) ∙ and-false _
+longer : (x : ℕ) (xs apex : List ℕ) → Ends xs apex → Ends (x ∷ xs) apex
+longer x xs apex e = record { front = x ∷ e.front; back = e.back; parts = ap (λ (l : List ℕ). x ∷ l) e.parts; same = e.same }
 
-pub joined : (name labels apex front back : List ℕ) (a b : Bool) → length labels ≤ length name → front ≡ take (length labels) name → back ≡ drop (length labels) name → a ≡ is_same front labels → b ≡ is_same back apex → (a && b) ≡ is_same name (labels ++ apex)
-joined name labels apex front back a b le f k p q = rw (p, q, f, k) (same_parts name labels apex le)
+ends_after : (left : ℕ) (xs apex : List ℕ) → list_any (λ rest. is_same rest apex) (rests_after left xs) ≡ true → Ends xs apex
+ends_after left [] apex h = absurd cc
+ends_after (suc left) (x ∷ xs) apex h = longer x xs apex (ends_after left xs apex h)
+ends_after zero (x ∷ xs) apex h = here (is_same (x ∷ xs) apex) refl h (λ g. longer x xs apex (ends_after x xs apex g))
+  where
+    here : (b : Bool) → is_same (x ∷ xs) apex ≡ b → (b || list_any (λ rest. is_same rest apex) (rests_after x xs)) ≡ true → (list_any (λ rest. is_same rest apex) (rests_after x xs) ≡ true → Ends (x ∷ xs) apex) → Ends (x ∷ xs) apex
+    here true e g further = record { front = []; back = x ∷ xs; parts = refl; same = e }
+    here false e g further = further g
+
+ends : (name apex : List ℕ) → is_under name apex ≡ true → Ends name apex
+unfolding is_under
+ends name apex h = ends_after 0 name apex h
+
+same_length : (xs ys : List ℕ) → is_same xs ys ≡ true → length xs ≡ length ys
+same_length [] [] h = refl
+same_length [] (y ∷ ys) h = absurd cc
+same_length (x ∷ xs) [] h = absurd cc
+same_length (x ∷ xs) (y ∷ ys) h = ap suc (same_length xs ys (and_parts (eqb (to_ascii_lowercase x) (to_ascii_lowercase y)) (is_same xs ys) h).1)
+
+other_length : (xs ys : List ℕ) → (length xs ≡ length ys → ⊥) → is_same xs ys ≡ false
+other_length xs ys other = false_from_ne_true (is_same xs ys) (λ h. other (same_length xs ys h))
+
+-- where both end with the apex, what stands before it decides
+before : (front back labels apex : List ℕ) → is_same back apex ≡ true → is_same (front ++ back) (labels ++ apex) ≡ is_same front labels
+before [] back [] apex h = h
+before [] back (y ∷ ys) apex h = let e = same_length back apex h in other_length back (y ∷ ys ++ apex) (λ f. omega (arith, e, f, length-append ys apex))
+before (x ∷ xs) back [] apex h = let e = same_length back apex h in other_length (x ∷ xs ++ back) apex (λ f. omega (arith, e, f, length-append xs back))
+before (x ∷ xs) back (y ∷ ys) apex h = ap (λ (b : Bool). eqb (to_ascii_lowercase x) (to_ascii_lowercase y) && b) (before xs back ys apex h)
+
+any_before : (front back apex : List ℕ) (services : List (List ℕ)) → is_same back apex ≡ true → list_any (λ s. is_same front (labels_part s)) services ≡ list_any (λ s. is_same (front ++ back) (labels_part s ++ apex)) services
+any_before front back apex [] h = refl
+any_before front back apex (s ∷ services) h =
+    ap (λ (b : Bool). b || list_any (λ s. is_same front (labels_part s)) services) (sym (before front back (labels_part s) apex h))
+    ∙ ap (λ (b : Bool). is_same (front ++ back) (labels_part s ++ apex) || b) (any_before front back apex services h)
+
+pub no_shorter : (name apex : List ℕ) → is_under name apex ≡ true → length apex ≤ length name
+no_shorter name apex h =
+    let e = ends name apex h in
+    omega (arith, ap length e.parts, length-append e.front e.back, same_length e.back apex e.same)
+
+-- what stands before the apex
+front_is : (name apex : List ℕ) (e : Ends name apex) → take (length name - length apex) name ≡ e.front
+front_is name apex e =
+    let n : length name - length apex ≡ length e.front = omega (arith, ap length e.parts, length-append e.front e.back, same_length e.back apex e.same) in
+    ap (λ (k : ℕ). take k name) n ∙ ap (take (length e.front)) e.parts ∙ take-append_seam e.front e.back
+
+pub by_labels : (name apex labels : List ℕ) (services : List (List ℕ)) → is_under name apex ≡ true → labels ≡ take (length name - length apex) name → list_any (λ s. is_same labels (labels_part s)) services ≡ list_any (λ s. is_same name (labels_part s ++ apex)) services
+by_labels name apex labels services h is =
+    let e = ends name apex h in
+    ap (λ (l : List ℕ). list_any (λ s. is_same l (labels_part s)) services) (is ∙ front_is name apex e)
+    ∙ any_before e.front e.back apex services e.same
+    ∙ ap (λ (l : List ℕ). list_any (λ s. is_same l (labels_part s ++ apex)) services) (sym e.parts)
+
+-- it is the apex, where it is no longer
+alone : (front back apex : List ℕ) → is_same back apex ≡ true → (length (front ++ back) == length apex) ≡ is_same (front ++ back) apex
+alone [] back apex h = eq-eqb _ _ (same_length back apex h) ∙ sym h
+alone (x ∷ xs) back apex h =
+    let longer : length (x ∷ xs ++ back) ≡ length apex → ⊥ = λ f. omega (arith, f, length-append xs back, same_length back apex h) in
+    ne_eqb _ _ longer ∙ sym (other_length (x ∷ xs ++ back) apex longer)
+
+pub by_length : (name apex : List ℕ) → is_under name apex ≡ true → (length name == length apex) ≡ is_same name apex
+by_length name apex h =
+    let e = ends name apex h in
+    ap (λ (l : List ℕ). length l == length apex) e.parts ∙ alone e.front e.back apex e.same ∙ ap (λ (l : List ℕ). is_same l apex) (sym e.parts)

@@ -8,8 +8,6 @@ mod replying;
 mod request;
 mod sections;
 mod services;
-#[cfg(test)]
-mod tests;
 mod writing;
 
 pub use picking::pick;

@@ -8,12 +8,12 @@ ghost use Rattle.answer_core.specs.View.{IsShort, outcome_view, request_view};
 
 use crate::picking::pick;
 use crate::request::{QueryFault, Request};
-use crate::services::is_service;
+use crate::services::{is_apex, is_service};
 use addr_text::Addr;
 use client_subnet::SubnetOpt;
 use dns_wire::numbers::{A, AAAA, ANY, FORMERR, IN, NOERROR, NS, NXDOMAIN, REFUSED, SERVFAIL, SOA};
 use map_model::{GroupId, NodeId, Offer};
-use name_text::{same_name, under};
+use name_text::under;
 use published_map::MapVersion;
 
 /// The records of a positive answer.
@@ -140,7 +140,7 @@ fn by_name<'v>(version: &'v MapVersion, request: &Request, from: Addr, draw: u64
     if query.class != IN || !under(query.name, zone.apex.wire()) {
         return Outcome::Error(REFUSED);
     }
-    if same_name(query.name, zone.apex.wire()) {
+    if is_apex(zone, query.name) {
         return at_apex(query.kind);
     }
     if !is_service(zone, query.name) {

@@ -19,30 +19,10 @@ use addr_text::Addr;
 use arrayvec::ArrayVec;
 use client_subnet::{SubnetOpt, write_subnet};
 use dns_wire::numbers::{NS, QUESTION_NAME, SOA};
-use dns_wire::octets::{put, u32_octets, u128_octets};
+use dns_wire::octets::{u32_octets, u128_octets};
 use dns_wire::{ReplyBuffer, write_opt, write_record};
 use name_text::Name;
 use topology_text::Zone;
-
-/// Appends the numbers of the zone's SOA record (RFC 1035 section 3.3.13).
-fn put_numbers(content: &mut ReplyBuffer, zone: &Zone)
-    requires { HasRoom (array_vec_len content.old) 20 }
-    ensures { content.new.items ≡ content.old.items ++ spec.numbers_of zone.now }
-{
-    let serial = u32_octets(zone.serial);
-    let refresh = u32_octets(zone.refresh);
-    let retry = u32_octets(zone.retry);
-    let expire = u32_octets(zone.expire);
-    let minimum = u32_octets(zone.minimum);
-    put(
-        content,
-        &[
-            serial[0], serial[1], serial[2], serial[3], refresh[0], refresh[1], refresh[2],
-            refresh[3], retry[0], retry[1], retry[2], retry[3], expire[0], expire[1], expire[2],
-            expire[3], minimum[0], minimum[1], minimum[2], minimum[3],
-        ],
-    );
-}
 
 /// Writes the zone's SOA record.
 fn write_soa(out: &mut ReplyBuffer, zone: &Zone, owner: u16, ttl: u32)
@@ -50,11 +30,7 @@ fn write_soa(out: &mut ReplyBuffer, zone: &Zone, owner: u16, ttl: u32)
     requires room { HasRoom (array_vec_len out.old) (length (spec.resource (spec.soa zone.now owner ttl))) }
     ensures { out.new.items ≡ out.old.items ++ spec.resource (spec.soa zone.now owner ttl) }
 {
-    let mut content = ArrayVec::new();
-    put(&mut content, zone.mname.wire());
-    put(&mut content, zone.rname.wire());
-    put_numbers(&mut content, zone);
-    write_record(out, owner, SOA, ttl, &content);
+    write_record(out, owner, SOA, ttl, zone.soa.as_slice());
 }
 
 /// Writes the records of name servers.

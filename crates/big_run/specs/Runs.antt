@@ -8,7 +8,7 @@ use Rattle.demand_feed.specs.Taking.{AllDo}
 use Rattle.map_cell.specs.Ends.{PublisherState}
 use Rattle.big_world.specs.Feed.{feed_of}
 use Rattle.big_world.specs.Topology.{topology_of}
-use Rattle.mapper.specs.Mappers.{IsFirst, most_offers}
+use Rattle.mapper.specs.Mappers.{IsFirst, IsMapping, most_offers}
 use Rattle.mapper.specs.Words.{totals_of}
 use Rattle.big_run.specs.Publishing.{Publishes}
 use Rattle.big_run.specs.Replies.{count_of}
@@ -35,6 +35,7 @@ pub record IsRun (n : ℕ) (s : Summary) : Type 0 where
   pub reads : reading (topology_of n) ≡ Ok topology
   pub is_first : IsFirst topology first
   pub batches : AllDo Publishes (items topology (whole_lines (feed_of n))) first last
+  pub counted : IsMapping topology.market first.newest.lines 0 s.proposals
   pub few : s.proposals ≤ most_offers topology.market
   pub sums : s ≡ summary_of n topology last s.proposals
   pub maps : s.maps ≡ 17

@@ -9,59 +9,22 @@ use crate::work::{add_again, next_offer, wake};
 use crate::work_list::WorkList;
 use crate::{finish, run};
 use evict::{Freed, State};
-use map_model::{
-    Choice, ClientGroup, GroupId, Instance, MapLine, MapLines, NameLine, Node, NodeId, Steps,
-};
+use map_model::{Choice, ClientGroup, Instance, MapLine, MapLines, NameLine, Node, NodeId, Steps};
 use no_memory::NoMemory;
 use std::alloc::Global;
-use std::test::Fail;
+use worlds::{
+    EMPTY_POOL, EXAMPLE, FULL_REGION, GroupAt, INNER, NameAt, NodeAt, POOL, Placed,
+    REFUSER_NO_LONGER_FULL, World, instance_of,
+};
 
 /// What the proposals of these tests are counted as.
 #[derive(Clone, Copy, Debug)]
 struct Proposals;
 
-/// Whether a node is a pool.
-const POOL: bool = true;
-
-const INNER: bool = false;
-
-/// An instance with the map that is expected of it.
-struct World {
-    name: &'static str,
-    /// Capacity, parent and whether it is a pool.
-    nodes: &'static [(u64, Option<u32>, bool)],
-    /// Demand, and the list of pools with their scores.
-    groups: &'static [(u32, &'static [(u32, u32)])],
-    /// Group, place and units.
-    lines: &'static [(u32, u8, u32)],
-    /// Group, place and the refusing node.
-    names: &'static [(u32, u8, u32)],
-}
-
 const WORLDS: &[World] = &[
-    // Worked out by hand. g2 is turned away in part by its better pool and then by the root.
-    World {
-        name: "two-level eviction",
-        nodes: &[(15, None, INNER), (10, Some(0), POOL), (10, Some(0), POOL)],
-        groups: &[(8, &[(1, 1), (2, 2)]), (8, &[(1, 3), (2, 4)])],
-        lines: &[(0, 0, 8), (1, 0, 2), (1, 1, 5)],
-        names: &[(1, 0, 1), (1, 1, 0)],
-    },
-    // The pool refuses the second group while it is full, and is not full at the end.
-    World {
-        name: "refuser no longer full",
-        nodes: &[(10, None, INNER), (6, Some(0), POOL), (10, Some(0), POOL)],
-        groups: &[(6, &[(1, 5)]), (4, &[(1, 6)]), (8, &[(2, 1)])],
-        lines: &[(0, 0, 2), (2, 0, 8)],
-        names: &[(0, 0, 0), (1, 0, 0)],
-    },
-    World {
-        name: "full region",
-        nodes: &[(10, None, INNER), (10, Some(0), POOL), (10, Some(0), POOL)],
-        groups: &[(8, &[(1, 1)]), (8, &[(2, 2)])],
-        lines: &[(0, 0, 8), (1, 0, 2)],
-        names: &[(1, 0, 0)],
-    },
+    EXAMPLE,
+    REFUSER_NO_LONGER_FULL,
+    FULL_REGION,
     // Each of the first two groups has its better pool: the other good map is worse for both.
     World {
         name: "two good maps",
@@ -74,13 +37,7 @@ const WORLDS: &[World] = &[
         lines: &[(0, 0, 1), (1, 0, 1), (2, 0, 2)],
         names: &[],
     },
-    World {
-        name: "empty pool",
-        nodes: &[(0, None, POOL)],
-        groups: &[(1, &[(0, 1)])],
-        lines: &[],
-        names: &[(0, 0, 0)],
-    },
+    EMPTY_POOL,
     // Computed by bench/smallest_worlds.py, which tries every map and makes no proposals.
     World {
         name: "three levels, the middle one closed",
@@ -146,68 +103,64 @@ const WORLDS: &[World] = &[
     },
 ];
 
-/// The instance of a world.
-fn instance_of(alloc: Global, world: &World) -> Result<Instance, Fail> {
-    let mut groups = Vec::new(alloc);
-    for &(demand, list) in world.groups {
-        let mut choices = Vec::new(alloc);
-        for &(pool, score) in list {
-            choices.push(Choice {
-                pool: NodeId(pool),
-                score,
-            })?;
-        }
-        groups.push(ClientGroup::new(demand, choices))?;
-    }
-    let mut nodes = Vec::new(alloc);
-    for &(capacity, parent, is_pool) in world.nodes {
-        nodes.push(Node {
-            capacity,
-            parent: parent.map(NodeId),
-            is_pool,
-        })?;
-    }
-    Ok(Instance::try_from_rows(groups, nodes).ok_or("no instance")?)
-}
-
-/// The map of an instance from scratch.
-fn map_of(alloc: Global, instance: &Instance) -> Result<MapLines, NoMemory> {
+/// The map that a run ends with, and how many proposals it counted.
+fn end(alloc: Global, instance: &Instance) -> Result<(MapLines, u64), NoMemory> {
     let mut state = State::fresh(alloc, instance)?;
     let mut steps: Steps<Proposals> = Steps::new();
     run(alloc, instance, &mut state, &mut steps)?;
-    finish(alloc, instance, state)
+    let map = finish(alloc, instance, state)?;
+    Ok((map, steps.count()))
 }
 
-/// The lines as the table has them.
-fn plain_lines(alloc: Global, lines: &[MapLine]) -> Result<Vec<(u32, u8, u32)>, NoMemory> {
-    let mut plain = Vec::new(alloc);
-    for line in lines {
-        plain.push((line.group.0, line.place, line.amount))?;
-    }
-    Ok(plain)
+fn is_line(line: &MapLine, row: &Placed) -> bool {
+    (line.group.0, line.place, line.amount) == *row
 }
 
-/// The names as the table has them.
-fn plain_names(alloc: Global, names: &[NameLine]) -> Result<Vec<(u32, u8, u32)>, NoMemory> {
-    let mut plain = Vec::new(alloc);
-    for name in names {
-        plain.push((name.group.0, name.place, name.node.0))?;
+fn are_lines(lines: &[MapLine], rows: &[Placed]) -> bool {
+    lines.len() == rows.len() && lines.iter().zip(rows).all(|(line, row)| is_line(line, row))
+}
+
+fn is_name(name: &NameLine, row: &NameAt) -> bool {
+    (name.group.0, name.place, name.node.0) == *row
+}
+
+fn are_names(names: &[NameLine], rows: &[NameAt]) -> bool {
+    names.len() == rows.len() && names.iter().zip(rows).all(|(name, row)| is_name(name, row))
+}
+
+/// Whether a map is the one that is expected. It is `false` here and below where memory is wanting.
+fn is_map(map: &MapLines, world: &World) -> bool {
+    are_lines(map.lines.as_slice(), world.lines) && are_names(map.names.as_slice(), world.names)
+}
+
+/// Whether the map of an instance from scratch is the one that is expected.
+fn ends_in(alloc: Global, instance: &Instance, world: &World) -> bool {
+    match end(alloc, instance) {
+        Ok((map, _)) => is_map(&map, world),
+        Err(_) => false,
     }
-    Ok(plain)
+}
+
+fn is_mapped(alloc: Global, world: &World) -> bool {
+    match world.instance(alloc) {
+        Ok(Some(instance)) => ends_in(alloc, &instance, world),
+        _ => false,
+    }
+}
+
+/// The name of the first world whose map is not the expected one.
+fn wrong_world(alloc: Global, worlds: &[World]) -> Option<&'static str> {
+    for world in worlds {
+        if !is_mapped(alloc, world) {
+            return Some(world.name);
+        }
+    }
+    None
 }
 
 #[test]
-fn maps_small_worlds(rt: HostRuntime) -> Result<(), Fail> {
-    let alloc = rt.alloc();
-    for world in WORLDS {
-        let instance = instance_of(alloc, world)?;
-        let map = map_of(alloc, &instance)?;
-        let lines = plain_lines(alloc, map.lines.as_slice())?;
-        assert_eq!(rt; lines.as_slice(), world.lines, "lines of {}", world.name);
-        let names = plain_names(alloc, map.names.as_slice())?;
-        assert_eq!(rt; names.as_slice(), world.names, "names of {}", world.name);
-    }
-    Ok(())
+fn maps_small_worlds(rt: HostRuntime) {
+    assert_eq!(rt; wrong_world(rt.alloc(), WORLDS), None);
 }
 
 /// A run that only makes proposals, one after another.
@@ -233,128 +186,157 @@ fn plain_run(
     Ok(())
 }
 
-/// What groups hold at the end of a run of proposals alone, and how many there were.
-fn plain_end(alloc: Global, instance: &Instance) -> Result<(Vec<(u32, u8, u32)>, u64), NoMemory> {
+/// The map that a run of proposals alone ends with, and how many there were.
+fn plain_end(alloc: Global, instance: &Instance) -> Result<(MapLines, u64), NoMemory> {
     let mut state = State::fresh(alloc, instance)?;
     let mut steps: Steps<Proposals> = Steps::new();
     plain_run(alloc, instance, &mut state, &mut steps)?;
     let map = finish(alloc, instance, state)?;
-    Ok((plain_lines(alloc, map.lines.as_slice())?, steps.count()))
+    Ok((map, steps.count()))
 }
 
-/// What groups hold at the end of a run, and how many proposals it counted.
-fn end(alloc: Global, instance: &Instance) -> Result<(Vec<(u32, u8, u32)>, u64), NoMemory> {
-    let mut state = State::fresh(alloc, instance)?;
-    let mut steps: Steps<Proposals> = Steps::new();
-    run(alloc, instance, &mut state, &mut steps)?;
-    let map = finish(alloc, instance, state)?;
-    Ok((plain_lines(alloc, map.lines.as_slice())?, steps.count()))
-}
+const FIRST_OF_PAIR: &[(u32, u32)] = &[(0, 3), (1, 1)];
 
-/// So many pools of so many units each.
-fn pools(alloc: Global, count: u32, units: u32) -> Result<Vec<Node>, NoMemory> {
-    let mut nodes = Vec::new(alloc);
-    for _pool in 0..count {
-        nodes.push(Node {
-            capacity: u64::from(units),
-            parent: None,
-            is_pool: true,
-        })?;
-    }
-    Ok(nodes)
-}
+const SECOND_OF_PAIR: &[(u32, u32)] = &[(1, 2), (0, 1)];
 
-/// A pool and a score.
-fn choice(pool: u32, score: u32) -> Choice {
-    Choice {
-        pool: NodeId(pool),
-        score,
-    }
-}
+const THIRD_OF_PAIR: &[(u32, u32)] = &[(0, 2)];
 
 /// Two pools and two groups, each of which fills one. A pool likes best the group that likes it least.
 /// The one unit of a third group comes between.
-fn pair(alloc: Global, units: u32) -> Result<Instance, Fail> {
+fn pair(alloc: Global, units: u32) -> Option<Instance> {
+    let room = u64::from(units);
+    let nodes: [NodeAt; 2] = [(room, None, POOL), (room, None, POOL)];
+    let groups: [GroupAt; 3] = [
+        (units, FIRST_OF_PAIR),
+        (units, SECOND_OF_PAIR),
+        (1, THIRD_OF_PAIR),
+    ];
+    instance_of(alloc, &nodes, &groups).ok()?
+}
+
+/// The pools in turn from that one on, each with a lower score.
+fn ring_list(alloc: Global, first: u32) -> Option<Vec<Choice>> {
+    let mut choices = Vec::new(alloc);
+    for place in 0..10u32 {
+        let pool = NodeId((first % 10 + place) % 10);
+        let score = 10 - place;
+        choices.push(Choice { pool, score }).ok()?;
+    }
+    Some(choices)
+}
+
+fn ring_group(alloc: Global, units: u32, first: u32) -> Option<ClientGroup> {
+    Some(ClientGroup::new(units, ring_list(alloc, first)?))
+}
+
+/// A group of one unit, which the first pool likes best.
+fn one_more(alloc: Global) -> Option<ClientGroup> {
+    let (pool, score) = (NodeId(0), 0);
+    let choices = vec![in alloc; Choice { pool, score }].ok()?;
+    Some(ClientGroup::new(1, choices))
+}
+
+fn ring_groups(alloc: Global, units: u32) -> Option<Vec<ClientGroup>> {
     let mut groups = Vec::new(alloc);
-    let first = vec![in alloc; choice(0, 3), choice(1, 1)]?;
-    groups.push(ClientGroup::new(units, first))?;
-    let second = vec![in alloc; choice(1, 2), choice(0, 1)]?;
-    groups.push(ClientGroup::new(units, second))?;
-    let third = vec![in alloc; choice(0, 2)]?;
-    groups.push(ClientGroup::new(1, third))?;
-    Ok(Instance::try_from_rows(groups, pools(alloc, 2, units)?).ok_or("no instance")?)
+    for first in 0..10u32 {
+        groups.push(ring_group(alloc, units, first)?).ok()?;
+    }
+    groups.push(one_more(alloc)?).ok()?;
+    Some(groups)
+}
+
+fn ring_nodes(alloc: Global, units: u32) -> Option<Vec<Node>> {
+    let pool = Node {
+        capacity: u64::from(units),
+        parent: None,
+        is_pool: true,
+    };
+    vec![in alloc; pool; 10].ok()
 }
 
 /// Ten pools in a ring, and ten groups that ask them in turn, each from another one on. A pool likes
 /// best the group that comes to it last. One more group has a unit that the first pool likes best.
-fn ring(alloc: Global, units: u32) -> Result<Instance, Fail> {
-    let mut groups = Vec::new(alloc);
-    for g in 0..10u32 {
-        let mut choices = Vec::new(alloc);
-        for place in 0..10u32 {
-            choices.push(choice((g + place) % 10, 10 - place))?;
+fn ring(alloc: Global, units: u32) -> Option<Instance> {
+    Instance::try_from_rows(ring_groups(alloc, units)?, ring_nodes(alloc, units)?)
+}
+
+/// Whether a run over an instance ends with these lines, after so many proposals where a number is stated.
+fn ends_so(alloc: Global, instance: &Instance, lines: &[Placed], proposals: Option<u64>) -> bool {
+    match end(alloc, instance) {
+        Ok((map, count)) => {
+            are_lines(map.lines.as_slice(), lines) && count == proposals.unwrap_or(count)
         }
-        groups.push(ClientGroup::new(units, choices))?;
+        Err(_) => false,
     }
-    groups.push(ClientGroup::new(1, vec![in alloc; choice(0, 0)]?))?;
-    Ok(Instance::try_from_rows(groups, pools(alloc, 10, units)?).ok_or("no instance")?)
+}
+
+/// Whether each group of the pair stands whole in its last pool, after the proposals of two groups for each unit.
+fn pair_turns(alloc: Global, units: u32) -> bool {
+    match pair(alloc, units) {
+        Some(instance) => {
+            let proposals = u64::from(units) * 2 + 3;
+            ends_so(
+                alloc,
+                &instance,
+                &[(0, 1, units), (1, 1, units)],
+                Some(proposals),
+            )
+        }
+        None => false,
+    }
 }
 
 /// Each group of the ring stands whole in its last pool, but the one that has to share that.
-fn ring_lines(alloc: Global, units: u32) -> Result<Vec<(u32, u8, u32)>, NoMemory> {
-    let mut lines = Vec::new(alloc);
-    for g in 0..10u32 {
-        lines.push((
-            g,
-            9,
-            if g == 1 {
-                units.saturating_sub(1)
-            } else {
-                units
-            },
-        ))?;
+fn ring_lines(units: u32) -> [Placed; 11] {
+    let mut lines = [(0, 9, units); 11];
+    for (g, line) in lines.iter_mut().enumerate() {
+        line.0 = g as u32;
     }
-    lines.push((10, 0, 1))?;
-    Ok(lines)
+    lines[1].2 = units.saturating_sub(1);
+    lines[10] = (10, 0, 1);
+    lines
+}
+
+fn ring_turns(alloc: Global, units: u32) -> bool {
+    match ring(alloc, units) {
+        Some(instance) => ends_so(alloc, &instance, &ring_lines(units), None),
+        None => false,
+    }
 }
 
 // The third group's unit displaces one of the first group, which displaces one of the second, and so
 // on: each of the two offers units at its last pool as often as it has units.
 #[test]
-fn turns_the_pair(rt: HostRuntime) -> Result<(), Fail> {
-    let alloc = rt.alloc();
-    for units in [50, u32::MAX] {
-        let instance = pair(alloc, units)?;
-        let (lines, proposals) = end(alloc, &instance)?;
-        assert_eq!(rt; lines.as_slice(), [(0, 1, units), (1, 1, units)].as_slice());
-        assert_eq!(rt; proposals, 2 * u64::from(units) + 3);
-    }
-    Ok(())
+fn turns_the_pair(rt: HostRuntime) {
+    assert!(rt; pair_turns(rt.alloc(), 50));
+    assert!(rt; pair_turns(rt.alloc(), u32::MAX));
 }
 
 #[test]
-fn turns_the_ring(rt: HostRuntime) -> Result<(), Fail> {
-    let alloc = rt.alloc();
-    for units in [40, u32::MAX] {
-        let instance = ring(alloc, units)?;
-        let (lines, _proposals) = end(alloc, &instance)?;
-        let expected = ring_lines(alloc, units)?;
-        assert_eq!(rt; lines.as_slice(), expected.as_slice());
+fn turns_the_ring(rt: HostRuntime) {
+    assert!(rt; ring_turns(rt.alloc(), 40));
+    assert!(rt; ring_turns(rt.alloc(), u32::MAX));
+}
+
+/// Whether a run and one of proposals alone end with the same lines; after as many proposals, too, where that is asked.
+fn both_end_so(alloc: Global, instance: &Instance, counts: bool) -> bool {
+    match (end(alloc, instance), plain_end(alloc, instance)) {
+        (Ok((map, count)), Ok((plain, counted))) => {
+            map.lines.as_slice() == plain.lines.as_slice() && (!counts || count == counted)
+        }
+        _ => false,
     }
-    Ok(())
+}
+
+fn ends_as_proposals_do(alloc: Global, instance: Option<Instance>, counts: bool) -> bool {
+    match instance {
+        Some(instance) => both_end_so(alloc, &instance, counts),
+        None => false,
+    }
 }
 
 #[test]
-fn turns_as_proposals_would(rt: HostRuntime) -> Result<(), Fail> {
-    let alloc = rt.alloc();
-    let instance = pair(alloc, 50)?;
-    let (lines, proposals) = end(alloc, &instance)?;
-    let (plain, counted) = plain_end(alloc, &instance)?;
-    assert_eq!(rt; lines.as_slice(), plain.as_slice());
-    assert_eq!(rt; proposals, counted);
-    let instance = ring(alloc, 40)?;
-    let (lines, _proposals) = end(alloc, &instance)?;
-    let (plain, _counted) = plain_end(alloc, &instance)?;
-    assert_eq!(rt; lines.as_slice(), plain.as_slice());
-    Ok(())
+fn turns_as_proposals_would(rt: HostRuntime) {
+    assert!(rt; ends_as_proposals_do(rt.alloc(), pair(rt.alloc(), 50), true));
+    assert!(rt; ends_as_proposals_do(rt.alloc(), ring(rt.alloc(), 40), false));
 }

@@ -25,6 +25,3 @@ pub use limits::{LONGEST_LINE, LONGEST_QUERY, MOST_CHANGES, MOST_TURNS, READ_SIZ
 pub use line::{Line, read_line};
 pub use run::{FeedEnd, Intake, run_lines};
 pub use takes::{Taken, TakesItems};
-
-#[cfg(test)]
-mod tests;

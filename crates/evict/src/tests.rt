@@ -1,22 +1,16 @@
 //! Plays by hand, put by put.
 
-ghost use Rattle.std.specs.Prelude.{OnOk};
+ghost use Rattle.std.specs.Prelude.{IfSome};
 ghost use Rattle.evict.specs.Standing.{IsReady};
 
 use crate::{Eviction, Freed, State};
-use map_model::{
-    Choice, ClientGroup, GroupId, Instance, MapLine, Node, NodeId, Offer, Steps, Units,
-};
+use map_model::{GroupId, Instance, MapLine, NodeId, Offer, Steps, Units};
 use std::alloc::Global;
-use std::test::Fail;
+use worlds::{GroupAt, INNER, NodeAt, POOL, Placed, instance_of};
 
 /// What the proposals of these tests are counted as.
 #[derive(Clone, Copy, Debug)]
 struct Proposals;
-
-const POOL: bool = true;
-
-const INNER: bool = false;
 
 /// A group offers all its free units at its pointer, and what is so afterwards.
 struct Turn {
@@ -39,13 +33,11 @@ struct Turn {
 /// Turns on an instance, worked out by hand.
 struct Play {
     name: &'static str,
-    /// Capacity, parent and whether it is a pool.
-    nodes: &'static [(u64, Option<u32>, bool)],
-    /// Demand, and the list of pools with their scores.
-    groups: &'static [(u32, &'static [(u32, u32)])],
+    nodes: &'static [NodeAt],
+    groups: &'static [GroupAt],
     turns: &'static [Turn],
-    /// What is held at the end: group, place and units.
-    lines: &'static [(u32, u8, u32)],
+    /// What is held at the end.
+    lines: &'static [Placed],
 }
 
 const PLAYS: &[Play] = &[
@@ -147,51 +139,29 @@ const PLAYS: &[Play] = &[
     },
 ];
 
-/// The instance of a play.
-fn instance_of(alloc: Global, play: &Play) -> Result<Instance, Fail> {
-    let mut groups = Vec::new(alloc);
-    for &(demand, list) in play.groups {
-        let mut choices = Vec::new(alloc);
-        for &(pool, score) in list {
-            choices.push(Choice {
-                pool: NodeId(pool),
-                score,
-            })?;
-        }
-        groups.push(ClientGroup::new(demand, choices))?;
-    }
-    let mut nodes = Vec::new(alloc);
-    for &(capacity, parent, is_pool) in play.nodes {
-        nodes.push(Node {
-            capacity,
-            parent: parent.map(NodeId),
-            is_pool,
-        })?;
-    }
-    Ok(Instance::try_from_rows(groups, nodes).ok_or("no instance")?)
-}
-
-/// Offers all the free units of a group at its pointer, where it has both. Answers them.
+/// Offers all the free units of a group at its pointer, where it has both. Answers them; none where memory is wanting.
 fn offer_all(
     instance: &Instance,
     state: &mut State,
     group: GroupId,
     freed: &mut Freed,
     steps: &mut Steps<Proposals>,
-) -> Result<(u8, Units), Fail>
+) -> Option<(u8, Units)>
     requires { IsReady instance.now state.old }
-    ensures { OnOk result (IsReady instance.now state.new) }
+    ensures { IfSome result (λ _. IsReady instance.now state.new) }
 {
     if group.0 >= instance.groups() {
-        return Err(Fail::from("no such group"));
+        return None;
     }
     let place = state.pointer(group);
     if place >= instance.list_len(group) {
-        return Err(Fail::from("the list has ended"));
+        return None;
     }
     let units = state.free(group);
-    state.put(instance, Offer { group, place }, units, freed, steps)?;
-    Ok((place, units))
+    match state.put(instance, Offer { group, place }, units, freed, steps) {
+        Ok(()) => Some((place, units)),
+        Err(_) => None,
+    }
 }
 
 /// Whether that was given up, in that order.
@@ -207,7 +177,7 @@ fn has_freed(freed: &[Eviction], expected: &[(u32, u8, u64)]) -> bool {
 }
 
 /// Whether that is held.
-fn has_lines(lines: &[MapLine], expected: &[(u32, u8, u32)]) -> bool {
+fn are_lines(lines: &[MapLine], expected: &[Placed]) -> bool {
     for i in 0..lines.len() {
         let line = lines[i];
         if i >= expected.len() || (line.group.0, line.place, line.amount) != expected[i] {
@@ -346,39 +316,71 @@ fn first_wrong(
     steps: &mut Steps<Proposals>,
     freed: &mut Freed,
     turns: &[Turn],
-) -> Result<Option<&'static str>, Fail>
+) -> Option<&'static str>
     requires { IsReady instance.now state.old }
 {
     for turn in turns {
-        let offered = offer_all(instance, state, GroupId(turn.group), freed, steps)?;
+        let Some(offered) = offer_all(instance, state, GroupId(turn.group), freed, steps) else {
+            return Some("no offer");
+        };
         if offered != turn.offered {
-            return Ok(Some("offered"));
+            return Some("offered");
         }
         let wrong = wrong_after(instance, state, freed, turn);
         if wrong.is_some() {
-            return Ok(wrong);
+            return wrong;
         }
     }
-    Ok(None)
+    None
+}
+
+/// Whether a state holds that.
+fn has_lines(alloc: Global, state: &State, expected: &[Placed]) -> bool {
+    match state.lines(alloc) {
+        Ok(lines) => are_lines(lines.as_slice(), expected),
+        Err(_) => false,
+    }
+}
+
+/// What is wrong in the turns of a play and at its end, if anything is.
+fn wrong_over(alloc: Global, instance: &Instance, play: &Play) -> Option<&'static str> {
+    let Ok(mut state) = State::fresh(alloc, instance) else {
+        return Some("memory");
+    };
+    let mut freed = Freed::new(alloc);
+    let mut steps: Steps<Proposals> = Steps::new();
+    let wrong = first_wrong(instance, &mut state, &mut steps, &mut freed, play.turns);
+    if wrong.is_some() {
+        return wrong;
+    }
+    if steps.count() != play.turns.len() as u64 {
+        return Some("steps");
+    }
+    if !has_lines(alloc, &state, play.lines) {
+        return Some("lines");
+    }
+    None
+}
+
+/// What is wrong in a play, if anything is.
+fn wrong_in(alloc: Global, play: &Play) -> Option<&'static str> {
+    match instance_of(alloc, play.nodes, play.groups) {
+        Ok(Some(instance)) => wrong_over(alloc, &instance, play),
+        _ => Some("no instance"),
+    }
+}
+
+/// The name of the first play in which something is wrong, and what.
+fn wrong_play(alloc: Global, plays: &[Play]) -> Option<(&'static str, &'static str)> {
+    for play in plays {
+        if let Some(wrong) = wrong_in(alloc, play) {
+            return Some((play.name, wrong));
+        }
+    }
+    None
 }
 
 #[test]
-fn plays_by_hand(rt: HostRuntime) -> Result<(), Fail> {
-    let alloc = rt.alloc();
-    for play in PLAYS {
-        let instance = instance_of(alloc, play)?;
-        let mut state = State::fresh(alloc, &instance)?;
-        let mut freed = Freed::new(alloc);
-        let mut steps: Steps<Proposals> = Steps::new();
-        let wrong = first_wrong(&instance, &mut state, &mut steps, &mut freed, play.turns)?;
-        assert_eq!(rt; wrong, None, "in {}", play.name);
-        assert_eq!(rt; steps.count(), play.turns.len() as u64);
-        let lines = state.lines(alloc)?;
-        assert!(rt;
-            has_lines(lines.as_slice(), play.lines),
-            "lines of {}",
-            play.name
-        );
-    }
-    Ok(())
+fn plays_by_hand(rt: HostRuntime) {
+    assert_eq!(rt; wrong_play(rt.alloc(), PLAYS), None);
 }

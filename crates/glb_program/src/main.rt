@@ -4,36 +4,18 @@
 ghost use Rattle.std.specs.Prelude.{◌≡◌, ◌^◌, length};
 ghost use Rattle.std.specs.Process.{exit_status};
 ghost use Rattle.command_line.specs.Asked.{texts};
-ghost use Rattle.glb_program.specs.Outcome.{code_of};
-ghost use Rattle.glb_program.specs.Ran.{HasRun};
-ghost use Rattle.glb_program.specs.Words.{asked};
+ghost use Rattle.glb.specs.Outcome.{code_of};
+ghost use Rattle.glb.specs.Ran.{HasRun};
+ghost use Rattle.glb.specs.Words.{asked};
 
-mod answer;
-mod check;
-mod ending;
-mod files;
-mod glb;
-mod large;
-mod map;
 mod network;
-#[cfg(test)]
-mod quiet;
-mod repair;
-mod saying;
-mod serve;
-mod starting;
-mod status;
-mod text;
-mod words;
 
-pub use drive::Lane;
 use edges::{FileShelf, FlagPace, SharedUdp, StandardStream, StopFlag, StreamSink, StreamSource};
-pub use glb::glb;
+use glb::{Lane, Status, glb};
 use map_cell::PlainDoor;
 use network::udp_lanes;
 use no_memory::NoMemory;
 use outside::{Gate, Pace, Port};
-pub use status::Status;
 use std::env;
 use std::io::{ErrorKind, Stderr, Stdin, Stdout};
 use std::process::ExitCode;

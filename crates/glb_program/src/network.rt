@@ -1,8 +1,8 @@
 //! Lanes that serve a network: ports of UDP over one socket, gates that one flag stops, and plain doors.
 ghost use Rattle.std.specs.Prelude.{◌≡◌, IfOk, vec_len};
 
-use drive::Lane;
 use edges::{FlagGate, SharedUdp, StopFlag, UdpPort};
+use glb::Lane;
 use map_cell::PlainDoor;
 use no_memory::NoMemory;
 use std::alloc::Global;

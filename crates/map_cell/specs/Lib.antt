@@ -4,5 +4,4 @@ pub mod Rules
 pub mod Tags
 pub mod Asks
 pub mod Cell
-pub mod Examples
 pub mod Doors

@@ -10,8 +10,6 @@ mod publisher;
 mod rule;
 mod sealed;
 mod tag;
-#[cfg(test)]
-mod tests;
 mod viewer;
 
 pub use door::{CellFault, Door, MemDoor, OpenFault, PlainDoor};

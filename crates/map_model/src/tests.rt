@@ -2,194 +2,260 @@
 
 use crate::{Choice, ClientGroup, GroupId, Instance, Key, Node, NodeId, Offer};
 use std::alloc::Global;
-use std::test::Fail;
 
-fn root(capacity: u64) -> Node {
-    Node {
-        capacity,
-        parent: None,
-        is_pool: false,
+/// Capacity, parent and whether it is a pool.
+type NodeRow = (u64, Option<u32>, bool);
+
+/// Pools with their scores.
+type List = &'static [(u32, u32)];
+
+/// Demand and list.
+type GroupRow = (u32, List);
+
+const POOL: bool = true;
+
+const INNER: bool = false;
+
+// The builders here answer none where memory is wanting.
+
+fn nodes_of(alloc: Global, rows: &[NodeRow]) -> Option<Vec<Node>> {
+    let mut nodes = Vec::new(alloc);
+    for &(capacity, parent, is_pool) in rows {
+        let parent = parent.map(NodeId);
+        nodes
+            .push(Node {
+                capacity,
+                parent,
+                is_pool,
+            })
+            .ok()?;
     }
+    Some(nodes)
 }
 
-fn pool(parent: u32, capacity: u64) -> Node {
-    Node {
-        capacity,
-        parent: Some(NodeId(parent)),
-        is_pool: true,
+fn choices_of(alloc: Global, rows: &[(u32, u32)]) -> Option<Vec<Choice>> {
+    let mut choices = Vec::new(alloc);
+    for &(pool, score) in rows {
+        let pool = NodeId(pool);
+        choices.push(Choice { pool, score }).ok()?;
     }
+    Some(choices)
 }
 
-fn choice(pool: u32, score: u32) -> Choice {
-    Choice {
-        pool: NodeId(pool),
-        score,
+fn groups_of(alloc: Global, rows: &[GroupRow]) -> Option<Vec<ClientGroup>> {
+    let mut groups = Vec::new(alloc);
+    for &(demand, list) in rows {
+        let choices = choices_of(alloc, list)?;
+        groups.push(ClientGroup::new(demand, choices)).ok()?;
     }
+    Some(groups)
 }
 
-fn group(alloc: Global, demand: u32, choices: &[Choice]) -> Result<ClientGroup, Fail> {
-    Ok(ClientGroup::new(demand, choices.to_vec(alloc)?))
+// R 15; A 10 and B 11 under R; g1 8 [A,B] 1,2; g2 6 [B,A] 3,4.
+const NODES: &[NodeRow] = &[(15, None, INNER), (10, Some(0), POOL), (11, Some(0), POOL)];
+
+const GROUPS: &[GroupRow] = &[(8, &[(1, 1), (2, 2)]), (6, &[(2, 3), (1, 4)])];
+
+fn two_groups(alloc: Global) -> Option<Instance> {
+    Instance::try_from_rows(groups_of(alloc, GROUPS)?, nodes_of(alloc, NODES)?)
 }
 
-fn is_instance(
-    alloc: Global,
-    nodes: &[Node],
-    demand: u32,
-    choices: &[Choice],
-) -> Result<bool, Fail> {
-    let groups = vec![in alloc; group(alloc, demand, choices)?]?;
-    Ok(Instance::try_from_rows(groups, nodes.to_vec(alloc)?).is_some())
+fn has_nodes(instance: &Instance) -> bool {
+    instance.nodes() == 3
+        && instance.capacity(NodeId(2)) == 11
+        && instance.parent(NodeId(0)).is_none()
+        && instance.parent(NodeId(2)) == Some(NodeId(0))
 }
 
-// R 15; A 10 and B 10 under R; g1 8 [A,B] 1,2; g2 6 [B,A] 3,4.
-fn two_groups(alloc: Global) -> Result<Instance, Fail> {
-    let groups = vec![in alloc;
-        group(alloc, 8, &[choice(1, 1), choice(2, 2)])?,
-        group(alloc, 6, &[choice(2, 3), choice(1, 4)])?,
-    ]?;
-    let nodes = vec![in alloc; root(15), pool(0, 10), pool(0, 11)]?;
-    Ok(Instance::try_from_rows(groups, nodes).ok_or("no instance")?)
+fn has_groups(instance: &Instance) -> bool {
+    instance.groups() == 2 && instance.demand(GroupId(1)) == 6 && instance.list_len(GroupId(1)) == 2
+}
+
+/// Whether the second group asks A at its second place, with score 4.
+fn has_offer(instance: &Instance) -> bool {
+    let (group, place) = (GroupId(1), 1);
+    let (score, pool) = (4, NodeId(1));
+    let offer = Offer { group, place };
+    if instance.groups() != 2 || instance.list_len(group) != 2 {
+        return false;
+    }
+    instance.pool_at(offer) == pool && instance.key(offer) == Key { score, group, pool }
 }
 
 #[test]
-fn reads_the_parts(rt: HostRuntime) -> Result<(), Fail> {
-    let instance = two_groups(rt.alloc())?;
-    assert_eq!(rt; instance.groups(), 2);
-    assert_eq!(rt; instance.nodes(), 3);
-    assert_eq!(rt; instance.demand(GroupId(1)), 6);
-    assert_eq!(rt; instance.capacity(NodeId(2)), 11);
-    assert_eq!(rt; instance.parent(NodeId(0)), None);
-    assert_eq!(rt; instance.parent(NodeId(2)), Some(NodeId(0)));
-    assert_eq!(rt; instance.list_len(GroupId(1)), 2);
-    let offer = Offer {
-        group: GroupId(1),
-        place: 1,
-    };
-    assert_eq!(rt; instance.pool_at(offer), NodeId(1));
-    let key = Key {
-        score: 4,
-        group: GroupId(1),
-        pool: NodeId(1),
-    };
-    assert_eq!(rt; instance.key(offer), key);
-    Ok(())
+fn reads_the_parts(rt: HostRuntime) {
+    let instance = two_groups(rt.alloc()).expect(&rt, "an instance");
+    assert!(rt; has_nodes(&instance));
+    assert!(rt; has_groups(&instance));
+    assert!(rt; has_offer(&instance));
 }
 
-#[test]
-fn changes_one_number(rt: HostRuntime) -> Result<(), Fail> {
-    let instance = two_groups(rt.alloc())?;
-    assert_eq!(rt; instance.groups(), 2);
-    assert_eq!(rt; instance.nodes(), 3);
-    let mut changed = instance.try_clone()?;
+/// A copy in which the first group asks for four units and B has room for 2^48.
+fn changed(instance: &Instance) -> Option<Instance> {
+    let mut changed = instance.try_clone().ok()?;
+    if changed.groups() != 2 || changed.nodes() != 3 {
+        return None;
+    }
     changed.set_demand(GroupId(0), 4);
     changed.set_capacity(NodeId(2), 1 << 48);
-    let demands = [changed.demand(GroupId(0)), changed.demand(GroupId(1))];
-    assert_eq!(rt; demands, [4, 6]);
-    assert_eq!(rt; changed.capacity(NodeId(1)), 10);
-    assert_eq!(rt; changed.capacity(NodeId(2)), 1 << 48);
-    assert_eq!(rt; instance.demand(GroupId(0)), 8);
-    assert_eq!(rt; instance.capacity(NodeId(2)), 11);
-    Ok(())
+    Some(changed)
+}
+
+/// Whether the groups ask for so much, and the pools have that room.
+fn has_numbers(instance: &Instance, demands: [u32; 2], rooms: [u64; 2]) -> bool {
+    if instance.groups() != 2 || instance.nodes() != 3 {
+        return false;
+    }
+    [instance.demand(GroupId(0)), instance.demand(GroupId(1))] == demands
+        && [instance.capacity(NodeId(1)), instance.capacity(NodeId(2))] == rooms
 }
 
 #[test]
-fn takes_only_instances(rt: HostRuntime) -> Result<(), Fail> {
-    let alloc = rt.alloc();
-    let flat = [pool_root(10), pool_root(20)];
-    let both = [choice(0, 1), choice(1, 1)];
-    assert!(rt; is_instance(alloc, &flat, 1, &both)?);
-    assert!(rt; is_instance(alloc, &flat, u32::MAX, &both)?);
-    assert!(rt; !is_instance(alloc, &flat, 0, &both)?, "no demand");
-    assert!(rt; !is_instance(alloc, &flat, 1, &[])?, "no list");
-    assert!(rt;
-        !is_instance(alloc, &flat, 1, &[choice(2, 1)])?,
-        "no such pool"
-    );
-    assert!(rt;
-        !is_instance(alloc, &flat, 1, &[choice(1, 1), choice(1, 2)])?,
-        "a pool twice"
-    );
-    let tree = [root(10), pool(0, 1 << 48)];
-    assert!(rt; is_instance(alloc, &tree, 1, &[choice(1, 1)])?);
-    assert!(rt;
-        !is_instance(alloc, &tree, 1, &[choice(0, 1)])?,
-        "not a pool"
-    );
-    let large = [pool_root((1 << 48) + 1)];
-    assert!(rt;
-        !is_instance(alloc, &large, 1, &[choice(0, 1)])?,
-        "a large capacity"
-    );
-    let upward = [pool(1, 5), root(5)];
-    assert!(rt;
-        !is_instance(alloc, &upward, 1, &[choice(0, 1)])?,
-        "a later parent"
-    );
-    let own = [pool(0, 5)];
-    assert!(rt;
-        !is_instance(alloc, &own, 1, &[choice(0, 1)])?,
-        "its own parent"
-    );
-    let pools = [pool_root(5), pool(0, 5)];
-    assert!(rt;
-        !is_instance(alloc, &pools, 1, &[choice(1, 1)])?,
-        "a pool as parent"
-    );
-    Ok(())
+fn changes_one_number(rt: HostRuntime) {
+    let instance = two_groups(rt.alloc()).expect(&rt, "an instance");
+    let changed = changed(&instance).expect(&rt, "a copy");
+    assert!(rt; has_numbers(&changed, [4, 6], [10, 1 << 48]));
+    assert!(rt; has_numbers(&instance, [8, 6], [10, 11]));
 }
 
-fn pool_root(capacity: u64) -> Node {
-    Node {
-        capacity,
+/// Nodes, the demand and the list of the one group, whether they are an instance, and what is tried.
+type Row = (&'static [NodeRow], u32, List, bool, &'static str);
+
+const FLAT: &[NodeRow] = &[(10, None, POOL), (20, None, POOL)];
+
+const TREE: &[NodeRow] = &[(10, None, INNER), (1 << 48, Some(0), POOL)];
+
+const ROWS: &[Row] = &[
+    (FLAT, 1, &[(0, 1), (1, 1)], true, "two pools"),
+    (FLAT, u32::MAX, &[(0, 1), (1, 1)], true, "the most demand"),
+    (FLAT, 0, &[(0, 1), (1, 1)], false, "no demand"),
+    (FLAT, 1, &[], false, "no list"),
+    (FLAT, 1, &[(2, 1)], false, "no such pool"),
+    (FLAT, 1, &[(1, 1), (1, 2)], false, "a pool twice"),
+    (TREE, 1, &[(1, 1)], true, "a tree"),
+    (TREE, 1, &[(0, 1)], false, "not a pool"),
+    (
+        &[((1 << 48) + 1, None, POOL)],
+        1,
+        &[(0, 1)],
+        false,
+        "a large capacity",
+    ),
+    (
+        &[(5, Some(1), POOL), (5, None, INNER)],
+        1,
+        &[(0, 1)],
+        false,
+        "a later parent",
+    ),
+    (&[(5, Some(0), POOL)], 1, &[(0, 1)], false, "its own parent"),
+    (
+        &[(5, None, POOL), (5, Some(0), POOL)],
+        1,
+        &[(1, 1)],
+        false,
+        "a pool as parent",
+    ),
+];
+
+/// Whether nodes and one group are an instance.
+fn is_instance(alloc: Global, nodes: Vec<Node>, group: ClientGroup) -> Option<bool> {
+    let mut groups = Vec::new(alloc);
+    groups.push(group).ok()?;
+    Some(Instance::try_from_rows(groups, nodes).is_some())
+}
+
+fn row_is_instance(alloc: Global, row: &Row) -> Option<bool> {
+    let (nodes, demand, list, _, _) = row;
+    let group = ClientGroup::new(*demand, choices_of(alloc, *list)?);
+    is_instance(alloc, nodes_of(alloc, *nodes)?, group)
+}
+
+/// What is tried by the first row that is not taken as it says.
+fn wrong_row(alloc: Global, rows: &[Row]) -> Option<&'static str> {
+    for row in rows {
+        if row_is_instance(alloc, row) != Some(row.3) {
+            return Some(row.4);
+        }
+    }
+    None
+}
+
+#[test]
+fn takes_only_instances(rt: HostRuntime) {
+    assert_eq!(rt; wrong_row(rt.alloc(), ROWS), None);
+}
+
+/// A chain of nodes, each under the one before; the last is the pool.
+fn chain(alloc: Global, levels: u32) -> Option<Vec<Node>> {
+    let mut nodes = Vec::new(alloc);
+    for n in 0..levels {
+        nodes
+            .push(Node {
+                capacity: 9,
+                parent: n.checked_sub(1).map(NodeId),
+                is_pool: levels - n == 1,
+            })
+            .ok()?;
+    }
+    Some(nodes)
+}
+
+/// Whether a chain of so many nodes, with a group that asks the last one, is an instance.
+fn chain_is_instance(alloc: Global, levels: u32) -> Option<bool> {
+    let choices = choices_of(alloc, &[(levels.saturating_sub(1), 1)])?;
+    is_instance(alloc, chain(alloc, levels)?, ClientGroup::new(1, choices))
+}
+
+#[test]
+fn takes_eight_levels(rt: HostRuntime) {
+    assert_eq!(rt; chain_is_instance(rt.alloc(), 8), Some(true));
+    assert_eq!(rt; chain_is_instance(rt.alloc(), 9), Some(false));
+}
+
+/// So many pools.
+fn pools(alloc: Global, count: usize) -> Option<Vec<Node>> {
+    let pool = Node {
+        capacity: 1,
         parent: None,
         is_pool: true,
-    }
+    };
+    vec![in alloc; pool; count].ok()
 }
 
-// A chain of nodes, each under the one before; the last is the pool.
-fn chain(alloc: Global, levels: u32) -> Result<Vec<Node>, Fail> {
-    let mut nodes = vec![in alloc; root(9)]?;
-    for n in 1..levels {
-        nodes.push(Node {
-            capacity: 9,
-            parent: Some(NodeId(n - 1)),
-            is_pool: n + 1 == levels,
-        })?;
-    }
-    Ok(nodes)
-}
-
-#[test]
-fn takes_eight_levels(rt: HostRuntime) -> Result<(), Fail> {
-    let alloc = rt.alloc();
-    assert!(rt; is_instance(alloc, chain(alloc, 8)?.as_slice(), 1, &[choice(7, 1)])?);
-    assert!(rt; !is_instance(alloc, chain(alloc, 9)?.as_slice(), 1, &[choice(8, 1)])?);
-    Ok(())
-}
-
-#[test]
-fn takes_sixteen_places(rt: HostRuntime) -> Result<(), Fail> {
-    let alloc = rt.alloc();
-    let mut nodes = Vec::new(alloc);
+/// A list of so many.
+fn wide(alloc: Global, count: u32) -> Option<Vec<Choice>> {
     let mut choices = Vec::new(alloc);
-    for n in 0..16 {
-        nodes.push(pool_root(1))?;
-        choices.push(choice(n, 1))?;
+    for n in 0..count {
+        let pool = NodeId(n);
+        choices.push(Choice { pool, score: 1 }).ok()?;
     }
-    assert!(rt; is_instance(alloc, nodes.as_slice(), 1, choices.as_slice())?);
-    nodes.push(pool_root(1))?;
-    choices.push(choice(16, 1))?;
-    assert!(rt; !is_instance(alloc, nodes.as_slice(), 1, choices.as_slice())?);
-    Ok(())
+    Some(choices)
+}
+
+/// Whether so many pools, with a group that asks them all, are an instance.
+fn wide_is_instance(alloc: Global, count: u32) -> Option<bool> {
+    let group = ClientGroup::new(1, wide(alloc, count)?);
+    is_instance(alloc, pools(alloc, count as usize)?, group)
+}
+
+#[test]
+fn takes_sixteen_places(rt: HostRuntime) {
+    assert_eq!(rt; wide_is_instance(rt.alloc(), 16), Some(true));
+    assert_eq!(rt; wide_is_instance(rt.alloc(), 17), Some(false));
+}
+
+/// A key of score, group and pool.
+fn key(score: u32, group: u32, pool: u32) -> Key {
+    Key {
+        score,
+        group: GroupId(group),
+        pool: NodeId(pool),
+    }
 }
 
 #[test]
 fn orders_keys(rt: HostRuntime) {
-    let key = |score: u32, group: u32, pool: u32| Key {
-        score,
-        group: GroupId(group),
-        pool: NodeId(pool),
-    };
     assert!(rt; key(1, 9, 9) < key(2, 0, 0));
     assert!(rt; key(1, 1, 9) < key(1, 2, 0));
     assert!(rt; key(1, 1, 1) < key(1, 1, 2));

@@ -6,3 +6,4 @@ mod Followed
 pub mod Counted
 mod Fresh
 pub mod Nexts
+pub mod Opened

@@ -2,9 +2,12 @@
 use Rattle.std.specs.Prelude.{◌≡◌, ℕ, ◌+◌, ◌*◌, List, [], ◌∷◌, ◌++◌, length, sum_by}
 use Rattle.std.specs.List.{range_with_len}
 use Rattle.map_model.specs.declared.change.Change.{Change}
+use Rattle.map_model.specs.declared.lines.MapLine.{MapLine}
 use Rattle.map_model.specs.Market.{Market, choices_of, demand_of}
 use Rattle.map_model.specs.Allocation.{IsGood}
 use Rattle.topology_text.specs.Plan.{Plan}
+use Rattle.evict.specs.Standing.{IsFresh, Standing}
+use Rattle.deferred_accept.specs.Runs.{HasProposed}
 use Rattle.map_cell.specs.Ends.{PublisherState}
 use Rattle.mapper.specs.Control.{IsNext}
 
@@ -19,6 +22,14 @@ pub record IsFirst (t : Plan) (m : PublisherState) : Type 0 where
 -- how often groups may offer in a mapping from scratch: once for each unit of their demand and once more, at each place
 abbrev pub most_offers : Market → ℕ
 most_offers m = sum_by (λ g. length (choices_of m g) * (demand_of m g + 1)) (range_with_len 0 (length m.groups))
+
+-- Proposals lead from nothing held to these lines, and a counter rose by their number.
+pub record IsMapping (m : Market) (lines : List MapLine) (before after : ℕ) : Type 0 where
+  pub start : Standing
+  pub mapped : Standing
+  pub fresh : IsFresh m start
+  pub proposed : HasProposed m start mapped before after
+  pub holds : mapped.lines ≡ lines
 
 -- the version that a batch leads to was published
 pub record IsPublished (old : PublisherState) (changes : List Change) (new : PublisherState) : Type 0 where

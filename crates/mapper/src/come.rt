@@ -14,7 +14,7 @@ ghost use Rattle.mapper.specs.Scenes.{IsAt, Scene, scene};
 ghost use Rattle.mapper.specs.Coming.{BothPut, Came, ComesOf, PutIf, line_for};
 ghost use Rattle.mapper.specs.Texts as text;
 
-use crate::saying::write;
+use crate::saying::write_saying;
 use crate::{Mapping, Saying, Spoken};
 use demand_feed::{Batch, Next};
 use no_memory::NoMemory;
@@ -27,7 +27,7 @@ fn say<K: Sink>(line: &mut Spoken, out: &mut K, saying: &Saying) -> Put
     ensures later { K.faults out.old ≤ K.faults out.new }
     ensures cause { result ≡ Put.Failed → Rose (K.faults out.old) (K.faults out.new) }
 {
-    write(line, saying);
+    write_saying(line, saying);
     out.put(line.as_slice())
 }
 

@@ -8,7 +8,7 @@ ghost use Rattle.map_repair.specs.Asked.{AreAllListed};
 ghost use Rattle.map_repair.specs.Repaired.{IsKept, IsLocal, IsStateOf, IsWithinSpread};
 ghost use Rattle.evict.specs.Standing.{IsReady};
 ghost use Rattle.mapper.specs.Currents.{IsCurrent, IsKeptFor, Makes, version_of};
-ghost use Rattle.mapper.specs.Mappers.{most_offers};
+ghost use Rattle.mapper.specs.Mappers.{IsMapping, most_offers};
 
 use crate::Totals;
 use crate::adding::totals;
@@ -114,6 +114,7 @@ fn mapped<L>(alloc: Global, instance: &Instance, steps: &mut Steps<L>) -> Result
     ensures state { IfOk result (λ kept. IsStateOf instance.now kept.state) }
     ensures ended { IfOk result (λ kept. IsEnded instance.now kept.state.pointers kept.state.free) }
     ensures asked { IfOk result (λ kept. AreAllListed instance.now kept.asked) }
+    ensures counted { IfOk result (λ kept. IsMapping instance.now kept.state.lines steps.old steps.new) }
     ensures steps { OnOk result (steps.new ≤ steps.old + most_offers instance.now) }
     ensures later { steps.old ≤ steps.new }
 {
@@ -133,6 +134,7 @@ pub(crate) fn first_of<L>(
     ensures good { IfOk result (λ f. IsGood topology.now.market f.current.map.lines.items f.current.map.names.items) }
     ensures current { IfOk result (λ f. (serial : ℕ) → IsCurrent (version_of serial topology.now f.current) f.current) }
     ensures kept { IfOk result (λ f. IsKeptFor topology.now.market f.current.map.lines.items f.kept) }
+    ensures counted { IfOk result (λ f. IsMapping topology.now.market f.current.map.lines.items steps.old steps.new) }
     ensures steps { OnOk result (steps.new ≤ steps.old + most_offers topology.now.market) }
     ensures later { steps.old ≤ steps.new }
 {

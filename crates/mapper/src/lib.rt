@@ -13,8 +13,5 @@ mod session;
 
 pub use mapper::Mapper;
 pub use mapping::Mapping;
-pub use saying::{LINE_ROOM, Saying, Spoken, Totals};
+pub use saying::{LINE_ROOM, Saying, Spoken, Totals, write_saying};
 pub use session::run_feed;
-
-#[cfg(test)]
-mod tests;

@@ -1,5 +1,5 @@
 //! The mapper: the newest map of a topology, in a cell.
-ghost use Rattle.std.specs.Prelude.{◌≡◌, ◌≢◌, ◌⊎◌, ◌+◌, ◌-◌, ◌<◌, ◌≤◌, ◌^◌, [], ℕ, All, IfErr, IfOk, OnErr, OnOk, Ok, vec_len};
+ghost use Rattle.std.specs.Prelude.{◌≡◌, ◌≢◌, ◌⊎◌, ◌+◌, ◌-◌, ◌<◌, ◌≤◌, ◌^◌, [], ◌∷◌, ℕ, All, IfErr, IfOk, OnErr, OnOk, Ok, vec_len};
 ghost use mathlib.Core.List.{IsPrefix};
 ghost use Rattle.outside.specs.Faults.{Rose, raised};
 ghost use Rattle.map_model.specs.Batch.{IsBatch};
@@ -8,11 +8,13 @@ ghost use Rattle.demand_feed.specs.declared.limits.TheConstants.{MOST_TURNS};
 ghost use Rattle.published_map.specs.Version.{IsVersion};
 ghost use Rattle.map_cell.specs.declared.door.OpenFault.TheVariants.{CellFault as Shut};
 ghost use Rattle.std.specs.Arc.{arc_value};
+ghost use Rattle.map_model.specs.Allocation.{IsGood};
+ghost use Rattle.published_map.specs.Shared.{LooksUp, plan_of};
 ghost use Rattle.map_cell.specs.Histories.{IsSealed};
 ghost use Rattle.answer_core.specs.Reply.{Replies};
-ghost use Rattle.mapper.specs.Currents.{IsCurrent, IsKeptFor};
+ghost use Rattle.mapper.specs.Currents.{IsCurrent, IsKeptFor, version_of};
 ghost use Rattle.mapper.specs.Feeding.{IsFeed};
-ghost use Rattle.mapper.specs.Mappers.{IsFirst, IsPublished, most_offers};
+ghost use Rattle.mapper.specs.Mappers.{IsFirst, IsMapping, IsPublished, most_offers};
 ghost use Rattle.mapper.specs.Scenes.{scene};
 ghost use Rattle.mapper.specs.Words.{map_text, reply_by, totals_of};
 
@@ -65,32 +67,85 @@ struct Prepared {
     version: MapVersion,
 }
 
+/// The topology, and what its versions share.
+type Sharing = (Arc<Topology>, Arc<Shared>);
+
+/// A shared value of the topology with its lookup.
+fn shared_of(
+    alloc: Global,
+    topology: &Arc<Topology>,
+    lookup: Lookup,
+) -> Result<Arc<Shared>, NoMemory>
+    ensures { IfOk result (λ s. (arc_value (arc_value s).topology ≡ arc_value topology.now) × ((arc_value s).lookup ≡ lookup)) }
+{
+    let topology = Arc::try_clone(topology)?;
+    Ok(Arc::new(alloc, Shared { topology, lookup })?)
+}
+
+/// The topology, and what its versions share.
+fn share(alloc: Global, topology: Topology) -> Result<Sharing, NoMemory>
+    ensures plan { IfOk result (λ r. (arc_value r.0 ≡ topology) × (plan_of (arc_value r.1) ≡ topology)) }
+    ensures lookup { IfOk result (λ r. LooksUp (arc_value r.1)) }
+{
+    let lookup = Lookup::build(alloc, topology.prefixes())?;
+    let topology = Arc::new(alloc, topology)?;
+    let shared = shared_of(alloc, &topology, lookup)?;
+    Ok((topology, shared))
+}
+
+/// What an opening needs, of a first map.
+fn prepare_first(
+    alloc: Global,
+    topology: Topology,
+    intake: Intake,
+    first: First,
+) -> Result<Prepared, NoMemory>
+    requires instance { first.current.instance ≡ topology.market }
+    requires good { IsGood topology.market first.current.map.lines.items first.current.map.names.items }
+    requires current { (serial : ℕ) → IsCurrent (version_of serial topology first.current) first.current }
+    requires kept { IsKeptFor topology.market first.current.map.lines.items first.kept }
+    ensures plan { IfOk result (λ p. (arc_value p.topology ≡ topology) × (p.version.plan ≡ topology)) }
+    ensures version { IfOk result (λ p. IsVersion p.version × (p.version.serial ≡ 0) × (p.version.market ≡ topology.market)) }
+    ensures first { IfOk result (λ p. IsFirst topology (record { history = p.version ∷ []; newest = p.version })) }
+    ensures lines { IfOk result (λ p. p.version.lines ≡ first.current.map.lines.items) }
+    ensures current { IfOk result (λ p. IsCurrent p.version p.first.current) }
+    ensures kept { IfOk result (λ p. IsKeptFor p.version.market p.version.lines p.first.kept) }
+{
+    match share(alloc, topology) {
+        Err(NoMemory) => Err(NoMemory),
+        Ok((topology, shared)) => {
+            let current = &first.current;
+            match MapVersion::make(alloc, 0, &current.instance, &current.map, shared) {
+                Err(NoMemory) => Err(NoMemory),
+                Ok(version) => Ok(Prepared {
+                    topology,
+                    intake,
+                    first,
+                    version,
+                }),
+            }
+        }
+    }
+}
+
 /// Maps a topology from scratch, and takes all room that a feed needs.
 fn prepare<L>(alloc: Global, topology: Topology, steps: &mut Steps<L>) -> Result<Prepared, NoMemory>
     ensures plan { IfOk result (λ p. (arc_value p.topology ≡ topology) × (p.version.plan ≡ topology)) }
     ensures version { IfOk result (λ p. IsVersion p.version × (p.version.serial ≡ 0) × (p.version.market ≡ topology.market)) }
+    ensures first { IfOk result (λ p. IsFirst topology (record { history = p.version ∷ []; newest = p.version })) }
     ensures current { IfOk result (λ p. IsCurrent p.version p.first.current) }
     ensures kept { IfOk result (λ p. IsKeptFor p.version.market p.version.lines p.first.kept) }
+    ensures counted { IfOk result (λ p. IsMapping topology.market p.version.lines steps.old steps.new) }
     ensures steps { OnOk result (steps.new ≤ steps.old + most_offers topology.market) }
     ensures later { steps.old ≤ steps.new }
 {
-    let intake = Intake::new(alloc)?;
-    let lookup = Lookup::build(alloc, topology.prefixes())?;
-    let first = first_of(alloc, &topology, steps)?;
-    let topology = Arc::new(alloc, topology)?;
-    let shared = Shared {
-        topology: Arc::try_clone(&topology)?,
-        lookup,
-    };
-    let shared = Arc::new(alloc, shared)?;
-    let current = &first.current;
-    let version = MapVersion::make(alloc, 0, &current.instance, &current.map, shared)?;
-    Ok(Prepared {
-        topology,
-        intake,
-        first,
-        version,
-    })
+    match Intake::new(alloc) {
+        Err(NoMemory) => Err(NoMemory),
+        Ok(intake) => match first_of(alloc, &topology, steps) {
+            Err(NoMemory) => Err(NoMemory),
+            Ok(first) => prepare_first(alloc, topology, intake, first),
+        },
+    }
 }
 
 impl<J: Naming> Mapper<J> {
@@ -120,6 +175,7 @@ impl<J: Naming> Mapper<J> {
         ensures later { D.faults door.old ≤ D.faults door.new }
         ensures cause { IfErr result (λ e. e ≡ Shut → Rose (D.faults door.old) (D.faults door.new)) }
         ensures stays { OnOk result (D.faults door.new ≡ D.faults door.old) }
+        ensures counted { IfOk result (λ r. IsMapping topology.market r.0.newest.lines steps.old steps.new) }
         ensures steps { OnOk result (steps.new ≤ steps.old + most_offers topology.market) }
         ensures steps_later { steps.old ≤ steps.new }
     {
@@ -132,7 +188,10 @@ impl<J: Naming> Mapper<J> {
             first,
             version,
         } = prepared;
-        let (publisher, seats) = map_cell::open(rt, alloc, history, version, viewers, door)?;
+        let (publisher, seats) = match map_cell::open(rt, alloc, history, version, viewers, door) {
+            Ok(opened) => opened,
+            Err(fault) => return Err(fault),
+        };
         let maps = Maps::of(alloc, publisher, first);
         Ok((
             Mapper {

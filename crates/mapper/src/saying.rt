@@ -203,7 +203,7 @@ fn write_show(line: &mut Spoken, serial: u64, totals: &Totals)
 }
 
 /// Writes a line of control text in the place of what was written before.
-pub fn write(line: &mut Spoken, saying: &Saying)
+pub fn write_saying(line: &mut Spoken, saying: &Saying)
     ensures { line.new.items ≡ text_of saying.now }
 {
     line.clear();

@@ -6,8 +6,8 @@ ghost use Rattle.name_text.specs.Names.{joined_to};
 use arrayvec::ArrayVec;
 use std::marker::Model;
 
-/// A DNS name, as its octets on the wire without pointers: labels of 1 to 63 octets, each behind an octet with its length, and an octet 0; 1 to 255 octets in all (RFC 1035 section 3.1).
-#[derive(Clone, Debug, Drop, PartialEq, Eq, Hash)]
+/// A DNS name, as its octets on the wire without pointers: labels of 1 to 63 octets, each behind an octet with its length, and an octet 0; 1 to 255 octets in all (RFC 1035 section 3.1). Two names are compared by `same_name`, whatever the case of their letters (RFC 4343), so there is no `==` of octets.
+#[derive(Clone, Debug, Drop)]
 pub struct Name {
     pub(crate) octets: ArrayVec<u8, 255>,
 }

@@ -1,238 +1,380 @@
 //! What is held, beside a plain scan of all offers.
 
-ghost use Rattle.std.specs.Prelude.{◌≡◌};
+ghost use Rattle.std.specs.Prelude.{◌≡◌, IfSome};
 ghost use Rattle.map_model.specs.Allocation.{IsOffer};
 
 use crate::Held;
-use map_model::{
-    Choice, ClientGroup, GroupId, Instance, MapLine, MapLines, Node, NodeId, Offer, Units,
-};
-use no_memory::NoMemory;
+use map_model::{GroupId, Instance, Key, MapLine, MapLines, NodeId, Offer, Units};
 use std::alloc::Global;
-use std::process::Abort;
-use std::test::Fail;
+use worlds::{GroupAt, INNER, NodeAt, POOL, Placed, instance_of};
 
-// R; S under R; A and B under S; C under R; and the root D. All but R and S are pools.
-const PARENTS: [Option<u32>; 6] = [None, Some(0), Some(1), Some(1), Some(0), None];
-
-// The pools and the scores of three groups.
-const LISTS: [&[(u32, u32)]; 3] = [
-    &[(2, 5), (4, 1), (5, 2)],
-    &[(3, 5), (2, 5)],
-    &[(4, 0), (3, 9)],
+/// R; S under R; A and B under S; C under R; and the root D. All but R and S are pools.
+const NODES: &[NodeAt] = &[
+    (9, None, INNER),
+    (9, Some(0), INNER),
+    (9, Some(1), POOL),
+    (9, Some(1), POOL),
+    (9, Some(0), POOL),
+    (9, None, POOL),
 ];
 
-fn instance(alloc: Global) -> Result<Instance, Fail> {
-    let mut nodes = Vec::new(alloc);
-    for (n, parent) in PARENTS.iter().enumerate() {
-        nodes.push(Node {
-            capacity: 9,
-            parent: parent.map(NodeId),
-            is_pool: n >= 2,
-        })?;
-    }
-    let mut groups = Vec::new(alloc);
-    for list in LISTS {
-        let mut choices = Vec::new(alloc);
-        for (pool, score) in list {
-            choices.push(Choice {
-                pool: NodeId(*pool),
-                score: *score,
-            })?;
-        }
-        groups.push(ClientGroup::new(20, choices))?;
-    }
-    Ok(Instance::try_from_rows(groups, nodes).ok_or("no instance")?)
+/// The pools and the scores of three groups.
+const GROUPS: &[GroupAt] = &[
+    (20, &[(2, 5), (4, 1), (5, 2)]),
+    (20, &[(3, 5), (2, 5)]),
+    (20, &[(4, 0), (3, 9)]),
+];
+
+/// The amounts of all offers, in a plain list of three places for each group.
+type Amounts = [Units; 9];
+
+/// The group and the place of the amount with that number.
+fn offer_at(at: u32) -> (u32, u8) {
+    (at / 3, (at % 3) as u8)
 }
 
-/// The plain program: a scan of all offers, with the amounts in a plain list of three places for each group.
-fn scan(
-    rt: &impl Abort,
-    instance: &Instance,
-    amounts: &[Units; 9],
-    node: u32,
-) -> Option<(Offer, Units)> {
-    let mut worst: Option<(Offer, Units)> = None;
-    for (i, units) in amounts.iter().enumerate() {
-        let offer = Offer {
-            group: GroupId((i / 3) as u32),
-            place: (i % 3) as u8,
-        };
-        if *units > 0
-            && stands_under(rt, instance, offer, node)
-            && is_worse(rt, instance, offer, worst)
-        {
-            worst = Some((offer, *units));
-        }
-    }
-    worst
-}
-
-fn assert_offer(rt: &impl Abort, instance: &Instance, offer: Offer)
-    ensures { IsOffer instance.now offer.group.0 offer.place }
+/// An offer of the instance, if it is one.
+fn offer_of(instance: &Instance, group: u32, place: u8) -> Option<Offer>
+    ensures { IfSome result (λ o. IsOffer instance.now o.group.0 o.place) }
 {
-    assert!(rt; offer.group.0 < instance.groups());
-    assert!(rt; offer.place < instance.list_len(offer.group));
+    let group = GroupId(group);
+    if group.0 >= instance.groups() {
+        return None;
+    }
+    if place >= instance.list_len(group) {
+        return None;
+    }
+    Some(Offer { group, place })
 }
 
-fn stands_under(rt: &impl Abort, instance: &Instance, offer: Offer, node: u32) -> bool {
-    assert_offer(rt, instance, offer);
-    let mut at = Some(instance.pool_at(offer));
-    for _step in 0..8u8 {
-        if let Some(n) = at {
-            if n.0 == node {
-                return true;
-            }
-            assert!(rt; n.0 < instance.nodes());
-            at = instance.parent(n);
+/// The node above one, if there is one.
+fn above(instance: &Instance, node: NodeId) -> Option<NodeId> {
+    if node.0 < instance.nodes() {
+        instance.parent(node)
+    } else {
+        None
+    }
+}
+
+fn stands_under(instance: &Instance, pool: NodeId, node: NodeId) -> bool {
+    let mut at = Some(pool);
+    for _step in 0..8usize {
+        let Some(here) = at else {
+            return false;
+        };
+        if here == node {
+            return true;
         }
+        at = above(instance, here);
     }
     false
 }
 
-fn is_worse(
-    rt: &impl Abort,
+/// An offer that holds so many units, with its key.
+type Seat = (Key, Offer, Units);
+
+/// The seat of an offer under a node, if it holds any there.
+fn seat_under(
     instance: &Instance,
-    offer: Offer,
-    worst: Option<(Offer, Units)>,
-) -> bool {
-    assert_offer(rt, instance, offer);
-    match worst {
-        Some((other, _)) => {
-            assert_offer(rt, instance, other);
-            instance.key(offer) > instance.key(other)
-        }
-        None => true,
+    node: NodeId,
+    group: u32,
+    place: u8,
+    units: Units,
+) -> Option<Seat> {
+    let offer = offer_of(instance, group, place)?;
+    if units > 0 && stands_under(instance, instance.pool_at(offer), node) {
+        Some((instance.key(offer), offer, units))
+    } else {
+        None
     }
 }
 
-/// The fast program and the plain one agree at every node and every offer.
-fn compare(rt: &impl Abort, instance: &Instance, held: &Held, amounts: &[Units; 9])
+/// The seat of the greater key.
+fn worse(one: Option<Seat>, other: Option<Seat>) -> Option<Seat> {
+    match (one, other) {
+        (Some(one), Some(other)) => Some(if other.0 > one.0 { other } else { one }),
+        (Some(one), None) => Some(one),
+        (None, other) => other,
+    }
+}
+
+/// The plain program: a scan of all offers.
+fn scan(instance: &Instance, amounts: &Amounts, node: NodeId) -> Option<(Offer, Units)> {
+    let mut worst = None;
+    for (units, at) in amounts.iter().zip(0..9u32) {
+        let (group, place) = offer_at(at);
+        worst = worse(worst, seat_under(instance, node, group, place, *units));
+    }
+    worst.map(|(_, offer, units)| (offer, units))
+}
+
+/// Whether both programs find the same worst offer under a node.
+fn agree_under(instance: &Instance, held: &Held, amounts: &Amounts, node: NodeId) -> bool
+    requires { held.now.market ≡ instance.now }
+{
+    if node.0 >= instance.nodes() {
+        return false;
+    }
+    held.worst_under(node) == scan(instance, amounts, node)
+}
+
+fn agree_under_all(instance: &Instance, held: &Held, amounts: &Amounts) -> bool
     requires { held.now.market ≡ instance.now }
 {
     for node in 0..instance.nodes() {
-        assert!(rt;
-            held.worst_under(NodeId(node)) == scan(rt, instance, amounts, node),
-            "{node}"
-        );
-    }
-    for (i, units) in amounts.iter().enumerate() {
-        let offer = Offer {
-            group: GroupId((i / 3) as u32),
-            place: (i % 3) as u8,
-        };
-        if offer.group.0 < instance.groups() && offer.place < instance.list_len(offer.group) {
-            assert_eq!(rt; held.units(offer), *units);
+        if !agree_under(instance, held, amounts, NodeId(node)) {
+            return false;
         }
     }
+    true
 }
 
-fn put(
-    rt: &impl Abort,
-    instance: &Instance,
-    held: &mut Held,
-    amounts: &mut [Units; 9],
-    group: u32,
-    place: u8,
-    units: u32,
-) -> Result<(), NoMemory>
-    requires { held.old.market ≡ instance.now }
-    ensures { held.new.market ≡ instance.now }
+/// Whether an offer holds so many units.
+fn holds(instance: &Instance, held: &Held, at: u32, units: Units) -> bool
+    requires { held.now.market ≡ instance.now }
 {
-    let offer = Offer {
-        group: GroupId(group),
-        place,
-    };
-    assert_offer(rt, instance, offer);
-    assert!(rt; held.units(offer) < 1000 && units < 1000);
-    held.put(offer, Units::from(units))?;
-    let at = group as usize * 3 + usize::from(place);
-    assert!(rt; at < 9 && amounts[at] < 1000);
-    amounts[at] += Units::from(units);
-    compare(rt, instance, held, amounts);
-    Ok(())
-}
-
-fn take(
-    rt: &impl Abort,
-    instance: &Instance,
-    held: &mut Held,
-    amounts: &mut [Units; 9],
-    group: u32,
-    place: u8,
-    units: u32,
-)
-    requires { held.old.market ≡ instance.now }
-    ensures { held.new.market ≡ instance.now }
-{
-    let offer = Offer {
-        group: GroupId(group),
-        place,
-    };
-    assert_offer(rt, instance, offer);
-    assert!(rt; Units::from(units) <= held.units(offer));
-    held.take(offer, Units::from(units));
-    let at = group as usize * 3 + usize::from(place);
-    assert!(rt; at < 9 && Units::from(units) <= amounts[at]);
-    amounts[at] -= Units::from(units);
-    compare(rt, instance, held, amounts);
-}
-
-fn line(group: u32, place: u8, amount: u32) -> MapLine {
-    MapLine {
-        group: GroupId(group),
-        place,
-        amount,
+    let (group, place) = offer_at(at);
+    match offer_of(instance, group, place) {
+        Some(offer) => held.units(offer) == units,
+        None => units == 0,
     }
 }
 
-/// Puts and takes on a tree of three levels, against the scan after each one.
-#[test]
-fn agrees_with_a_scan(rt: HostRuntime) -> Result<(), Fail> {
-    let alloc = rt.alloc();
-    let instance = instance(alloc)?;
+fn hold_all(instance: &Instance, held: &Held, amounts: &Amounts) -> bool
+    requires { held.now.market ≡ instance.now }
+{
+    for (units, at) in amounts.iter().zip(0..9u32) {
+        if !holds(instance, held, at, *units) {
+            return false;
+        }
+    }
+    true
+}
+
+/// Whether the fast program and the plain one agree at every node and every offer.
+fn agree(instance: &Instance, held: &Held, amounts: &Amounts) -> bool
+    requires { held.now.market ≡ instance.now }
+{
+    agree_under_all(instance, held, amounts) && hold_all(instance, held, amounts)
+}
+
+/// What is put or taken, as in the name.
+#[derive(Clone, Copy, PartialEq, Eq)]
+enum Way {
+    Put,
+    Take,
+}
+
+/// Units of a group at a place of its list that are put or taken.
+type Step = (Way, Placed);
+
+const STEPS: &[Step] = &[
+    (Way::Put, (0, 0, 7)),
+    (Way::Put, (1, 1, 3)),
+    (Way::Put, (2, 1, 2)),
+    (Way::Put, (0, 1, 4)),
+    (Way::Take, (2, 1, 2)),
+    (Way::Put, (1, 0, 1)),
+    (Way::Put, (0, 0, 1)),
+    (Way::Take, (1, 1, 1)),
+    (Way::Take, (1, 1, 2)),
+    (Way::Take, (1, 0, 1)),
+    (Way::Put, (2, 0, 0)),
+    (Way::Put, (1, 1, 9)),
+    (Way::Put, (0, 2, 5)),
+];
+
+/// Puts units, if fewer than a thousand are there and come. It is `false` here and below where memory is wanting.
+fn puts(held: &mut Held, offer: Offer, units: u32) -> bool
+    requires { IsOffer held.old.market offer.group.0 offer.place }
+    ensures { held.new.market ≡ held.old.market }
+{
+    if units >= 1_000 || held.units(offer) >= 1_000 {
+        return false;
+    }
+    held.put(offer, Units::from(units)).is_ok()
+}
+
+/// Takes units, if so many are there.
+fn takes(held: &mut Held, offer: Offer, units: u32) -> bool
+    requires { IsOffer held.old.market offer.group.0 offer.place }
+    ensures { held.new.market ≡ held.old.market }
+{
+    let units = Units::from(units);
+    if units > held.units(offer) {
+        return false;
+    }
+    held.take(offer, units);
+    true
+}
+
+/// The same in the plain list.
+fn note(amounts: &mut Amounts, way: Way, placed: Placed) -> bool {
+    let (group, place, units) = placed;
+    let at = group.saturating_mul(3).saturating_add(u32::from(place));
+    let Some(amount) = amounts.get_mut(at as usize) else {
+        return false;
+    };
+    *amount = match way {
+        Way::Put => amount.saturating_add(Units::from(units)),
+        Way::Take => amount.saturating_sub(Units::from(units)),
+    };
+    true
+}
+
+fn moves(instance: &Instance, held: &mut Held, way: Way, placed: Placed) -> bool
+    requires { held.old.market ≡ instance.now }
+    ensures { held.new.market ≡ instance.now }
+{
+    let (group, place, units) = placed;
+    let Some(offer) = offer_of(instance, group, place) else {
+        return false;
+    };
+    match way {
+        Way::Put => puts(held, offer, units),
+        Way::Take => takes(held, offer, units),
+    }
+}
+
+/// Whether a step can be made and both programs agree after it.
+fn step_agrees(instance: &Instance, held: &mut Held, amounts: &mut Amounts, step: Step) -> bool
+    requires { held.old.market ≡ instance.now }
+    ensures { held.new.market ≡ instance.now }
+{
+    let (way, placed) = step;
+    moves(instance, held, way, placed)
+        && note(amounts, way, placed)
+        && agree(instance, held, amounts)
+}
+
+fn all_agree(instance: &Instance, held: &mut Held, amounts: &mut Amounts, steps: &[Step]) -> bool
+    requires { held.old.market ≡ instance.now }
+    ensures { held.new.market ≡ instance.now }
+{
+    for step in steps {
+        if !step_agrees(instance, held, amounts, *step) {
+            return false;
+        }
+    }
+    true
+}
+
+/// Nothing held.
+fn empty(alloc: Global, instance: &Instance) -> Option<Held>
+    ensures { IfSome result (λ h. h.market ≡ instance.now) }
+{
     let nothing = MapLines {
         lines: Vec::new(alloc),
         names: Vec::new(alloc),
     };
-    let mut held = Held::build(alloc, &instance, &nothing)?;
-    let mut amounts = [0; 9];
-    compare(&rt, &instance, &held, &amounts);
-    put(&rt, &instance, &mut held, &mut amounts, 0, 0, 7)?;
-    put(&rt, &instance, &mut held, &mut amounts, 1, 1, 3)?;
-    put(&rt, &instance, &mut held, &mut amounts, 2, 1, 2)?;
-    put(&rt, &instance, &mut held, &mut amounts, 0, 1, 4)?;
-    take(&rt, &instance, &mut held, &mut amounts, 2, 1, 2);
-    put(&rt, &instance, &mut held, &mut amounts, 1, 0, 1)?;
-    put(&rt, &instance, &mut held, &mut amounts, 0, 0, 1)?;
-    take(&rt, &instance, &mut held, &mut amounts, 1, 1, 1);
-    take(&rt, &instance, &mut held, &mut amounts, 1, 1, 2);
-    take(&rt, &instance, &mut held, &mut amounts, 1, 0, 1);
-    put(&rt, &instance, &mut held, &mut amounts, 2, 0, 0)?;
-    put(&rt, &instance, &mut held, &mut amounts, 1, 1, 9)?;
-    put(&rt, &instance, &mut held, &mut amounts, 0, 2, 5)?;
-    assert_eq!(rt;
-        held.lines(alloc)?.as_slice(),
-        [line(0, 0, 8), line(0, 1, 4), line(0, 2, 5), line(1, 1, 9)].as_slice()
-    );
+    match Held::build(alloc, instance, &nothing) {
+        Ok(held) => Some(held),
+        Err(_) => None,
+    }
+}
+
+/// The same held, built from its lines.
+fn again(alloc: Global, instance: &Instance, held: &Held) -> Option<Held>
+    requires { held.now.market ≡ instance.now }
+    ensures { IfSome result (λ h. h.market ≡ instance.now) }
+{
+    let Ok(lines) = held.lines(alloc) else {
+        return None;
+    };
     let map = MapLines {
-        lines: held.lines(alloc)?,
+        lines,
         names: Vec::new(alloc),
     };
-    let again = Held::build(alloc, &instance, &map)?;
-    compare(&rt, &instance, &again, &amounts);
-    // Under A equal scores go by the group; R sees A before C, whose score is lower.
-    let worst = Some((
-        Offer {
-            group: GroupId(1),
-            place: 1,
-        },
-        9,
-    ));
-    assert_eq!(rt; instance.nodes(), 6);
-    assert!(rt; again.worst_under(NodeId(2)) == worst);
-    assert!(rt; again.worst_under(NodeId(1)) == worst);
-    assert!(rt; again.worst_under(NodeId(0)) == worst);
-    assert!(rt; again.worst_under(NodeId(3)).is_none());
-    Ok(())
+    match Held::build(alloc, instance, &map) {
+        Ok(held) => Some(held),
+        Err(_) => None,
+    }
+}
+
+/// The lines after all steps.
+const LINES: &[Placed] = &[(0, 0, 8), (0, 1, 4), (0, 2, 5), (1, 1, 9)];
+
+fn is_line(line: &MapLine, placed: &Placed) -> bool {
+    (line.group.0, line.place, line.amount) == *placed
+}
+
+fn are_lines(lines: &[MapLine], rows: &[Placed]) -> bool {
+    lines.len() == rows.len()
+        && lines
+            .iter()
+            .zip(rows)
+            .all(|(line, placed)| is_line(line, placed))
+}
+
+fn has_lines(alloc: Global, held: &Held, rows: &[Placed]) -> bool {
+    match held.lines(alloc) {
+        Ok(lines) => are_lines(lines.as_slice(), rows),
+        Err(_) => false,
+    }
+}
+
+/// A node, and the group, the place and the units of the worst offer under it after all steps.
+type WorstRow = (u32, Option<(u32, u8, Units)>);
+
+// Under A equal scores go by the group; R sees A before C, whose score is lower.
+const WORST: &[WorstRow] = &[
+    (2, Some((1, 1, 9))),
+    (1, Some((1, 1, 9))),
+    (0, Some((1, 1, 9))),
+    (3, None),
+];
+
+fn has_worst(instance: &Instance, held: &Held, row: &WorstRow) -> bool
+    requires { held.now.market ≡ instance.now }
+{
+    let (node, want) = row;
+    if *node >= instance.nodes() {
+        return false;
+    }
+    let worst = held.worst_under(NodeId(*node));
+    worst.map(|(offer, units)| (offer.group.0, offer.place, units)) == *want
+}
+
+fn have_worst(instance: &Instance, held: &Held, rows: &[WorstRow]) -> bool
+    requires { held.now.market ≡ instance.now }
+{
+    for row in rows {
+        if !has_worst(instance, held, row) {
+            return false;
+        }
+    }
+    true
+}
+
+/// Whether that is held, and the same built from its lines agrees with the plain list too.
+fn ends_so(alloc: Global, instance: &Instance, held: &Held, amounts: &Amounts) -> bool
+    requires { held.now.market ≡ instance.now }
+{
+    let Some(again) = again(alloc, instance, held) else {
+        return false;
+    };
+    has_lines(alloc, held, LINES)
+        && agree(instance, &again, amounts)
+        && have_worst(instance, &again, WORST)
+}
+
+/// Whether both programs agree at the start, after each step and at the end.
+fn course_agrees(alloc: Global, instance: &Instance) -> bool {
+    let Some(mut held) = empty(alloc, instance) else {
+        return false;
+    };
+    let mut amounts = [0; 9];
+    agree(instance, &held, &amounts)
+        && all_agree(instance, &mut held, &mut amounts, STEPS)
+        && ends_so(alloc, instance, &held, &amounts)
+}
+
+/// Puts and takes on a tree of three levels, against the scan after each one.
+#[test]
+fn agrees_with_a_scan(rt: HostRuntime) {
+    let Ok(Some(instance)) = instance_of(rt.alloc(), NODES, GROUPS) else {
+        assert!(rt; false, "no instance");
+        return;
+    };
+    assert!(rt; course_agrees(rt.alloc(), &instance));
 }

@@ -5,8 +5,6 @@ mod delta;
 mod parts;
 mod row;
 mod shared;
-#[cfg(test)]
-mod tests;
 mod version;
 
 pub use delta::Delta;

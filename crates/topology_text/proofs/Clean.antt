@@ -229,6 +229,7 @@ zone_lists top ms q is there =
       few_services = omega (arith, few_names Services (items_at ms Services));
       services = all_services (items_at ms Services);
       distinct_services = names_apart Services (items_at ms Services) services_list;
+      soa = refl;
     }
 
 -- the zone, which is a table

@@ -7,6 +7,7 @@ pub mod Values
 pub mod Names
 pub mod Prefixes
 pub mod Hosts
+pub mod Soa
 pub mod Plan
 pub mod Kept
 pub mod Topology

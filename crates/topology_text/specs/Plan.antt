@@ -10,6 +10,7 @@ use Rattle.name_text.specs.Names.{is_same, is_under, label_fault}
 use Rattle.name_text.specs.Wire.{wire}
 use Rattle.topology_text.specs.declared.topology.Zone.{Zone}
 use Rattle.topology_text.specs.Hosts.{HostLists, IsHosts, addresses_at}
+use Rattle.topology_text.specs.Soa.{soa_content}
 use Rattle.topology_text.specs.Texts.{is_name}
 
 -- the instance, the zone, and by number the names of nodes and groups and the addresses of nodes; each prefix with its group, in file order
@@ -48,7 +49,7 @@ pub record ArePrefixes (prefixes : List (Prefix × GroupId)) (groups : ℕ) : Ty
 abbrev pub IsService : List ℕ → Type 0
 IsService name = (label : List ℕ) × (label_fault label ≡ None) × (name ≡ wire (label ∷ []))
 
--- a zone: names of at most 64 octets, one to four name servers and at most 64 services, no two the same whatever the case of letters, no name server in the zone, and times that fit 31 bits
+-- a zone: names of at most 64 octets, one to four name servers and at most 64 services, no two the same whatever the case of letters, no name server in the zone, times that fit 31 bits, and the octets of its SOA record's data
 pub record IsZone (z : Zone) : Type 0 where
   pub apex : length z.apex ≤ 64
   pub mname : length z.mname ≤ 64
@@ -63,6 +64,7 @@ pub record IsZone (z : Zone) : Type 0 where
   pub few_services : length z.services ≤ 64
   pub services : All IsService z.services
   pub distinct_services : AllPairs (λ a b. is_same a b ≡ false) z.services
+  pub soa : z.soa ≡ soa_content z.mname z.rname z.serial z.refresh z.retry z.expire z.minimum
 
 -- what holds of every topology
 pub record IsPlan (p : Plan) : Type 0 where

@@ -10,6 +10,7 @@ use Rattle.map_model.specs.declared.instance.GroupId.{GroupId}
 use Rattle.map_model.specs.Market.{Group, Market}
 use Rattle.topology_text.specs.Hosts.{HostLists, IsHosts}
 use Rattle.topology_text.specs.Plan.{IsZone, Plan}
+use Rattle.topology_text.specs.Soa.{soa_content}
 use Rattle.topology_text.specs.Texts.{is_name, v4_address, v6_address, zone_name}
 use Rattle.topology_text.specs.declared.prefixes.PrefixAt.{PrefixAt}
 use Rattle.topology_text.specs.declared.topology.Zone.{Zone}
@@ -68,7 +69,7 @@ abbrev pub zone_number : Option Members → Key → ℕ
 zone_number None k = 0
 zone_number (Some ms) k = natural_in (value_at ms k)
 
--- the zone: each key's value
+-- the zone: each key's value, and the octets that its SOA record has
 abbrev pub zone_of : Option Members → Zone
 zone_of z = record {
   apex = zone_name_at z Apex;
@@ -82,6 +83,7 @@ zone_of z = record {
   ttl = zone_number z Ttl;
   ns = names_in Ns (zone_items z Ns);
   services = names_in Services (zone_items z Services);
+  soa = soa_content (zone_name_at z Mname) (zone_name_at z Rname) (zone_number z Serial) (zone_number z Refresh) (zone_number z Retry) (zone_number z Expire) (zone_number z Minimum);
 }
 
 -- the name of an entry

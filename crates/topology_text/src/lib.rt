@@ -11,6 +11,7 @@ mod prefixes;
 mod read;
 mod rule;
 mod schema;
+mod soa;
 mod texts;
 mod topology;
 mod unknown;
@@ -22,7 +23,5 @@ mod zone;
 pub use fault::TopologyFault;
 pub use read::read_topology;
 pub use schema::{At, Key, Place, Spot};
+pub use soa::SoaContent;
 pub use topology::{Names, Topology, Zone};
-
-#[cfg(test)]
-mod tests;

@@ -12,6 +12,7 @@ use crate::build::{instance, items_in, natural};
 use crate::names::{Entries, text_at};
 use crate::prefixes::PrefixAt;
 use crate::schema::Key;
+use crate::soa::SoaContent;
 use crate::texts::{v4_address, v6_address, zone_name};
 use crate::topology::{Hosts, Names, Topology, Zone};
 use crate::visited::value_of;
@@ -146,18 +147,27 @@ fn zone_of(alloc: Global, zone: Option<&Table>) -> Result<Zone, AllocError>
 {
     let ns = wire_names(alloc, Key::Ns, zone_items(zone, Key::Ns))?;
     let services = wire_names(alloc, Key::Services, zone_items(zone, Key::Services))?;
+    let mname = zone_name_at(zone, Key::Mname);
+    let rname = zone_name_at(zone, Key::Rname);
+    let serial = zone_number(zone, Key::Serial);
+    let refresh = zone_number(zone, Key::Refresh);
+    let retry = zone_number(zone, Key::Retry);
+    let expire = zone_number(zone, Key::Expire);
+    let minimum = zone_number(zone, Key::Minimum);
+    let soa = SoaContent::new(&mname, &rname, serial, refresh, retry, expire, minimum);
     Ok(Zone {
         apex: zone_name_at(zone, Key::Apex),
-        mname: zone_name_at(zone, Key::Mname),
-        rname: zone_name_at(zone, Key::Rname),
-        serial: zone_number(zone, Key::Serial),
-        refresh: zone_number(zone, Key::Refresh),
-        retry: zone_number(zone, Key::Retry),
-        expire: zone_number(zone, Key::Expire),
-        minimum: zone_number(zone, Key::Minimum),
+        mname,
+        rname,
+        serial,
+        refresh,
+        retry,
+        expire,
+        minimum,
         ttl: zone_number(zone, Key::Ttl),
         ns,
         services,
+        soa,
     })
 }
 

@@ -125,7 +125,7 @@ impl Key {
     }
 
     /// Where the key stands among those of its table. Were it wrong, the value would be looked up by the key's text.
-    pub fn place(self) -> usize
+    pub(crate) fn place(self) -> usize
         ensures { result < 11 }
     {
         match self {

@@ -2,6 +2,7 @@
 ghost use Rattle.std.specs.Prelude.{◌≡◌, ◌⊎◌, ◌<◌, length, map, option_map, slice_index_or, []};
 ghost use Rattle.topology_text.specs.Plan.{IsPlan, Plan, addresses_of, number_in};
 
+use crate::soa::SoaContent;
 use addr_text::{Addr, Prefix};
 use indexmap::IndexSet;
 use map_model::{GroupId, Instance, NodeId};
@@ -71,6 +72,8 @@ pub struct Zone {
     pub ns: Names,
     /// The services, at most 64, each a name of one label.
     pub services: Names,
+    /// The data of its SOA record, made once for all replies.
+    pub soa: SoaContent,
 }
 
 /// The addresses of a node, none where it is no pool.

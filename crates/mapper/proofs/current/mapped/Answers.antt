@@ -1,4 +1,4 @@
-use Rattle.std.proofs.Common.{arith}
+use Rattle.std.proofs.Common.{arith, refl}
 use Rattle.mapper.proofs.Fresh.{ended_state, fresh_offers}
 use Rattle.mapper.proofs.current.mapped.Goals as goal
 
@@ -9,3 +9,6 @@ returns-clause-state g c =
 
 pub returns-clause-steps : goal.returns-clause-steps
 returns-clause-steps g c = omega (arith, c.in_ok-run.ensures.steps, fresh_offers c.args.instance.now c.in_ok-state.state c.in_ok-state.ensures.fresh)
+
+pub returns-clause-counted : goal.returns-clause-counted
+returns-clause-counted g c = record { start = c.in_ok-state.state; mapped = c.run.new.state; fresh = c.in_ok-state.ensures.fresh; proposed = c.in_ok-run.ensures.counted; holds = refl }

@@ -1,0 +1,15 @@
+use Rattle.std.proofs.Common.{◌≡◌, ◌∙◌, ◌-◌, ℕ, List, length, take, ap}
+use Rattle.std.specs.List.{list_any}
+use Rattle.name_text.specs.Names.{is_same, labels_part}
+use Rattle.answer_core.proofs.Labels.{by_labels}
+use Rattle.answer_core.proofs.services.is_service.Goals as goal
+
+pub returns : goal.returns
+returns c =
+    let zone = c.args.zone.now in
+    let name = c.args.name.now in
+    let labels : List ℕ = take (length name - length c.wire.result.now) name in
+    let front : labels ≡ take (length name - length zone.apex) name = ap (λ (l : List ℕ). take (length name - length l) name) c.wire.ensures.octets in
+    c.is_any.ensures
+    ∙ ap (λ (services : List (List ℕ)). list_any (λ s. is_same labels (labels_part s)) services) c.as_slice.ensures
+    ∙ by_labels name zone.apex labels zone.services c.requires front

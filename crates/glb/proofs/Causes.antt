@@ -1,0 +1,192 @@
+-- Why lanes were at fault.
+use Rattle.std.proofs.Common.{◌≡◌, ◌⊎◌, inl, inr, ℕ, suc, ◌+◌, ◌<◌, ◌≤◌, Bool, true, false, List, [], ◌∷◌, ◌++◌, length, refl, ap, sym, ◌∙◌, subst, arith}
+use Rattle.std.specs.Prelude.{Option, None, Some, ◌||◌, fold, sum_by}
+use Rattle.std.specs.List.{list_any}
+use Rattle.std.proofs.lemmas.List.Sums.{sum_by_push}
+use Rattle.outside.specs.Faults.{BothTell, Rose, raised}
+use Rattle.outside.specs.Port.{PortTold}
+use Rattle.published_map.specs.Version.{Version}
+use Rattle.lane_model.specs.declared.ended.Ended.{Ended}
+use Rattle.lane_model.specs.declared.ended.Ended.TheVariants as lane
+use Rattle.lane_model.specs.Sessions.{IsEnd}
+use Rattle.lane_model.specs.Turns.{Came, Turn, failures, idle, oversize, ended, failed, took, silent, refused, tried, is_refused, port_after, port_turn, refused_of}
+use Rattle.demand_feed.specs.declared.run.FeedEnd.{FeedEnd}
+use Rattle.demand_feed.specs.declared.run.FeedEnd.TheVariants as feed
+use Rattle.drive.specs.Closing.{shut}
+use Rattle.drive.specs.Done.{IsDone, IsOverNewest, IsOverPast, IsOverSeen, LaneTold}
+use Rattle.drive.specs.Driven.{AreDone}
+use Rattle.glb.specs.declared.status.Status.TheVariants as status
+use Rattle.glb.specs.Causes.{AnyLane, HasCellFault, HasPortFault, HasTaken}
+use Rattle.glb.specs.Serve.{is_cell_fault, is_port_fault, is_spent, status_by, status_of}
+
+is_port : (e : Ended) → is_port_fault e ≡ true → e ≡ lane.PortFault
+is_port lane.PortFault h = refl
+is_port lane.Stopped h = absurd (cc)
+is_port lane.PortEnd h = absurd (cc)
+is_port lane.CellFault h = absurd (cc)
+is_port (lane.Above known newest) h = absurd (cc)
+is_port lane.Spent h = absurd (cc)
+
+is_over : (e : Ended) → is_spent e ≡ true → e ≡ lane.Spent
+is_over lane.Spent h = refl
+is_over lane.Stopped h = absurd (cc)
+is_over lane.PortEnd h = absurd (cc)
+is_over lane.CellFault h = absurd (cc)
+is_over (lane.Above known newest) h = absurd (cc)
+is_over lane.PortFault h = absurd (cc)
+
+-- a closing look that was refused leaves a port's fault and what was spent
+shut_port : (served : Ended) → lane.PortFault ≡ shut served → served ≡ lane.PortFault
+shut_port lane.PortFault h = refl
+shut_port lane.Stopped h = absurd (cc)
+shut_port lane.PortEnd h = absurd (cc)
+shut_port lane.CellFault h = absurd (cc)
+shut_port (lane.Above known newest) h = absurd (cc)
+shut_port lane.Spent h = absurd (cc)
+
+shut_spent : (served : Ended) → lane.Spent ≡ shut served → served ≡ lane.Spent
+shut_spent lane.Spent h = refl
+shut_spent lane.Stopped h = absurd (cc)
+shut_spent lane.PortEnd h = absurd (cc)
+shut_spent lane.CellFault h = absurd (cc)
+shut_spent (lane.Above known newest) h = absurd (cc)
+shut_spent lane.PortFault h = absurd (cc)
+
+served_port : (turns : ℕ) (first : Version) (rest : List Version) (w : ℕ) (b c : LaneTold) → IsDone turns first rest w b c lane.PortFault → HasPortFault b c
+served_port turns first rest w b c d = d.failing (eight (served d.which))
+  where
+    served : IsOverNewest (first ∷ rest) d.over d.log d.served lane.PortFault b c ⊎ IsOverSeen first d.over d.served lane.PortFault b c ⊎ IsOverPast (first ∷ rest) d.over d.log lane.PortFault b c → d.served ≡ lane.PortFault
+    served (inl newest) = sym newest.ended_is
+    served (inr (inl seen)) = shut_port d.served seen.ended_is
+    served (inr (inr past)) = let is = past.ended_is in absurd (cc)
+
+    eight : d.served ≡ lane.PortFault → 0 < failures d.log
+    eight is = let ending : IsEnd turns d.log lane.PortFault = subst (IsEnd turns d.log) is d.ending in omega (arith, ending.1)
+
+-- a port after some turns has given as many answers more
+took_one : (known : ℕ) (came : Came) (p : PortTold) → (port_after known came p).recvs ≡ raised p.recvs 1
+took_one known idle p = refl
+took_one known oversize p = refl
+took_one known ended p = refl
+took_one known failed p = refl
+took_one known (took d silent) p = refl
+took_one known (took d refused) p = refl
+took_one known (took d (tried serial octets went)) p = refl
+
+raised_next : (a n : ℕ) → raised (raised a 1) n ≡ raised a (suc n)
+raised_next a n = omega arith
+
+raised_none : (a : ℕ) → raised a 0 ≡ a
+raised_none a = omega arith
+
+took_all : (log : List Turn) (p : PortTold) → (fold port_turn p log).recvs ≡ raised p.recvs (length log)
+took_all [] p = sym (raised_none p.recvs)
+took_all (t ∷ log) p = took_all log (port_turn p t) ∙ ap (λ n. raised n (length log)) (took_one t.known t.came p) ∙ raised_next p.recvs (length log)
+
+pub tell_weaker : {A : Type 0} (R S : A → A → Type 0) (a b : Option A) → ((x y : A) → R x y → S x y) → BothTell a b R → BothTell a b S
+tell_weaker R S None None f h = tt
+tell_weaker R S (Some x) (Some y) f h = f x y h
+tell_weaker R S None (Some y) f h = absurd h
+tell_weaker R S (Some x) None f h = absurd h
+
+served_spent : (turns : ℕ) (first : Version) (rest : List Version) (w : ℕ) (b c : LaneTold) → IsDone turns first rest w b c lane.Spent → HasTaken turns b c
+served_spent turns first rest w b c d =
+    tell_weaker (λ (p q : PortTold). q ≡ fold port_turn p d.log) (λ (p q : PortTold). q.recvs ≡ raised p.recvs turns) b.port c.port
+    (λ p q h. ap (λ (x : PortTold). x.recvs) h ∙ took_all d.log p ∙ ap (raised p.recvs) (all (served d.which))) d.port
+  where
+    served : IsOverNewest (first ∷ rest) d.over d.log d.served lane.Spent b c ⊎ IsOverSeen first d.over d.served lane.Spent b c ⊎ IsOverPast (first ∷ rest) d.over d.log lane.Spent b c → d.served ≡ lane.Spent
+    served (inl newest) = sym newest.ended_is
+    served (inr (inl seen)) = shut_spent d.served seen.ended_is
+    served (inr (inr past)) = let is = past.ended_is in absurd (cc)
+
+    all : d.served ≡ lane.Spent → length d.log ≡ turns
+    all is = let ending : IsEnd turns d.log lane.Spent = subst (IsEnd turns d.log) is d.ending in ending.2
+
+refused_counts : (came : Came) → is_refused came ≡ true → refused_of came ≡ 1
+refused_counts came h = rw h refl
+
+has_refused : (before : List Turn) (t : Turn) (log : List Turn) → log ≡ before ++ t ∷ [] → is_refused t.came ≡ true → 0 < sum_by (λ t. refused_of t.came) log
+has_refused before t log is h =
+    let count : sum_by (λ t. refused_of t.came) log ≡ sum_by (λ t. refused_of t.came) before + refused_of t.came = ap (sum_by (λ t. refused_of t.came)) is ∙ sum_by_push (λ (t : Turn). refused_of t.came) before t in
+    omega (arith, count, refused_counts t.came h)
+
+served_cell : (turns : ℕ) (first : Version) (rest : List Version) (w : ℕ) (b c : LaneTold) (e : Ended) → is_cell_fault e ≡ true → IsDone turns first rest w b c e → HasCellFault (length (first ∷ rest)) b c
+served_cell turns first rest w b c e fault d = go d.which
+  where
+    refused : (served : Ended) → e ≡ served → IsEnd turns d.log served → Rose b.door_faults c.door_faults
+    refused lane.CellFault is ending = d.refusal (has_refused ending.0 ending.1 d.log ending.2 ending.5)
+    refused (lane.Above known newest) is ending = absurd ending
+    refused lane.Stopped is ending = let no : is_cell_fault lane.Stopped ≡ true = subst (λ (x : Ended). is_cell_fault x ≡ true) is fault in absurd (cc)
+    refused lane.PortEnd is ending = let no : is_cell_fault lane.PortEnd ≡ true = subst (λ (x : Ended). is_cell_fault x ≡ true) is fault in absurd (cc)
+    refused lane.PortFault is ending = let no : is_cell_fault lane.PortFault ≡ true = subst (λ (x : Ended). is_cell_fault x ≡ true) is fault in absurd (cc)
+    refused lane.Spent is ending = let no : is_cell_fault lane.Spent ≡ true = subst (λ (x : Ended). is_cell_fault x ≡ true) is fault in absurd (cc)
+
+    go : IsOverNewest (first ∷ rest) d.over d.log d.served e b c ⊎ IsOverSeen first d.over d.served e b c ⊎ IsOverPast (first ∷ rest) d.over d.log e b c → HasCellFault (length (first ∷ rest)) b c
+    go (inl newest) = inl (refused d.served newest.ended_is d.ending)
+    go (inr (inl seen)) = inl seen.rose
+    go (inr (inr past)) = inr (above past.shown)
+      where
+        above : (c.greatest + 1 ≡ length d.over) ⊎ (length d.over ≤ b.greatest) → length (first ∷ rest) ≤ c.greatest
+        above (inl shown) = omega (arith, shown, past.longer)
+        above (inr shown) = omega (arith, shown, past.longer, d.rising.0)
+
+-- where some lane ended so, some lane has that
+any_done : (test : Ended → Bool) (P : LaneTold → LaneTold → Type 0) (turns : ℕ) (first : Version) (rest : List Version) (w : ℕ) (ends : List Ended) (before after : List LaneTold)
+    → ((w : ℕ) (b c : LaneTold) (e : Ended) → test e ≡ true → IsDone turns first rest w b c e → P b c) → AreDone turns first rest w ends before after → list_any test ends ≡ true → AnyLane (length ends) P before after
+any_done test P turns first rest w [] before after f h some = absurd (cc)
+any_done test P turns first rest w (e ∷ ends) (b ∷ before) (c ∷ after) f h some = go (test e) refl (any_done test P turns first rest (w + 1) ends before after f h.1)
+  where
+    go : (x : Bool) → test e ≡ x → (list_any test ends ≡ true → AnyLane (length ends) P before after) → P b c ⊎ AnyLane (length ends) P before after
+    go true is more = inl (f w b c e is h.0)
+    go false is more = inr (more (subst (λ (y : Bool). (y || list_any test ends) ≡ true) is some))
+any_done test P turns first rest w (e ∷ ends) [] after f h some = absurd h
+any_done test P turns first rest w (e ∷ ends) (b ∷ before) [] f h some = absurd h
+
+pub any_port : (turns : ℕ) (first : Version) (rest : List Version) (ends : List Ended) (before after : List LaneTold) → AreDone turns first rest 0 ends before after → list_any is_port_fault ends ≡ true → AnyLane (length ends) HasPortFault before after
+any_port turns first rest ends before after h some =
+    any_done is_port_fault HasPortFault turns first rest 0 ends before after (λ w b c e is d. served_port turns first rest w b c (subst (IsDone turns first rest w b c) (is_port e is) d)) h some
+
+pub any_spent : (turns : ℕ) (first : Version) (rest : List Version) (ends : List Ended) (before after : List LaneTold) → AreDone turns first rest 0 ends before after → list_any is_spent ends ≡ true → AnyLane (length ends) (HasTaken turns) before after
+any_spent turns first rest ends before after h some =
+    any_done is_spent (HasTaken turns) turns first rest 0 ends before after (λ w b c e is d. served_spent turns first rest w b c (subst (IsDone turns first rest w b c) (is_over e is) d)) h some
+
+pub any_cell : (turns : ℕ) (first : Version) (rest : List Version) (ends : List Ended) (before after : List LaneTold) → AreDone turns first rest 0 ends before after → list_any is_cell_fault ends ≡ true → AnyLane (length ends) (HasCellFault (length (first ∷ rest))) before after
+any_cell turns first rest ends before after h some =
+    any_done is_cell_fault (HasCellFault (length (first ∷ rest))) turns first rest 0 ends before after (λ w b c e is d. served_cell turns first rest w b c e is d) h some
+
+-- what the answers say of the ends
+by_port : (p s c : Bool) → status.PortFault ≡ status_by p s c → p ≡ true
+by_port true s c h = refl
+by_port false true c h = absurd (cc)
+by_port false false true h = absurd (cc)
+by_port false false false h = absurd (cc)
+
+by_spent : (p s c : Bool) → status.Spent ≡ status_by p s c → s ≡ true
+by_spent true s c h = absurd (cc)
+by_spent false true c h = refl
+by_spent false false true h = absurd (cc)
+by_spent false false false h = absurd (cc)
+
+by_cell : (p s c : Bool) → status.CellFault ≡ status_by p s c → c ≡ true
+by_cell true s c h = absurd (cc)
+by_cell false true c h = absurd (cc)
+by_cell false false true h = refl
+by_cell false false false h = absurd (cc)
+
+pub port_means : (end : FeedEnd) (p s c : Bool) → status.PortFault ≡ status_of end p s c → p ≡ true
+port_means feed.Ended p s c h = by_port p s c h
+port_means feed.Spent p s c h = by_port p true c h
+port_means feed.SourceFault p s c h = absurd (cc)
+port_means feed.SinkFault p s c h = absurd (cc)
+
+pub spent_means : (end : FeedEnd) (p s c : Bool) → status.Spent ≡ status_of end p s c → (end ≡ feed.Spent) ⊎ (s ≡ true)
+spent_means feed.Ended p s c h = inr (by_spent p s c h)
+spent_means feed.Spent p s c h = inl refl
+spent_means feed.SourceFault p s c h = absurd (cc)
+spent_means feed.SinkFault p s c h = absurd (cc)
+
+pub cell_means : (end : FeedEnd) (p s c : Bool) → status.CellFault ≡ status_of end p s c → c ≡ true
+cell_means feed.Ended p s c h = by_cell p s c h
+cell_means feed.Spent p s c h = by_cell p true c h
+cell_means feed.SourceFault p s c h = absurd (cc)
+cell_means feed.SinkFault p s c h = absurd (cc)

@@ -1,0 +1,57 @@
+-- Sessions behind the opening of the cell.
+use Rattle.std.proofs.Common.{◌≡◌, ◌⊎◌, inl, inr, ℕ, ◌≤◌, List, length, refl, sym, subst}
+use Rattle.std.specs.Prelude.{Option}
+use Rattle.addr_text.specs.declared.address.Listen.{Listen}
+use Rattle.outside.specs.Faults.{Rose}
+use Rattle.outside.specs.Sink.{Written}
+use Rattle.outside.specs.Source.{Fed}
+use Rattle.outside.specs.declared.pace.PaceCall.{PaceCall}
+use Rattle.lane_model.specs.declared.ended.Ended.{Ended}
+use Rattle.demand_feed.specs.declared.run.FeedEnd.{FeedEnd}
+use Rattle.demand_feed.specs.declared.run.FeedEnd.TheVariants as feed
+use Rattle.published_map.specs.Version.{Version}
+use Rattle.mapper.specs.Words.{map_text}
+use Rattle.drive.specs.Done.{LaneTold}
+use Rattle.drive.specs.Driven.{AreEnds, IsDriven}
+use Rattle.glb.specs.declared.starting.Start.TheVariants as start
+use Rattle.glb.specs.declared.status.Status.{Status}
+use Rattle.glb.specs.declared.status.Status.TheVariants as status
+use Rattle.glb.specs.Serve.{IsFirstSession, IsStarted}
+use Rattle.glb.specs.Starting.{IsStart, status_at}
+use Rattle.glb.specs.Told.{Stage, stage}
+use Rattle.glb.proofs.Served.{is_served}
+
+-- a port failed to open
+pub shut_session : (turns : ℕ) (listen : Listen) (workers : ℕ) (first : Version) (text : List ℕ) (fed : Option Fed) (out maps maps' : Option Written) (pace : Option (List PaceCall)) (lanes lanes' : List LaneTold) (ff of mf mf' : ℕ)
+    → IsStart listen workers text start.NoPort (record { maps = maps; maps_faults = mf; lanes = lanes }) (record { maps = maps'; maps_faults = mf'; lanes = lanes' })
+    → IsFirstSession turns listen workers first (stage fed out maps pace lanes ff of mf) (stage fed out maps' pace lanes' ff of mf') status.PortFault
+shut_session turns listen workers first text fed out maps maps' pace lanes lanes' ff of mf mf' h =
+    inl (record { why = refl; opened = h.0; lent = rw h.1 refl; rest = rw h.2 refl })
+
+-- the put of the first text failed
+pub unput_session : (turns : ℕ) (listen : Listen) (workers : ℕ) (first : Version) (text : List ℕ) (fed : Option Fed) (out maps maps' : Option Written) (pace : Option (List PaceCall)) (lanes lanes' : List LaneTold) (ff of mf mf' : ℕ)
+    → text ≡ map_text first → IsStart listen workers text start.NoSink (record { maps = maps; maps_faults = mf; lanes = lanes }) (record { maps = maps'; maps_faults = mf'; lanes = lanes' })
+    → IsFirstSession turns listen workers first (stage fed out maps pace lanes ff of mf) (stage fed out maps' pace lanes' ff of mf') status.SinkFault
+unput_session turns listen workers first text fed out maps maps' pace lanes lanes' ff of mf mf' is h =
+    let k = subst (λ t. IsStart listen workers t start.NoSink (record { maps = maps; maps_faults = mf; lanes = lanes }) (record { maps = maps'; maps_faults = mf'; lanes = lanes' })) is h in
+    inr (inl (record { why = refl; opened = k.0; cut = k.1; rose = k.2; lent = refl; rest = refl }))
+
+-- the session was started
+pub starts : (listen : Listen) (workers : ℕ) (first : Version) (text : List ℕ) (fed : Option Fed) (out maps maps' : Option Written) (pace : Option (List PaceCall)) (lanes lanes' : List LaneTold) (ff of mf mf' : ℕ)
+    → text ≡ map_text first → IsStart listen workers text start.Ready (record { maps = maps; maps_faults = mf; lanes = lanes }) (record { maps = maps'; maps_faults = mf'; lanes = lanes' })
+    → IsStarted listen workers first (stage fed out maps pace lanes ff of mf) (stage fed out maps' pace lanes' ff of mf')
+starts listen workers first text fed out maps maps' pace lanes lanes' ff of mf mf' is h =
+    let k = subst (λ t. IsStart listen workers t start.Ready (record { maps = maps; maps_faults = mf; lanes = lanes }) (record { maps = maps'; maps_faults = mf'; lanes = lanes' })) is h in
+    record { opened = k.0; put = k.1; later = k.2; lent = refl; rest = refl }
+
+-- it was started, and then memory was wanting
+pub unfed_session : (turns : ℕ) (listen : Listen) (workers : ℕ) (first : Version) (before started after : Stage) → IsStarted listen workers first before started → after ≡ started → IsFirstSession turns listen workers first before after status.NoMemory
+unfed_session turns listen workers first before started after start same = inr (inr (inl (refl, subst (IsStarted listen workers first before) (sym same) start)))
+
+-- it was started and served
+pub served_session : (turns : ℕ) (listen : Listen) (workers : ℕ) (first : Version) (before started after : Stage) (end : FeedEnd) (places : List (Option Ended)) (result : Status) → IsStarted listen workers first before started
+    → (ends : List Ended) × (length ends ≡ workers) × AreEnds ends places × IsDriven turns first end ends started.lent after.lent
+    → result ≡ status_at end places → (end ≡ feed.SourceFault → Rose started.feed_faults after.feed_faults) → (end ≡ feed.SinkFault → Rose started.out_faults after.out_faults ⊎ Rose started.maps_faults after.maps_faults)
+    → (started.feed_faults ≤ after.feed_faults) × (started.out_faults ≤ after.out_faults) × (started.maps_faults ≤ after.maps_faults) → IsFirstSession turns listen workers first before after result
+served_session turns listen workers first before started after end places result start driven answer source sink later =
+    inr (inr (inr (started, start, is_served turns workers first started after end places result driven answer source sink later)))

@@ -1,0 +1,230 @@
+-- Why a session answers a fault of its lanes, from before its opening on.
+use Rattle.std.proofs.Common.{◌≡◌, ◌⊎◌, inl, inr, ℕ, zero, suc, ◌<◌, ◌≤◌, Bool, true, false, List, [], ◌∷◌, length, refl, ap, sym, ◌∙◌, subst, arith, map}
+use Rattle.std.specs.Prelude.{Option, None, Some}
+use Rattle.std.specs.List.{list_any}
+use Rattle.std.proofs.lemmas.List.{length-map}
+use Rattle.addr_text.specs.declared.address.Listen.{Listen}
+use Rattle.outside.specs.Faults.{BothTell, Rose, raised}
+use Rattle.outside.specs.Port.{IsOpen, PortTold}
+use Rattle.outside.specs.Shelf.{Shelved}
+use Rattle.outside.specs.Sink.{Written}
+use Rattle.outside.specs.Source.{Fed}
+use Rattle.outside.specs.declared.port.Opening.{Opening}
+use Rattle.outside.specs.declared.port.Opening.TheVariants as opening
+use Rattle.topology_text.specs.Plan.{Plan}
+use Rattle.published_map.specs.Version.{Version}
+use Rattle.lane_model.proofs.Runs.{tells_on}
+use Rattle.demand_feed.specs.declared.run.FeedEnd.{FeedEnd}
+use Rattle.demand_feed.specs.declared.run.FeedEnd.TheVariants as feed
+use Rattle.mapper.specs.Feeding.{IsFeed}
+use Rattle.mapper.specs.Scenes.{IsPrinted, Scene, scene}
+use Rattle.mapper.specs.Words.{map_text}
+use Rattle.drive.specs.Done.{LaneTold}
+use Rattle.drive.specs.Driven.{Lent}
+use Rattle.glb.specs.declared.status.Status.{Status}
+use Rattle.glb.specs.declared.status.Status.TheVariants as status
+use Rattle.glb.specs.Causes.{AnyLane, AreSpent, HasCellFault, HasDoorFault, HasGiven, HasLaneCauses, HasPortFault, HasShown, HasTaken, IsPastMaps}
+use Rattle.glb.specs.Outcome.{Outcome, RunsBy}
+use Rattle.glb.specs.Files.{Kind, IsRefused}
+use Rattle.glb.specs.Serve.{AreOpened, FirstDoorRose, IsFirstSession, IsOpening, IsPlaced, IsServed, IsSession, IsStarted, PlacedFirst, all_ready, is_cell_fault, is_port_fault, is_spent, status_by, status_of, then_failed}
+use Rattle.glb.specs.Told.{Stage}
+use Rattle.glb.proofs.Causes.{tell_weaker}
+use Rattle.glb.proofs.Histories.{texts_of}
+
+-- a lane whose port and door were opened at most: no count is lower, and its port gave no answer of recv
+pub record IsBegun (x y : LaneTold) : Type 0 where
+  pub port : BothTell x.port y.port (λ b c. c.recvs ≡ b.recvs)
+  pub port_faults : x.port_faults ≤ y.port_faults
+  pub door_faults : x.door_faults ≤ y.door_faults
+
+abbrev pub AreBegun : List LaneTold → List LaneTold → Type 0
+AreBegun [] [] = Unit {0}
+AreBegun (x ∷ xs) (y ∷ ys) = IsBegun x y × AreBegun xs ys
+AreBegun _ _ = ⊥
+
+tells_same : (p : Option PortTold) → BothTell p p (λ b c. c.recvs ≡ b.recvs)
+tells_same None = tt
+tells_same (Some b) = refl
+
+begun_same : (xs : List LaneTold) → AreBegun xs xs
+begun_same [] = tt
+begun_same (x ∷ xs) = (record { port = tells_same x.port; port_faults = omega arith; door_faults = omega arith }, begun_same xs)
+
+pub door_begun : (k : ℕ) (xs ys : List LaneTold) → PlacedFirst k xs ys → AreBegun xs ys
+door_begun k [] ys h = subst (AreBegun []) (sym h) tt
+door_begun k (x ∷ xs) ys h = subst (AreBegun (x ∷ xs)) (sym h) (record { port = tells_same x.port; port_faults = omega arith; door_faults = omega arith }, begun_same xs)
+
+open_same : (listen : Listen) (r : Opening) (b c : PortTold) → IsOpen listen r b c → c.recvs ≡ b.recvs
+open_same listen opening.Ready b c h = ap (λ (p : PortTold). p.recvs) h
+open_same listen opening.Failed b c h = ap (λ (p : PortTold). p.recvs) h.1
+
+one_begun : (listen : Listen) (r : Opening) (x y : LaneTold) → IsOpening listen r x y → IsBegun x y
+one_begun listen r x y h = record {
+  port = tell_weaker (IsOpen listen r) (λ b c. c.recvs ≡ b.recvs) x.port y.port (λ b c o. open_same listen r b c o) h.port;
+  port_faults = h.later;
+  door_faults = let same : y.door_faults ≡ x.door_faults = ap (λ (l : LaneTold). l.door_faults) h.rest in omega (arith, same);
+}
+
+pub opened_begun : (listen : Listen) (rs : List Opening) (xs ys : List LaneTold) → AreOpened listen rs xs ys → AreBegun xs ys
+opened_begun listen [] xs ys h = subst (AreBegun xs) (sym h) (begun_same xs)
+opened_begun listen (r ∷ rs) (x ∷ xs) (y ∷ ys) h = (one_begun listen r x y h.0, opened_begun listen rs xs ys h.1)
+opened_begun listen (r ∷ rs) [] ys h = absurd h
+opened_begun listen (r ∷ rs) (x ∷ xs) [] h = absurd h
+
+-- what is so of some lane from a moment on is so from the one before
+any_from : (P Q : LaneTold → LaneTold → Type 0) (n : ℕ) (xs ys zs : List LaneTold) → ((x y z : LaneTold) → IsBegun x y → P y z → Q x z) → AreBegun xs ys → AnyLane n P ys zs → AnyLane n Q xs zs
+any_from P Q zero xs ys zs f b h = absurd h
+any_from P Q (suc n) (x ∷ xs) (y ∷ ys) (z ∷ zs) f b (inl h) = inl (f x y z b.0 h)
+any_from P Q (suc n) (x ∷ xs) (y ∷ ys) (z ∷ zs) f b (inr h) = inr (any_from P Q n xs ys zs f b.1 h)
+any_from P Q (suc n) xs [] zs f b h = absurd h
+any_from P Q (suc n) xs (y ∷ ys) [] f b h = absurd h
+any_from P Q (suc n) [] (y ∷ ys) (z ∷ zs) f b h = absurd b
+
+pub port_from : (n : ℕ) (xs ys zs : List LaneTold) → AreBegun xs ys → AnyLane n HasPortFault ys zs → AnyLane n HasPortFault xs zs
+port_from n xs ys zs b h = any_from HasPortFault HasPortFault n xs ys zs (λ x y z o r. omega (arith, o.port_faults, r)) b h
+
+pub door_from : (n : ℕ) (xs ys zs : List LaneTold) → AreBegun xs ys → AnyLane n HasDoorFault ys zs → AnyLane n HasDoorFault xs zs
+door_from n xs ys zs b h = any_from HasDoorFault HasDoorFault n xs ys zs (λ x y z o r. omega (arith, o.door_faults, r)) b h
+
+pub shown_from : (k n : ℕ) (xs ys zs : List LaneTold) → AreBegun xs ys → AnyLane n (HasShown k) ys zs → AnyLane n (HasShown k) xs zs
+shown_from k n xs ys zs b h = any_from (HasShown k) (HasShown k) n xs ys zs (λ x y z o r. r) b h
+
+taken_on : (turns : ℕ) (x y z : LaneTold) → IsBegun x y → HasTaken turns y z → HasTaken turns x z
+taken_on turns x y z o r =
+    tells_on x.port y.port z.port (λ (b c : PortTold). c.recvs ≡ b.recvs) (λ (b c : PortTold). c.recvs ≡ raised b.recvs turns) (λ (b c : PortTold). c.recvs ≡ raised b.recvs turns) (λ b c d u v. v ∙ ap (λ (k : ℕ). raised k turns) u) o.port r
+
+pub taken_from : (turns n : ℕ) (xs ys zs : List LaneTold) → AreBegun xs ys → AnyLane n (HasTaken turns) ys zs → AnyLane n (HasTaken turns) xs zs
+taken_from turns n xs ys zs b h = any_from (HasTaken turns) (HasTaken turns) n xs ys zs (λ x y z o r. taken_on turns x y z o r) b h
+
+-- a fault of the cell is a fault of a door or a serial past the versions
+any_parts : (k n : ℕ) (xs ys : List LaneTold) → AnyLane n (HasCellFault k) xs ys → AnyLane n HasDoorFault xs ys ⊎ AnyLane n (HasShown k) xs ys
+any_parts k zero xs ys h = absurd h
+any_parts k (suc n) (x ∷ xs) (y ∷ ys) (inl (inl h)) = inl (inl h)
+any_parts k (suc n) (x ∷ xs) (y ∷ ys) (inl (inr h)) = inr (inl h)
+any_parts k (suc n) (x ∷ xs) (y ∷ ys) (inr h) = elim (any_parts k n xs ys h) [ inl r ↦ inl (inr r) | inr r ↦ inr (inr r) ]
+any_parts k (suc n) [] ys h = absurd h
+any_parts k (suc n) (x ∷ xs) [] h = absurd h
+
+-- a port that failed to open has a fault
+failed_port : (listen : Listen) (k n : ℕ) (xs ys : List LaneTold) → k < n → AreOpened listen (then_failed k) xs ys → AnyLane n HasPortFault xs ys
+failed_port listen k zero xs ys lt h = absurd (omega (arith, lt))
+failed_port listen zero (suc n) (x ∷ xs) (y ∷ ys) lt h = inl (h.0.cause refl)
+failed_port listen zero (suc n) [] ys lt h = absurd h
+failed_port listen zero (suc n) (x ∷ xs) [] lt h = absurd h
+failed_port listen (suc k) (suc n) (x ∷ xs) (y ∷ ys) lt h = inr (failed_port listen k n xs ys (omega (arith, lt)) h.1)
+failed_port listen (suc k) (suc n) [] ys lt h = absurd h
+failed_port listen (suc k) (suc n) (x ∷ xs) [] lt h = absurd h
+
+first_door : (n : ℕ) (xs ys : List LaneTold) → 1 ≤ n → FirstDoorRose xs ys → AnyLane n HasDoorFault xs ys
+first_door zero xs ys some h = absurd (omega (arith, some))
+first_door (suc n) (x ∷ xs) (y ∷ ys) some h = inl h
+first_door (suc n) [] ys some h = absurd h
+first_door (suc n) (x ∷ xs) [] some h = absurd h
+
+-- an answer that is none of these has no cause to tell
+other : (turns workers : ℕ) (before after : Lent) (result : Status) → (result ≡ status.PortFault → ⊥) → (result ≡ status.Spent → ⊥) → (result ≡ status.CellFault → ⊥) → HasLaneCauses turns workers before after result
+other turns workers before after result port spent cell = record { port = λ h. absurd (port h); spent = λ h. absurd (spent h); cell = λ h. absurd (cell h) }
+
+pub unread_causes : {T : Type 0} (kind : Kind T) (turns workers : ℕ) (before after : Lent) (name : List ℕ) (shelf : Option Shelved) (out out' : Option Written) (result : Status) → RunsBy (IsRefused kind shelf name) out out' result → HasLaneCauses turns workers before after result
+unread_causes kind turns workers before after name shelf out out' result (inl whole) =
+    let is : whole.due.status ≡ status.Refused = ap (λ (o : Outcome). o.status) whole.is_due.4 in
+    let same : result ≡ status.Refused = whole.status ∙ is in other turns workers before after result (λ h. cc) (λ h. cc) (λ h. cc)
+unread_causes kind turns workers before after name shelf out out' result (inr (inl cut)) = let is = cut.status in other turns workers before after result (λ h. cc) (λ h. cc) (λ h. cc)
+unread_causes kind turns workers before after name shelf out out' result (inr (inr silent)) =
+    elim silent.status [ inl is ↦ other turns workers before after result (λ h. cc) (λ h. cc) (λ h. cc) | inr is ↦ other turns workers before after result (λ h. cc) (λ h. cc) (λ h. cc) ]
+
+-- what a run over a feed gave that was spent
+given_of : (t : Plan) (turns : ℕ) (end : FeedEnd) (fed then : Option Fed) (before after : Scene) → end ≡ feed.Spent → IsFeed t turns end fed then before after → HasGiven turns fed then
+given_of t turns feed.Spent fed then before after is f = (f.run.0, f.run.1, f.run.2.0, f.run.2.1)
+given_of t turns feed.Ended fed then before after is f = absurd (cc)
+given_of t turns feed.SourceFault fed then before after is f = absurd (cc)
+given_of t turns feed.SinkFault fed then before after is f = absurd (cc)
+
+-- a fault of the cell is answered only where the feed ended
+by_spent : (p c : Bool) → status.CellFault ≡ status_by p true c → ⊥
+by_spent true c h = cc
+by_spent false c h = cc
+
+pub cell_ends : (end : FeedEnd) (p s c : Bool) → status.CellFault ≡ status_of end p s c → end ≡ feed.Ended
+cell_ends feed.Ended p s c h = refl
+cell_ends feed.Spent p s c h = absurd (by_spent p c h)
+cell_ends feed.SourceFault p s c h = absurd (cc)
+cell_ends feed.SinkFault p s c h = absurd (cc)
+
+-- a session that was started and served
+served_causes : (turns workers : ℕ) (listen : Listen) (first : Version) (before started after : Stage) (result : Status) → IsStarted listen workers first before started → IsServed turns workers first started after result → HasLaneCauses turns workers before.lent after.lent result
+served_causes turns workers listen first before started after result start served = record {
+  port = λ h. port_from workers before.lent.lanes started.lent.lanes after.lent.lanes begun (served.port h);
+  spent = λ h. spent_of (served.spent h);
+  cell = λ h. cell_of h (any_parts (length (first ∷ served.driven.rest)) workers started.lent.lanes after.lent.lanes (served.cell h));
+}
+  where
+    begun : AreBegun before.lent.lanes started.lent.lanes
+    begun = opened_begun listen (all_ready workers) before.lent.lanes started.lent.lanes start.opened
+
+    same_feed : started.lent.feed ≡ before.lent.feed
+    same_feed = ap (λ (l : Lent). l.feed) start.lent
+
+    spent_of : (served.end ≡ feed.Spent) ⊎ AnyLane workers (HasTaken turns) started.lent.lanes after.lent.lanes → AreSpent turns workers before.lent after.lent
+    spent_of (inl is) = inl (subst (λ (f : Option Fed). HasGiven turns f after.lent.feed) same_feed (given_of first.plan turns served.end started.lent.feed after.lent.feed _ _ is served.driven.feed))
+    spent_of (inr h) = inr (taken_from turns workers before.lent.lanes started.lent.lanes after.lent.lanes begun h)
+
+    ended : result ≡ status.CellFault → served.end ≡ feed.Ended
+    ended h = cell_ends served.end (list_any is_port_fault served.ends) (list_any is_spent served.ends) (list_any is_cell_fault served.ends) (sym h ∙ served.result_is)
+
+    texts : served.end ≡ feed.Ended → BothTell before.lent.maps after.lent.maps (IsPrinted (map map_text (first ∷ served.driven.rest)))
+    texts is = texts_of first.plan turns started.lent.feed after.lent.feed first served.driven.rest before.lent.maps (scene first (first ∷ []) started.lent.out started.lent.maps started.lent.pace) (scene served.driven.newest (first ∷ served.driven.rest) after.lent.out after.lent.maps after.lent.pace) refl refl start.put
+        (subst (λ (e : FeedEnd). IsFeed first.plan turns e started.lent.feed after.lent.feed (scene first (first ∷ []) started.lent.out started.lent.maps started.lent.pace) (scene served.driven.newest (first ∷ served.driven.rest) after.lent.out after.lent.maps after.lent.pace)) is served.driven.feed)
+
+    cell_of : result ≡ status.CellFault → AnyLane workers HasDoorFault started.lent.lanes after.lent.lanes ⊎ AnyLane workers (HasShown (length (first ∷ served.driven.rest))) started.lent.lanes after.lent.lanes
+        → AnyLane workers HasDoorFault before.lent.lanes after.lent.lanes ⊎ IsPastMaps workers before.lent after.lent
+    cell_of is (inl h) = inl (door_from workers before.lent.lanes started.lent.lanes after.lent.lanes begun h)
+    cell_of is (inr h) = inr (
+      map map_text (first ∷ served.driven.rest),
+      texts (ended is),
+      subst (λ (k : ℕ). AnyLane workers (HasShown k) before.lent.lanes after.lent.lanes) (sym (length-map (first ∷ served.driven.rest) map_text)) (shown_from (length (first ∷ served.driven.rest)) workers before.lent.lanes started.lent.lanes after.lent.lanes begun h),
+    )
+
+first_causes : (turns : ℕ) (listen : Listen) (workers : ℕ) (first : Version) (before after : Stage) (result : Status) → IsFirstSession turns listen workers first before after result → HasLaneCauses turns workers before.lent after.lent result
+first_causes turns listen workers first before after result (inl shut) = record {
+  port = λ h. failed_port listen shut.opened.0 workers before.lent.lanes after.lent.lanes shut.opened.1 shut.opened.2;
+  spent = λ h. let is = shut.why in absurd (cc);
+  cell = λ h. let is = shut.why in absurd (cc);
+}
+first_causes turns listen workers first before after result (inr (inl unput)) = let is = unput.why in other turns workers before.lent after.lent result (λ h. cc) (λ h. cc) (λ h. cc)
+first_causes turns listen workers first before after result (inr (inr (inl k))) = let is = k.0 in other turns workers before.lent after.lent result (λ h. cc) (λ h. cc) (λ h. cc)
+first_causes turns listen workers first before after result (inr (inr (inr (started, start, served)))) = served_causes turns workers listen first before started after result start served
+
+-- what is so from the opened cell on is so from before it
+placed_causes : (turns workers : ℕ) (before placed after : Stage) (result : Status) → IsPlaced workers before placed → HasLaneCauses turns workers placed.lent after.lent result → HasLaneCauses turns workers before.lent after.lent result
+placed_causes turns workers before placed after result place causes = record {
+  port = λ h. port_from workers before.lent.lanes placed.lent.lanes after.lent.lanes begun (causes.port h);
+  spent = λ h. elim (causes.spent h) [
+    | inl given ↦ inl (subst (λ (f : Option Fed). HasGiven turns f after.lent.feed) same_feed given)
+    | inr some ↦ inr (taken_from turns workers before.lent.lanes placed.lent.lanes after.lent.lanes begun some)
+  ];
+  cell = λ h. elim (causes.cell h) [
+    | inl some ↦ inl (door_from workers before.lent.lanes placed.lent.lanes after.lent.lanes begun some)
+    | inr past ↦ inr (past.0, subst (λ (m : Option Written). BothTell m after.lent.maps (IsPrinted past.0)) same_maps past.1, shown_from (length past.0) workers before.lent.lanes placed.lent.lanes after.lent.lanes begun past.2)
+  ];
+}
+  where
+    begun : AreBegun before.lent.lanes placed.lent.lanes
+    begun = door_begun workers before.lent.lanes placed.lent.lanes place.asked
+
+    same_feed : placed.lent.feed ≡ before.lent.feed
+    same_feed = ap (λ (l : Lent). l.feed) place.lent
+
+    same_maps : placed.lent.maps ≡ before.lent.maps
+    same_maps = ap (λ (l : Lent). l.maps) place.lent
+
+pub session_causes : (turns : ℕ) (listen : Listen) (workers : ℕ) (t : Plan) (before after : Stage) (result : Status) → 1 ≤ workers → IsSession turns listen workers t before after result → HasLaneCauses turns workers before.lent after.lent result
+session_causes turns listen workers t before after result some (inl unopened) = elim unopened.why [
+  | inl is ↦ other turns workers before.lent after.lent result (λ h. cc) (λ h. cc) (λ h. cc)
+  | inr is ↦ record {
+    port = λ h. let fault = is.0 in absurd (cc);
+    spent = λ h. let fault = is.0 in absurd (cc);
+    cell = λ h. inl (first_door workers before.lent.lanes after.lent.lanes some is.1);
+  }
+]
+session_causes turns listen workers t before after result some (inr (placed, first, place, is_first, session)) = placed_causes turns workers before placed after result place (first_causes turns listen workers first placed after result session)

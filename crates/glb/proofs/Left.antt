@@ -1,0 +1,85 @@
+-- Where all is well, what `serve` may answer.
+use Rattle.std.proofs.Common.{◌≡◌, ◌⊎◌, inl, inr, ℕ, Bool, true, false, List, refl, ap, ◌∙◌}
+use Rattle.std.specs.Prelude.{IsSome, Option, None, Some}
+use Rattle.std.specs.List.{list_any}
+use Rattle.outside.specs.Shelf.{Shelved}
+use Rattle.outside.specs.Sink.{Written}
+use Rattle.demand_feed.specs.declared.run.FeedEnd.{FeedEnd}
+use Rattle.demand_feed.specs.declared.run.FeedEnd.TheVariants as feed
+use Rattle.glb.specs.declared.status.Status.{Status}
+use Rattle.glb.specs.declared.status.Status.TheVariants as status
+use Rattle.glb.specs.Words.{Service, serve}
+use Rattle.glb.specs.Outcome.{Outcome, RunsBy}
+use Rattle.glb.specs.Files.{IsRefused, said, topology_file}
+use Rattle.glb.specs.Map.{HoldsTopology}
+use Rattle.glb.specs.Causes.{AnyLane, HasDoorFault, IsPastMaps}
+use Rattle.glb.specs.Told.{Surroundings}
+use Rattle.glb.specs.Serve.{IsServeRun, is_cell_fault, is_port_fault, is_spent, status_by, status_of}
+use Rattle.glb.specs.Program.{HasServeCauses, IsLeft, IsServeQuiet}
+use Rattle.glb.proofs.Complete.{one_answer, one_content}
+
+-- a file that holds a topology is not refused
+not_refused : (shelf : Shelved) (name : List ℕ) (due : Outcome) → HoldsTopology name (Some shelf) → IsRefused topology_file (Some shelf) name due → ⊥
+not_refused shelf name due held h =
+    let same : held.1.0 ≡ h.0 = one_content (shelf.holds name) held.1.0 h.0 held.1.1 h.2 in
+    one_answer (said topology_file held.1.0) held.0 h.1 held.1.2 (ap (said topology_file) same ∙ h.3)
+
+unread_left : (name : List ℕ) (files : Option Shelved) (out out' : Option Written) (result : Status) → IsSome files → HoldsTopology name files → (result ≡ status.SourceFault → ⊥) → (result ≡ status.SinkFault → ⊥)
+    → RunsBy (IsRefused topology_file files name) out out' result → (result ≡ status.Ok) ⊎ (result ≡ status.NoMemory) ⊎ (result ≡ status.Spent) ⊎ (result ≡ status.CellFault)
+unread_left name None out out' result told held source sink run = absurd (cc)
+unread_left name (Some shelf) out out' result told held source sink (inl whole) = absurd (not_refused shelf name whole.due held whole.is_due)
+unread_left name (Some shelf) out out' result told held source sink (inr (inl cut)) = absurd (sink cut.status)
+unread_left name (Some shelf) out out' result told held source sink (inr (inr silent)) = elim silent.status [ inl h ↦ absurd (source h) | inr h ↦ inr (inl h) ]
+
+by_cases : (p s c : Bool) → (status_by p s c ≡ status.PortFault) ⊎ (status_by p s c ≡ status.Ok) ⊎ (status_by p s c ≡ status.Spent) ⊎ (status_by p s c ≡ status.CellFault)
+by_cases true s c = inl refl
+by_cases false true c = inr (inr (inl refl))
+by_cases false false true = inr (inr (inr refl))
+by_cases false false false = inr (inl refl)
+
+by_left : (result : Status) (p s c : Bool) → result ≡ status_by p s c → (result ≡ status.PortFault → ⊥) → (result ≡ status.Ok) ⊎ (result ≡ status.NoMemory) ⊎ (result ≡ status.Spent) ⊎ (result ≡ status.CellFault)
+by_left result p s c is port = elim (by_cases p s c) [
+  | inl h ↦ absurd (port (is ∙ h))
+  | inr (inl h) ↦ inl (is ∙ h)
+  | inr (inr (inl h)) ↦ inr (inr (inl (is ∙ h)))
+  | inr (inr (inr h)) ↦ inr (inr (inr (is ∙ h)))
+]
+
+served_left : (end : FeedEnd) (p s c : Bool) (result : Status) → result ≡ status_of end p s c → (result ≡ status.SourceFault → ⊥) → (result ≡ status.SinkFault → ⊥) → (result ≡ status.PortFault → ⊥)
+    → (result ≡ status.Ok) ⊎ (result ≡ status.NoMemory) ⊎ (result ≡ status.Spent) ⊎ (result ≡ status.CellFault)
+served_left feed.SourceFault p s c result is source sink port = absurd (source is)
+served_left feed.SinkFault p s c result is source sink port = absurd (sink is)
+served_left feed.Ended p s c result is source sink port = by_left result p s c is port
+served_left feed.Spent p s c result is source sink port = by_left result p true c is port
+
+-- what is left of the answers, by their causes
+pub left_of : (turns : ℕ) (ask : Service) (before after : Surroundings) (result : Status) → IsServeRun turns ask before after result → HasServeCauses turns ask.workers before after result → IsSome before.files → HoldsTopology ask.topology before.files
+    → IsServeQuiet ask.workers before after → IsLeft turns (Some (serve ask)) before after result
+left_of turns ask before after result run causes told held quiet = elim (go run) [
+  | inl h ↦ inl h
+  | inr (inl h) ↦ inr (inl h)
+  | inr (inr (inl h)) ↦ inr (inr (inl (h, causes.lanes.spent h)))
+  | inr (inr (inr h)) ↦ inr (inr (inr (h, past (causes.lanes.cell h))))
+]
+  where
+    source : result ≡ status.SourceFault → ⊥
+    source h = elim (causes.source h) [ inl r ↦ quiet.files r | inr r ↦ quiet.feed r ]
+
+    sink : result ≡ status.SinkFault → ⊥
+    sink h = elim (causes.sink h) [ inl r ↦ quiet.out r | inr r ↦ quiet.maps r ]
+
+    port : result ≡ status.PortFault → ⊥
+    port h = quiet.ports (causes.lanes.port h)
+
+    past : AnyLane ask.workers HasDoorFault before.stage.lent.lanes after.stage.lent.lanes ⊎ IsPastMaps ask.workers before.stage.lent after.stage.lent → IsPastMaps ask.workers before.stage.lent after.stage.lent
+    past (inl h) = absurd (quiet.doors h)
+    past (inr h) = h
+
+    go : IsServeRun turns ask before after result → (result ≡ status.Ok) ⊎ (result ≡ status.NoMemory) ⊎ (result ≡ status.Spent) ⊎ (result ≡ status.CellFault)
+    go (inl unread) = unread_left ask.topology before.files before.stage.lent.out after.stage.lent.out result told held source sink unread.run
+    go (inr (topology, plan, says, inl unopened)) = elim unopened.why [ inl h ↦ inr (inl h) | inr h ↦ inr (inr (inr h.0)) ]
+    go (inr (topology, plan, says, inr (placed, first, place, is_first, inl shut))) = absurd (port shut.why)
+    go (inr (topology, plan, says, inr (placed, first, place, is_first, inr (inl unput)))) = absurd (sink unput.why)
+    go (inr (topology, plan, says, inr (placed, first, place, is_first, inr (inr (inl h))))) = inr (inl h.0)
+    go (inr (topology, plan, says, inr (placed, first, place, is_first, inr (inr (inr (started, start, served)))))) =
+        served_left served.end (list_any is_port_fault served.ends) (list_any is_spent served.ends) (list_any is_cell_fault served.ends) result served.result_is source sink port

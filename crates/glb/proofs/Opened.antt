@@ -1,0 +1,41 @@
+-- Ports that are opened one after another.
+use Rattle.std.proofs.Common.{◌≡◌, ℕ, suc, ◌<◌, List, [], ◌∷◌, ◌++◌, length, ap, sym, ◌∙◌, subst, arith}
+use Rattle.std.specs.Prelude.{◌-◌, map}
+use Rattle.std.proofs.lemmas.List.{length-map, map-append}
+use Rattle.addr_text.specs.declared.address.Listen.{Listen}
+use Rattle.outside.specs.declared.port.Opening.{Opening}
+use Rattle.outside.specs.declared.port.Opening.TheVariants as opening
+use Rattle.drive.specs.Done.{LaneTold}
+use Rattle.glb.specs.Serve.{AreOpened, all_ready, then_failed}
+use Rattle.glb.specs.Starting.{HasOpened}
+
+-- lanes behind those that were opened
+opened_more : (listen : Listen) (rs : List Opening) (a c b : List LaneTold) → AreOpened listen rs a c → AreOpened listen rs (a ++ b) (c ++ b)
+opened_more listen [] a c b h = ap (λ xs. xs ++ b) h
+opened_more listen (r ∷ rs) (x ∷ a) (y ∷ c) b h = (h.0, opened_more listen rs a c b h.1)
+opened_more listen (r ∷ rs) [] c b h = absurd h
+opened_more listen (r ∷ rs) (x ∷ a) [] b h = absurd h
+
+-- one lane was opened, and then others
+then_opened : (listen : Listen) (rs : List Opening) (a c b d : List LaneTold) → length a ≡ 1 → AreOpened listen (opening.Ready ∷ []) a c → AreOpened listen rs b d → AreOpened listen (opening.Ready ∷ rs) (a ++ b) (c ++ d)
+then_opened listen rs (x ∷ []) (y ∷ c) b d one h k = (h.0, subst (λ xs. AreOpened listen rs b (xs ++ d)) (sym h.1) k)
+then_opened listen rs [] c b d one h k = absurd h
+then_opened listen rs (x ∷ []) [] b d one h k = absurd h
+then_opened listen rs (x ∷ z ∷ a) c b d one h k = absurd (cc)
+
+-- the first lane was opened, and then n others or some of them
+pub more_opened : (listen : Listen) (n : ℕ) (r : Opening) (a c b d : List LaneTold) → length a ≡ 1 → HasOpened listen 1 opening.Ready a c → HasOpened listen n r b d → HasOpened listen (suc n) r (a ++ b) (c ++ d)
+more_opened listen n opening.Ready a c b d one h k = then_opened listen (all_ready n) a c b d one h k
+more_opened listen n opening.Failed a c b d one h k = (suc k.0, omega (arith, k.1), then_opened listen (then_failed k.0) a c b d one h k.2)
+
+-- the first lane failed to open
+pub first_failed : (listen : Listen) (n : ℕ) (a c b : List LaneTold) → 0 < n → HasOpened listen 1 opening.Failed a c → HasOpened listen n opening.Failed (a ++ b) (c ++ b)
+first_failed listen n a c b some h = (h.0, omega (arith, h.1, some), opened_more listen (then_failed h.0) a c b h.2)
+
+-- the same of any lanes that are told of
+pub more_lanes : {L : Type 0} (f : L → LaneTold) (listen : Listen) (n : ℕ) (r : Opening) (xs a b c d : List L) → xs ≡ a ++ b → length a ≡ 1 → 0 < n
+    → HasOpened listen 1 opening.Ready (map f a) (map f c) → HasOpened listen (n - 1) r (map f b) (map f d) → HasOpened listen n r (map f xs) (map f (c ++ d))
+more_lanes f listen n r xs a b c d is one some h k =
+    let count : n ≡ suc (n - 1) = omega (arith, some) in
+    let whole : HasOpened listen (suc (n - 1)) r (map f a ++ map f b) (map f c ++ map f d) = more_opened listen (n - 1) r (map f a) (map f c) (map f b) (map f d) (length-map a f ∙ one) h k in
+    rw (is, map-append f a b, map-append f c d) (subst (λ m. HasOpened listen m r (map f a ++ map f b) (map f c ++ map f d)) (sym count) whole)

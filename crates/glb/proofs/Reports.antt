@@ -1,0 +1,31 @@
+-- A command that stopped, by what its files come to.
+use Rattle.std.proofs.Common.{◌≡◌, ◌∙◌, ap, inl, inr, sym, subst}
+use Rattle.std.specs.Prelude.{Option, Result, Err}
+use Rattle.glb.specs.declared.ending.Report.{Report}
+use Rattle.outside.specs.Sink.{Written}
+use Rattle.glb.specs.declared.ending.Stop.{Stop}
+use Rattle.glb.specs.declared.ending.Stop.TheVariants as stop
+use Rattle.glb.specs.declared.status.Status.{Status}
+use Rattle.glb.specs.Ending.{IsReport, StopsBy}
+use Rattle.glb.specs.Outcome.{Outcome, RunsBy}
+
+-- the outcome of a command that stopped with a refusal is of the refusal's kind
+stopped_due : (P : Outcome → Type 0) (s : Stop) (due : Outcome) → StopsBy P s → IsReport (Err s) due → P due
+stopped_due P (stop.Refused text) due h is = subst P (sym is) h
+stopped_due P stop.SourceFault due h is = absurd is
+stopped_due P stop.NoMemory due h is = absurd is
+
+runs_weaker : (P Q : Outcome → Type 0) (before after : Option Written) (result : Status) → ((due : Outcome) → P due → Q due) → RunsBy P before after result → RunsBy Q before after result
+runs_weaker P Q before after result f (inl whole) = inl (record { due = whole.due; is_due = f whole.due whole.is_due; status = whole.status; puts = whole.puts })
+runs_weaker P Q before after result f (inr (inl cut)) = inr (inl (record { due = cut.due; is_due = f cut.due cut.is_due; status = cut.status; puts = cut.puts }))
+runs_weaker P Q before after result f (inr (inr silent)) = inr (inr silent)
+
+pub stopped_run : (P : Outcome → Type 0) (s : Stop) (before after : Option Written) (result : Status) → StopsBy P s → RunsBy (IsReport (Err s)) before after result → RunsBy P before after result
+stopped_run P s before after result h run = runs_weaker (IsReport (Err s)) P before after result (λ due. stopped_due P s due h) run
+
+same_stop : (s t : Stop) (ended : Result Report Stop) → ended ≡ Err s → ended ≡ Err t → s ≡ t
+same_stop s t ended h k = cc
+
+-- a load failed where that is what is said
+pub stopped_load : {X : Type 0} (s : Stop) (load : Result X Stop) (ended : Result Report Stop) → load ≡ Err s → ended ≡ Err s → ended ≡ Err stop.SourceFault → load ≡ Err stop.SourceFault
+stopped_load s load ended h same is = h ∙ ap Err (same_stop s stop.SourceFault ended same is)

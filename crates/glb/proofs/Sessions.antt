@@ -1,0 +1,101 @@
+-- Counts of faults over a session.
+use Rattle.std.proofs.Common.{◌≡◌, inl, inr, ℕ, ◌≤◌, Bool, true, false, refl, ap, sym, ◌∙◌, arith}
+use Rattle.std.specs.List.{list_any}
+use Rattle.addr_text.specs.declared.address.Listen.{Listen}
+use Rattle.topology_text.specs.Plan.{Plan}
+use Rattle.published_map.specs.Version.{Version}
+use Rattle.demand_feed.specs.declared.run.FeedEnd.{FeedEnd}
+use Rattle.demand_feed.specs.declared.run.FeedEnd.TheVariants as feed
+use Rattle.glb.specs.declared.status.Status.{Status}
+use Rattle.glb.specs.declared.status.Status.TheVariants as status
+use Rattle.glb.specs.Serve.{IsFirstSession, IsSession, IsServed, is_cell_fault, is_port_fault, is_spent, status_by, status_of}
+use Rattle.glb.specs.Starting.{IsSessionLater}
+use Rattle.glb.specs.Told.{Stage}
+
+by_source : (p s c : Bool) → status.SourceFault ≡ status_by p s c → ⊥
+by_source true s c h = cc
+by_source false true c h = cc
+by_source false false true h = cc
+by_source false false false h = cc
+
+by_sink : (p s c : Bool) → status.SinkFault ≡ status_by p s c → ⊥
+by_sink true s c h = cc
+by_sink false true c h = cc
+by_sink false false true h = cc
+by_sink false false false h = cc
+
+source_means : (end : FeedEnd) (p s c : Bool) → status.SourceFault ≡ status_of end p s c → end ≡ feed.SourceFault
+source_means feed.SourceFault p s c h = refl
+source_means feed.SinkFault p s c h = absurd (cc)
+source_means feed.Ended p s c h = absurd (by_source p s c h)
+source_means feed.Spent p s c h = absurd (by_source p true c h)
+
+sink_means : (end : FeedEnd) (p s c : Bool) → status.SinkFault ≡ status_of end p s c → end ≡ feed.SinkFault
+sink_means feed.SinkFault p s c h = refl
+sink_means feed.SourceFault p s c h = absurd (cc)
+sink_means feed.Ended p s c h = absurd (by_sink p s c h)
+sink_means feed.Spent p s c h = absurd (by_sink p true c h)
+
+-- the counts of two moments are the same
+record IsSameCounts (before after : Stage) : Type 0 where
+  feed : after.feed_faults ≡ before.feed_faults
+  out : after.out_faults ≡ before.out_faults
+  maps : after.maps_faults ≡ before.maps_faults
+
+no_fault : (before after : Stage) (result : Status) → IsSameCounts before after → (result ≡ status.SourceFault → ⊥) → (result ≡ status.SinkFault → ⊥) → IsSessionLater before after result
+no_fault before after result same source sink = record {
+  feed = omega (arith, same.feed);
+  out = omega (arith, same.out);
+  maps = omega (arith, same.maps);
+  source = λ h. absurd (source h);
+  sink = λ h. absurd (sink h);
+}
+
+served_later : (turns workers : ℕ) (first : Version) (before after : Stage) (result : Status) → IsServed turns workers first before after result → IsSessionLater before after result
+served_later turns workers first before after result s = record {
+  feed = s.later.0;
+  out = s.later.1;
+  maps = s.later.2;
+  source = λ h. s.source (source_means s.end (list_any is_port_fault s.ends) (list_any is_spent s.ends) (list_any is_cell_fault s.ends) (sym h ∙ s.result_is));
+  sink = λ h. s.sink (sink_means s.end (list_any is_port_fault s.ends) (list_any is_spent s.ends) (list_any is_cell_fault s.ends) (sym h ∙ s.result_is));
+}
+
+-- what is so from a moment on is so from one with lower counts
+from_below : (a b c : Stage) (result : Status) → a.feed_faults ≤ b.feed_faults → a.out_faults ≤ b.out_faults → a.maps_faults ≤ b.maps_faults → IsSessionLater b c result → IsSessionLater a c result
+from_below a b c result feed out maps later = record {
+  feed = omega (arith, feed, later.feed);
+  out = omega (arith, out, later.out);
+  maps = omega (arith, maps, later.maps);
+  source = λ h. let rose = later.source h in omega (arith, feed, rose);
+  sink = λ h. elim (later.sink h) [ inl r ↦ inl (omega (arith, out, r)) | inr r ↦ inr (omega (arith, maps, r)) ];
+}
+
+started_later : (turns : ℕ) (listen : Listen) (workers : ℕ) (first : Version) (before after : Stage) (result : Status) → IsFirstSession turns listen workers first before after result → IsSessionLater before after result
+started_later turns listen workers first before after result (inl shut) =
+    no_fault before after result (record { feed = ap (λ (s : Stage). s.feed_faults) shut.rest; out = ap (λ (s : Stage). s.out_faults) shut.rest; maps = ap (λ (s : Stage). s.maps_faults) shut.rest })
+    (λ h. let is = shut.why in cc) (λ h. let is = shut.why in cc)
+started_later turns listen workers first before after result (inr (inl unput)) = record {
+  feed = let same = ap (λ (s : Stage). s.feed_faults) unput.rest in omega (arith, same);
+  out = let same = ap (λ (s : Stage). s.out_faults) unput.rest in omega (arith, same);
+  maps = let rose = unput.rose in omega (arith, rose);
+  source = λ h. let is = unput.why in absurd (cc);
+  sink = λ h. inr unput.rose;
+}
+started_later turns listen workers first before after result (inr (inr (inl h))) = record {
+  feed = let same = ap (λ (s : Stage). s.feed_faults) h.1.rest in omega (arith, same);
+  out = let same = ap (λ (s : Stage). s.out_faults) h.1.rest in omega (arith, same);
+  maps = h.1.later;
+  source = λ k. let is = h.0 in absurd (cc);
+  sink = λ k. let is = h.0 in absurd (cc);
+}
+started_later turns listen workers first before after result (inr (inr (inr (started, start, served)))) =
+    from_below before started after result (let same = ap (λ (s : Stage). s.feed_faults) start.rest in omega (arith, same)) (let same = ap (λ (s : Stage). s.out_faults) start.rest in omega (arith, same)) start.later
+    (served_later turns workers first started after result served)
+
+pub session_later : (turns : ℕ) (listen : Listen) (workers : ℕ) (t : Plan) (before after : Stage) (result : Status) → IsSession turns listen workers t before after result → IsSessionLater before after result
+session_later turns listen workers t before after result (inl unopened) =
+    no_fault before after result (record { feed = ap (λ (s : Stage). s.feed_faults) unopened.rest; out = ap (λ (s : Stage). s.out_faults) unopened.rest; maps = ap (λ (s : Stage). s.maps_faults) unopened.rest })
+    (λ h. elim unopened.why [ inl is ↦ cc | inr is ↦ let fault = is.0 in cc ]) (λ h. elim unopened.why [ inl is ↦ cc | inr is ↦ let fault = is.0 in cc ])
+session_later turns listen workers t before after result (inr (placed, first, place, is_first, session)) =
+    from_below before placed after result (let same = ap (λ (s : Stage). s.feed_faults) place.rest in omega (arith, same)) (let same = ap (λ (s : Stage). s.out_faults) place.rest in omega (arith, same))
+    (let same = ap (λ (s : Stage). s.maps_faults) place.rest in omega (arith, same)) (started_later turns listen workers first placed after result session)

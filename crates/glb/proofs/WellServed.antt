@@ -1,0 +1,150 @@
+-- A run of `serve` with status 0.
+use Rattle.std.proofs.Common.{◌≡◌, ◌⊎◌, inl, inr, ℕ, ◌+◌, Bool, true, false, List, [], ◌∷◌, length, refl, ap, subst}
+use Rattle.std.specs.Prelude.{Option, ◌||◌}
+use Rattle.std.specs.List.{list_any}
+use Rattle.topology_text.specs.Plan.{IsPlan, Plan}
+use Rattle.published_map.specs.Version.{Version}
+use Rattle.lane_model.specs.declared.ended.Ended.{Ended}
+use Rattle.lane_model.specs.declared.ended.Ended.TheVariants as lane
+use Rattle.lane_model.specs.Lanes.{IsLaneRun}
+use Rattle.lane_model.specs.Replies.{replies}
+use Rattle.lane_model.specs.Turns.{entries_of, tries_of}
+use Rattle.demand_feed.specs.declared.run.FeedEnd.{FeedEnd}
+use Rattle.demand_feed.specs.declared.run.FeedEnd.TheVariants as feed
+use Rattle.mapper.specs.Feeding.{IsFeed}
+use Rattle.mapper.specs.Scenes.{IsPrinted, scene}
+use Rattle.drive.specs.Closing.{shut}
+use Rattle.drive.specs.Done.{IsDone, LaneTold}
+use Rattle.drive.specs.Driven.{AreDone}
+use Rattle.glb.specs.declared.status.Status.TheVariants as status
+use Rattle.glb.specs.Words.{Service}
+use Rattle.glb.specs.Outcome.{Outcome, RunsBy}
+use Rattle.glb.specs.Files.{IsRefused, Says, topology_file}
+use Rattle.drive.specs.Driven.{Lent}
+use Rattle.outside.specs.Faults.{BothTell}
+use Rattle.outside.specs.Sink.{Written}
+use Rattle.mapper.specs.Words.{map_text}
+use Rattle.glb.specs.Told.{Stage, Surroundings}
+use Rattle.glb.specs.Serve.{IsFirstOf, IsPlaced, IsServeRun, IsServed, IsStarted, is_cell_fault, is_port_fault, is_spent, status_by, status_of}
+use Rattle.glb.specs.Served.{AreWellDone, IsWellDone, IsWellServed}
+use Rattle.glb.proofs.Histories.{texts_of}
+
+well_end : (e : Ended) → is_port_fault e ≡ false → is_spent e ≡ false → is_cell_fault e ≡ false → (e ≡ lane.Stopped) ⊎ (e ≡ lane.PortEnd)
+well_end lane.Stopped p s c = inl refl
+well_end lane.PortEnd p s c = inr refl
+well_end lane.PortFault p s c = absurd (cc)
+well_end lane.CellFault p s c = absurd (cc)
+well_end (lane.Above known newest) p s c = absurd (cc)
+well_end lane.Spent p s c = absurd (cc)
+
+-- a lane whose closing look was refused did not end well
+not_shut : (served e : Ended) → e ≡ shut served → (e ≡ lane.Stopped) ⊎ (e ≡ lane.PortEnd) → ⊥
+not_shut lane.Stopped e is (inl h) = cc
+not_shut lane.Stopped e is (inr h) = cc
+not_shut lane.PortEnd e is (inl h) = cc
+not_shut lane.PortEnd e is (inr h) = cc
+not_shut lane.PortFault e is (inl h) = cc
+not_shut lane.PortFault e is (inr h) = cc
+not_shut lane.CellFault e is (inl h) = cc
+not_shut lane.CellFault e is (inr h) = cc
+not_shut (lane.Above known newest) e is (inl h) = cc
+not_shut (lane.Above known newest) e is (inr h) = cc
+not_shut lane.Spent e is (inl h) = cc
+not_shut lane.Spent e is (inr h) = cc
+
+not_past : (e : Ended) (known newest : ℕ) → e ≡ lane.Above known newest → (e ≡ lane.Stopped) ⊎ (e ≡ lane.PortEnd) → ⊥
+not_past e known newest is (inl h) = cc
+not_past e known newest is (inr h) = cc
+
+-- a lane that ended well stands over the newest history
+well_done : (turns : ℕ) (first : Version) (rest : List Version) (w : ℕ) (b c : LaneTold) (e : Ended) → IsDone turns first rest w b c e → (e ≡ lane.Stopped) ⊎ (e ≡ lane.PortEnd) → IsWellDone turns (first ∷ rest) w b c
+well_done turns first rest w b c e d well = elim d.which [
+  | inl newest ↦ record {
+    log = d.log;
+    ended = d.served;
+    shown = d.shown;
+    run = subst (λ h. IsLaneRun replies h w 0 0 (entries_of d.log) (tries_of d.log)) newest.same d.run;
+    told = d.told;
+    port = d.port;
+    gate = d.gate;
+    ending = d.ending;
+    well = subst (λ (x : Ended). (x ≡ lane.Stopped) ⊎ (x ≡ lane.PortEnd)) newest.ended_is well;
+  }
+  | inr (inl seen) ↦ absurd (not_shut d.served e seen.ended_is well)
+  | inr (inr past) ↦ absurd (not_past e past.last past.newest past.ended_is well)
+]
+
+none_of : (test : Ended → Bool) (e : Ended) (ends : List Ended) → list_any test (e ∷ ends) ≡ false → (test e ≡ false) × (list_any test ends ≡ false)
+none_of test e ends = go (test e) refl
+  where
+    go : (b : Bool) → test e ≡ b → list_any test (e ∷ ends) ≡ false → (test e ≡ false) × (list_any test ends ≡ false)
+    go true is h = let other : true ≡ false = subst (λ (x : Bool). (x || list_any test ends) ≡ false) is h in absurd (cc)
+    go false is h = (is, subst (λ (x : Bool). (x || list_any test ends) ≡ false) is h)
+
+all_well : (turns : ℕ) (first : Version) (rest : List Version) (w : ℕ) (ends : List Ended) (before after : List LaneTold) → AreDone turns first rest w ends before after
+    → list_any is_port_fault ends ≡ false → list_any is_spent ends ≡ false → list_any is_cell_fault ends ≡ false → AreWellDone turns (first ∷ rest) w (length ends) before after
+all_well turns first rest w [] before after h p s c = h
+all_well turns first rest w (e ∷ ends) (b ∷ before) (a ∷ after) h p s c =
+    let ports = none_of is_port_fault e ends p in
+    let spents = none_of is_spent e ends s in
+    let cells = none_of is_cell_fault e ends c in
+    (well_done turns first rest w b a e h.0 (well_end e ports.0 spents.0 cells.0), all_well turns first rest (w + 1) ends before after h.1 ports.1 spents.1 cells.1)
+all_well turns first rest w (e ∷ ends) [] after h p s c = absurd h
+all_well turns first rest w (e ∷ ends) (b ∷ before) [] h p s c = absurd h
+
+by_parts : (p s c : Bool) → status.Ok ≡ status_by p s c → (p ≡ false) × (s ≡ false) × (c ≡ false)
+by_parts false false false h = (refl, refl, refl)
+by_parts true s c h = absurd (cc)
+by_parts false true c h = absurd (cc)
+by_parts false false true h = absurd (cc)
+
+ok_parts : (end : FeedEnd) (p s c : Bool) → status.Ok ≡ status_of end p s c → (end ≡ feed.Ended) × (p ≡ false) × (s ≡ false) × (c ≡ false)
+ok_parts feed.Ended p s c h = let parts = by_parts p s c h in (refl, parts.0, parts.1, parts.2)
+ok_parts feed.Spent p s c h = let parts = by_parts p true c h in absurd (cc)
+ok_parts feed.SourceFault p s c h = absurd (cc)
+ok_parts feed.SinkFault p s c h = absurd (cc)
+
+-- a session over a topology
+session_well : (turns : ℕ) (ask : Service) (topology : Plan) (before after : Surroundings) → IsPlan topology → Says topology_file before.files ask.topology topology
+    → (placed started : Stage) (first : Version) → IsPlaced ask.workers before.stage placed → IsFirstOf topology first → IsStarted ask.listen ask.workers first placed started
+    → IsServed turns ask.workers first started after.stage status.Ok → IsWellServed turns ask before after
+session_well turns ask topology before after plan says placed started first place is_first start served =
+    let parts = ok_parts served.end (list_any is_port_fault served.ends) (list_any is_spent served.ends) (list_any is_cell_fault served.ends) served.result_is in
+    let d = served.driven in
+    let fed : IsFeed topology turns feed.Ended started.lent.feed after.stage.lent.feed (scene first (first ∷ []) started.lent.out started.lent.maps started.lent.pace) (scene d.newest (first ∷ d.rest) after.stage.lent.out after.stage.lent.maps after.stage.lent.pace) =
+    subst (λ (t : Plan). IsFeed t turns feed.Ended started.lent.feed after.stage.lent.feed (scene first (first ∷ []) started.lent.out started.lent.maps started.lent.pace) (scene d.newest (first ∷ d.rest) after.stage.lent.out after.stage.lent.maps after.stage.lent.pace)) is_first.plan
+    (subst (λ (e : FeedEnd). IsFeed first.plan turns e started.lent.feed after.stage.lent.feed (scene first (first ∷ []) started.lent.out started.lent.maps started.lent.pace) (scene d.newest (first ∷ d.rest) after.stage.lent.out after.stage.lent.maps after.stage.lent.pace)) parts.0 d.feed) in
+    let placed_maps : placed.lent.maps ≡ before.stage.lent.maps = ap (λ (l : Lent). l.maps) place.lent in
+    record {
+      topology = topology;
+      is_plan = plan;
+      says = says;
+      first = first;
+      rest = d.rest;
+      newest = d.newest;
+      is_first = is_first;
+      goes_on = d.goes_on;
+      texts = texts_of topology turns started.lent.feed after.stage.lent.feed first d.rest before.stage.lent.maps (scene first (first ∷ []) started.lent.out started.lent.maps started.lent.pace) (scene d.newest (first ∷ d.rest) after.stage.lent.out after.stage.lent.maps after.stage.lent.pace) refl refl
+          (subst (λ (m : Option Written). BothTell m started.lent.maps (IsPrinted (map_text first ∷ []))) placed_maps start.put) fed;
+      placed = placed;
+      started = started;
+      place = place;
+      start = start;
+      fed = fed;
+      lanes = subst (λ (n : ℕ). AreWellDone turns (first ∷ d.rest) 0 n started.lent.lanes after.stage.lent.lanes) served.as_many
+          (all_well turns first d.rest 0 served.ends started.lent.lanes after.stage.lent.lanes d.lanes parts.1 parts.2 parts.3);
+    }
+
+-- what status 0 says
+pub well_served : (turns : ℕ) (ask : Service) (before after : Surroundings) → IsServeRun turns ask before after status.Ok → IsWellServed turns ask before after
+well_served turns ask before after (inl unread) = absurd (not_read unread.run)
+  where
+    not_read : RunsBy (IsRefused topology_file before.files ask.topology) before.stage.lent.out after.stage.lent.out status.Ok → ⊥
+    not_read (inl whole) = let is : whole.due.status ≡ status.Refused = ap (λ (o : Outcome). o.status) whole.is_due.4 in let same = whole.status in cc
+    not_read (inr (inl cut)) = let is = cut.status in cc
+    not_read (inr (inr silent)) = elim silent.status [ inl is ↦ cc | inr is ↦ cc ]
+well_served turns ask before after (inr (topology, plan, says, inl unopened)) = elim unopened.why [ inl is ↦ absurd (cc) | inr is ↦ let fault = is.0 in absurd (cc) ]
+well_served turns ask before after (inr (topology, plan, says, inr (placed, first, place, is_first, inl shut))) = let is = shut.why in absurd (cc)
+well_served turns ask before after (inr (topology, plan, says, inr (placed, first, place, is_first, inr (inl unput)))) = let is = unput.why in absurd (cc)
+well_served turns ask before after (inr (topology, plan, says, inr (placed, first, place, is_first, inr (inr (inl h))))) = let is = h.0 in absurd (cc)
+well_served turns ask before after (inr (topology, plan, says, inr (placed, first, place, is_first, inr (inr (inr (started, start, served)))))) = session_well turns ask topology before after plan says placed started first place is_first start served

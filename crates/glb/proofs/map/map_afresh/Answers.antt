@@ -1,0 +1,15 @@
+use Rattle.std.proofs.Common.{Result, Ok, Err, IfOk}
+use Rattle.map_model.specs.declared.lines.MapLines.{MapLines}
+use Rattle.map_model.specs.Market.{Market, IsMarket}
+use Rattle.map_model.specs.Allocation.{IsGood, IsMapForm}
+use Rattle.map_model.proofs.NameForm.{IsMapForm-IsGood}
+use Rattle.no_memory.specs.declared.NoMemory.{NoMemory}
+use Rattle.glb.proofs.map.map_afresh.Goals as goal
+
+-- a map that is good is in the form of a map
+in_form : (m : Market) → IsMarket m → (r : Result MapLines NoMemory) → IfOk r (λ map. IsGood m map.lines.items map.names.items) → IfOk r (λ map. IsMapForm m map.lines.items map.names.items)
+in_form m market (Ok map) good = IsMapForm-IsGood m market map.lines.items map.names.items good
+in_form m market (Err e) good = tt
+
+pub returns-clause-form : goal.returns-clause-form
+returns-clause-form c = in_form c.args.instance.now c.in_ok-state.ensures.fresh.ready.market c.finish.result c.finish.ensures.good

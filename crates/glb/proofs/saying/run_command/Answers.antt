@@ -1,0 +1,24 @@
+use Rattle.glb.specs.Outcome.{IsSaid}
+use Rattle.glb.specs.Run.{IsDue}
+use Rattle.glb.specs.Words.{check, map_from, answer}
+use Rattle.glb.proofs.Loads.{ends_weaker}
+use Rattle.glb.proofs.Said.{due_said}
+use Rattle.glb.proofs.saying.run_command.Goals as goal
+
+pub returns-in-Check-clause-said : goal.returns-in-Check-clause-said
+returns-in-Check-clause-said g c =
+    let ask = check c.in-Check.topology.now c.in-Check.map.now in
+    let told = g.F.Shelf.told c.args.files.now in
+    ends_weaker (IsDue ask told) IsSaid c.check_files.result (due_said ask told) c.check_files.ensures.due
+
+pub returns-in-Map-clause-said : goal.returns-in-Map-clause-said
+returns-in-Map-clause-said g c =
+    let ask = map_from c.in-Map.topology.now in
+    let told = g.F.Shelf.told c.args.files.now in
+    ends_weaker (IsDue ask told) IsSaid c.map_files.result (due_said ask told) c.map_files.ensures.due
+
+pub returns-in-Answer-clause-said : goal.returns-in-Answer-clause-said
+returns-in-Answer-clause-said g c =
+    let ask = answer c.in-Answer.topology.now c.in-Answer.map.now (record { from = c.in-Answer.from; octets = c.as_slice.result.now }) in
+    let told = g.F.Shelf.told c.args.files.now in
+    ends_weaker (IsDue ask told) IsSaid c.answer_files.result (due_said ask told) c.answer_files.ensures.due

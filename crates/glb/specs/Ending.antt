@@ -1,0 +1,74 @@
+-- Inside this crate alone: how a command ended, and what it loaded.
+use Rattle.std.specs.Prelude.{◌≡◌, ℕ, ◌<◌, ◌≤◌, List, [], ◌∷◌, length, Option, Result, Ok, Err, MatchResult}
+use Rattle.map_model.specs.Market.{Market}
+use Rattle.map_model.specs.Allocation.{IsOffer}
+use Rattle.outside.specs.Faults.{BothTell, Rose}
+use Rattle.outside.specs.Shelf.{Load, Shelved}
+use Rattle.stable_check.specs.declared.verdict.Verdict.{Verdict}
+use Rattle.stable_check.specs.declared.verdict.Verdict.TheVariants.{Blocking, OverCapacity, OverDemand}
+use Rattle.glb.specs.declared.ending.Report.{Report}
+use Rattle.glb.specs.declared.ending.Stop.{Stop}
+use Rattle.glb.specs.declared.ending.Stop.TheVariants as stop
+use Rattle.glb.specs.Outcome.{AreLoaded, AreLoadsOf, Outcome}
+use Rattle.glb.specs.Files.{IsRefused, Kind, MayHold, Says, only, refused}
+
+-- a report, as an outcome
+abbrev pub outcome_of : Report → Outcome
+outcome_of report = record { status = report.status; pieces = report.text.items ∷ [] }
+
+-- where a command stopped with a refusal, it is of that kind
+abbrev pub StopsBy : (Outcome → Type 0) → Stop → Type 0
+StopsBy P (stop.Refused text) = P (refused text.items)
+StopsBy P stop.SourceFault = Unit {0}
+StopsBy P stop.NoMemory = Unit {0}
+
+-- where a command ended with a text, its outcome is of that kind
+abbrev pub EndsBy : (Outcome → Type 0) → Result Report Stop → Type 0
+EndsBy P ended = MatchResult ended (λ report. P (outcome_of report)) (StopsBy P)
+
+-- the outcome with which a command ended
+abbrev pub IsReport : Result Report Stop → Outcome → Type 0
+IsReport (Ok report) due = due ≡ outcome_of report
+IsReport (Err (stop.Refused text)) due = due ≡ refused text.items
+IsReport (Err stop.SourceFault) due = ⊥
+IsReport (Err stop.NoMemory) due = ⊥
+
+-- a shelf at one moment: what it tells, and the count of its faults
+pub record ShelfAt : Type 0 where
+  pub told : Option Shelved
+  pub faults : ℕ
+
+-- How a command ended by its files: it made the first of the loads that are due, and all of them where it has a text; this is due; and a fault of the files came with the count.
+pub record IsEnd (due_loads : (List ℕ → Option (List ℕ)) → List Load) (Due : Outcome → Type 0) (before after : ShelfAt) (ended : Result Report Stop) : Type 0 where
+  pub noted : BothTell before.told after.told (AreLoadsOf due_loads)
+  pub loaded : EndsBy (λ _. BothTell before.told after.told (AreLoaded due_loads)) ended
+  pub due : EndsBy Due ended
+  pub later : before.faults ≤ after.faults
+  pub cause : ended ≡ Err stop.SourceFault → Rose before.faults after.faults
+
+-- One file was loaded, and what it says was read, or it is refused; or the load failed, or memory was wanting.
+pub record IsReading {X T : Type 0} (kind : Kind T) (see : X → T) (name : List ℕ) (before after : ShelfAt) (read : Result X Stop) : Type 0 where
+  pub noted : BothTell before.told after.told (AreLoadsOf (only kind name))
+  pub loaded : MatchResult read (λ _. BothTell before.told after.told (AreLoaded (only kind name))) (StopsBy (λ _. BothTell before.told after.told (AreLoaded (only kind name))))
+  pub said : MatchResult read (λ x. Says kind before.told name (see x)) (StopsBy (IsRefused kind before.told name))
+  pub later : before.faults ≤ after.faults
+  pub cause : read ≡ Err stop.SourceFault → Rose before.faults after.faults
+
+-- the file is longer than it may be, and is refused for that
+abbrev pub IsTooLong : Option Shelved → List ℕ → ℕ → List ℕ → Outcome → Type 0
+IsTooLong files name limit text due = (bytes : List ℕ) × MayHold files name bytes × (limit < length bytes) × (due ≡ refused text)
+
+-- the file holds these octets, which are within the limit
+abbrev pub AreBytes : Option Shelved → List ℕ → ℕ → List ℕ → Type 0
+AreBytes files name limit bytes = MayHold files name bytes × (length bytes ≤ limit)
+
+-- bytes are refused, with the text of their fault
+abbrev pub IsRefusedBy : {T : Type 0} → Result T (List ℕ) → Outcome → Type 0
+IsRefusedBy said due = (text : List ℕ) × (said ≡ Err text) × (due ≡ refused text)
+
+-- what a verdict names is there
+abbrev pub IsNameable : Market → Verdict → Type 0
+IsNameable m (OverDemand g units) = g.0 < length m.groups
+IsNameable m (OverCapacity n units) = n.0 < length m.nodes
+IsNameable m (Blocking g k) = IsOffer m g.0 k
+IsNameable m _ = Unit {0}

@@ -1,0 +1,38 @@
+-- What is due to `map`.
+use Rattle.std.specs.Prelude.{◌≡◌, ℕ, List, [], ◌∷◌, Option}
+use Rattle.map_model.specs.Allocation.{IsGood}
+use Rattle.outside.specs.Faults.{BothTell}
+use Rattle.outside.specs.Shelf.{Load, Shelved}
+use Rattle.topology_text.specs.Plan.{IsPlan, Plan}
+use Rattle.map_text.specs.Reading.{Mapped}
+use Rattle.map_text.specs.Writing.{text_of_map}
+use Rattle.glb.specs.declared.status.Status.TheVariants.{Ok}
+use Rattle.mapper.specs.Scenes.{IsPrinted}
+use Rattle.glb.specs.Outcome.{Outcome, Outside}
+use Rattle.glb.specs.Files.{Reads, Says, only, topology_file}
+
+-- these texts are the one text of a map that is good for the instance of a topology
+abbrev pub AreGoodMap : Plan → List (List ℕ) → Type 0
+AreGoodMap t pieces = (m : Mapped) × IsGood t.market m.lines m.names × (pieces ≡ text_of_map t m ∷ [])
+
+-- the text of a good map
+pub record IsMapped (t : Plan) (due : Outcome) : Type 0 where
+  pub status : due.status ≡ Ok
+  pub text : AreGoodMap t due.pieces
+
+-- what is due to `map`: the refusal of the topology, or the text of a good map
+abbrev pub IsMapDue : List ℕ → Option Shelved → Outcome → Type 0
+IsMapDue topology files = Reads topology_file files topology IsMapped
+
+-- the file holds a topology
+abbrev pub HoldsTopology : List ℕ → Option Shelved → Type 0
+HoldsTopology topology files = (t : Plan) × Says topology_file files topology t
+
+-- What status 0 of `map` says of the files and the output: the file holds a topology, and the output got the text of a map that is good for its instance, in one put.
+abbrev pub IsMappedRun : List ℕ → Outside → Outside → Type 0
+IsMappedRun topology before after =
+    (t : Plan) × (pieces : List (List ℕ)) × IsPlan t × Says topology_file before.files topology t × AreGoodMap t pieces × BothTell before.out after.out (IsPrinted pieces)
+
+-- the loads of `map`: the topology
+abbrev pub loads_of_map : List ℕ → (List ℕ → Option (List ℕ)) → List Load
+loads_of_map topology = only topology_file topology

@@ -1,0 +1,90 @@
+-- What a run of the whole program does, by what its words ask for.
+use Rattle.std.specs.Prelude.{◌≡◌, ◌⊎◌, ℕ, ◌≤◌, List, [], Option, None, Some}
+use Rattle.outside.specs.Faults.{Rose}
+use Rattle.outside.specs.Shelf.{Load, Shelved}
+use Rattle.glb.specs.declared.status.Status.{Status}
+use Rattle.glb.specs.declared.status.Status.TheVariants as status
+use Rattle.glb.specs.Words.{Ask, Task, say, serve, large}
+use Rattle.glb.specs.Outcome.{HasCauses}
+use Rattle.glb.specs.Run as short
+use Rattle.glb.specs.Serve.{IsServeRun, loads_of_serve}
+use Rattle.glb.specs.Causes.{AnyLane, AreSpent, HasDoorFault, HasLaneCauses, HasPortFault, IsPastMaps}
+use Rattle.glb.specs.Map.{HoldsTopology}
+use Rattle.glb.specs.Large.{HasLargeWorld, IsLargeRun, IsSummedRun}
+use Rattle.glb.specs.Served.{IsWellServed}
+use Rattle.glb.specs.Told.{IsOutAlone, Surroundings, faults_of, outside_of}
+
+-- a run that touches the files and the output alone
+pub record IsShortRun (ask : Option Ask) (before after : Surroundings) (result : Status) : Type 0 where
+  pub run : short.IsRun ask (outside_of before) (outside_of after) result
+  pub rest : IsOutAlone before.stage after.stage
+
+-- what a run does
+abbrev pub IsRun : ℕ → Option Task → Surroundings → Surroundings → Status → Type 0
+IsRun turns None before after result = IsShortRun None before after result
+IsRun turns (Some (say ask)) before after result = IsShortRun (Some ask) before after result
+IsRun turns (Some (serve ask)) before after result = IsServeRun turns ask before after result
+IsRun turns (Some (large groups)) before after result = IsLargeRun groups before after result
+
+-- the loads that are due to a run over the files
+abbrev pub loads_of : Option Task → (List ℕ → Option (List ℕ)) → List Load
+loads_of None = short.loads_of None
+loads_of (Some (say ask)) = short.loads_of (Some ask)
+loads_of (Some (serve ask)) = loads_of_serve ask
+loads_of (Some (large groups)) = λ _. []
+
+-- no count of `serve` falls, and a fault of the files, the feed or an output is answered only where its count rose, and one of the lanes only with its cause
+pub record HasServeCauses (turns workers : ℕ) (before after : Surroundings) (result : Status) : Type 0 where
+  pub files_later : before.files_faults ≤ after.files_faults
+  pub feed_later : before.stage.feed_faults ≤ after.stage.feed_faults
+  pub out_later : before.stage.out_faults ≤ after.stage.out_faults
+  pub maps_later : before.stage.maps_faults ≤ after.stage.maps_faults
+  pub source : result ≡ status.SourceFault → Rose before.files_faults after.files_faults ⊎ Rose before.stage.feed_faults after.stage.feed_faults
+  pub sink : result ≡ status.SinkFault → Rose before.stage.out_faults after.stage.out_faults ⊎ Rose before.stage.maps_faults after.stage.maps_faults
+  pub lanes : HasLaneCauses turns workers before.stage.lent after.stage.lent result
+
+-- what the counts of faults say of an answer
+abbrev pub AreCauses : ℕ → Option Task → Surroundings → Surroundings → Status → Type 0
+AreCauses turns None before after result = HasCauses (faults_of before) (faults_of after) result
+AreCauses turns (Some (say ask)) before after result = HasCauses (faults_of before) (faults_of after) result
+AreCauses turns (Some (serve ask)) before after result = HasServeCauses turns ask.workers before after result
+AreCauses turns (Some (large groups)) before after result = HasCauses (faults_of before) (faults_of after) result
+
+-- the files are such that all is well
+abbrev pub IsSound : Option Task → Option Shelved → Type 0
+IsSound None files = ⊥
+IsSound (Some (say ask)) files = short.IsSound (Some ask) files
+IsSound (Some (serve ask)) files = HoldsTopology ask.topology files
+IsSound (Some (large groups)) files = HasLargeWorld groups
+
+-- no count of faults rose: of the files, the feed and both outputs, of a port or a door of the first lanes
+pub record IsServeQuiet (workers : ℕ) (before after : Surroundings) : Type 0 where
+  pub files : Rose before.files_faults after.files_faults → ⊥
+  pub feed : Rose before.stage.feed_faults after.stage.feed_faults → ⊥
+  pub out : Rose before.stage.out_faults after.stage.out_faults → ⊥
+  pub maps : Rose before.stage.maps_faults after.stage.maps_faults → ⊥
+  pub ports : AnyLane workers HasPortFault before.stage.lent.lanes after.stage.lent.lanes → ⊥
+  pub doors : AnyLane workers HasDoorFault before.stage.lent.lanes after.stage.lent.lanes → ⊥
+
+-- no count of faults rose of what the task asks
+abbrev pub AreQuiet : Option Task → Surroundings → Surroundings → Type 0
+AreQuiet None before after = Unit {0}
+AreQuiet (Some (say ask)) before after = (Rose before.files_faults after.files_faults → ⊥) × (Rose before.stage.out_faults after.stage.out_faults → ⊥)
+AreQuiet (Some (serve ask)) before after = IsServeQuiet ask.workers before after
+AreQuiet (Some (large groups)) before after = Rose before.stage.out_faults after.stage.out_faults → ⊥
+
+-- The answers that are left then: status 0 or want of memory; of `serve` also that turns were spent, where they were, and that a door showed a serial that was not published, where one did.
+abbrev pub IsLeft : ℕ → Option Task → Surroundings → Surroundings → Status → Type 0
+IsLeft turns None before after result = ⊥
+IsLeft turns (Some (say ask)) before after result = (result ≡ status.Ok) ⊎ (result ≡ status.NoMemory)
+IsLeft turns (Some (serve ask)) before after result = (result ≡ status.Ok) ⊎ (result ≡ status.NoMemory)
+    ⊎ ((result ≡ status.Spent) × AreSpent turns ask.workers before.stage.lent after.stage.lent)
+    ⊎ ((result ≡ status.CellFault) × IsPastMaps ask.workers before.stage.lent after.stage.lent)
+IsLeft turns (Some (large groups)) before after result = (result ≡ status.Ok) ⊎ (result ≡ status.NoMemory)
+
+-- what status 0 says
+abbrev pub IsGoodRun : ℕ → Option Task → Surroundings → Surroundings → Type 0
+IsGoodRun turns None before after = ⊥
+IsGoodRun turns (Some (say ask)) before after = short.IsGoodRun (Some ask) (outside_of before) (outside_of after)
+IsGoodRun turns (Some (serve ask)) before after = IsWellServed turns ask before after
+IsGoodRun turns (Some (large groups)) before after = IsSummedRun groups before after

@@ -1,0 +1,63 @@
+-- What a run of the program does, by what its words ask for.
+use Rattle.std.specs.Prelude.{◌≡◌, ◌⊎◌, ℕ, List, [], ◌∷◌, Option, None, Some}
+use Rattle.outside.specs.Faults.{BothTell}
+use Rattle.outside.specs.Shelf.{Load, Shelved}
+use Rattle.outside.specs.Sink.{Written}
+use Rattle.glb.specs.declared.status.Status.{Status}
+use Rattle.glb.specs.declared.status.Status.TheVariants.{Usage, NoMemory}
+use Rattle.glb.specs.Words.{Ask, check, map_from, answer, repair}
+use Rattle.glb.specs.Outcome.{Outcome, Outside, RunsBy, Speaks}
+use Rattle.glb.specs.Check.{HoldsGoodMap, IsCheckDue, IsCheckedRun, loads_of_check}
+use Rattle.glb.specs.Map.{HoldsTopology, IsMapDue, IsMappedRun, loads_of_map}
+use Rattle.glb.specs.Answer.{IsAnswerDue, IsAnsweredRun}
+use Rattle.glb.specs.Repair.{HoldsChanges, IsRepairDue, IsRepairedRun, loads_of_repair}
+use Rattle.glb.specs.Texts as text
+
+-- what is due to words that are not taken
+abbrev pub IsUsage : Outcome → Type 0
+IsUsage due = due ≡ record { status = Usage; pieces = text.usage ∷ [] }
+
+-- what is due to a command over the files
+abbrev pub IsDue : Ask → Option Shelved → Outcome → Type 0
+IsDue (check topology map) files = IsCheckDue topology map files
+IsDue (map_from topology) files = IsMapDue topology files
+IsDue (answer topology map datagram) files = IsAnswerDue topology map datagram files
+IsDue (repair topology map changes) files = IsRepairDue topology map changes files
+
+-- memory was wanting for the reading of the words, and nothing was put
+pub record AreWordsUnread (before after : Option Written) (result : Status) : Type 0 where
+  pub status : result ≡ NoMemory
+  pub puts : BothTell before after (λ b a. a ≡ b)
+
+-- what a run does
+abbrev pub IsRun : Option Ask → Outside → Outside → Status → Type 0
+IsRun None before after result = Speaks IsUsage before.out after.out result ⊎ AreWordsUnread before.out after.out result
+IsRun (Some ask) before after result = RunsBy (IsDue ask before.files) before.out after.out result
+
+-- the loads that are due to a command over the files: in the order of its words with their limits, each where all before it say something
+abbrev pub loads_of_ask : Ask → (List ℕ → Option (List ℕ)) → List Load
+loads_of_ask (check topology map) = loads_of_check topology map
+loads_of_ask (map_from topology) = loads_of_map topology
+loads_of_ask (answer topology map datagram) = loads_of_check topology map
+loads_of_ask (repair topology map changes) = loads_of_repair topology map changes
+
+-- the loads that are due to a run
+abbrev pub loads_of : Option Ask → (List ℕ → Option (List ℕ)) → List Load
+loads_of None files = []
+loads_of (Some ask) files = loads_of_ask ask files
+
+-- the files are such that all is well
+abbrev pub IsSound : Option Ask → Option Shelved → Type 0
+IsSound None files = ⊥
+IsSound (Some (check topology map)) files = HoldsGoodMap topology map files
+IsSound (Some (map_from topology)) files = HoldsTopology topology files
+IsSound (Some (answer topology map datagram)) files = HoldsGoodMap topology map files
+IsSound (Some (repair topology map changes)) files = HoldsChanges topology map changes files
+
+-- what status 0 says of the files and the output
+abbrev pub IsGoodRun : Option Ask → Outside → Outside → Type 0
+IsGoodRun None before after = ⊥
+IsGoodRun (Some (check topology map)) before after = IsCheckedRun topology map before after
+IsGoodRun (Some (map_from topology)) before after = IsMappedRun topology before after
+IsGoodRun (Some (answer topology map datagram)) before after = IsAnsweredRun topology map datagram before after
+IsGoodRun (Some (repair topology map changes)) before after = IsRepairedRun topology map changes before after

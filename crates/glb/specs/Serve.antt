@@ -1,0 +1,169 @@
+-- What a run of `serve` does.
+use Rattle.std.specs.Prelude.{◌≡◌, ◌⊎◌, ℕ, ◌<◌, ◌≤◌, Bool, true, false, List, [], ◌∷◌, ◌++◌, length, replicate, if◌then◌else◌, Option}
+use Rattle.std.specs.List.{list_any}
+use Rattle.addr_text.specs.declared.address.Listen.{Listen}
+use Rattle.outside.specs.Faults.{BothTell, Rose, raised}
+use Rattle.outside.specs.Port.{IsOpen}
+use Rattle.outside.specs.Shelf.{Load}
+use Rattle.outside.specs.declared.port.Opening.{Opening}
+use Rattle.outside.specs.declared.port.Opening.TheVariants as opening
+use Rattle.topology_text.specs.Plan.{IsPlan, Plan}
+use Rattle.published_map.specs.Version.{Version}
+use Rattle.lane_model.specs.declared.ended.Ended.{Ended}
+use Rattle.lane_model.specs.declared.ended.Ended.TheVariants as lane
+use Rattle.demand_feed.specs.declared.run.FeedEnd.{FeedEnd}
+use Rattle.demand_feed.specs.declared.run.FeedEnd.TheVariants as feed
+use Rattle.mapper.specs.Scenes.{IsCut, IsPrinted}
+use Rattle.mapper.specs.Words.{map_text}
+use Rattle.mapper.specs.Mappers.{IsFirst}
+use Rattle.drive.specs.Done.{LaneTold}
+use Rattle.drive.specs.Driven.{IsDriven}
+use Rattle.glb.specs.declared.status.Status.{Status}
+use Rattle.glb.specs.declared.status.Status.TheVariants as status
+use Rattle.glb.specs.Words.{Service}
+use Rattle.glb.specs.Causes.{AnyLane, HasCellFault, HasPortFault, HasTaken}
+use Rattle.glb.specs.Outcome.{RunsBy}
+use Rattle.glb.specs.Told.{IsOutAlone, Stage, Surroundings}
+use Rattle.glb.specs.Files.{IsRefused, Says, only, topology_file}
+
+-- the loads of `serve`: the topology
+abbrev pub loads_of_serve : Service → (List ℕ → Option (List ℕ)) → List Load
+loads_of_serve ask = only topology_file ask.topology
+
+-- how a lane ended, as a status
+abbrev pub is_port_fault : Ended → Bool
+is_port_fault lane.PortFault = true
+is_port_fault _ = false
+
+abbrev pub is_spent : Ended → Bool
+is_spent lane.Spent = true
+is_spent _ = false
+
+abbrev pub is_cell_fault : Ended → Bool
+is_cell_fault lane.CellFault = true
+is_cell_fault (lane.Above known newest) = true
+is_cell_fault _ = false
+
+-- a port's fault comes first, then what was spent, then the cell's fault
+abbrev pub status_by : Bool → Bool → Bool → Status
+status_by port spent cell = if port then status.PortFault else (if spent then status.Spent else (if cell then status.CellFault else status.Ok))
+
+-- the status of a session: the feed's own fault comes first, then what the ends of the lanes make, and whether the feed was spent
+abbrev pub status_of : FeedEnd → Bool → Bool → Bool → Status
+status_of feed.SourceFault port spent cell = status.SourceFault
+status_of feed.SinkFault port spent cell = status.SinkFault
+status_of feed.Spent port spent cell = status_by port true cell
+status_of feed.Ended port spent cell = status_by port spent cell
+
+-- the first door was asked for k places, and may have counted faults; nothing else was asked of the lanes
+abbrev pub AskedFirst : ℕ → List LaneTold → List LaneTold → Type 0
+AskedFirst k [] after = after ≡ []
+AskedFirst k (b ∷ before) after = (faults : ℕ) × (b.door_faults ≤ faults) × (after ≡ record b { asked = raised b.asked k; door_faults = faults } ∷ before)
+
+-- the first door was asked for k places and counted no fault; nothing else was asked of the lanes
+abbrev pub PlacedFirst : ℕ → List LaneTold → List LaneTold → Type 0
+PlacedFirst k [] after = after ≡ []
+PlacedFirst k (b ∷ before) after = after ≡ record b { asked = raised b.asked k } ∷ before
+
+-- the count of the first lane's door rose
+abbrev pub FirstDoorRose : List LaneTold → List LaneTold → Type 0
+FirstDoorRose (b ∷ before) (c ∷ after) = Rose b.door_faults c.door_faults
+FirstDoorRose _ _ = ⊥
+
+-- a lane's port was opened there, and nothing else asked of the lane
+pub record IsOpening (listen : Listen) (result : Opening) (before after : LaneTold) : Type 0 where
+  pub port : BothTell before.port after.port (IsOpen listen result)
+  pub later : before.port_faults ≤ after.port_faults
+  pub cause : result ≡ opening.Failed → Rose before.port_faults after.port_faults
+  pub rest : after ≡ record before { port = after.port; port_faults = after.port_faults }
+
+-- the ports of the first lanes were opened there in order, once each, with these results; the lanes behind them are untouched
+abbrev pub AreOpened : Listen → List Opening → List LaneTold → List LaneTold → Type 0
+AreOpened listen [] before after = after ≡ before
+AreOpened listen (r ∷ results) (b ∷ before) (c ∷ after) = IsOpening listen r b c × AreOpened listen results before after
+AreOpened listen (r ∷ results) _ _ = ⊥
+
+-- so many ports were opened
+abbrev pub all_ready : ℕ → List Opening
+all_ready n = replicate n opening.Ready
+
+-- so many ports were opened, and the next one failed
+abbrev pub then_failed : ℕ → List Opening
+then_failed n = all_ready n ++ opening.Failed ∷ []
+
+-- The map cell was not opened: a place in it was refused, or memory was wanting.
+pub record IsUnopened (workers : ℕ) (before after : Stage) (result : Status) : Type 0 where
+  pub why : (result ≡ status.NoMemory) ⊎ ((result ≡ status.CellFault) × FirstDoorRose before.lent.lanes after.lent.lanes)
+  pub asked : (k : ℕ) × (k ≤ workers) × AskedFirst k before.lent.lanes after.lent.lanes
+  pub lent : after.lent ≡ record before.lent { lanes = after.lent.lanes }
+  pub rest : after ≡ record before { lent = after.lent }
+
+-- The map cell was opened, with a place for each worker, and none was refused.
+pub record IsPlaced (workers : ℕ) (before after : Stage) : Type 0 where
+  pub asked : PlacedFirst workers before.lent.lanes after.lent.lanes
+  pub lent : after.lent ≡ record before.lent { lanes = after.lent.lanes }
+  pub rest : after ≡ record before { lent = after.lent }
+
+-- A port did not open, and none behind it was opened.
+pub record IsPortUnopened (listen : Listen) (workers : ℕ) (before after : Stage) (result : Status) : Type 0 where
+  pub why : result ≡ status.PortFault
+  pub opened : (k : ℕ) × (k < workers) × AreOpened listen (then_failed k) before.lent.lanes after.lent.lanes
+  pub lent : after.lent ≡ record before.lent { lanes = after.lent.lanes }
+  pub rest : after ≡ record before { lent = after.lent }
+
+-- The ports were opened, but the put of the first map's text failed.
+pub record IsUnput (listen : Listen) (workers : ℕ) (first : Version) (before after : Stage) (result : Status) : Type 0 where
+  pub why : result ≡ status.SinkFault
+  pub opened : AreOpened listen (all_ready workers) before.lent.lanes after.lent.lanes
+  pub cut : BothTell before.lent.maps after.lent.maps (IsCut [] (map_text first))
+  pub rose : Rose before.maps_faults after.maps_faults
+  pub lent : after.lent ≡ record before.lent { lanes = after.lent.lanes; maps = after.lent.maps }
+  pub rest : after ≡ record before { lent = after.lent; maps_faults = after.maps_faults }
+
+-- The ports were opened, and the first map's text was put.
+pub record IsStarted (listen : Listen) (workers : ℕ) (first : Version) (before after : Stage) : Type 0 where
+  pub opened : AreOpened listen (all_ready workers) before.lent.lanes after.lent.lanes
+  pub put : BothTell before.lent.maps after.lent.maps (IsPrinted (map_text first ∷ []))
+  pub later : before.maps_faults ≤ after.maps_faults
+  pub lent : after.lent ≡ record before.lent { lanes = after.lent.lanes; maps = after.lent.maps }
+  pub rest : after ≡ record before { lent = after.lent; maps_faults = after.maps_faults }
+
+-- The feed was worked and the first lanes were served, over one history of published maps that goes on from the first one. The status is that of their ends, and each fault came with what it is a fault of: the count of the feed, of an output, of a port or of a door, as many turns as there may be, or a serial that was not published.
+pub record IsServed (turns workers : ℕ) (first : Version) (before after : Stage) (result : Status) : Type 0 where
+  pub end : FeedEnd
+  pub ends : List Ended
+  pub as_many : length ends ≡ workers
+  pub driven : IsDriven turns first end ends before.lent after.lent
+  pub result_is : result ≡ status_of end (list_any is_port_fault ends) (list_any is_spent ends) (list_any is_cell_fault ends)
+  pub source : end ≡ feed.SourceFault → Rose before.feed_faults after.feed_faults
+  pub sink : end ≡ feed.SinkFault → Rose before.out_faults after.out_faults ⊎ Rose before.maps_faults after.maps_faults
+  pub port : result ≡ status.PortFault → AnyLane workers HasPortFault before.lent.lanes after.lent.lanes
+  pub spent : result ≡ status.Spent → (end ≡ feed.Spent) ⊎ AnyLane workers (HasTaken turns) before.lent.lanes after.lent.lanes
+  pub cell : result ≡ status.CellFault → AnyLane workers (HasCellFault (length (first ∷ driven.rest))) before.lent.lanes after.lent.lanes
+  pub later : (before.feed_faults ≤ after.feed_faults) × (before.out_faults ≤ after.out_faults) × (before.maps_faults ≤ after.maps_faults)
+
+-- what follows where the map cell was opened with a first version
+abbrev pub IsFirstSession : ℕ → Listen → ℕ → Version → Stage → Stage → Status → Type 0
+IsFirstSession turns listen workers first before after result = IsPortUnopened listen workers before after result
+    ⊎ IsUnput listen workers first before after result
+    ⊎ ((result ≡ status.NoMemory) × IsStarted listen workers first before after)
+    ⊎ ((started : Stage) × IsStarted listen workers first before started × IsServed turns workers first started after result)
+
+-- the first version of a topology: serial 0, its own numbers, and a good map
+abbrev pub IsFirstOf : Plan → Version → Type 0
+IsFirstOf t first = IsFirst t (record { history = first ∷ []; newest = first })
+
+-- what follows where a topology was read
+abbrev pub IsSession : ℕ → Listen → ℕ → Plan → Stage → Stage → Status → Type 0
+IsSession turns listen workers topology before after result = IsUnopened workers before after result
+    ⊎ ((placed : Stage) × (first : Version) × IsPlaced workers before placed × IsFirstOf topology first × IsFirstSession turns listen workers first placed after result)
+
+-- The topology was refused, with its text on the output or a beginning of it; or it could not be loaded, or memory was wanting.
+pub record IsUnread (ask : Service) (before after : Surroundings) (result : Status) : Type 0 where
+  pub run : RunsBy (IsRefused topology_file before.files ask.topology) before.stage.lent.out after.stage.lent.out result
+  pub rest : IsOutAlone before.stage after.stage
+
+-- what a run of `serve` does
+abbrev pub IsServeRun : ℕ → Service → Surroundings → Surroundings → Status → Type 0
+IsServeRun turns ask before after result = IsUnread ask before after result
+    ⊎ ((topology : Plan) × IsPlan topology × Says topology_file before.files ask.topology topology × IsSession turns ask.listen ask.workers topology before.stage after.stage result)

@@ -1,0 +1,58 @@
+-- What status 0 of `serve` says.
+use Rattle.std.specs.Prelude.{◌≡◌, ◌⊎◌, ℕ, zero, suc, ◌+◌, List, [], ◌∷◌, fold, map}
+use Rattle.outside.specs.Faults.{BothTell}
+use Rattle.topology_text.specs.Plan.{IsPlan, Plan}
+use Rattle.published_map.specs.Version.{Version}
+use Rattle.lane_model.specs.declared.ended.Ended.{Ended}
+use Rattle.lane_model.specs.declared.ended.Ended.TheVariants.{PortEnd, Stopped}
+use Rattle.lane_model.specs.Lanes.{IsLaneRun}
+use Rattle.lane_model.specs.Machine.{GoesOn}
+use Rattle.lane_model.specs.Replies.{replies}
+use Rattle.lane_model.specs.Sessions.{IsEnd, IsGateRun}
+use Rattle.lane_model.specs.Turns.{IsTold, Turn, entries_of, port_turn, tries_of}
+use Rattle.demand_feed.specs.declared.run.FeedEnd.TheVariants as feed
+use Rattle.mapper.specs.Feeding.{IsFeed}
+use Rattle.mapper.specs.Scenes.{IsPrinted, scene}
+use Rattle.mapper.specs.Words.{map_text}
+use Rattle.drive.specs.Done.{LaneTold}
+use Rattle.drive.specs.Driven.{Succeeds}
+use Rattle.glb.specs.Words.{Service}
+use Rattle.glb.specs.Told.{Stage, Surroundings}
+use Rattle.glb.specs.Files.{Says, topology_file}
+use Rattle.glb.specs.Serve.{IsFirstOf, IsPlaced, IsStarted}
+
+-- A lane that ended well: in each turn its gate was asked and its port after that; each datagram with a reply was answered from a version of the history that is no older than what the lane had used or was told of; and it went on until its port's end or its gate's stop.
+pub record IsWellDone (turns : ℕ) (history : List Version) (w : ℕ) (before after : LaneTold) : Type 0 where
+  pub log : List Turn
+  pub ended : Ended
+  pub shown : ℕ
+  pub run : IsLaneRun replies history w 0 0 (entries_of log) (tries_of log)
+  pub told : IsTold 0 log
+  pub port : BothTell before.port after.port (λ b c. c ≡ fold port_turn b log)
+  pub gate : BothTell before.gate after.gate (IsGateRun shown log ended)
+  pub ending : IsEnd turns log ended
+  pub well : (ended ≡ Stopped) ⊎ (ended ≡ PortEnd)
+
+-- the first n lanes ended well, by their numbers from w on, and those behind them are untouched
+abbrev pub AreWellDone : ℕ → List Version → ℕ → ℕ → List LaneTold → List LaneTold → Type 0
+AreWellDone turns history w zero before after = after ≡ before
+AreWellDone turns history w (suc n) (b ∷ before) (c ∷ after) = IsWellDone turns history w b c × AreWellDone turns history (w + 1) n before after
+AreWellDone turns history w (suc n) _ _ = ⊥
+
+-- The file holds a topology; a history of good maps begins with the topology's own numbers and goes on by the feed's batches; the maps got the texts of that history and nothing else; the output got what the feed's lines come to; and each of the first lanes was opened and answered from that history until it ended.
+pub record IsWellServed (turns : ℕ) (ask : Service) (before after : Surroundings) : Type 0 where
+  pub topology : Plan
+  pub is_plan : IsPlan topology
+  pub says : Says topology_file before.files ask.topology topology
+  pub first : Version
+  pub rest : List Version
+  pub newest : Version
+  pub is_first : IsFirstOf topology first
+  pub goes_on : GoesOn Succeeds (first ∷ []) rest
+  pub texts : BothTell before.stage.lent.maps after.stage.lent.maps (IsPrinted (map map_text (first ∷ rest)))
+  pub placed : Stage
+  pub started : Stage
+  pub place : IsPlaced ask.workers before.stage placed
+  pub start : IsStarted ask.listen ask.workers first placed started
+  pub fed : IsFeed topology turns feed.Ended started.lent.feed after.stage.lent.feed (scene first (first ∷ []) started.lent.out started.lent.maps started.lent.pace) (scene newest (first ∷ rest) after.stage.lent.out after.stage.lent.maps after.stage.lent.pace)
+  pub lanes : AreWellDone turns (first ∷ rest) 0 ask.workers started.lent.lanes after.stage.lent.lanes

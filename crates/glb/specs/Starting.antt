@@ -1,0 +1,61 @@
+-- Inside this crate alone: how ports were opened, and a session was started.
+use Rattle.std.specs.Prelude.{◌≡◌, ◌⊎◌, ℕ, ◌<◌, ◌≤◌, Bool, false, List, [], ◌∷◌, Option, None, Some}
+use Rattle.std.specs.List.{list_any}
+use Rattle.lane_model.specs.declared.ended.Ended.{Ended}
+use Rattle.demand_feed.specs.declared.run.FeedEnd.{FeedEnd}
+use Rattle.glb.specs.declared.status.Status.{Status}
+use Rattle.glb.specs.declared.status.Status.TheVariants as status
+use Rattle.glb.specs.Told.{Stage}
+use Rattle.addr_text.specs.declared.address.Listen.{Listen}
+use Rattle.outside.specs.Faults.{BothTell, Rose}
+use Rattle.outside.specs.Sink.{Written}
+use Rattle.outside.specs.declared.port.Opening.{Opening}
+use Rattle.outside.specs.declared.port.Opening.TheVariants as opening
+use Rattle.mapper.specs.Scenes.{IsCut, IsPrinted}
+use Rattle.drive.specs.Done.{LaneTold}
+use Rattle.glb.specs.declared.starting.Start.{Start}
+use Rattle.glb.specs.declared.starting.Start.TheVariants as start
+use Rattle.map_cell.specs.declared.door.OpenFault.{OpenFault}
+use Rattle.map_cell.specs.declared.door.OpenFault.TheVariants.{CellFault as Shut}
+use Rattle.glb.specs.Serve.{AreOpened, AskedFirst, FirstDoorRose, all_ready, is_cell_fault, is_port_fault, is_spent, status_of, then_failed}
+
+-- the ports of the first n lanes were opened, or those up to one that failed
+abbrev pub HasOpened : Listen → ℕ → Opening → List LaneTold → List LaneTold → Type 0
+HasOpened listen n opening.Ready before after = AreOpened listen (all_ready n) before after
+HasOpened listen n opening.Failed before after = (k : ℕ) × (k < n) × AreOpened listen (then_failed k) before after
+
+-- what is told of the maps and of the lanes
+pub record Staged : Type 0 where
+  pub maps : Option Written
+  pub maps_faults : ℕ
+  pub lanes : List LaneTold
+
+-- The ports of the first n lanes were opened and a text was put; or a port failed to open; or the put failed.
+abbrev pub IsStart : Listen → ℕ → List ℕ → Start → Staged → Staged → Type 0
+IsStart listen n text start.Ready before after =
+    AreOpened listen (all_ready n) before.lanes after.lanes × BothTell before.maps after.maps (IsPrinted (text ∷ [])) × (before.maps_faults ≤ after.maps_faults)
+IsStart listen n text start.NoPort before after =
+    ((k : ℕ) × (k < n) × AreOpened listen (then_failed k) before.lanes after.lanes) × (after.maps ≡ before.maps) × (after.maps_faults ≡ before.maps_faults)
+IsStart listen n text start.NoSink before after =
+    AreOpened listen (all_ready n) before.lanes after.lanes × BothTell before.maps after.maps (IsCut [] text) × Rose before.maps_faults after.maps_faults
+
+-- Where the first door was not to give a place or memory was wanting, it was asked for no more than n, and its count rose where it was the door.
+abbrev pub IsAskedSome : ℕ → OpenFault → List LaneTold → List LaneTold → Type 0
+IsAskedSome n fault before after = ((k : ℕ) × (k ≤ n) × AskedFirst k before after) × (fault ≡ Shut → FirstDoorRose before after)
+
+-- a test of the end at a place, where there is one
+abbrev pub at_place : (Ended → Bool) → Option Ended → Bool
+at_place test None = false
+at_place test (Some end) = test end
+
+-- the status of a session, by the ends at the places of its lanes
+abbrev pub status_at : FeedEnd → List (Option Ended) → Status
+status_at end places = status_of end (list_any (at_place is_port_fault) places) (list_any (at_place is_spent) places) (list_any (at_place is_cell_fault) places)
+
+-- no count of a session fell, and a fault of the feed or of an output came with its count
+pub record IsSessionLater (before after : Stage) (result : Status) : Type 0 where
+  pub feed : before.feed_faults ≤ after.feed_faults
+  pub out : before.out_faults ≤ after.out_faults
+  pub maps : before.maps_faults ≤ after.maps_faults
+  pub source : result ≡ status.SourceFault → Rose before.feed_faults after.feed_faults
+  pub sink : result ≡ status.SinkFault → Rose before.out_faults after.out_faults ⊎ Rose before.maps_faults after.maps_faults

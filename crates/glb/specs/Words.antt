@@ -1,0 +1,52 @@
+-- What the words of a command line ask for.
+use Rattle.std.specs.Prelude.{ℕ, List, Option, None, Some, option_and_then, option_map}
+use Rattle.addr_text.specs.declared.address.Listen.{Listen}
+use Rattle.addr_text.specs.Addresses.{listen_of}
+use Rattle.command_line.specs.Asked as line
+use Rattle.glb.specs.Datagram.{Datagram, datagram_of}
+use Rattle.glb.specs.Counts.{count_of}
+
+-- a command, with the names of its files, and the datagram that `answer` is asked for
+pub data Ask : Type 0 where
+  check : List ℕ → List ℕ → Ask
+  map_from : List ℕ → Ask
+  answer : List ℕ → List ℕ → Datagram → Ask
+  repair : List ℕ → List ℕ → List ℕ → Ask
+
+-- what `serve` is asked for: the name of its topology, where to listen, and how many workers
+pub record Service : Type 0 where
+  pub topology : List ℕ
+  pub listen : Listen
+  pub workers : ℕ
+
+-- what a command line asks for: a command that says one text on what files say, to serve, or to run a large world of so many groups
+pub data Task : Type 0 where
+  say : Ask → Task
+  serve : Service → Task
+  large : ℕ → Task
+
+-- how many workers there are to be: 1 to 16, and 1 where that is not said
+abbrev pub workers_of : Option (List ℕ) → Option ℕ
+workers_of None = Some 1
+workers_of (Some text) = count_of 16 text
+
+-- a service at an address with so many workers
+abbrev pub service : List ℕ → Listen → ℕ → Service
+service topology listen workers = record { topology = topology; listen = listen; workers = workers }
+
+-- what `serve` with these words asks for
+abbrev pub service_of : List ℕ → List ℕ → Option (List ℕ) → Option Service
+service_of topology listen workers = option_and_then (λ at. option_map (service topology at) (workers_of workers)) (listen_of listen)
+
+-- a command line, as what it asks for: an address, digits and numbers have to be in their grammars
+abbrev pub asked_by : line.Ask → Option Task
+asked_by (line.check topology map) = Some (say (check topology map))
+asked_by (line.map_of topology) = Some (say (map_from topology))
+asked_by (line.answer topology map addr digits) = option_map say (option_map (answer topology map) (datagram_of addr digits))
+asked_by (line.repair topology map changes) = Some (say (repair topology map changes))
+asked_by (line.serve topology listen workers) = option_map serve (service_of topology listen workers)
+asked_by (line.large groups) = option_map large (count_of 16384 groups)
+
+-- What the words ask for, if they are taken: the declaration of the command line takes them, and they are in their grammars. The first is the program's name.
+unfoldable pub asked : List (List ℕ) → Option Task
+asked words = option_and_then asked_by (line.asked words)

@@ -1,0 +1,21 @@
+//! The top call of the mapping system: words, files, a feed, outputs and lanes to a status.
+#![tactic(auto)]
+
+mod answer;
+mod check;
+mod ending;
+mod files;
+mod large;
+mod map;
+mod repair;
+mod saying;
+mod serve;
+mod starting;
+mod status;
+mod text;
+mod top;
+mod words;
+
+pub use drive::Lane;
+pub use status::Status;
+pub use top::glb;

@@ -1,0 +1,208 @@
+//! The words of the command line, as a command.
+ghost use Rattle.std.specs.Prelude.{◌≡◌, ◌%◌, ◌≤◌, IfOk, IfSome, IsErr, IsSome, length, option_and_then};
+ghost use Rattle.std.specs.Option.{option_map};
+ghost use Rattle.addr_text.specs.Addresses.{addr_of};
+ghost use Rattle.command_line.specs.Asked.{texts};
+ghost use Rattle.command_line.specs.Commands.{ask_of as line_of};
+ghost use Rattle.glb.specs.Words.{answer, asked, asked_by, large, say, serve, service_of, workers_of};
+ghost use Rattle.glb.specs.Commands.{IsManned, ask_of, task_of};
+ghost use Rattle.glb.specs.Counts.{count_of, is_plain};
+ghost use Rattle.glb.specs.Datagram.{datagram_of};
+
+use addr_text::{Addr, Listen, read_addr, read_listen};
+use big_world::MOST_GROUPS;
+use command_line::Command as Line;
+use hex::FromHexError;
+use no_memory::NoMemory;
+use std::alloc::Global;
+use text_parts::{are_digits, decimal_value};
+
+/// The most workers.
+const MOST_WORKERS: u64 = 16;
+
+/// A command that says one text on what files say.
+#[derive(Drop)]
+pub enum Command<'a> {
+    Check {
+        topology: &'a str,
+        map: &'a str,
+    },
+    Map {
+        topology: &'a str,
+    },
+    Answer {
+        topology: &'a str,
+        map: &'a str,
+        from: Addr,
+        octets: Vec<u8>,
+    },
+    Repair {
+        topology: &'a str,
+        map: &'a str,
+        changes: &'a str,
+    },
+}
+
+/// A command line that is taken.
+#[derive(Drop)]
+pub enum Order<'a> {
+    Say(Command<'a>),
+    Serve {
+        topology: &'a str,
+        listen: Listen,
+        workers: u8,
+    },
+    Large {
+        groups: u32,
+    },
+}
+
+/// Whether a text is decimal digits, of which the first is not `0`.
+fn is_plain(text: &[u8]) -> bool
+    ensures { result ≡ is_plain text.now }
+{
+    match text {
+        [] => false,
+        [first, ..] => *first > b'0' && are_digits(text),
+    }
+}
+
+/// The decimal number from 1 to the limit that a text writes, without sign or leading zeros.
+#[tactic(auto, unfolding(crate::specs::Counts::count_of))]
+fn read_count(text: &[u8], limit: u64) -> Option<u64>
+    ensures count { result ≡ count_of limit text.now }
+    ensures within { IfSome result (λ n. (1 ≤ n) × (n ≤ limit)) }
+{
+    if !is_plain(text) {
+        return None;
+    }
+    match decimal_value(text) {
+        Some(count) if count >= 1 && count <= limit => Some(count),
+        _ => None,
+    }
+}
+
+/// How many workers there are to be.
+fn read_workers(text: Option<&str>) -> Option<u8>
+    ensures workers { result ≡ workers_of (option_map (λ t. t.now) text.entry) }
+    ensures within { IfSome result (λ n. (1 ≤ n) × (n ≤ 16)) }
+{
+    match text {
+        Some(text) => match read_count(text.as_bytes(), MOST_WORKERS) {
+            Some(count) => Some(count as u8),
+            None => None,
+        },
+        None => Some(1),
+    }
+}
+
+/// What `serve` with these words asks for.
+fn read_serve<'a>(topology: &'a str, listen: &str, workers: Option<&str>) -> Option<Order<'a>>
+    ensures asked { option_map task_of result ≡ option_map serve (service_of topology.entry.now listen.now (option_map (λ t. t.now) workers.entry)) }
+    ensures manned { IsManned result }
+{
+    let listen = read_listen(listen.as_bytes())?;
+    let workers = read_workers(workers)?;
+    Some(Order::Serve {
+        topology,
+        listen,
+        workers,
+    })
+}
+
+/// What `large` with this word asks for.
+fn read_large<'a>(groups: &str) -> Option<Order<'a>>
+    ensures asked { option_map task_of result ≡ option_map large (count_of 16384 groups.now) }
+    ensures manned { IsManned result }
+{
+    match read_count(groups.as_bytes(), u64::from(MOST_GROUPS)) {
+        Some(groups) => Some(Order::Large {
+            groups: groups as u32,
+        }),
+        None => None,
+    }
+}
+
+/// What `answer` with these words asks for. Memory is asked for only where the address is one and the digits are of an even number.
+fn read_answer<'a>(
+    alloc: Global,
+    topology: &'a str,
+    map: &'a str,
+    addr: &str,
+    digits: &str,
+) -> Result<Option<Command<'a>>, NoMemory>
+    ensures asked { IfOk result (λ c. option_map ask_of c ≡ option_map (answer topology.entry.now map.entry.now) (datagram_of addr.now digits.now)) }
+    ensures memory { IsErr result → IsSome (addr_of addr.now) × (length digits.now % 2 ≡ 0) }
+{
+    let Some(from) = read_addr(addr.as_bytes()) else {
+        return Ok(None);
+    };
+    match hex::decode(alloc, digits) {
+        Ok(octets) => Ok(Some(Command::Answer {
+            topology,
+            map,
+            from,
+            octets,
+        })),
+        Err(FromHexError::OutOfMemory) => Err(NoMemory),
+        Err(_) => Ok(None),
+    }
+}
+
+/// A command, as an order.
+fn order_of(command: Option<Command<'_>>) -> Option<Order<'_>>
+    ensures asked { option_map task_of result ≡ option_map say (option_map ask_of command.entry) }
+    ensures manned { IsManned result }
+{
+    match command {
+        Some(command) => Some(Order::Say(command)),
+        None => None,
+    }
+}
+
+/// A command line, as an order: none where a word is not in its grammar.
+fn read_line(alloc: Global, line: Line<'_>) -> Result<Option<Order<'_>>, NoMemory>
+    ensures asked { IfOk result (λ c. option_map task_of c ≡ asked_by (line_of line.entry)) }
+    ensures manned { IfOk result IsManned }
+{
+    match line {
+        Line::Check { topology, map } => Ok(Some(Order::Say(Command::Check { topology, map }))),
+        Line::Map { topology } => Ok(Some(Order::Say(Command::Map { topology }))),
+        Line::Answer {
+            topology,
+            map,
+            addr,
+            hex,
+        } => match read_answer(alloc, topology, map, addr, hex) {
+            Ok(command) => Ok(order_of(command)),
+            Err(NoMemory) => Err(NoMemory),
+        },
+        Line::Repair {
+            topology,
+            map,
+            changes,
+        } => Ok(Some(Order::Say(Command::Repair {
+            topology,
+            map,
+            changes,
+        }))),
+        Line::Serve {
+            topology,
+            listen,
+            workers,
+        } => Ok(read_serve(topology, listen, workers)),
+        Line::Large { groups } => Ok(read_large(groups)),
+    }
+}
+
+/// What the words ask for, or none where they are not taken.
+#[tactic(auto, unfolding(crate::specs::Words::asked))]
+pub fn read_words(alloc: Global, words: &[String]) -> Result<Option<Order<'_>>, NoMemory>
+    ensures asked { IfOk result (λ c. option_map task_of c ≡ asked (texts words.entry.now)) }
+    ensures manned { IfOk result IsManned }
+{
+    match command_line::read_words(alloc, words)? {
+        Some(line) => read_line(alloc, line),
+        None => Ok(None),
+    }
+}

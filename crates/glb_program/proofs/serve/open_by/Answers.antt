@@ -1,9 +1,0 @@
-use Rattle.std.proofs.Common.{refl}
-use Rattle.glb_program.proofs.Asked.{asked_by, refused_by}
-use Rattle.glb_program.proofs.serve.open_by.Goals as goal
-
-pub returns-clause-asked : goal.returns-clause-asked
-returns-clause-asked g c = asked_by _ _ _ _ c.open.ensures.asked_all (rw (c.open.ensures.same.0, c.open.ensures.same.1) refl) c.open.ensures.later
-
-pub returns-clause-refused : goal.returns-clause-refused
-returns-clause-refused g c = refused_by _ _ _ _ c.open.ensures.asked (rw (c.open.ensures.same.0, c.open.ensures.same.1) refl) c.open.ensures.later c.open.ensures.cause

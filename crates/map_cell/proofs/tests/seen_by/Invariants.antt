@@ -1,5 +1,0 @@
-use Rattle.map_cell.proofs.tests.seen_by.Given as goal
-
--- the history that was just made
-abbrev pub ghosts-opened : goal.ghosts-opened
-ghosts-opened g a = record { book = a.history }

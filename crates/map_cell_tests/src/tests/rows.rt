@@ -1,0 +1,175 @@
+//! Rows of notes: what is put is what is read, in its order, up to a row that is full.
+ghost use Rattle.std.specs.Prelude.{◌≡◌, ◌<◌, ◌^◌};
+ghost use Rattle.map_cell_tests.specs.Examples.{AreGood, IsOf};
+
+use super::{Worlds, first_version, publish_to};
+use map_cell::{EmptyHistory, Naming, NoteRow, PlainDoor, Publisher, RowNotes, open};
+use outside::Notes;
+use std::alloc::Global;
+use std::marker::Brand;
+use std::sync::Wait;
+use std::test::Fail;
+
+/// The serial of the next note, if one is there.
+fn next_serial<J: Naming>(notes: &mut RowNotes<'_, J>) -> Option<u64> {
+    match notes.next() {
+        None => None,
+        Some(note) => Some(note.serial()),
+    }
+}
+
+/// What was read of a row ahead of all puts, behind the first, behind the second twice, and by a reader that began then;
+/// and where the puts left off.
+#[derive(Clone, Copy, PartialEq, Eq)]
+struct Turns {
+    unset: Option<u64>,
+    first: Option<u64>,
+    second: Option<u64>,
+    behind: Option<u64>,
+    again: Option<u64>,
+    at: [u32; 2],
+}
+
+/// Two notes, of the first map and of the second, put and read in turns.
+fn turns_of<J: Naming, R: Wait>(
+    rt: &R,
+    alloc: Global,
+    row: &NoteRow<J>,
+    publisher: &mut Publisher<J>,
+    worlds: &Worlds,
+) -> Option<Turns>
+    requires newest { IsOf worlds.now.old publisher.old.newest × (publisher.old.newest.serial ≡ 0) }
+    requires good { AreGood worlds.now.old worlds.now.new }
+{
+    let mut notes = RowNotes::over(row);
+    let unset = next_serial(&mut notes);
+    let mut at = 0;
+    let took = row.put(rt, &mut at, publisher.note());
+    let first_at = at;
+    let first = next_serial(&mut notes);
+    if !took || publish_to(rt, alloc, publisher, &worlds.old, &worlds.new).is_none() {
+        return None;
+    }
+    if !row.put(rt, &mut at, publisher.note()) {
+        return None;
+    }
+    let second = next_serial(&mut notes);
+    let behind = next_serial(&mut notes);
+    let again = next_serial(&mut RowNotes::over(row));
+    Some(Turns {
+        unset,
+        first,
+        second,
+        behind,
+        again,
+        at: [first_at, at],
+    })
+}
+
+/// How many notes a row takes from a place on, and where that ends. More are tried than it has cells.
+fn fill_row<J: Naming, R: Wait>(
+    rt: &R,
+    row: &NoteRow<J>,
+    publisher: &Publisher<J>,
+    from: u32,
+) -> (u32, u32) {
+    let mut at = from;
+    let mut taken = 0u32;
+    for _ in 0..65_537u32 {
+        if row.put(rt, &mut at, publisher.note()) {
+            taken = taken.saturating_add(1);
+        }
+    }
+    (taken, at)
+}
+
+/// How many notes of a row are of each of the first two maps.
+fn count_row<J: Naming>(row: &NoteRow<J>) -> (u32, u32) {
+    let mut notes = RowNotes::over(row);
+    let mut first = 0u32;
+    let mut second = 0u32;
+    for _ in 0..65_537u32 {
+        match next_serial(&mut notes) {
+            Some(0) => first = first.saturating_add(1),
+            Some(1) => second = second.saturating_add(1),
+            _ => {}
+        }
+    }
+    (first, second)
+}
+
+/// What comes of a row that is then filled from its first cell on: the turns, how many notes more it took and where
+/// that ended, and how many of each map it holds.
+#[derive(Clone, Copy, PartialEq, Eq)]
+struct Filled {
+    turns: Turns,
+    more: (u32, u32),
+    held: (u32, u32),
+}
+
+/// The turns over a row, which is then filled and counted.
+fn fill<J: Naming, R: Wait>(
+    rt: &R,
+    alloc: Global,
+    row: &NoteRow<J>,
+    publisher: &mut Publisher<J>,
+    worlds: &Worlds,
+) -> Option<Filled>
+    requires newest { IsOf worlds.now.old publisher.old.newest × (publisher.old.newest.serial ≡ 0) }
+    requires good { AreGood worlds.now.old worlds.now.new }
+{
+    match turns_of(rt, alloc, row, publisher, worlds) {
+        None => None,
+        Some(turns) => Some(Filled {
+            turns,
+            more: fill_row(rt, row, publisher, 0),
+            held: count_row(row),
+        }),
+    }
+}
+
+/// The same over a cell of the example, which is closed.
+fn opened_row<J: Naming, R: Wait>(rt: &R, alloc: Global, history: EmptyHistory) -> Option<Filled>
+    requires { history ≡ J.book }
+{
+    match (first_version(alloc), NoteRow::new(alloc)) {
+        (Some((version, worlds)), Ok(row)) => {
+            let mut door = PlainDoor::new();
+            match open::<J, PlainDoor, R>(rt, alloc, history, version, 0, &mut door) {
+                Err(_) => None,
+                Ok((publisher, _viewers)) => {
+                    let mut publisher = publisher;
+                    let filled = fill(rt, alloc, &row, &mut publisher, &worlds);
+                    publisher.close(rt);
+                    filled
+                }
+            }
+        }
+        _ => None,
+    }
+}
+
+/// The same, of a history of its own.
+fn filled_row<R: Wait>(rt: &R, alloc: Global) -> Option<Filled> {
+    opened_row::<Brand, R>(rt, alloc, EmptyHistory::new())
+}
+
+/// Two notes in turns, and then 65,534 more of the second map, after which the row is full.
+#[test]
+fn rows_are_read_in_order(rt: HostRuntime) -> Result<(), Fail> {
+    let turns = Turns {
+        unset: None,
+        first: Some(0),
+        second: Some(1),
+        behind: None,
+        again: Some(0),
+        at: [1, 2],
+    };
+    let filled = Filled {
+        turns,
+        more: (65_534, 65_536),
+        held: (1, 65_535),
+    };
+    assert!(rt; filled_row(&rt, rt.alloc()) == Some(filled));
+    Ok(())
+}

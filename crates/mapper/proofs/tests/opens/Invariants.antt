@@ -1,5 +1,0 @@
-use Rattle.mapper.proofs.tests.opens.Given as goal
-
--- the history that was just made
-abbrev pub ghosts-opening : goal.ghosts-opening
-ghosts-opening g a = record { book = a.history }

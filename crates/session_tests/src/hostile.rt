@@ -1,0 +1,435 @@
+//! Octets that nobody should send: datagrams and lines of the feed by a table, and files and feeds that are cut at each octet or differ in one.
+ghost use Rattle.std.specs.Prelude.{◌≤◌, length};
+
+use glb::Status;
+use no_memory::NoMemory;
+use outside::{File, MemShelf};
+use std::alloc::Global;
+use std::process::Abort;
+use std::sync::Wait;
+use std::test::Fail;
+use std::thread::Threads;
+use trial_runs::Held::{self, Bytes, Missing, Topology};
+use trial_runs::{
+    Came, GOOD_REGION, NEVER, PLAIN, REGION, ROOM, Row, Scene, ZONE, assert_rows, came_of,
+    came_over, session_of,
+};
+
+/// Datagrams from 198.51.100.7 on the region's map, and their replies.
+const DATAGRAMS: &[(&str, &str)] = &[
+    // A pointer in the question.
+    (
+        "123401000001000000000000c00c00010001",
+        "123481010000000000000000",
+    ),
+    // A reserved length octet.
+    (
+        "123401000001000000000000437777770363646e076578616d706c650000010001",
+        "123481010000000000000000",
+    ),
+    // Cut after 20 octets.
+    (
+        "123401000001000000000000037777770363646e",
+        "123481010000000000000000",
+    ),
+    // Two questions are said, or a record, which aren't there.
+    (
+        "123401000002000000000000037777770363646e076578616d706c650000010001",
+        "123481010000000000000000",
+    ),
+    (
+        "123401000001000000000001037777770363646e076578616d706c650000010001",
+        "123481010000000000000000",
+    ),
+    // 65,535 records are said, of which one is there.
+    (
+        "12340100000100000000ffff037777770363646e076578616d706c65000001000100002904d000000000000b0008000700011800c63364",
+        "123481010000000000000000",
+    ),
+    // A record whose name is a pointer.
+    (
+        "123401000001000000000001037777770363646e076578616d706c650000010001c00c00010001000000000000",
+        "123485000001000100000000037777770363646e076578616d706c650000010001c00c00010001000000140004c0000201",
+    ),
+    // An OPT record whose name isn't the root.
+    (
+        "123401000001000000000001037777770363646e076578616d706c650000010001c00c002904d0000000000000",
+        "123481010000000000000000",
+    ),
+    // Options that end inside one's length.
+    (
+        "123401000001000000000001037777770363646e076578616d706c65000001000100002904d0000000000003000800",
+        "123481010001000000000001037777770363646e076578616d706c65000001000100002904d0000000000000",
+    ),
+    // A subnet of family 3.
+    (
+        "123401000001000000000001037777770363646e076578616d706c65000001000100002904d00000000000080008000400031800",
+        "123481010001000000000001037777770363646e076578616d706c65000001000100002904d0000000000000",
+    ),
+    // Seven octets behind the query.
+    (
+        "123401000001000000000000037777770363646e076578616d706c65000001000100000000000000",
+        "123485000001000100000000037777770363646e076578616d706c650000010001c00c00010001000000140004c0000201",
+    ),
+    // A subnet of family 0, all 0.
+    (
+        "123401000001000000000001037777770363646e076578616d706c65000001000100002904d00000000000080008000400000000",
+        "123485000001000100000001037777770363646e076578616d706c650000010001c00c00010001000000140004c000020100002904d0000000000000",
+    ),
+];
+
+/// The region's topology and map.
+const FILES: &[(&str, Held)] = &[("t", Topology(REGION)), ("m", Bytes(GOOD_REGION))];
+
+/// One datagram is answered so.
+fn assert_datagram<R: Abort + Threads + Wait + Sync + AllocGlobal>(
+    rt: &R,
+    datagram: &str,
+    reply: &str,
+) -> Result<(), Fail> {
+    let words = &["glb", "answer", "t", "m", "198.51.100.7", datagram];
+    let came = came_of(rt, words, FILES)?;
+    let pieces = &["answer ", reply, "\n"];
+    assert!(rt; came.says(Status::Ok, pieces), "for {datagram}");
+    Ok(())
+}
+
+fn assert_datagrams<R: Abort + Threads + Wait + Sync + AllocGlobal>(
+    rt: &R,
+    rows: &[(&str, &str)],
+) -> Result<(), Fail> {
+    for (datagram, reply) in rows {
+        assert_datagram(rt, datagram, reply)?;
+    }
+    Ok(())
+}
+
+#[test]
+fn datagrams(rt: HostRuntime) -> Result<(), Fail> {
+    assert_datagrams(&rt, DATAGRAMS)
+}
+
+/// Files that hold no topology, and how that is said.
+const NO_TOPOLOGIES: &[Row] = &[
+    (
+        Bytes(b""),
+        Missing,
+        Status::Refused,
+        "refused topology 2 missing key at top zone\n",
+        1,
+    ),
+    (
+        Bytes(b"[zone]\n"),
+        Missing,
+        Status::Refused,
+        "refused topology 2 missing key at top node\n",
+        1,
+    ),
+    (
+        Bytes(b"[zone]\napex = \"cdn.ex"),
+        Missing,
+        Status::Refused,
+        "refused topology 1 not toml\n",
+        1,
+    ),
+];
+
+#[test]
+fn files_that_hold_no_topology(rt: HostRuntime) -> Result<(), Fail> {
+    assert_rows(&rt, &["glb", "map", "t"], NO_TOPOLOGIES)
+}
+
+/// A session of one quiet lane over a feed.
+fn session_over<R: Threads + Wait + Sync + AllocGlobal>(
+    rt: &R,
+    feed: &[u8],
+) -> Result<Came, NoMemory> {
+    let scene = Scene {
+        turns: 1000,
+        ..PLAIN
+    };
+    session_of(rt, scene, feed, &[])
+}
+
+/// A line, which is said so many times, and what is written of the last of them.
+struct Line {
+    octets: &'static [u8],
+    times: usize,
+    text: &'static str,
+}
+
+const LINES: &[Line] = &[
+    Line {
+        octets: b"\xff\n",
+        times: 1,
+        text: "refused 1 bad byte\n",
+    },
+    Line {
+        octets: b"\n",
+        times: 1,
+        text: "refused 1 unknown word\n",
+    },
+    Line {
+        octets: b"demand g1 4 5\n",
+        times: 1,
+        text: "refused 1 wrong count\n",
+    },
+    Line {
+        octets: b"demand g1 x\n",
+        times: 1,
+        text: "refused 1 bad number\n",
+    },
+    Line {
+        octets: b"demand g1 0\n",
+        times: 1,
+        text: "refused 1 out of range\n",
+    },
+    Line {
+        octets: b"ask 1.2.3 00\n",
+        times: 1,
+        text: "refused 1 bad address\n",
+    },
+    Line {
+        octets: b"ask 1.2.3.4 abc\n",
+        times: 1,
+        text: "refused 1 bad hex\n",
+    },
+    Line {
+        octets: b"demand g1 8\n",
+        times: 4_096,
+        text: "",
+    },
+    Line {
+        octets: b"demand g1 8\n",
+        times: 4_097,
+        text: "refused 4097 batch full\n",
+    },
+    // A line of 8,300 octets, and of 8,301.
+    Line {
+        octets: b"a",
+        times: 8_300,
+        text: "refused 1 unknown word\n",
+    },
+    Line {
+        octets: b"a",
+        times: 8_301,
+        text: "refused 1 too long\n",
+    },
+];
+
+fn assert_line<R: Abort + Threads + Wait + Sync + AllocGlobal>(
+    rt: &R,
+    line: &Line,
+) -> Result<(), Fail> {
+    let mut feed = Vec::new(rt.alloc());
+    for _ in 0..line.times {
+        feed.extend_from_slice(line.octets)?;
+    }
+    let came = session_over(rt, feed.as_slice())?;
+    assert!(rt; came.says(Status::Ok, &[line.text]), "for {}", line.text);
+    Ok(())
+}
+
+fn assert_lines<R: Abort + Threads + Wait + Sync + AllocGlobal>(
+    rt: &R,
+    lines: &[Line],
+) -> Result<(), Fail> {
+    for line in lines {
+        assert_line(rt, line)?;
+    }
+    Ok(())
+}
+
+#[test]
+fn lines_of_the_feed(rt: HostRuntime) -> Result<(), Fail> {
+    assert_lines(&rt, LINES)
+}
+
+const CHANGES: &[u8] = b"demand g1 6\ncapacity A 9\n";
+
+const FEED: &[u8] =
+    b"demand g2 4\ncapacity R 12\ncommit\nask 198.51.100.7 00\nshow\ncommit\nstop\n";
+
+/// What an octet is changed to, in turn.
+const OTHERS: &[u8] = &[0, b'\n', b' ', b'"', b'9', b'=', 0x80, 0xff];
+
+/// A text that ends before an octet, or has another one there.
+#[derive(Clone, Copy)]
+enum Harm {
+    Cut,
+    Change(u8),
+}
+
+fn harm_text(text: &mut Vec<u8>, at: usize, harm: Harm) {
+    match harm {
+        Harm::Cut => text.truncate(at),
+        Harm::Change(octet) => {
+            if let Some(changed) = text.get_mut(at) {
+                *changed = octet;
+            }
+        }
+    }
+}
+
+fn harmed(alloc: Global, text: &[u8], at: usize, harm: Harm) -> Result<Vec<u8>, NoMemory> {
+    let mut text = Vec::from_slice(alloc, text)?;
+    harm_text(&mut text, at, harm);
+    Ok(text)
+}
+
+/// Whether a status is one that any files may lead to, and the text one of a refusal exactly where it is that.
+fn is_allowed(status: Status, text: &[u8]) -> bool {
+    match status {
+        Status::Refused => text.starts_with(b"refused "),
+        Status::Ok | Status::NotGood => !text.starts_with(b"refused"),
+        _ => false,
+    }
+}
+
+/// Which of the three files is harmed.
+#[derive(Clone, Copy, PartialEq, Eq, Debug)]
+enum Which {
+    Topology,
+    Map,
+    Changes,
+}
+
+/// A file, harmed where it is the one that is to be.
+fn file_of(
+    alloc: Global,
+    name: &str,
+    text: &[u8],
+    is_harmed: bool,
+    at: usize,
+    harm: Harm,
+) -> Result<File, NoMemory>
+    requires { length name.now ≤ 255 }
+{
+    let mut text = Vec::from_slice(alloc, text)?;
+    if is_harmed {
+        harm_text(&mut text, at, harm);
+    }
+    Ok(File::new(name, text))
+}
+
+fn files_of(
+    alloc: Global,
+    topology: &[u8],
+    which: Which,
+    at: usize,
+    harm: Harm,
+) -> Result<MemShelf, NoMemory> {
+    let mut files = Vec::new(alloc);
+    files.push(file_of(alloc, "t", topology, which == Which::Topology, at, harm)?)?;
+    files.push(file_of(alloc, "m", GOOD_REGION, which == Which::Map, at, harm)?)?;
+    files.push(file_of(alloc, "c", CHANGES, which == Which::Changes, at, harm)?)?;
+    MemShelf::new(alloc, files, 8, Vec::new(alloc))
+}
+
+/// Whether a command over a harmed file put one text that may be.
+fn is_sound(came: &Came, which: Which, harm: Harm) -> bool {
+    let text = came.text();
+    let is_cut_map = which == Which::Map && matches!(harm, Harm::Cut);
+    is_allowed(came.status, text)
+        && came.puts() == 1
+        && (!is_cut_map || text == b"refused map truncated\n".as_slice())
+}
+
+/// `repair` over files of which one is harmed.
+fn assert_harmed<R: Abort + Threads + Wait + Sync + AllocGlobal>(
+    rt: &R,
+    topology: &[u8],
+    which: Which,
+    at: usize,
+    harm: Harm,
+) -> Result<(), Fail> {
+    let files = files_of(rt.alloc(), topology, which, at, harm)?;
+    let came = came_over(rt, &["glb", "repair", "t", "m", "c"], files, NEVER, ROOM)?;
+    assert!(rt; is_sound(&came, which, harm), "for {which:?} at {at}");
+    Ok(())
+}
+
+/// What an octet at a place is changed to.
+fn other_at(at: usize) -> u8 {
+    OTHERS.get(at % 8).copied().unwrap_or(0)
+}
+
+fn assert_file<R: Abort + Threads + Wait + Sync + AllocGlobal>(
+    rt: &R,
+    topology: &[u8],
+    which: Which,
+    length: usize,
+) -> Result<(), Fail> {
+    for at in 0..length {
+        assert_harmed(rt, topology, which, at, Harm::Cut)?;
+        assert_harmed(rt, topology, which, at, Harm::Change(other_at(at)))?;
+    }
+    Ok(())
+}
+
+#[test]
+fn harmed_files(rt: HostRuntime) -> Result<(), Fail> {
+    let topology = format!(in rt.alloc(); "{ZONE}{REGION}")?;
+    let topology = topology.as_bytes();
+    assert_file(&rt, topology, Which::Topology, topology.len())?;
+    assert_file(&rt, topology, Which::Map, GOOD_REGION.len())?;
+    assert_file(&rt, topology, Which::Changes, CHANGES.len())
+}
+
+/// Whether a session ended well, and each line is one of control text.
+fn says_lines(came: &Came) -> bool {
+    came.status == Status::Ok
+        && came
+            .text()
+            .split(|octet| *octet == b'\n')
+            .all(is_control_line)
+}
+
+fn is_control_line(line: &[u8]) -> bool {
+    line.is_empty()
+        || line.starts_with(b"published ")
+        || line.starts_with(b"refused ")
+        || line.starts_with(b"answer ")
+        || line.starts_with(b"show ")
+}
+
+fn assert_feed<R: Abort + Threads + Wait + Sync + AllocGlobal>(
+    rt: &R,
+    at: usize,
+    harm: Harm,
+) -> Result<(), Fail> {
+    let feed = harmed(rt.alloc(), FEED, at, harm)?;
+    let came = session_over(rt, feed.as_slice())?;
+    assert!(rt; says_lines(&came), "for a feed harmed at {at}");
+    Ok(())
+}
+
+fn assert_cut_feeds<R: Abort + Threads + Wait + Sync + AllocGlobal>(
+    rt: &R,
+    length: usize,
+) -> Result<(), Fail> {
+    for at in 0..length {
+        assert_feed(rt, at, Harm::Cut)?;
+    }
+    Ok(())
+}
+
+fn assert_changed_feeds<R: Abort + Threads + Wait + Sync + AllocGlobal>(
+    rt: &R,
+    length: usize,
+) -> Result<(), Fail> {
+    for at in 0..length {
+        assert_feed(rt, at, Harm::Change(other_at(at)))?;
+    }
+    Ok(())
+}
+
+#[test]
+fn cut_feeds(rt: HostRuntime) -> Result<(), Fail> {
+    assert_cut_feeds(&rt, FEED.len())
+}
+
+#[test]
+fn changed_feeds(rt: HostRuntime) -> Result<(), Fail> {
+    assert_changed_feeds(&rt, FEED.len())
+}

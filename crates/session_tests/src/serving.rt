@@ -1,0 +1,275 @@
+//! `serve` over a region of two pools, in memory.
+use glb::Status;
+use std::process::Abort;
+use std::sync::Wait;
+use std::test::Fail;
+use std::thread::Threads;
+use trial_runs::{
+    Came, Fails, MemLane, ONE, PLAIN as SCENE, REGION_MAP, SERVE_TWO, Scene, Script, session_of,
+};
+
+/// Three queries.
+const THREE: Script = Script { queries: 3, ..ONE };
+
+/// Five queries.
+const FIVE: Script = Script { queries: 5, ..ONE };
+
+/// The words of a session of sixteen workers, and of one that is named.
+const SERVE_SIXTEEN: &[&str] = &[
+    "glb",
+    "serve",
+    "t",
+    "--listen",
+    "127.0.0.1:53",
+    "--workers",
+    "16",
+];
+
+const SERVE_ONE: &[&str] = &[
+    "glb",
+    "serve",
+    "t",
+    "--listen",
+    "127.0.0.1:53",
+    "--workers",
+    "1",
+];
+
+const TWO_WORKERS: Scene = Scene {
+    words: SERVE_TWO,
+    ..SCENE
+};
+
+/// The scene, the feed, the lanes, and what comes of it: the status, what both outputs get, and of the first lanes how many datagrams were taken, and how many replies went.
+#[derive(Clone, Copy)]
+struct Row {
+    scene: Scene,
+    feed: &'static str,
+    lanes: &'static [Script],
+    status: Status,
+    out: &'static str,
+    maps: &'static str,
+    served: &'static [(usize, usize)],
+}
+
+/// The first map, and that where the second group asks for four units.
+const BOTH: &str =
+    "glb map 1\nplace g1 A 8\nplace g2 A 2\nplace g2 B 5\nfull g2 A A\nfull g2 B R\nend\nglb map 1\nplace g1 A 8\nplace g2 A 2\nplace g2 B 2\nfull g2 A A\nend\n";
+
+/// One worker, who is not named.
+const PLAIN: Row = Row {
+    scene: SCENE,
+    feed: "",
+    lanes: &[],
+    status: Status::Ok,
+    out: "",
+    maps: REGION_MAP,
+    served: &[],
+};
+
+const ROWS: &[Row] = &[
+    PLAIN,
+    Row {
+        scene: Scene {
+            words: SERVE_ONE,
+            ..SCENE
+        },
+        ..PLAIN
+    },
+    Row {
+        feed: "show",
+        out: "show 0 placed 15 unplaced 1 full 2\n",
+        ..PLAIN
+    },
+    Row {
+        feed: "demand g2 4\ncommit\nask 198.51.100.7 123401000001000000000000037777770363646e076578616d706c650000010001\nshow\ncommit\nstop\nshow\n",
+        out: "published 1\nanswer 1 123485000001000100000000037777770363646e076578616d706c650000010001c00c00010001000000140004c0000201\nshow 1 placed 12 unplaced 0 full 1\npublished 1\n",
+        maps: BOTH,
+        ..PLAIN
+    },
+    Row {
+        feed: "demand nobody 3\ndemand g1 5\ncommit\nstop\n",
+        out: "refused 1 unknown name\nrefused commit lines 1\n",
+        ..PLAIN
+    },
+    Row {
+        lanes: &[THREE, ONE],
+        served: &[(3, 3), (0, 0)],
+        ..PLAIN
+    },
+    Row {
+        scene: TWO_WORKERS,
+        lanes: &[THREE, ONE, ONE],
+        served: &[(3, 3), (1, 1), (0, 0)],
+        ..PLAIN
+    },
+    Row {
+        scene: Scene {
+            words: SERVE_SIXTEEN,
+            ..SCENE
+        },
+        lanes: &[ONE; 16],
+        served: &[(1, 1); 16],
+        ..PLAIN
+    },
+    Row {
+        scene: TWO_WORKERS,
+        lanes: &[
+            THREE,
+            Script {
+                queries: 20,
+                sends: Fails {
+                    first: 6,
+                    count: 14,
+                },
+                ..ONE
+            },
+        ],
+        status: Status::PortFault,
+        served: &[(3, 3), (14, 6)],
+        ..PLAIN
+    },
+    Row {
+        scene: TWO_WORKERS,
+        lanes: &[
+            THREE,
+            Script {
+                opens: Fails { first: 0, count: 1 },
+                ..ONE
+            },
+        ],
+        status: Status::PortFault,
+        maps: "",
+        served: &[(0, 0), (0, 0)],
+        ..PLAIN
+    },
+    Row {
+        lanes: &[THREE],
+        scene: Scene {
+            maps: Fails { first: 0, count: 1 },
+            ..SCENE
+        },
+        status: Status::SinkFault,
+        maps: "",
+        served: &[(0, 0)],
+        ..PLAIN
+    },
+    Row {
+        feed: "demand g2 4\ncommit\nshow\n",
+        lanes: &[THREE],
+        scene: Scene {
+            maps: Fails { first: 1, count: 1 },
+            ..SCENE
+        },
+        status: Status::SinkFault,
+        served: &[(3, 3)],
+        ..PLAIN
+    },
+    Row {
+        feed: "demand g2 4\ncommit\nshow\n",
+        scene: Scene {
+            lines: Fails { first: 0, count: 1 },
+            ..SCENE
+        },
+        status: Status::SinkFault,
+        maps: BOTH,
+        ..PLAIN
+    },
+    Row {
+        feed: "show\nshow\n",
+        scene: Scene {
+            sizes: &[5],
+            reads: Fails { first: 1, count: 1 },
+            ..SCENE
+        },
+        status: Status::SourceFault,
+        out: "show 0 placed 15 unplaced 1 full 2\n",
+        ..PLAIN
+    },
+    Row {
+        feed: "show\nshow\n",
+        scene: Scene {
+            sizes: &[5, 1, 1],
+            turns: 2,
+            ..SCENE
+        },
+        status: Status::Spent,
+        out: "show 0 placed 15 unplaced 1 full 2\n",
+        ..PLAIN
+    },
+    Row {
+        scene: Scene { turns: 3, ..SCENE },
+        lanes: &[FIVE],
+        status: Status::Spent,
+        served: &[(3, 3)],
+        ..PLAIN
+    },
+    Row {
+        feed: "stop\n",
+        lanes: &[Script {
+            looks: Fails { first: 1, count: 1 },
+            ..THREE
+        }],
+        status: Status::CellFault,
+        served: &[(2, 1)],
+        ..PLAIN
+    },
+    Row {
+        feed: "stop\n",
+        lanes: &[Script {
+            places: Fails { first: 0, count: 1 },
+            ..THREE
+        }],
+        status: Status::CellFault,
+        maps: "",
+        served: &[(0, 0)],
+        ..PLAIN
+    },
+    Row {
+        lanes: &[Script { goes: 2, ..FIVE }],
+        served: &[(2, 2)],
+        ..PLAIN
+    },
+];
+
+/// How many datagrams a lane took, and how many replies went.
+fn served_by(lane: &MemLane) -> (usize, usize) {
+    (
+        lane.port.taken().len(),
+        lane.port.tries().iter().filter(|reply| reply.went).count(),
+    )
+}
+
+/// Whether the first lanes served so many.
+fn have_served(came: &Came, served: &[(usize, usize)]) -> bool {
+    came.lent
+        .lanes
+        .iter()
+        .map(served_by)
+        .take(served.len())
+        .eq(served.iter().copied())
+}
+
+/// Whether a session came out as its row says.
+fn came_so(came: &Came, row: &Row) -> bool {
+    came.status == row.status
+        && came.text() == row.out.as_bytes()
+        && came.lent.maps.bytes() == row.maps.as_bytes()
+        && have_served(came, row.served)
+}
+
+fn assert_rows<R: Abort + Threads + Wait + Sync + AllocGlobal>(
+    rt: &R,
+    rows: &[Row],
+) -> Result<(), Fail> {
+    for row in rows {
+        let came = session_of(rt, row.scene, row.feed.as_bytes(), row.lanes)?;
+        assert!(rt; came_so(&came, row), "for {}", row.feed);
+    }
+    Ok(())
+}
+
+#[test]
+fn sessions(rt: HostRuntime) -> Result<(), Fail> {
+    assert_rows(&rt, ROWS)
+}

@@ -1,0 +1,148 @@
+//! The program over what it is lent in memory, and what came of it.
+ghost use Rattle.std.specs.Prelude.{◌≡◌, ◌≤◌, ◌^◌, IfOk, vec_len};
+
+use crate::lanes::{MemLane, Script, lanes_of};
+use crate::texts::words_of;
+use glb::{Lane, Status, glb};
+use map_cell::{Door, MemDoor};
+use no_memory::NoMemory;
+use outside::{Gate, MemGate, MemPace, MemPort, MemShelf, MemSink, MemSource, Pace, Port};
+use std::alloc::Global;
+use std::sync::Wait;
+use std::thread::Threads;
+
+/// All that the program is lent.
+#[derive(Drop)]
+pub struct Lent<P, G, D, M> {
+    pub words: Vec<String>,
+    pub files: MemShelf,
+    pub feed: MemSource,
+    pub out: MemSink,
+    pub maps: MemSink,
+    pub lanes: Vec<Lane<P, G, D>>,
+    pub pace: M,
+}
+
+/// The same, all of it in memory.
+pub type MemLent = Lent<MemPort, MemGate, MemDoor, MemPace>;
+
+/// Runs the program.
+pub fn run<R: Threads + Wait + Sync, P: Port + Send, G: Gate + Send, D: Door + Send, M: Pace>(
+    rt: &R,
+    alloc: Global,
+    lent: &mut Lent<P, G, D, M>,
+    turns: u64,
+) -> Status
+    requires lanes { vec_len lent.old.lanes ≡ 16 }
+    requires turns { (1 ≤ turns) × (turns ≤ 2 ^ 48) }
+{
+    glb(
+        rt,
+        alloc,
+        lent.words.as_slice(),
+        &mut lent.files,
+        &mut lent.feed,
+        &mut lent.out,
+        &mut lent.maps,
+        lent.lanes.as_mut_slice(),
+        &mut lent.pace,
+        turns,
+    )
+}
+
+/// What came of a run: the status, and what was lent.
+#[derive(Drop)]
+pub struct Came {
+    pub status: Status,
+    pub lent: MemLent,
+}
+
+/// These words, files, feed and outputs, and lanes by these scripts.
+fn lent_of(
+    alloc: Global,
+    words: &[&str],
+    files: MemShelf,
+    feed: MemSource,
+    out: MemSink,
+    maps: MemSink,
+    scripts: &[Script],
+) -> Result<MemLent, NoMemory>
+    ensures { IfOk result (λ l. vec_len l.lanes ≡ 16) }
+{
+    Ok(Lent {
+        words: words_of(alloc, words)?,
+        files,
+        feed,
+        out,
+        maps,
+        lanes: lanes_of(alloc, scripts)?,
+        pace: MemPace::new(alloc, 100)?,
+    })
+}
+
+/// A number of turns that may be, from 1 to 1000.
+fn turns_of(turns: u64) -> u64
+    ensures { (1 ≤ result) × (result ≤ 2 ^ 48) }
+{
+    if turns >= 1 && turns <= 1000 {
+        turns
+    } else {
+        1
+    }
+}
+
+/// Runs the program over these words, files, feed and outputs, and lanes by these scripts.
+pub fn came_by<R: Threads + Wait + Sync + AllocGlobal>(
+    rt: &R,
+    words: &[&str],
+    files: MemShelf,
+    feed: MemSource,
+    out: MemSink,
+    maps: MemSink,
+    scripts: &[Script],
+    turns: u64,
+) -> Result<Came, NoMemory> {
+    let mut lent = lent_of(rt.alloc(), words, files, feed, out, maps, scripts)?;
+    let status = run(rt, rt.alloc(), &mut lent, turns_of(turns));
+    Ok(Came { status, lent })
+}
+
+/// Whether these octets are the first pieces, one behind the other.
+pub fn are_joined(octets: &[u8], pieces: &[&str], count: usize) -> bool {
+    let mut rest = octets;
+    for piece in pieces.iter().take(count) {
+        match rest.strip_prefix(piece.as_bytes()) {
+            Some(behind) => rest = behind,
+            None => return false,
+        }
+    }
+    rest.is_empty()
+}
+
+impl Came {
+    /// What the output got.
+    pub fn text(&self) -> &[u8] {
+        self.lent.out.bytes()
+    }
+
+    /// How many puts the output got.
+    pub fn puts(&self) -> u64 {
+        self.lent.out.puts()
+    }
+
+    /// How many files were asked for.
+    pub fn loads(&self) -> usize {
+        self.lent.files.asked().len()
+    }
+
+    /// Whether it ended with this status, put this text at once, or nothing where it is empty, and asked for so many files.
+    pub fn is(&self, status: Status, text: &[u8], loads: usize) -> bool {
+        let puts = if text.is_empty() { 0 } else { 1 };
+        self.status == status && self.text() == text && self.puts() == puts && self.loads() == loads
+    }
+
+    /// Whether it ended with this status, and put the pieces, one behind the other.
+    pub fn says(&self, status: Status, pieces: &[&str]) -> bool {
+        self.status == status && are_joined(self.text(), pieces, pieces.len())
+    }
+}

@@ -1,0 +1,61 @@
+//! Commands over files and one output, with nothing on the feed and nothing at the lanes.
+use crate::came::{Came, came_by};
+use crate::fails::{Fails, NEVER};
+use crate::files::{Held, shelf_of};
+use glb::Status;
+use no_memory::NoMemory;
+use outside::{MemShelf, MemSink, MemSource};
+use std::alloc::Global;
+use std::process::Abort;
+use std::sync::Wait;
+use std::test::Fail;
+use std::thread::Threads;
+
+/// How many octets an output takes where it has room.
+pub const ROOM: usize = 2048;
+
+/// A feed on which there is nothing.
+fn no_feed(alloc: Global) -> Result<MemSource, NoMemory> {
+    MemSource::new(alloc, Vec::new(alloc), Vec::new(alloc), Vec::new(alloc))
+}
+
+/// A command over these files, and an output with room for so many octets, of which these puts fail.
+pub fn came_over<R: Threads + Wait + Sync + AllocGlobal>(
+    rt: &R,
+    words: &[&str],
+    files: MemShelf,
+    puts: Fails,
+    room: usize,
+) -> Result<Came, NoMemory> {
+    let alloc = rt.alloc();
+    let feed = no_feed(alloc)?;
+    let out = MemSink::new(alloc, room, puts.numbers(alloc)?)?;
+    let maps = MemSink::new(alloc, 0, Vec::new(alloc))?;
+    came_by(rt, words, files, feed, out, maps, &[], 100)
+}
+
+/// A command over what stands under these names, and an output that has room.
+pub fn came_of<R: Threads + Wait + Sync + AllocGlobal>(
+    rt: &R,
+    words: &[&str],
+    held: &[(&str, Held)],
+) -> Result<Came, NoMemory> {
+    let files = shelf_of(rt.alloc(), held, NEVER)?;
+    came_over(rt, words, files, NEVER, ROOM)
+}
+
+/// Two files, and what comes of a command over them: the status, what the output got, and how many files were asked for.
+pub type Row = (Held, Held, Status, &'static str, usize);
+
+/// A command comes out so over each row.
+pub fn assert_rows<R: Abort + Threads + Wait + Sync + AllocGlobal>(
+    rt: &R,
+    words: &[&str],
+    rows: &[Row],
+) -> Result<(), Fail> {
+    for (topology, map, status, text, loads) in rows {
+        let came = came_of(rt, words, &[("t", *topology), ("m", *map)])?;
+        assert!(rt; came.is(*status, text.as_bytes(), *loads), "for {text}");
+    }
+    Ok(())
+}

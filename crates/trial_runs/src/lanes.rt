@@ -1,0 +1,98 @@
+//! Lanes by scripts: what waits at them, and which of their calls fail.
+ghost use Rattle.std.specs.Prelude.{◌≡◌, IfOk, vec_len};
+
+use crate::fails::{Fails, NEVER};
+use addr_text::{Addr, Peer};
+use glb::Lane;
+use map_cell::MemDoor;
+use no_memory::NoMemory;
+use outside::{MemGate, MemPacket, MemPort};
+use std::alloc::Global;
+use std::collections::LinkedList;
+
+/// How many lanes there are.
+pub const LANES: usize = 16;
+
+/// A client of the second group.
+const CLIENT: Peer = Peer {
+    addr: Addr::V4(0xc633_6407),
+    port: 5353,
+};
+
+/// A query of type A for www.cdn.example.
+pub const QUERY: &[u8] = &[
+    0x12, 0x34, 1, 0, 0, 1, 0, 0, 0, 0, 0, 0, 3, b'w', b'w', b'w', 3, b'c', b'd', b'n', 7, b'e',
+    b'x', b'a', b'm', b'p', b'l', b'e', 0, 0, 1, 0, 1,
+];
+
+/// How many queries wait at a lane, how often its gate lets it go on, which of its openings, receives and sends fail, and which places and looks its door refuses.
+#[derive(Clone, Copy)]
+pub struct Script {
+    pub queries: u8,
+    pub goes: usize,
+    pub opens: Fails,
+    pub receives: Fails,
+    pub sends: Fails,
+    pub places: Fails,
+    pub looks: Fails,
+}
+
+/// A lane at which nothing waits, and which ends at its first turn.
+pub const QUIET: Script = Script {
+    queries: 0,
+    goes: 1,
+    opens: NEVER,
+    receives: NEVER,
+    sends: NEVER,
+    places: NEVER,
+    looks: NEVER,
+};
+
+/// One query, which the gate lets through.
+pub const ONE: Script = Script {
+    queries: 1,
+    goes: 100,
+    ..QUIET
+};
+
+/// So many queries of the client.
+pub fn queries(alloc: Global, count: u8) -> Result<LinkedList<MemPacket>, NoMemory> {
+    let mut waiting = LinkedList::new(alloc);
+    for _ in 0..count {
+        let octets = Vec::from_slice(alloc, QUERY)?;
+        waiting.push_back(MemPacket {
+            octets,
+            from: CLIENT,
+        })?;
+    }
+    Ok(waiting)
+}
+
+/// A lane in memory.
+pub type MemLane = Lane<MemPort, MemGate, MemDoor>;
+
+fn lane_of(alloc: Global, script: Script) -> Result<MemLane, NoMemory> {
+    let waiting = queries(alloc, script.queries)?;
+    let opens = script.opens.numbers(alloc)?;
+    let receives = script.receives.numbers(alloc)?;
+    let sends = script.sends.numbers(alloc)?;
+    let places = script.places.numbers(alloc)?;
+    let looks = script.looks.numbers(alloc)?;
+    Ok(Lane {
+        port: MemPort::new(alloc, waiting, opens, receives, sends)?,
+        gate: MemGate::new(alloc, script.goes)?,
+        door: MemDoor::new(places, looks),
+    })
+}
+
+/// 16 lanes: the first ones as the scripts say, and quiet ones.
+pub fn lanes_of(alloc: Global, scripts: &[Script]) -> Result<Vec<MemLane>, NoMemory>
+    ensures { IfOk result (λ v. vec_len v ≡ LANES) }
+{
+    let mut lanes = Vec::with_capacity(alloc, LANES)?;
+    for i in 0..LANES {
+        let script = scripts.get(i).copied().unwrap_or(QUIET);
+        lanes.push(lane_of(alloc, script)?)?;
+    }
+    Ok(lanes)
+}

@@ -1,0 +1,21 @@
+//! Runs of the top call for the tests of other crates: topologies and maps, files, lanes by scripts, and what came of a run. Nothing that is served stands on this crate.
+#![tactic(auto)]
+
+mod came;
+mod commands;
+mod fails;
+mod files;
+mod lanes;
+mod sessions;
+mod texts;
+
+pub use came::{Came, Lent, MemLent, are_joined, run};
+pub use commands::{ROOM, Row, assert_rows, came_of, came_over};
+pub use fails::{Fails, NEVER};
+pub use files::{Held, shelf, shelf_of};
+pub use lanes::{LANES, MemLane, ONE, QUERY, QUIET, Script, queries};
+pub use sessions::{PLAIN, SERVE, SERVE_TWO, Scene, session_of};
+pub use texts::{
+    EIGHT_LEVELS, EMPTY_POOL, FLAT, GOOD_FLAT, GOOD_REGION, NO_DEFAULT, NO_LONGER_FULL, REGION,
+    REGION_MAP, TWO_GOOD, ZONE, words_of,
+};

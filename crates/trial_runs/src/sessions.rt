@@ -1,0 +1,88 @@
+//! Sessions of `serve` over the region.
+use crate::came::{Came, came_by};
+use crate::fails::{Fails, NEVER};
+use crate::files::{Held, shelf_of};
+use crate::lanes::Script;
+use crate::texts::REGION;
+use no_memory::NoMemory;
+use outside::{MemSink, MemSource};
+use std::alloc::Global;
+use std::sync::Wait;
+use std::thread::Threads;
+
+/// How many octets an output takes.
+const ROOM: usize = 4096;
+
+/// The words of a session whose workers are not named, and of one of two.
+pub const SERVE: &[&str] = &["glb", "serve", "t", "--listen", "127.0.0.1:53"];
+
+pub const SERVE_TWO: &[&str] = &[
+    "glb",
+    "serve",
+    "t",
+    "--listen",
+    "127.0.0.1:53",
+    "--workers",
+    "2",
+];
+
+/// The words of a session, the sizes of its feed's pieces, which loads, reads and puts fail, and the turns.
+#[derive(Clone, Copy)]
+pub struct Scene {
+    pub words: &'static [&'static str],
+    pub sizes: &'static [usize],
+    pub loads: Fails,
+    pub reads: Fails,
+    /// Of puts of the control text.
+    pub lines: Fails,
+    /// Of puts of a map's text.
+    pub maps: Fails,
+    pub turns: u64,
+}
+
+/// One worker, and nothing fails.
+pub const PLAIN: Scene = Scene {
+    words: SERVE,
+    sizes: &[],
+    loads: NEVER,
+    reads: NEVER,
+    lines: NEVER,
+    maps: NEVER,
+    turns: 100,
+};
+
+/// The feed of a scene.
+fn feed_of(alloc: Global, scene: Scene, feed: &[u8]) -> Result<MemSource, NoMemory> {
+    let bytes = Vec::from_slice(alloc, feed)?;
+    let sizes = Vec::from_slice(alloc, scene.sizes)?;
+    MemSource::new(alloc, bytes, sizes, scene.reads.numbers(alloc)?)
+}
+
+/// An output, of which these puts fail.
+fn sink_of(alloc: Global, puts: Fails) -> Result<MemSink, NoMemory> {
+    MemSink::new(alloc, ROOM, puts.numbers(alloc)?)
+}
+
+/// A session over the region, with this feed and lanes by these scripts.
+pub fn session_of<R: Threads + Wait + Sync + AllocGlobal>(
+    rt: &R,
+    scene: Scene,
+    feed: &[u8],
+    scripts: &[Script],
+) -> Result<Came, NoMemory> {
+    let alloc = rt.alloc();
+    let files = shelf_of(alloc, &[("t", Held::Topology(REGION))], scene.loads)?;
+    let feed = feed_of(alloc, scene, feed)?;
+    let out = sink_of(alloc, scene.lines)?;
+    let maps = sink_of(alloc, scene.maps)?;
+    came_by(
+        rt,
+        scene.words,
+        files,
+        feed,
+        out,
+        maps,
+        scripts,
+        scene.turns,
+    )
+}
