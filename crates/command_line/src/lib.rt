@@ -10,6 +10,3 @@ mod reading;
 
 pub use command::Command;
 pub use reading::read_words;
-
-#[cfg(test)]
-mod tests;

@@ -10,55 +10,90 @@ use outside::{
 use std::alloc::{AllocError, Global};
 use std::io::Error;
 use std::net::{Net, SocketAddr, UdpSocket};
-use std::test::Fail;
 use std::thread::{Threads, join_mut};
 use std::time::Duration;
 
-#[test]
-fn reads_to_the_limit(rt: HostRuntime) -> Result<(), Fail> {
-    let octets: &[u8] = b"abcd";
-    for (limit, expected, is_whole) in [
-        (3, 4, false),
-        (3, 0, false),
-        (4, 4, true),
-        (5, 0, true),
-        (5, u64::MAX, true),
-    ] {
-        match read_within(octets, rt.alloc(), limit, expected) {
-            Ok(bytes) => assert!(rt; is_whole && bytes.as_slice() == octets, "at {limit}"),
-            Err(fault) => assert!(rt; !is_whole && fault == LoadFault::TooLong, "at {limit}"),
+/// A limit, how many octets are expected, and whether four are read whole.
+type LimitRow = (usize, u64, bool);
+
+const LIMITS: &[LimitRow] = &[
+    (3, 4, false),
+    (3, 0, false),
+    (4, 4, true),
+    (5, 0, true),
+    (5, u64::MAX, true),
+];
+
+const FOUR: &[u8] = b"abcd";
+
+fn reads_so(alloc: Global, row: &LimitRow) -> bool {
+    let (limit, expected, is_whole) = row;
+    match read_within(FOUR, alloc, *limit, *expected) {
+        Ok(bytes) => *is_whole && bytes.as_slice() == FOUR,
+        Err(fault) => !*is_whole && fault == LoadFault::TooLong,
+    }
+}
+
+fn all_read_so(alloc: Global, rows: &[LimitRow]) -> bool {
+    for row in rows {
+        if !reads_so(alloc, row) {
+            return false;
         }
     }
-    Ok(())
+    true
 }
 
 #[test]
-fn streams(rt: HostRuntime) -> Result<(), Fail> {
+fn reads_to_the_limit(rt: HostRuntime) {
+    assert!(rt; all_read_so(rt.alloc(), LIMITS));
+}
+
+const PIECES: &[Read] = &[Read::Got(2), Read::Got(1), Read::End, Read::End];
+
+/// Whether these pieces come of three octets, in a buffer of two.
+fn come_in_pieces(wants: &[Read]) -> bool {
     let octets: &[u8] = b"abc";
     let mut source = StreamSource::new(octets);
     let mut buffer = [0u8; 2];
-    for want in [Read::Got(2), Read::Got(1), Read::End, Read::End] {
-        assert_eq!(rt; source.read(&mut buffer), want);
+    for want in wants {
+        if source.read(&mut buffer) != *want {
+            return false;
+        }
     }
-    let mut sink = StreamSink::new(Vec::new(rt.alloc()));
-    assert_eq!(rt; sink.put(octets), Put::Done);
-    Ok(())
+    true
+}
+
+fn takes(alloc: Global, octets: &[u8]) -> bool {
+    let mut sink = StreamSink::new(Vec::new(alloc));
+    sink.put(octets) == Put::Done
 }
 
 #[test]
-fn has_no_such_file(rt: HostRuntime) -> Result<(), Fail> {
-    let mut files = FileShelf::new(&rt);
-    let loaded = files.load(rt.alloc(), "there is no such file", 9);
-    assert!(rt; loaded == Err(LoadFault::Failed));
-    Ok(())
+fn streams(rt: HostRuntime) {
+    assert!(rt; come_in_pieces(PIECES));
+    assert!(rt; takes(rt.alloc(), b"abc"));
+}
+
+/// How many octets a file has within a limit, or its fault.
+fn size(
+    files: &mut impl Shelf,
+    alloc: Global,
+    name: &str,
+    limit: usize,
+) -> Result<usize, LoadFault> {
+    match files.load(alloc, name, limit) {
+        Ok(bytes) => Ok(bytes.len()),
+        Err(fault) => Err(fault),
+    }
 }
 
 #[test]
-fn files_within_a_limit(rt: HostRuntime) -> Result<(), Fail> {
+fn files_within_a_limit(rt: HostRuntime) {
     let mut files = FileShelf::new(&rt);
-    assert!(rt; matches!(files.load(rt.alloc(), "/dev/null", 0), Ok(bytes) if bytes.len() == 0));
-    assert!(rt; files.load(rt.alloc(), "/dev/zero", 9) == Err(LoadFault::TooLong));
-    Ok(())
+    let alloc = rt.alloc();
+    assert!(rt; size(&mut files, alloc, "there is no such file", 9) == Err(LoadFault::Failed));
+    assert!(rt; size(&mut files, alloc, "/dev/null", 0) == Ok(0));
+    assert!(rt; size(&mut files, alloc, "/dev/zero", 9) == Err(LoadFault::TooLong));
 }
 
 /// Whether both take a piece.
@@ -68,18 +103,23 @@ fn both_take<K: Sink>(out: &mut K, maps: &mut K) -> bool {
 
 /// Standard output and standard error are sinks of one type.
 #[test]
-fn standard_streams(rt: HostRuntime) -> Result<(), Fail> {
+fn standard_streams(rt: HostRuntime) {
     let mut out = StreamSink::new(StandardStream::Output(rt.stdout()));
     let mut maps = StreamSink::new(StandardStream::Error(rt.stderr()));
     assert!(rt; both_take(&mut out, &mut maps));
-    Ok(())
 }
 
 /// The loopback addresses of both families, and where a client of each is bound.
-const FAMILIES: [(Addr, &str); 2] = [
+const FAMILIES: &[(Addr, &str)] = &[
     (Addr::V4(0x7f00_0001), "127.0.0.1:0"),
     (Addr::V6(1), "[::1]:0"),
 ];
+
+/// A place on loopback at a port that the system picks.
+const LOCAL: Listen = Listen {
+    addr: Addr::V4(0x7f00_0001),
+    port: 0,
+};
 
 const QUESTION: &[u8] = b"question";
 
@@ -113,12 +153,19 @@ fn exchanges<N: Net>(net: &N, addr: Addr, at: &str) -> Option<bool> {
     Some(from.port() == number && peer_of(from).addr == addr && &buffer[..len] == ANSWER)
 }
 
-#[test]
-fn answers_on_loopback(rt: HostRuntime) -> Result<(), Fail> {
-    for (addr, at) in FAMILIES {
-        assert!(rt; exchanges(&rt, addr, at) == Some(true), "at {at}");
+/// Where nothing gets through, if there is such a family.
+fn unreached<N: Net>(net: &N, families: &[(Addr, &'static str)]) -> Option<&'static str> {
+    for (addr, at) in families {
+        if exchanges(net, *addr, *at) != Some(true) {
+            return Some(*at);
+        }
     }
-    Ok(())
+    None
+}
+
+#[test]
+fn answers_on_loopback(rt: HostRuntime) {
+    assert_eq!(rt; unreached(&rt, FAMILIES), None);
 }
 
 /// How long a datagram is, and what comes of it: a datagram, or one that is too long.
@@ -150,49 +197,72 @@ fn come<N: Net>(
     port.recv(0, buffer) == Arrival::Idle
 }
 
-#[test]
-fn lengths(rt: HostRuntime) -> Result<(), Fail> {
+/// Where a port of that socket is reached.
+fn reached(shared: &SharedUdp) -> Option<SocketAddr> {
+    Some(socket_addr(LOCAL.addr, shared.port()?))
+}
+
+/// Whether all lengths come as they are to, in a buffer for the longest datagram and in a longer one.
+fn all_come<N: Net>(net: &N) -> Option<bool> {
     let shared = SharedUdp::new();
-    let mut port = UdpPort::new(&rt, &shared);
-    let addr = Addr::V4(0x7f00_0001);
-    assert_eq!(rt; port.open(&Listen { addr, port: 0 }), Opening::Ready);
-    let client = client_at(&rt, "127.0.0.1:0").ok_or("no client")?;
-    let to = socket_addr(addr, shared.port().ok_or("no port")?);
-    assert!(rt; come(&mut port, &client, to, &mut [0u8; 4_096]));
-    assert!(rt; come(&mut port, &client, to, &mut [0u8; 4_097]));
-    Ok(())
+    let mut port = UdpPort::new(net, &shared);
+    if port.open(&LOCAL) != Opening::Ready {
+        return Some(false);
+    }
+    let client = client_at(net, "127.0.0.1:0")?;
+    let to = reached(&shared)?;
+    Some(
+        come(&mut port, &client, to, &mut [0u8; 4_096])
+            && come(&mut port, &client, to, &mut [0u8; 4_097]),
+    )
+}
+
+#[test]
+fn lengths(rt: HostRuntime) {
+    assert!(rt; all_come(&rt) == Some(true));
+}
+
+/// Whether the first of two ports binds the socket that they share, and the second one opens at its place alone.
+fn open_in_turn<N: Net>(
+    shared: &SharedUdp,
+    first: &mut UdpPort<'_, N>,
+    second: &mut UdpPort<'_, N>,
+) -> bool {
+    let mut buffer = [0u8; 4_096];
+    let elsewhere = Listen {
+        addr: Addr::V6(1),
+        port: 0,
+    };
+    shared.port().is_none()
+        && first.recv(0, &mut buffer) == Arrival::Failed
+        && first.open(&LOCAL) == Opening::Ready
+        && second.open(&elsewhere) == Opening::Failed
+        && second.open(&LOCAL) == Opening::Ready
+}
+
+/// Whether a datagram comes at one of two ports, and then at none.
+fn comes_once<N: Net>(one: &mut UdpPort<'_, N>, other: &mut UdpPort<'_, N>) -> bool {
+    let mut buffer = [0u8; 4_096];
+    matches!(one.recv(0, &mut buffer), Arrival::Arrived(8, _))
+        && other.recv(0, &mut buffer) == Arrival::Idle
+}
+
+fn share<N: Net>(net: &N) -> Option<bool> {
+    let shared = SharedUdp::new();
+    let mut first = UdpPort::new(net, &shared);
+    let mut second = UdpPort::new(net, &shared);
+    if !open_in_turn(&shared, &mut first, &mut second) {
+        return Some(false);
+    }
+    let client = client_at(net, "127.0.0.1:0")?;
+    client.send_to(QUESTION, reached(&shared)?).ok()?;
+    Some(comes_once(&mut second, &mut first))
 }
 
 /// The shared socket is bound by the first opening, and no port is opened elsewhere.
 #[test]
-fn shares_one_socket(rt: HostRuntime) -> Result<(), Fail> {
-    let shared = SharedUdp::new();
-    let mut first = UdpPort::new(&rt, &shared);
-    let mut second = UdpPort::new(&rt, &shared);
-    let mut buffer = [0u8; 4_096];
-    let at = Listen {
-        addr: Addr::V4(0x7f00_0001),
-        port: 0,
-    };
-    assert_eq!(rt; shared.port(), None);
-    assert_eq!(rt; first.recv(0, &mut buffer), Arrival::Failed);
-    assert_eq!(rt; first.open(&at), Opening::Ready);
-    assert_eq!(rt;
-        second.open(&Listen {
-            addr: Addr::V6(1),
-            port: 0
-        }),
-        Opening::Failed
-    );
-    assert_eq!(rt; second.open(&at), Opening::Ready);
-    let client = client_at(&rt, "127.0.0.1:0").ok_or("no client")?;
-    client.send_to(
-        QUESTION,
-        socket_addr(at.addr, shared.port().ok_or("no port")?),
-    )?;
-    assert!(rt; matches!(second.recv(0, &mut buffer), Arrival::Arrived(8, _)));
-    assert_eq!(rt; first.recv(0, &mut buffer), Arrival::Idle);
-    Ok(())
+fn shares_one_socket(rt: HostRuntime) {
+    assert!(rt; share(&rt) == Some(true));
 }
 
 /// Sends so many replies to a port 0, which the system refuses.
@@ -209,66 +279,77 @@ fn all_sent<N: Net>(port: &mut UdpPort<'_, N>, count: u32) -> bool {
     true
 }
 
-#[test]
-fn forged_senders_end_nothing(rt: HostRuntime) -> Result<(), Fail> {
+/// Whether a port that is not open fails, and one that is goes on whatever the system refuses.
+fn goes_on<N: Net>(net: &N) -> bool {
     let shared = SharedUdp::new();
-    let mut port = UdpPort::new(&rt, &shared);
-    assert_eq!(rt;
-        port.send(
-            ANSWER,
-            Peer {
-                addr: Addr::V4(0x7f00_0001),
-                port: 53
-            },
-            0
-        ),
-        Sending::Failed
-    );
-    assert_eq!(rt;
-        port.open(&Listen {
-            addr: Addr::V4(0x7f00_0001),
-            port: 0
-        }),
-        Opening::Ready
-    );
-    assert!(rt; all_sent(&mut port, 20));
-    Ok(())
+    let mut port = UdpPort::new(net, &shared);
+    let somewhere = Peer {
+        addr: Addr::V4(0x7f00_0001),
+        port: 53,
+    };
+    port.send(ANSWER, somewhere, 0) == Sending::Failed
+        && port.open(&LOCAL) == Opening::Ready
+        && all_sent(&mut port, 20)
+}
+
+#[test]
+fn forged_senders_end_nothing(rt: HostRuntime) {
+    assert!(rt; goes_on(&rt));
 }
 
 /// Numbers of Linux's errors: EPERM, EINTR, EAGAIN, ENOMEM, EACCES, EINVAL, EMSGSIZE, ENETUNREACH, ENOBUFS,
 /// ECONNREFUSED, EHOSTUNREACH.
-const OF_A_DATAGRAM: [i32; 11] = [1, 4, 11, 12, 13, 22, 90, 101, 105, 111, 113];
+const OF_A_DATAGRAM: &[i32] = &[1, 4, 11, 12, 13, 22, 90, 101, 105, 111, 113];
 
 /// EBADF, EPIPE, ENOTSOCK, EOPNOTSUPP, ENOTCONN, ESHUTDOWN.
-const OF_A_SOCKET: [i32; 6] = [9, 32, 88, 95, 107, 108];
+const OF_A_SOCKET: &[i32] = &[9, 32, 88, 95, 107, 108];
 
-#[test]
-fn judges_errors(rt: HostRuntime) -> Result<(), Fail> {
-    for code in OF_A_DATAGRAM {
-        let error = Error::from_raw_os_error(code);
-        assert!(rt; !is_broken(&error), "{code}");
-        assert!(rt; sending_of(Err(error)) == Sending::Sent, "{code}");
-        assert!(rt; arrival_of(Err(error)) == Arrival::Idle, "{code}");
+fn is_of_a_datagram(code: i32) -> bool {
+    let error = Error::from_raw_os_error(code);
+    !is_broken(&error)
+        && sending_of(Err(error)) == Sending::Sent
+        && arrival_of(Err(error)) == Arrival::Idle
+}
+
+fn is_of_a_socket(code: i32) -> bool {
+    let error = Error::from_raw_os_error(code);
+    sending_of(Err(error)) == Sending::Failed && arrival_of(Err(error)) == Arrival::Failed
+}
+
+/// The first number that is not judged so.
+fn misjudged(datagrams: &[i32], sockets: &[i32]) -> Option<i32> {
+    for code in datagrams {
+        if !is_of_a_datagram(*code) {
+            return Some(*code);
+        }
     }
-    for code in OF_A_SOCKET {
-        let error = Error::from_raw_os_error(code);
-        assert!(rt; sending_of(Err(error)) == Sending::Failed, "{code}");
-        assert!(rt; arrival_of(Err(error)) == Arrival::Failed, "{code}");
+    for code in sockets {
+        if !is_of_a_socket(*code) {
+            return Some(*code);
+        }
     }
-    Ok(())
+    None
 }
 
 #[test]
-fn a_flag_stops_lanes(rt: HostRuntime) -> Result<(), Fail> {
-    let flag = StopFlag::new();
-    let mut gate = FlagGate::new(&flag);
-    let mut pace = FlagPace::new(&flag);
+fn judges_errors(rt: HostRuntime) {
+    assert_eq!(rt; misjudged(OF_A_DATAGRAM, OF_A_SOCKET), None);
+}
+
+fn stops_lanes(flag: &StopFlag) -> bool {
+    let mut gate = FlagGate::new(flag);
+    let mut pace = FlagPace::new(flag);
     pace.before(1);
-    assert!(rt; gate.turn(0) == Turning::Go);
+    if gate.turn(0) != Turning::Go {
+        return false;
+    }
     pace.done(2);
-    assert!(rt; gate.turn(0) == Turning::Stop);
-    assert!(rt; gate.turn(2) == Turning::Stop);
-    Ok(())
+    gate.turn(0) == Turning::Stop && gate.turn(2) == Turning::Stop
+}
+
+#[test]
+fn a_flag_stops_lanes(rt: HostRuntime) {
+    assert!(rt; stops_lanes(&StopFlag::new()));
 }
 
 /// Sends each datagram back until the gate stops it, and counts them.
@@ -301,22 +382,22 @@ fn ask(client: &UdpSocket, to: SocketAddr, times: u32, pace: &mut impl Pace) -> 
     count
 }
 
+fn both_open<N: Net>(first: &mut UdpPort<'_, N>, second: &mut UdpPort<'_, N>) -> bool {
+    first.open(&LOCAL) == Opening::Ready && second.open(&LOCAL) == Opening::Ready
+}
+
 /// Two lanes in two threads and a client in a third, over one socket.
 #[test]
-fn two_lanes_at_once(rt: HostRuntime) -> Result<(), Fail> {
+fn two_lanes_at_once(rt: HostRuntime) {
     let (shared, flag) = (SharedUdp::new(), StopFlag::new());
     let mut first = UdpPort::new(&rt, &shared);
     let mut second = UdpPort::new(&rt, &shared);
     let mut gate = FlagGate::new(&flag);
     let mut other_gate = FlagGate::new(&flag);
     let mut pace = FlagPace::new(&flag);
-    let at = Listen {
-        addr: Addr::V4(0x7f00_0001),
-        port: 0,
-    };
-    assert!(rt; first.open(&at) == Opening::Ready && second.open(&at) == Opening::Ready);
-    let client = client_at(&rt, "127.0.0.1:0").ok_or("no client")?;
-    let to = socket_addr(at.addr, shared.port().ok_or("no port")?);
+    assert!(rt; both_open(&mut first, &mut second));
+    let client = client_at(&rt, "127.0.0.1:0").expect(&rt, "a client");
+    let to = reached(&shared).expect(&rt, "a port");
     let (asked, (here, there)) = join_mut(
         &rt,
         &mut || ask(&client, to, 20, &mut pace),
@@ -330,7 +411,6 @@ fn two_lanes_at_once(rt: HostRuntime) -> Result<(), Fail> {
     );
     assert_eq!(rt; asked, 20);
     assert_eq!(rt; here.saturating_add(there), 20);
-    Ok(())
 }
 
 /// A lane, as the program has them.
@@ -367,14 +447,15 @@ fn open_all<P: Port, G: Gate>(lanes: &mut [TestLane<P, G>], at: &Listen) -> bool
     true
 }
 
-#[test]
-fn sixteen_lanes(rt: HostRuntime) -> Result<(), Fail> {
+fn all_sixteen_open<N: Net>(net: &N, alloc: Global) -> bool {
     let (shared, flag) = (SharedUdp::new(), StopFlag::new());
-    let mut lanes = sixteen(&rt, rt.alloc(), &shared, &flag)?;
-    let at = Listen {
-        addr: Addr::V4(0x7f00_0001),
-        port: 0,
-    };
-    assert!(rt; open_all(lanes.as_mut_slice(), &at));
-    Ok(())
+    match sixteen(net, alloc, &shared, &flag) {
+        Ok(mut lanes) => open_all(lanes.as_mut_slice(), &LOCAL),
+        Err(_) => false,
+    }
+}
+
+#[test]
+fn sixteen_lanes(rt: HostRuntime) {
+    assert!(rt; all_sixteen_open(&rt, rt.alloc()));
 }
