@@ -12,6 +12,3 @@ pub use putting::put_lines;
 pub use replies::{ANSWERED, QUERY, SERVFAIL, client_of};
 pub use run::{MAPS, run_world};
 pub use summary::{LINE_ROOM, LINES, Summary, SummaryLine};
-
-#[cfg(test)]
-mod tests;

@@ -1,7 +1,7 @@
 //! The lines of a summary, and small worlds.
 ghost use Rattle.std.specs.Prelude.{◌≤◌};
 
-use crate::{LINES, Summary, run_world};
+use big_run::{LINES, Summary, run_world};
 use map_cell::{EmptyHistory, Naming};
 use mapper::Totals;
 use std::alloc::Global;

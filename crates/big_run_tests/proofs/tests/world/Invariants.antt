@@ -1,4 +1,4 @@
-use Rattle.big_run.proofs.tests.world.Given as goal
+use Rattle.big_run_tests.proofs.tests.world.Given as goal
 
 -- the history that was just made
 abbrev pub ghosts-run_world : goal.ghosts-run_world
