@@ -1,5 +1,6 @@
 //! Replies of worked examples, octet for octet, and of each datagram that differs from them in one octet.
-ghost use Rattle.std.specs.Prelude.{◌<◌, length, IfSome};
+ghost use Rattle.std.specs.Prelude.{◌≡◌, ◌<◌, length, IfSome};
+ghost use Rattle.map_model.specs.Allocation.{IsGood};
 ghost use Rattle.published_map.specs.Version.{IsVersion};
 
 use addr_text::Addr;
@@ -9,7 +10,7 @@ use map_model::GroupId;
 use published_map::MapVersion;
 use std::alloc::Global;
 use topology_text::{Topology, read_topology};
-use world_versions::{first_version, is_good, version_of};
+use world_versions::{GoodMap, first_version, is_good, version_of};
 use worlds::{NameAt, Placed, map_of};
 
 /// Names as long as they may be, and as many servers and addresses.
@@ -44,6 +45,29 @@ scores = [1]
 prefixes = ["0.0.0.0/0", "::/0"]
 "#;
 
+/// The map of these rows and a topology's own instance, if the map is good for it.
+fn good_map(
+    alloc: Global,
+    topology: &Topology,
+    lines: &[Placed],
+    names: &[NameAt],
+) -> Option<GoodMap>
+    ensures good { IfSome result (λ g. IsGood g.instance g.map.lines.items g.map.names.items) }
+    ensures instance { IfSome result (λ g. g.instance ≡ topology.now.market) }
+{
+    let Ok(instance) = topology.instance().try_clone() else {
+        return None;
+    };
+    let Ok(map) = map_of(alloc, lines, names) else {
+        return None;
+    };
+    if is_good(alloc, &instance, &map) {
+        Some(GoodMap { instance, map })
+    } else {
+        None
+    }
+}
+
 /// The first version of a topology with the map of these rows, if that is good.
 fn version_with(
     alloc: Global,
@@ -53,16 +77,10 @@ fn version_with(
 ) -> Option<MapVersion>
     ensures { IfSome result IsVersion }
 {
-    let Ok(instance) = topology.instance().try_clone() else {
-        return None;
-    };
-    let Ok(map) = map_of(alloc, lines, names) else {
-        return None;
-    };
-    if !is_good(alloc, &instance, &map) {
-        return None;
+    match good_map(alloc, &topology, lines, names) {
+        Some(good) => version_of(alloc, 0, topology, &good.instance, &good.map),
+        None => None,
     }
-    version_of(alloc, 0, topology, &instance, &map)
 }
 
 /// The same of a text.
