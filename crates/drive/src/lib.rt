@@ -11,6 +11,3 @@ mod whole;
 pub use lane::Lane;
 pub use laws::{drives_are_taken, machines_are_kept};
 pub use whole::{DriveEnd, drive};
-
-#[cfg(test)]
-mod tests;

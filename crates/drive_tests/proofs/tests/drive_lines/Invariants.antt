@@ -1,4 +1,4 @@
-use Rattle.drive.proofs.tests.drive_example.Given as goal
+use Rattle.drive_tests.proofs.tests.drive_lines.Given as goal
 
 -- the history that was just made
 abbrev pub ghosts-drive_over : goal.ghosts-drive_over

@@ -1,0 +1,530 @@
+//! Drives over the example, with outputs in memory.
+ghost use Rattle.std.specs.Prelude.{◌≡◌, ◌≤◌, length};
+
+use addr_text::{Addr, Peer};
+use demand_feed::FeedEnd;
+use drive::{DriveEnd, Lane, drive};
+use lane_model::Ended;
+use map_cell::{Door, EmptyHistory, MemDoor, Naming, PlainDoor};
+use map_model::Steps;
+use mapper::Mapper;
+use outside::{
+    Gate, HeldLane, HoldGate, HoldPace, Marks, MemGate, MemPace, MemPacket, MemPort, MemSink,
+    MemSource, Pace, Point, Port, Wanted,
+};
+use std::alloc::Global;
+use std::collections::LinkedList;
+use std::marker::Brand;
+use std::sync::Wait;
+use std::test::Fail;
+use std::thread::Threads;
+use topology_text::{Topology, read_topology};
+use worlds::EXAMPLE_TREE;
+
+mod turns;
+
+/// What the steps of these tests are counted as.
+struct Proposals;
+
+/// A client of the second group.
+const CLIENT: Peer = Peer {
+    addr: Addr::V4(0xc633_6407),
+    port: 5353,
+};
+
+/// A query of type A for www.cdn.example.
+const QUERY: &[u8] = &[
+    0x12, 0x34, 1, 0, 0, 1, 0, 0, 0, 0, 0, 0, 3, b'w', b'w', b'w', 3, b'c', b'd', b'n', 7, b'e',
+    b'x', b'a', b'm', b'p', b'l', b'e', 0, 0, 1, 0, 1,
+];
+
+/// A feed of one batch, and what is said of it.
+const ONE_BATCH: &[u8] = b"demand g2 4\ncommit\nstop\n";
+
+const ONE_SAID: &[u8] = b"published 1\n";
+
+/// A feed of two batches, and what is said of it.
+const TWO_BATCHES: &[u8] = b"demand g2 4\ncommit\ndemand g2 5\ncommit\nstop\n";
+
+const TWO_SAID: &[u8] = b"published 1\npublished 2\n";
+
+/// The query, as it comes in.
+fn packet(alloc: Global) -> Option<MemPacket> {
+    match Vec::from_slice(alloc, QUERY) {
+        Err(_) => None,
+        Ok(octets) => Some(MemPacket {
+            octets,
+            from: CLIENT,
+        }),
+    }
+}
+
+/// So many queries.
+fn queries_of(alloc: Global, queries: u8) -> Option<LinkedList<MemPacket>> {
+    let mut waiting = LinkedList::new(alloc);
+    for _ in 0..queries {
+        waiting.push_back(packet(alloc)?).ok()?;
+    }
+    Some(waiting)
+}
+
+/// A port at which these wait.
+fn port_with(alloc: Global, waiting: LinkedList<MemPacket>) -> Option<MemPort> {
+    let none = Vec::new(alloc);
+    MemPort::new(alloc, waiting, none, Vec::new(alloc), Vec::new(alloc)).ok()
+}
+
+/// A port at which so many queries wait.
+fn port_of(alloc: Global, queries: u8) -> Option<MemPort> {
+    match queries_of(alloc, queries) {
+        None => None,
+        Some(waiting) => port_with(alloc, waiting),
+    }
+}
+
+/// A door that refuses these looks.
+fn door_of(alloc: Global, refused: &[u64]) -> Option<MemDoor> {
+    match Vec::from_slice(alloc, refused) {
+        Err(_) => None,
+        Ok(refused) => Some(MemDoor::new(Vec::new(alloc), refused)),
+    }
+}
+
+/// A lane of so many queries, whose door refuses these looks.
+fn lane_of(alloc: Global, queries: u8, refused: &[u64]) -> Option<Lane<MemPort, MemGate, MemDoor>> {
+    let port = port_of(alloc, queries)?;
+    let door = door_of(alloc, refused)?;
+    match MemGate::new(alloc, 100) {
+        Err(_) => None,
+        Ok(gate) => Some(Lane { port, gate, door }),
+    }
+}
+
+/// A feed, and both outputs.
+#[derive(Drop)]
+struct Streams {
+    feed: MemSource,
+    out: MemSink,
+    maps: MemSink,
+}
+
+/// A feed of these lines.
+fn feed_of(alloc: Global, lines: &[u8]) -> Option<MemSource> {
+    match Vec::from_slice(alloc, lines) {
+        Err(_) => None,
+        Ok(bytes) => MemSource::new(alloc, bytes, Vec::new(alloc), Vec::new(alloc)).ok(),
+    }
+}
+
+/// An empty output.
+fn sink_of(alloc: Global) -> Option<MemSink> {
+    MemSink::new(alloc, 1_000, Vec::new(alloc)).ok()
+}
+
+/// A feed of these lines, and empty outputs.
+fn streams_of(alloc: Global, lines: &[u8]) -> Option<Streams> {
+    let feed = feed_of(alloc, lines)?;
+    let out = sink_of(alloc)?;
+    match sink_of(alloc) {
+        None => None,
+        Some(maps) => Some(Streams { feed, out, maps }),
+    }
+}
+
+/// Drives a topology with so many viewers: how it ended.
+fn drive_over<
+    J: Naming + Send + Sync,
+    P: Port + Send,
+    G: Gate + Send,
+    D: Door + Send,
+    M: Pace,
+    R: Threads + Wait + Sync,
+>(
+    rt: &R,
+    alloc: Global,
+    history: EmptyHistory,
+    topology: Topology,
+    streams: &mut Streams,
+    viewers: u8,
+    lanes: &mut [Lane<P, G, D>],
+    pace: &mut M,
+) -> Option<DriveEnd>
+    requires book { history ≡ J.book }
+    requires few { (viewers ≤ 16) × (viewers ≤ length lanes.old) }
+{
+    let mut door = PlainDoor::new();
+    let mut steps = Steps::<Proposals>::new();
+    match Mapper::<J>::open(rt, alloc, history, topology, viewers, &mut door, &mut steps) {
+        Err(_) => None,
+        Ok((mapper, seats)) => {
+            let Streams { feed, out, maps } = streams;
+            drive(rt, alloc, mapper, seats, feed, out, maps, lanes, pace, 100).ok()
+        }
+    }
+}
+
+/// Drives a topology with so many viewers over a feed: how it ended, unless something else was said.
+fn drive_lines<P: Port + Send, G: Gate + Send, D: Door + Send, M: Pace, R: Threads + Wait + Sync>(
+    rt: &R,
+    alloc: Global,
+    topology: Topology,
+    lines: &[u8],
+    said: &[u8],
+    viewers: u8,
+    lanes: &mut [Lane<P, G, D>],
+    pace: &mut M,
+) -> Option<DriveEnd>
+    requires few { (viewers ≤ 16) × (viewers ≤ length lanes.old) }
+{
+    match streams_of(alloc, lines) {
+        None => None,
+        Some(streams) => {
+            let mut streams = streams;
+            let history = EmptyHistory::new();
+            let ended = drive_over::<Brand, P, G, D, M, R>(
+                rt,
+                alloc,
+                history,
+                topology,
+                &mut streams,
+                viewers,
+                lanes,
+                pace,
+            );
+            if streams.out.bytes() == said {
+                ended
+            } else {
+                None
+            }
+        }
+    }
+}
+
+/// The same of the example.
+fn drive_example<P: Port + Send, G: Gate + Send, D: Door + Send, M: Pace, R: Threads + Wait + Sync>(
+    rt: &R,
+    alloc: Global,
+    lines: &[u8],
+    said: &[u8],
+    viewers: u8,
+    lanes: &mut [Lane<P, G, D>],
+    pace: &mut M,
+) -> Option<DriveEnd>
+    requires few { (viewers ≤ 16) × (viewers ≤ length lanes.old) }
+{
+    match read_topology(alloc, EXAMPLE_TREE.as_bytes()) {
+        Err(_) => None,
+        Ok(topology) => drive_lines(rt, alloc, topology, lines, said, viewers, lanes, pace),
+    }
+}
+
+/// How a drive ended of which so many lanes, from the first on, ended so, and whose feed was read to its end.
+fn ended_by(ended: Ended, count: usize) -> DriveEnd {
+    let mut lanes = [None; 16];
+    for (place, lane) in lanes.iter_mut().enumerate() {
+        if place < count {
+            *lane = Some(ended);
+        }
+    }
+    DriveEnd {
+        feed: FeedEnd::Ended,
+        lanes,
+    }
+}
+
+/// How one lane ended, and how many datagrams it took and answered.
+fn drive_one<R: Threads + Wait + Sync>(
+    rt: &R,
+    alloc: Global,
+    lane: Lane<MemPort, MemGate, MemDoor>,
+    pace: MemPace,
+) -> Option<(DriveEnd, usize, usize)> {
+    let mut lanes = [lane];
+    let mut pace = pace;
+    match drive_example::<MemPort, MemGate, MemDoor, MemPace, R>(
+        rt, alloc, ONE_BATCH, ONE_SAID, 1, &mut lanes, &mut pace,
+    ) {
+        None => None,
+        Some(ended) => {
+            let port = &lanes[0].port;
+            Some((ended, port.taken().len(), port.tries().len()))
+        }
+    }
+}
+
+/// The same of so many queries and a door that refuses these looks.
+fn one_lane<R: Threads + Wait + Sync>(
+    rt: &R,
+    alloc: Global,
+    queries: u8,
+    refused: &[u64],
+) -> Option<(DriveEnd, usize, usize)> {
+    let lane = lane_of(alloc, queries, refused)?;
+    match MemPace::new(alloc, 10) {
+        Err(_) => None,
+        Ok(pace) => drive_one(rt, alloc, lane, pace),
+    }
+}
+
+/// The queries that wait at one lane, the looks that its door refuses, how it ended, and how many datagrams it took and answered.
+type Closing = (u8, &'static [u64], Ended, usize, usize);
+
+const CLOSINGS: [Closing; 4] = [
+    (3, &[], Ended::PortEnd, 3, 3),
+    (3, &[1], Ended::CellFault, 2, 1),
+    (3, &[3], Ended::CellFault, 3, 3),
+    (0, &[0], Ended::CellFault, 0, 0),
+];
+
+/// Whether each lane ends so.
+fn all_close<R: Threads + Wait + Sync>(rt: &R, alloc: Global, rows: &[Closing]) -> bool {
+    for &(queries, refused, ended, taken, tried) in rows {
+        let served = one_lane(rt, alloc, queries, refused);
+        if served != Some((ended_by(ended, 1), taken, tried)) {
+            return false;
+        }
+    }
+    true
+}
+
+/// The closing look comes behind all others.
+#[test]
+fn closing_looks(rt: HostRuntime) -> Result<(), Fail> {
+    assert!(rt; all_close(&rt, rt.alloc(), &CLOSINGS));
+    Ok(())
+}
+
+/// Sixteen lanes of one query each.
+fn sixteen_lanes(alloc: Global) -> Option<Vec<Lane<MemPort, MemGate, MemDoor>>> {
+    let mut lanes = Vec::new(alloc);
+    for _ in 0..16u8 {
+        lanes.push(lane_of(alloc, 1, &[])?).ok()?;
+    }
+    Some(lanes)
+}
+
+/// How many lanes took one query.
+fn taken_by(lanes: &[Lane<MemPort, MemGate, MemDoor>]) -> usize {
+    lanes
+        .iter()
+        .filter(|lane| lane.port.taken().len() == 1)
+        .count()
+}
+
+/// Lanes of which so many have viewers: how they ended, and how many of them took a query.
+fn drive_some<R: Threads + Wait + Sync>(
+    rt: &R,
+    alloc: Global,
+    count: u8,
+    lanes: &mut [Lane<MemPort, MemGate, MemDoor>],
+    pace: MemPace,
+) -> Option<(DriveEnd, usize)>
+    requires { count ≤ 16 }
+{
+    let mut pace = pace;
+    if lanes.len() != 16 {
+        return None;
+    }
+    match drive_example::<MemPort, MemGate, MemDoor, MemPace, R>(
+        rt,
+        alloc,
+        TWO_BATCHES,
+        TWO_SAID,
+        count,
+        lanes,
+        &mut pace,
+    ) {
+        None => None,
+        Some(ended) => Some((ended, taken_by(lanes))),
+    }
+}
+
+/// The same of sixteen lanes.
+fn some_lanes<R: Threads + Wait + Sync>(
+    rt: &R,
+    alloc: Global,
+    count: u8,
+) -> Option<(DriveEnd, usize)>
+    requires { count ≤ 16 }
+{
+    let mut lanes = sixteen_lanes(alloc)?;
+    match MemPace::new(alloc, 10) {
+        Err(_) => None,
+        Ok(pace) => drive_some(rt, alloc, count, lanes.as_mut_slice(), pace),
+    }
+}
+
+/// Whether of sixteen lanes so many with viewers take their queries, and the others none.
+fn take_theirs<R: Threads + Wait + Sync>(rt: &R, alloc: Global, count: u8) -> bool
+    requires { count ≤ 16 }
+{
+    let taken = count as usize;
+    some_lanes(rt, alloc, count) == Some((ended_by(Ended::PortEnd, taken), taken))
+}
+
+/// Those with viewers take their queries, and the others none.
+#[test]
+fn lanes_with_viewers(rt: HostRuntime) -> Result<(), Fail> {
+    assert!(rt; take_theirs(&rt, rt.alloc(), 0));
+    assert!(rt; take_theirs(&rt, rt.alloc(), 1));
+    assert!(rt; take_theirs(&rt, rt.alloc(), 2));
+    assert!(rt; take_theirs(&rt, rt.alloc(), 16));
+    Ok(())
+}
+
+/// The serials and what was known of the tries of a port.
+fn serials_of(port: &MemPort) -> Serials {
+    let mut serials = [None; 4];
+    for (place, serial) in serials.iter_mut().enumerate() {
+        if let (Some(taken), Some(reply)) = (port.taken().get(place), port.tries().get(place)) {
+            *serial = Some((taken.known, reply.serial));
+        }
+    }
+    serials
+}
+
+/// Where the first lane waits for the feed, and where the second one does.
+const FIRST_WAITS: &[Point] = &[
+    Point {
+        at: 1,
+        wanted: Wanted::Newest(1),
+    },
+    Point {
+        at: 2,
+        wanted: Wanted::Done,
+    },
+];
+
+const SECOND_WAITS: &[Point] = &[Point {
+    at: 0,
+    wanted: Wanted::Newest(1),
+}];
+
+/// Where the commits wait for the lanes.
+const FEED_WAITS: &[Point] = &[
+    Point {
+        at: 0,
+        wanted: Wanted::Turns(HeldLane::First, 2),
+    },
+    Point {
+        at: 1,
+        wanted: Wanted::Turns(HeldLane::First, 3),
+    },
+    Point {
+        at: 1,
+        wanted: Wanted::Turns(HeldLane::Second, 2),
+    },
+];
+
+/// A gate of a lane that waits there.
+fn held_gate<'a>(
+    alloc: Global,
+    marks: &'a Marks,
+    lane: HeldLane,
+    waits: &[Point],
+) -> Option<HoldGate<'a>> {
+    match Vec::from_slice(alloc, waits) {
+        Err(_) => None,
+        Ok(points) => HoldGate::new(alloc, marks, lane, points, 8).ok(),
+    }
+}
+
+/// A lane of so many queries that waits there for the feed.
+fn held_lane<'a>(
+    alloc: Global,
+    marks: &'a Marks,
+    lane: HeldLane,
+    queries: u8,
+    waits: &[Point],
+) -> Option<Lane<MemPort, HoldGate<'a>, PlainDoor>> {
+    let port = port_of(alloc, queries)?;
+    match held_gate(alloc, marks, lane, waits) {
+        None => None,
+        Some(gate) => Some(Lane {
+            port,
+            gate,
+            door: PlainDoor::new(),
+        }),
+    }
+}
+
+/// Two lanes that wait for the feed.
+fn held_lanes<'a>(
+    alloc: Global,
+    marks: &'a Marks,
+) -> Option<[Lane<MemPort, HoldGate<'a>, PlainDoor>; 2]> {
+    match held_lane(alloc, marks, HeldLane::First, 3, FIRST_WAITS) {
+        None => None,
+        Some(first) => match held_lane(alloc, marks, HeldLane::Second, 1, SECOND_WAITS) {
+            None => None,
+            Some(second) => Some([first, second]),
+        },
+    }
+}
+
+/// The commits wait for the lanes.
+fn held_pace<'a>(alloc: Global, marks: &'a Marks) -> Option<HoldPace<'a>> {
+    match Vec::from_slice(alloc, FEED_WAITS) {
+        Err(_) => None,
+        Ok(points) => HoldPace::new(alloc, marks, points, 10).ok(),
+    }
+}
+
+/// What each of four datagrams of a lane knew, and which map it was answered from.
+type Serials = [Option<(u64, u64)>; 4];
+
+/// How two lanes ended that run beside the feed, and the serials of each.
+fn drive_both<'a, R: Threads + Wait + Sync>(
+    rt: &R,
+    alloc: Global,
+    lanes: [Lane<MemPort, HoldGate<'a>, PlainDoor>; 2],
+    pace: HoldPace<'a>,
+) -> Option<(DriveEnd, Serials, Serials)> {
+    let mut lanes = lanes;
+    let mut pace = pace;
+    match drive_example::<MemPort, HoldGate<'_>, PlainDoor, HoldPace<'_>, R>(
+        rt,
+        alloc,
+        TWO_BATCHES,
+        TWO_SAID,
+        2,
+        &mut lanes,
+        &mut pace,
+    ) {
+        None => None,
+        Some(ended) => Some((
+            ended,
+            serials_of(&lanes[0].port),
+            serials_of(&lanes[1].port),
+        )),
+    }
+}
+
+/// The same of the lanes and the feed that wait for each other.
+fn run_at_once<R: Threads + Wait + Sync>(
+    rt: &R,
+    alloc: Global,
+    marks: &Marks,
+) -> Option<(DriveEnd, Serials, Serials)> {
+    let lanes = held_lanes(alloc, marks)?;
+    match held_pace(alloc, marks) {
+        None => None,
+        Some(pace) => drive_both(rt, alloc, lanes, pace),
+    }
+}
+
+/// What the first lane's three datagrams came to, and the second's one.
+const FIRST_SERIALS: Serials = [Some((0, 0)), Some((1, 1)), Some((2, 2)), None];
+
+const SECOND_SERIALS: Serials = [Some((1, 1)), None, None, None];
+
+/// Lanes and feed wait for each other, and nobody waits in vain. What is known rises by notes alone.
+#[test]
+fn lanes_run_at_once(rt: HostRuntime) -> Result<(), Fail> {
+    let marks = Marks::new();
+    let served = run_at_once(&rt, rt.alloc(), &marks);
+    let due = (ended_by(Ended::PortEnd, 2), FIRST_SERIALS, SECOND_SERIALS);
+    assert!(rt; served == Some(due));
+    assert!(rt; !marks.is_late());
+    Ok(())
+}
