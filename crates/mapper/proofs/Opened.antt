@@ -6,6 +6,6 @@ use Rattle.published_map.specs.Version.{IsVersion, Version}
 use Rattle.mapper.specs.Mappers.{IsFirst}
 
 pub first_is : (t : Plan) (v : Version) → IsVersion v × (v.serial ≡ 0) × (v.market ≡ t.market) → v.plan ≡ t → IsFirst t (record { history = v ∷ []; newest = v })
-first_is t v (is , serial , market) plan =
+first_is t v (is, serial, market) plan =
     let good : IsGood t.market v.lines v.names = rw market at is.good in
     record { history = refl; serial = serial; plan = plan; market = market; good = good }
