@@ -8,7 +8,7 @@ use std::thread::Threads;
 use trial_runs::Held::{self, Bytes, Missing, Topology, Zeros};
 use trial_runs::{
     EIGHT_LEVELS, EMPTY_POOL, GOOD_FLAT, NO_DEFAULT, NO_LONGER_FULL, REGION, REGION_MAP, Row,
-    assert_rows,
+    first_wrong,
 };
 
 /// The groups of TWO_GOOD, where the third one asks for one unit more.
@@ -83,7 +83,7 @@ fn assert_maps<R: Abort + Threads + Wait + Sync + AllocGlobal>(
 ) -> Result<(), Fail> {
     for (topology, map) in rows {
         let row = (*topology, Missing, Status::Ok, *map, 1usize);
-        assert_rows(rt, &["glb", "map", "t"], &[row])?;
+        assert_eq!(rt; first_wrong(rt, &["glb", "map", "t"], &[row])?, None);
         let row = (
             *topology,
             Bytes(map.as_bytes()),
@@ -91,7 +91,7 @@ fn assert_maps<R: Abort + Threads + Wait + Sync + AllocGlobal>(
             "good\n",
             2usize,
         );
-        assert_rows(rt, &["glb", "check", "t", "m"], &[row])?;
+        assert_eq!(rt; first_wrong(rt, &["glb", "check", "t", "m"], &[row])?, None);
     }
     Ok(())
 }
@@ -122,5 +122,6 @@ const NO_MAPS: &[Row] = &[
 
 #[test]
 fn topologies_without_a_map(rt: HostRuntime) -> Result<(), Fail> {
-    assert_rows(&rt, &["glb", "map", "t"], NO_MAPS)
+    assert_eq!(rt; first_wrong(&rt, &["glb", "map", "t"], NO_MAPS)?, None);
+    Ok(())
 }

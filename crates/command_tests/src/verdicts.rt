@@ -4,7 +4,7 @@ use std::test::Fail;
 use trial_runs::Held::{Bytes, Missing, Topology, Zeros};
 use trial_runs::{
     EIGHT_LEVELS, EMPTY_POOL, FLAT, GOOD_FLAT, GOOD_REGION, NO_DEFAULT, NO_LONGER_FULL, REGION,
-    Row, TWO_GOOD, assert_rows,
+    Row, TWO_GOOD, first_wrong,
 };
 
 /// Nine nodes on one path.
@@ -148,7 +148,11 @@ const VERDICTS: &[Row] = &[
 
 #[test]
 fn verdicts(rt: HostRuntime) -> Result<(), Fail> {
-    assert_rows(&rt, &["glb", "check", "t", "m"], VERDICTS)
+    assert_eq!(rt;
+        first_wrong(&rt, &["glb", "check", "t", "m"], VERDICTS)?,
+        None
+    );
+    Ok(())
 }
 
 /// Files of which `check` says nothing: they are at fault, or are not there.
@@ -229,5 +233,9 @@ const REFUSALS: &[Row] = &[
 
 #[test]
 fn refusals(rt: HostRuntime) -> Result<(), Fail> {
-    assert_rows(&rt, &["glb", "check", "t", "m"], REFUSALS)
+    assert_eq!(rt;
+        first_wrong(&rt, &["glb", "check", "t", "m"], REFUSALS)?,
+        None
+    );
+    Ok(())
 }

@@ -6,9 +6,7 @@ use glb::Status;
 use no_memory::NoMemory;
 use outside::{MemShelf, MemSink, MemSource};
 use std::alloc::Global;
-use std::process::Abort;
 use std::sync::Wait;
-use std::test::Fail;
 use std::thread::Threads;
 
 /// How many octets an output takes where it has room.
@@ -47,15 +45,17 @@ pub fn came_of<R: Threads + Wait + Sync + AllocGlobal>(
 /// Two files, and what comes of a command over them: the status, what the output got, and how many files were asked for.
 pub type Row = (Held, Held, Status, &'static str, usize);
 
-/// A command comes out so over each row.
-pub fn assert_rows<R: Abort + Threads + Wait + Sync + AllocGlobal>(
+/// The text that is due of the first row over which a command comes out otherwise, if there is one.
+pub fn first_wrong<R: Threads + Wait + Sync + AllocGlobal>(
     rt: &R,
     words: &[&str],
     rows: &[Row],
-) -> Result<(), Fail> {
+) -> Result<Option<&'static str>, NoMemory> {
     for (topology, map, status, text, loads) in rows {
         let came = came_of(rt, words, &[("t", *topology), ("m", *map)])?;
-        assert!(rt; came.is(*status, text.as_bytes(), *loads), "for {text}");
+        if !came.is(*status, text.as_bytes(), *loads) {
+            return Ok(Some(*text));
+        }
     }
-    Ok(())
+    Ok(None)
 }

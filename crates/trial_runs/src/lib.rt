@@ -10,7 +10,7 @@ mod sessions;
 mod texts;
 
 pub use came::{Came, Lent, MemLent, are_joined, run};
-pub use commands::{ROOM, Row, assert_rows, came_of, came_over};
+pub use commands::{ROOM, Row, came_of, came_over, first_wrong};
 pub use fails::{Fails, NEVER};
 pub use files::{Held, shelf, shelf_of};
 pub use lanes::{LANES, MemLane, ONE, QUERY, QUIET, Script, queries};
