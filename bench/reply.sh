@@ -101,7 +101,7 @@ fn opened(alloc: Global, topology: Topology, map: &[u8]) -> Option<MapVersion>
     if !is_good(alloc, &instance, &map) {
         return None;
     }
-    version_of(alloc, topology, &instance, &map)
+    version_of(alloc, 0, topology, &instance, &map)
 }
 
 /// The octets of a file.
