@@ -1,6 +1,6 @@
 #!/usr/bin/env bash
-# A reply's own time: user time and instructions (callgrind) of all of `answer_core::reply`, lookup included, with and
-# without a client subnet, among about 2,000 and 262,144 prefixes. Needs valgrind.
+# A reply's own time: user time of all of `answer_core::reply`, lookup included, with and without a client subnet, among
+# about 2,000 and 262,144 prefixes.
 #
 #   bench/reply.sh
 #
@@ -17,7 +17,7 @@ cat >"$work/repository/crates/replies/src/main.rt" <<'PROGRAM'
 #![tactic(auto)]
 
 ghost use Rattle.published_map.specs.Version.{IsVersion};
-ghost use Rattle.std.specs.Prelude.{IfSome};
+ghost use Rattle.std.specs.Prelude.{◌≡◌, IfSome};
 
 use addr_text::Addr;
 use answer_core::{Answer, reply};
@@ -188,8 +188,6 @@ for groups in 500 65536; do
         rows "$work/feed" >"$work/rows"
         none=$(user 0)
         many=$(user 2000)
-        profile "$replies" "$work/topology" "$work/map" "$work/rows" 20
         printf '%d groups of four prefixes, client subnets %d: %s µs a reply\n' "$groups" "$subnets" "$(python3 -c "print(round(($many - $none) / 2, 3))")"
-        python3 "$here/calls.py" "$work/profile" '^answer_core::replying::reply' | head -3
     done
 done
