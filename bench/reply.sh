@@ -10,8 +10,7 @@
 source "$(dirname "$0")/set-up.sh"
 
 mkdir -p "$work/repository/crates/replies/src"
-cp -r "$top"/crates/* "$work/repository/crates/"
-rm -rf "$work/repository"/crates/*/out
+tar -C "$top" -c --exclude='crates/*/out' crates | tar -C "$work/repository" -x
 cat >"$work/repository/crates/replies/src/main.rt" <<'PROGRAM'
 //! Replies to the same datagrams again and again: what a reply costs.
 #![tactic(auto)]
