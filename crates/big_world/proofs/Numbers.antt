@@ -1,6 +1,6 @@
 -- Draws one after another.
 use Rattle.std.proofs.Common.{◌≡◌, ◌+◌, ◌/◌, ◌%◌, ◌^◌, ℕ, suc, refl, ap, arith}
-use Rattle.big_world.specs.Numbers.{behind, draw, next}
+use Rattle.big_world.specs.Numbers.{behind, draw}
 
 -- one number more
 pub behind_more : (x k : ℕ) → behind (behind x k) 1 ≡ behind x (k + 1)

@@ -1,7 +1,7 @@
 -- Texts with one piece more.
-use Rattle.std.proofs.Common.{◌≡◌, ◌==◌, ◌+◌, ◌++◌, List, [], ◌∷◌, ℕ, suc, if◌then◌else◌, ap, sym, refl, arith}
+use Rattle.std.proofs.Common.{◌≡◌, ◌==◌, ◌+◌, ◌++◌, List, [], ◌∷◌, ℕ, suc, if◌then◌else◌, ap, arith}
 use Rattle.std.specs.Fmt.{decimal}
-use Rattle.big_world.specs.Numbers.{behind, draw, next}
+use Rattle.big_world.specs.Numbers.{draw}
 use Rattle.big_world.specs.Pieces.{texts_below}
 use Rattle.big_world.specs.Topology.{scores_text}
 

@@ -1,5 +1,5 @@
 -- The feed of a world of n groups.
-use Rattle.std.specs.Prelude.{ℕ, ◌+◌, ◌==◌, ◌++◌, List, [], ◌∷◌, codes, if◌then◌else◌}
+use Rattle.std.specs.Prelude.{ℕ, ◌+◌, ◌==◌, ◌++◌, List, codes, if◌then◌else◌}
 use Rattle.std.specs.Fmt.{decimal}
 use Rattle.big_world.specs.Numbers.{behind, draw}
 use Rattle.big_world.specs.Pieces.{ahead, pieces}

@@ -24,7 +24,7 @@ fn places(instance: &Instance) -> u64
 /// round takes the last units of an offer, or fills a node. The list is taken in between, as units that
 /// wait there come together.
 #[derive(Debug, Drop)]
-pub struct Pace {
+pub(crate) struct Pace {
     // How many offers are still taken from the list.
     listed: u64,
     // How many groups were met since units are followed.
@@ -37,7 +37,7 @@ pub struct Pace {
 
 impl Pace {
     /// The list alone is taken for twice the places of all lists and a few more. Most runs end before.
-    pub fn new(instance: &Instance) -> Pace {
+    pub(crate) fn new(instance: &Instance) -> Pace {
         Pace {
             listed: 2 * places(instance) + 16,
             followed: 0,
@@ -57,7 +57,7 @@ impl Pace {
     }
 
     /// A group is about to offer. Answers whether units have come round to it.
-    pub fn meets(&mut self, group: GroupId) -> bool {
+    pub(crate) fn meets(&mut self, group: GroupId) -> bool {
         if self.listed > 0 {
             self.listed -= 1;
             return false;
@@ -77,7 +77,7 @@ impl Pace {
     }
 
     /// The group that offers next, if units are followed to it: the last one that gave up any.
-    pub fn next_group(&mut self, freed: &[Eviction]) -> Option<GroupId>
+    pub(crate) fn next_group(&mut self, freed: &[Eviction]) -> Option<GroupId>
         ensures { (bound : ℕ) → All (λ e. e.offer.group.0 < bound) freed.now → IfSome result (λ g. g.0 < bound) }
     {
         if self.listed > 0 {

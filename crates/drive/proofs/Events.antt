@@ -1,12 +1,12 @@
 -- The lanes of a drive as lane runs over its history.
-use Rattle.std.proofs.Common.{◌≡◌, ◌⊎◌, ℕ, zero, suc, ◌+◌, ◌<◌, ◌≤◌, List, [], ◌∷◌, ◌++◌, length, All, inl, inr, subst, arith}
+use Rattle.std.proofs.Common.{◌⊎◌, ℕ, zero, suc, ◌+◌, ◌<◌, List, [], ◌∷◌, ◌++◌, length, All, inl, inr, subst, arith}
 use Rattle.published_map.specs.Version.{Version}
 use Rattle.lane_model.specs.declared.ended.Ended.{Ended}
 use Rattle.lane_model.specs.Lanes.{Entry, IsLaneRun}
 use Rattle.lane_model.specs.Machine.{AreRuns, LaneLog}
 use Rattle.lane_model.specs.Replies.{replies}
 use Rattle.lane_model.specs.Turns.{Turn, Came, entries_of, entries_of_came, tries_of, idle, oversize, ended, failed, took, silent, refused, tried}
-use Rattle.drive.specs.Done.{IsDone, IsOverNewest, IsOverPast, IsOverSeen, LaneTold}
+use Rattle.drive.specs.Done.{IsOverNewest, IsOverPast, IsOverSeen, LaneTold}
 use Rattle.drive.specs.Driven.{AreDone}
 use Rattle.drive.specs.Laws.{log_over, logs_of}
 

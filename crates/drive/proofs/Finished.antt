@@ -1,8 +1,8 @@
 -- A lane's call and its closing look make a lane that is done.
-use Rattle.std.proofs.Common.{◌≡◌, ◌⊎◌, ℕ, zero, suc, ◌+◌, ◌<◌, ◌≤◌, List, [], ◌∷◌, ◌++◌, length, max, sum_by, All, Option, inl, inr, refl, sym, ap, subst, ◌∙◌, arith, ⊎_elim}
+use Rattle.std.proofs.Common.{◌≡◌, ◌⊎◌, ℕ, ◌+◌, ◌<◌, ◌≤◌, List, [], ◌∷◌, length, max, Option, inl, inr, refl, sym, ap, subst, ◌∙◌, arith, ⊎_elim}
 use mathlib.Core.List.{IsPrefix}
 use Rattle.std.proofs.Math.Nat.{eq-or-lt_of_le}
-use Rattle.outside.specs.Faults.{BothTell, Rose, raised}
+use Rattle.outside.specs.Faults.{Rose, raised}
 use Rattle.outside.specs.Gate.{GateTold}
 use Rattle.outside.specs.Port.{PortTold}
 use Rattle.published_map.specs.Version.{Version}
@@ -10,7 +10,7 @@ use Rattle.map_cell.specs.Histories.{IsHistory}
 use Rattle.lane_model.specs.declared.ended.Ended.{Ended}
 use Rattle.lane_model.specs.Lanes.{IsLaneRun}
 use Rattle.lane_model.specs.Replies.{replies}
-use Rattle.lane_model.specs.Turns.{Turn, entries_of, floor_after, looks_of, tries_of}
+use Rattle.lane_model.specs.Turns.{entries_of, tries_of}
 use Rattle.lane_model.specs.Sessions.{Eyes, IsEnd, IsLaneCall, Moment}
 use Rattle.lane_model.proofs.Calls.{refused_last}
 use Rattle.lane_model.proofs.Prefixes.{prefix_length}

@@ -1,5 +1,5 @@
 -- The versions that a feed's run publishes go on one from the other.
-use Rattle.std.proofs.Common.{◌≡◌, ◌⊎◌, ℕ, zero, suc, ◌+◌, ◌-◌, ◌<◌, ◌≤◌, List, [], ◌∷◌, ◌++◌, length, slice_get, Option, Some, inl, inr, refl, sym, ap, subst, ◌∙◌, arith, append_assoc, append-nil, length-append, ⊎_elim}
+use Rattle.std.proofs.Common.{◌≡◌, ℕ, suc, ◌+◌, ◌-◌, List, [], ◌∷◌, ◌++◌, length, slice_get, Option, Some, inl, inr, refl, sym, ap, subst, ◌∙◌, arith, append_assoc, append-nil, length-append}
 use Rattle.map_model.specs.declared.change.Change.{Change}
 use Rattle.outside.specs.Sink.{Written}
 use Rattle.outside.specs.Source.{Fed}
@@ -12,7 +12,7 @@ use Rattle.published_map.specs.Version.{IsVersion, Version}
 use Rattle.map_cell.specs.Histories.{IsHistory}
 use Rattle.lane_model.specs.Histories.{Follows}
 use Rattle.lane_model.specs.Machine.{GoesOn}
-use Rattle.mapper.specs.Control.{AllCome, Comes, Course, IsNext, start, with_line}
+use Rattle.mapper.specs.Control.{AllCome, Comes, Course, IsNext, start}
 use Rattle.mapper.specs.Feeding.{AllCame, HasEnded, IsFeed, WasCut}
 use Rattle.mapper.specs.Scenes.{Scene, scene}
 use Rattle.drive.specs.Driven.{Succeeds}

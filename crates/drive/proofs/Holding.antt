@@ -1,5 +1,5 @@
 -- Workers one by one, and the lanes that they have.
-use Rattle.std.proofs.Common.{◌≡◌, ℕ, zero, suc, ◌+◌, ◌<◌, ◌≤◌, All, Some, List, [], ◌∷◌, ◌++◌, length, slice_get, refl, ap, subst, arith, ◌∙◌}
+use Rattle.std.proofs.Common.{◌≡◌, ℕ, zero, suc, ◌+◌, All, List, [], ◌∷◌, ◌++◌, length, subst, arith}
 use Rattle.drive.specs.AllDone.{AllFresh, AllHeld}
 
 -- what all have, those in front have and the last one

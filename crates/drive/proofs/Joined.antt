@@ -1,5 +1,5 @@
 -- Lanes that ran, in two parts.
-use Rattle.std.proofs.Common.{◌≡◌, ℕ, List, [], ◌∷◌, ◌++◌}
+use Rattle.std.proofs.Common.{List, [], ◌∷◌, ◌++◌}
 use Rattle.drive.specs.All.{AllRan}
 
 pub ran_append : {A W : Type 0} (R : A → A → W → W → Type 0) (a b : List A) (v w : List W) (a' b' : List A) (v' w' : List W) → AllRan R a b v w → AllRan R a' b' v' w' → AllRan R (a ++ a') (b ++ b') (v ++ v') (w ++ w')

@@ -1,5 +1,5 @@
 -- Lanes beside their workers.
-use Rattle.std.specs.Prelude.{ℕ, ◌+◌, List, [], ◌∷◌}
+use Rattle.std.specs.Prelude.{List, [], ◌∷◌}
 
 -- each lane with its worker
 abbrev pub AllRan : {A W : Type 0} → (A → A → W → W → Type 0) → List A → List A → List W → List W → Type 0

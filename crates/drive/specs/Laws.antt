@@ -9,7 +9,7 @@ use Rattle.lane_model.specs.Kept.{IsKept}
 use Rattle.lane_model.specs.Machine.{Event, HaveDone, IsTaken, LaneLog, LaneState, Machine, commits_of, events_of_lanes, fresh_lanes}
 use Rattle.lane_model.specs.Replies.{replies}
 use Rattle.lane_model.specs.Turns.{Turn, entries_of, tries_of}
-use Rattle.drive.specs.Done.{IsDone, LaneTold}
+use Rattle.drive.specs.Done.{LaneTold}
 use Rattle.drive.specs.Driven.{AreDone, IsDriven, Lent}
 
 -- what the turns of a lane took and tried, if it stands over the mapper's history; else nothing

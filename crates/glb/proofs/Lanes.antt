@@ -4,7 +4,7 @@ use Rattle.std.specs.Prelude.{Option, None, Some}
 use Rattle.std.specs.List.{list_any}
 use Rattle.std.proofs.lemmas.List.{length-map}
 use Rattle.addr_text.specs.declared.address.Listen.{Listen}
-use Rattle.outside.specs.Faults.{BothTell, Rose, raised}
+use Rattle.outside.specs.Faults.{BothTell, raised}
 use Rattle.outside.specs.Port.{IsOpen, PortTold}
 use Rattle.outside.specs.Shelf.{Shelved}
 use Rattle.outside.specs.Sink.{Written}

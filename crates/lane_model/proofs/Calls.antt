@@ -1,5 +1,5 @@
 -- What a whole call of a lane promises.
-use Rattle.std.proofs.Common.{◌≡◌, ◌≢◌, ℕ, zero, suc, ◌+◌, ◌-◌, ◌<◌, ◌≤◌, Bool, true, false, if◌then◌else◌, List, [], ◌∷◌, ◌++◌, length, fold, sum_by, All, Option, refl, sym, ap, subst, ◌∙◌, arith}
+use Rattle.std.proofs.Common.{◌≡◌, ℕ, zero, suc, ◌+◌, ◌-◌, ◌<◌, ◌≤◌, Bool, true, false, if◌then◌else◌, List, [], ◌∷◌, ◌++◌, length, fold, sum_by, All, Option, refl, sym, ap, subst, ◌∙◌, arith}
 use Rattle.std.proofs.lemmas.List.Sums.{sum_by-cons, sum_by_push}
 use Rattle.outside.specs.Faults.{BothTell, Rose, raised}
 use Rattle.outside.specs.Gate.{GateTold, IsTurning}
@@ -8,8 +8,8 @@ use Rattle.outside.specs.declared.gate.Turning.TheVariants.{Stop}
 use Rattle.lane_model.specs.declared.ended.Ended.{Ended}
 use Rattle.lane_model.specs.declared.ended.Ended.TheVariants as end
 use Rattle.lane_model.specs.Lanes.{Answers}
-use Rattle.lane_model.specs.Turns.{Turn, Came, Fate, AreCalm, IsCame, fails_of, failures, floor_after, gate_turn, is_calm, is_refused, looks_of, refused_of, idle, oversize, ended, failed, took, silent, refused, tried}
-use Rattle.lane_model.specs.Sessions.{IsEnd, IsGateRun, IsLaneCall, IsLaneLog, IsLast, IsSession, IsStop, IsTurn, Moment}
+use Rattle.lane_model.specs.Turns.{Turn, Came, AreCalm, IsCame, fails_of, failures, floor_after, gate_turn, is_calm, is_refused, looks_of, refused_of, idle, oversize, ended, failed, took, silent, refused, tried}
+use Rattle.lane_model.specs.Sessions.{IsEnd, IsGateRun, IsLaneCall, IsLaneLog, IsLast, IsSession, Moment}
 use Rattle.lane_model.proofs.Prefixes.{prefix_length}
 use Rattle.lane_model.proofs.Runs.{IsInOrder, session_gate, session_notes, session_port, session_rises, session_run, session_told, tells_on}
 

@@ -1,9 +1,9 @@
 -- What the machine keeps: a history, and lanes that are lane runs over it.
-use Rattle.std.proofs.Common.{◌≡◌, ℕ, zero, suc, ◌+◌, ◌<◌, ◌≤◌, Bool, true, false, List, [], ◌∷◌, ◌++◌, length, max, MatchBool, refl, sym, ap, subst, ◌∙◌, arith, append_assoc, append-nil, length-append, ⊎_elim}
+use Rattle.std.proofs.Common.{◌≡◌, ℕ, suc, ◌+◌, ◌<◌, ◌≤◌, Bool, true, false, List, [], ◌∷◌, ◌++◌, length, max, MatchBool, refl, sym, ap, subst, ◌∙◌, arith, append_assoc, append-nil, length-append, ⊎_elim}
 use mathlib.Core.List.{IsPrefix}
 use Rattle.outside.specs.Port.{Packet, Try}
 use Rattle.lane_model.specs.Lanes.{Answers, Entry, IsLaneRun, IsTryOf, following}
-use Rattle.lane_model.specs.Machine.{Event, LaneState, Machine, GoesOn, IsMoved, IsStep, IsTaken, Takes, passed, replied, told, commit, tell, take}
+use Rattle.lane_model.specs.Machine.{Event, LaneState, Machine, GoesOn, IsStep, IsTaken, Takes, passed, replied, told, commit, tell, take}
 use Rattle.lane_model.specs.Kept.{AreKeptLanes, IsKept, IsRunTo}
 use Rattle.lane_model.proofs.Prefixes.{prefix_get}
 

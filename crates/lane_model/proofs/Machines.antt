@@ -1,8 +1,8 @@
 -- Lane runs over one history are taken by the machine.
-use Rattle.std.proofs.Common.{◌≡◌, ◌⊎◌, ℕ, zero, suc, ◌+◌, ◌<◌, ◌≤◌, Bool, true, false, List, [], ◌∷◌, ◌++◌, length, max, if◌then◌else◌, All, Some, MatchBool, slice_get, inl, inr, refl, sym, ap, subst, ◌∙◌, arith, append_assoc, append-nil, length-append}
+use Rattle.std.proofs.Common.{◌≡◌, ℕ, zero, suc, ◌+◌, ◌<◌, ◌≤◌, Bool, true, false, List, [], ◌∷◌, ◌++◌, length, max, if◌then◌else◌, All, Some, MatchBool, slice_get, inl, inr, refl, sym, ap, subst, ◌∙◌, arith, append_assoc, append-nil, length-append}
 use Rattle.outside.specs.Port.{Packet, Try}
 use Rattle.lane_model.specs.Lanes.{Answers, Entry, IsLaneRun, IsTryOf, following}
-use Rattle.lane_model.specs.Machine.{Event, LaneLog, LaneState, Machine, AreRuns, GoesOn, HaveDone, IsMoved, IsStep, IsTaken, Takes, commits_of, events_of_lane, events_of_lanes, fresh, fresh_lanes, passed, replied, serial_of, told, tries_behind, commit, tell, take}
+use Rattle.lane_model.specs.Machine.{Event, LaneLog, LaneState, Machine, AreRuns, GoesOn, HaveDone, IsMoved, IsTaken, Takes, commits_of, events_of_lane, events_of_lanes, fresh, fresh_lanes, passed, replied, serial_of, told, tries_behind, tell, take}
 
 taken_append : {V : Type 0} (a : Answers V) (F : List V → V → Type 0) (xs ys : List (Event V)) (m mid m' : Machine V) → IsTaken a F xs m mid → IsTaken a F ys mid m' → IsTaken a F (xs ++ ys) m m'
 taken_append a F [] ys m mid m' p q = subst (λ k. IsTaken a F ys k m') p q

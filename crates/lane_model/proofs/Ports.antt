@@ -1,8 +1,7 @@
 -- What a port tells after some turns, as lists.
-use Rattle.std.proofs.Common.{◌≡◌, List, [], ◌∷◌, ◌++◌, ℕ, fold, map, refl, sym, ap, ◌∙◌, append_assoc, append-nil}
-use Rattle.outside.specs.Port.{Packet, PortTold, Taken, Try}
-use Rattle.lane_model.specs.Lanes.{Entry}
-use Rattle.lane_model.specs.Turns.{Came, Fate, Turn, port_after, port_turn, tries_of, tries_of_came, idle, oversize, ended, failed, took, silent, refused, tried}
+use Rattle.std.proofs.Common.{◌≡◌, List, [], ◌∷◌, ◌++◌, ℕ, fold, refl, sym, ap, ◌∙◌, append_assoc, append-nil}
+use Rattle.outside.specs.Port.{PortTold}
+use Rattle.lane_model.specs.Turns.{Came, Turn, port_after, port_turn, tries_of, tries_of_came, idle, oversize, ended, failed, took, silent, refused, tried}
 
 one_tried : (known : ℕ) (came : Came) (p : PortTold) → (port_after known came p).tries ≡ p.tries ++ tries_of_came came
 one_tried known idle p = sym (append-nil p.tries)

@@ -5,7 +5,7 @@ use Rattle.outside.specs.Faults.{BothTell}
 use Rattle.outside.specs.Port.{Try}
 use Rattle.lane_model.specs.Lanes.{Answers, Entry, IsLaneRun, IsTryOf, following}
 use Rattle.lane_model.specs.Turns.{Turn, Came, AreGiven, IsCame, IsGiven, IsTold, count_after, entries_of, entries_of_came, floor_after, gate_turn, is_refused, port_turn, tries_of, tries_of_came, idle, oversize, ended, failed, took, silent, refused, tried}
-use Rattle.lane_model.specs.Sessions.{IsRise, IsSession, IsTurn, Moment}
+use Rattle.lane_model.specs.Sessions.{IsRise, IsSession, Moment}
 use Rattle.lane_model.proofs.Prefixes.{prefix_get}
 use Rattle.lane_model.proofs.Going.{rise_none, rise_trans}
 

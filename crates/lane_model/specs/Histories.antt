@@ -1,5 +1,5 @@
 -- Histories: published versions over one topology, each good, each from the one before it by a batch.
-use Rattle.std.specs.Prelude.{◌≡◌, ℕ, ◌+◌, ◌-◌, List, [], ◌∷◌, length, Some, slice_get}
+use Rattle.std.specs.Prelude.{◌≡◌, ◌+◌, ◌-◌, List, [], ◌∷◌, length, Some, slice_get}
 use Rattle.map_model.specs.declared.change.Change.{Change}
 use Rattle.map_model.specs.Batch.{IsApplied}
 use Rattle.topology_text.specs.Plan.{Plan}

@@ -1,5 +1,5 @@
 -- Lane runs.
-use Rattle.std.specs.Prelude.{◌≡◌, ℕ, ◌+◌, ◌*◌, ◌^◌, ◌%◌, ◌≤◌, Bool, true, false, List, [], ◌∷◌, MatchBool, Option, Some, slice_get}
+use Rattle.std.specs.Prelude.{◌≡◌, ℕ, ◌+◌, ◌*◌, ◌^◌, ◌%◌, ◌≤◌, Bool, true, List, [], ◌∷◌, MatchBool, Option, Some, slice_get}
 use Rattle.addr_text.specs.declared.address.Addr.{Addr}
 use Rattle.outside.specs.Port.{Packet, Try}
 

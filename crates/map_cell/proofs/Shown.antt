@@ -1,5 +1,5 @@
 -- What a step shows, and what follows a history.
-use Rattle.std.proofs.Common.{◌≡◌, ℕ, zero, suc, ◌+◌, Bool, true, false, true≢false, Result, Ok, Err, IsOk, MatchResult, List, [], ◌∷◌, ◌++◌, fold, length, slice_get, Some, refl, ap, sym, subst, ◌∙◌, arith, length-append}
+use Rattle.std.proofs.Common.{◌≡◌, ℕ, ◌+◌, true, false, true≢false, Result, Ok, Err, IsOk, MatchResult, List, [], ◌∷◌, ◌++◌, fold, length, slice_get, Some, refl, ap, sym, subst, ◌∙◌, arith, length-append}
 use Rattle.published_map.specs.declared.delta.Delta.{Delta}
 use Rattle.published_map.specs.Version.{Version, IsVersion}
 use Rattle.published_map.specs.Changes.{is_within, moved, after}

@@ -1,8 +1,8 @@
 -- Each step of the cell keeps its rule.
-use Rattle.std.proofs.Common.{◌≡◌, ◌≢◌, ℕ, ◌⊎◌, Bool, true, false, List, [], ◌∷◌, ◌++◌, fold, set, if◌then◌else◌, refl, ap, sym, subst, ◌∙◌, ⊎_elim}
+use Rattle.std.proofs.Common.{◌≡◌, ◌≢◌, ℕ, ◌⊎◌, true, List, [], ◌∷◌, ◌++◌, set, refl, sym, subst, ⊎_elim}
 use mathlib.Core.Option.{some, some-ne-none}
 use lib.ListN.{get_elem?}
-use Rattle.atomic_table.proofs.Lists.{at_set, at_snoc, set_again}
+use Rattle.atomic_table.proofs.Lists.{at_set, at_snoc}
 use Rattle.map_cell.specs.declared.tag.Tag.{Tag}
 use Rattle.map_cell.specs.Histories.{IsSealed}
 use Rattle.map_cell.specs.Rules.{CopyState}

@@ -10,7 +10,7 @@ use Rattle.topology_text.specs.Plan.{Plan}
 use Rattle.published_map.specs.declared.delta.Delta.{Delta}
 use Rattle.published_map.specs.Between.{IsBetween}
 use Rattle.published_map.specs.Changes.{after, is_within}
-use Rattle.published_map.specs.Version.{Version, IsVersion}
+use Rattle.published_map.specs.Version.{Version}
 use Rattle.published_map.proofs.Within.{within}
 use Rattle.world_versions.specs.declared.GoodMap.{GoodMap}
 use Rattle.map_cell_tests.specs.Examples.{IsOf}

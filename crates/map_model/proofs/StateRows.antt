@@ -12,14 +12,14 @@ use Rattle.map_model.proofs.Units.{through-le-placed}
 use Rattle.map_model.proofs.Decide.{IsResumable-computed, is_not}
 use Rattle.map_model.proofs.Rows.{crossed, line, region, scratch-good, two_level}
 
-abbrev demand : ℕ → ℕ → Change
-demand g units = Demand (record { 0 = g }) units
+abbrev asks : ℕ → ℕ → Change
+asks g units = Demand (record { 0 = g }) units
 
 abbrev capacity : ℕ → ℕ → Change
 capacity n units = Capacity (record { 0 = n }) units
 
 -- a demand given twice in one batch: the last counts, and all else stays
-twice-applied : IsApplied (crossed 1) (demand 2 7 ∷ demand 2 2 ∷ []) (crossed 2)
+twice-applied : IsApplied (crossed 1) (asks 2 7 ∷ asks 2 2 ∷ []) (crossed 2)
 twice-applied = record {
   shape = record { groups = refl; nodes = refl; lists = lists; trees = λ n. refl; pools = λ n. refl };
   demands = demands;
@@ -32,14 +32,14 @@ twice-applied = record {
     lists (suc (suc zero)) = refl
     lists (suc (suc (suc g))) = refl
 
-    demands : (g : ℕ) → g < 3 → demand_of (crossed 2) g ≡ unwrap_or (last_demand (demand 2 7 ∷ demand 2 2 ∷ []) g) (demand_of (crossed 1) g)
+    demands : (g : ℕ) → g < 3 → demand_of (crossed 2) g ≡ unwrap_or (last_demand (asks 2 7 ∷ asks 2 2 ∷ []) g) (demand_of (crossed 1) g)
     demands zero l = refl
     demands (suc zero) l = refl
     demands (suc (suc zero)) l = refl
     demands (suc (suc (suc g))) l = absurd (omega arith)
 
-first-does-not-count : IsApplied (crossed 1) (demand 2 2 ∷ demand 2 7 ∷ []) (crossed 2) → ⊥
-first-does-not-count applied = is_not 2 7 refl (applied.demands 2 (omega arith))
+earlier-does-not-count : IsApplied (crossed 1) (asks 2 2 ∷ asks 2 7 ∷ []) (crossed 2) → ⊥
+earlier-does-not-count applied = is_not 2 7 refl (applied.demands 2 (omega arith))
 
 nothing-else-changes : IsApplied (crossed 1) [] (crossed 2) → ⊥
 nothing-else-changes applied = is_not 2 1 refl (applied.demands 2 (omega arith))

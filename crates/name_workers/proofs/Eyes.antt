@@ -1,5 +1,5 @@
 -- What learning, answering and receiving do, for the code's answers.
-use Rattle.std.proofs.Common.{◌≡◌, ℕ, ◌+◌, ◌-◌, ◌<◌, ◌≤◌, true, false, List, [], ◌∷◌, ◌++◌, length, map, max, replicate, All, Option, None, Some, refl, sym, ap, subst, ◌∙◌, arith, append_assoc, append-nil, length-append}
+use Rattle.std.proofs.Common.{◌≡◌, ℕ, ◌+◌, ◌<◌, ◌≤◌, List, [], ◌∷◌, ◌++◌, length, map, max, replicate, All, Option, None, Some, refl, sym, ap, subst, ◌∙◌, arith, append_assoc, append-nil, length-append}
 use Rattle.std.proofs.lemmas.Grind.{common_steps}
 use mathlib.Core.List.{IsPrefix}
 use Rattle.outside.specs.Faults.{BothTell, raised}
@@ -7,8 +7,7 @@ use Rattle.published_map.specs.Version.{Version}
 use Rattle.outside.specs.Notes.{NotesTold, IsNextNote}
 use Rattle.lane_model.specs.Sessions.{Eyes, IsRise}
 use Rattle.lane_model.specs.Turns.{IsGiven}
-use Rattle.lane_model.proofs.Going.{rise_none, rise_trans}
-use Rattle.lane_model.proofs.Prefixes.{prefix_self, prefix_length}
+use Rattle.lane_model.proofs.Prefixes.{prefix_self}
 use Rattle.lane_model.proofs.Runs.{tells_on}
 use Rattle.name_workers.specs.Given.{AreGivenSoFar, AreSome}
 use Rattle.name_workers.specs.Worker.{IsLookRefused}

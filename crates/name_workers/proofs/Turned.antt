@@ -1,15 +1,14 @@
 -- A turn is made of a Go, the notes, and what came.
-use Rattle.std.proofs.Common.{◌≡◌, ℕ, ◌+◌, ◌<◌, ◌≤◌, true, false, List, [], ◌∷◌, ◌++◌, length, All, Option, None, Some, refl, sym, ap, subst, ◌∙◌, arith}
+use Rattle.std.proofs.Common.{◌≡◌, ℕ, ◌+◌, ◌<◌, ◌≤◌, true, false, List, length, All, Option, None, Some, refl, sym, ap, subst, ◌∙◌, arith}
 use Rattle.outside.specs.Faults.{BothTell, Rose, raised}
 use Rattle.addr_text.specs.declared.address.Peer.{Peer}
 use Rattle.published_map.specs.Version.{Version}
-use Rattle.outside.specs.Port.{Packet, IsRecv, PortTold, Try, packet_in, taking, trying}
+use Rattle.outside.specs.Port.{IsRecv, packet_in, taking, trying}
 use Rattle.outside.specs.declared.port.Arrival.TheVariants.{Arrived}
-use Rattle.outside.specs.Gate.{GateTold, IsTurning}
+use Rattle.outside.specs.Gate.{IsTurning}
 use Rattle.outside.specs.declared.gate.Turning.TheVariants.{Go}
-use Rattle.outside.specs.Notes.{NotesTold}
 use Rattle.lane_model.specs.Lanes.{following}
-use Rattle.lane_model.specs.Turns.{Came, Fate, IsCame, IsGiven, Turn, count_after, floor_after, is_refused, looks_of, port_after, idle, oversize, ended, failed, took, silent, refused, tried}
+use Rattle.lane_model.specs.Turns.{Came, IsCame, IsGiven, Turn, count_after, floor_after, looks_of, idle, oversize, ended, failed, took, silent, refused, tried}
 use Rattle.lane_model.specs.Sessions.{Eyes, IsRise, IsTurn, Moment}
 use Rattle.lane_model.proofs.Going.{rise_none, rise_trans}
 use Rattle.lane_model.proofs.Prefixes.{prefix_length}
@@ -20,7 +19,7 @@ use Rattle.name_workers.specs.declared.serve.Step.{Step}
 use Rattle.name_workers.specs.declared.serve.Step.TheVariants as step
 use Rattle.lane_model.specs.Replies.{replies}
 use Rattle.name_workers.proofs.Eyes.{rise_refused}
-use Rattle.name_workers.specs.Steps.{IsFared, IsReceived, IsTaken, IsTurned, Wire, step_of, step_of_fared}
+use Rattle.name_workers.specs.Steps.{IsFared, IsTaken, IsTurned, Wire, step_of, step_of_fared}
 
 rose_later : (x y z : ℕ) → x ≤ y → Rose y z → Rose x z
 rose_later x y z le r = omega (arith, le, r)

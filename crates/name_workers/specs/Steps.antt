@@ -1,7 +1,6 @@
 -- The steps of a lane's turn.
-use Rattle.std.specs.Prelude.{◌≡◌, ◌≢◌, ℕ, ◌+◌, ◌<◌, ◌≤◌, ◌==◌, true, false, List, length, Option, None, Some, if◌then◌else◌}
+use Rattle.std.specs.Prelude.{◌≡◌, ℕ, ◌+◌, ◌<◌, ◌≤◌, ◌==◌, true, false, List, length, Option, None, Some, if◌then◌else◌}
 use Rattle.outside.specs.Faults.{BothTell, Rose, raised}
-use Rattle.addr_text.specs.declared.address.Peer.{Peer}
 use Rattle.outside.specs.Port.{Packet, Try, PortTold, trying}
 use Rattle.published_map.specs.Version.{Version}
 use Rattle.lane_model.specs.declared.ended.Ended.{Ended}

@@ -1,6 +1,5 @@
 -- What one answer of a worker does.
 use Rattle.std.specs.Prelude.{◌≡◌, ℕ, ◌+◌, ◌≤◌, true, false, List, [], length, Option, None, Some, Result, Ok, Err, slice_get}
-use mathlib.Core.List.{IsPrefix}
 use Rattle.addr_text.specs.declared.address.Addr.{Addr}
 use Rattle.outside.specs.Faults.{Rose, raised}
 use Rattle.published_map.specs.Version.{Version}

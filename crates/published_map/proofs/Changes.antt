@@ -1,5 +1,5 @@
 -- One row or one capacity after another.
-use Rattle.std.proofs.Common.{◌≡◌, ℕ, zero, suc, ◌+◌, ◌<◌, List, [], ◌∷◌, length, fold, slice_set, get_or, refl, sym, ap, ◌∙◌, subst, arith}
+use Rattle.std.proofs.Common.{◌≡◌, ℕ, ◌<◌, List, [], ◌∷◌, length, fold, slice_set, refl, ◌∙◌, arith}
 use Rattle.std.proofs.Math.ListN.{length-set}
 use Rattle.map_model.specs.declared.instance.GroupId.{GroupId}
 use Rattle.map_model.specs.declared.instance.NodeId.{NodeId}
@@ -11,7 +11,7 @@ use Rattle.topology_text.specs.Plan.{Plan}
 use Rattle.published_map.specs.Rows.{lines_at, names_at, in_rows, with_demands, with_capacities, market_of}
 use Rattle.published_map.specs.Version.{Version}
 use Rattle.published_map.specs.Changes.{replaced, put_row, put_node, after}
-use Rattle.published_map.proofs.Rows.{lines_keyed, names_keyed, replaced_rows, demands_set, capacities_set, length-demands, length-capacities}
+use Rattle.published_map.proofs.Rows.{lines_keyed, names_keyed, replaced_rows, demands_set, capacities_set}
 
 -- the version of rows and capacities over an instance
 abbrev pub over : ℕ → Market → Plan → List GroupRow → List ℕ → Version

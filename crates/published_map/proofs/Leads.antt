@@ -1,5 +1,5 @@
 -- What is put together from rows and capacities, and what a delta leads to.
-use Rattle.std.proofs.Common.{◌≡◌, ℕ, zero, suc, ◌+◌, ◌<◌, false, List, [], ◌∷◌, length, map, fold, slice_set, get_or, refl, sym, ap, ap₂, ◌∙◌, arith}
+use Rattle.std.proofs.Common.{◌≡◌, ℕ, suc, ◌+◌, ◌<◌, false, List, [], ◌∷◌, length, map, fold, slice_set, get_or, refl, sym, ap, ap₂, ◌∙◌, arith}
 use Rattle.std.specs.Prelude.{All, None}
 use Rattle.std.specs.List.{range_with_len}
 use Rattle.std.proofs.Math.ListN.{length-set}
@@ -10,7 +10,7 @@ use Rattle.map_model.specs.declared.instance.NodeId.{NodeId}
 use Rattle.map_model.specs.declared.instance.Node.{Node}
 use Rattle.map_model.specs.declared.lines.MapLine.{MapLine}
 use Rattle.map_model.specs.declared.lines.NameLine.{NameLine}
-use Rattle.map_model.specs.Market.{Group, Market, IsMarket, IsSameShape, capacity_of, choices_of, demand_of, is_pool_at, parent_of}
+use Rattle.map_model.specs.Market.{Group, Market, IsMarket, IsSameShape, capacity_of, demand_of}
 use Rattle.map_model.specs.Allocation.{IsMapForm}
 use Rattle.topology_text.specs.Plan.{Plan}
 use Rattle.published_map.specs.declared.row.GroupRow.{GroupRow}

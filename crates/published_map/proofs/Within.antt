@@ -1,5 +1,5 @@
 -- What changes between two versions may be put into the old one, and leads to a version where the new one is one.
-use Rattle.std.proofs.Common.{◌≡◌, ℕ, ◌<◌, Bool, true, ◌&&◌, nat_lt, List, [], ◌∷◌, length, All, refl, sym, subst, arith}
+use Rattle.std.proofs.Common.{◌≡◌, ℕ, ◌<◌, true, nat_lt, List, [], ◌∷◌, length, All, refl, sym, subst}
 use Rattle.std.specs.List.{list_all}
 use Rattle.std.proofs.lemmas.Bool.{and_from, lt-ltb}
 use Rattle.std.proofs.lemmas.List.Elements.{All-head, All-tail}
@@ -7,7 +7,7 @@ use Rattle.map_model.specs.declared.instance.GroupId.{GroupId}
 use Rattle.map_model.specs.declared.instance.NodeId.{NodeId}
 use Rattle.published_map.specs.declared.row.GroupRow.{GroupRow}
 use Rattle.published_map.specs.declared.delta.Delta.{Delta}
-use Rattle.published_map.specs.Between.{IsBetween, IsChangedNode, IsChangedRow}
+use Rattle.published_map.specs.Between.{IsBetween}
 use Rattle.published_map.specs.Changes.{after, is_within}
 use Rattle.published_map.specs.Version.{Version, IsVersion}
 

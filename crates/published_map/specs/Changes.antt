@@ -1,5 +1,5 @@
 -- The version after a delta.
-use Rattle.std.specs.Prelude.{◌≡◌, ℕ, ◌+◌, ◌<◌, Bool, ◌&&◌, nat_lt, List, ◌++◌, length, slice_set, fold, filter}
+use Rattle.std.specs.Prelude.{ℕ, ◌+◌, Bool, ◌&&◌, nat_lt, List, ◌++◌, length, slice_set, fold, filter}
 use Rattle.std.specs.List.{list_all}
 use Rattle.map_model.specs.declared.instance.GroupId.{GroupId}
 use Rattle.map_model.specs.declared.instance.NodeId.{NodeId}

@@ -8,7 +8,7 @@ use Rattle.published_map.specs.Version.{Version}
 use Rattle.lane_model.specs.Histories.{Follows}
 use Rattle.lane_model.specs.Kept.{IsKept}
 use Rattle.lane_model.specs.Lanes.{draw}
-use Rattle.lane_model.specs.Machine.{IsMoved, IsStep, IsTaken, LaneState, Machine, Takes, fresh, passed, replied, told}
+use Rattle.lane_model.specs.Machine.{IsMoved, IsStep, IsTaken, LaneState, Machine, Takes, fresh, told}
 use Rattle.lane_model.specs.Machine as machine
 use Rattle.lane_model.specs.Replies.{replies}
 use Rattle.lane_model.proofs.Keeps.{all_kept}

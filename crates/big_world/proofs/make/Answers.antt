@@ -1,4 +1,3 @@
-use Rattle.std.proofs.Common.{append_assoc}
 use Rattle.big_world.proofs.make.Goals as goal
 
 pub returns-clause-topology : goal.returns-clause-topology

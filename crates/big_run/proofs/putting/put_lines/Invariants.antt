@@ -1,4 +1,4 @@
-use Rattle.std.proofs.Common.{◌≡◌, ◌≤◌, take}
+use Rattle.std.proofs.Common.{◌≤◌, take}
 use Rattle.outside.specs.Faults.{BothTell}
 use Rattle.mapper.specs.Scenes.{IsPrinted}
 use Rattle.big_run.specs.Summary.{lines_of}

@@ -1,4 +1,4 @@
-use Rattle.std.proofs.Common.{rules, ◌≡◌, ◌++◌, ◌∷◌, [], sym, ◌∙◌}
+use Rattle.std.proofs.Common.{rules, ◌≡◌, ◌++◌, ◌∷◌, []}
 use Rattle.drive.proofs.Joined.{ran_append}
 use Rattle.drive.proofs.joins.+runs.Goals as goal
 

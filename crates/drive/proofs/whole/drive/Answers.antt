@@ -1,4 +1,4 @@
-use Rattle.std.proofs.Common.{rules, ◌≡◌, ◌∷◌, ◌++◌, ◌∙◌, [], length, map, refl, vec_len}
+use Rattle.std.proofs.Common.{rules, ◌≡◌, ◌∙◌, length, map, refl, vec_len}
 use Rattle.std.proofs.lemmas.List.{length-map}
 use Rattle.drive.proofs.Ends.{sole_history}
 use Rattle.drive.proofs.Growing.{feed_goes_on, feed_over}

@@ -1,6 +1,5 @@
-use Rattle.std.proofs.Common.{rules, refl, ◌≡◌, ◌≤◌, ◌+◌, ◌∷◌, ◌++◌, [], All, ℕ, length, subst, arith, vec_len, vec_capacity}
+use Rattle.std.proofs.Common.{rules, refl, ◌≡◌, ◌≤◌, ◌+◌, ◌∷◌, ◌++◌, [], All, length, subst, arith, vec_len, vec_capacity}
 use Rattle.std.proofs.lemmas.Grind.{common_steps}
-use Rattle.drive.specs.AllDone.{AllHeld}
 use Rattle.drive.proofs.Holding.{all_front, held_more}
 use Rattle.drive.proofs.whole.hold_all.Goals as goal
 

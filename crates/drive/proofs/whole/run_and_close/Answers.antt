@@ -1,4 +1,4 @@
-use Rattle.std.proofs.Common.{rules, ◌≡◌, ◌∷◌, ◌++◌, [], length, sym, ap, ◌∙◌}
+use Rattle.std.proofs.Common.{rules, ◌≡◌, ◌∷◌, ◌++◌, length, sym, ap, ◌∙◌}
 use Rattle.drive.proofs.Finished.{done_by}
 use Rattle.drive.proofs.Holding.{fresh_of}
 use Rattle.drive.proofs.Together.{all_done}

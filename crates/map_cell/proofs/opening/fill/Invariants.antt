@@ -1,4 +1,4 @@
-use Rattle.std.proofs.Common.{◌≡◌, ◌≤◌, All, vec_len, vec_capacity}
+use Rattle.std.proofs.Common.{◌≡◌, All, vec_len, vec_capacity}
 use Rattle.outside.specs.Faults.{raised}
 use Rattle.map_cell.proofs.opening.fill.Given as goal
 

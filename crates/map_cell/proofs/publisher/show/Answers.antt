@@ -1,4 +1,4 @@
-use Rattle.std.proofs.Common.{rules, ◌≡◌, ◌∷◌, [], List, drop, ap, sym, subst, ◌∙◌, IsOk}
+use Rattle.std.proofs.Common.{rules, ◌≡◌, ◌∷◌, [], drop, ap, sym, subst, ◌∙◌, IsOk}
 use Rattle.map_cell.specs.Histories.{IsSealed}
 use Rattle.map_cell.specs.Rules.{CopyState}
 use Rattle.map_cell.specs.Tags.{tag_of}

@@ -1,7 +1,7 @@
 use Rattle.std.proofs.Common.{◌≡◌, ◌+◌, ℕ, arith, sym, ap, subst, ◌∙◌}
 use Rattle.map_model.proofs.NameForm.{IsMapForm-IsGood}
 use Rattle.published_map.specs.Version.{Version}
-use Rattle.map_cell_tests.proofs.Published.{Between, fits, form_of, leads, next_is}
+use Rattle.map_cell_tests.proofs.Published.{Between, fits, form_of, next_is}
 use Rattle.map_cell_tests.proofs.tests.publish_to.Given.{Over}
 use Rattle.map_cell_tests.proofs.tests.publish_to.Goals as goal
 

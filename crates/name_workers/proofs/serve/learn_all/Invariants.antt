@@ -1,5 +1,4 @@
-use Rattle.std.proofs.Common.{◌≡◌, ℕ, ◌-◌, ◌<◌, List, All, length}
-use Rattle.outside.specs.Faults.{BothTell}
+use Rattle.std.proofs.Common.{◌≡◌, ◌-◌, length}
 use Rattle.lane_model.specs.Sessions.{IsRise}
 use Rattle.name_workers.specs.Given.{AreGivenSoFar}
 use Rattle.name_workers.proofs.serve.learn_all.Given as goal

@@ -1,4 +1,4 @@
-use Rattle.std.proofs.Common.{◌≡◌, ℕ, ◌-◌, length}
+use Rattle.std.proofs.Common.{◌≡◌, ◌-◌, length}
 use Rattle.name_workers.specs.Invariant.{IsSoFar}
 use Rattle.name_workers.proofs.serve.serve_turns.Given as goal
 

@@ -1,10 +1,10 @@
-use Rattle.std.proofs.Common.{◌≡◌, ℕ, ◌<◌, List, arith, length, map, refl, ap, sym, subst, ◌∙◌}
+use Rattle.std.proofs.Common.{◌<◌, arith, length, sym, subst}
 use Rattle.map_model.specs.declared.instance.GroupId.{GroupId}
 use Rattle.published_map.specs.declared.row.GroupRow.{GroupRow}
 use Rattle.published_map.specs.Gathered.{RowsChanged}
 use Rattle.published_map.specs.Rows.{row_of}
 use Rattle.published_map.proofs.Gathered.{none_yet}
-use Rattle.published_map.proofs.Groups.{IsOwn, own_is, goes_on, starts}
+use Rattle.published_map.proofs.Groups.{own_is, goes_on, starts}
 use Rattle.published_map.proofs.Leads.{one_row}
 use Rattle.published_map.proofs.delta.changed_rows.Goals as goal
 

@@ -1,4 +1,4 @@
-use Rattle.std.proofs.Common.{◌≡◌, ◌+◌, ◌≤◌, ◌==◌, ℕ, Bool, true, false, arith, sum_by, take, get_or, cond, ap, ◌∙◌}
+use Rattle.std.proofs.Common.{arith, get_or}
 use Rattle.std.proofs.lemmas.List.Sums.{sum_by_more, sum_by_more_le_part}
 use Rattle.published_map.proofs.Sums.{at_place, part_le}
 use Rattle.published_map.proofs.row.amount_in.Goals as goal

@@ -1,4 +1,4 @@
-use Rattle.std.proofs.Common.{◌≡◌, ◌==◌, if◌then◌else◌, take, sum_by}
+use Rattle.std.proofs.Common.{◌≡◌, take, sum_by}
 use Rattle.published_map.proofs.Sums.{at_place}
 use Rattle.published_map.proofs.row.amount_in.Given as goal
 

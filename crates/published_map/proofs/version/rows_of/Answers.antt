@@ -1,8 +1,6 @@
-use Rattle.std.proofs.Common.{rules, ◌≡◌, ◌+◌, arith, length, map, refl, sym, ap, ◌∙◌}
-use Rattle.std.specs.Vec.{vec_len}
+use Rattle.std.proofs.Common.{◌≡◌, arith, length, map, refl, ap, ◌∙◌}
 use Rattle.std.specs.List.{range_with_len}
 use Rattle.std.proofs.lemmas.List.FromFn.{map-range_with_len_more}
-use Rattle.published_map.specs.declared.row.GroupRow.{GroupRow}
 use Rattle.published_map.specs.Rows.{row_of}
 use Rattle.published_map.proofs.Groups.{IsOwn, own_is, goes_on, starts, amounts_are, names_are}
 use Rattle.published_map.proofs.version.rows_of.Goals as goal

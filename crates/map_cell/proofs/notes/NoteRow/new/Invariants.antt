@@ -1,4 +1,4 @@
-use Rattle.std.proofs.Common.{◌≡◌, ◌+◌, vec_len, vec_capacity}
+use Rattle.std.proofs.Common.{◌≡◌, vec_len, vec_capacity}
 use Rattle.map_cell.proofs.notes.NoteRow.new.Given as goal
 
 abbrev pub invariant-loop : goal.invariant-loop

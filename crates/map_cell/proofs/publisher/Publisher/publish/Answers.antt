@@ -1,9 +1,8 @@
-use Rattle.std.proofs.Common.{rules, ◌≡◌, ◌+◌, ◌∷◌, ◌++◌, [], List, drop, Some, IsSome, IfSome, refl, ap, sym, subst, ◌∙◌}
+use Rattle.std.proofs.Common.{rules, ◌≡◌, ◌+◌, ◌∷◌, ◌++◌, [], ap, sym, subst, ◌∙◌}
 use Rattle.map_cell.specs.Asks.{asked}
-use Rattle.published_map.specs.Changes.{moved, after}
+use Rattle.published_map.specs.Changes.{after}
 use Rattle.map_cell.specs.Ends.{PublisherState}
-use Rattle.map_cell.specs.Histories.{MayFollow, IsSealed}
-use Rattle.published_map.specs.Version.{Version, IsVersion}
+use Rattle.published_map.specs.Version.{IsVersion}
 use Rattle.map_cell.proofs.Shown.{may_follow, sealed_more}
 use Rattle.map_cell.proofs.publisher.Publisher.publish.Goals as goal
 

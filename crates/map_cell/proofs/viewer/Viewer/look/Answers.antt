@@ -1,4 +1,3 @@
-use Rattle.std.proofs.Common.{rules, refl, sym, ap, subst}
 use Rattle.map_cell.proofs.Steps.{looks}
 use Rattle.map_cell.proofs.viewer.Viewer.look.Goals as goal
 

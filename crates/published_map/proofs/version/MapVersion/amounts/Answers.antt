@@ -2,7 +2,7 @@ use Rattle.std.proofs.Common.{rules, ◌≡◌, ◌<◌, ◌≤◌, ℕ, List, [
 use Rattle.std.specs.Prelude.{sum}
 use Rattle.std.specs.Arc.{arc_value}
 use Rattle.std.specs.List.{range_with_len}
-use Rattle.map_model.specs.Allocation.{placed, amount_at}
+use Rattle.map_model.specs.Allocation.{amount_at}
 use Rattle.map_model.specs.Market.{choices_of}
 use Rattle.published_map.specs.Kept.{version}
 use Rattle.published_map.specs.Shared.{plan_of}

@@ -1,11 +1,5 @@
-use Rattle.std.proofs.Common.{◌≡◌, ◌<◌, length, subst, sym, ap, arith}
 use Rattle.std.specs.Arc.{arc_value}
-use Rattle.addr_text.specs.declared.address.Prefix.{Prefix}
-use Rattle.map_model.specs.declared.instance.GroupId.{GroupId}
-use Rattle.published_map.specs.Version.{Version}
 use Rattle.published_map.specs.Shared.{plan_of}
-use Rattle.published_map.specs.Kept.{version}
-use Rattle.published_map.proofs.Rows.{length-demands}
 use Rattle.published_map.proofs.version.MapVersion.find_addr.Goals as goal
 use Rattle.published_map.proofs.Owned.{owned}
 

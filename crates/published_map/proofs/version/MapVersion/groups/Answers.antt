@@ -1,4 +1,4 @@
-use Rattle.std.proofs.Common.{◌≡◌, length, arith, sym, ◌∙◌, ap}
+use Rattle.std.proofs.Common.{length, arith, ap}
 use Rattle.std.specs.Arc.{arc_value}
 use Rattle.published_map.specs.Shared.{plan_of}
 use Rattle.published_map.specs.Version.{Version}

@@ -1,11 +1,10 @@
-use Rattle.std.proofs.Common.{rules, ◌≡◌, length, refl, sym, ◌∙◌, subst}
+use Rattle.std.proofs.Common.{◌≡◌, length, ◌∙◌}
 use Rattle.std.specs.Arc.{arc_value}
 use Rattle.std.proofs.lemmas.List.FromFn.{length-map-range_with_len}
 use Rattle.map_model.specs.Market.{capacity_of}
 use Rattle.map_model.proofs.NameForm.{IsMapForm-IsGood}
 use Rattle.published_map.specs.Shared.{plan_of}
 use Rattle.published_map.specs.Rows.{capacities_of, row_of, rows_of, version_of}
-use Rattle.published_map.specs.Version.{Version, IsVersion}
 use Rattle.published_map.proofs.Leads.{put_together}
 use Rattle.published_map.proofs.version.MapVersion.make.Goals as goal
 

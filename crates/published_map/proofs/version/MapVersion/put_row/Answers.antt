@@ -1,10 +1,10 @@
-use Rattle.std.proofs.Common.{◌≡◌, ◌<◌, length, arith, sym, subst, ◌∙◌, ap}
+use Rattle.std.proofs.Common.{◌<◌, length, arith, sym, subst, ◌∙◌, ap}
 use Rattle.std.specs.Arc.{arc_value}
 use Rattle.published_map.specs.Version.{Version}
 use Rattle.published_map.specs.Shared.{plan_of}
 use Rattle.published_map.specs.Kept.{version}
 use Rattle.published_map.proofs.Rows.{length-demands}
-use Rattle.published_map.proofs.Changes.{row_put, put_row_groups, put_row_nodes}
+use Rattle.published_map.proofs.Changes.{row_put}
 use Rattle.published_map.proofs.version.MapVersion.put_row.Goals as goal
 
 pub index_mut-own-requires : goal.index_mut-own-requires
