@@ -12,16 +12,16 @@ import sys
 
 ZONE = """[zone]
 apex = "cdn.example"
-mname = "ns1.ops.example"
-rname = "admin.ops.example"
-serial = 1
-refresh = 3600
-retry = 600
 expire = 86400
 minimum = 60
-ttl = 20
+mname = "ns1.ops.example"
 ns = ["ns1.ops.example", "ns2.ops.example"]
+refresh = 3600
+retry = 600
+rname = "admin.ops.example"
+serial = 1
 services = ["www"]
+ttl = 20
 """
 
 
@@ -34,16 +34,16 @@ def world(n):
         return x // 2**33 % m
 
     regions = 1 + n // 64
-    topology = [ZONE]
+    nodes = []
     for i in range(regions):
-        topology.append(f'[[node]]\nname = "r{i}"\ncapacity = {40 + draw(40)}\n')
+        nodes.append(f'[[node]]\ncapacity = {40 + draw(40)}\nname = "r{i}"\n\n')
         for j in range(4):
-            capacity = 10 + draw(20)
-            topology.append(
-                f'[[node]]\nname = "r{i}-{j}"\nparent = "r{i}"\ncapacity = {capacity}\npool = true\n'
-                f'a = ["10.{i // 256}.{i % 256}.{j + 1}"]\n'
+            nodes.append(
+                f'[[node]]\na = ["10.{i // 256}.{i % 256}.{j + 1}"]\ncapacity = {10 + draw(20)}\n'
+                f'name = "r{i}-{j}"\nparent = "r{i}"\npool = true\n\n'
             )
     pools = 4 * regions
+    entries = []
     for i in range(n):
         demand = 1 + draw(15)
         length = 1 + draw(min(8, pools))
@@ -52,8 +52,8 @@ def world(n):
         names = ", ".join(f'"r{p // 4}-{p % 4}"' for p in numbers)
         scores = ", ".join(str(draw(1000)) for _ in numbers)
         prefixes = '"0.0.0.0/0", "::/0"' if i == 0 else f'"100.{64 + i // 256}.{i % 256}.0/24"'
-        topology.append(
-            f'[[group]]\nname = "g{i}"\ndemand = {demand}\npools = [{names}]\nscores = [{scores}]\nprefixes = [{prefixes}]\n'
+        entries.append(
+            f'[[group]]\ndemand = {demand}\nname = "g{i}"\npools = [{names}]\nprefixes = [{prefixes}]\nscores = [{scores}]\n\n'
         )
     feed = []
     for _ in range(16):
@@ -67,7 +67,7 @@ def world(n):
                 feed.append(f"capacity r{region}-{pool} {draw(30)}\n")
         feed.append("commit\n")
     feed.append("stop\n")
-    return "".join(topology), "".join(feed)
+    return "".join(entries + nodes) + ZONE, "".join(feed)
 
 
 def fnv(text):

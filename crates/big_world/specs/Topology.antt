@@ -1,7 +1,7 @@
--- The topology of a world of n groups.
-use Rattle.std.specs.Prelude.{ℕ, ◌+◌, ◌*◌, ◌/◌, ◌%◌, ◌==◌, ◌++◌, List, [], ◌∷◌, min, codes, if◌then◌else◌}
+-- The topology of a world of n groups, as a text.
+use Rattle.std.specs.Prelude.{ℕ, ◌+◌, ◌-◌, ◌*◌, ◌/◌, ◌%◌, ◌==◌, ◌++◌, List, [], ◌∷◌, min, codes, if◌then◌else◌}
 use Rattle.std.specs.Fmt.{decimal}
-use Rattle.big_world.specs.declared.regions.TheConstants.{ZONE}
+use Rattle.big_world.specs.declared.TheConstants.{ZONE}
 use Rattle.big_world.specs.Numbers.{behind, draw}
 use Rattle.big_world.specs.Pieces.{ahead, listed, pieces, texts_below}
 
@@ -13,101 +13,128 @@ line text = text ++ 10 ∷ []
 abbrev pub quoted : List ℕ → List ℕ
 quoted text = 34 ∷ text ++ 34 ∷ []
 
--- how many regions there are, and how many pools, four in each
+-- how many regions there are; how many nodes, five for each region; and how many of these are pools, four of each five
 abbrev pub regions_of : ℕ → ℕ
 regions_of n = 1 + n / 64
+
+abbrev pub nodes_of : ℕ → ℕ
+nodes_of n = 5 * regions_of n
 
 abbrev pub pools_of : ℕ → ℕ
 pools_of n = 4 * regions_of n
 
--- the names of a region, of pool j in it, and of a pool by its number
+-- the name of a region, and of pool j in it
 abbrev pub region_name : ℕ → List ℕ
 region_name i = codes "r" ++ decimal i
 
 abbrev pub pool_name : ℕ → ℕ → List ℕ
 pool_name i j = region_name i ++ codes "-" ++ decimal j
 
--- the lines of a node: the name of a region, the name of a pool, its parent, a capacity, and the address of a pool
-unfoldable pub region_line : ℕ → List ℕ
-region_line i = line (codes "name = " ++ quoted (region_name i))
+-- the name of pool q of all
+abbrev pub name_of_pool : ℕ → List ℕ
+name_of_pool q = pool_name (q / 4) (q % 4)
 
-unfoldable pub pool_line : ℕ → ℕ → List ℕ
-pool_line i j = line (codes "name = " ++ quoted (pool_name i j))
+-- the name of a group
+abbrev pub group_name : ℕ → List ℕ
+group_name i = codes "g" ++ decimal i
 
-unfoldable pub parent_line : ℕ → List ℕ
-parent_line i = line (codes "parent = " ++ quoted (region_name i))
+-- the address of pool j of region i
+abbrev pub host_text : ℕ → ℕ → List ℕ
+host_text i j = codes "10." ++ decimal (i / 256) ++ codes "." ++ decimal (i % 256) ++ codes "." ++ decimal (j + 1)
+
+-- the prefix of group i, which holds 256 addresses
+abbrev pub block_text : ℕ → List ℕ
+block_text i = codes "100." ++ decimal (64 + i / 256) ++ codes "." ++ decimal (i % 256) ++ codes ".0/24"
+
+-- the lines of a node
+unfoldable pub address_line : ℕ → ℕ → List ℕ
+address_line i j = line (codes "a = [" ++ quoted (host_text i j) ++ codes "]")
 
 unfoldable pub capacity_line : ℕ → List ℕ
 capacity_line capacity = line (codes "capacity = " ++ decimal capacity)
 
-unfoldable pub address_line : ℕ → ℕ → List ℕ
-address_line i j = line (codes "a = [" ++ quoted (codes "10." ++ decimal (i / 256) ++ codes "." ++ decimal (i % 256) ++ codes "." ++ decimal (j + 1)) ++ codes "]")
+unfoldable pub name_line : List ℕ → List ℕ
+name_line name = line (codes "name = " ++ quoted name)
 
--- pool j of region i, of that capacity
-unfoldable pub pool_text : ℕ → ℕ → ℕ → List ℕ
-pool_text i j capacity = line (codes "[[node]]") ++ pool_line i j ++ parent_line i ++ capacity_line capacity ++ line (codes "pool = true") ++ address_line i j
+unfoldable pub parent_line : ℕ → List ℕ
+parent_line i = line (codes "parent = " ++ quoted (region_name i))
 
--- region i of that capacity
-unfoldable pub inner_text : ℕ → ℕ → List ℕ
-inner_text i capacity = line (codes "[[node]]") ++ region_line i ++ capacity_line capacity
-
--- region i and its four pools, drawn behind x: the region holds 40 to 79, a pool 10 to 29
+-- region i of that capacity, and pool j of it, each with an empty line behind it
 unfoldable pub region_text : ℕ → ℕ → List ℕ
-region_text i x = inner_text i (40 + draw x 1 40) ++ texts_below (λ j. pool_text i j (10 + draw x (2 + j) 20)) 4
+region_text i capacity = line (codes "[[node]]") ++ capacity_line capacity ++ name_line (region_name i) ++ line []
+
+unfoldable pub pool_text : ℕ → ℕ → ℕ → List ℕ
+pool_text i j capacity = line (codes "[[node]]") ++ address_line i j ++ capacity_line capacity ++ name_line (pool_name i j) ++ parent_line i ++ line (codes "pool = true") ++ line []
+
+-- the capacity of node p, drawn behind x: a region holds 40 to 79, a pool 10 to 29
+unfoldable pub capacity_of : ℕ → ℕ → ℕ
+capacity_of p x = if p % 5 == 0 then 40 + draw x 1 40 else 10 + draw x 1 20
+
+-- node p, drawn behind x: the first of each five is a region, and its four pools follow it
+unfoldable pub node_text : ℕ → ℕ → List ℕ
+node_text p x = if p % 5 == 0 then region_text (p / 5) (capacity_of p x) else pool_text (p / 5) (p % 5 - 1) (capacity_of p x)
 
 -- the length of a group's list, drawn behind x: 1 to 8, and no more than there are pools
 abbrev pub length_at : ℕ → ℕ → ℕ
 length_at n x = 1 + draw x 2 (min 8 (pools_of n))
 
--- the prefixes of group i: those that hold every address, or one of 256 addresses
-unfoldable pub prefixes_text : ℕ → List ℕ
-prefixes_text i = if i == 0 then codes "\"0.0.0.0/0\", \"::/0\"" else quoted (codes "100." ++ decimal (64 + i / 256) ++ codes "." ++ decimal (i % 256) ++ codes ".0/24")
+-- the pool at place t of a list that starts at pool s, round all of them
+abbrev pub listed_pool : ℕ → ℕ → ℕ → ℕ
+listed_pool n s t = (s + t) % pools_of n
 
--- the pools of a list that starts at pool s, round all of them
-unfoldable pub list_text : ℕ → ℕ → ℕ → List ℕ
-list_text n s = listed (λ t. quoted (pool_name ((s + t) % pools_of n / 4) ((s + t) % pools_of n % 4)))
+-- the score at place t, drawn behind x
+abbrev pub score_at : ℕ → ℕ → ℕ
+score_at x t = draw x (1 + t) 1000
 
--- the scores of a list, drawn behind x
-unfoldable pub scores_text : ℕ → ℕ → List ℕ
-scores_text x = listed (λ t. decimal (draw x (1 + t) 1000))
-
--- the lines of a group: its name, and its demand
-unfoldable pub group_line : ℕ → List ℕ
-group_line i = line (codes "name = " ++ quoted (codes "g" ++ decimal i))
-
+-- the lines of a group: its demand, its list from pool s on, its prefixes (group 0 has those that hold every address), and the scores of the list
 unfoldable pub demand_line : ℕ → List ℕ
 demand_line demand = line (codes "demand = " ++ decimal demand)
 
--- the lines of group i ahead of its list
-unfoldable pub head_text : ℕ → ℕ → List ℕ
-head_text i demand = line (codes "[[group]]") ++ group_line i ++ demand_line demand
+unfoldable pub pools_text : ℕ → ℕ → ℕ → List ℕ
+pools_text n s = listed (λ t. quoted (name_of_pool (listed_pool n s t)))
 
--- the lines of a list of so many pools that starts at pool s, with scores drawn behind x
-unfoldable pub lists_text : ℕ → ℕ → ℕ → ℕ → List ℕ
-lists_text n s length x = line (codes "pools = [" ++ list_text n s length ++ codes "]") ++ line (codes "scores = [" ++ scores_text x length ++ codes "]")
+unfoldable pub prefixes_text : ℕ → List ℕ
+prefixes_text i = if i == 0 then codes "\"0.0.0.0/0\", \"::/0\"" else quoted (block_text i)
 
--- the line of the prefixes of group i
+unfoldable pub scores_text : ℕ → ℕ → List ℕ
+scores_text x = listed (λ t. decimal (score_at x t))
+
+unfoldable pub pools_line : ℕ → ℕ → ℕ → List ℕ
+pools_line n s length = line (codes "pools = [" ++ pools_text n s length ++ codes "]")
+
 unfoldable pub prefixes_line : ℕ → List ℕ
 prefixes_line i = line (codes "prefixes = [" ++ prefixes_text i ++ codes "]")
 
+unfoldable pub scores_line : ℕ → ℕ → List ℕ
+scores_line x length = line (codes "scores = [" ++ scores_text x length ++ codes "]")
+
+-- group i with that demand, a list of that length from pool s on, and scores drawn behind x, with an empty line behind it
+unfoldable pub entry_text : ℕ → ℕ → ℕ → ℕ → ℕ → ℕ → List ℕ
+entry_text n i demand s length x = line (codes "[[group]]") ++ demand_line demand ++ name_line (group_name i) ++ pools_line n s length ++ prefixes_line i ++ scores_line x length ++ line []
+
 -- group i, drawn behind x: a demand from 1 up to 15, the length of its list, where it starts, and its scores
 unfoldable pub group_text : ℕ → ℕ → ℕ → List ℕ
-group_text n i x = head_text i (1 + draw x 1 15) ++ lists_text n (draw x 3 (pools_of n)) (length_at n x) (behind x 3) ++ prefixes_line i
+group_text n i x = entry_text n i (1 + draw x 1 15) (draw x 3 (pools_of n)) (length_at n x) (behind x 3)
 
--- what stands behind a region, and behind a group
-abbrev pub behind_region : ℕ → ℕ
-behind_region x = behind x 5
-
+-- what stands behind a group
 abbrev pub behind_group : ℕ → ℕ → ℕ
 behind_group n x = behind (behind x 3) (length_at n x)
 
--- what stands ahead of the groups, and of the feed
+-- what stands ahead of the groups, behind one number for each node; and ahead of the feed
 abbrev pub ahead_of_groups : ℕ → ℕ
-ahead_of_groups n = ahead behind_region n (regions_of n)
+ahead_of_groups n = behind n (nodes_of n)
 
 abbrev pub ahead_of_feed : ℕ → ℕ
 ahead_of_feed n = ahead (behind_group n) (ahead_of_groups n) n
 
--- the topology: the zone, the regions with their pools, and the groups
+-- the nodes, from the size of the world on
+abbrev pub nodes_text : ℕ → List ℕ
+nodes_text n = texts_below (λ p. node_text p (behind n p)) (nodes_of n)
+
+-- the groups
+abbrev pub groups_text : ℕ → List ℕ
+groups_text n = pieces (group_text n) (behind_group n) (ahead_of_groups n) n
+
+-- the topology: its groups, its nodes, and its zone
 abbrev pub topology_of : ℕ → List ℕ
-topology_of n = ZONE.now ++ pieces region_text behind_region n (regions_of n) ++ pieces (group_text n) (behind_group n) (ahead_of_groups n) n
+topology_of n = groups_text n ++ nodes_text n ++ ZONE.now

@@ -6,7 +6,7 @@ ghost use Rattle.big_world.specs.Feed.{batch_text, behind_batch, behind_change, 
 ghost use Rattle.big_world.specs.Topology.{line};
 
 use crate::draws::Draws;
-use crate::regions::{push_number, regions_of};
+use crate::nodes::{push_number, regions_of};
 use no_memory::NoMemory;
 use std::alloc::Global;
 

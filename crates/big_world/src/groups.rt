@@ -1,11 +1,11 @@
 //! The groups.
-ghost use Rattle.std.specs.Prelude.{◌≡◌, ◌≤◌, ◌<◌, ◌+◌, ◌/◌, ◌%◌, ◌==◌, ◌++◌, [], ◌∷◌, if◌then◌else◌, IfOk, OnOk, string_bytes};
+ghost use Rattle.std.specs.Prelude.{◌≡◌, ◌≤◌, ◌<◌, ◌==◌, ◌++◌, [], ◌∷◌, codes, if◌then◌else◌, IfOk, OnOk, string_bytes};
 ghost use Rattle.big_world.specs.Numbers.{behind};
 ghost use Rattle.big_world.specs.Pieces.{ahead, pieces};
-ghost use Rattle.big_world.specs.Topology.{behind_group, demand_line, group_line, group_text, head_text, list_text, lists_text, pool_name, pools_of, prefixes_line, prefixes_text, quoted, scores_text};
+ghost use Rattle.big_world.specs.Topology.{behind_group, demand_line, group_name, group_text, line, name_line, pools_line, pools_of, pools_text, prefixes_line, prefixes_text, scores_line, scores_text};
 
 use crate::draws::Draws;
-use crate::regions::{push_number, regions_of};
+use crate::nodes::{pool_name, push_name, push_number, regions_of};
 use no_memory::NoMemory;
 use std::alloc::Global;
 
@@ -22,15 +22,6 @@ fn pools_of(groups: u32) -> u32
     4 * regions_of(groups)
 }
 
-/// The name of a pool in quotes.
-fn quoted_name(alloc: Global, pool: u32) -> Result<String, NoMemory>
-    ensures { IfOk result (λ t. string_bytes t ≡ quoted (pool_name (pool / 4) (pool % 4))) }
-{
-    let region = pool / 4;
-    let place = pool % 4;
-    Ok(format!(in alloc; "\"r{region}-{place}\"")?)
-}
-
 /// What stands between two items.
 fn push_comma(text: &mut Vec<u8>, item: u32) -> Result<(), NoMemory>
     ensures { OnOk result (text.new.items ≡ text.old.items ++ (if item == 0 then [] else (44 ∷ 32 ∷ []))) }
@@ -42,8 +33,8 @@ fn push_comma(text: &mut Vec<u8>, item: u32) -> Result<(), NoMemory>
 }
 
 /// A list of pools, round all of them from one on.
-#[tactic(auto, unfolding(crate::specs::Topology::list_text))]
-fn push_list(
+#[tactic(auto, unfolding(crate::specs::Topology::pools_text))]
+fn push_pools(
     alloc: Global,
     text: &mut Vec<u8>,
     groups: u32,
@@ -53,13 +44,16 @@ fn push_list(
     requires groups { groups ≤ 16384 }
     requires start { start < 2048 }
     requires length { length ≤ 8 }
-    ensures { OnOk result (text.new.items ≡ text.old.items ++ list_text groups start length) }
+    ensures { OnOk result (text.new.items ≡ text.old.items ++ pools_text groups start length) }
 {
     let pools = pools_of(groups);
     for place in 0..length {
+        let pool = (start + place) % pools;
+        let name = pool_name(alloc, pool / 4, pool % 4)?;
         push_comma(text, place)?;
-        let made = quoted_name(alloc, (start + place) % pools)?;
-        text.extend_from_slice(made.as_bytes())?;
+        text.extend_from_slice(b"\"")?;
+        text.extend_from_slice(name.as_bytes())?;
+        text.extend_from_slice(b"\"")?;
     }
     Ok(())
 }
@@ -97,12 +91,11 @@ fn prefixes_text(alloc: Global, group: u32) -> Result<String, NoMemory>
     Ok(format!(in alloc; "\"100.{upper}.{lower}.0/24\"")?)
 }
 
-/// The line with the name of a group.
-#[tactic(auto, unfolding(crate::specs::Topology::group_line))]
-fn group_line(alloc: Global, group: u32) -> Result<String, NoMemory>
-    ensures { IfOk result (λ t. string_bytes t ≡ group_line group) }
+/// The name of a group.
+fn group_name(alloc: Global, group: u32) -> Result<String, NoMemory>
+    ensures { IfOk result (λ t. string_bytes t ≡ group_name group) }
 {
-    Ok(format!(in alloc; "name = \"g{group}\"\n")?)
+    Ok(format!(in alloc; "g{group}")?)
 }
 
 /// The line with a demand.
@@ -113,23 +106,11 @@ fn demand_line(alloc: Global, demand: u32) -> Result<String, NoMemory>
     Ok(format!(in alloc; "demand = {demand}\n")?)
 }
 
-/// The lines of a group ahead of its list.
-#[tactic(auto, unfolding(crate::specs::Topology::head_text))]
-fn push_head(alloc: Global, text: &mut Vec<u8>, group: u32, demand: u32) -> Result<(), NoMemory>
-    ensures { OnOk result (text.new.items ≡ text.old.items ++ head_text group demand) }
-{
-    text.extend_from_slice(b"[[group]]\n")?;
-    text.extend_from_slice(group_line(alloc, group)?.as_bytes())?;
-    text.extend_from_slice(demand_line(alloc, demand)?.as_bytes())?;
-    Ok(())
-}
-
-/// The lines of a list and its scores.
-#[tactic(auto, unfolding(crate::specs::Topology::lists_text))]
-fn push_lists(
+/// The line of a list of pools.
+#[tactic(auto, unfolding(crate::specs::Topology::pools_line))]
+fn push_pools_line(
     alloc: Global,
     text: &mut Vec<u8>,
-    draws: &mut Draws,
     groups: u32,
     start: u32,
     length: u32,
@@ -137,20 +118,17 @@ fn push_lists(
     requires groups { groups ≤ 16384 }
     requires start { start < 2048 }
     requires length { length ≤ 8 }
-    ensures text { OnOk result (text.new.items ≡ text.old.items ++ lists_text groups start length draws.old.last) }
-    ensures last { OnOk result (draws.new.last ≡ behind draws.old.last length) }
+    ensures { OnOk result (text.new.items ≡ text.old.items ++ pools_line groups start length) }
 {
     text.extend_from_slice(b"pools = [")?;
-    push_list(alloc, text, groups, start, length)?;
-    text.extend_from_slice(b"]\nscores = [")?;
-    push_scores(alloc, text, draws, length)?;
+    push_pools(alloc, text, groups, start, length)?;
     text.extend_from_slice(b"]\n")?;
     Ok(())
 }
 
 /// The line of the prefixes of a group.
 #[tactic(auto, unfolding(crate::specs::Topology::prefixes_line))]
-fn push_prefixes(alloc: Global, text: &mut Vec<u8>, group: u32) -> Result<(), NoMemory>
+fn push_prefixes_line(alloc: Global, text: &mut Vec<u8>, group: u32) -> Result<(), NoMemory>
     requires { group < 65536 }
     ensures { OnOk result (text.new.items ≡ text.old.items ++ prefixes_line group) }
 {
@@ -160,8 +138,35 @@ fn push_prefixes(alloc: Global, text: &mut Vec<u8>, group: u32) -> Result<(), No
     Ok(())
 }
 
+/// The line of the scores of a list.
+#[tactic(auto, unfolding(crate::specs::Topology::scores_line))]
+fn push_scores_line(
+    alloc: Global,
+    text: &mut Vec<u8>,
+    draws: &mut Draws,
+    length: u32,
+) -> Result<(), NoMemory>
+    ensures text { OnOk result (text.new.items ≡ text.old.items ++ scores_line draws.old.last length) }
+    ensures last { OnOk result (draws.new.last ≡ behind draws.old.last length) }
+{
+    text.extend_from_slice(b"scores = [")?;
+    push_scores(alloc, text, draws, length)?;
+    text.extend_from_slice(b"]\n")?;
+    Ok(())
+}
+
+/// The lines of a group ahead of its list.
+fn push_head(alloc: Global, text: &mut Vec<u8>, group: u32, demand: u32) -> Result<(), NoMemory>
+    ensures { OnOk result (text.new.items ≡ text.old.items ++ line (codes "[[group]]") ++ demand_line demand ++ name_line (group_name group)) }
+{
+    text.extend_from_slice(b"[[group]]\n")?;
+    text.extend_from_slice(demand_line(alloc, demand)?.as_bytes())?;
+    push_name(text, group_name(alloc, group)?.as_bytes())?;
+    Ok(())
+}
+
 /// A group.
-#[tactic(auto, unfolding(crate::specs::Topology::group_text))]
+#[tactic(auto, unfolding(crate::specs::Topology::group_text, crate::specs::Topology::entry_text))]
 fn push_group(
     alloc: Global,
     text: &mut Vec<u8>,
@@ -174,13 +179,15 @@ fn push_group(
     ensures text { OnOk result (text.new.items ≡ text.old.items ++ group_text groups group draws.old.last) }
     ensures last { OnOk result (draws.new.last ≡ behind_group groups draws.old.last) }
 {
-    let demand = 1 + draws.below(15);
-    push_head(alloc, text, group, demand)?;
     let pools = pools_of(groups);
+    let demand = 1 + draws.below(15);
     let length = 1 + draws.below(MOST_POOLS.min(pools));
     let start = draws.below(pools);
-    push_lists(alloc, text, draws, groups, start, length)?;
-    push_prefixes(alloc, text, group)?;
+    push_head(alloc, text, group, demand)?;
+    push_pools_line(alloc, text, groups, start, length)?;
+    push_prefixes_line(alloc, text, group)?;
+    push_scores_line(alloc, text, draws, length)?;
+    text.extend_from_slice(b"\n")?;
     Ok(())
 }
 

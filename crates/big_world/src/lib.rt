@@ -8,18 +8,32 @@ ghost use Rattle.big_world.specs.Topology.{topology_of};
 mod draws;
 mod feed;
 mod groups;
-mod regions;
+mod nodes;
 
 use draws::Draws;
 use feed::push_feed;
 use groups::push_groups;
 use no_memory::NoMemory;
-pub use regions::ZONE;
-use regions::push_regions;
+use nodes::push_nodes;
 use std::alloc::Global;
 
 /// The most groups of a world.
 pub const MOST_GROUPS: u32 = 16384;
+
+/// The zone of every world.
+pub const ZONE: &[u8] = b"[zone]
+apex = \"cdn.example\"
+expire = 86400
+minimum = 60
+mname = \"ns1.ops.example\"
+ns = [\"ns1.ops.example\", \"ns2.ops.example\"]
+refresh = 3600
+retry = 600
+rname = \"admin.ops.example\"
+serial = 1
+services = [\"www\"]
+ttl = 20
+";
 
 /// The topology of a world of so many groups, and a feed of sixteen batches that changes it.
 pub fn make(alloc: Global, groups: u32) -> Result<(Vec<u8>, Vec<u8>), NoMemory>
@@ -29,9 +43,12 @@ pub fn make(alloc: Global, groups: u32) -> Result<(Vec<u8>, Vec<u8>), NoMemory>
     ensures feed { IfOk result (λ texts. texts.1.items ≡ feed_of groups) }
 {
     let mut draws = Draws::from(u64::from(groups));
-    let mut topology = Vec::from_slice(alloc, ZONE)?;
-    push_regions(alloc, &mut topology, &mut draws, groups)?;
+    let mut nodes = Vec::new(alloc);
+    push_nodes(alloc, &mut nodes, &mut draws, groups)?;
+    let mut topology = Vec::new(alloc);
     push_groups(alloc, &mut topology, &mut draws, groups)?;
+    topology.extend_from_slice(nodes.as_slice())?;
+    topology.extend_from_slice(ZONE)?;
     let mut feed = Vec::new(alloc);
     push_feed(alloc, &mut feed, &mut draws, groups)?;
     Ok((topology, feed))
