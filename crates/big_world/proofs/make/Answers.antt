@@ -1,3 +1,4 @@
+-- The topology from its groups, its nodes and its zone.
 use Rattle.std.proofs.Common.{append_assoc}
 use Rattle.big_world.proofs.make.Goals as goal
 

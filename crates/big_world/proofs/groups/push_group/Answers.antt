@@ -1,3 +1,4 @@
+-- A group from its lines, and where the draws stand behind it.
 use Rattle.std.proofs.Common.{append_assoc}
 use Rattle.big_world.proofs.Numbers.{draw_two}
 use Rattle.big_world.specs.Numbers.{draw}

@@ -1,3 +1,4 @@
+-- What is written of a list so far.
 use Rattle.std.proofs.Common.{◌≡◌, ◌++◌}
 use Rattle.big_world.specs.Topology.{pools_text}
 use Rattle.big_world.proofs.groups.push_pools.Given as goal

@@ -1,3 +1,4 @@
+-- The line with the parent of a pool, with its quotes put together.
 use Rattle.std.proofs.Common.{◌∙◌, ◌++◌, [], ◌∷◌, List, ℕ, codes, ap, sym, append_assoc}
 use Rattle.std.specs.Fmt.{decimal}
 use Rattle.big_world.specs.Topology.{parent_line}

@@ -1,3 +1,4 @@
+-- What is written of the nodes so far, and where the draws stand.
 use Rattle.std.proofs.Common.{◌≡◌, ◌++◌}
 use Rattle.big_world.specs.Numbers.{behind}
 use Rattle.big_world.specs.Pieces.{texts_below}
