@@ -29,6 +29,11 @@ pub pair_line : (key : List ℕ) (d : Data) (value : List ℕ) → (nat_lt 0 (le
 unfolding key_text
 pair_line key d value bare text = (value, rw bare refl, text)
 
+-- a header of one of many, with a bare key
+pub header_line : (key : List ℕ) → (nat_lt 0 (length key) && list_all is_bare key) ≡ true → IsLineText false true ([], key) array_table (codes "\n[[" ++ (key ++ codes "]]\n"))
+unfolding key_text
+header_line key bare = rw bare refl
+
 -- the text holds the table's lines under a header of its own, and an empty line behind them
 abbrev pub IsBlock : Key → Data → List ℕ → Type 0
 IsBlock key d text = (ms : Members) × (lines : List ℕ) × (d ≡ table ms) × (text ≡ lines ++ 10 ∷ [])
