@@ -57,3 +57,12 @@ module _ (key : Key) (data_at : ℕ → Data) (text_at : ℕ → List ℕ) (bloc
       let text : (text_at a ++ texts) ++ rest ≡ lines ++ (10 ∷ (texts ++ rest)) =
           ap (λ t. (t ++ texts) ++ rest) whole ∙ (append_assoc (lines ++ 10 ∷ []) texts rest ∙ append_assoc lines (10 ∷ []) (texts ++ rest)) in
       rw (expressions, text) more
+
+  -- lines that begin with a block, ahead of which an empty line would stand
+  pub blocks_at_start : (es : List Expression) (text : List ℕ) (a k : ℕ)
+      → IsLinesText false true (elements key (array_of (map data_at (range_with_len a (suc k)))) ++ es) (10 ∷ text)
+      → IsLinesText false false (elements key (array_of (map data_at (range_with_len a (suc k)))) ++ es) text
+  blocks_at_start es text a k =
+      let (ms, lines, same, whole, here) = blocks a in
+      let others = elements key (array_of (map data_at (range_with_len (a + 1) k))) in
+      rw same (λ h. lines_at_start key (((pairs ms ++ sections (key.0 ++ key.1 ∷ []) ms) ++ others) ++ es) text h)
