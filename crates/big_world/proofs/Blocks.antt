@@ -1,23 +1,23 @@
 -- The lines of a document, block by block: a text with an empty line behind each block is one with an empty line ahead of each header but the first.
-use Rattle.std.proofs.Common.{◌≡◌, ◌+◌, ◌<◌, ◌≤◌, ◌&&◌, ◌++◌, Bool, true, false, codes, List, [], ◌∷◌, drop, map, nat_lt, length, ℕ, zero, suc, refl, sym, ap, ◌∙◌, subst, arith, append_assoc}
+use Rattle.std.proofs.Common.{◌≡◌, ◌+◌, ◌&&◌, ◌++◌, true, false, codes, List, [], ◌∷◌, drop, map, nat_lt, length, ℕ, zero, suc, refl, ap, ◌∙◌, append_assoc}
 use Rattle.std.specs.List.{list_all, range_with_len}
 use Rattle.toml_parser.specs.Lexical.{is_bare}
 use Rattle.toml_parser.specs.Strings.{Key}
 use Rattle.toml_writer.specs.Text.{dotted_text, key_text}
-use Rattle.toml.specs.Data.{Data, table, Items, item, Members}
+use Rattle.toml.specs.Data.{Data, table, Members}
 use Rattle.toml.specs.Tables.{array_table, key_value, Expression}
 use Rattle.toml.specs.Text.{are_tables, elements, header_close, header_open, IsLinesText, IsLineText, IsValueText, pairs, sections}
 use Rattle.big_world.specs.World.{array_of}
 use Rattle.big_world.proofs.Joined.{joined}
 
-pub lines_joined : (es fs : List Expression) (s t : List ℕ) → IsLinesText false true es s → IsLinesText false true fs t → IsLinesText false true (es ++ fs) (s ++ t)
+lines_joined : (es fs : List Expression) (s t : List ℕ) → IsLinesText false true es s → IsLinesText false true fs t → IsLinesText false true (es ++ fs) (s ++ t)
 lines_joined [] fs s t front back = rw front back
 lines_joined (e ∷ es) fs s t front back =
     let (this, rest, whole, first, more) = front in
     (this, rest ++ t, ap (λ text. text ++ t) whole ∙ append_assoc this rest t, first, lines_joined es fs rest t more back)
 
 -- a document that begins with a header has no empty line ahead of it
-pub lines_at_start : (key : Key) (es : List Expression) (text : List ℕ) → IsLinesText false true ((key, array_table) ∷ es) (10 ∷ text) → IsLinesText false false ((key, array_table) ∷ es) text
+lines_at_start : (key : Key) (es : List Expression) (text : List ℕ) → IsLinesText false true ((key, array_table) ∷ es) (10 ∷ text) → IsLinesText false false ((key, array_table) ∷ es) text
 lines_at_start key es text lines =
     let (this, rest, whole, first, more) = lines in
     let header = header_open true ++ (dotted_text key ++ header_close true) in
@@ -33,6 +33,10 @@ pair_line key d value bare text = (value, rw bare refl, text)
 pub header_line : (key : List ℕ) → (nat_lt 0 (length key) && list_all is_bare key) ≡ true → IsLineText false true ([], key) array_table (codes "\n[[" ++ (key ++ codes "]]\n"))
 unfolding key_text
 header_line key bare = rw bare refl
+
+-- five lines, from the front
+pub five_lines : (a b c d e : List ℕ) → (((a ++ b) ++ c) ++ d) ++ e ≡ a ++ (b ++ (c ++ (d ++ e)))
+five_lines a b c d e = simp append_assoc
 
 -- the text holds the table's lines under a header of its own, and an empty line behind them
 abbrev pub IsBlock : Key → Data → List ℕ → Type 0
@@ -55,7 +59,7 @@ module _ (key : Key) (data_at : ℕ → Data) (text_at : ℕ → List ℕ) (bloc
       let more = lines_joined block (others ++ es) (10 ∷ lines) (10 ∷ (texts ++ rest)) here (blocks_lines es rest after (a + 1) k) in
       let expressions : elements key (array_of (map data_at (range_with_len a (suc k)))) ++ es ≡ block ++ (others ++ es) = rw same (append_assoc block others es) in
       let text : (text_at a ++ texts) ++ rest ≡ lines ++ (10 ∷ (texts ++ rest)) =
-          ap (λ t. (t ++ texts) ++ rest) whole ∙ (append_assoc (lines ++ 10 ∷ []) texts rest ∙ append_assoc lines (10 ∷ []) (texts ++ rest)) in
+      ap (λ t. (t ++ texts) ++ rest) whole ∙ (append_assoc (lines ++ 10 ∷ []) texts rest ∙ append_assoc lines (10 ∷ []) (texts ++ rest)) in
       rw (expressions, text) more
 
   -- lines that begin with a block, ahead of which an empty line would stand

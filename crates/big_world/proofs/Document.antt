@@ -1,13 +1,13 @@
 -- The text of a world writes the document that the world is.
-use Rattle.std.proofs.Common.{◌≡◌, ◌+◌, ◌*◌, ◌/◌, ◌≤◌, ◌++◌, true, false, codes, List, [], ◌∷◌, map, ℕ, zero, suc, refl, sym, ap, ◌∙◌, arith, append_assoc, append-nil}
+use Rattle.std.proofs.Common.{◌≡◌, ◌≤◌, ◌++◌, true, false, codes, List, ◌∷◌, map, ℕ, zero, suc, refl, arith, append_assoc}
 use Rattle.std.specs.List.{range_with_len}
 use Rattle.toml.specs.Data.{array, Data, Items, member, no_members, table}
 use Rattle.toml.specs.Tables.{Expression}
 use Rattle.toml.specs.Text.{are_tables, elements, expressions, has_items, IsDocumentText, IsLinesText, section}
 use Rattle.big_world.specs.Numbers.{behind}
-use Rattle.big_world.specs.Pieces.{ahead, texts_below}
+use Rattle.big_world.specs.Pieces.{ahead}
 use Rattle.big_world.specs.declared.TheConstants.{ZONE}
-use Rattle.big_world.specs.Topology.{ahead_of_groups, behind_group, group_text, groups_text, node_text, nodes_of, nodes_text, regions_of, topology_of}
+use Rattle.big_world.specs.Topology.{ahead_of_groups, behind_group, group_text, node_text, nodes_of, topology_of}
 use Rattle.big_world.specs.World.{array_of, group_data, groups_data, node_data, nodes_data, world_of, zone_data}
 use Rattle.big_world.proofs.Blocks.{blocks_are_tables, blocks_at_start, blocks_lines, IsBlock}
 use Rattle.big_world.proofs.Groups.{group_block, group_key}
@@ -56,7 +56,7 @@ lines_behind n = elements node_key (array_of (nodes_data n)) ++ section zone_key
 from_front : (n : ℕ) → topology_of n ≡ joined (group_text_at n) 0 n ++ (joined (node_text_at n) 0 (nodes_of n) ++ ZONE.now)
 from_front n =
     rw (texts_below_joined (group_text_at n) n, texts_below_joined (node_text_at n) (nodes_of n))
-        (append_assoc (joined (group_text_at n) 0 n) (joined (node_text_at n) 0 (nodes_of n)) ZONE.now)
+    (append_assoc (joined (group_text_at n) 0 n) (joined (node_text_at n) 0 (nodes_of n)) ZONE.now)
 
 all_lines : (n : ℕ) → IsLinesText false true (elements group_key (array_of (groups_data n)) ++ lines_behind n) (10 ∷ topology_of n)
 all_lines n =

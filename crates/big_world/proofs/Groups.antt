@@ -1,26 +1,25 @@
 -- The groups of a world, as blocks of its text.
-use Rattle.std.proofs.Common.{◌≡◌, ◌+◌, ◌/◌, ◌%◌, ◌<◌, ◌≤◌, ◌==◌, ◌^◌, ◌++◌, if◌then◌else◌, Bool, true, false, codes, pos, List, [], ◌∷◌, map, ℕ, zero, suc, refl, sym, ap, arith, append-nil}
+use Rattle.std.proofs.Common.{◌≡◌, ◌+◌, ◌/◌, ◌%◌, ◌<◌, ◌≤◌, ◌==◌, ◌^◌, ◌++◌, if◌then◌else◌, Bool, true, false, codes, pos, [], ◌∷◌, ℕ, zero, suc, refl, sym, ap, arith, append-nil}
 use Rattle.std.specs.Fmt.{decimal}
-use Rattle.std.specs.List.{range_with_len}
-use Rattle.toml.specs.Data.{Data, array, integer, Items, item, member, Members, no_items, no_members, string, table}
+use Rattle.toml.specs.Data.{array, integer, Items, string}
 use Rattle.toml.specs.Tables.{key_value}
-use Rattle.toml.specs.Text.{are_tables, has_items, IsItemsText, IsLineText, IsValueText}
+use Rattle.toml.specs.Text.{are_tables, has_items, IsItemsText, IsLineText}
 use Rattle.toml_parser.specs.Strings.{Key}
 use Rattle.big_world.specs.Numbers.{behind, draw}
 use Rattle.big_world.specs.Topology.{block_text, demand_line, entry_text, group_name, group_text, length_at, line, listed_pool, name_line, name_of_pool, pools_line, pools_of, pools_text, prefixes_line, prefixes_text, quoted, score_at, scores_line, scores_text}
 use Rattle.big_world.specs.World.{array_of, entry_data, group_data, pools_data, prefixes_data, scores_data}
-use Rattle.big_world.proofs.Blocks.{header_line, IsBlock, pair_line}
-use Rattle.big_world.proofs.Nodes.{draw_below, five_lines, name_pair, pool_plain, with_number}
-use Rattle.big_world.proofs.Plain.{AllPass, AllPass-append, is_plain}
-use Rattle.big_world.proofs.Values.{array_value, listed_value, number_value, string_value}
+use Rattle.big_world.proofs.Blocks.{five_lines, header_line, IsBlock, pair_line}
+use Rattle.big_world.proofs.Nodes.{name_pair, pool_plain}
+use Rattle.big_world.proofs.Plain.{AllPass, AllPass-append, is_plain, with_number}
+use Rattle.big_world.proofs.Values.{array_value, draw_below, listed_value, number_value, string_value}
 
 abbrev pub group_key : Key
 group_key = ([], codes "group")
 
-group_plain : (i : ℕ) → AllPass is_plain (group_name i)
+pub group_plain : (i : ℕ) → AllPass is_plain (group_name i)
 group_plain i = with_number [] (codes "g") i refl refl
 
-block_plain : (i : ℕ) → AllPass is_plain (block_text i)
+pub block_plain : (i : ℕ) → AllPass is_plain (block_text i)
 block_plain i =
     let first = codes "100." ++ decimal (64 + i / 256) in
     let second = first ++ codes "." ++ decimal (i % 256) in
@@ -57,14 +56,14 @@ pools_pair : (n s length : ℕ) → IsLineText false true ([], codes "pools") (k
 unfolding pools_line pools_text
 pools_pair n s length =
     let value = listed_value (λ t. string (name_of_pool (listed_pool n s t))) (λ t. quoted (name_of_pool (listed_pool n s t)))
-        (λ t. let q = listed_pool n s t in string_value (name_of_pool q) (pool_plain (q / 4) (q % 4))) length in
+    (λ t. let q = listed_pool n s t in string_value (name_of_pool q) (pool_plain (q / 4) (q % 4))) length in
     pair_line (codes "pools") (array (array_of (pools_data n s length))) (91 ∷ (pools_text n s length ++ 93 ∷ [])) refl value
 
 scores_pair : (x length : ℕ) → IsLineText false true ([], codes "scores") (key_value (array (array_of (scores_data x length)))) (scores_line x length)
 unfolding scores_line scores_text
 scores_pair x length =
     let value = listed_value (λ t. integer (pos (score_at x t))) (λ t. decimal (score_at x t))
-        (λ t. number_value (score_at x t) (omega (arith, draw_below x (1 + t) 1000 (omega arith)))) length in
+    (λ t. number_value (score_at x t) (omega (arith, draw_below x (1 + t) 1000 (omega arith)))) length in
     pair_line (codes "scores") (array (array_of (scores_data x length))) (91 ∷ (scores_text x length ++ 93 ∷ [])) refl value
 
 prefixes_items : (i : ℕ) → IsItemsText false false true (array_of (prefixes_data i)) (prefixes_text i ++ 93 ∷ [])
@@ -94,15 +93,43 @@ entry_block n i demand s length x small some =
     let last = scores_line x length in
     let pools = pools_inline n s length some in
     let prefixes = prefixes_inline i in
-    let scores = scores_inline x length some in
-    (_, line (codes "[[group]]") ++ first ++ second ++ third ++ fourth ++ last, refl, refl,
-        rw (pools.0, pools.1, prefixes.0, prefixes.1, scores.0, scores.1)
-        (header, first ++ (second ++ (third ++ (fourth ++ last))), ap (λ t. header ++ t) (five_lines first second third fourth last), header_line (codes "group") refl,
-        (first, second ++ (third ++ (fourth ++ last)), refl, demand_pair demand small,
-        (second, third ++ (fourth ++ last), refl, name_pair (group_name i) (group_plain i),
-        (third, fourth ++ last, refl, pools_pair n s length,
-        (fourth, last, refl, prefixes_pair i,
-        (last, [], sym (append-nil last), scores_pair x length, refl)))))))
+    let scores = scores_inline x length some in (
+      _,
+      line (codes "[[group]]") ++ first ++ second ++ third ++ fourth ++ last,
+      refl,
+      refl,
+      rw (pools.0, pools.1, prefixes.0, prefixes.1, scores.0, scores.1) (
+        header,
+        first ++ (second ++ (third ++ (fourth ++ last))),
+        ap (λ t. header ++ t) (five_lines first second third fourth last),
+        header_line (codes "group") refl,
+        (
+          first,
+          second ++ (third ++ (fourth ++ last)),
+          refl,
+          demand_pair demand small,
+          (
+            second,
+            third ++ (fourth ++ last),
+            refl,
+            name_pair (group_name i) (group_plain i),
+            (
+              third,
+              fourth ++ last,
+              refl,
+              pools_pair n s length,
+              (
+                fourth,
+                last,
+                refl,
+                prefixes_pair i,
+                (last, [], sym (append-nil last), scores_pair x length, refl),
+              ),
+            ),
+          ),
+        ),
+      ),
+    )
 
 pub group_block : (n i x : ℕ) → IsBlock group_key (group_data n i x) (group_text n i x)
 unfolding group_data group_text

@@ -1,5 +1,5 @@
 -- Texts joined from the front.
-use Rattle.std.proofs.Common.{◌≡◌, ◌+◌, ◌++◌, List, [], ◌∷◌, ℕ, zero, suc, refl, sym, ap, ◌∙◌, arith, append_assoc, append-nil}
+use Rattle.std.proofs.Common.{◌≡◌, ◌+◌, ◌++◌, List, [], ℕ, zero, suc, refl, sym, ap, ◌∙◌, arith, append_assoc, append-nil}
 use Rattle.big_world.specs.Pieces.{texts_below}
 
 -- the texts of k numbers from a on

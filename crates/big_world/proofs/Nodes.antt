@@ -1,5 +1,5 @@
 -- The nodes of a world, as blocks of its text.
-use Rattle.std.proofs.Common.{◌≡◌, ◌+◌, ◌-◌, ◌/◌, ◌%◌, ◌<◌, ◌==◌, ◌^◌, ◌++◌, if◌then◌else◌, Bool, true, false, codes, pos, List, [], ◌∷◌, ℕ, zero, suc, refl, sym, ap, arith, append_assoc, append-nil}
+use Rattle.std.proofs.Common.{◌+◌, ◌-◌, ◌/◌, ◌%◌, ◌<◌, ◌==◌, ◌^◌, ◌++◌, if◌then◌else◌, Bool, true, false, codes, pos, List, [], ◌∷◌, ℕ, refl, sym, ap, arith, append-nil}
 use Rattle.std.specs.Fmt.{decimal}
 use Rattle.toml.specs.Data.{array, boolean, integer, string, item, no_items}
 use Rattle.toml.specs.Tables.{key_value}
@@ -8,13 +8,9 @@ use Rattle.toml_parser.specs.Strings.{Key}
 use Rattle.big_world.specs.Numbers.{draw}
 use Rattle.big_world.specs.Topology.{address_line, capacity_line, capacity_of, host_text, name_line, node_text, parent_line, pool_name, pool_text, quoted, region_name, region_text, line}
 use Rattle.big_world.specs.World.{node_data, pool_data, region_data}
-use Rattle.big_world.proofs.Blocks.{header_line, IsBlock, pair_line}
-use Rattle.big_world.proofs.Plain.{AllPass, AllPass-append, decimal_plain, is_plain}
-use Rattle.big_world.proofs.Values.{array_value, number_value, string_value}
-
-pub draw_below : (x k m : ℕ) → 0 < m → draw x k m < m
-unfolding draw
-draw_below x k m h = omega arith
+use Rattle.big_world.proofs.Blocks.{five_lines, header_line, IsBlock, pair_line}
+use Rattle.big_world.proofs.Plain.{AllPass, is_plain, with_number}
+use Rattle.big_world.proofs.Values.{array_value, draw_below, number_value, string_value}
 
 capacity_small : (p x : ℕ) → capacity_of p x < 80
 unfolding capacity_of
@@ -25,9 +21,6 @@ capacity_small p x = by (p % 5 == 0)
     by false = omega (arith, draw_below x 1 20 (omega arith))
 
 -- plain names
-pub with_number : (front mark : List ℕ) (n : ℕ) → AllPass is_plain front → AllPass is_plain mark → AllPass is_plain ((front ++ mark) ++ decimal n)
-with_number front mark n f m = AllPass-append is_plain (front ++ mark) (decimal n) (AllPass-append is_plain front mark f m) (decimal_plain n)
-
 pub region_plain : (i : ℕ) → AllPass is_plain (region_name i)
 region_plain i = with_number [] (codes "r") i refl refl
 
@@ -41,10 +34,6 @@ host_plain i j =
     let first_plain = with_number [] (codes "10.") (i / 256) refl refl in
     let second_plain = with_number first (codes ".") (i % 256) first_plain refl in
     with_number second (codes ".") (j + 1) second_plain refl
-
--- five lines, from the front
-pub five_lines : (a b c d e : List ℕ) → (((a ++ b) ++ c) ++ d) ++ e ≡ a ++ (b ++ (c ++ (d ++ e)))
-five_lines a b c d e = simp append_assoc
 
 abbrev pub node_key : Key
 node_key = ([], codes "node")
@@ -73,11 +62,25 @@ region_block : (i capacity : ℕ) → capacity < 2 ^ 63 → IsBlock node_key (re
 unfolding region_data region_text
 region_block i capacity small =
     let first = capacity_line capacity in
-    let second = name_line (region_name i) in
-    (_, line (codes "[[node]]") ++ first ++ second, refl, refl,
-        (codes "\n[[node]]\n", first ++ second, refl, header_line (codes "node") refl,
-        (first, second, refl, capacity_pair capacity small,
-        (second, [], sym (append-nil second), name_pair (region_name i) (region_plain i), refl))))
+    let second = name_line (region_name i) in (
+      _,
+      line (codes "[[node]]") ++ first ++ second,
+      refl,
+      refl,
+      (
+        codes "\n[[node]]\n",
+        first ++ second,
+        refl,
+        header_line (codes "node") refl,
+        (
+          first,
+          second,
+          refl,
+          capacity_pair capacity small,
+          (second, [], sym (append-nil second), name_pair (region_name i) (region_plain i), refl),
+        ),
+      ),
+    )
 
 pool_block : (i j capacity : ℕ) → capacity < 2 ^ 63 → IsBlock node_key (pool_data i j capacity) (pool_text i j capacity)
 unfolding pool_data pool_text
@@ -87,14 +90,43 @@ pool_block i j capacity small =
     let second = capacity_line capacity in
     let third = name_line (pool_name i j) in
     let fourth = parent_line i in
-    let last = line (codes "pool = true") in
-    (_, line (codes "[[node]]") ++ first ++ second ++ third ++ fourth ++ last, refl, refl,
-        (header, first ++ (second ++ (third ++ (fourth ++ last))), ap (λ t. header ++ t) (five_lines first second third fourth last), header_line (codes "node") refl,
-        (first, second ++ (third ++ (fourth ++ last)), refl, address_pair i j,
-        (second, third ++ (fourth ++ last), refl, capacity_pair capacity small,
-        (third, fourth ++ last, refl, name_pair (pool_name i j) (pool_plain i j),
-        (fourth, last, refl, parent_pair i,
-        (last, [], refl, pair_line (codes "pool") (boolean true) (codes "true") refl refl, refl)))))))
+    let last = line (codes "pool = true") in (
+      _,
+      line (codes "[[node]]") ++ first ++ second ++ third ++ fourth ++ last,
+      refl,
+      refl,
+      (
+        header,
+        first ++ (second ++ (third ++ (fourth ++ last))),
+        ap (λ t. header ++ t) (five_lines first second third fourth last),
+        header_line (codes "node") refl,
+        (
+          first,
+          second ++ (third ++ (fourth ++ last)),
+          refl,
+          address_pair i j,
+          (
+            second,
+            third ++ (fourth ++ last),
+            refl,
+            capacity_pair capacity small,
+            (
+              third,
+              fourth ++ last,
+              refl,
+              name_pair (pool_name i j) (pool_plain i j),
+              (
+                fourth,
+                last,
+                refl,
+                parent_pair i,
+                (last, [], refl, pair_line (codes "pool") (boolean true) (codes "true") refl refl, refl),
+              ),
+            ),
+          ),
+        ),
+      ),
+    )
 
 pub node_block : (p x : ℕ) → IsBlock node_key (node_data p x) (node_text p x)
 unfolding node_data node_text
@@ -102,6 +134,7 @@ node_block p x = by (p % 5 == 0)
   where
     small : capacity_of p x < 2 ^ 63
     small = omega (arith, capacity_small p x)
+
     by : (b : Bool) → IsBlock node_key (if b then region_data (p / 5) (capacity_of p x) else pool_data (p / 5) (p % 5 - 1) (capacity_of p x)) (if b then region_text (p / 5) (capacity_of p x) else pool_text (p / 5) (p % 5 - 1) (capacity_of p x))
     by true = region_block (p / 5) (capacity_of p x) small
     by false = pool_block (p / 5) (p % 5 - 1) (capacity_of p x) small

@@ -1,11 +1,11 @@
 -- Texts of letters, digits and the marks between them: as strings they stand in quotes as they are.
-use Rattle.std.proofs.Common.{◌≡◌, ◌≢◌, ◌+◌, ◌/◌, ◌%◌, ◌<◌, ◌≤◌, ◌==◌, ◌++◌, ◌&&◌, ◌||◌, Bool, true, false, cond, nat_le, List, [], ◌∷◌, ℕ, zero, suc, refl, sym, ap, ◌∙◌, arith}
+use Rattle.std.proofs.Common.{◌≡◌, ◌≢◌, ◌/◌, ◌%◌, ◌<◌, ◌≤◌, ◌==◌, ◌++◌, ◌&&◌, ◌||◌, Bool, true, false, nat_le, List, [], ◌∷◌, ℕ, zero, suc, refl, ap, ◌∙◌, arith}
 use Rattle.std.proofs.lemmas.Bool.{and_from, and_parts, cond_both, or_from}
 use Rattle.std.proofs.lemmas.Bool.Decides.{nat_tests}
 use Rattle.std.proofs.lemmas.List.Folds.{list_all-append}
 use Rattle.std.specs.Fmt.{decimal, digit_glyph, digits, digits_onto}
 use Rattle.std.specs.List.{list_all, list_any}
-use Rattle.toml_writer.specs.Text.{encoding_of, escaped, has, is_control, needs_escape, quotes_after, string_text}
+use Rattle.toml_writer.specs.Text.{encoding_of, escaped, is_control, needs_escape, quotes_after, string_text}
 use Rattle.big_world.specs.Topology.{quoted}
 
 -- each octet of the text passes
@@ -34,6 +34,10 @@ onto_plain (suc k) n acc h =
 pub decimal_plain : (n : ℕ) → AllPass is_plain (decimal n)
 unfolding digits
 decimal_plain n = onto_plain 64 n [] refl
+
+-- a plain text, a mark and a number
+pub with_number : (front mark : List ℕ) (n : ℕ) → AllPass is_plain front → AllPass is_plain mark → AllPass is_plain ((front ++ mark) ++ decimal n)
+with_number front mark n f m = AllPass-append is_plain (front ++ mark) (decimal n) (AllPass-append is_plain front mark f m) (decimal_plain n)
 
 plain_range : (c : ℕ) → is_plain c ≡ true → (45 ≤ c) × (c ≤ 122) × (c ≢ 92)
 plain_range c h = (grind (arith, nat_tests), grind (arith, nat_tests), grind (arith, nat_tests))
@@ -76,4 +80,4 @@ pub string_plain : (s : List ℕ) → AllPass is_plain s → string_text s ≡ q
 unfolding string_text encoding_of
 string_plain s h =
     rw (none_has is_control not_control s h, none_has (λ x. x == 92) not_backslash s h, none_has (λ x. x == 34) not_quote s h, none_has (λ x. x == 10) not_line_feed s h)
-        (ap (λ body. 34 ∷ body ++ 34 ∷ []) (escaped_plain s h))
+    (ap (λ body. 34 ∷ body ++ 34 ∷ []) (escaped_plain s h))

@@ -1,15 +1,20 @@
 -- What the values of a world are written as.
-use Rattle.std.proofs.Common.{◌≡◌, ◌+◌, ◌<◌, ◌==◌, ◌^◌, ◌++◌, if◌then◌else◌, Bool, true, false, codes, pos, FitsSigned, List, [], ◌∷◌, map, ℕ, zero, suc, refl, sym, ap, ◌∙◌, subst, arith, append_assoc, ne_eqb}
+use Rattle.std.proofs.Common.{◌≡◌, ◌+◌, ◌<◌, ◌==◌, ◌^◌, ◌++◌, if◌then◌else◌, true, false, pos, List, [], ◌∷◌, map, ℕ, zero, suc, refl, sym, ◌∙◌, arith, append_assoc, ne_eqb}
 use Rattle.std.specs.Fmt.{decimal}
-use Rattle.std.specs.Int.{w64}
 use Rattle.std.specs.List.{range_with_len}
 use Rattle.toml.specs.Data.{Data, array, integer, string, Items, no_items, item}
 use Rattle.toml.specs.Text.{breaks_lines, IsItemsText, IsValueText}
+use Rattle.big_world.specs.Numbers.{draw}
 use Rattle.big_world.specs.Pieces.{listed}
 use Rattle.big_world.specs.Topology.{quoted}
 use Rattle.big_world.specs.World.{array_of}
 use Rattle.big_world.proofs.Joined.{joined, texts_below_joined}
 use Rattle.big_world.proofs.Plain.{AllPass, is_plain, string_plain}
+
+-- a draw is below its bound
+pub draw_below : (x k m : ℕ) → 0 < m → draw x k m < m
+unfolding draw
+draw_below x k m h = omega arith
 
 pub string_value : (s : List ℕ) → AllPass is_plain s → IsValueText false (string s) (quoted s)
 string_value s h = sym (string_plain s h)

@@ -1,5 +1,5 @@
 -- The zone of a world, as the last table of its text.
-use Rattle.std.proofs.Common.{◌≡◌, ◌&&◌, ◌^◌, ◌<◌, ◌++◌, true, false, codes, pos, List, [], ◌∷◌, ℕ, nat_lt, length, refl, sym, ap, arith}
+use Rattle.std.proofs.Common.{◌≡◌, ◌&&◌, ◌++◌, true, false, codes, pos, List, [], ◌∷◌, ℕ, nat_lt, length, refl, arith}
 use Rattle.std.specs.Fmt.{decimal, digits}
 use Rattle.std.specs.List.{list_all}
 use Rattle.toml.specs.Data.{array, Data, integer, item, no_items, string, table}
@@ -57,20 +57,53 @@ zone_pairs =
     ∷ []
 
 zone_written : AreWritten zone_pairs
-zone_written =
-    (refl, string_value (codes "cdn.example") refl,
-    (refl, number_value 86400 (omega arith),
-    (refl, number_value 60 (omega arith),
-    (refl, string_value (codes "ns1.ops.example") refl,
-    (refl, array_value (item (string (codes "ns1.ops.example")) (item (string (codes "ns2.ops.example")) no_items)) (codes "\"ns1.ops.example\", \"ns2.ops.example\"]")
-        (codes "\"ns1.ops.example\"", codes ", \"ns2.ops.example\"]", refl, string_value (codes "ns1.ops.example") refl,
-        (codes "\"ns2.ops.example\"", codes "]", refl, string_value (codes "ns2.ops.example") refl, refl)),
-    (refl, number_value 3600 (omega arith),
-    (refl, number_value 600 (omega arith),
-    (refl, string_value (codes "admin.ops.example") refl,
-    (refl, number_value 1 (omega arith),
-    (refl, array_value (item (string (codes "www")) no_items) (codes "\"www\"]") (codes "\"www\"", codes "]", refl, string_value (codes "www") refl, refl),
-    (refl, number_value 20 (omega arith), tt)))))))))))
+zone_written = (
+  refl,
+  string_value (codes "cdn.example") refl,
+  (
+    refl,
+    number_value 86400 (omega arith),
+    (
+      refl,
+      number_value 60 (omega arith),
+      (
+        refl,
+        string_value (codes "ns1.ops.example") refl,
+        (
+          refl,
+          array_value (item (string (codes "ns1.ops.example")) (item (string (codes "ns2.ops.example")) no_items)) (codes "\"ns1.ops.example\", \"ns2.ops.example\"]") (
+            codes "\"ns1.ops.example\"",
+            codes ", \"ns2.ops.example\"]",
+            refl,
+            string_value (codes "ns1.ops.example") refl,
+            (codes "\"ns2.ops.example\"", codes "]", refl, string_value (codes "ns2.ops.example") refl, refl),
+          ),
+          (
+            refl,
+            number_value 3600 (omega arith),
+            (
+              refl,
+              number_value 600 (omega arith),
+              (
+                refl,
+                string_value (codes "admin.ops.example") refl,
+                (
+                  refl,
+                  number_value 1 (omega arith),
+                  (
+                    refl,
+                    array_value (item (string (codes "www")) no_items) (codes "\"www\"]") (codes "\"www\"", codes "]", refl, string_value (codes "www") refl, refl),
+                    (refl, number_value 20 (omega arith), tt),
+                  ),
+                ),
+              ),
+            ),
+          ),
+        ),
+      ),
+    ),
+  ),
+)
 
 abbrev pub zone_key : Key
 zone_key = ([], codes "zone")
