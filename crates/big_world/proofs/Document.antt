@@ -10,10 +10,10 @@ use Rattle.big_world.specs.declared.TheConstants.{ZONE}
 use Rattle.big_world.specs.Topology.{ahead_of_groups, behind_group, group_text, node_text, nodes_of, topology_of}
 use Rattle.big_world.specs.World.{array_of, group_data, groups_data, node_data, nodes_data, world_of, zone_data}
 use Rattle.big_world.proofs.Blocks.{blocks_are_tables, blocks_at_start, blocks_lines, IsBlock}
-use Rattle.big_world.proofs.Groups.{group_block, group_key}
+use Rattle.big_world.proofs.GroupBlocks.{group_block, group_key}
 use Rattle.big_world.proofs.Joined.{joined, texts_below_joined}
-use Rattle.big_world.proofs.Nodes.{node_block, node_key}
-use Rattle.big_world.proofs.Zone.{zone_key, zone_lines}
+use Rattle.big_world.proofs.NodeBlocks.{node_block, node_key}
+use Rattle.big_world.proofs.ZoneLines.{zone_key, zone_lines}
 
 has_some : (data_at : ℕ → Data) (k : ℕ) → 1 ≤ k → has_items (array_of (map data_at (range_with_len 0 k))) ≡ true
 has_some data_at zero h = absurd (omega arith)

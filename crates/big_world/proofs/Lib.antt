@@ -4,9 +4,9 @@ mod Joined
 mod Plain
 mod Blocks
 mod Values
-mod Nodes
-mod Groups
-mod Zone
+mod NodeBlocks
+mod GroupBlocks
+mod ZoneLines
 mod Document
 pub mod Parses
 pub mod Octets

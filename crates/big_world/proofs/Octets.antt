@@ -10,8 +10,8 @@ use Rattle.big_world.specs.Numbers.{behind, draw}
 use Rattle.big_world.specs.Pieces.{ahead, listed, texts_below}
 use Rattle.big_world.specs.declared.TheConstants.{ZONE}
 use Rattle.big_world.specs.Topology.{address_line, ahead_of_groups, behind_group, block_text, capacity_line, capacity_of, demand_line, entry_text, group_name, group_text, groups_text, host_text, length_at, line, listed_pool, name_line, name_of_pool, node_text, nodes_of, nodes_text, parent_line, pool_name, pool_text, pools_line, pools_of, pools_text, prefixes_line, prefixes_text, quoted, region_name, region_text, score_at, scores_line, scores_text, topology_of}
-use Rattle.big_world.proofs.Groups.{block_plain, group_plain}
-use Rattle.big_world.proofs.Nodes.{host_plain, pool_plain, region_plain}
+use Rattle.big_world.proofs.GroupBlocks.{block_plain, group_plain}
+use Rattle.big_world.proofs.NodeBlocks.{host_plain, pool_plain, region_plain}
 use Rattle.big_world.proofs.Plain.{AllPass, AllPass-append, decimal_plain, is_plain}
 
 -- each octet is below 128

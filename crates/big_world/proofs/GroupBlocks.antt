@@ -9,7 +9,7 @@ use Rattle.big_world.specs.Numbers.{behind, draw}
 use Rattle.big_world.specs.Topology.{block_text, demand_line, entry_text, group_name, group_text, length_at, line, listed_pool, name_line, name_of_pool, pools_line, pools_of, pools_text, prefixes_line, prefixes_text, quoted, score_at, scores_line, scores_text}
 use Rattle.big_world.specs.World.{array_of, entry_data, group_data, pools_data, prefixes_data, scores_data}
 use Rattle.big_world.proofs.Blocks.{five_lines, header_line, IsBlock, pair_line}
-use Rattle.big_world.proofs.Nodes.{name_pair, pool_plain}
+use Rattle.big_world.proofs.NodeBlocks.{name_pair, pool_plain}
 use Rattle.big_world.proofs.Plain.{AllPass, AllPass-append, is_plain, with_number}
 use Rattle.big_world.proofs.Values.{array_value, draw_below, listed_value, number_value, string_value}
 
