@@ -1,1 +1,3 @@
 pub mod Visits
+pub mod Addresses
+pub mod Prefixes
