@@ -1,2 +1,4 @@
 pub mod Visits
 pub mod Decimals
+pub mod Lists
+pub mod Names
