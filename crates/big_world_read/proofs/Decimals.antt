@@ -12,6 +12,7 @@ decimal_passes test each m small = decimal_by_steps (λ n ds. list_all test ds �
   where
     one : (n : ℕ) → n < 10 → list_all test ((48 + n) ∷ []) ≡ true
     one n low = ap (λ b. b && true) (each n low)
+
     more : (n : ℕ) (ds : List ℕ) → 10 ≤ n → list_all test ds ≡ true → list_all test (ds ++ ((48 + n % 10) ∷ [])) ≡ true
     more n ds high front = list_all-append test ds ((48 + n % 10) ∷ []) ∙ ap (λ b. b && list_all test ((48 + n % 10) ∷ [])) front ∙ ap (λ b. b && true) (each (n % 10) (omega arith))
 
@@ -21,6 +22,7 @@ decimal_lacks test each m small = decimal_by_steps (λ n ds. list_any test ds �
   where
     one : (n : ℕ) → n < 10 → list_any test ((48 + n) ∷ []) ≡ false
     one n low = ap (λ b. b || false) (each n low)
+
     more : (n : ℕ) (ds : List ℕ) → 10 ≤ n → list_any test ds ≡ false → list_any test (ds ++ ((48 + n % 10) ∷ [])) ≡ false
     more n ds high front = list_any-append test ds ((48 + n % 10) ∷ []) ∙ ap (λ b. b || list_any test ((48 + n % 10) ∷ [])) front ∙ ap (λ b. b || false) (each (n % 10) (omega arith))
 

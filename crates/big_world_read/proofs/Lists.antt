@@ -1,14 +1,14 @@
 -- Lists that are made from the numbers below a bound: where the first element stands that passes a test, and that no text stands twice.
-use Rattle.std.proofs.Common.{◌≡◌, ℕ, ◌+◌, ◌<◌, ◌≤◌, suc, zero, Bool, true, false, cond, ◌||◌, nat_lt, List, [], ◌∷◌, ◌++◌, length, get_or, map, Option, None, Some, refl, ap, sym, ◌∙◌, arith, take, drop}
+use Rattle.std.proofs.Common.{◌≡◌, ℕ, ◌+◌, ◌<◌, ◌≤◌, suc, zero, Bool, true, false, cond, ◌||◌, nat_lt, List, [], ◌∷◌, ◌++◌, length, map, None, Some, refl, ap, sym, ◌∙◌, arith}
 use Rattle.std.proofs.lemmas.Bool.Decides.{nat_tests}
 use Rattle.std.proofs.lemmas.Iterator.Adapters.{position_from-zero}
 use Rattle.std.proofs.lemmas.List.FromFn.{get_or-map-range_with_len, length-map-range_with_len}
 use Rattle.std.proofs.lemmas.List.{length-append}
 use Rattle.std.proofs.lemmas.List.Sums.{position_or_len_is}
 use Rattle.std.proofs.lemmas.Slice.Eq.{bytes_eq-Decides}
-use Rattle.std.specs.List.{filter_map, list_any, position, position_from, position_or_len, range_with_len}
+use Rattle.std.specs.List.{list_any, position, position_from, position_or_len, range_with_len}
 use Rattle.std.specs.Str.{bytes_eq}
-use Rattle.toml.specs.Data.{Data, string, as_str}
+use Rattle.toml.specs.Data.{string}
 use Rattle.topology_text.specs.Names.{has_repeat, texts_of}
 
 -- texts that differ
@@ -31,8 +31,8 @@ first_place : {X : Type 0} (test : X → Bool) (f : ℕ → X) (k p : ℕ) → p
 first_place test f k p within fails passes =
     let size : length (map f (range_with_len 0 k)) ≡ k = length-map-range_with_len f 0 k in
     position_or_len_is test (map f (range_with_len 0 k)) p (f p) (omega arith)
-        (λ q h. ap test (get_or-map-range_with_len f 0 k q q (f p) (omega arith) (omega arith)) ∙ fails q h)
-        (λ h. ap test (get_or-map-range_with_len f 0 k p p (f p) within (omega arith)) ∙ passes)
+    (λ q h. ap test (get_or-map-range_with_len f 0 k q q (f p) (omega arith) (omega arith)) ∙ fails q h)
+    (λ h. ap test (get_or-map-range_with_len f 0 k p p (f p) within (omega arith)) ∙ passes)
 
 pub found_at : {X : Type 0} (test : X → Bool) (f : ℕ → X) (k p : ℕ) → p < k → ((q : ℕ) → q < p → test (f q) ≡ false) → test (f p) ≡ true → position test (map f (range_with_len 0 k)) ≡ Some p
 found_at test f k p within fails passes =
@@ -61,3 +61,8 @@ no_repeat text a zero apart = refl
 no_repeat text a (suc k) apart =
     ap (λ b. b || has_repeat (map text (range_with_len (a + 1) k))) (none_later text a (a + 1) k (omega arith) (λ t low high. apart a t (omega arith) (omega arith) (omega arith)))
     ∙ no_repeat text (a + 1) k (λ s t low less high. apart s t (omega arith) less (omega arith))
+
+-- a function of what another gives, at each element
+pub map_twice : {X Y : Type 0} (outer : X → Y) (inner : ℕ → X) (whole : ℕ → Y) → ((k : ℕ) → outer (inner k) ≡ whole k) → (ks : List ℕ) → map outer (map inner ks) ≡ map whole ks
+map_twice outer inner whole same [] = refl
+map_twice outer inner whole same (k ∷ ks) = ap (λ y. y ∷ map outer (map inner ks)) (same k) ∙ ap (λ ys. whole k ∷ ys) (map_twice outer inner whole same ks)
