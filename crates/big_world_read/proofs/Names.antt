@@ -1,4 +1,4 @@
--- The names of a big world's nodes and groups: they follow the rule, no two are the same, and each leads to its number.
+-- The names of a big world's nodes and groups: they follow the rule, no two are the same, and each leads to its number; so parents and lists lead where they should.
 use Rattle.std.proofs.Common.{◌≡◌, ℕ, ◌+◌, ◌-◌, ◌*◌, ◌/◌, ◌%◌, ◌^◌, ◌<◌, ◌≤◌, ◌==◌, suc, Bool, true, false, not, ◌&&◌, ◌||◌, nat_le, nat_lt, List, [], ◌∷◌, ◌++◌, length, map, take, drop, Option, None, Some, option_and_then, unwrap_or, if◌then◌else◌, refl, ap, sym, ◌∙◌, append_assoc, arith, ◌⊎◌, inl, inr}
 use Rattle.std.proofs.Math.Nat.{mod-eq-sub-mod, mod-eq_of_lt}
 use Rattle.std.specs.Prelude.{codes}
@@ -326,11 +326,13 @@ pub pool_in_plan : (n i j : ℕ) → n ≤ 16384 → i < regions_of n → j < 4 
 pool_in_plan n i j few within less = ap (number_in (map name_of (nodes_data n))) (sym (pool_node_name i j less)) ∙ node_in_plan n (pool_node i j) few (omega arith)
 
 -- pool q of all is a pool among the nodes
+pub pool_number_found : (n q : ℕ) → n ≤ 16384 → q < pools_of n → number_of (nodes_data n) (name_of_pool q) ≡ Some (pool_node (q / 4) (q % 4))
+pool_number_found n q few within = pool_found n (q / 4) (q % 4) few (omega arith) (omega arith)
+
 pub listed_is_pool : (n q : ℕ) → n ≤ 16384 → q < pools_of n → is_pool_number (nodes_data n) (number_of (nodes_data n) (name_of_pool q)) ≡ true
 listed_is_pool n q few within =
-    let node : ℕ = pool_node (q / 4) (q % 4) in
     let other : (pool_node (q / 4) (q % 4) % 5 == 0) ≡ false = grind (arith, nat_tests) in
-    ap (is_pool_number (nodes_data n)) (pool_found n (q / 4) (q % 4) few (omega arith) (omega arith))
+    ap (is_pool_number (nodes_data n)) (pool_number_found n q few within)
     ∙ ap is_pool (node_at n (pool_node (q / 4) (q % 4)) (omega arith)) ∙ node_kind n (pool_node (q / 4) (q % 4)) ∙ ap not other
 
 -- the pools of a list are pools, and no two the same
