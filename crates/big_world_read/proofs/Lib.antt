@@ -1,3 +1,6 @@
 pub mod Visits
+pub mod Decimals
+pub mod Lists
+pub mod Names
 pub mod Addresses
 pub mod Prefixes
