@@ -1,1 +1,6 @@
 pub mod Visits
+pub mod Lists
+pub mod Walked
+pub mod Quiet
+pub mod Members
+pub mod Passes
