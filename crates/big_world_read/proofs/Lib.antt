@@ -1,6 +1,11 @@
 pub mod Visits
-pub mod Lists
+pub mod Numbered
 pub mod Walked
 pub mod Quiet
 pub mod Members
 pub mod Passes
+pub mod Shapes
+pub mod Ranges
+pub mod Named
+pub mod Addressed
+pub mod NoFault

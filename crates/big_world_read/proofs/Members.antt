@@ -1,5 +1,5 @@
 -- The members of a big world's nodes and groups, and between what bounds they are drawn.
-use Rattle.std.proofs.Common.{◌≡◌, ℕ, ◌+◌, ◌-◌, ◌*◌, ◌/◌, ◌%◌, ◌^◌, ◌==◌, ◌<◌, ◌≤◌, Bool, true, false, List, [], ◌∷◌, if◌then◌else◌, refl, arith}
+use Rattle.std.proofs.Common.{◌≡◌, ℕ, ◌+◌, ◌-◌, ◌/◌, ◌%◌, ◌^◌, ◌==◌, ◌<◌, ◌≤◌, Bool, true, false, [], ◌∷◌, if◌then◌else◌, refl, arith}
 use Rattle.std.specs.Prelude.{codes, min, pos}
 use Rattle.toml.specs.Data.{Data, array, boolean, integer, string, Members, member, no_members}
 use Rattle.big_world.specs.Numbers.{behind, draw}
@@ -83,7 +83,7 @@ node_cases P n p below region pool =
     let within : p / 5 < regions_of n = omega arith in
     let fits : p % 5 - 1 < 4 = omega arith in
     by_test (p % 5 == 0) P (region_data (p / 5) (capacity_of p x)) (pool_data (p / 5) (p % 5 - 1) (capacity_of p x))
-        (λ e. region (p / 5) (capacity_of p x) within (capacity_below p x)) (λ e. pool (p / 5) (p % 5 - 1) (capacity_of p x) within fits (capacity_below p x))
+    (λ e. region (p / 5) (capacity_of p x) within (capacity_below p x)) (λ e. pool (p / 5) (p % 5 - 1) (capacity_of p x) within fits (capacity_below p x))
 
 -- and a group has what is drawn for it
 pub group_cases : (P : Members → Type 0) (n i : ℕ) → ((demand s length x : ℕ) → IsDrawn n demand s length → P (group_members n i demand s length x)) → P (members_of (group_entry n i))

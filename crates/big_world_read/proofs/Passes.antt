@@ -1,5 +1,5 @@
 -- A test that fails no value and no item of a big world's topology.
-use Rattle.std.proofs.Common.{◌≡◌, ℕ, ◌+◌, ◌*◌, ◌/◌, ◌%◌, ◌==◌, ◌<◌, ◌≤◌, Bool, true, false, List, [], ◌∷◌, if◌then◌else◌, refl, ap, ◌∙◌, arith}
+use Rattle.std.proofs.Common.{◌≡◌, ℕ, ◌==◌, ◌<◌, ◌≤◌, Bool, true, false, List, [], ◌∷◌, if◌then◌else◌, refl, ap, ◌∙◌}
 use Rattle.std.specs.Prelude.{codes, pos}
 use Rattle.std.specs.List.{AllByRecursion}
 use Rattle.toml.specs.Data.{Data, boolean, integer, string, table, Members}
@@ -12,7 +12,7 @@ use Rattle.topology_text.specs.declared.schema.Key.TheVariants.{A, Capacity, Dem
 use Rattle.topology_text.specs.declared.schema.Spot.TheVariants.{GroupTable, NodeTable}
 use Rattle.big_world.specs.Topology.{block_text, group_name, host_text, listed_pool, name_of_pool, nodes_of, pool_name, pools_of, region_name, regions_of, score_at}
 use Rattle.big_world.specs.World.{array_of, groups_data, nodes_data, pools_data, prefixes_data, scores_data}
-use Rattle.big_world_read.proofs.Lists.{all_range, none_where}
+use Rattle.big_world_read.proofs.Numbered.{all_range, none_where}
 use Rattle.big_world_read.proofs.Members.{IsDrawn, group_cases, group_members, node_cases, pool_members, region_members, score_below}
 use Rattle.big_world_read.proofs.Quiet.{IsQuiet, nothing_found}
 use Rattle.big_world_read.proofs.Visits.{group_entry, members_of, node_entry, top_visit, visits, zone_visit}
@@ -73,25 +73,41 @@ region_passes test n p i c h within small =
     (whole (test Name (string (region_name i))) (h.region i within), (refl, (whole (test Capacity (integer (pos c))) (h.capacity c small), (refl, (refl, (refl, tt))))))
 
 pool_passes : (test : Key → Data → Bool) (n p i j c : ℕ) → Passes test n → i < regions_of n → j < 4 → c ≤ 79 → IsQuiet (failing_at test) (record { spot = NodeTable p; members = pool_members i j c })
-pool_passes test n p i j c h within fits small =
-    (whole (test Name (string (pool_name i j))) (h.pool i j within fits),
-    (whole (test Parent (string (region_name i))) (h.parent i within),
-    (whole (test Capacity (integer (pos c))) (h.capacity c small),
-    (whole (test Pool (boolean true)) h.flag,
-    (none_where (test A) (string (host_text i j) ∷ []) (h.host i j within fits, tt),
-    (refl, tt))))))
+pool_passes test n p i j c h within fits small = (
+  whole (test Name (string (pool_name i j))) (h.pool i j within fits),
+  (
+    whole (test Parent (string (region_name i))) (h.parent i within),
+    (
+      whole (test Capacity (integer (pos c))) (h.capacity c small),
+      (
+        whole (test Pool (boolean true)) h.flag,
+        (
+          none_where (test A) (string (host_text i j) ∷ []) (h.host i j within fits, tt),
+          (refl, tt),
+        ),
+      ),
+    ),
+  ),
+)
 
 group_passes : (test : Key → Data → Bool) (n i demand s length x : ℕ) → Passes test n → i < n → IsDrawn n demand s length → IsQuiet (failing_at test) (record { spot = GroupTable i; members = group_members n i demand s length x })
-group_passes test n i demand s length x h below drawn =
-    (whole (test Name (string (group_name i))) (h.group i below),
-    (whole (test Demand (integer (pos demand))) (h.demand demand drawn.some_demand drawn.small_demand),
-    (pools_pass (test Pools) n s length (λ t. h.pools s t drawn.start),
-    (scores_pass (test Scores) x length h.scores,
-    (none_where (test Prefixes) (prefixes_data i) (h.prefixes i below), tt)))))
+group_passes test n i demand s length x h below drawn = (
+  whole (test Name (string (group_name i))) (h.group i below),
+  (
+    whole (test Demand (integer (pos demand))) (h.demand demand drawn.some_demand drawn.small_demand),
+    (
+      pools_pass (test Pools) n s length (λ t. h.pools s t drawn.start),
+      (
+        scores_pass (test Scores) x length h.scores,
+        (none_where (test Prefixes) (prefixes_data i) (h.prefixes i below), tt),
+      ),
+    ),
+  ),
+)
 
 -- nothing is found where a test fails none of them
 pub passes : (test : Key → Data → Bool) (n : ℕ) → Passes test n → failures test (visits n) ≡ []
 passes test n h =
     nothing_found (failing_at test) n (top_passes test n h) h.zone
-        (λ p below. node_cases (λ ms. IsQuiet (failing_at test) (record { spot = NodeTable p; members = ms })) n p below (λ i c within small. region_passes test n p i c h within small) (λ i j c within fits small. pool_passes test n p i j c h within fits small))
-        (λ i below. group_cases (λ ms. IsQuiet (failing_at test) (record { spot = GroupTable i; members = ms })) n i (λ demand s length x drawn. group_passes test n i demand s length x h below drawn))
+    (λ p below. node_cases (λ ms. IsQuiet (failing_at test) (record { spot = NodeTable p; members = ms })) n p below (λ i c within small. region_passes test n p i c h within small) (λ i j c within fits small. pool_passes test n p i j c h within fits small))
+    (λ i below. group_cases (λ ms. IsQuiet (failing_at test) (record { spot = GroupTable i; members = ms })) n i (λ demand s length x drawn. group_passes test n i demand s length x h below drawn))

@@ -1,5 +1,5 @@
 -- A rule that finds nothing at any key of a big world's tables finds nothing on the walk.
-use Rattle.std.proofs.Common.{◌≡◌, ℕ, ◌+◌, ◌<◌, List, [], ◌∷◌, ◌++◌, map, refl, ap, ◌∙◌, arith}
+use Rattle.std.proofs.Common.{◌≡◌, ℕ, ◌<◌, List, [], ◌∷◌, ◌++◌, map, refl, ◌∙◌, arith}
 use Rattle.std.proofs.lemmas.List.Concat.{flat_map-append}
 use Rattle.std.specs.List.{AllByRecursion, flat_map, range_with_len}
 use Rattle.topology_text.specs.Schema.{keys_of}
@@ -7,7 +7,7 @@ use Rattle.topology_text.specs.Walk.{Visit, places_at, places_in, places_of}
 use Rattle.topology_text.specs.declared.schema.At.{At}
 use Rattle.topology_text.specs.declared.schema.Key.{Key}
 use Rattle.big_world.specs.Topology.{nodes_of}
-use Rattle.big_world_read.proofs.Lists.{both_empty, flat_range, map_empty}
+use Rattle.big_world_read.proofs.Numbered.{both_empty, flat_range, map_empty}
 use Rattle.big_world_read.proofs.Visits.{group_visit, node_visit, top_visit, visits, zone_visit}
 
 -- nothing at any key of a table

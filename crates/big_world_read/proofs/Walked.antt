@@ -1,5 +1,5 @@
 -- The walk over a big world's topology, and its entries.
-use Rattle.std.proofs.Common.{◌≡◌, ℕ, zero, suc, ◌+◌, Bool, true, false, List, [], ◌∷◌, ◌++◌, map, Some, if◌then◌else◌, ◌==◌, ◌%◌, refl, ap, ◌∙◌}
+use Rattle.std.proofs.Common.{◌≡◌, ℕ, zero, suc, ◌+◌, Bool, true, false, List, ◌∷◌, ◌++◌, map, Some, if◌then◌else◌, ◌==◌, ◌%◌, refl, ap, ◌∙◌}
 use Rattle.std.specs.List.{cons_option, range_with_len}
 use Rattle.toml.specs.Data.{Data, table}
 use Rattle.topology_text.specs.Names.{Entries, entries_of}
@@ -8,7 +8,7 @@ use Rattle.topology_text.specs.declared.schema.Key.{Key}
 use Rattle.topology_text.specs.declared.schema.Key.TheVariants.{Group, Node}
 use Rattle.big_world.specs.Topology.{nodes_of}
 use Rattle.big_world.specs.World.{entry_data, group_data, groups_data, node_data, nodes_data, pool_data, region_data, world_of, zone_data}
-use Rattle.big_world_read.proofs.Lists.{listed_again}
+use Rattle.big_world_read.proofs.Numbered.{listed_again}
 use Rattle.big_world_read.proofs.Visits.{group_entry, group_visit, members_of, node_entry, node_visit, top_visit, visits, zone_visit}
 
 -- one of two tables is a table

@@ -1,9 +1,8 @@
 -- Lists that are made number by number, and what nothing is found in.
-use Rattle.std.proofs.Common.{◌≡◌, ℕ, zero, suc, ◌+◌, ◌≤◌, ◌<◌, Bool, true, false, List, [], ◌∷◌, ◌++◌, map, Option, None, Some, if◌then◌else◌, refl, ap, ◌∙◌, arith}
+use Rattle.std.proofs.Common.{◌≡◌, ℕ, zero, suc, ◌+◌, ◌≤◌, ◌<◌, Bool, false, List, [], ◌∷◌, ◌++◌, map, None, Some, if◌then◌else◌, refl, ap, ◌∙◌, arith}
 use Rattle.std.specs.List.{AllByRecursion, cons_option, flat_map, range_with_len}
 use Rattle.toml.specs.Data.{Data}
 use Rattle.topology_text.specs.Walk.{items_from, items_where, list_of}
-use Rattle.topology_text.specs.declared.schema.At.{At}
 use Rattle.topology_text.specs.declared.schema.At.TheVariants.{Item}
 use Rattle.big_world.specs.World.{array_of}
 

@@ -1,0 +1,34 @@
+-- Each number of a big world is in its range.
+use Rattle.std.proofs.Common.{◌≡◌, ℕ, ◌-◌, ◌^◌, ◌≤◌, false, not, [], refl, ap, ◌∙◌, arith}
+use Rattle.std.specs.Prelude.{◌&&◌, nat_le, pos}
+use Rattle.std.proofs.lemmas.Bool.{le-leb}
+use Rattle.topology_text.specs.Faults.{failures}
+use Rattle.topology_text.specs.Values.{is_out_of_range, is_within}
+use Rattle.big_world_read.proofs.Passes.{Passes, passes, prefixes_pass}
+use Rattle.big_world_read.proofs.Visits.{visits}
+use Rattle.topology_text.specs.declared.schema.Key.TheVariants.{Prefixes}
+
+within : (low high c : ℕ) → low ≤ c → c ≤ high → not (is_within low high (pos c)) ≡ false
+within low high c p q = ap (λ b. not (b && nat_le c high)) (le-leb low c p) ∙ ap (λ b. not b) (le-leb c high q)
+
+in_range : (n : ℕ) → Passes is_out_of_range n
+in_range n = record {
+  whole_zone = λ ms. refl;
+  nodes = λ ms. refl;
+  groups = λ ms. refl;
+  zone = (refl, (refl, (refl, (refl, (refl, (refl, (refl, (refl, (refl, (refl, (refl, tt)))))))))));
+  region = λ i within. refl;
+  pool = λ i j within fits. refl;
+  parent = λ i within. refl;
+  capacity = λ c small. within 0 (2 ^ 48) c (omega arith) (omega arith);
+  flag = refl;
+  host = λ i j within fits. refl;
+  group = λ i below. refl;
+  demand = λ d some small. within 1 (2 ^ 32 - 1) d some (omega arith);
+  pools = λ s t start. refl;
+  scores = λ y small. within 0 (2 ^ 32 - 1) y (omega arith) (omega arith);
+  prefixes = λ i below. prefixes_pass (is_out_of_range Prefixes) (λ t. refl) i;
+}
+
+pub none_out_of_range : (n : ℕ) → failures is_out_of_range (visits n) ≡ []
+none_out_of_range n = passes is_out_of_range n (in_range n)
