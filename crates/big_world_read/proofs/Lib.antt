@@ -5,7 +5,6 @@ pub mod Quiet
 pub mod Members
 pub mod Passes
 pub mod Shapes
-pub mod Ranges
+pub mod Values
 pub mod Named
-pub mod Addressed
 pub mod NoFault

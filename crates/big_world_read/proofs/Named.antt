@@ -1,16 +1,16 @@
 -- Each name of a big world follows its rule and stands once, and leads to what it should.
-use Rattle.std.proofs.Common.{◌≡◌, ℕ, ◌≤◌, Bool, false, not, [], Option, refl, ap, sym, ◌∙◌, arith}
+use Rattle.std.proofs.Common.{◌≡◌, ℕ, ◌≤◌, not, [], Option, refl, ap, sym, ◌∙◌, arith}
 use Rattle.std.specs.Prelude.{is_some}
 use Rattle.name_text.specs.Names.{is_under, label_name_of, name_of}
 use Rattle.toml.specs.Data.{Data, table}
 use Rattle.topology_text.specs.Faults.{failures}
 use Rattle.topology_text.specs.Names.{duplicate_name, is_inside, is_taken, is_unknown_name, parent_order, text_at, text_in, too_deep}
-use Rattle.topology_text.specs.Values.{is_bad_name, whole_if}
+use Rattle.topology_text.specs.Values.{is_bad_name}
 use Rattle.topology_text.specs.Walk.{places_of, value_at}
 use Rattle.topology_text.specs.declared.schema.Key.TheVariants.{Name, Prefixes}
 use Rattle.big_world.specs.World.{groups_data, nodes_data}
 use Rattle.big_world_read.proofs.Names.{group_good, group_name_free, listed_known, node_name_free, not_deep, not_misplaced, pool_good, region_found, region_good}
-use Rattle.big_world_read.proofs.Passes.{Passes, passes, prefixes_pass}
+use Rattle.big_world_read.proofs.Passes.{Passes, passes, prefixes_pass, whole}
 use Rattle.big_world_read.proofs.Quiet.{IsQuiet, nothing_found}
 use Rattle.big_world_read.proofs.Visits.{group_entry, members_of, node_entry, visits, zone_visit}
 use Rattle.big_world_read.proofs.Walked.{group_is_table, node_is_table, world_entries}
@@ -85,9 +85,6 @@ outside n = record {
 
 pub none_inside : (n : ℕ) → failures (is_inside (world_entries n)) (visits n) ≡ []
 none_inside n = passes (is_inside (world_entries n)) n (outside n)
-
-whole : (b : Bool) → b ≡ false → whole_if b ≡ []
-whole b p = ap (λ c. whole_if c) p
 
 -- the name in a table is the name of the entry
 name_within : (e : Data) → e ≡ table (members_of e) → text_in (value_at (members_of e) Name) ≡ text_at e Name

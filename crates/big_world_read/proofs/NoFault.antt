@@ -17,11 +17,10 @@ use Rattle.topology_text.specs.declared.schema.Key.TheVariants.{A, Prefixes}
 use Rattle.big_world.specs.Topology.{host_text, regions_of, topology_of}
 use Rattle.big_world.specs.World.{prefixes_data, world_of}
 use Rattle.big_world_read.specs.Read.{world_plan}
-use Rattle.big_world_read.proofs.Addressed.{none_bad_address, none_bad_prefix}
 use Rattle.big_world_read.proofs.Named.{none_bad_name, none_deep, none_duplicate, none_inside, none_misplaced, none_unknown_name}
 use Rattle.big_world_read.proofs.Numbered.{both_empty, map_empty}
-use Rattle.big_world_read.proofs.Ranges.{none_out_of_range}
 use Rattle.big_world_read.proofs.Shapes.{none_missing, none_misshapen, none_too_many, none_unknown, none_wrong}
+use Rattle.big_world_read.proofs.Values.{none_bad_address, none_bad_prefix, none_out_of_range}
 use Rattle.big_world_read.proofs.Visits.{visits}
 use Rattle.big_world_read.proofs.Walked.{entries_are, walked, world_entries}
 

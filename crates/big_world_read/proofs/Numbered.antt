@@ -18,15 +18,20 @@ both_empty {A} xs ys p q = ap (λ (zs : List A). zs ++ ys) p ∙ q
 pub map_empty : {A B : Type 0} (f : A → B) (xs : List A) → xs ≡ [] → map f xs ≡ []
 map_empty {A} f xs p = ap (λ (zs : List A). map f zs) p
 
--- nothing at any number
-pub flat_range : {X A : Type 0} (f : X → List A) (g : ℕ → X) (a k : ℕ) → ((p : ℕ) → a ≤ p → p < a + k → f (g p) ≡ []) → flat_map f (map g (range_with_len a k)) ≡ []
-flat_range f g a zero h = refl
-flat_range f g a (suc k) h = both_empty (f (g a)) (flat_map f (map g (range_with_len (a + 1) k))) (h a (omega arith) (omega arith)) (flat_range f g (a + 1) k (λ p l u. h p (omega arith) (omega arith)))
+-- nothing in each is nothing in all
+pub flat_empty : {X A : Type 0} (f : X → List A) (xs : List X) → AllByRecursion (λ x. f x ≡ []) xs → flat_map f xs ≡ []
+flat_empty f [] h = refl
+flat_empty f (x ∷ xs) h = both_empty (f x) (flat_map f xs) h.0 (flat_empty f xs h.1)
 
 -- what holds at each number
 pub all_range : {X : Type 0} (P : X → Type 0) (g : ℕ → X) (a k : ℕ) → ((p : ℕ) → a ≤ p → p < a + k → P (g p)) → AllByRecursion P (map g (range_with_len a k))
 all_range P g a zero h = tt
 all_range P g a (suc k) h = (h a (omega arith) (omega arith), all_range P g (a + 1) k (λ p l u. h p (omega arith) (omega arith)))
+
+-- what holds of the elements of two lists
+pub all_append : {X : Type 0} (P : X → Type 0) (xs ys : List X) → AllByRecursion P xs → AllByRecursion P ys → AllByRecursion P (xs ++ ys)
+all_append P [] ys h g = g
+all_append P (x ∷ xs) ys h g = (h.0, all_append P xs ys h.1 g)
 
 -- no item passes a test
 pub none_from : (test : Data → Bool) (i : ℕ) (ds : List Data) → AllByRecursion (λ d. test d ≡ false) ds → items_from test i ds ≡ []

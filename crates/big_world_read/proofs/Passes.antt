@@ -62,7 +62,8 @@ pub record Passes (test : Key → Data → Bool) (n : ℕ) : Type 0 where
   pub scores : (y : ℕ) → y < 1000 → test Scores (integer (pos y)) ≡ false
   pub prefixes : (i : ℕ) → i < n → AllByRecursion (λ d. test Prefixes d ≡ false) (prefixes_data i)
 
-whole : (b : Bool) → b ≡ false → whole_if b ≡ []
+-- no fault as a whole
+pub whole : (b : Bool) → b ≡ false → whole_if b ≡ []
 whole b p = ap (λ c. whole_if c) p
 
 top_passes : (test : Key → Data → Bool) (n : ℕ) → Passes test n → IsQuiet (failing_at test) (top_visit n)
