@@ -1,9 +1,9 @@
 -- The topology of a big world has no fault, and is read as what it says.
-use Rattle.std.proofs.Common.{◌≡◌, ℕ, ◌≤◌, ◌<◌, Bool, true, false, List, [], ◌++◌, Option, None, Some, if◌then◌else◌, ap, ◌∙◌}
+use Rattle.std.proofs.Common.{◌≡◌, ℕ, ◌≤◌, Bool, true, List, [], ◌++◌, Option, None, Some, if◌then◌else◌, ap, ◌∙◌}
 use Rattle.std.specs.Prelude.{Ok}
-use Rattle.std.specs.List.{AllByRecursion, flat_map}
+use Rattle.std.specs.List.{flat_map}
 use Rattle.std.specs.Str.{is_utf8}
-use Rattle.toml.specs.Data.{Members, string}
+use Rattle.toml.specs.Data.{Members}
 use Rattle.toml.specs.Parse.{parse_document}
 use Rattle.topology_text.specs.Faults.{document, failures, faults_of, faults_on, found_or, list_faults, name_faults, prefix_faults, reading, reading_of, shape_faults, value_faults}
 use Rattle.topology_text.specs.Names.{Entries, duplicate_name, entries_of, is_inside, is_unknown_name, list_shape, parent_order, too_deep}
@@ -13,12 +13,12 @@ use Rattle.topology_text.specs.Values.{is_bad_address, is_bad_name, is_bad_prefi
 use Rattle.topology_text.specs.Walk.{Visit, first, places_of, walk}
 use Rattle.topology_text.specs.declared.fault.TopologyFault.{TopologyFault}
 use Rattle.topology_text.specs.declared.fault.TopologyFault.TheVariants.{MissingKey, WrongKind, UnknownKey, BadName, DuplicateName, UnknownName, ParentOrder, TooDeep, Range, BadAddress, BadPrefix, DuplicatePrefix, NoDefault, ListShape, NsInside, TooMany}
-use Rattle.topology_text.specs.declared.schema.Key.TheVariants.{A, Prefixes}
-use Rattle.big_world.specs.Topology.{host_text, regions_of, topology_of}
-use Rattle.big_world.specs.World.{prefixes_data, world_of}
+use Rattle.big_world.specs.Topology.{topology_of}
+use Rattle.big_world.specs.World.{world_of}
 use Rattle.big_world_read.specs.Read.{world_plan}
 use Rattle.big_world_read.proofs.Named.{none_bad_name, none_deep, none_duplicate, none_inside, none_misplaced, none_unknown_name}
 use Rattle.big_world_read.proofs.Numbered.{both_empty, map_empty}
+use Rattle.big_world_read.proofs.Prefixes.{defaults_there, never_passing, prefixes_once}
 use Rattle.big_world_read.proofs.Shapes.{none_missing, none_misshapen, none_too_many, none_unknown, none_wrong}
 use Rattle.big_world_read.proofs.Values.{none_bad_address, none_bad_prefix, none_out_of_range}
 use Rattle.big_world_read.proofs.Visits.{visits}
@@ -72,15 +72,8 @@ none_at_all : (d : Entries) (vs : List Visit) → FindsNone d vs → faults_on d
 none_at_all d vs h =
     both_empty _ _ (none_of_shape d vs h) (both_empty _ _ (none_of_names d vs h) (both_empty _ _ (none_of_values d vs h) (both_empty _ _ (none_of_prefixes d vs h) (none_of_lists d vs h))))
 
-pub record Facts (n : ℕ) : Type 0 where
-  hosts : (i j : ℕ) → i < regions_of n → j < 4 → is_bad_address A (string (host_text i j)) ≡ false
-  blocks : (i : ℕ) → i < n → AllByRecursion (λ d. is_bad_prefix Prefixes d ≡ false) (prefixes_data i)
-  distinct : duplicate_prefixes (all_prefixes (visits n)) ≡ []
-  defaults : no_default (all_prefixes (visits n)) ≡ []
-  total : passing (visits n) ≡ []
-
-finds_none : (n : ℕ) → 1 ≤ n → n ≤ 16384 → Facts n → FindsNone (world_entries n) (visits n)
-finds_none n some small facts = record {
+finds_none : (n : ℕ) → 1 ≤ n → n ≤ 16384 → FindsNone (world_entries n) (visits n)
+finds_none n some small = record {
   missing = none_missing n;
   kinds = none_wrong n;
   unknown = none_unknown n;
@@ -90,25 +83,25 @@ finds_none n some small facts = record {
   parents = none_misplaced n small;
   depths = none_deep n small;
   ranges = none_out_of_range n;
-  addresses = none_bad_address n facts.hosts;
-  prefixes = none_bad_prefix n facts.blocks;
-  distinct = facts.distinct;
-  defaults = facts.defaults;
+  addresses = none_bad_address n small;
+  prefixes = none_bad_prefix n small;
+  distinct = prefixes_once n some small;
+  defaults = defaults_there n some small;
   shapes = none_misshapen n small;
   outside = none_inside n;
   limits = none_too_many n small;
-  total = facts.total;
+  total = never_passing n small;
 }
 
 -- there is no fault
-pub no_fault : (n : ℕ) → 1 ≤ n → n ≤ 16384 → Facts n → faults_of (world_of n) ≡ []
+pub no_fault : (n : ℕ) → 1 ≤ n → n ≤ 16384 → faults_of (world_of n) ≡ []
 unfolding faults_of
-no_fault n some small facts = (λ i. faults_on (entries_are n i) (walked n i)) ∙ none_at_all (world_entries n) (visits n) (finds_none n some small facts)
+no_fault n some small = (λ i. faults_on (entries_are n i) (walked n i)) ∙ none_at_all (world_entries n) (visits n) (finds_none n some small)
 
 -- what the document is read as
-pub reads_document : (n : ℕ) → 1 ≤ n → n ≤ 16384 → Facts n → reading_of (Some (world_of n)) ≡ Ok (world_plan n)
+pub reads_document : (n : ℕ) → 1 ≤ n → n ≤ 16384 → reading_of (Some (world_of n)) ≡ Ok (world_plan n)
 unfolding world_plan
-reads_document n some small facts = ap (λ (fs : List TopologyFault). found_or (plan_of (entries_of (world_of n)) (all_prefixes (walk (world_of n)))) (first fs)) (no_fault n some small facts)
+reads_document n some small = ap (λ (fs : List TopologyFault). found_or (plan_of (entries_of (world_of n)) (all_prefixes (walk (world_of n)))) (first fs)) (no_fault n some small)
 
 -- a text that is a document's
 read_text : (bytes : List ℕ) (top : Members) → parse_document bytes ≡ Some top → is_utf8 bytes ≡ true → reading bytes ≡ reading_of (Some top)
@@ -116,5 +109,5 @@ unfolding document
 read_text bytes top parsed utf8 = ap (λ (b : Bool). reading_of (if b then parse_document bytes else None)) utf8 ∙ ap (λ (o : Option Members). reading_of o) parsed
 
 -- and the text
-pub reads : (n : ℕ) → 1 ≤ n → n ≤ 16384 → Facts n → parse_document (topology_of n) ≡ Some (world_of n) → is_utf8 (topology_of n) ≡ true → reading (topology_of n) ≡ Ok (world_plan n)
-reads n some small facts parsed utf8 = read_text (topology_of n) (world_of n) parsed utf8 ∙ reads_document n some small facts
+pub reads : (n : ℕ) → 1 ≤ n → n ≤ 16384 → parse_document (topology_of n) ≡ Some (world_of n) → is_utf8 (topology_of n) ≡ true → reading (topology_of n) ≡ Ok (world_plan n)
+reads n some small parsed utf8 = read_text (topology_of n) (world_of n) parsed utf8 ∙ reads_document n some small

@@ -1,15 +1,12 @@
 -- Each number of a big world is in its range, and each address and each prefix is one.
-use Rattle.std.proofs.Common.{◌≡◌, ℕ, ◌-◌, ◌^◌, ◌<◌, ◌≤◌, false, not, [], refl, ap, ◌∙◌, arith}
+use Rattle.std.proofs.Common.{◌≡◌, ℕ, ◌-◌, ◌^◌, ◌≤◌, false, not, [], refl, ap, ◌∙◌, arith}
 use Rattle.std.specs.Prelude.{◌&&◌, nat_le, pos}
-use Rattle.std.specs.List.{AllByRecursion}
 use Rattle.std.proofs.lemmas.Bool.{le-leb}
-use Rattle.toml.specs.Data.{string}
 use Rattle.topology_text.specs.Faults.{failures}
 use Rattle.topology_text.specs.Values.{is_bad_address, is_bad_prefix, is_out_of_range, is_within}
-use Rattle.topology_text.specs.declared.schema.Key.TheVariants.{A, Prefixes}
-use Rattle.big_world.specs.Topology.{host_text, regions_of}
-use Rattle.big_world.specs.World.{prefixes_data}
+use Rattle.topology_text.specs.declared.schema.Key.TheVariants.{Prefixes}
 use Rattle.big_world_read.proofs.Passes.{Passes, passes, prefixes_pass}
+use Rattle.big_world_read.proofs.Prefixes.{no_bad_host, no_bad_prefix}
 use Rattle.big_world_read.proofs.Visits.{visits}
 
 -- numbers
@@ -39,8 +36,8 @@ pub none_out_of_range : (n : ℕ) → failures is_out_of_range (visits n) ≡ []
 none_out_of_range n = passes is_out_of_range n (in_range n)
 
 -- addresses
-good_addresses : (n : ℕ) → ((i j : ℕ) → i < regions_of n → j < 4 → is_bad_address A (string (host_text i j)) ≡ false) → Passes is_bad_address n
-good_addresses n hosts = record {
+good_addresses : (n : ℕ) → n ≤ 16384 → Passes is_bad_address n
+good_addresses n small = record {
   whole_zone = λ ms. refl;
   nodes = λ ms. refl;
   groups = λ ms. refl;
@@ -50,7 +47,7 @@ good_addresses n hosts = record {
   parent = λ i within. refl;
   capacity = λ c low. refl;
   flag = refl;
-  host = hosts;
+  host = λ i j within fits. no_bad_host i j (omega arith) (omega arith);
   group = λ i below. refl;
   demand = λ d some low. refl;
   pools = λ s t start. refl;
@@ -58,12 +55,12 @@ good_addresses n hosts = record {
   prefixes = λ i below. prefixes_pass (is_bad_address Prefixes) (λ t. refl) i;
 }
 
-pub none_bad_address : (n : ℕ) → ((i j : ℕ) → i < regions_of n → j < 4 → is_bad_address A (string (host_text i j)) ≡ false) → failures is_bad_address (visits n) ≡ []
-none_bad_address n hosts = passes is_bad_address n (good_addresses n hosts)
+pub none_bad_address : (n : ℕ) → n ≤ 16384 → failures is_bad_address (visits n) ≡ []
+none_bad_address n small = passes is_bad_address n (good_addresses n small)
 
 -- prefixes
-good_prefixes : (n : ℕ) → ((i : ℕ) → i < n → AllByRecursion (λ d. is_bad_prefix Prefixes d ≡ false) (prefixes_data i)) → Passes is_bad_prefix n
-good_prefixes n items = record {
+good_prefixes : (n : ℕ) → n ≤ 16384 → Passes is_bad_prefix n
+good_prefixes n small = record {
   whole_zone = λ ms. refl;
   nodes = λ ms. refl;
   groups = λ ms. refl;
@@ -78,8 +75,8 @@ good_prefixes n items = record {
   demand = λ d some low. refl;
   pools = λ s t start. refl;
   scores = λ y low. refl;
-  prefixes = items;
+  prefixes = λ i below. no_bad_prefix i (omega arith);
 }
 
-pub none_bad_prefix : (n : ℕ) → ((i : ℕ) → i < n → AllByRecursion (λ d. is_bad_prefix Prefixes d ≡ false) (prefixes_data i)) → failures is_bad_prefix (visits n) ≡ []
-none_bad_prefix n items = passes is_bad_prefix n (good_prefixes n items)
+pub none_bad_prefix : (n : ℕ) → n ≤ 16384 → failures is_bad_prefix (visits n) ≡ []
+none_bad_prefix n small = passes is_bad_prefix n (good_prefixes n small)
