@@ -15,6 +15,8 @@ use Rattle.topology_text.specs.declared.fault.TopologyFault.{TopologyFault}
 use Rattle.topology_text.specs.declared.fault.TopologyFault.TheVariants.{MissingKey, WrongKind, UnknownKey, BadName, DuplicateName, UnknownName, ParentOrder, TooDeep, Range, BadAddress, BadPrefix, DuplicatePrefix, NoDefault, ListShape, NsInside, TooMany}
 use Rattle.big_world.specs.Topology.{topology_of}
 use Rattle.big_world.specs.World.{world_of}
+use Rattle.big_world.proofs.Octets.{is_text}
+use Rattle.big_world.proofs.Parses.{parses}
 use Rattle.big_world_read.specs.Read.{world_plan}
 use Rattle.big_world_read.proofs.Named.{none_bad_name, none_deep, none_duplicate, none_inside, none_misplaced, none_unknown_name}
 use Rattle.big_world_read.proofs.Numbered.{both_empty, map_empty}
@@ -111,3 +113,7 @@ read_text bytes top parsed utf8 = ap (λ (b : Bool). reading_of (if b then parse
 -- and the text
 pub reads : (n : ℕ) → 1 ≤ n → n ≤ 16384 → parse_document (topology_of n) ≡ Some (world_of n) → is_utf8 (topology_of n) ≡ true → reading (topology_of n) ≡ Ok (world_plan n)
 reads n some small parsed utf8 = read_text (topology_of n) (world_of n) parsed utf8 ∙ reads_document n some small
+
+-- the topology is read as what it says
+pub topology_read : (n : ℕ) → 1 ≤ n → n ≤ 16384 → reading (topology_of n) ≡ Ok (world_plan n)
+topology_read n some small = reads n some small (parses n some) (is_text n)
