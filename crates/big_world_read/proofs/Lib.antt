@@ -1,6 +1,15 @@
 pub mod Visits
+pub mod Numbered
+pub mod Walked
+pub mod Quiet
+pub mod Members
 pub mod Decimals
 pub mod Lists
 pub mod Names
 pub mod Addresses
 pub mod Prefixes
+pub mod Passes
+pub mod Shapes
+pub mod Values
+pub mod Named
+pub mod NoFault
