@@ -1,2 +1,3 @@
 pub mod Visits
 pub mod Lines
+pub mod Batches
