@@ -26,7 +26,7 @@ use Rattle.big_world_read.specs.Read.{batches_of, change_at, changes_at, pool_no
 use Rattle.big_world_read.proofs.Lines.{capacity_lacks, capacity_line, capacity_says, commit_lacks, commit_says, demand_lacks, demand_line, demand_says, ended, ended-append, stop_lacks, stop_says, whole_lines-ended}
 
 -- a draw is below its end
-pub draw_below : (x k m : ℕ) → 0 < m → draw x k m < m
+draw_below : (x k m : ℕ) → 0 < m → draw x k m < m
 unfolding draw
 draw_below x k m some = omega arith
 
