@@ -15,3 +15,4 @@ pub mod Named
 pub mod NoFault
 pub mod Lines
 pub mod Batches
+pub mod World
