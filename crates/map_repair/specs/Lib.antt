@@ -1,3 +1,4 @@
 pub mod Marks
 pub mod Asked
 pub mod Repaired
+pub mod Resumed

@@ -6,6 +6,7 @@ ghost use Rattle.map_model.specs.Allocation.{IsGood};
 ghost use Rattle.map_model.specs.Progress.{IsEnded};
 ghost use Rattle.map_repair.specs.Asked.{AreAllListed};
 ghost use Rattle.map_repair.specs.Repaired.{IsKept, IsLocal, IsStateOf, IsWithinSpread};
+ghost use Rattle.map_repair.specs.Resumed.{HasRepaired, HasResumed};
 
 use crate::asked::Asked;
 use crate::reaching::reached;
@@ -34,6 +35,7 @@ pub fn resume<L>(
     ensures ended { OnOk result (IsEnded new.now state.new.pointers state.new.free) }
     ensures kept { OnOk result (IsKept old.now state.old.lines new.now state.new.lines) }
     ensures local { OnOk result (IsLocal old.now state.old.lines new.now state.new.lines) }
+    ensures counted { OnOk result (HasResumed old.now state.old new.now state.new steps.old steps.new) }
     ensures steps { OnOk result (IsWithinSpread old.now state.old.lines new.now steps.old steps.new) }
     ensures later { steps.old ≤ steps.new }
 {
@@ -60,6 +62,7 @@ pub fn repair<L>(
     ensures good { IfOk result (λ made. IsGood new.now made.lines.items made.names.items) }
     ensures kept { IfOk result (λ made. IsKept old.now map.now.lines.items new.now made.lines.items) }
     ensures local { IfOk result (λ made. IsLocal old.now map.now.lines.items new.now made.lines.items) }
+    ensures counted { IfOk result (λ made. HasRepaired old.now map.now.lines.items new.now made.lines.items steps.old steps.new) }
     ensures steps { OnOk result (IsWithinSpread old.now map.now.lines.items new.now steps.old steps.new) }
     ensures later { steps.old ≤ steps.new }
 {

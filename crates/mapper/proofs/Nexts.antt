@@ -10,6 +10,7 @@ use Rattle.map_model.proofs.Shapes.{shape_trans}
 use Rattle.topology_text.specs.Plan.{Plan}
 use Rattle.published_map.specs.declared.delta.Delta.{Delta}
 use Rattle.published_map.specs.Between.{IsBetween}
+use Rattle.published_map.specs.Changes.{after}
 use Rattle.published_map.specs.Version.{IsVersion, Version}
 use Rattle.published_map.proofs.Within.{after_is_version, within}
 use Rattle.map_cell.specs.Histories.{IsSealed}
@@ -40,6 +41,14 @@ prepared v old new changes d is current market makes between =
       next = subst (IsNext v changes) (sym b.leads) next;
       current = subst (λ (x : Version). IsCurrent x new) (sym b.leads) (makes.current (v.serial + 1));
     }
+
+-- what holds from the parts of a version to those of the next one holds from the version to the one that its changes lead to
+pub led : (P : Version → Version → Type 0) (v : Version) (old new : Current) (d : Delta) → IsCurrent v old → IsBetween (version_of v.serial v.plan old) (version_of (v.serial + 1) v.plan new) d
+    → P (version_of v.serial v.plan old) (version_of (v.serial + 1) v.plan new) → P v (after v d)
+led P v old new d current between p =
+    let w : Version = version_of (v.serial + 1) v.plan new in
+    let b : IsBetween v w d = subst (λ (x : Version). IsBetween x w d) (sym current.version) between in
+    subst (P v) (sym b.leads) (subst (λ (x : Version). P x w) (sym current.version) p)
 
 get_last : (h : List Version) (v : Version) → slice_get (h ++ v ∷ []) (length h) ≡ Some v
 get_last [] v = refl

@@ -8,6 +8,8 @@ use Rattle.map_model.specs.Allocation.{IsGood}
 use Rattle.topology_text.specs.Plan.{Plan}
 use Rattle.evict.specs.Standing.{IsFresh, Standing}
 use Rattle.deferred_accept.specs.Runs.{HasProposed}
+use Rattle.map_repair.specs.Resumed.{HasRepaired}
+use Rattle.published_map.specs.Version.{Version}
 use Rattle.map_cell.specs.Ends.{PublisherState}
 use Rattle.mapper.specs.Control.{IsNext}
 
@@ -30,6 +32,10 @@ pub record IsMapping (m : Market) (lines : List MapLine) (before after : ℕ) : 
   pub fresh : IsFresh m start
   pub proposed : HasProposed m start mapped before after
   pub holds : mapped.lines ≡ lines
+
+-- A repair leads from the map of one version to that of another, and a counter rose by the number of its proposals.
+abbrev pub IsRepairing : Version → Version → ℕ → ℕ → Type 0
+IsRepairing old new before after = HasRepaired old.market old.lines new.market new.lines before after
 
 -- the version that a batch leads to was published
 pub record IsPublished (old : PublisherState) (changes : List Change) (new : PublisherState) : Type 0 where

@@ -6,6 +6,7 @@ ghost use Rattle.map_model.specs.Batch.{IsApplied, IsBatch};
 ghost use Rattle.map_model.specs.Progress.{IsEnded};
 ghost use Rattle.map_repair.specs.Asked.{AreAllListed};
 ghost use Rattle.map_repair.specs.Repaired.{IsKept, IsLocal, IsStateOf, IsWithinSpread};
+ghost use Rattle.map_repair.specs.Resumed.{HasRepaired};
 ghost use Rattle.evict.specs.Standing.{IsReady};
 ghost use Rattle.mapper.specs.Currents.{IsCurrent, IsKeptFor, Makes, version_of};
 ghost use Rattle.mapper.specs.Mappers.{IsMapping, most_offers};
@@ -62,6 +63,7 @@ fn repaired<L>(
     ensures good { IfOk result (λ map. IsGood new.now map.lines.items map.names.items) }
     ensures kept { IfOk result (λ map. IsKept old.now.instance old.now.map.lines.items new.now map.lines.items) }
     ensures local { IfOk result (λ map. IsLocal old.now.instance old.now.map.lines.items new.now map.lines.items) }
+    ensures counted { IfOk result (λ map. HasRepaired old.now.instance old.now.map.lines.items new.now map.lines.items steps.old steps.new) }
     ensures steps { OnOk result (IsWithinSpread old.now.instance old.now.map.lines.items new.now steps.old steps.new) }
     ensures later { steps.old ≤ steps.new }
 {
@@ -169,6 +171,7 @@ pub(crate) fn next_of<L>(
     requires shape { IsSameShape topology.now.market old.now.instance }
     ensures makes { IfOk result (Makes topology.now old.now batch.now) }
     ensures kept { IfOk result (λ c. IsKeptFor c.instance c.map.lines.items kept.new) }
+    ensures counted { IfOk result (λ c. HasRepaired old.now.instance old.now.map.lines.items c.instance c.map.lines.items steps.old steps.new) }
     ensures steps { IfOk result (λ c. IsWithinSpread old.now.instance old.now.map.lines.items c.instance steps.old steps.new) }
     ensures later { steps.old ≤ steps.new }
 {

@@ -14,7 +14,7 @@ ghost use Rattle.map_cell.specs.Histories.{IsSealed};
 ghost use Rattle.answer_core.specs.Reply.{Replies};
 ghost use Rattle.mapper.specs.Currents.{IsCurrent, IsKeptFor, version_of};
 ghost use Rattle.mapper.specs.Feeding.{IsFeed};
-ghost use Rattle.mapper.specs.Mappers.{IsFirst, IsMapping, IsPublished, most_offers};
+ghost use Rattle.mapper.specs.Mappers.{IsFirst, IsMapping, IsPublished, IsRepairing, most_offers};
 ghost use Rattle.mapper.specs.Scenes.{scene};
 ghost use Rattle.mapper.specs.Words.{map_text, reply_by, totals_of};
 
@@ -277,6 +277,7 @@ impl<J: Naming> Mapper<J> {
         ensures empty { batch.now ≡ [] → (result ≡ Ok self.old.newest.serial) × (self.new ≡ self.old) × (steps.new ≡ steps.old) }
         ensures next { batch.now ≢ [] → IfOk result (λ s. IsPublished self.old batch.now self.new × (s ≡ self.new.newest.serial)) }
         ensures same { OnErr result (self.new ≡ self.old) }
+        ensures counted { batch.now ≢ [] → OnOk result (IsRepairing self.old.newest self.new.newest steps.old steps.new) }
         ensures steps { OnOk result (IsWithinSpread self.old.newest.market self.old.newest.lines self.new.newest.market steps.old steps.new) }
         ensures later { steps.old ≤ steps.new }
     {

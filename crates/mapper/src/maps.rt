@@ -7,7 +7,7 @@ ghost use Rattle.published_map.specs.Version.{IsVersion};
 ghost use Rattle.map_cell.specs.Histories.{IsSealed};
 ghost use Rattle.answer_core.specs.Reply.{Replies};
 ghost use Rattle.mapper.specs.Currents.{IsCurrent, IsKeptFor, IsPrepared};
-ghost use Rattle.mapper.specs.Mappers.{IsPublished};
+ghost use Rattle.mapper.specs.Mappers.{IsPublished, IsRepairing};
 ghost use Rattle.mapper.specs.Words.{reply_by};
 
 use crate::current::{Current, First, Kept, kept_of, next_of};
@@ -132,6 +132,7 @@ impl<J: Naming> Maps<J> {
         requires ids { IsBatch self.now.newest.plan.market batch.now }
         ensures next { IfOk result (IsPrepared self.now.newest batch.now) }
         ensures kept { IfOk result (λ n. IsKeptFor (after self.now.newest n.delta).market (after self.now.newest n.delta).lines kept.new) }
+        ensures counted { IfOk result (λ n. IsRepairing self.now.newest (after self.now.newest n.delta) steps.old steps.new) }
         ensures steps { IfOk result (λ n. IsWithinSpread self.now.newest.market self.now.newest.lines (after self.now.newest n.delta).market steps.old steps.new) }
         ensures later { steps.old ≤ steps.new }
     {
@@ -161,6 +162,7 @@ impl<J: Naming> Maps<J> {
         requires serial { self.old.newest.serial < 2 ^ 64 - 1 }
         ensures next { IfOk result (λ s. IsPublished self.old batch.now self.new × (s ≡ self.new.newest.serial)) }
         ensures same { OnErr result (self.new ≡ self.old) }
+        ensures counted { OnOk result (IsRepairing self.old.newest self.new.newest steps.old steps.new) }
         ensures steps { OnOk result (IsWithinSpread self.old.newest.market self.old.newest.lines self.new.newest.market steps.old steps.new) }
         ensures later { steps.old ≤ steps.new }
     {

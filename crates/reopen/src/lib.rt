@@ -5,4 +5,4 @@ mod cutting;
 mod rolling;
 
 pub use cutting::cut_and_trim;
-pub use rolling::{back_place, roll_back};
+pub use rolling::roll_back;

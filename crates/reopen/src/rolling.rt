@@ -21,7 +21,7 @@ fn is_marked(instance: &Instance, state: &State, marks: &[bool], offer: Offer) -
 }
 
 /// The first place before a group's pointer whose tree is marked, or the pointer.
-pub fn back_place(instance: &Instance, state: &State, marks: &[bool], group: GroupId) -> u8
+fn back_place(instance: &Instance, state: &State, marks: &[bool], group: GroupId) -> u8
     requires can { CanCut instance.now state.now }
     requires size { length marks.now ≡ length instance.now.nodes }
     requires group { group.0 < length instance.now.groups }

@@ -3,12 +3,14 @@ use Rattle.map_model.specs.Market.{Market}
 use Rattle.map_model.specs.Progress.{IsEnded}
 use Rattle.map_model.proofs.Shapes.{shape_trans}
 use Rattle.evict.proofs.Shaped.{AreLines-shape}
-use Rattle.deferred_accept.specs.Runs.{HasRun, WantsBefore}
+use Rattle.deferred_accept.specs.Runs.{HasProposed, HasRun, WantsBefore}
 use Rattle.deferred_accept.specs.Spreading.{HoldsWork, StaysInside}
 use Rattle.evict.specs.Standing.{Standing}
 use Rattle.reopen.specs.Rolling.{CanRollBack, IsRolledBack}
 use Rattle.deferred_accept.proofs.Past.{past_of_ended}
+use Rattle.map_repair.specs.Marks.{AreReached, is_on}
 use Rattle.map_repair.specs.Repaired.{IsKept, IsLocal, IsStateOf, IsWithinSpread}
+use Rattle.map_repair.specs.Resumed.{HasResumed}
 use Rattle.map_repair.proofs.Listing.{listing_shape}
 use Rattle.map_repair.proofs.Middle.{IsMiddle, bounded, can_roll_back, holds_work, kept, local, wants_rolled}
 use Rattle.map_repair.proofs.Spread.{local_spread, within_spread}
@@ -112,6 +114,29 @@ returns-clause-local g c =
     = λ run inside. local_spread old s.lines new final.lines k.of.ready.market c.in_ok-marks.marks.items k.reached (λ trees spread. local old new s mid c.in_ok-marks.marks.items k rolled rb trees spread final c.args.steps.now c.run.new.steps run.ready
     (inside trees (holds_work old new s mid c.in_ok-marks.marks.items k rolled rb trees spread))) in
     on_two _ _ _ c.run.result made c.run.ensures.run c.run.ensures.inside
+
+pub returns-clause-counted : goal.returns-clause-counted
+returns-clause-counted g c =
+    let old : Market = c.args.old.now in
+    let new : Market = c.args.new.now in
+    let s : Standing = c.args.state.now in
+    let mid : Standing = c.cut_and_trim.new.state in
+    let ms : List Bool = c.in_ok-marks.marks.items in
+    let are : AreReached old s.lines new ms = c.in_ok-marks.ensures in
+    let rolled : Standing = c.roll_back.new.state in
+    let final : Standing = c.run.new.state in
+    let made : HasProposed new rolled final c.args.steps.now c.run.new.steps → HasResumed old s new final c.args.steps.now c.run.new.steps
+    = λ proposed. record {
+      marks = ms;
+      reached = λ root on. are.least root on;
+      all_reached = λ root is. is (λ n. is_on ms n) are.closed;
+      cut = mid;
+      is_cut = c.cut_and_trim.ensures;
+      back = rolled;
+      rolled_back = subst (λ (xs : List Bool). IsRolledBack new xs mid rolled) c.as_slice.ensures.value c.roll_back.ensures;
+      proposed = proposed;
+    } in
+    on_one _ _ c.run.result made c.run.ensures.counted
 
 pub returns-clause-steps : goal.returns-clause-steps
 returns-clause-steps g c =

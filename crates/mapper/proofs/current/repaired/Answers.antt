@@ -12,6 +12,11 @@ returns-clause-kept g c =
     let made = subst (λ (ls : List MapLine). IsKept old ls new c.resume.new.state.lines) c.requires.kept.holds c.in_ok-resume.ensures.kept in
     IfOk-weaker c.ended_map.result _ _ (λ m e. subst (λ (ls : List MapLine). IsKept old c.args.old.now.map.lines.items new ls) (sym e) made) c.ended_map.ensures.lines
 
+pub returns-clause-counted : goal.returns-clause-counted
+returns-clause-counted g c = IfOk-weaker c.ended_map.result _ _
+    (λ m e. record { from = c.args.kept.now.state; of_map = c.requires.kept.state; holds = c.requires.kept.holds; to = c.resume.new.state; resumed = c.in_ok-resume.ensures.counted; makes = sym e })
+    c.ended_map.ensures.lines
+
 pub returns-clause-steps : goal.returns-clause-steps
 returns-clause-steps g c =
     whenever c.ended_map.result (subst (λ (ls : List MapLine). IsWithinSpread c.args.old.now.instance ls c.args.new.now c.args.steps.now c.resume.new.steps) c.requires.kept.holds c.in_ok-resume.ensures.steps)

@@ -1,12 +1,15 @@
 use Rattle.std.proofs.Common.{◌≡◌, ℕ, ◌+◌, ap, sym, subst, ◌∙◌}
 use Rattle.map_model.specs.Batch.{IsBatch}
 use Rattle.map_model.proofs.NameForm.{IsMapForm-IsGood}
+use Rattle.map_repair.specs.Repaired.{IsWithinSpread}
 use Rattle.topology_text.specs.Plan.{Plan}
 use Rattle.published_map.specs.Between.{IsBetween}
+use Rattle.published_map.specs.Changes.{after}
 use Rattle.published_map.specs.Version.{IsVersion, Version}
 use Rattle.map_cell.specs.Ends.{PublisherState}
-use Rattle.mapper.specs.Currents.{IsPrepared, Makes, version_of}
-use Rattle.mapper.proofs.Nexts.{batch_for, good_of, prepared}
+use Rattle.mapper.specs.Currents.{IsKeptFor, IsPrepared, Makes, version_of}
+use Rattle.mapper.specs.Mappers.{IsRepairing}
+use Rattle.mapper.proofs.Nexts.{batch_for, good_of, led, prepared}
 use Rattle.mapper.proofs.maps.Maps.next.Goals as goal
 
 pub between-requires-clause-old : goal.between-requires-clause-old
@@ -34,6 +37,39 @@ returns-clause-next g c =
     let between = subst (λ (s : ℕ). IsBetween (version_of s v.plan old) (version_of (s + 1) v.plan new) d) serial (c.in_ok-delta.ensures v.plan) in
     subst (λ (p : PublisherState). IsPrepared p.newest c.args.batch.now (record { current = new; delta = d })) c.self.view_is
     (prepared v old new c.args.batch.now d c.self.invariant.0 c.self.invariant.2 c.groups-2.ensures.market made between)
+
+pub returns-clause-kept : goal.returns-clause-kept
+returns-clause-kept g c =
+    let old = c.self.inside.current in
+    let new = c.in_ok-current.current in
+    let v : Version = c.self.inside.publisher.newest in
+    let d = c.in_ok-delta.delta in
+    let serial : c.serial.result ≡ v.serial = c.serial.ensures ∙ ap (λ (w : Version). w.serial) c.newest-newest.ensures in
+    let between = subst (λ (s : ℕ). IsBetween (version_of s v.plan old) (version_of (s + 1) v.plan new) d) serial (c.in_ok-delta.ensures v.plan) in
+    subst (λ (p : PublisherState). IsKeptFor (after p.newest d).market (after p.newest d).lines c.next_of.new.kept) c.self.view_is
+    (led (λ (a b : Version). IsKeptFor b.market b.lines c.next_of.new.kept) v old new d c.self.invariant.2 between c.in_ok-current.ensures.kept)
+
+pub returns-clause-counted : goal.returns-clause-counted
+returns-clause-counted g c =
+    let old = c.self.inside.current in
+    let new = c.in_ok-current.current in
+    let v : Version = c.self.inside.publisher.newest in
+    let d = c.in_ok-delta.delta in
+    let serial : c.serial.result ≡ v.serial = c.serial.ensures ∙ ap (λ (w : Version). w.serial) c.newest-newest.ensures in
+    let between = subst (λ (s : ℕ). IsBetween (version_of s v.plan old) (version_of (s + 1) v.plan new) d) serial (c.in_ok-delta.ensures v.plan) in
+    subst (λ (p : PublisherState). IsRepairing p.newest (after p.newest d) c.args.steps.now c.next_of.new.steps) c.self.view_is
+    (led (λ (a b : Version). IsRepairing a b c.args.steps.now c.next_of.new.steps) v old new d c.self.invariant.2 between c.in_ok-current.ensures.counted)
+
+pub returns-clause-steps : goal.returns-clause-steps
+returns-clause-steps g c =
+    let old = c.self.inside.current in
+    let new = c.in_ok-current.current in
+    let v : Version = c.self.inside.publisher.newest in
+    let d = c.in_ok-delta.delta in
+    let serial : c.serial.result ≡ v.serial = c.serial.ensures ∙ ap (λ (w : Version). w.serial) c.newest-newest.ensures in
+    let between = subst (λ (s : ℕ). IsBetween (version_of s v.plan old) (version_of (s + 1) v.plan new) d) serial (c.in_ok-delta.ensures v.plan) in
+    subst (λ (p : PublisherState). IsWithinSpread p.newest.market p.newest.lines (after p.newest d).market c.args.steps.now c.next_of.new.steps) c.self.view_is
+    (led (λ (a b : Version). IsWithinSpread a.market a.lines b.market c.args.steps.now c.next_of.new.steps) v old new d c.self.invariant.2 between c.in_ok-current.ensures.steps)
 
 pub next_of-requires-clause-ids : goal.next_of-requires-clause-ids
 next_of-requires-clause-ids g c =
