@@ -36,7 +36,7 @@ ordered_last (x ∷ before) t c = (λ r. not_both (is_refused x.came) (calm_not_
 pub in_order : (turns : ℕ) (log : List Turn) (e : Ended) → IsEnd turns log e → IsInOrder log
 in_order turns log end.Stopped c = ordered_calm log c.0
 in_order turns log end.PortEnd c = subst IsInOrder (sym c.2) (ordered_last c.0 c.1 c.3)
-in_order turns log end.PortFault c = ordered_calm log c.0
+in_order turns log end.PortFault c = ordered_calm log c.3
 in_order turns log end.CellFault c = subst IsInOrder (sym c.2) (ordered_last c.0 c.1 c.3)
 in_order turns log (end.Above known newest) c = absurd c
 in_order turns log end.Spent c = ordered_calm log c.0
@@ -122,6 +122,12 @@ refused_last turns log is =
     let one : refused_of is.1.came ≡ 1 = rw is.5 refl in
     let count : sum_by (λ t. refused_of t.came) log ≡ sum_by (λ t. refused_of t.came) is.0 + refused_of is.1.came = ap (sum_by (λ t. refused_of t.came)) is.2 ∙ sum_by_push (λ (t : Turn). refused_of t.came) is.0 is.1 in
     omega (arith, count, one)
+
+-- a lane that a failed call ended met eight of them
+pub failed_last : (turns : ℕ) (log : List Turn) → IsEnd turns log end.PortFault → failures log ≡ 8
+failed_last turns log is =
+    let count : failures log ≡ failures is.0 + fails_of is.1.came = ap failures is.2 ∙ sum_by_push (λ (t : Turn). fails_of t.came) is.0 is.1 in
+    omega (arith, count, is.4, is.5)
 
 log_of : {V T : Type 0} (a : Answers V) (number : T → ℕ) (w : ℕ) (log : List Turn) (m m' : Moment V T) → IsSession a number w log m m' → IsInOrder log → IsLaneLog a number w log m m'
 log_of a number w log m m' s o = record {

@@ -3,7 +3,6 @@ use Rattle.std.specs.Prelude.{ℕ, Bool, List, Option}
 use Rattle.addr_text.specs.declared.address.Addr.{Addr}
 use Rattle.answer_core.specs.Reply as stated
 use Rattle.answer_core.specs.Silence as silence
-use Rattle.answer_core.specs.Silence as silence
 use Rattle.published_map.specs.Version.{Version}
 use Rattle.lane_model.specs.Lanes.{Answers}
 

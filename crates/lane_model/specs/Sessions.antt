@@ -75,7 +75,7 @@ pub record IsStop {V T : Type 0} (m m' : Moment V T) : Type 0 where
 abbrev pub IsEnd : ℕ → List Turn → Ended → Type 0
 IsEnd turns log end.Stopped = AreCalm log × (failures log < 8) × (length log < turns)
 IsEnd turns log end.PortEnd = (before : List Turn) × (t : Turn) × (log ≡ before ++ t ∷ []) × AreCalm before × (failures before < 8) × (t.came ≡ ended) × (length log ≤ turns)
-IsEnd turns log end.PortFault = AreCalm log × (failures log ≡ 8) × (length log ≤ turns)
+IsEnd turns log end.PortFault = (before : List Turn) × (t : Turn) × (log ≡ before ++ t ∷ []) × AreCalm log × (failures before ≡ 7) × (fails_of t.came ≡ 1) × (length log ≤ turns)
 IsEnd turns log end.CellFault = (before : List Turn) × (t : Turn) × (log ≡ before ++ t ∷ []) × AreCalm before × (failures before < 8) × (is_refused t.came ≡ true) × (length log ≤ turns)
 IsEnd turns log (end.Above known newest) = ⊥
 IsEnd turns log end.Spent = AreCalm log × (failures log < 8) × (length log ≡ turns)

@@ -1,5 +1,5 @@
 -- The loop of a lane: turns so far, and one more.
-use Rattle.std.proofs.Common.{◌≡◌, ℕ, ◌+◌, ◌<◌, Bool, true, false, ◌==◌, if◌then◌else◌, List, [], ◌∷◌, ◌++◌, length, None, Some, refl, sym, ap, subst, ◌∙◌, arith, length-append}
+use Rattle.std.proofs.Common.{◌≡◌, ℕ, ◌+◌, ◌<◌, Bool, true, false, ◌==◌, if◌then◌else◌, List, [], ◌∷◌, ◌++◌, None, Some, refl, sym, ap, subst, ◌∙◌, arith, length-append}
 use Rattle.std.proofs.lemmas.List.Sums.{sum_by-cons}
 use Rattle.std.proofs.lemmas.Grind.{common_steps}
 use Rattle.published_map.specs.Version.{Version}
@@ -143,14 +143,13 @@ ends number w i k k' turns step.PortFailed e m mid m' lt so t n =
     let is = failed_is t.0.came t.2 in
     let here = eighth k k' e n.0 n.1 in
     let more = length-append so.log (t.0 ∷ []) in
-    let fails = failures_more so.log t.0 in
     subst (λ (x : Ended). IsServed number w turns m m' x) (sym here.0)
     (record {
       log = so.log ++ t.0 ∷ [];
       mid = m';
       session = one_more replies number w so.log t.0 m mid m' so.session t.1;
       last = refl;
-      ending = (calm_more so.log t.0 so.calm is.0, omega (arith, fails, so.failures_are, is.1, n.0, here.1), omega (arith, more, so.turns_are, lt));
+      ending = (so.log, t.0, refl, calm_more so.log t.0 so.calm is.0, omega (arith, so.failures_are, n.0, here.1), is.1, omega (arith, more, so.turns_are, lt));
     })
 
 -- all turns were made

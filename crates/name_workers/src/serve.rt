@@ -83,7 +83,7 @@ fn learn_all<J: Naming, D: Door, N: Notes<Note = Note<J>>>(
     ensures asked { D.asked door.new ≡ D.asked door.old }
 {
     while let Some(note) = notes.next() {
-        door.learn(&mut worker.viewer, &note);
+        worker.learn(door, &note);
     }
 }
 

@@ -14,8 +14,8 @@ loop-note-preserved g c =
       rise_trans _ _ _ i.1 (rise_learned _ _ l.seen l.kept l.greatest l.counts.0),
       l.counts.1 ∙ i.2,
       l.seen ∙ i.3,
-      i.4,
-      i.5,
+      l.same.1 ∙ i.4,
+      l.same.0 ∙ i.5,
       l.counts.2 ∙ i.6,
       l.counts.0 ∙ i.7,
     )
