@@ -1,6 +1,6 @@
 -- The options of an extension record.
 use Rattle.std.specs.Prelude.{ℕ, zero, suc, ◌+◌, nat_lt, if◌then◌else◌, List, [], ◌∷◌, length, take, drop, Option, None, Some}
-use Rattle.dns_wire.specs.Wire.{u16_at}
+use Rattle.dns_wire.specs.Wire.{◌>>=◌, u16_at}
 
 -- an option: its code, and its octets (RFC 6891 6.1.2)
 pub record EdnsOption : Type 0 where
