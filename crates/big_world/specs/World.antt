@@ -1,5 +1,5 @@
 -- The topology of a world of n groups, as what its document holds.
-use Rattle.std.specs.Prelude.{ℕ, ◌+◌, ◌-◌, ◌*◌, ◌/◌, ◌%◌, ◌==◌, pos, true, List, [], ◌∷◌, map, codes, if◌then◌else◌}
+use Rattle.std.specs.Prelude.{ℕ, ◌+◌, ◌-◌, ◌/◌, ◌%◌, ◌==◌, pos, true, List, [], ◌∷◌, map, codes, if◌then◌else◌}
 use Rattle.std.specs.List.{range_with_len}
 use Rattle.toml.specs.Data.{Data, string, integer, boolean, array, table, Items, no_items, item, Members, no_members, member}
 use Rattle.big_world.specs.Numbers.{behind, draw}

@@ -88,7 +88,12 @@ fn parent_line(alloc: Global, region: u32) -> Result<String, NoMemory>
 
 /// A region.
 #[tactic(auto, unfolding(crate::specs::Topology::region_text))]
-fn push_region(alloc: Global, text: &mut Vec<u8>, region: u32, capacity: u32) -> Result<(), NoMemory>
+fn push_region(
+    alloc: Global,
+    text: &mut Vec<u8>,
+    region: u32,
+    capacity: u32,
+) -> Result<(), NoMemory>
     ensures { OnOk result (text.new.items ≡ text.old.items ++ region_text region capacity) }
 {
     text.extend_from_slice(b"[[node]]\n")?;

@@ -1,4 +1,19 @@
+-- The topology from its groups, its nodes and its zone.
+use Rattle.std.proofs.Common.{append_assoc}
 use Rattle.big_world.proofs.make.Goals as goal
 
 pub returns-clause-topology : goal.returns-clause-topology
-returns-clause-topology c = simp (c.in_ok-push_groups.ensures.text, c.in_ok-push_regions.ensures.text, c.in_ok-push_regions.ensures.last, c.in_ok-topology.ensures.items, c.from-draws.ensures, c.from.ensures)
+returns-clause-topology c =
+    simp (
+      c.in_ok-extend_from_slice-2.ensures.items,
+      c.in_ok-extend_from_slice.ensures.items,
+      c.as_slice.ensures.value,
+      c.in_ok-push_groups.ensures.text,
+      c.in_ok-push_nodes.ensures.text,
+      c.in_ok-push_nodes.ensures.last,
+      c.new-topology.ensures.items,
+      c.new-nodes.ensures.items,
+      c.from-draws.ensures,
+      c.from.ensures,
+      append_assoc,
+    )

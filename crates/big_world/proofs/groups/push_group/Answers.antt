@@ -1,15 +1,18 @@
+-- A group from its lines, and where the draws stand behind it.
 use Rattle.std.proofs.Common.{append_assoc}
 use Rattle.big_world.proofs.Numbers.{draw_two}
 use Rattle.big_world.specs.Numbers.{draw}
-use Rattle.big_world.specs.Topology.{group_text}
+use Rattle.big_world.specs.Topology.{entry_text, group_text}
 use Rattle.big_world.proofs.groups.push_group.Goals as goal
 
 pub returns-clause-text : goal.returns-clause-text
-unfolding group_text draw
+unfolding group_text entry_text draw
 returns-clause-text c =
     simp (
-      c.in_ok-push_prefixes.ensures,
-      c.in_ok-push_lists.ensures.text,
+      c.in_ok-extend_from_slice.ensures.items,
+      c.in_ok-push_scores_line.ensures.text,
+      c.in_ok-push_prefixes_line.ensures,
+      c.in_ok-push_pools_line.ensures,
       c.in_ok-push_head.ensures,
       c.below-start.ensures.drawn,
       c.below-length.ensures.drawn,
@@ -25,7 +28,7 @@ returns-clause-text c =
 pub returns-clause-last : goal.returns-clause-last
 returns-clause-last c =
     simp (
-      c.in_ok-push_lists.ensures.last,
+      c.in_ok-push_scores_line.ensures.last,
       c.below-start.ensures.last,
       c.below-length.ensures.drawn,
       c.below-length.ensures.last,
