@@ -1,7 +1,8 @@
 -- The reply to the query of a group, by every version whose zone is that of a large world, is an answer or a server failure.
-use Rattle.std.proofs.Common.{◌≡◌, ◌⊎◌, ℕ, zero, suc, ◌+◌, Bool, true, false, cond, List, [], ◌∷◌, inl, inr, refl, ap, sym, ◌∙◌, arith}
+use Rattle.std.proofs.Common.{◌≡◌, ◌⊎◌, ℕ, zero, suc, ◌+◌, Bool, true, false, cond, List, [], ◌∷◌, inl, inr, refl, ap, ◌∙◌, arith}
 use Rattle.std.specs.Prelude.{Option, None, Some, ◌%◌, ◌==◌, count_by}
 use Rattle.std.specs.List.{range_with_len}
+use Rattle.std.proofs.lemmas.List.Sums.{sum_by-cons}
 use Rattle.addr_text.specs.declared.address.Addr.{Addr}
 use Rattle.name_text.specs.Names.{is_same, is_under}
 use Rattle.topology_text.specs.declared.topology.Zone.{Zone}
@@ -10,8 +11,8 @@ use Rattle.topology_text.specs.Topology.{zone_of}
 use Rattle.big_world.specs.World.{zone_data}
 use Rattle.published_map.specs.Version.{Version}
 use Rattle.answer_core.specs.Columns.{rcode}
-use Rattle.answer_core.specs.Grammar.{Datagram, Query, Request, datagram_of}
-use Rattle.answer_core.specs.Outcome.{Outcome, at_service, by_name, is_service, of_addresses, of_pool, pool_for}
+use Rattle.answer_core.specs.Grammar.{Query, Request, datagram_of}
+use Rattle.answer_core.specs.Outcome.{Outcome, by_name, is_service, of_addresses, of_pool, pool_for}
 use Rattle.answer_core.specs.Reply.{full, reply_to}
 use Rattle.mapper.specs.Words.{reply_by}
 use Rattle.big_run.specs.Replies.{client_of, count_of, has_code, is_code_of, is_reply_of, question}
@@ -91,7 +92,10 @@ once p q (inr second) = rw (second.0, second.1) refl
 -- where just one of two tests holds of each number, their counts add up
 add_up : (p q : ℕ → Bool) → ((k : ℕ) → cond (p k) 1 0 + cond (q k) 1 0 ≡ 1) → (a n : ℕ) → count_by p (range_with_len a n) + count_by q (range_with_len a n) ≡ n
 add_up p q one a zero = refl
-add_up p q one a (suc n) = omega (arith, one a, add_up p q one (a + 1) n)
+add_up p q one a (suc n) = omega (arith, one a, more p, more q, add_up p q one (a + 1) n)
+  where
+    more : (test : ℕ → Bool) → count_by test (range_with_len a (suc n)) ≡ cond (test a) 1 0 + count_by test (range_with_len (a + 1) n)
+    more test = sum_by-cons (λ k. cond (test k) 1 0) a (range_with_len (a + 1) n)
 
 pub counts_add_up : (v : Version) (n : ℕ) → v.plan.zone ≡ zone_of (Some zone_data) → count_of v 0 n + count_of v 2 n ≡ n
 unfolding count_of
