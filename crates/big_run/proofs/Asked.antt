@@ -4,20 +4,20 @@ use Rattle.std.specs.Prelude.{Option, None, Some, ◌%◌, ◌==◌, count_by}
 use Rattle.std.specs.List.{range_with_len}
 use Rattle.std.proofs.lemmas.List.Sums.{sum_by-cons}
 use Rattle.addr_text.specs.declared.address.Addr.{Addr}
-use Rattle.name_text.specs.Names.{is_same, is_under}
+use Rattle.name_text.specs.Names.{is_same, is_under, label_name_of, name_of}
 use Rattle.topology_text.specs.declared.topology.Zone.{Zone}
 use Rattle.topology_text.specs.Plan.{addresses_of}
 use Rattle.topology_text.specs.Topology.{zone_of}
 use Rattle.big_world.specs.World.{zone_data}
 use Rattle.published_map.specs.Version.{Version}
+use Rattle.dns_wire.specs.Message.{query_in, reading}
+use Rattle.dns_wire.specs.Wire.{name_len, records_in}
 use Rattle.answer_core.specs.Columns.{rcode}
 use Rattle.answer_core.specs.Grammar.{Query, Request, datagram_of}
 use Rattle.answer_core.specs.Outcome.{Outcome, by_name, is_service, of_addresses, of_pool, pool_for}
 use Rattle.answer_core.specs.Reply.{full, reply_to}
 use Rattle.mapper.specs.Words.{reply_by}
 use Rattle.big_run.specs.Replies.{client_of, count_of, has_code, is_code_of, is_reply_of, question}
-use Rattle.dns_wire.specs.Message.{query_in, reading}
-use Rattle.dns_wire.specs.Wire.{name_len, records_in}
 
 -- the names cdn.example, and www below it
 abbrev apex : List ℕ
@@ -40,15 +40,15 @@ asked_is = refl
 
 -- the name is that of a service in the zone
 under : is_under name (zone_of (Some zone_data)).apex ≡ true
-unfolding is_under Rattle.name_text.specs.Names.name_of
+unfolding is_under name_of
 under = refl
 
 apart : is_same name (zone_of (Some zone_data)).apex ≡ false
-unfolding Rattle.name_text.specs.Names.name_of
+unfolding name_of
 apart = refl
 
 served : is_service (zone_of (Some zone_data)) name ≡ true
-unfolding Rattle.name_text.specs.Names.name_of Rattle.name_text.specs.Names.label_name_of
+unfolding name_of label_name_of
 served = refl
 
 -- so the group's pool decides
@@ -79,7 +79,6 @@ reply_is v g code zone =
 -- each group's reply has one of the two codes, and not both
 pub one_of_two : (v : Version) (g : ℕ) → v.plan.zone ≡ zone_of (Some zone_data) → ((has_code v 0 g ≡ true) × (has_code v 2 g ≡ false)) ⊎ ((has_code v 0 g ≡ false) × (has_code v 2 g ≡ true))
 one_of_two v g zone =
-    let code = rcode (of_pool v 1 0 (pool_for v (client_of g) 0)) in
     elim (code_at v 1 0 (pool_for v (client_of g) 0)) [
       | inl answered ↦ inl (reply_is v g 0 zone ∙ ap (λ c. c % 16 % 16 == 0) answered, reply_is v g 2 zone ∙ ap (λ c. c % 16 % 16 == 2) answered)
       | inr failed ↦ inr (reply_is v g 0 zone ∙ ap (λ c. c % 16 % 16 == 0) failed, reply_is v g 2 zone ∙ ap (λ c. c % 16 % 16 == 2) failed)

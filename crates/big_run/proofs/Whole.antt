@@ -1,7 +1,6 @@
 -- A run from its parts.
 use Rattle.std.proofs.Common.{◌≡◌, ℕ, ◌+◌, ◌≤◌, List, [], ◌∷◌, length, refl, ap, sym, ◌∙◌, arith, length-append}
 use Rattle.std.specs.Prelude.{Ok, Some, map}
-use Rattle.std.proofs.lemmas.List.FromFn.{length-map-range_with_len}
 use Rattle.text_parts.specs.Parts.{whole_lines}
 use Rattle.map_model.specs.declared.change.Change.{Change}
 use Rattle.topology_text.specs.Plan.{Plan}
@@ -28,6 +27,9 @@ published (changes ∷ batches) a b all =
     let rest = published batches all.0 b all.2 in
     (omega (arith, rest.0, ap length all.1.history ∙ length-append a.history (all.0.newest ∷ [])), rest.1 ∙ all.1.next.plan)
 
+sixteen : (n : ℕ) → length (batches_of n) ≡ 16
+sixteen n = refl
+
 world_zone : (n : ℕ) → (world_plan n).zone ≡ zone_of (Some zone_data)
 unfolding world_plan
 world_zone n = refl
@@ -44,7 +46,7 @@ run_is n t a b feed s proposals some most plan_is feed_is first batches sums map
     let all : AllDo Publishes (map batch (batches_of n)) a b = rw each at done in
     let behind = published (batches_of n) a b all in
     let zone = ap (λ (p : Plan). p.zone) (behind.1 ∙ plan ∙ plan_is) ∙ world_zone n in
-    let seventeen : length b.history ≡ 17 = omega (arith, behind.0, ap length first.history, length-map-range_with_len _ 0 16) in
+    let seventeen : length b.history ≡ 17 = omega (arith, behind.0, ap length first.history, sixteen n) in
     record {
       topology = t;
       first = a;
