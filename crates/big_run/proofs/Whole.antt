@@ -1,6 +1,6 @@
 -- A run from its parts.
 use Rattle.std.proofs.Common.{◌≡◌, ℕ, ◌+◌, ◌≤◌, List, [], ◌∷◌, length, refl, ap, sym, ◌∙◌, arith, length-append}
-use Rattle.std.specs.Prelude.{Ok, Some, map}
+use Rattle.std.specs.Prelude.{IfOk, OnOk, Result, Ok, Err, Some, map}
 use Rattle.text_parts.specs.Parts.{whole_lines}
 use Rattle.map_model.specs.declared.change.Change.{Change}
 use Rattle.topology_text.specs.Plan.{Plan}
@@ -34,7 +34,7 @@ world_zone : (n : ℕ) → (world_plan n).zone ≡ zone_of (Some zone_data)
 unfolding world_plan
 world_zone n = refl
 
-pub run_is : (n : ℕ) (t : Plan) (a b : PublisherState) (feed : List ℕ) (s : Summary) (proposals : ℕ) → 1 ≤ n → n ≤ 16384 → t ≡ world_plan n → feed ≡ feed_of n → IsFirst t a
+run_is : (n : ℕ) (t : Plan) (a b : PublisherState) (feed : List ℕ) (s : Summary) (proposals : ℕ) → 1 ≤ n → n ≤ 16384 → t ≡ world_plan n → feed ≡ feed_of n → IsFirst t a
     → AllDo Publishes (items a.newest.plan (whole_lines feed)) a b → s ≡ summary_of n a.newest.plan b proposals → IsMapping t.market a.newest.lines 0 proposals → proposals ≤ most_offers t.market → IsRun n s
 run_is n t a b feed s proposals some most plan_is feed_is first batches sums mapping few =
     let plan = first.plan in
@@ -60,3 +60,9 @@ run_is n t a b feed s proposals some most plan_is feed_is first batches sums map
       maps = ap (λ (x : Summary). x.maps) own ∙ seventeen;
       replies = ap (λ (x : Summary). x.answered + x.servfail) own ∙ counts_add_up b.newest n zone;
     }
+
+-- what came of the feed, where memory sufficed, makes a run
+pub run_or_none : {E : Type 0} (n : ℕ) (t : Plan) (a b : PublisherState) (feed : List ℕ) (done : Result Summary E) (proposals : ℕ) → 1 ≤ n → n ≤ 16384 → t ≡ world_plan n → feed ≡ feed_of n → IsFirst t a
+    → OnOk done (AllDo Publishes (items a.newest.plan (whole_lines feed)) a b) → IfOk done (λ s. s ≡ summary_of n a.newest.plan b proposals) → IsMapping t.market a.newest.lines 0 proposals → proposals ≤ most_offers t.market → IfOk done (IsRun n)
+run_or_none n t a b feed (Ok s) proposals some most plan_is feed_is first batches sums mapping few = run_is n t a b feed s proposals some most plan_is feed_is first batches sums mapping few
+run_or_none n t a b feed (Err e) proposals some most plan_is feed_is first batches sums mapping few = tt

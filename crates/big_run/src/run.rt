@@ -79,8 +79,10 @@ fn read_world(alloc: Global, text: &[u8], groups: u32) -> Result<Topology, NoMem
 {
     match read_topology(alloc, text) {
         Ok(topology) => Ok(topology),
-        Err(TopologyFault::NoMemory) => Err(NoMemory),
-        Err(_) => unreachable!(),
+        Err(fault) => match fault {
+            TopologyFault::NoMemory => Err(NoMemory),
+            _ => unreachable!(),
+        },
     }
 }
 
