@@ -1,17 +1,20 @@
 -- What the topology of a world of n groups is read as, and the batches that its feed says.
-use Rattle.std.specs.Prelude.{ℕ, ◌+◌, ◌*◌, ◌==◌, List, map, if◌then◌else◌}
+use Rattle.std.specs.Prelude.{◌≡◌, ◌≢◌, ℕ, ◌+◌, ◌*◌, ◌==◌, List, [], length, map, All, Ok, if◌then◌else◌}
 use Rattle.std.specs.List.{range_with_len}
 use Rattle.map_model.specs.declared.change.Change.{Change}
 use Rattle.map_model.specs.declared.change.Change.TheVariants.{Demand, Capacity}
+use Rattle.text_parts.specs.Parts.{whole_lines}
+use Rattle.topology_text.specs.Faults.{reading}
 use Rattle.topology_text.specs.Names.{entries_of}
 use Rattle.topology_text.specs.Plan.{Plan}
 use Rattle.topology_text.specs.Prefixes.{all_prefixes}
 use Rattle.topology_text.specs.Topology.{plan_of}
 use Rattle.topology_text.specs.Walk.{walk}
-use Rattle.big_world.specs.Feed.{behind_batch, behind_change}
+use Rattle.demand_feed.specs.Item.{batch, items}
+use Rattle.big_world.specs.Feed.{behind_batch, behind_change, feed_of}
 use Rattle.big_world.specs.Numbers.{behind, draw}
 use Rattle.big_world.specs.Pieces.{ahead}
-use Rattle.big_world.specs.Topology.{ahead_of_feed, regions_of}
+use Rattle.big_world.specs.Topology.{ahead_of_feed, regions_of, topology_of}
 use Rattle.big_world.specs.World.{world_of}
 
 -- what the topology says
@@ -36,3 +39,10 @@ changes_at n x = map (λ k. change_at n (ahead behind_change x k)) (range_with_l
 -- the batches of the feed
 abbrev pub batches_of : ℕ → List (List Change)
 batches_of n = map (λ k. changes_at n (ahead behind_batch (ahead_of_feed n) k)) (range_with_len 0 16)
+
+-- what the two texts of a world say: the topology has no fault, and the feed is sixteen batches, none of which is empty
+pub record IsWorld (n : ℕ) : Type 0 where
+  pub topology : reading (topology_of n) ≡ Ok (world_plan n)
+  pub feed : items (world_plan n) (whole_lines (feed_of n)) ≡ map batch (batches_of n)
+  pub sixteen : length (batches_of n) ≡ 16
+  pub none_empty : All (λ changes. changes ≢ []) (batches_of n)

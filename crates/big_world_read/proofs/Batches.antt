@@ -1,0 +1,292 @@
+-- The feed of a big world says its batches: each of sixteen batches has four changes of groups and pools that there are.
+use Rattle.std.proofs.Common.{◌≡◌, ◌≢◌, ℕ, zero, suc, ◌+◌, ◌^◌, ◌<◌, ◌≤◌, ◌==◌, ◌||◌, Bool, true, false, cond, nat_le, nat_lt, List, [], ◌∷◌, ◌++◌, length, map, codes, refl, ap, sym, ◌∙◌, arith}
+use Rattle.std.specs.Prelude.{None, Some, Ok, Err}
+use Rattle.std.proofs.lemmas.Bool.{and_from}
+use Rattle.std.proofs.lemmas.Bool.Decides.{nat_tests}
+use Rattle.std.proofs.lemmas.List.Elements.{All-from_recursion}
+use Rattle.std.proofs.lemmas.List.FromFn.{length-map-range_with_len, map-range_with_len_more}
+use Rattle.std.specs.List.{All, AllByRecursion, list_any, range_with_len}
+use Rattle.std.specs.Option.{option_to_list}
+use Rattle.map_model.specs.declared.change.Change.{Change}
+use Rattle.map_model.specs.declared.change.Change.TheVariants.{Demand, Capacity}
+use Rattle.addr_text.proofs.Splits.{Lacks}
+use Rattle.text_parts.specs.Parts.{whole_lines}
+use Rattle.topology_text.specs.Plan.{Plan, number_in}
+use Rattle.demand_feed.specs.Batch.{capacity_change, demand_change, with_capacity, with_change, with_demand}
+use Rattle.demand_feed.specs.Limits.{most_changes}
+use Rattle.demand_feed.specs.Line.{line_of}
+use Rattle.demand_feed.specs.declared.fault.BatchFault.TheVariants.{Full, Range}
+use Rattle.demand_feed.specs.Item.{Desk, Item, Step, batch, by_said, changed, desk_after, fresh, has_stop, is_stop, is_stop_said, items, items_of, step}
+use Rattle.demand_feed.proofs.Items.{items_join, items_stop, no_stop_none}
+use Rattle.big_world.specs.Feed.{batch_text, behind_batch, behind_change, capacity_text, change_text, demand_text, feed_of}
+use Rattle.big_world.specs.Numbers.{behind, draw}
+use Rattle.big_world.specs.Pieces.{ahead, texts_below}
+use Rattle.big_world.specs.Topology.{ahead_of_feed, group_name, line, pool_name, regions_of}
+use Rattle.big_world_read.specs.Read.{batches_of, change_at, changes_at, pool_node}
+use Rattle.big_world_read.proofs.Lines.{capacity_lacks, capacity_line, capacity_says, commit_lacks, commit_says, demand_lacks, demand_line, demand_says, ended, ended-append, stop_lacks, stop_says, whole_lines-ended}
+
+-- a draw is below its end
+draw_below : (x k m : ℕ) → 0 < m → draw x k m < m
+unfolding draw
+draw_below x k m some = omega arith
+
+-- what a line of the feed says, drawn behind x, and the lines of a batch
+abbrev demand_at : ℕ → ℕ → List ℕ
+demand_at n x = demand_line (draw x 1 n) (1 + draw x 2 15)
+
+abbrev capacity_at : ℕ → ℕ → List ℕ
+capacity_at n x = capacity_line (draw x 1 (regions_of n)) (draw x 2 4) (draw x 3 30)
+
+abbrev line_at : ℕ → ℕ → List ℕ
+line_at n x = cond (draw x 1 2 == 0) (demand_at n (behind x 1)) (capacity_at n (behind x 1))
+
+abbrev lines_at : ℕ → ℕ → List (List ℕ)
+lines_at n x = line_at n x ∷ line_at n (ahead behind_change x 1) ∷ line_at n (ahead behind_change x 2) ∷ line_at n (ahead behind_change x 3) ∷ codes "commit" ∷ []
+
+-- lines that are made piece by piece
+abbrev lines_below : (ℕ → List (List ℕ)) → ℕ → List (List ℕ)
+lines_below lines zero = []
+lines_below lines (suc k) = lines_below lines k ++ lines k
+
+texts_are : (text : ℕ → List ℕ) (lines : ℕ → List (List ℕ)) → ((i : ℕ) → text i ≡ ended (lines i)) → (k : ℕ) → texts_below text k ≡ ended (lines_below lines k)
+texts_are text lines each zero = refl
+texts_are text lines each (suc k) =
+    ap (λ xs. xs ++ text k) (texts_are text lines each k) ∙ ap (λ xs. ended (lines_below lines k) ++ xs) (each k) ∙ sym (ended-append (lines_below lines k) (lines k))
+
+-- the text of a line
+change_is : (n x : ℕ) → change_text n x ≡ line (line_at n x)
+unfolding change_text
+change_is n x = go (draw x 1 2 == 0)
+  where
+    go : (b : Bool) → cond b (demand_text n (behind x 1)) (capacity_text n (behind x 1)) ≡ line (cond b (demand_at n (behind x 1)) (capacity_at n (behind x 1)))
+    go true = refl
+    go false = refl
+
+-- the text of a batch, and of the feed
+batch_is : (n x : ℕ) → batch_text n x ≡ ended (lines_at n x)
+unfolding batch_text
+batch_is n x =
+    ap (λ xs. xs ++ line (codes "commit")) (texts_are (λ i. change_text n (ahead behind_change x i)) (λ i. line_at n (ahead behind_change x i) ∷ []) (λ i. change_is n (ahead behind_change x i)) 4)
+    ∙ sym (ended-append (line_at n x ∷ line_at n (ahead behind_change x 1) ∷ line_at n (ahead behind_change x 2) ∷ line_at n (ahead behind_change x 3) ∷ []) (codes "commit" ∷ []))
+
+-- the lines of the first k batches behind x
+abbrev lines_of_batches : ℕ → ℕ → ℕ → List (List ℕ)
+lines_of_batches n x k = lines_below (λ i. lines_at n (ahead behind_batch x i)) k
+
+feed_is : (n : ℕ) → feed_of n ≡ ended (lines_of_batches n (ahead_of_feed n) 16 ++ codes "stop" ∷ [])
+feed_is n =
+    ap (λ xs. xs ++ line (codes "stop")) (texts_are (λ i. batch_text n (ahead behind_batch (ahead_of_feed n) i)) (λ i. lines_at n (ahead behind_batch (ahead_of_feed n) i)) (λ i. batch_is n (ahead behind_batch (ahead_of_feed n) i)) 16)
+    ∙ sym (ended-append (lines_of_batches n (ahead_of_feed n) 16) (codes "stop" ∷ []))
+
+-- what holds of every size of a world
+few_regions : (n : ℕ) → n ≤ 16384 → regions_of n < 100000
+few_regions n most = omega arith
+
+-- a line ends at its LF alone, and doesn't say stop
+record IsFine (line : List ℕ) : Type 0 where
+  lacks : Lacks 10 line
+  goes_on : is_stop line ≡ false
+
+demand_fine : (a b : ℕ) → a < 100000 → b < 100000 → IsFine (demand_line a b)
+demand_fine a b low_a low_b = record { lacks = demand_lacks a b low_a low_b; goes_on = ap is_stop_said (demand_says a b low_a low_b) }
+
+capacity_fine : (i j c : ℕ) → i < 100000 → j < 100000 → c < 100000 → IsFine (capacity_line i j c)
+capacity_fine i j c low_i low_j low_c = record { lacks = capacity_lacks i j c low_i low_j low_c; goes_on = ap is_stop_said (capacity_says i j c low_i low_j low_c) }
+
+line_fine : (n x : ℕ) → 1 ≤ n → n ≤ 16384 → IsFine (line_at n x)
+line_fine n x some most = go (draw x 1 2 == 0)
+  where
+    go : (b : Bool) → IsFine (cond b (demand_at n (behind x 1)) (capacity_at n (behind x 1)))
+    go true =
+        let y = behind x 1 in
+        demand_fine (draw y 1 n) (1 + draw y 2 15) (omega (arith, draw_below y 1 n (omega arith))) (omega (arith, draw_below y 2 15 (omega arith)))
+    go false =
+        let y = behind x 1 in
+        capacity_fine (draw y 1 (regions_of n)) (draw y 2 4) (draw y 3 30) (omega (arith, draw_below y 1 (regions_of n) (omega arith), few_regions n most)) (omega (arith, draw_below y 2 4 (omega arith))) (omega (arith, draw_below y 3 30 (omega arith)))
+
+batch_fine : (n x : ℕ) → 1 ≤ n → n ≤ 16384 → AllByRecursion IsFine (lines_at n x)
+batch_fine n x some most =
+    let fine = λ (y : ℕ). line_fine n y some most in
+    (fine x, (fine (ahead behind_change x 1), (fine (ahead behind_change x 2), (fine (ahead behind_change x 3), (record { lacks = commit_lacks; goes_on = ap is_stop_said commit_says }, tt)))))
+
+fine-append : (lines more : List (List ℕ)) → AllByRecursion IsFine lines → AllByRecursion IsFine more → AllByRecursion IsFine (lines ++ more)
+fine-append [] more are are_more = are_more
+fine-append (l ∷ ls) more are are_more = (are.0, fine-append ls more are.1 are_more)
+
+batches_fine : (n x k : ℕ) → 1 ≤ n → n ≤ 16384 → AllByRecursion IsFine (lines_of_batches n x k)
+batches_fine n x zero some most = tt
+batches_fine n x (suc k) some most =
+    fine-append (lines_of_batches n x k) (lines_at n (ahead behind_batch x k)) (batches_fine n x k some most) (batch_fine n (ahead behind_batch x k) some most)
+
+all_lack : (lines : List (List ℕ)) → AllByRecursion IsFine lines → AllByRecursion (Lacks 10) (lines ++ codes "stop" ∷ [])
+all_lack [] are = (stop_lacks, tt)
+all_lack (l ∷ ls) are = (are.0.lacks, all_lack ls are.1)
+
+none_stops : (lines : List (List ℕ)) → AllByRecursion IsFine lines → has_stop lines ≡ false
+none_stops [] are = no_stop_none
+none_stops (l ∷ ls) are = next l ls are.0.goes_on (none_stops ls are.1)
+  where
+    next : (first : List ℕ) (others : List (List ℕ)) → is_stop first ≡ false → has_stop others ≡ false → has_stop (first ∷ others) ≡ false
+    next first others goes_on none = unfold has_stop in ap (λ b. b || list_any is_stop others) goes_on ∙ none
+
+-- the lines of the feed are those of its batches, and stop
+pub lines_are : (n : ℕ) → 1 ≤ n → n ≤ 16384 → whole_lines (feed_of n) ≡ lines_of_batches n (ahead_of_feed n) 16 ++ codes "stop" ∷ []
+lines_are n some most =
+    ap whole_lines (feed_is n) ∙ whole_lines-ended (lines_of_batches n (ahead_of_feed n) 16 ++ codes "stop" ∷ []) (all_lack (lines_of_batches n (ahead_of_feed n) 16) (batches_fine n (ahead_of_feed n) 16 some most))
+
+-- the names of the groups and of the pools have their numbers
+abbrev pub KnowsGroups : Plan → ℕ → Type 0
+KnowsGroups t n = (i : ℕ) → i < n → number_in t.group_names (group_name i) ≡ Some i
+
+abbrev pub KnowsPools : Plan → ℕ → Type 0
+KnowsPools t n = (i j : ℕ) → i < regions_of n → j < 4 → number_in t.node_names (pool_name i j) ≡ Some (pool_node i j)
+
+-- what a line with a change does at a desk
+abbrev with_one : Desk → Change → Step
+with_one desk change = record { item = None; desk = record { number = desk.number + 1; refused = desk.refused; changes = desk.changes ++ change ∷ [] } }
+
+-- a batch with room takes a change
+takes : (changes : List Change) (change : Change) → length changes < 4096 → with_change changes (Ok change) ≡ Ok (changes ++ change ∷ [])
+takes changes change room =
+    let few : nat_lt (length changes) most_changes ≡ true = grind (arith, nat_tests) in
+    ap (λ b. cond b (Ok (changes ++ change ∷ [])) (Err Full)) few
+
+takes_demand : (t : Plan) (changes : List Change) (g number : ℕ) → number_in t.group_names (group_name g) ≡ Some g → 1 ≤ number → number < 100 → length changes < 4096
+    → with_demand t changes (group_name g) number ≡ Ok (changes ++ Demand (record { 0 = g }) number ∷ [])
+takes_demand t changes g number known some low room =
+    let least : nat_le 1 number ≡ true = grind (arith, nat_tests) in
+    let most : nat_lt number (2 ^ 32) ≡ true = grind (arith, nat_tests) in
+    ap (λ o. with_change changes (demand_change o number)) known
+    ∙ ap (λ b. with_change changes (cond b (Ok (Demand (record { 0 = g }) number)) (Err Range))) (and_from (nat_le 1 number) (nat_lt number (2 ^ 32)) least most)
+    ∙ takes changes (Demand (record { 0 = g }) number) room
+
+takes_capacity : (t : Plan) (changes : List Change) (name : List ℕ) (p number : ℕ) → number_in t.node_names name ≡ Some p → number < 100 → length changes < 4096
+    → with_capacity t changes name number ≡ Ok (changes ++ Capacity (record { 0 = p }) number ∷ [])
+takes_capacity t changes name p number known low room =
+    let most : nat_le number (2 ^ 48) ≡ true = grind (arith, nat_tests) in
+    ap (λ o. with_change changes (capacity_change o number)) known
+    ∙ ap (λ b. with_change changes (cond b (Ok (Capacity (record { 0 = p }) number)) (Err Range))) most
+    ∙ takes changes (Capacity (record { 0 = p }) number) room
+
+-- a line of the feed adds its change
+line_takes : (t : Plan) (n x : ℕ) (desk : Desk) → 1 ≤ n → n ≤ 16384 → KnowsGroups t n → KnowsPools t n → length desk.changes < 4096 → step t desk (line_at n x) ≡ with_one desk (change_at n x)
+unfolding step change_at
+line_takes t n x desk some most groups pools room = go (draw x 1 2 == 0)
+  where
+    go : (b : Bool) → by_said t (record desk { number = desk.number + 1 }) (line_of (cond b (demand_at n (behind x 1)) (capacity_at n (behind x 1))))
+        ≡ with_one desk (cond b (Demand (record { 0 = draw (behind x 1) 1 n }) (1 + draw (behind x 1) 2 15)) (Capacity (record { 0 = pool_node (draw (behind x 1) 1 (regions_of n)) (draw (behind x 1) 2 4) }) (draw (behind x 1) 3 30)))
+    go true =
+        let y = behind x 1 in
+        let group = draw_below y 1 n (omega arith) in
+        let amount = draw_below y 2 15 (omega arith) in
+        ap (by_said t (record desk { number = desk.number + 1 })) (demand_says (draw y 1 n) (1 + draw y 2 15) (omega arith) (omega arith))
+        ∙ ap (changed (record desk { number = desk.number + 1 })) (takes_demand t desk.changes (draw y 1 n) (1 + draw y 2 15) (groups (draw y 1 n) group) (omega arith) (omega arith) room)
+    go false =
+        let y = behind x 1 in
+        let region = draw_below y 1 (regions_of n) (omega arith) in
+        let pool = draw_below y 2 4 (omega arith) in
+        let amount = draw_below y 3 30 (omega arith) in
+        let few = few_regions n most in
+        ap (by_said t (record desk { number = desk.number + 1 })) (capacity_says (draw y 1 (regions_of n)) (draw y 2 4) (draw y 3 30) (omega arith) (omega arith) (omega arith))
+        ∙ ap (changed (record desk { number = desk.number + 1 })) (takes_capacity t desk.changes (pool_name (draw y 1 (regions_of n)) (draw y 2 4)) (pool_node (draw y 1 (regions_of n)) (draw y 2 4)) (draw y 3 30) (pools (draw y 1 (regions_of n)) (draw y 2 4) region pool) (omega arith) room)
+
+-- a desk between two batches, behind that many lines
+abbrev clean : ℕ → Desk
+clean m = record { number = m; refused = 0; changes = [] }
+
+commit_ends : (t : Plan) (m : ℕ) (change : Change) (changes : List Change) → step t (record { number = m; refused = 0; changes = change ∷ changes }) (codes "commit") ≡ record { item = Some (batch (change ∷ changes)); desk = clean (m + 1) }
+unfolding step
+commit_ends t m change changes = ap (by_said t (record { number = m + 1; refused = 0; changes = change ∷ changes })) commit_says
+
+-- what comes of some lines, and the desk behind them
+record Comes (t : Plan) (desk : Desk) (lines : List (List ℕ)) (come : List Item) (after : Desk) : Type 0 where
+  come_is : items_of t desk lines ≡ come
+  after_is : desk_after t desk lines ≡ after
+
+none_come : (t : Plan) (desk : Desk) → Comes t desk [] [] desk
+none_come t desk = record { come_is = refl; after_is = refl }
+
+comes_next : (t : Plan) (desk : Desk) (line : List ℕ) (s : Step) (lines : List (List ℕ)) (come : List Item) (after : Desk) → step t desk line ≡ s → Comes t s.desk lines come after → Comes t desk (line ∷ lines) (option_to_list s.item ++ come) after
+comes_next t desk line s lines come after e rest = record {
+  come_is = ap (λ (u : Step). option_to_list u.item ++ items_of t u.desk lines) e ∙ ap (λ is. option_to_list s.item ++ is) rest.come_is;
+  after_is = ap (λ (u : Step). desk_after t u.desk lines) e ∙ rest.after_is;
+}
+
+desk_join : (t : Plan) (desk : Desk) (lines more : List (List ℕ)) → desk_after t desk (lines ++ more) ≡ desk_after t (desk_after t desk lines) more
+desk_join t desk [] more = refl
+desk_join t desk (l ∷ ls) more = desk_join t (step t desk l).desk ls more
+
+comes_join : (t : Plan) (desk middle after : Desk) (lines more : List (List ℕ)) (come later : List Item) → Comes t desk lines come middle → Comes t middle more later after → Comes t desk (lines ++ more) (come ++ later) after
+comes_join t desk middle after lines more come later first second = record {
+  come_is =
+      items_join t desk lines more
+      ∙ ap (λ is. is ++ items_of t (desk_after t desk lines) more) first.come_is
+      ∙ ap (λ (d : Desk). come ++ items_of t d more) first.after_is
+      ∙ ap (λ is. come ++ is) second.come_is;
+  after_is = desk_join t desk lines more ∙ ap (λ (d : Desk). desk_after t d more) first.after_is ∙ second.after_is;
+}
+
+-- what comes of the lines of a batch
+batch_comes : (t : Plan) (n x m : ℕ) → 1 ≤ n → n ≤ 16384 → KnowsGroups t n → KnowsPools t n → Comes t (clean m) (lines_at n x) (batch (changes_at n x) ∷ []) (clean (m + 1 + 1 + 1 + 1 + 1))
+batch_comes t n x m some most groups pools =
+    let x1 = ahead behind_change x 1 in
+    let x2 = ahead behind_change x 2 in
+    let x3 = ahead behind_change x 3 in
+    let c0 = change_at n x in
+    let c1 = change_at n x1 in
+    let c2 = change_at n x2 in
+    let c3 = change_at n x3 in
+    let d0 = clean m in
+    let d1 = (with_one d0 c0).desk in
+    let d2 = (with_one d1 c1).desk in
+    let d3 = (with_one d2 c2).desk in
+    let after = clean (m + 1 + 1 + 1 + 1 + 1) in
+    let done = batch (c0 ∷ c1 ∷ c2 ∷ c3 ∷ []) ∷ [] in
+    comes_next t d0 (line_at n x) (with_one d0 c0) (line_at n x1 ∷ line_at n x2 ∷ line_at n x3 ∷ codes "commit" ∷ []) done after (line_takes t n x d0 some most groups pools (omega arith)) (
+    comes_next t d1 (line_at n x1) (with_one d1 c1) (line_at n x2 ∷ line_at n x3 ∷ codes "commit" ∷ []) done after (line_takes t n x1 d1 some most groups pools (omega arith)) (
+    comes_next t d2 (line_at n x2) (with_one d2 c2) (line_at n x3 ∷ codes "commit" ∷ []) done after (line_takes t n x2 d2 some most groups pools (omega arith)) (
+    comes_next t d3 (line_at n x3) (with_one d3 c3) (codes "commit" ∷ []) done after (line_takes t n x3 d3 some most groups pools (omega arith)) (
+    comes_next t (with_one d3 c3).desk (codes "commit") (record { item = Some (batch (c0 ∷ c1 ∷ c2 ∷ c3 ∷ [])); desk = after }) [] [] after (commit_ends t (m + 1 + 1 + 1 + 1) c0 (c1 ∷ c2 ∷ c3 ∷ [])) (none_come t after)))))
+
+-- what comes of the first k batches
+batches_come : (t : Plan) (n x k : ℕ) → 1 ≤ n → n ≤ 16384 → KnowsGroups t n → KnowsPools t n → (m : ℕ) × Comes t fresh (lines_of_batches n x k) (map (λ i. batch (changes_at n (ahead behind_batch x i))) (range_with_len 0 k)) (clean m)
+batches_come t n x zero some most groups pools = (0, none_come t fresh)
+batches_come t n x (suc k) some most groups pools =
+    let first = batches_come t n x k some most groups pools in
+    let m = first.0 in
+    let f = λ (i : ℕ). batch (changes_at n (ahead behind_batch x i)) in
+    let one : k + 1 ≡ suc k = omega arith in
+    let all = comes_join t fresh (clean m) (clean (m + 1 + 1 + 1 + 1 + 1)) (lines_of_batches n x k) (lines_at n (ahead behind_batch x k)) (map f (range_with_len 0 k)) (f k ∷ []) first.1 (batch_comes t n (ahead behind_batch x k) m some most groups pools) in
+    let longer : map f (range_with_len 0 k) ++ f k ∷ [] ≡ map f (range_with_len 0 (suc k)) = sym (map-range_with_len_more f 0 k k (omega arith)) ∙ ap (λ j. map f (range_with_len 0 j)) one in
+    (m + 1 + 1 + 1 + 1 + 1, record { come_is = all.come_is ∙ longer; after_is = all.after_is })
+
+map_twice : {A B : Type 0} (f : ℕ → A) (g : A → B) (ks : List ℕ) → map (λ k. g (f k)) ks ≡ map g (map f ks)
+map_twice f g [] = refl
+map_twice f g (k ∷ ks) = ap (λ ys. g (f k) ∷ ys) (map_twice f g ks)
+
+-- the feed says its batches, where the names of the groups and of the pools have their numbers
+pub batches : (t : Plan) (n : ℕ) → 1 ≤ n → n ≤ 16384
+    → ((i : ℕ) → i < n → number_in t.group_names (group_name i) ≡ Some i)
+    → ((i j : ℕ) → i < regions_of n → j < 4 → number_in t.node_names (pool_name i j) ≡ Some (pool_node i j))
+    → items t (whole_lines (feed_of n)) ≡ map batch (batches_of n)
+batches t n some most groups pools =
+    let x = ahead_of_feed n in
+    let lines = lines_of_batches n x 16 in
+    ap (items t) (lines_are n some most)
+    ∙ items_stop t lines (codes "stop") [] (none_stops lines (batches_fine n x 16 some most)) (ap is_stop_said stop_says)
+    ∙ (batches_come t n x 16 some most groups pools).1.come_is
+    ∙ map_twice (λ i. changes_at n (ahead behind_batch x i)) batch (range_with_len 0 16)
+
+-- there are sixteen, each of four changes
+pub batches_count : (n : ℕ) → length (batches_of n) ≡ 16
+batches_count n = length-map-range_with_len (λ k. changes_at n (ahead behind_batch (ahead_of_feed n) k)) 0 16
+
+pub changes_count : (n x : ℕ) → length (changes_at n x) ≡ 4
+changes_count n x = refl
+
+each_some : (n x : ℕ) (ks : List ℕ) → AllByRecursion (λ changes. changes ≢ []) (map (λ k. changes_at n (ahead behind_batch x k)) ks)
+each_some n x [] = tt
+each_some n x (k ∷ ks) = ((λ none. omega (arith, changes_count n (ahead behind_batch x k), ap length none)), each_some n x ks)
+
+pub batches_some : (n : ℕ) → All (λ changes. changes ≢ []) (batches_of n)
+batches_some n = All-from_recursion (λ changes. changes ≢ []) (batches_of n) (each_some n (ahead_of_feed n) (range_with_len 0 16))

@@ -1,0 +1,31 @@
+-- What the two texts of a world are read as.
+use Rattle.std.proofs.Common.{◌≡◌, ℕ, ◌<◌, ◌≤◌, Some, ap, ◌∙◌}
+use Rattle.std.specs.Prelude.{Ok, map}
+use Rattle.text_parts.specs.Parts.{whole_lines}
+use Rattle.topology_text.specs.Faults.{reading}
+use Rattle.topology_text.specs.Names.{Entries}
+use Rattle.topology_text.specs.Plan.{number_in}
+use Rattle.topology_text.specs.Topology.{name_of}
+use Rattle.demand_feed.specs.Item.{batch, items}
+use Rattle.big_world.specs.Feed.{feed_of}
+use Rattle.big_world.specs.Topology.{group_name, pool_name, regions_of, topology_of}
+use Rattle.big_world_read.specs.Read.{batches_of, pool_node, world_plan}
+use Rattle.big_world_read.proofs.Batches.{KnowsGroups, KnowsPools, batches}
+use Rattle.big_world_read.proofs.Names.{group_in_plan, pool_in_plan}
+use Rattle.big_world_read.proofs.NoFault.{topology_read}
+use Rattle.big_world_read.proofs.Walked.{entries_are}
+
+-- the plan knows the groups and the pools
+knows_groups : (n : ℕ) → n ≤ 16384 → KnowsGroups (world_plan n) n
+unfolding world_plan
+knows_groups n small i within = ap (λ (d : Entries). number_in (map name_of d.groups) (group_name i)) (entries_are n) ∙ group_in_plan n i small within
+
+knows_pools : (n : ℕ) → n ≤ 16384 → KnowsPools (world_plan n) n
+unfolding world_plan
+knows_pools n small i j within less = ap (λ (d : Entries). number_in (map name_of d.nodes) (pool_name i j)) (entries_are n) ∙ pool_in_plan n i j small within less
+
+pub world_reads : (n : ℕ) → 1 ≤ n → n ≤ 16384 → reading (topology_of n) ≡ Ok (world_plan n)
+world_reads n some small = topology_read n some small
+
+pub world_batches : (n : ℕ) → 1 ≤ n → n ≤ 16384 → items (world_plan n) (whole_lines (feed_of n)) ≡ map batch (batches_of n)
+world_batches n some small = batches (world_plan n) n some small (knows_groups n small) (knows_pools n small)
