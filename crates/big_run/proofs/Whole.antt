@@ -13,12 +13,12 @@ use Rattle.big_world.specs.Feed.{feed_of}
 use Rattle.big_world.specs.Topology.{topology_of}
 use Rattle.big_world.specs.World.{zone_data}
 use Rattle.big_world_read.specs.Read.{batches_of, world_plan}
+use Rattle.big_world_read.proofs.World.{world_batches, world_reads}
 use Rattle.mapper.specs.Mappers.{IsFirst, IsMapping, most_offers}
 use Rattle.big_run.specs.Publishing.{Publishes}
 use Rattle.big_run.specs.Runs.{IsRun, summary_of}
 use Rattle.big_run.specs.declared.summary.Summary.{Summary}
 use Rattle.big_run.proofs.Asked.{counts_add_up}
-use Rattle.big_run.proofs.World.{world_batches, world_reads}
 
 -- batches that are published one after another leave as many versions more, and the topology
 published : (batches : List (List Change)) (a b : PublisherState) → AllDo Publishes (map batch batches) a b → (length b.history ≡ length a.history + length batches) × (b.newest.plan ≡ a.newest.plan)
