@@ -4,13 +4,11 @@ use Rattle.std.specs.Prelude.{IfOk, OnOk, Result, Ok, Err, Some, map}
 use Rattle.text_parts.specs.Parts.{whole_lines}
 use Rattle.map_model.specs.declared.change.Change.{Change}
 use Rattle.topology_text.specs.Plan.{Plan}
-use Rattle.topology_text.specs.Faults.{reading}
 use Rattle.topology_text.specs.Topology.{zone_of}
 use Rattle.demand_feed.specs.Item.{batch, items}
 use Rattle.demand_feed.specs.Taking.{AllDo}
 use Rattle.map_cell.specs.Ends.{PublisherState}
 use Rattle.big_world.specs.Feed.{feed_of}
-use Rattle.big_world.specs.Topology.{topology_of}
 use Rattle.big_world.specs.World.{zone_data}
 use Rattle.big_world_read.specs.Read.{batches_of, world_plan}
 use Rattle.big_world_read.proofs.World.{world_batches, world_reads}
