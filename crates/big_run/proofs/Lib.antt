@@ -1,3 +1,5 @@
 pub mod Taken
 pub mod Counted
+pub mod Asked
+pub mod World
 pub mod Whole

@@ -10,5 +10,5 @@ mod work;
 
 pub use putting::put_lines;
 pub use replies::{ANSWERED, QUERY, SERVFAIL, client_of};
-pub use run::{MAPS, run_world};
+pub use run::run_world;
 pub use summary::{LINE_ROOM, LINES, Summary, SummaryLine};

@@ -1,7 +1,7 @@
 //! A run over a large world.
-ghost use Rattle.std.specs.Prelude.{◌≡◌, ◌<◌, ◌≤◌, ◌+◌, ◌-◌, ◌^◌, IfOk, OnOk, Err, MatchResult, length, true};
+ghost use Rattle.std.specs.Prelude.{◌≡◌, ◌<◌, ◌≤◌, ◌+◌, ◌-◌, ◌^◌, IfOk, OnOk, length};
 ghost use Rattle.big_world.specs.Topology.{topology_of};
-ghost use Rattle.topology_text.specs.Faults.{reading};
+ghost use Rattle.big_world_read.specs.Read.{world_plan};
 ghost use Rattle.topology_text.specs.Plan.{Plan};
 ghost use Rattle.text_parts.specs.Parts.{whole_lines};
 ghost use Rattle.demand_feed.specs.Item.{items};
@@ -22,7 +22,7 @@ use mapper::Mapper;
 use no_memory::NoMemory;
 use std::alloc::Global;
 use std::sync::{Arc, Wait};
-use topology_text::{TopologyFault, read_topology};
+use topology_text::{Topology, TopologyFault, read_topology};
 
 /// The proposals of the first mapping, as what is counted.
 struct Proposals;
@@ -45,18 +45,6 @@ fn summary<J: Naming>(mapper: &Mapper<J>, groups: u32, good: u64, proposals: u64
         answered: count_replies(mapper, groups, ANSWERED),
         servfail: count_replies(mapper, groups, SERVFAIL),
     }
-}
-
-/// How many maps a run comes to: the first one, and one for each batch.
-pub const MAPS: u64 = 17;
-
-/// Whether a summary tells of all maps, and of each group's reply as an answer or a server failure.
-fn is_whole(summary: &Summary) -> bool
-    ensures maps { result ≡ true → summary.now.maps ≡ 17 }
-    ensures replies { result ≡ true → summary.now.answered + summary.now.servfail ≡ summary.now.groups }
-{
-    let replies = summary.answered.checked_add(summary.servfail);
-    summary.maps == MAPS && replies == Some(u64::from(summary.groups))
 }
 
 /// Works the feed from the first map on.
@@ -82,30 +70,40 @@ fn work<J: Naming, R: Wait>(
     Ok(summary(mapper, groups, judge.good(), proposals))
 }
 
+/// The topology of the world of so many groups, from its text. No fault is in it.
+fn read_world(alloc: Global, text: &[u8], groups: u32) -> Result<Topology, NoMemory>
+    requires some { 1 ≤ groups }
+    requires most { groups ≤ 16384 }
+    requires text { text.now ≡ topology_of groups }
+    ensures { IfOk result (λ t. t ≡ world_plan groups) }
+{
+    match read_topology(alloc, text) {
+        Ok(topology) => Ok(topology),
+        Err(fault) => match fault {
+            TopologyFault::NoMemory => Err(NoMemory),
+            _ => unreachable!(),
+        },
+    }
+}
+
 /// Makes the world of so many groups, maps it, and works its feed. Each map is checked, and the last one is asked once for each group.
 ///
 /// # Errors
 ///
-/// The fault of the world's topology, if it had one, or want of memory. A run that came to another number of maps, or
-/// a reply of another kind, would be answered as want of memory too.
+/// Want of memory alone: the world's topology has no fault.
 pub fn run_world<J: Naming, R: Wait>(
     rt: &R,
     alloc: Global,
     history: EmptyHistory,
     groups: u32,
-) -> Result<Summary, TopologyFault>
+) -> Result<Summary, NoMemory>
     requires book { history ≡ J.book }
     requires some { 1 ≤ groups }
     requires most { groups ≤ 16384 }
-    ensures { MatchResult result (IsRun groups) (λ e. ¬ (e ≡ TopologyFault.NoMemory) → reading (topology_of groups) ≡ Err e) }
+    ensures { IfOk result (IsRun groups) }
 {
-    let Ok((topology, feed)) = make(alloc, groups) else {
-        return Err(TopologyFault::NoMemory);
-    };
-    let topology = match read_topology(alloc, topology.as_slice()) {
-        Ok(topology) => topology,
-        Err(fault) => return Err(fault),
-    };
+    let (topology, feed) = make(alloc, groups)?;
+    let topology = read_world(alloc, topology.as_slice(), groups)?;
     let mut door = PlainDoor::new();
     let mut proposals = Steps::<Proposals>::new();
     let Ok((mapper, _)) = Mapper::<J>::open(
@@ -117,7 +115,7 @@ pub fn run_world<J: Naming, R: Wait>(
         &mut door,
         &mut proposals,
     ) else {
-        return Err(TopologyFault::NoMemory);
+        return Err(NoMemory);
     };
     let mut mapper = mapper;
     let done = work(
@@ -129,14 +127,5 @@ pub fn run_world<J: Naming, R: Wait>(
         proposals.count(),
     );
     mapper.close(rt);
-    match done {
-        Ok(summary) => {
-            if is_whole(&summary) {
-                Ok(summary)
-            } else {
-                Err(TopologyFault::NoMemory)
-            }
-        }
-        Err(NoMemory) => Err(TopologyFault::NoMemory),
-    }
+    done
 }

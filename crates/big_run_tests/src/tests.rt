@@ -4,11 +4,11 @@ ghost use Rattle.std.specs.Prelude.{◌≤◌};
 use big_run::{LINES, Summary, run_world};
 use map_cell::{EmptyHistory, Naming};
 use mapper::Totals;
+use no_memory::NoMemory;
 use std::alloc::Global;
 use std::marker::Brand;
 use std::sync::Wait;
 use std::test::Fail;
-use topology_text::TopologyFault;
 
 const TEXTS: [&[u8]; LINES] = [
     b"large 64\n",
@@ -55,7 +55,7 @@ fn lines(rt: HostRuntime) -> Result<(), Fail> {
 }
 
 /// A run over the world of so many groups.
-fn world<R: Wait>(rt: &R, alloc: Global, groups: u32) -> Result<Summary, TopologyFault>
+fn world<R: Wait>(rt: &R, alloc: Global, groups: u32) -> Result<Summary, NoMemory>
     requires some { 1 ≤ groups }
     requires most { groups ≤ 16384 }
 {

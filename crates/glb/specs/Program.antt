@@ -10,7 +10,7 @@ use Rattle.glb.specs.Run as short
 use Rattle.glb.specs.Serve.{IsServeRun, loads_of_serve}
 use Rattle.glb.specs.Causes.{AnyLane, AreSpent, HasDoorFault, HasLaneCauses, HasPortFault, IsPastMaps}
 use Rattle.glb.specs.Map.{HoldsTopology}
-use Rattle.glb.specs.Large.{HasLargeWorld, IsLargeRun, IsSummedRun}
+use Rattle.glb.specs.Large.{IsLargeRun, IsSummedRun}
 use Rattle.glb.specs.Served.{IsWellServed}
 use Rattle.glb.specs.Told.{IsOutAlone, Surroundings, faults_of, outside_of}
 
@@ -55,7 +55,7 @@ abbrev pub IsSound : Option Task → Option Shelved → Type 0
 IsSound None files = ⊥
 IsSound (Some (say ask)) files = short.IsSound (Some ask) files
 IsSound (Some (serve ask)) files = HoldsTopology ask.topology files
-IsSound (Some (large groups)) files = HasLargeWorld groups
+IsSound (Some (large groups)) files = Unit {0}
 
 -- no count of faults rose: of the files, the feed and both outputs, of a port or a door of the first lanes
 pub record IsServeQuiet (workers : ℕ) (before after : Surroundings) : Type 0 where

@@ -39,7 +39,7 @@ fn refuse(text: Result<Vec<u8>, NoMemory>) -> Stop
 }
 
 /// The refusal of a topology.
-pub fn refuse_topology(alloc: Global, fault: TopologyFault) -> Stop
+fn refuse_topology(alloc: Global, fault: TopologyFault) -> Stop
     ensures said { StopsBy (λ due. (fault ≢ TopologyFault.NoMemory) × (due ≡ refused (text.topology_fault fault))) result }
     ensures source { result ≢ Stop.SourceFault }
 {

@@ -1,15 +1,14 @@
 //! `glb large`: a large world, its batches, and what they came to.
-ghost use Rattle.std.specs.Prelude.{◌≡◌, ◌≢◌, ◌≤◌};
+ghost use Rattle.std.specs.Prelude.{◌≡◌, ◌≤◌, ◌⊎◌};
 ghost use Rattle.outside.specs.Faults.{Rose};
 ghost use Rattle.big_run.specs.Summary.{lines_of};
-ghost use Rattle.glb.specs.Large.{HasLargeWorld, IsLargeDue};
+ghost use Rattle.glb.specs.Large.{IsLargeDue};
 ghost use Rattle.glb.specs.Outcome.{RunsBy, Speaks};
 
-use crate::ending::finish;
-use crate::files::refuse_topology;
 use crate::status::Status;
 use big_run::{Summary, put_lines, run_world};
 use map_cell::{EmptyHistory, Naming};
+use no_memory::NoMemory;
 use outside::{Put, Sink};
 use std::alloc::Global;
 use std::marker::Brand;
@@ -20,8 +19,7 @@ fn say_summary<K: Sink>(summary: &Summary, out: &mut K) -> Status
     ensures run { Speaks (λ due. due ≡ record { status = Status.Ok; pieces = lines_of summary.now }) (K.told out.old) (K.told out.new) result }
     ensures later { K.faults out.old ≤ K.faults out.new }
     ensures cause { result ≡ Status.SinkFault → Rose (K.faults out.old) (K.faults out.new) }
-    ensures memory { result ≢ Status.NoMemory }
-    ensures source { result ≢ Status.SourceFault }
+    ensures ends { (result ≡ Status.Ok) ⊎ (result ≡ Status.SinkFault) }
 {
     match put_lines(summary, out) {
         Put::Done => Status::Ok,
@@ -42,11 +40,11 @@ fn run_named<J: Naming, R: Wait, K: Sink>(
     ensures run { RunsBy (IsLargeDue groups) (K.told out.old) (K.told out.new) result }
     ensures later { K.faults out.old ≤ K.faults out.new }
     ensures cause { result ≡ Status.SinkFault → Rose (K.faults out.old) (K.faults out.new) }
-    ensures source { result ≢ Status.SourceFault }
+    ensures ends { (result ≡ Status.Ok) ⊎ (result ≡ Status.SinkFault) ⊎ (result ≡ Status.NoMemory) }
 {
     match run_world::<J, R>(rt, alloc, history, groups) {
         Ok(summary) => say_summary(&summary, out),
-        Err(fault) => finish(out, Err(refuse_topology(alloc, fault))),
+        Err(NoMemory) => Status::NoMemory,
     }
 }
 
@@ -56,7 +54,7 @@ pub fn large<R: Wait, K: Sink>(rt: &R, alloc: Global, groups: u32, out: &mut K) 
     ensures run { RunsBy (IsLargeDue groups) (K.told out.old) (K.told out.new) result }
     ensures later { K.faults out.old ≤ K.faults out.new }
     ensures cause { result ≡ Status.SinkFault → Rose (K.faults out.old) (K.faults out.new) }
-    ensures source { result ≢ Status.SourceFault }
+    ensures ends { (result ≡ Status.Ok) ⊎ (result ≡ Status.SinkFault) ⊎ (result ≡ Status.NoMemory) }
 {
     run_named::<Brand, R, K>(rt, alloc, EmptyHistory::new(), groups, out)
 }
