@@ -1,6 +1,6 @@
 -- What a run of `serve` says of the task that it was given.
 use Rattle.std.proofs.Common.{◌≡◌, ℕ, sym, subst}
-use Rattle.std.specs.Prelude.{IsSome, Option, Some}
+use Rattle.std.specs.Prelude.{Option, Some}
 use Rattle.glb.specs.declared.status.Status.{Status}
 use Rattle.glb.specs.declared.status.Status.TheVariants as status
 use Rattle.glb.specs.Words.{Service, Task, serve}
@@ -18,7 +18,8 @@ good_task turns task ask before after result is run ok =
     subst (λ (t : Option Task). IsGoodRun turns t before after) (sym is) (well_served turns ask before after (subst (λ (r : Status). IsServeRun turns ask before after r) ok run))
 
 pub left_task : (turns : ℕ) (task : Option Task) (ask : Service) (before after : Surroundings) (result : Status) → task ≡ Some (serve ask) → IsServeRun turns ask before after result → HasServeCauses turns ask.workers before after result
-    → IsSome before.files → IsSound task before.files → AreQuiet task before after → IsLeft turns task before after result
-left_task turns task ask before after result is run causes told sound quiet =
+    → IsSound task before.files → AreQuiet task before after → IsLeft turns task before after result
+left_task turns task ask before after result is run causes sound quiet =
+    let held : IsSound (Some (serve ask)) before.files = subst (λ (t : Option Task). IsSound t before.files) is sound in
     subst (λ (t : Option Task). IsLeft turns t before after result) (sym is)
-    (left_of turns ask before after result run causes told (subst (λ (t : Option Task). IsSound t before.files) is sound) (subst (λ (t : Option Task). AreQuiet t before after) is quiet))
+    (left_of turns ask before after result run causes held.0 held.1 (subst (λ (t : Option Task). AreQuiet t before after) is quiet))

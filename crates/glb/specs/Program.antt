@@ -1,5 +1,5 @@
 -- What a run of the whole program does, by what its words ask for.
-use Rattle.std.specs.Prelude.{◌≡◌, ◌⊎◌, ℕ, ◌≤◌, List, [], Option, None, Some}
+use Rattle.std.specs.Prelude.{◌≡◌, ◌⊎◌, ℕ, ◌≤◌, List, [], Option, None, Some, IsSome}
 use Rattle.outside.specs.Faults.{Rose}
 use Rattle.outside.specs.Shelf.{Load, Shelved}
 use Rattle.glb.specs.declared.status.Status.{Status}
@@ -50,11 +50,11 @@ AreCauses turns (Some (say ask)) before after result = HasCauses (faults_of befo
 AreCauses turns (Some (serve ask)) before after result = HasServeCauses turns ask.workers before after result
 AreCauses turns (Some (large groups)) before after result = HasCauses (faults_of before) (faults_of after) result
 
--- the files are such that all is well
+-- The files are such that all is well: they are told, and hold what the task asks for. Of `large` nothing is asked of them.
 abbrev pub IsSound : Option Task → Option Shelved → Type 0
 IsSound None files = ⊥
-IsSound (Some (say ask)) files = short.IsSound (Some ask) files
-IsSound (Some (serve ask)) files = HoldsTopology ask.topology files
+IsSound (Some (say ask)) files = IsSome files × short.IsSound (Some ask) files
+IsSound (Some (serve ask)) files = IsSome files × HoldsTopology ask.topology files
 IsSound (Some (large groups)) files = Unit {0}
 
 -- no count of faults rose: of the files, the feed and both outputs, of a port or a door of the first lanes

@@ -13,7 +13,7 @@ pub enum Status {
     Refused = 2,
     /// A file could not be loaded, or the feed not be read.
     SourceFault = 3,
-    /// The output failed, and holds a beginning of what was due.
+    /// An output failed, and holds a beginning of what was due.
     SinkFault = 4,
     /// A port did not open, or eight calls of one failed.
     PortFault = 5,
