@@ -9,6 +9,7 @@ use Rattle.published_map.specs.Version.{Version}
 use Rattle.lane_model.specs.declared.ended.Ended.{Ended}
 use Rattle.lane_model.specs.declared.ended.Ended.TheVariants as lane
 use Rattle.lane_model.specs.Sessions.{IsEnd}
+use Rattle.lane_model.proofs.Calls.{failed_last}
 use Rattle.lane_model.specs.Turns.{Came, Turn, failures, idle, oversize, ended, failed, took, silent, refused, tried, is_refused, port_after, port_turn, refused_of}
 use Rattle.demand_feed.specs.declared.run.FeedEnd.{FeedEnd}
 use Rattle.demand_feed.specs.declared.run.FeedEnd.TheVariants as feed
@@ -61,7 +62,7 @@ served_port turns first rest w b c d = d.failing (eight (served d.which))
     served (inr (inr past)) = let is = past.ended_is in absurd (cc)
 
     eight : d.served ≡ lane.PortFault → 0 < failures d.log
-    eight is = let ending : IsEnd turns d.log lane.PortFault = subst (IsEnd turns d.log) is d.ending in omega (arith, ending.1)
+    eight is = let eighth : failures d.log ≡ 8 = failed_last turns d.log (subst (IsEnd turns d.log) is d.ending) in omega (arith, eighth)
 
 -- a port after some turns has given as many answers more
 took_one : (known : ℕ) (came : Came) (p : PortTold) → (port_after known came p).recvs ≡ raised p.recvs 1
