@@ -1,5 +1,5 @@
 -- How a run comes out, and what it leaves outside.
-use Rattle.std.specs.Prelude.{◌≡◌, ℕ, ◌<◌, ◌≤◌, ◌⊎◌, List, [], ◌++◌, length, take, slice_index_or, Option}
+use Rattle.std.specs.Prelude.{◌≡◌, ◌≢◌, ℕ, ◌<◌, ◌≤◌, ◌⊎◌, List, [], ◌++◌, length, take, slice_index_or, Option}
 use Rattle.outside.specs.Faults.{BothTell, Rose}
 use Rattle.outside.specs.Shelf.{Load, Shelved}
 use Rattle.outside.specs.Sink.{Written}
@@ -99,3 +99,9 @@ pub record HasCauses (before after : Faults) (status : Status) : Type 0 where
   pub out_later : before.out ≤ after.out
   pub source : status ≡ SourceFault → Rose before.files after.files
   pub sink : status ≡ SinkFault → Rose before.out after.out
+
+-- its causes, and a count stands where its fault is not answered
+pub record HasExactCauses (before after : Faults) (status : Status) : Type 0 where
+  pub causes : HasCauses before after status
+  pub files_stay : status ≢ SourceFault → after.files ≡ before.files
+  pub out_stays : status ≢ SinkFault → after.out ≡ before.out
