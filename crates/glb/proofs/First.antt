@@ -1,5 +1,5 @@
 -- Sessions behind the opening of the cell.
-use Rattle.std.proofs.Common.{◌≡◌, ◌⊎◌, inl, inr, ℕ, ◌≤◌, List, length, refl, sym, subst}
+use Rattle.std.proofs.Common.{◌≡◌, ◌≢◌, ◌⊎◌, inl, inr, ℕ, ◌≤◌, List, length, refl, sym, subst}
 use Rattle.std.specs.Prelude.{Option}
 use Rattle.addr_text.specs.declared.address.Listen.{Listen}
 use Rattle.outside.specs.Faults.{Rose}
@@ -51,7 +51,7 @@ unfed_session turns listen workers first before started after start same = inr (
 -- it was started and served
 pub served_session : (turns : ℕ) (listen : Listen) (workers : ℕ) (first : Version) (before started after : Stage) (end : FeedEnd) (places : List (Option Ended)) (result : Status) → IsStarted listen workers first before started
     → (ends : List Ended) × (length ends ≡ workers) × AreEnds ends places × IsDriven turns first end ends started.lent after.lent
-    → result ≡ status_at end places → (end ≡ feed.SourceFault → Rose started.feed_faults after.feed_faults) → (end ≡ feed.SinkFault → Rose started.out_faults after.out_faults ⊎ Rose started.maps_faults after.maps_faults)
+    → result ≡ status_at end places → (end ≡ feed.SourceFault → Rose started.feed_faults after.feed_faults) → (end ≢ feed.SourceFault → after.feed_faults ≡ started.feed_faults) → (end ≡ feed.SinkFault → Rose started.out_faults after.out_faults ⊎ Rose started.maps_faults after.maps_faults)
     → (started.feed_faults ≤ after.feed_faults) × (started.out_faults ≤ after.out_faults) × (started.maps_faults ≤ after.maps_faults) → IsFirstSession turns listen workers first before after result
-served_session turns listen workers first before started after end places result start driven answer source sink later =
-    inr (inr (inr (started, start, is_served turns workers first started after end places result driven answer source sink later)))
+served_session turns listen workers first before started after end places result start driven answer source stays sink later =
+    inr (inr (inr (started, start, is_served turns workers first started after end places result driven answer source stays sink later)))

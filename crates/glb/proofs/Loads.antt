@@ -101,6 +101,9 @@ rose_later a b c le rose = omega (arith, le, rose)
 source_of : {X Y : Type 0} (s : Stop) (read : Result X Stop) (ended : Result Y Stop) → read ≡ Err s → ended ≡ Err s → ended ≡ Err stop.SourceFault → read ≡ Err stop.SourceFault
 source_of s read ended one two is = cc
 
+read_well : {X : Type 0} (x : X) (read : Result X Stop) → read ≡ Ok x → read ≡ Err stop.SourceFault → ⊥
+read_well x read one two = cc
+
 -- a file that is refused, or could not be loaded, ends the command
 pub stopped : {X T : Type 0} (kind : Kind T) (see : X → T) (name : List ℕ) (next : T → (List ℕ → Option (List ℕ)) → List Load) (Next : T → Outcome → Type 0) (before after : ShelfAt) (s : Stop)
     → IsReading kind see name before after (Err s) → IsEnd (loads_from kind name next) (Reads kind before.told name Next) before after (Err s)
@@ -111,6 +114,7 @@ stopped kind see name next Next before after s r = record {
   due = stops_weaker (IsRefused kind before.told name) (Reads kind before.told name Next) s (λ due h. inl h) r.said;
   later = r.later;
   cause = λ is. r.cause (source_of s (Err s) (Err s) refl refl is);
+  stays = λ other. r.stays (λ is. other (source_of s (Err s) (Err s) refl refl is));
 }
 
 -- and so does the only one
@@ -121,6 +125,7 @@ stopped_only kind see name Next before after s r = record {
   due = stops_weaker (IsRefused kind before.told name) (Reads kind before.told name Next) s (λ due h. inl h) r.said;
   later = r.later;
   cause = λ is. r.cause (source_of s (Err s) (Err s) refl refl is);
+  stays = λ other. r.stays (λ is. other (source_of s (Err s) (Err s) refl refl is));
 }
 
 always_ends : (P : Type 0) (e : Result Report Stop) → P → EndsBy (λ _. P) e
@@ -138,6 +143,7 @@ last_ends kind see name Next before after x e r ends other = record {
   due = ends_weaker (Next (see x)) (Reads kind before.told name Next) e (λ due h. inr (see x, r.said, h)) ends;
   later = r.later;
   cause = λ is. absurd (other is);
+  stays = λ _. r.stays (read_well x (Ok x) refl);
 }
 
 -- the end of a command behind a file on which others follow
@@ -150,4 +156,5 @@ then_ends kind see name next Next Later before mid after x e r back end = record
   due = ends_weaker (Later (see x)) (Reads kind before.told name Next) e (λ due h. inr (see x, r.said, back due h)) end.due;
   later = omega (arith, r.later, end.later);
   cause = λ is. rose_later before.faults mid.faults after.faults r.later (end.cause is);
+  stays = λ other. end.stays other ∙ r.stays (read_well x (Ok x) refl);
 }

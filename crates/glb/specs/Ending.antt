@@ -1,5 +1,5 @@
 -- Inside this crate alone: how a command ended, and what it loaded.
-use Rattle.std.specs.Prelude.{◌≡◌, ℕ, ◌<◌, ◌≤◌, List, [], ◌∷◌, length, Option, Result, Ok, Err, MatchResult}
+use Rattle.std.specs.Prelude.{◌≡◌, ◌≢◌, ℕ, ◌<◌, ◌≤◌, List, [], ◌∷◌, length, Option, Result, Ok, Err, MatchResult}
 use Rattle.map_model.specs.Market.{Market}
 use Rattle.map_model.specs.Allocation.{IsOffer}
 use Rattle.outside.specs.Faults.{BothTell, Rose}
@@ -45,6 +45,7 @@ pub record IsEnd (due_loads : (List ℕ → Option (List ℕ)) → List Load) (D
   pub due : EndsBy Due ended
   pub later : before.faults ≤ after.faults
   pub cause : ended ≡ Err stop.SourceFault → Rose before.faults after.faults
+  pub stays : ended ≢ Err stop.SourceFault → after.faults ≡ before.faults
 
 -- One file was loaded, and what it says was read, or it is refused; or the load failed, or memory was wanting.
 pub record IsReading {X T : Type 0} (kind : Kind T) (see : X → T) (name : List ℕ) (before after : ShelfAt) (read : Result X Stop) : Type 0 where
@@ -53,6 +54,7 @@ pub record IsReading {X T : Type 0} (kind : Kind T) (see : X → T) (name : List
   pub said : MatchResult read (λ x. Says kind before.told name (see x)) (StopsBy (IsRefused kind before.told name))
   pub later : before.faults ≤ after.faults
   pub cause : read ≡ Err stop.SourceFault → Rose before.faults after.faults
+  pub stays : read ≢ Err stop.SourceFault → after.faults ≡ before.faults
 
 -- the file is longer than it may be, and is refused for that
 abbrev pub IsTooLong : Option Shelved → List ℕ → ℕ → List ℕ → Outcome → Type 0

@@ -1,10 +1,9 @@
 -- How a run comes out, and what it leaves outside.
-use Rattle.std.specs.Prelude.{◌≡◌, ℕ, ◌+◌, ◌<◌, ◌≤◌, ◌⊎◌, List, [], ◌++◌, length, take, slice_index_or, Option}
-use Rattle.std.specs.List.{concat}
-use Rattle.outside.specs.Faults.{BothTell, Rose, raised}
+use Rattle.std.specs.Prelude.{◌≡◌, ◌≢◌, ℕ, ◌<◌, ◌≤◌, ◌⊎◌, List, [], ◌++◌, length, take, slice_index_or, Option}
+use Rattle.outside.specs.Faults.{BothTell, Rose}
 use Rattle.outside.specs.Shelf.{Load, Shelved}
 use Rattle.outside.specs.Sink.{Written}
-use Rattle.mapper.specs.Scenes.{IsPrinted}
+use Rattle.mapper.specs.Scenes.{IsCut, IsPrinted}
 use Rattle.glb.specs.declared.status.Status.{Status}
 use Rattle.glb.specs.declared.status.Status.TheVariants.{Ok, Usage, Refused, SourceFault, SinkFault, PortFault, Spent, NotGood, NoMemory, CellFault}
 
@@ -53,15 +52,9 @@ pub record Faults : Type 0 where
   pub files : ℕ
   pub out : ℕ
 
--- the pieces before that number were put, and then one failed, of which the first k octets were written
-pub record IsCutAt (pieces : List (List ℕ)) (before after : Written) (number k : ℕ) : Type 0 where
-  pub within : number < length pieces
-  pub bytes : after.bytes ≡ before.bytes ++ concat (take number pieces) ++ take k (slice_index_or pieces number [])
-  pub puts : after.puts ≡ raised before.puts (number + 1)
-
--- a put failed, and nothing was put after it
+-- the pieces before that number were put, and then the put of the next failed, of which a beginning was written
 abbrev pub IsPrintedInPart : List (List ℕ) → Written → Written → Type 0
-IsPrintedInPart pieces before after = (number : ℕ) × (k : ℕ) × IsCutAt pieces before after number k
+IsPrintedInPart pieces before after = (number : ℕ) × (number < length pieces) × IsCut (take number pieces) (slice_index_or pieces number []) before after
 
 -- the outcome that is due was answered, and all of its pieces were put
 pub record IsWhole (Due : Outcome → Type 0) (before after : Option Written) (result : Status) : Type 0 where
@@ -106,3 +99,9 @@ pub record HasCauses (before after : Faults) (status : Status) : Type 0 where
   pub out_later : before.out ≤ after.out
   pub source : status ≡ SourceFault → Rose before.files after.files
   pub sink : status ≡ SinkFault → Rose before.out after.out
+
+-- its causes, and a count stands where its fault is not answered
+pub record HasExactCauses (before after : Faults) (status : Status) : Type 0 where
+  pub causes : HasCauses before after status
+  pub files_stay : status ≢ SourceFault → after.files ≡ before.files
+  pub out_stays : status ≢ SinkFault → after.out ≡ before.out

@@ -1,5 +1,5 @@
 -- What a run of `serve` does.
-use Rattle.std.specs.Prelude.{◌≡◌, ◌⊎◌, ℕ, ◌<◌, ◌≤◌, Bool, true, false, List, [], ◌∷◌, ◌++◌, length, replicate, if◌then◌else◌, Option}
+use Rattle.std.specs.Prelude.{◌≡◌, ◌≢◌, ◌⊎◌, ℕ, ◌<◌, ◌≤◌, Bool, true, false, List, [], ◌∷◌, ◌++◌, length, replicate, if◌then◌else◌, Option}
 use Rattle.std.specs.List.{list_any}
 use Rattle.addr_text.specs.declared.address.Listen.{Listen}
 use Rattle.outside.specs.Faults.{BothTell, Rose, raised}
@@ -128,7 +128,7 @@ pub record IsStarted (listen : Listen) (workers : ℕ) (first : Version) (before
   pub lent : after.lent ≡ record before.lent { lanes = after.lent.lanes; maps = after.lent.maps }
   pub rest : after ≡ record before { lent = after.lent; maps_faults = after.maps_faults }
 
--- The feed was worked and the first lanes were served, over one history of published maps that goes on from the first one. The status is that of their ends, and each fault came with what it is a fault of: the count of the feed, of an output, of a port or of a door, as many turns as there may be, or a serial that was not published.
+-- The feed was worked and the first lanes were served, over one history of published maps that goes on from the first one. The status is that of their ends, and each fault came with what it is a fault of: the count of the feed, of an output, of a port or of a door, as many turns as there may be, or a serial that was not published. The feed's count stood where the feed did not end by its source's fault.
 pub record IsServed (turns workers : ℕ) (first : Version) (before after : Stage) (result : Status) : Type 0 where
   pub end : FeedEnd
   pub ends : List Ended
@@ -136,6 +136,7 @@ pub record IsServed (turns workers : ℕ) (first : Version) (before after : Stag
   pub driven : IsDriven turns first end ends before.lent after.lent
   pub result_is : result ≡ status_of end (list_any is_port_fault ends) (list_any is_spent ends) (list_any is_cell_fault ends)
   pub source : end ≡ feed.SourceFault → Rose before.feed_faults after.feed_faults
+  pub source_stays : end ≢ feed.SourceFault → after.feed_faults ≡ before.feed_faults
   pub sink : end ≡ feed.SinkFault → Rose before.out_faults after.out_faults ⊎ Rose before.maps_faults after.maps_faults
   pub port : result ≡ status.PortFault → AnyLane workers HasPortFault before.lent.lanes after.lent.lanes
   pub spent : result ≡ status.Spent → (end ≡ feed.Spent) ⊎ AnyLane workers (HasTaken turns) before.lent.lanes after.lent.lanes

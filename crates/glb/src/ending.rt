@@ -1,5 +1,5 @@
 //! How a command ends, and how that is said.
-ghost use Rattle.std.specs.Prelude.{◌≡◌, ◌↔◌, ◌⊎◌, ◌≤◌, [], ◌∷◌, Err};
+ghost use Rattle.std.specs.Prelude.{◌≡◌, ◌≢◌, ◌↔◌, ◌⊎◌, ◌≤◌, [], ◌∷◌, Err};
 ghost use Rattle.outside.specs.Faults.{BothTell, Rose};
 ghost use Rattle.glb.specs.Outcome.{HasText, IsSaid, RunsBy, Speaks};
 ghost use Rattle.glb.specs.Ending.{EndsBy, IsReport};
@@ -42,6 +42,7 @@ pub fn say<K: Sink>(out: &mut K, status: Status, text: &[u8]) -> Status
     ensures run { Speaks (λ due. due ≡ record { status = status; pieces = text.now ∷ [] }) (K.told out.old) (K.told out.new) result }
     ensures status { result ≡ status ⊎ result ≡ Status.SinkFault }
     ensures later { K.faults out.old ≤ K.faults out.new }
+    ensures stays { result ≢ Status.SinkFault → K.faults out.new ≡ K.faults out.old }
     ensures cause { HasText status → result ≡ Status.SinkFault → Rose (K.faults out.old) (K.faults out.new) }
 {
     match out.put(text) {
@@ -55,6 +56,7 @@ pub fn finish<K: Sink>(out: &mut K, ended: Result<Report, Stop>) -> Status
     requires { EndsBy IsSaid ended }
     ensures run { RunsBy (IsReport ended) (K.told out.old) (K.told out.new) result }
     ensures later { K.faults out.old ≤ K.faults out.new }
+    ensures stays { result ≢ Status.SinkFault → K.faults out.new ≡ K.faults out.old }
     ensures cause { result ≡ Status.SinkFault → Rose (K.faults out.old) (K.faults out.new) }
     ensures source { (result ≡ Status.SourceFault) ↔ (ended ≡ Err Stop.SourceFault) }
     ensures memory { (result ≡ Status.NoMemory) ↔ (ended ≡ Err Stop.NoMemory) }

@@ -116,6 +116,7 @@ fn load_file<F: Shelf>(
     ensures bytes { MatchResult result (λ b. AreBytes (F.told files.old) name.now limit b.items) (StopsBy (IsTooLong (F.told files.old) name.now limit (text.line too_long.now))) }
     ensures later { F.faults files.old ≤ F.faults files.new }
     ensures cause { result ≡ Err Stop.SourceFault → Rose (F.faults files.old) (F.faults files.new) }
+    ensures stays { result ≢ Err Stop.SourceFault → F.faults files.new ≡ F.faults files.old }
 {
     match files.load(alloc, name, limit) {
         Ok(bytes) => Ok(bytes),

@@ -1,7 +1,7 @@
 //! Commands that say one text on what files say.
 ghost use Rattle.std.specs.Prelude.{◌≡◌, ◌≢◌, ◌≤◌, ◌⊎◌, IsSome, option_map};
 ghost use Rattle.outside.specs.Faults.{BothTell, Rose};
-ghost use Rattle.glb.specs.Outcome.{AreLoaded, AreLoadsOf, HasCauses, IsSaid};
+ghost use Rattle.glb.specs.Outcome.{AreLoaded, AreLoadsOf, HasExactCauses, IsSaid};
 ghost use Rattle.glb.specs.Run.{IsDue, IsGoodRun, IsRun, IsSound, loads_of, loads_of_ask};
 ghost use Rattle.glb.specs.Commands.{ask_of};
 ghost use Rattle.glb.specs.Ending.{EndsBy, IsEnd};
@@ -50,7 +50,7 @@ pub fn run_files<F: Shelf, K: Sink>(
     ensures run { IsRun (option_map ask_of command.entry) (record { files = F.told files.old; out = K.told out.old }) (record { files = F.told files.new; out = K.told out.new }) result }
     ensures noted { BothTell (F.told files.old) (F.told files.new) (AreLoadsOf (loads_of (option_map ask_of command.entry))) }
     ensures loaded { result ≢ Status.SourceFault → result ≢ Status.NoMemory → BothTell (F.told files.old) (F.told files.new) (AreLoaded (loads_of (option_map ask_of command.entry))) }
-    ensures causes { HasCauses (record { files = F.faults files.old; out = K.faults out.old }) (record { files = F.faults files.new; out = K.faults out.new }) result }
+    ensures causes { HasExactCauses (record { files = F.faults files.old; out = K.faults out.old }) (record { files = F.faults files.new; out = K.faults out.new }) result }
     ensures good { result ≡ Status.Ok → IsGoodRun (option_map ask_of command.entry) (record { files = F.told files.old; out = K.told out.old }) (record { files = F.told files.new; out = K.told out.new }) }
     ensures complete { IsSome (F.told files.old) → IsSound (option_map ask_of command.entry) (F.told files.old) → ¬ Rose (F.faults files.old) (F.faults files.new) → ¬ Rose (K.faults out.old) (K.faults out.new) → (result ≡ Status.Ok) ⊎ (result ≡ Status.NoMemory) }
 {
