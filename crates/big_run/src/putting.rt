@@ -1,5 +1,5 @@
 //! The lines of a summary, each put on an output.
-ghost use Rattle.std.specs.Prelude.{◌≡◌, ◌≤◌};
+ghost use Rattle.std.specs.Prelude.{◌≡◌, ◌≢◌, ◌≤◌};
 ghost use Rattle.outside.specs.Faults.{BothTell, Rose};
 ghost use Rattle.big_run.specs.Putting.{ArePut};
 ghost use Rattle.big_run.specs.Summary.{lines_of};
@@ -12,6 +12,7 @@ pub fn put_lines<K: Sink>(summary: &Summary, out: &mut K) -> Put
     ensures puts { BothTell (K.told out.old) (K.told out.new) (ArePut result (lines_of summary.now)) }
     ensures later { K.faults out.old ≤ K.faults out.new }
     ensures cause { result ≡ Put.Failed → Rose (K.faults out.old) (K.faults out.new) }
+    ensures stays { result ≢ Put.Failed → K.faults out.new ≡ K.faults out.old }
 {
     for number in 0..LINES {
         match out.put(summary.line(number).as_slice()) {

@@ -5,7 +5,7 @@ use Rattle.outside.specs.Shelf.{Load, Shelved}
 use Rattle.glb.specs.declared.status.Status.{Status}
 use Rattle.glb.specs.declared.status.Status.TheVariants as status
 use Rattle.glb.specs.Words.{Ask, Task, say, serve, large}
-use Rattle.glb.specs.Outcome.{HasCauses, HasExactCauses}
+use Rattle.glb.specs.Outcome.{HasExactCauses}
 use Rattle.glb.specs.Run as short
 use Rattle.glb.specs.Serve.{IsServeRun, loads_of_serve}
 use Rattle.glb.specs.Causes.{AnyLane, AreSpent, HasDoorFault, HasLaneCauses, HasPortFault, IsPastMaps}
@@ -48,7 +48,7 @@ abbrev pub AreCauses : ℕ → Option Task → Surroundings → Surroundings →
 AreCauses turns None before after result = HasExactCauses (faults_of before) (faults_of after) result
 AreCauses turns (Some (say ask)) before after result = HasExactCauses (faults_of before) (faults_of after) result
 AreCauses turns (Some (serve ask)) before after result = HasServeCauses turns ask.workers before after result
-AreCauses turns (Some (large groups)) before after result = HasCauses (faults_of before) (faults_of after) result
+AreCauses turns (Some (large groups)) before after result = HasExactCauses (faults_of before) (faults_of after) result
 
 -- The files are such that all is well: they are told, and hold what the task asks for. Of `large` nothing is asked of them.
 abbrev pub IsSound : Option Task → Option Shelved → Type 0

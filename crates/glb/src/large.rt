@@ -1,5 +1,5 @@
 //! `glb large`: a large world, its batches, and what they came to.
-ghost use Rattle.std.specs.Prelude.{◌≡◌, ◌≤◌, ◌⊎◌};
+ghost use Rattle.std.specs.Prelude.{◌≡◌, ◌≢◌, ◌≤◌, ◌⊎◌};
 ghost use Rattle.outside.specs.Faults.{Rose};
 ghost use Rattle.big_run.specs.Summary.{lines_of};
 ghost use Rattle.glb.specs.Large.{IsLargeDue};
@@ -19,6 +19,7 @@ fn say_summary<K: Sink>(summary: &Summary, out: &mut K) -> Status
     ensures run { Speaks (λ due. due ≡ record { status = Status.Ok; pieces = lines_of summary.now }) (K.told out.old) (K.told out.new) result }
     ensures later { K.faults out.old ≤ K.faults out.new }
     ensures cause { result ≡ Status.SinkFault → Rose (K.faults out.old) (K.faults out.new) }
+    ensures stays { result ≢ Status.SinkFault → K.faults out.new ≡ K.faults out.old }
     ensures ends { (result ≡ Status.Ok) ⊎ (result ≡ Status.SinkFault) }
 {
     match put_lines(summary, out) {
@@ -40,6 +41,7 @@ fn run_named<J: Naming, R: Wait, K: Sink>(
     ensures run { RunsBy (IsLargeDue groups) (K.told out.old) (K.told out.new) result }
     ensures later { K.faults out.old ≤ K.faults out.new }
     ensures cause { result ≡ Status.SinkFault → Rose (K.faults out.old) (K.faults out.new) }
+    ensures stays { result ≢ Status.SinkFault → K.faults out.new ≡ K.faults out.old }
     ensures ends { (result ≡ Status.Ok) ⊎ (result ≡ Status.SinkFault) ⊎ (result ≡ Status.NoMemory) }
 {
     match run_world::<J, R>(rt, alloc, history, groups) {
@@ -54,6 +56,7 @@ pub fn large<R: Wait, K: Sink>(rt: &R, alloc: Global, groups: u32, out: &mut K) 
     ensures run { RunsBy (IsLargeDue groups) (K.told out.old) (K.told out.new) result }
     ensures later { K.faults out.old ≤ K.faults out.new }
     ensures cause { result ≡ Status.SinkFault → Rose (K.faults out.old) (K.faults out.new) }
+    ensures stays { result ≢ Status.SinkFault → K.faults out.new ≡ K.faults out.old }
     ensures ends { (result ≡ Status.Ok) ⊎ (result ≡ Status.SinkFault) ⊎ (result ≡ Status.NoMemory) }
 {
     run_named::<Brand, R, K>(rt, alloc, EmptyHistory::new(), groups, out)

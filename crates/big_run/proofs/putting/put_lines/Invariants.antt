@@ -1,4 +1,4 @@
-use Rattle.std.proofs.Common.{◌≤◌, take}
+use Rattle.std.proofs.Common.{◌≡◌, take}
 use Rattle.outside.specs.Faults.{BothTell}
 use Rattle.mapper.specs.Scenes.{IsPrinted}
 use Rattle.big_run.specs.Summary.{lines_of}
@@ -7,5 +7,5 @@ use Rattle.big_run.proofs.putting.put_lines.Given as goal
 abbrev pub invariant-loop-number : goal.invariant-loop-number
 invariant-loop-number g l = record {
   puts : BothTell (g.K.Sink.told l.initial.out) (g.K.Sink.told l.out) (IsPrinted (take l.number (lines_of l.summary)));
-  later : g.K.Sink.faults l.initial.out ≤ g.K.Sink.faults l.out;
+  stays : g.K.Sink.faults l.out ≡ g.K.Sink.faults l.initial.out;
 }
