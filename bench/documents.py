@@ -23,7 +23,7 @@ TOP = Path(__file__).resolve().parent.parent
 GLB = os.environ.get("GLB", str(TOP / "crates/glb_program/out/glb_program"))
 CRATES = [folder.name for folder in (TOP / "crates").iterdir()]
 # docs/PROOFS.md is not among them: its pitfalls name what is not there
-DOCUMENTS = sorted(str(path.relative_to(TOP)) for folder in (".", "bench", "docs", "docs/open") for path in (TOP / folder).glob("*.md") if path.name != "PROOFS.md")
+DOCUMENTS = sorted(str(path.relative_to(TOP)) for folder in (".", "bench", "docs") for path in (TOP / folder).glob("*.md") if path.name != "PROOFS.md")
 # other programs, of whose words only the paths are looked up, and words of the system
 PROGRAMS = {"dig", "echo", "ls", "man", "mkfifo", "nstat", "python3", "rt", "systemd-analyze", "tail"}
 ELSEWHERE = {"PIPE_BUF", "net", "core", "rmem_default"}
