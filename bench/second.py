@@ -1,6 +1,7 @@
 """A second reading of glb's formats, written from docs/FORMATS.md and the RFCs alone: topologies, maps, changes, feeds, verdicts and replies. It shares no code with glb and is slow."""
 
 import ipaddress
+import re
 import string
 import tomllib
 
@@ -12,6 +13,18 @@ WORDS = {
     8: "parent order", 9: "too deep", 10: "out of range", 11: "bad address", 12: "bad prefix", 13: "duplicate prefix",
     14: "no default", 15: "list shape", 16: "ns inside", 17: "too many",
 }
+
+
+# the escapes of a basic string that TOML 1.1 has and 1.0, which tomllib reads, has not: ESC, and two digits
+NEWER_ESCAPES = re.compile(r"(?<!\\)((?:\\\\)*)\\(?:(e)|x([0-9A-Fa-f]{2}))")
+
+
+def document(text):
+    """The table that a text of TOML 1.1 is. Only where 1.0 does not read it, its newer escapes are spelled out."""
+    try:
+        return tomllib.loads(text)
+    except tomllib.TOMLDecodeError:
+        return tomllib.loads(NEWER_ESCAPES.sub(lambda m: m[1] + "\\u00" + ("1B" if m[2] else m[3]), text))
 
 
 class Refused(Exception):
@@ -149,7 +162,7 @@ class Topology:
         if len(octets) > 64 << 20:
             raise Refused("topology too long")
         try:
-            self.top = tomllib.loads(octets.decode())
+            self.top = document(octets.decode())
         except (UnicodeDecodeError, tomllib.TOMLDecodeError, RecursionError):
             self.top = None
         if self.top is None or not are_short(self.top):
