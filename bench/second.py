@@ -1,6 +1,7 @@
 """A second reading of glb's formats, written from docs/FORMATS.md and the RFCs alone: topologies, maps, changes, feeds, verdicts and replies. It shares no code with glb and is slow."""
 
 import ipaddress
+import math
 import re
 import string
 import tomllib
@@ -19,12 +20,20 @@ WORDS = {
 NEWER_ESCAPES = re.compile(r"(?<!\\)((?:\\\\)*)\\(?:(e)|x([0-9A-Fa-f]{2}))")
 
 
+def finite(text):
+    """The float that a text is. A number too large for one is none."""
+    number = float(text)
+    if math.isinf(number) and "inf" not in text:
+        raise tomllib.TOMLDecodeError(f"no float holds {text}")
+    return number
+
+
 def document(text):
     """The table that a text of TOML 1.1 is. Only where 1.0 does not read it, its newer escapes are spelled out."""
     try:
-        return tomllib.loads(text)
+        return tomllib.loads(text, parse_float=finite)
     except tomllib.TOMLDecodeError:
-        return tomllib.loads(NEWER_ESCAPES.sub(lambda m: m[1] + "\\u00" + ("1B" if m[2] else m[3]), text))
+        return tomllib.loads(NEWER_ESCAPES.sub(lambda m: m[1] + "\\u00" + ("1B" if m[2] else m[3]), text), parse_float=finite)
 
 
 class Refused(Exception):
