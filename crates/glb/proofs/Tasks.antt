@@ -1,25 +1,27 @@
--- What a run of `serve` says of the task that it was given.
+-- What is promised of a run of `serve`, from what it does, loads and counts.
 use Rattle.std.proofs.Common.{◌≡◌, ℕ, sym, subst}
-use Rattle.std.specs.Prelude.{Option, Some}
+use Rattle.std.specs.Prelude.{Option, Some, ◌≢◌}
+use Rattle.outside.specs.Faults.{BothTell}
 use Rattle.glb.specs.declared.status.Status.{Status}
 use Rattle.glb.specs.declared.status.Status.TheVariants as status
 use Rattle.glb.specs.Words.{Service, Task, serve}
 use Rattle.glb.specs.Told.{Surroundings}
-use Rattle.glb.specs.Serve.{IsServeRun}
-use Rattle.glb.specs.Program.{AreQuiet, HasServeCauses, IsGoodRun, IsLeft, IsRun, IsSound}
+use Rattle.glb.specs.Outcome.{AreLoaded, AreLoadsOf}
+use Rattle.glb.specs.Serve.{IsServeRun, loads_of_serve}
+use Rattle.glb.specs.Program.{HasServeCauses, IsPromised}
 use Rattle.glb.proofs.Left.{left_of}
 use Rattle.glb.proofs.WellServed.{well_served}
 
-pub run_task : (turns : ℕ) (task : Option Task) (ask : Service) (before after : Surroundings) (result : Status) → task ≡ Some (serve ask) → IsServeRun turns ask before after result → IsRun turns task before after result
-run_task turns task ask before after result is run = subst (λ (t : Option Task). IsRun turns t before after result) (sym is) run
+pub promised : (turns : ℕ) (ask : Service) (before after : Surroundings) (result : Status) → IsServeRun turns ask before after result → BothTell before.files after.files (AreLoadsOf (loads_of_serve ask))
+    → (result ≢ status.SourceFault → result ≢ status.NoMemory → BothTell before.files after.files (AreLoaded (loads_of_serve ask))) → HasServeCauses turns ask.workers before after result → IsPromised turns (Some (serve ask)) before after result
+promised turns ask before after result run noted loaded causes = record {
+  run = run;
+  noted = noted;
+  loaded = loaded;
+  causes = causes;
+  good = λ ok. well_served turns ask before after (subst (λ (r : Status). IsServeRun turns ask before after r) ok run);
+  complete = λ sound quiet. left_of turns ask before after result run causes sound.0 sound.1 quiet;
+}
 
-pub good_task : (turns : ℕ) (task : Option Task) (ask : Service) (before after : Surroundings) (result : Status) → task ≡ Some (serve ask) → IsServeRun turns ask before after result → result ≡ status.Ok → IsGoodRun turns task before after
-good_task turns task ask before after result is run ok =
-    subst (λ (t : Option Task). IsGoodRun turns t before after) (sym is) (well_served turns ask before after (subst (λ (r : Status). IsServeRun turns ask before after r) ok run))
-
-pub left_task : (turns : ℕ) (task : Option Task) (ask : Service) (before after : Surroundings) (result : Status) → task ≡ Some (serve ask) → IsServeRun turns ask before after result → HasServeCauses turns ask.workers before after result
-    → IsSound task before.files → AreQuiet task before after → IsLeft turns task before after result
-left_task turns task ask before after result is run causes sound quiet =
-    let held : IsSound (Some (serve ask)) before.files = subst (λ (t : Option Task). IsSound t before.files) is sound in
-    subst (λ (t : Option Task). IsLeft turns t before after result) (sym is)
-    (left_of turns ask before after result run causes held.0 held.1 (subst (λ (t : Option Task). AreQuiet t before after) is quiet))
+pub promised_task : (turns : ℕ) (task : Option Task) (ask : Service) (before after : Surroundings) (result : Status) → task ≡ Some (serve ask) → IsPromised turns (Some (serve ask)) before after result → IsPromised turns task before after result
+promised_task turns task ask before after result is run = subst (λ (t : Option Task). IsPromised turns t before after result) (sym is) run

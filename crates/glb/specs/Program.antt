@@ -1,11 +1,11 @@
 -- What a run of the whole program does, by what its words ask for.
-use Rattle.std.specs.Prelude.{◌≡◌, ◌⊎◌, ℕ, ◌≤◌, List, [], Option, None, Some, IsSome}
-use Rattle.outside.specs.Faults.{Rose}
+use Rattle.std.specs.Prelude.{◌≡◌, ◌≢◌, ◌⊎◌, ℕ, ◌≤◌, List, [], Option, None, Some, IsSome}
+use Rattle.outside.specs.Faults.{BothTell, Rose}
 use Rattle.outside.specs.Shelf.{Load, Shelved}
 use Rattle.glb.specs.declared.status.Status.{Status}
 use Rattle.glb.specs.declared.status.Status.TheVariants as status
 use Rattle.glb.specs.Words.{Ask, Task, say, serve, large}
-use Rattle.glb.specs.Outcome.{HasExactCauses}
+use Rattle.glb.specs.Outcome.{AreLoaded, AreLoadsOf, HasExactCauses}
 use Rattle.glb.specs.Run as short
 use Rattle.glb.specs.Serve.{IsServeRun, loads_of_serve}
 use Rattle.glb.specs.Causes.{AnyLane, AreSpent, HasDoorFault, HasLaneCauses, HasPortFault, IsPastMaps}
@@ -88,3 +88,18 @@ IsGoodRun turns None before after = ⊥
 IsGoodRun turns (Some (say ask)) before after = short.IsGoodRun (Some ask) (outside_of before) (outside_of after)
 IsGoodRun turns (Some (serve ask)) before after = IsWellServed turns ask before after
 IsGoodRun turns (Some (large groups)) before after = IsSummedRun groups before after
+
+-- what is promised of a run of the whole program, whose words ask for this task
+pub record IsPromised (turns : ℕ) (task : Option Task) (before after : Surroundings) (result : Status) : Type 0 where
+  -- What it does: a command that says one text puts it on the output, and touches nothing else but the files; `serve` publishes a history of good maps, and its lanes answer from it; `large` puts the summary of a run, line by line, and ends with status 0, with a fault of the output, or with want of memory. Where files or feed don't tell what they hold, there are octets for which that is so.
+  pub run : IsRun turns task before after result
+  -- The files of the words are loaded in their order, once each, and each only where all before it say something,
+  pub noted : BothTell before.files after.files (AreLoadsOf (loads_of task))
+  -- and all of these, unless the answer is a fault or want of memory.
+  pub loaded : result ≢ status.SourceFault → result ≢ status.NoMemory → BothTell before.files after.files (AreLoaded (loads_of task))
+  -- A fault outside is answered only where its count rose, and of all commands but `serve` a count stands where its fault is not answered. Of `serve` also: turns were spent only where the feed or one of the first lanes took all of them, and a fault of the cell is answered only where the count of the door of one of the first lanes rose, or that door showed a serial past those whose texts the maps got.
+  pub causes : AreCauses turns task before after result
+  -- Status 0 says that the files hold a topology; of `check`, `answer` and `repair` also that they hold a map that is good for it, and of `repair` changes; and that the output got, in one put, `good`, or of `map` the text of a map that is good for the topology, or of `answer` the reply of the map, or of `repair` the text of a map that is good for the changed numbers and keeps the rest. Of `serve` it says that the maps hold the texts of a history of good maps and nothing else, and that each of the first lanes answered from that history until its port's end or its gate's stop. Of `large` it says that the output got the ten lines of the summary of a run.
+  pub good : result ≡ status.Ok → IsGoodRun turns task before after
+  -- Where the files are told to hold a topology, for `check`, `answer` and `repair` a map that is good, and for `repair` changes, and no count of faults rises, there is no other answer but status 0 and want of memory; of `serve` also that turns were spent, where they were, and that a door showed a serial that was not published, where one did. For `large` nothing is asked of the files.
+  pub complete : IsSound task before.files → AreQuiet task before after → IsLeft turns task before after result

@@ -1,14 +1,13 @@
 //! `glb serve`: a history of maps that a feed leads on, from which lanes answer.
-ghost use Rattle.std.specs.Prelude.{◌≡◌, ◌≢◌, ◌≤◌, ◌∷◌, [], All, IfErr, IfOk, length, map, vec_len};
+ghost use Rattle.std.specs.Prelude.{◌≡◌, ◌≤◌, ◌∷◌, [], All, IfErr, IfOk, Some, length, map, vec_len};
 ghost use Rattle.std.specs.List.{list_any};
-ghost use Rattle.outside.specs.Faults.{BothTell};
 ghost use Rattle.demand_feed.specs.declared.limits.TheConstants.{MOST_TURNS};
 ghost use Rattle.mapper.specs.Mappers.{IsFirst};
-ghost use Rattle.glb.specs.Outcome.{AreLoaded, AreLoadsOf};
-ghost use Rattle.glb.specs.Program.{HasServeCauses};
-ghost use Rattle.glb.specs.Serve.{IsFirstSession, IsServeRun, IsSession, PlacedFirst, is_cell_fault, is_port_fault, is_spent, loads_of_serve, status_by};
+ghost use Rattle.glb.specs.Program.{IsPromised};
+ghost use Rattle.glb.specs.Serve.{IsFirstSession, IsSession, PlacedFirst, is_cell_fault, is_port_fault, is_spent, status_by};
 ghost use Rattle.glb.specs.Starting.{IsAskedSome, at_place, status_at};
 ghost use Rattle.glb.specs.Told.{lane_told, stage, surroundings};
+ghost use Rattle.glb.specs.Words.{serve as task, service};
 
 use crate::ending::finish;
 use crate::files::load_topology;
@@ -278,10 +277,7 @@ pub fn serve<
     requires workers { (1 ≤ workers) × (workers ≤ 16) }
     requires lanes { length lanes.old ≡ 16 }
     requires turns { turns ≤ MOST_TURNS }
-    ensures run { IsServeRun turns (record { topology = topology.now; listen = listen; workers = workers }) (surroundings (F.told files.old) (F.faults files.old) (stage (S.told feed.old) (K.told out.old) (K.told maps.old) (M.told pace.old) (map (lane_told P.told P.faults G.told D.asked D.looks D.greatest D.faults) lanes.old) (S.faults feed.old) (K.faults out.old) (K.faults maps.old))) (surroundings (F.told files.new) (F.faults files.new) (stage (S.told feed.new) (K.told out.new) (K.told maps.new) (M.told pace.new) (map (lane_told P.told P.faults G.told D.asked D.looks D.greatest D.faults) lanes.new) (S.faults feed.new) (K.faults out.new) (K.faults maps.new))) result }
-    ensures noted { BothTell (F.told files.old) (F.told files.new) (AreLoadsOf (loads_of_serve (record { topology = topology.now; listen = listen; workers = workers }))) }
-    ensures loaded { result ≢ Status.SourceFault → result ≢ Status.NoMemory → BothTell (F.told files.old) (F.told files.new) (AreLoaded (loads_of_serve (record { topology = topology.now; listen = listen; workers = workers }))) }
-    ensures causes { HasServeCauses turns workers (surroundings (F.told files.old) (F.faults files.old) (stage (S.told feed.old) (K.told out.old) (K.told maps.old) (M.told pace.old) (map (lane_told P.told P.faults G.told D.asked D.looks D.greatest D.faults) lanes.old) (S.faults feed.old) (K.faults out.old) (K.faults maps.old))) (surroundings (F.told files.new) (F.faults files.new) (stage (S.told feed.new) (K.told out.new) (K.told maps.new) (M.told pace.new) (map (lane_told P.told P.faults G.told D.asked D.looks D.greatest D.faults) lanes.new) (S.faults feed.new) (K.faults out.new) (K.faults maps.new))) result }
+    ensures { IsPromised turns (Some (task (service topology.now listen workers))) (surroundings (F.told files.old) (F.faults files.old) (stage (S.told feed.old) (K.told out.old) (K.told maps.old) (M.told pace.old) (map (lane_told P.told P.faults G.told D.asked D.looks D.greatest D.faults) lanes.old) (S.faults feed.old) (K.faults out.old) (K.faults maps.old))) (surroundings (F.told files.new) (F.faults files.new) (stage (S.told feed.new) (K.told out.new) (K.told maps.new) (M.told pace.new) (map (lane_told P.told P.faults G.told D.asked D.looks D.greatest D.faults) lanes.new) (S.faults feed.new) (K.faults out.new) (K.faults maps.new))) result }
 {
     match load_topology(alloc, files, topology) {
         Ok(topology) => serve_topology::<Brand, R, S, K, P, G, D, M>(
