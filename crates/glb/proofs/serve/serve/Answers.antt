@@ -1,24 +1,27 @@
-use Rattle.std.proofs.Common.{inl, inr, refl, arith}
+use Rattle.std.proofs.Common.{inl, inr, refl, rules, arith}
 use Rattle.glb.proofs.Lanes.{session_causes, unread_causes}
 use Rattle.glb.proofs.Reports.{stopped_load, stopped_run}
 use Rattle.glb.proofs.Sessions.{session_later}
+use Rattle.glb.proofs.Tasks.{promised}
 use Rattle.glb.proofs.serve.serve.Goals as goal
 
-pub returns-in-Ok-clause-causes : goal.returns-in-Ok-clause-causes
-returns-in-Ok-clause-causes g c =
+pub returns-in-Ok : goal.returns-in-Ok
+returns-in-Ok g c =
     let later = session_later _ _ _ _ _ _ _ c.serve_topology.ensures in
-    record { files_later = c.load_topology.ensures.later; feed_later = later.feed; out_later = later.out; maps_later = later.maps; source = λ h. inr (later.source h); sink = later.sink; lanes = session_causes _ _ _ _ _ _ _ c.requires.workers.0 c.serve_topology.ensures }
+    promised _ _ _ _ _ (search rules) (search rules) (search rules)
+    (record { files_later = c.load_topology.ensures.later; feed_later = later.feed; out_later = later.out; maps_later = later.maps; source = λ h. inr (later.source h); sink = later.sink; lanes = session_causes _ _ _ _ _ _ _ c.requires.workers.0 c.serve_topology.ensures })
 
-pub returns-in-Err-clause-run : goal.returns-in-Err-clause-run
-returns-in-Err-clause-run g c = inl (record { run = stopped_run _ _ _ _ _ c.in-Err.ensures.said c.finish.ensures.run; rest = record { lent = refl; rest = refl } })
-
-pub returns-in-Err-clause-causes : goal.returns-in-Err-clause-causes
-returns-in-Err-clause-causes g c = record {
-  files_later = c.load_topology.ensures.later;
-  feed_later = omega arith;
-  out_later = c.finish.ensures.later;
-  maps_later = omega arith;
-  source = λ h. inl (c.load_topology.ensures.cause (stopped_load c.in-Err.stop c.load_topology.result _ c.in-Err.is refl (c.finish.ensures.source.0 h)));
-  sink = λ h. inl (c.finish.ensures.cause h);
-  lanes = unread_causes _ _ _ _ _ _ _ _ _ _ (stopped_run _ _ _ _ _ c.in-Err.ensures.said c.finish.ensures.run);
-}
+pub returns-in-Err : goal.returns-in-Err
+returns-in-Err g c = promised _ _ _ _ _
+    (inl (record { run = stopped_run _ _ _ _ _ c.in-Err.ensures.said c.finish.ensures.run; rest = record { lent = refl; rest = refl } }))
+    (search rules)
+    (search rules)
+    (record {
+      files_later = c.load_topology.ensures.later;
+      feed_later = omega arith;
+      out_later = c.finish.ensures.later;
+      maps_later = omega arith;
+      source = λ h. inl (c.load_topology.ensures.cause (stopped_load c.in-Err.stop c.load_topology.result _ c.in-Err.is refl (c.finish.ensures.source.0 h)));
+      sink = λ h. inl (c.finish.ensures.cause h);
+      lanes = unread_causes _ _ _ _ _ _ _ _ _ _ (stopped_run _ _ _ _ _ c.in-Err.ensures.said c.finish.ensures.run);
+    })
