@@ -1,5 +1,5 @@
 -- Items one after another, and what is told behind them.
-use Rattle.std.proofs.Common.{◌≡◌, inl, inr, ℕ, List, [], ◌∷◌, refl, subst, sym}
+use Rattle.std.proofs.Common.{◌≡◌, ◌≢◌, inl, inr, ℕ, List, [], ◌∷◌, refl, subst, sym}
 use Rattle.std.specs.Prelude.{IsSome, None, Option, Some}
 use Rattle.outside.specs.Source.{Fed}
 use Rattle.topology_text.specs.Plan.{Plan}
@@ -66,6 +66,15 @@ ends_keep does cuts Keeps rest join f g ends.SourceFault t turns pieces fed then
 ends_keep does cuts Keeps rest join f g ends.Spent t turns pieces fed then a b h = all_keep does Keeps rest join f _ a b h.2
 ends_keep does cuts Keeps rest join f g ends.SinkFault t turns pieces fed then a b (inl h) = join a h.2.3 b (all_keep does Keeps rest join f h.2.0 a h.2.3 h.2.5) (g h.2.1 h.2.3 b h.2.6)
 ends_keep does cuts Keeps rest join f g ends.SinkFault t turns pieces fed then a b (inr h) = join a h.2.3 b (all_keep does Keeps rest join f h.2.0 a h.2.3 h.2.5) (g h.2.1 h.2.3 b h.2.6)
+
+-- what holds from item to item holds of a run in which none is broken off
+pub ends_whole : {X : Type 0} (does cuts : Item → X → X → Type 0) (Keeps : X → X → Type 0) → ((a : X) → Keeps a a) → ((a b c : X) → Keeps a b → Keeps b c → Keeps a c) → ((item : Item) (a b : X) → does item a b → Keeps a b)
+    → (end : FeedEnd) (t : Plan) (turns : ℕ) (pieces : List (List ℕ)) (fed then : Option Fed) (a b : X) → end ≢ ends.SinkFault → EndsBy does cuts end t turns pieces fed then a b → Keeps a b
+ends_whole does cuts Keeps rest join f ends.Ended t turns pieces fed then a b whole (inl h) = all_keep does Keeps rest join f _ a b h.2
+ends_whole does cuts Keeps rest join f ends.Ended t turns pieces fed then a b whole (inr h) = all_keep does Keeps rest join f _ a b h.2
+ends_whole does cuts Keeps rest join f ends.SourceFault t turns pieces fed then a b whole h = all_keep does Keeps rest join f _ a b h.2
+ends_whole does cuts Keeps rest join f ends.Spent t turns pieces fed then a b whole h = all_keep does Keeps rest join f _ a b h.2
+ends_whole does cuts Keeps rest join f ends.SinkFault t turns pieces fed then a b whole h = absurd (whole refl)
 
 -- what one that is broken off leaves, and the items before it keep, is left by a run that it ends
 pub ends_cut : {X : Type 0} (does cuts : Item → X → X → Type 0) (Keeps Left : X → X → Type 0) → ((a : X) → Keeps a a) → ((a b c : X) → Keeps a b → Keeps b c → Keeps a c) → ((item : Item) (a b : X) → does item a b → Keeps a b)

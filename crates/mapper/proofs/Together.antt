@@ -1,5 +1,5 @@
 -- A session over a whole feed.
-use Rattle.std.proofs.Common.{inl, inr, ℕ, List, refl, ◌∙◌, arith}
+use Rattle.std.proofs.Common.{◌≢◌, inl, inr, ℕ, List, refl, ◌∙◌, arith}
 use Rattle.std.specs.Prelude.{Option}
 use Rattle.outside.specs.Sink.{Written}
 use Rattle.outside.specs.Source.{Fed}
@@ -10,9 +10,9 @@ use Rattle.demand_feed.specs.declared.run.FeedEnd.{FeedEnd}
 use Rattle.demand_feed.specs.declared.run.FeedEnd.TheVariants as ends
 use Rattle.published_map.specs.Version.{Version}
 use Rattle.mapper.specs.Feeding.{HasEnded}
-use Rattle.mapper.specs.Sessions.{HasFault, Keeps, SessionCuts, SessionDoes, told_by}
+use Rattle.mapper.specs.Sessions.{HasFault, HasNoFault, Keeps, SessionCuts, SessionDoes, told_by}
 use Rattle.mapper.specs.declared.session.Session.{Session}
-use Rattle.mapper.proofs.Chains.{ends_cut, ends_keep, has_ended}
+use Rattle.mapper.proofs.Chains.{ends_cut, ends_keep, ends_whole, has_ended}
 
 rests : {R X K M : Type 0} (lent : X → ℕ) (faults : K → ℕ) (a : Session R X K M) → Keeps lent faults a a
 rests lent faults a = ((refl, refl, refl, refl), refl, omega arith, omega arith)
@@ -31,6 +31,13 @@ pub keeps_all : {R X K M : Type 0} (newest : X → Version) (history : X → Lis
 keeps_all newest history lent told faults paced end t turns pieces fed then a b h =
     ends_keep (SessionDoes newest history lent told faults paced) (SessionCuts newest history lent told faults paced) (Keeps lent faults) (rests lent faults) (joins lent faults) (λ item x y d. d.0) (λ item x y d. d.0) end t turns pieces fed then a b h
 
+-- no count of faults changed in a run that no output ended
+pub none_all : {R X K M : Type 0} (newest : X → Version) (history : X → List Version) (lent : X → ℕ) (told : K → Option Written) (faults : K → ℕ) (paced : M → Option (List PaceCall))
+    → (end : FeedEnd) (t : Plan) (turns : ℕ) (pieces : List (List ℕ)) (fed then : Option Fed) (a b : Session R X K M) → end ≢ ends.SinkFault
+    → EndsBy (SessionDoes newest history lent told faults paced) (SessionCuts newest history lent told faults paced) end t turns pieces fed then a b → HasNoFault faults a b
+none_all newest history lent told faults paced end t turns pieces fed then a b whole h =
+    ends_whole (SessionDoes newest history lent told faults paced) (SessionCuts newest history lent told faults paced) (HasNoFault faults) (λ x. (refl, refl)) (λ x y z p q. (q.0 ∙ p.0, q.1 ∙ p.1)) (λ item x y d. d.1) end t turns pieces fed then a b whole h
+
 -- a run that an output ended has a fault of it
 pub fault_all : {R X K M : Type 0} (newest : X → Version) (history : X → List Version) (lent : X → ℕ) (told : K → Option Written) (faults : K → ℕ) (paced : M → Option (List PaceCall))
     → (t : Plan) (turns : ℕ) (pieces : List (List ℕ)) (fed then : Option Fed) (a b : Session R X K M)
@@ -45,4 +52,4 @@ pub ended_all : {R X K M : Type 0} (newest : X → Version) (history : X → Lis
     → EndsBy (SessionDoes newest history lent told faults paced) (SessionCuts newest history lent told faults paced) end t turns pieces fed then a b
     → HasEnded end t turns pieces fed then (told_by newest history told paced a) (told_by newest history told paced b)
 ended_all newest history lent told faults paced end t turns pieces fed then a b h =
-    has_ended (SessionDoes newest history lent told faults paced) (SessionCuts newest history lent told faults paced) (told_by newest history told paced) (λ item x y d. d.1) (λ item x y d. d.2) end t turns pieces fed then a b h
+    has_ended (SessionDoes newest history lent told faults paced) (SessionCuts newest history lent told faults paced) (told_by newest history told paced) (λ item x y d. d.2) (λ item x y d. d.2) end t turns pieces fed then a b h

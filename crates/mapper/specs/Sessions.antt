@@ -25,9 +25,13 @@ Keeps lent faults a b = IsSame a b × (lent b.mapper.now ≡ lent a.mapper.now) 
 abbrev pub HasFault : {R X K M : Type 0} → (K → ℕ) → Session R X K M → Session R X K M → Type 0
 HasFault faults a b = Rose (faults a.out.now) (faults b.out.now) ⊎ Rose (faults a.maps.now) (faults b.maps.now)
 
+-- no count of faults changed
+abbrev pub HasNoFault : {R X K M : Type 0} → (K → ℕ) → Session R X K M → Session R X K M → Type 0
+HasNoFault faults a b = (faults b.out.now ≡ faults a.out.now) × (faults b.maps.now ≡ faults a.maps.now)
+
 -- an item that is taken whole
 abbrev pub SessionDoes : {R X K M : Type 0} → (X → Version) → (X → List Version) → (X → ℕ) → (K → Option Written) → (K → ℕ) → (M → Option (List PaceCall)) → Item → Session R X K M → Session R X K M → Type 0
-SessionDoes newest history lent told faults paced item a b = Keeps lent faults a b × Does item (told_by newest history told paced a) (told_by newest history told paced b)
+SessionDoes newest history lent told faults paced item a b = Keeps lent faults a b × HasNoFault faults a b × Does item (told_by newest history told paced a) (told_by newest history told paced b)
 
 -- an item of which a put failed
 abbrev pub SessionCuts : {R X K M : Type 0} → (X → Version) → (X → List Version) → (X → ℕ) → (K → Option Written) → (K → ℕ) → (M → Option (List PaceCall)) → Item → Session R X K M → Session R X K M → Type 0

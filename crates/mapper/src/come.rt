@@ -26,6 +26,7 @@ fn say<K: Sink>(line: &mut Spoken, out: &mut K, saying: &Saying) -> Put
     ensures put { BothTell (K.told out.old) (K.told out.new) (IsPut result (text_of saying.now)) }
     ensures later { K.faults out.old ≤ K.faults out.new }
     ensures cause { result ≡ Put.Failed → Rose (K.faults out.old) (K.faults out.new) }
+    ensures stays { result ≢ Put.Failed → K.faults out.new ≡ K.faults out.old }
 {
     write_saying(line, saying);
     out.put(line.as_slice())
@@ -46,6 +47,7 @@ fn publish<R: Wait, X: Mapping, K: Sink>(
     ensures put { BothPut result (map_text (X.newest mapper.old)) (text.published serial) (K.told maps.old) (K.told maps.new) (K.told out.old) (K.told out.new) }
     ensures later { (K.faults out.old ≤ K.faults out.new) × (K.faults maps.old ≤ K.faults maps.new) }
     ensures cause { result ≡ Put.Failed → Rose (K.faults out.old) (K.faults out.new) ⊎ Rose (K.faults maps.old) (K.faults maps.new) }
+    ensures stays { result ≢ Put.Failed → (K.faults out.new ≡ K.faults out.old) × (K.faults maps.new ≡ K.faults maps.old) }
 {
     match maps.put(mapper.text()) {
         Put::Done => {}
@@ -79,6 +81,7 @@ fn commit<R: Wait, X: Mapping, K: Sink>(
     ensures serial { (X.newest mapper.new).serial ≤ (X.newest mapper.old).serial + 1 }
     ensures later { (K.faults out.old ≤ K.faults out.new) × (K.faults maps.old ≤ K.faults maps.new) }
     ensures cause { result ≡ Put.Failed → Rose (K.faults out.old) (K.faults out.new) ⊎ Rose (K.faults maps.old) (K.faults maps.new) }
+    ensures stays { result ≢ Put.Failed → (K.faults out.new ≡ K.faults out.old) × (K.faults maps.new ≡ K.faults maps.old) }
 {
     match mapper.commit(rt, batch) {
         Ok(serial) => publish(rt, mapper, line, serial, out, maps),
@@ -110,6 +113,7 @@ fn say_item<X: Mapping, K: Sink>(mapper: &X, line: &mut Spoken, next: &Next, out
     ensures put { PutIf (line_for (X.newest mapper.now) next.now) result (K.told out.old) (K.told out.new) }
     ensures later { K.faults out.old ≤ K.faults out.new }
     ensures cause { result ≡ Put.Failed → Rose (K.faults out.old) (K.faults out.new) }
+    ensures stays { result ≢ Put.Failed → K.faults out.new ≡ K.faults out.old }
 {
     match saying_of(mapper, next) {
         Some(saying) => say(line, out, &saying),
@@ -139,6 +143,7 @@ pub(crate) fn come<R: Wait, X: Mapping, K: Sink, M: Pace>(
     ensures said { result ≡ Put.Failed → IsSome (item_by due.now next.now) }
     ensures later { (K.faults out.old ≤ K.faults out.new) × (K.faults maps.old ≤ K.faults maps.new) }
     ensures cause { result ≡ Put.Failed → Rose (K.faults out.old) (K.faults out.new) ⊎ Rose (K.faults maps.old) (K.faults maps.new) }
+    ensures stays { result ≢ Put.Failed → (K.faults out.new ≡ K.faults out.old) × (K.faults maps.new ≡ K.faults maps.old) }
 {
     match next {
         Next::Batch => {

@@ -308,6 +308,7 @@ impl<J: Naming> Mapper<J> {
         ensures plan { self.new.newest.plan ≡ self.old.newest.plan }
         ensures later { (K.faults out.old ≤ K.faults out.new) × (K.faults maps.old ≤ K.faults maps.new) }
         ensures sink { result ≡ FeedEnd.SinkFault → Rose (K.faults out.old) (K.faults out.new) ⊎ Rose (K.faults maps.old) (K.faults maps.new) }
+        ensures sink_stays { result ≢ FeedEnd.SinkFault → (K.faults out.new ≡ K.faults out.old) × (K.faults maps.new ≡ K.faults maps.old) }
         ensures source { result ≡ FeedEnd.SourceFault → Rose (S.faults feed.old) (S.faults feed.new) }
         ensures source_later { S.faults feed.old ≤ S.faults feed.new }
         ensures source_stays { result ≢ FeedEnd.SourceFault → S.faults feed.new ≡ S.faults feed.old }

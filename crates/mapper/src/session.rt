@@ -7,7 +7,7 @@ ghost use Rattle.demand_feed.specs.Clerk.{item_by};
 ghost use Rattle.demand_feed.specs.declared.limits.TheConstants.{MOST_TURNS};
 ghost use Rattle.mapper.specs.Feeding.{IsFeed, IsFeedRun};
 ghost use Rattle.mapper.specs.Scenes.{scene};
-ghost use Rattle.mapper.specs.Sessions.{HasFault, Keeps, told_by};
+ghost use Rattle.mapper.specs.Sessions.{HasFault, HasNoFault, Keeps, told_by};
 
 use crate::come::come;
 use crate::{Mapping, Spoken};
@@ -82,6 +82,7 @@ fn work<R: Wait, S: Source, X: Mapping, K: Sink, M: Pace>(
     ensures keeps { Keeps X.lent K.faults session.old session.new }
     ensures run { IsFeedRun topology.now turns result (S.told feed.old) (S.told feed.new) (told_by X.newest X.history K.told M.told session.old) (told_by X.newest X.history K.told M.told session.new) }
     ensures sink { result ≡ FeedEnd.SinkFault → HasFault K.faults session.old session.new }
+    ensures sink_stays { result ≢ FeedEnd.SinkFault → HasNoFault K.faults session.old session.new }
     ensures source { result ≡ FeedEnd.SourceFault → Rose (S.faults feed.old) (S.faults feed.new) }
     ensures source_later { S.faults feed.old ≤ S.faults feed.new }
     ensures source_stays { result ≢ FeedEnd.SourceFault → S.faults feed.new ≡ S.faults feed.old }
@@ -105,6 +106,7 @@ fn finish<R: Wait, S: Source, X: Mapping, K: Sink, M: Pace>(
     ensures plan { (X.newest session.new.mapper.now).plan ≡ (X.newest session.old.mapper.now).plan }
     ensures kept { IsPrefix (X.history session.old.mapper.now) (X.history session.new.mapper.now) }
     ensures sink { result ≡ FeedEnd.SinkFault → HasFault K.faults session.old session.new }
+    ensures sink_stays { result ≢ FeedEnd.SinkFault → HasNoFault K.faults session.old session.new }
     ensures source { result ≡ FeedEnd.SourceFault → Rose (S.faults feed.old) (S.faults feed.new) }
     ensures source_later { S.faults feed.old ≤ S.faults feed.new }
     ensures source_stays { result ≢ FeedEnd.SourceFault → S.faults feed.new ≡ S.faults feed.old }
@@ -138,6 +140,7 @@ pub fn run_feed<R: Wait, S: Source, X: Mapping, K: Sink, M: Pace>(
     ensures kept { IsPrefix (X.history mapper.old) (X.history mapper.new) }
     ensures later { (K.faults out.old ≤ K.faults out.new) × (K.faults maps.old ≤ K.faults maps.new) }
     ensures sink { result ≡ FeedEnd.SinkFault → Rose (K.faults out.old) (K.faults out.new) ⊎ Rose (K.faults maps.old) (K.faults maps.new) }
+    ensures sink_stays { result ≢ FeedEnd.SinkFault → (K.faults out.new ≡ K.faults out.old) × (K.faults maps.new ≡ K.faults maps.old) }
     ensures source { result ≡ FeedEnd.SourceFault → Rose (S.faults feed.old) (S.faults feed.new) }
     ensures source_later { S.faults feed.old ≤ S.faults feed.new }
     ensures source_stays { result ≢ FeedEnd.SourceFault → S.faults feed.new ≡ S.faults feed.old }
