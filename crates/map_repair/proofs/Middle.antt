@@ -6,7 +6,7 @@ use Rattle.std.proofs.lemmas.Bool.{and_parts, cases_Bool, cases_eq, cases_lt, eq
 use Rattle.map_model.specs.declared.lines.MapLine.{MapLine}
 use Rattle.map_model.specs.Market.{Market, IsMarket, IsSameShape, capacity_of, choices_of, demand_of}
 use Rattle.map_model.specs.Allocation.{IsOffer, amount_at, placed_through, is_wanted, name_of, placed, refuser_of, units_of}
-use Rattle.map_model.specs.Progress.{HoldsIn, IsClosedUnderRepair, IsClosedUnderSpread, root_of, tree_of}
+use Rattle.map_model.specs.Progress.{HoldsIn, IsClosedUnderRepair, IsClosedUnderSpread, IsEnded, root_of, tree_of}
 use Rattle.map_model.proofs.MapForm.{offers-AreLines, line-some}
 use Rattle.map_model.proofs.Shapes.{IsOffer-shape, root_of-shape, shape_sym, shape_trans, tree_of-shape}
 use Rattle.map_model.proofs.Units.{units_of-le, through-le-placed, units-agree, none-units}
@@ -18,6 +18,7 @@ use Rattle.reopen.proofs.Lessening.{placed_none}
 use Rattle.reopen.proofs.Sameness.{refuser-same}
 use Rattle.deferred_accept.specs.Runs.{HasRun, WantsBefore, proposals_of}
 use Rattle.deferred_accept.specs.Spreading.{HoldsWork, StaysInside, is_inside}
+use Rattle.deferred_accept.proofs.Past.{past_of_ended}
 use Rattle.deferred_accept.proofs.Sums.{sum-le}
 use Rattle.map_repair.specs.Marks.{AreReached, IsClosedFor, IsWithin, is_on}
 use Rattle.map_repair.specs.Repaired.{IsKept, IsStateOf, most_inside}
@@ -187,6 +188,10 @@ module _ (old new : Market) (s mid : Standing) (marks : List Bool) (k0 : IsMiddl
               let off : is_on marks (tree_of new g x.place) ≡ false = (rb.pointers g o.group).before x.place (omega (arith, below, leb-true x.place k p.1)) in
               absurd (false≢true (sym off ∙ ap (is_on marks) (same_tree g x.place) ∙ k0.reached.closed.lowered g (tree_of old g x.place) og.group less (x.place, og, refl, held)))
         ]
+
+    -- A run that ends from there leaves a state of its own map.
+    pub state_of : (final : Standing) → HasRun new rolled final → IsEnded new final.pointers final.free → (WantsBefore new rolled → WantsBefore new final) → IsStateOf new final
+    state_of final run ended wanted = record { ready = run.ready; pointers = past_of_ended new final run.ready ended (wanted wants_rolled) }
 
     module _ (trees : ℕ → Bool) (spread : IsClosedUnderSpread old s.lines new trees) where
       off_marks : (root : ℕ) → trees root ≡ false → is_on marks root ≡ false

@@ -10,9 +10,13 @@ use Rattle.map_model.specs.Progress.{IsClosedUnderSpread, IsReached, IsSpread, t
 use Rattle.map_model.proofs.Paths.{pool_there}
 use Rattle.map_model.proofs.Roots.{root-there}
 use Rattle.map_repair.specs.Marks.{AreReached, is_on, unmarked}
-use Rattle.map_repair.specs.Repaired.{IsLocal, IsWithinSpread, most_inside}
-use Rattle.map_repair.proofs.Middle.{IsLocalOutside}
+use Rattle.evict.specs.Standing.{Standing}
+use Rattle.reopen.specs.Rolling.{IsRolledBack}
+use Rattle.deferred_accept.specs.Runs.{HasRun}
+use Rattle.deferred_accept.specs.Spreading.{HoldsWork, StaysInside}
 use Rattle.deferred_accept.proofs.Sums.{sum-le}
+use Rattle.map_repair.specs.Repaired.{IsLocal, IsWithinSpread, most_inside}
+use Rattle.map_repair.proofs.Middle.{IsLocalOutside, IsMiddle, bounded, holds_work, local}
 use Rattle.map_repair.proofs.Marking.{on_from_set, on_set}
 
 -- whether something is so of a number below a bound, where that can be told of each
@@ -120,7 +124,7 @@ module _ (old : Market) (lines : List MapLine) (new : Market) (market : IsMarket
   })
 
 -- what holds of each set of trees that is closed under spread holds of the spread trees
-pub local_spread : (old : Market) (lines : List MapLine) (new : Market) (repaired : List MapLine) → IsMarket old → (marks : List Bool) → AreReached old lines new marks
+local_spread : (old : Market) (lines : List MapLine) (new : Market) (repaired : List MapLine) → IsMarket old → (marks : List Bool) → AreReached old lines new marks
     → ((trees : ℕ → Bool) → IsClosedUnderSpread old lines new trees → IsLocalOutside old lines new repaired trees) → IsLocal old lines new repaired
 local_spread old lines new repaired market marks are each =
     let w = spread_set old lines new market marks are in
@@ -128,7 +132,7 @@ local_spread old lines new repaired market marks are each =
     let off : (root : ℕ) → (IsSpread old lines new root → ⊥) → is_on w.0 root ≡ false = λ root apart. elim (cases_Bool (is_on w.0 root)) [ inr n ↦ n | inl y ↦ absurd (apart (w.2 root y)) ] in
     record { amounts = λ g k o apart. outside.amounts g k o (off (tree_of old g k) apart); names = λ g k o apart. outside.names g k o (off (tree_of old g k) apart) }
 
-pub within_spread : (old : Market) (lines : List MapLine) (new : Market) (before after : ℕ) → IsMarket old → IsSameShape old new → (marks : List Bool) → AreReached old lines new marks
+within_spread : (old : Market) (lines : List MapLine) (new : Market) (before after : ℕ) → IsMarket old → IsSameShape old new → (marks : List Bool) → AreReached old lines new marks
     → ((trees : ℕ → Bool) → IsClosedUnderSpread old lines new trees → after ≤ before + most_inside new trees) → IsWithinSpread old lines new before after
 within_spread old lines new before after market shape marks are each = λ trees all.
     let w = spread_set old lines new market marks are in
@@ -140,3 +144,17 @@ within_spread old lines new before after market shape marks are each = λ trees 
     one true true n h = omega arith
     one true false n h = absurd (false≢true (h refl))
     one false c n h = omega arith
+
+-- A run from what was rolled back changes nothing outside the spread trees, and its proposals are within those of the groups there.
+module _ (old new : Market) (s mid : Standing) (marks : List Bool) (k : IsMiddle old new s mid marks) (rolled : Standing) (rb : IsRolledBack new marks mid rolled) (final : Standing) (before after : ℕ) where
+  abbrev Stays : Type 0
+  Stays = (trees : ℕ → Bool) → HoldsWork new trees rolled → StaysInside new trees rolled final before after
+
+  stays : Stays → (trees : ℕ → Bool) → IsClosedUnderSpread old s.lines new trees → StaysInside new trees rolled final before after
+  stays inside trees spread = inside trees (holds_work old new s mid marks k rolled rb trees spread)
+
+  pub stays_local : HasRun new rolled final → Stays → IsLocal old s.lines new final.lines
+  stays_local run inside = local_spread old s.lines new final.lines k.of.ready.market marks k.reached (λ trees spread. local old new s mid marks k rolled rb trees spread final before after run.ready (stays inside trees spread))
+
+  pub stays_within : Stays → IsWithinSpread old s.lines new before after
+  stays_within inside = within_spread old s.lines new before after k.of.ready.market k.shape marks k.reached (λ trees spread. bounded old new s mid marks k rolled rb trees spread final before after (stays inside trees spread))

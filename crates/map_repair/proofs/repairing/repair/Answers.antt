@@ -1,7 +1,6 @@
 use Rattle.std.proofs.Common.{List, OnOk, Result, Ok, Err, slice_index, sym, subst}
 use Rattle.std.proofs.lemmas.Result.{IfOk-weaker}
 use Rattle.map_model.specs.declared.lines.MapLine.{MapLine}
-use Rattle.map_model.specs.Market.{Market}
 use Rattle.evict.specs.Standing.{IsOfMap, IsPastWanted, Standing}
 use Rattle.map_repair.specs.Repaired.{IsKept, IsWithinSpread}
 use Rattle.map_repair.proofs.repairing.repair.Goals as goal
@@ -12,22 +11,17 @@ whenever (Err e) p = tt
 
 pub returns-clause-kept : goal.returns-clause-kept
 returns-clause-kept g c =
-    let old : Market = c.args.old.now in
-    let new : Market = c.args.new.now in
-    let s : Standing = c.in_ok-state.state in
-    let of : IsOfMap old c.args.map.now.lines.items s = c.in_ok-state.ensures in
-    let made : IsKept old c.args.map.now.lines.items new c.resume.new.state.lines = subst (λ (ls : List MapLine). IsKept old ls new c.resume.new.state.lines) of.lines c.in_ok-resume.ensures.kept in
-    IfOk-weaker c.finish.result _ _ (λ m e. subst (λ (ls : List MapLine). IsKept old c.args.map.now.lines.items new ls) (sym e) made) c.finish.ensures.lines
+    let kept = subst (λ (ls : List MapLine). IsKept c.args.old.now ls c.args.new.now c.resume.new.state.lines) c.in_ok-state.ensures.lines c.in_ok-resume.ensures.kept in
+    IfOk-weaker c.finish.result _ _ (λ m e. subst (λ (ls : List MapLine). IsKept c.args.old.now c.args.map.now.lines.items c.args.new.now ls) (sym e) kept) c.finish.ensures.lines
 
 pub returns-clause-counted : goal.returns-clause-counted
 returns-clause-counted g c =
-    let old : Market = c.args.old.now in
     let s : Standing = c.in_ok-state.state in
-    let of : IsOfMap old c.args.map.now.lines.items s = c.in_ok-state.ensures in
+    let of : IsOfMap c.args.old.now c.args.map.now.lines.items s = c.in_ok-state.ensures in
     IfOk-weaker c.finish.result _ _
     (λ m e. record {
       from = s;
-      of_map = record { ready = of.ready; pointers = λ h l. subst (λ (ls : List MapLine). IsPastWanted old ls h (slice_index s.pointers h)) (sym of.lines) (of.pointers h l) };
+      of_map = record { ready = of.ready; pointers = λ h l. subst (λ (ls : List MapLine). IsPastWanted c.args.old.now ls h (slice_index s.pointers h)) (sym of.lines) (of.pointers h l) };
       holds = of.lines;
       to = c.resume.new.state;
       resumed = c.in_ok-resume.ensures.counted;
@@ -36,9 +30,4 @@ returns-clause-counted g c =
     c.finish.ensures.lines
 
 pub returns-clause-steps : goal.returns-clause-steps
-returns-clause-steps g c =
-    let old : Market = c.args.old.now in
-    let new : Market = c.args.new.now in
-    let s : Standing = c.in_ok-state.state in
-    let of : IsOfMap old c.args.map.now.lines.items s = c.in_ok-state.ensures in
-    whenever c.finish.result (subst (λ (ls : List MapLine). IsWithinSpread old ls new c.args.steps.now c.resume.new.steps) of.lines c.in_ok-resume.ensures.steps)
+returns-clause-steps g c = whenever c.finish.result (subst (λ (ls : List MapLine). IsWithinSpread c.args.old.now ls c.args.new.now c.args.steps.now c.resume.new.steps) c.in_ok-state.ensures.lines c.in_ok-resume.ensures.steps)
