@@ -13,9 +13,9 @@ use Rattle.published_map.specs.Version.{Version}
 use Rattle.mapper.specs.Words.{map_text}
 use Rattle.mapper.specs.Texts as text
 use Rattle.mapper.specs.Control.{Course, IsCommit, IsNext, before_commit, start, with_line, with_version}
-use Rattle.mapper.specs.Scenes.{IsAt, IsCut, IsCutInMaps, IsCutInOut, IsPrinted, Scene, scene}
+use Rattle.mapper.specs.Scenes.{IsAt, IsCutInMaps, IsCutInOut, IsPrinted, Scene, scene}
 use Rattle.mapper.specs.Coming.{BothPut, Came}
-use Rattle.demand_feed.proofs.Tellings.{tell_self, tell_trans}
+use Rattle.demand_feed.proofs.Tellings.{tell_self}
 use Rattle.mapper.proofs.Tellings.{paced_none, paced_trans, printed_cut, printed_more, printed_none}
 
 -- a put of a line
@@ -29,7 +29,7 @@ said_at put.Done before base c v h out o maps pace line eo em at p = (
     history = at.history;
     maps = at.maps;
     pace = at.pace;
-    out = tell_trans before.out out o (IsPrinted c.out) (IsPut put.Done line) (IsPrinted (c.out ++ line ∷ [])) at.out p (printed_more c.out line);
+    out = printed_more c.out line before.out out o at.out p;
   },
 )
 said_at put.Failed before base c v h out o maps pace line eo em at p = (
@@ -42,7 +42,7 @@ said_at put.Failed before base c v h out o maps pace line eo em at p = (
     puts = inl (record {
       line = line;
       last = ap (λ xs. xs ++ line ∷ []) (sym eo);
-      out = rw eo (tell_trans before.out out o (IsPrinted c.out) (IsPut put.Failed line) (IsCut c.out line) at.out p (printed_cut c.out line));
+      out = rw eo (printed_cut c.out line before.out out o at.out p);
       maps = at.maps;
     });
   },
@@ -58,8 +58,8 @@ published_at put.Done before base c changes v w h k out o maps m pace eo em at n
   record {
     newest = refl;
     history = grown ∙ ap (λ xs. xs ++ w ∷ []) at.history ∙ append_assoc before.history c.versions (w ∷ []);
-    out = tell_trans before.out out o (IsPrinted c.out) (IsPut put.Done (text.published w.serial)) (IsPrinted (c.out ++ text.published w.serial ∷ [])) at.out p.1 (printed_more c.out (text.published w.serial));
-    maps = tell_trans before.maps maps m (IsPrinted c.maps) (IsPut put.Done (map_text w)) (IsPrinted (c.maps ++ map_text w ∷ [])) at.maps p.0 (printed_more c.maps (map_text w));
+    out = printed_more c.out (text.published w.serial) before.out out o at.out p.1;
+    maps = printed_more c.maps (map_text w) before.maps maps m at.maps p.0;
     pace = at.pace;
   },
 )
@@ -79,14 +79,14 @@ published_at put.Failed before base c changes v w h k out o maps m pace eo em at
     go (inl q) = inl (record {
       line = text.published w.serial;
       last = ap (λ xs. xs ++ text.published w.serial ∷ []) (sym eo);
-      out = rw eo (tell_trans before.out out o (IsPrinted c.out) (IsPut put.Failed (text.published w.serial)) (IsCut c.out (text.published w.serial)) at.out q.1 (printed_cut c.out (text.published w.serial)));
-      maps = tell_trans before.maps maps m (IsPrinted c.maps) (IsPut put.Done (map_text w)) (IsPrinted (c.maps ++ map_text w ∷ [])) at.maps q.0 (printed_more c.maps (map_text w));
+      out = rw eo (printed_cut c.out (text.published w.serial) before.out out o at.out q.1);
+      maps = printed_more c.maps (map_text w) before.maps maps m at.maps q.0;
     })
     go (inr q) = inr (record {
       text = map_text w;
       last = ap (λ xs. xs ++ map_text w ∷ []) (sym em);
       out = rw (eo, q.1) at.out;
-      maps = rw em (tell_trans before.maps maps m (IsPrinted c.maps) (IsPut put.Failed (map_text w)) (IsCut c.maps (map_text w)) at.maps q.0 (printed_cut c.maps (map_text w)));
+      maps = rw em (printed_cut c.maps (map_text w) before.maps maps m at.maps q.0);
     })
 
 -- the pace is called ahead of a commit line

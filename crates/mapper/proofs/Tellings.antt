@@ -2,12 +2,12 @@
 use Rattle.std.proofs.Common.{◌≡◌, ℕ, ◌+◌, List, [], ◌∷◌, ◌++◌, length, take, append_assoc, append-nil, ap, sym, ◌∙◌, arith}
 use Rattle.std.specs.Prelude.{Option, None, Some}
 use Rattle.std.specs.List.{concat}
-use Rattle.outside.specs.Faults.{raised}
+use Rattle.outside.specs.Faults.{BothTell, raised}
 use Rattle.outside.specs.Pace.{IsPaced}
 use Rattle.outside.specs.Sink.{IsPut, Written}
 use Rattle.outside.specs.declared.pace.PaceCall.{PaceCall}
 use Rattle.outside.specs.declared.sink.Put.TheVariants as put
-use Rattle.demand_feed.proofs.Tellings.{concat_end, one_more}
+use Rattle.demand_feed.proofs.Tellings.{concat_end, one_more, tell_trans}
 use Rattle.mapper.specs.Scenes.{IsCut, IsPrinted}
 
 pub paced_trans : (xs ys : List PaceCall) (a b c : Option (List PaceCall)) → IsPaced xs a b → IsPaced ys b c → IsPaced (xs ++ ys) a c
@@ -24,19 +24,21 @@ raised_more : (a n : ℕ) → raised (raised a n) 1 ≡ raised a (n + 1)
 raised_more a n = omega arith
 
 -- one piece more was put
-pub printed_more : (ps : List (List ℕ)) (p : List ℕ) (a b c : Written) → IsPrinted ps a b → IsPut put.Done p b c → IsPrinted (ps ++ p ∷ []) a c
-printed_more ps p a b c r s = record {
-  bytes = s.bytes ∙ ap (λ xs. xs ++ p) r.bytes ∙ append_assoc a.bytes (concat ps) p ∙ ap (λ xs. a.bytes ++ xs) (sym (concat_end ps p));
-  puts = s.puts ∙ ap (λ n. raised n 1) r.puts ∙ raised_more a.puts (length ps) ∙ ap (raised a.puts) (sym (one_more ps p));
-}
+pub printed_more : (ps : List (List ℕ)) (p : List ℕ) (a b c : Option Written) → BothTell a b (IsPrinted ps) → BothTell b c (IsPut put.Done p) → BothTell a c (IsPrinted (ps ++ p ∷ []))
+printed_more ps p a b c r s = tell_trans a b c (IsPrinted ps) (IsPut put.Done p) (IsPrinted (ps ++ p ∷ [])) r s
+    (λ x y z r s. record {
+      bytes = s.bytes ∙ ap (λ xs. xs ++ p) r.bytes ∙ append_assoc x.bytes (concat ps) p ∙ ap (λ xs. x.bytes ++ xs) (sym (concat_end ps p));
+      puts = s.puts ∙ ap (λ n. raised n 1) r.puts ∙ raised_more x.puts (length ps) ∙ ap (raised x.puts) (sym (one_more ps p));
+    })
 
 -- the put of one more failed
-pub printed_cut : (ps : List (List ℕ)) (p : List ℕ) (a b c : Written) → IsPrinted ps a b → IsPut put.Failed p b c → IsCut ps p a c
-printed_cut ps p a b c r s = record {
-  k = s.bytes.0;
-  bytes = s.bytes.1 ∙ ap (λ xs. xs ++ take s.bytes.0 p) r.bytes;
-  puts = s.puts ∙ ap (λ n. raised n 1) r.puts ∙ raised_more a.puts (length ps);
-}
+pub printed_cut : (ps : List (List ℕ)) (p : List ℕ) (a b c : Option Written) → BothTell a b (IsPrinted ps) → BothTell b c (IsPut put.Failed p) → BothTell a c (IsCut ps p)
+printed_cut ps p a b c r s = tell_trans a b c (IsPrinted ps) (IsPut put.Failed p) (IsCut ps p) r s
+    (λ x y z r s. record {
+      k = s.bytes.0;
+      bytes = s.bytes.1 ∙ ap (λ xs. xs ++ take s.bytes.0 p) r.bytes;
+      puts = s.puts ∙ ap (λ n. raised n 1) r.puts ∙ raised_more x.puts (length ps);
+    })
 
 -- nothing was put
 pub printed_none : (a : Written) → IsPrinted [] a a

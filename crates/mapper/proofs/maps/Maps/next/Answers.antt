@@ -10,6 +10,8 @@ use Rattle.map_cell.specs.Ends.{PublisherState}
 use Rattle.mapper.specs.Currents.{IsKeptFor, IsPrepared, Makes, version_of}
 use Rattle.mapper.specs.Mappers.{IsRepairing}
 use Rattle.mapper.proofs.Nexts.{batch_for, good_of, led, prepared}
+use Rattle.mapper.proofs.maps.Maps.next.Given.{Over}
+use Rattle.mapper.proofs.maps.Maps.next.Goals.{In_ok-delta}
 use Rattle.mapper.proofs.maps.Maps.next.Goals as goal
 
 pub between-requires-clause-old : goal.between-requires-clause-old
@@ -25,6 +27,22 @@ between-requires-clause-new g c =
 pub between-requires-clause-shape : goal.between-requires-clause-shape
 between-requires-clause-shape g c = (c.in_ok-current.ensures.makes.next 0).applied.shape
 
+-- what changes between the parts of the newest version and those of the next one
+between : (g : Over) (c : In_ok-delta g)
+    → IsBetween (version_of c.self.inside.publisher.newest.serial c.self.inside.publisher.newest.plan c.self.inside.current) (version_of (c.self.inside.publisher.newest.serial + 1) c.self.inside.publisher.newest.plan c.in_ok-current.current) c.in_ok-delta.delta
+between g c =
+    let v : Version = c.self.inside.publisher.newest in
+    let serial : c.serial.result ≡ v.serial = c.serial.ensures ∙ ap (λ (w : Version). w.serial) c.newest-newest.ensures in
+    subst (λ (s : ℕ). IsBetween (version_of s v.plan c.self.inside.current) (version_of (s + 1) v.plan c.in_ok-current.current) c.in_ok-delta.delta) serial (c.in_ok-delta.ensures v.plan)
+
+-- what holds from the parts of the newest version to those of the next one holds from the newest version on
+leads : (g : Over) (c : In_ok-delta g) (P : Version → Version → Type 0)
+    → P (version_of c.self.inside.publisher.newest.serial c.self.inside.publisher.newest.plan c.self.inside.current) (version_of (c.self.inside.publisher.newest.serial + 1) c.self.inside.publisher.newest.plan c.in_ok-current.current)
+    → P c.args.self.now.newest (after c.args.self.now.newest c.in_ok-delta.delta)
+leads g c P made =
+    subst (λ (p : PublisherState). P p.newest (after p.newest c.in_ok-delta.delta)) c.self.view_is
+    (led P c.self.inside.publisher.newest c.self.inside.current c.in_ok-current.current c.in_ok-delta.delta c.self.invariant.2 (between g c) made)
+
 pub returns-clause-next : goal.returns-clause-next
 returns-clause-next g c =
     let old = c.self.inside.current in
@@ -32,44 +50,18 @@ returns-clause-next g c =
     let v : Version = c.self.inside.publisher.newest in
     let d = c.in_ok-delta.delta in
     let topology : c.topology.result.now ≡ v.plan = c.topology.ensures ∙ ap (λ (w : Version). w.plan) c.newest-newest.ensures in
-    let serial : c.serial.result ≡ v.serial = c.serial.ensures ∙ ap (λ (w : Version). w.serial) c.newest-newest.ensures in
     let made = subst (λ (t : Plan). Makes t old c.args.batch.now new) topology c.in_ok-current.ensures.makes in
-    let between = subst (λ (s : ℕ). IsBetween (version_of s v.plan old) (version_of (s + 1) v.plan new) d) serial (c.in_ok-delta.ensures v.plan) in
     subst (λ (p : PublisherState). IsPrepared p.newest c.args.batch.now (record { current = new; delta = d })) c.self.view_is
-    (prepared v old new c.args.batch.now d c.self.invariant.0 c.self.invariant.2 c.groups-2.ensures.market made between)
+    (prepared v old new c.args.batch.now d c.self.invariant.0 c.self.invariant.2 c.groups-2.ensures.market made (between g (goal.at.returns-clause-next g c).In_ok-delta))
 
 pub returns-clause-kept : goal.returns-clause-kept
-returns-clause-kept g c =
-    let old = c.self.inside.current in
-    let new = c.in_ok-current.current in
-    let v : Version = c.self.inside.publisher.newest in
-    let d = c.in_ok-delta.delta in
-    let serial : c.serial.result ≡ v.serial = c.serial.ensures ∙ ap (λ (w : Version). w.serial) c.newest-newest.ensures in
-    let between = subst (λ (s : ℕ). IsBetween (version_of s v.plan old) (version_of (s + 1) v.plan new) d) serial (c.in_ok-delta.ensures v.plan) in
-    subst (λ (p : PublisherState). IsKeptFor (after p.newest d).market (after p.newest d).lines c.next_of.new.kept) c.self.view_is
-    (led (λ (a b : Version). IsKeptFor b.market b.lines c.next_of.new.kept) v old new d c.self.invariant.2 between c.in_ok-current.ensures.kept)
+returns-clause-kept g c = leads g (goal.at.returns-clause-kept g c).In_ok-delta (λ _ b. IsKeptFor b.market b.lines c.next_of.new.kept) c.in_ok-current.ensures.kept
 
 pub returns-clause-counted : goal.returns-clause-counted
-returns-clause-counted g c =
-    let old = c.self.inside.current in
-    let new = c.in_ok-current.current in
-    let v : Version = c.self.inside.publisher.newest in
-    let d = c.in_ok-delta.delta in
-    let serial : c.serial.result ≡ v.serial = c.serial.ensures ∙ ap (λ (w : Version). w.serial) c.newest-newest.ensures in
-    let between = subst (λ (s : ℕ). IsBetween (version_of s v.plan old) (version_of (s + 1) v.plan new) d) serial (c.in_ok-delta.ensures v.plan) in
-    subst (λ (p : PublisherState). IsRepairing p.newest (after p.newest d) c.args.steps.now c.next_of.new.steps) c.self.view_is
-    (led (λ (a b : Version). IsRepairing a b c.args.steps.now c.next_of.new.steps) v old new d c.self.invariant.2 between c.in_ok-current.ensures.counted)
+returns-clause-counted g c = leads g (goal.at.returns-clause-counted g c).In_ok-delta (λ a b. IsRepairing a b c.args.steps.now c.next_of.new.steps) c.in_ok-current.ensures.counted
 
 pub returns-clause-steps : goal.returns-clause-steps
-returns-clause-steps g c =
-    let old = c.self.inside.current in
-    let new = c.in_ok-current.current in
-    let v : Version = c.self.inside.publisher.newest in
-    let d = c.in_ok-delta.delta in
-    let serial : c.serial.result ≡ v.serial = c.serial.ensures ∙ ap (λ (w : Version). w.serial) c.newest-newest.ensures in
-    let between = subst (λ (s : ℕ). IsBetween (version_of s v.plan old) (version_of (s + 1) v.plan new) d) serial (c.in_ok-delta.ensures v.plan) in
-    subst (λ (p : PublisherState). IsWithinSpread p.newest.market p.newest.lines (after p.newest d).market c.args.steps.now c.next_of.new.steps) c.self.view_is
-    (led (λ (a b : Version). IsWithinSpread a.market a.lines b.market c.args.steps.now c.next_of.new.steps) v old new d c.self.invariant.2 between c.in_ok-current.ensures.steps)
+returns-clause-steps g c = leads g (goal.at.returns-clause-steps g c).In_ok-delta (λ a b. IsWithinSpread a.market a.lines b.market c.args.steps.now c.next_of.new.steps) c.in_ok-current.ensures.steps
 
 pub next_of-requires-clause-ids : goal.next_of-requires-clause-ids
 next_of-requires-clause-ids g c =
