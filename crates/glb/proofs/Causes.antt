@@ -1,9 +1,9 @@
 -- Why lanes were at fault.
 use Rattle.std.proofs.Common.{◌≡◌, ◌⊎◌, inl, inr, ℕ, suc, ◌+◌, ◌<◌, ◌≤◌, Bool, true, false, List, [], ◌∷◌, ◌++◌, length, refl, ap, sym, ◌∙◌, subst, arith}
-use Rattle.std.specs.Prelude.{Option, None, Some, ◌||◌, fold, sum_by}
+use Rattle.std.specs.Prelude.{◌||◌, fold, sum_by}
 use Rattle.std.specs.List.{list_any}
 use Rattle.std.proofs.lemmas.List.Sums.{sum_by_push}
-use Rattle.outside.specs.Faults.{BothTell, Rose, raised}
+use Rattle.outside.specs.Faults.{Rose, raised}
 use Rattle.outside.specs.Port.{PortTold}
 use Rattle.published_map.specs.Version.{Version}
 use Rattle.lane_model.specs.declared.ended.Ended.{Ended}
@@ -19,6 +19,7 @@ use Rattle.drive.specs.Driven.{AreDone}
 use Rattle.glb.specs.declared.status.Status.TheVariants as status
 use Rattle.glb.specs.Causes.{AnyLane, HasCellFault, HasPortFault, HasTaken}
 use Rattle.glb.specs.Serve.{is_cell_fault, is_port_fault, is_spent, status_by, status_of}
+use Rattle.glb.proofs.Loads.{tell_weaker}
 
 is_port : (e : Ended) → is_port_fault e ≡ true → e ≡ lane.PortFault
 is_port lane.PortFault h = refl
@@ -36,33 +37,27 @@ is_over lane.CellFault h = absurd (cc)
 is_over (lane.Above known newest) h = absurd (cc)
 is_over lane.PortFault h = absurd (cc)
 
--- a closing look that was refused leaves a port's fault and what was spent
-shut_port : (served : Ended) → lane.PortFault ≡ shut served → served ≡ lane.PortFault
-shut_port lane.PortFault h = refl
-shut_port lane.Stopped h = absurd (cc)
-shut_port lane.PortEnd h = absurd (cc)
-shut_port lane.CellFault h = absurd (cc)
-shut_port (lane.Above known newest) h = absurd (cc)
-shut_port lane.Spent h = absurd (cc)
+-- a closing look leaves an end that is no fault of the cell as it was
+shut_is : (e served : Ended) → is_cell_fault e ≡ false → e ≡ shut served → served ≡ e
+shut_is e lane.PortFault other h = sym h
+shut_is e lane.Spent other h = sym h
+shut_is e lane.CellFault other h = sym h
+shut_is e (lane.Above known newest) other h = sym h
+shut_is e lane.Stopped other h = let clash : is_cell_fault lane.CellFault ≡ false = subst (λ (x : Ended). is_cell_fault x ≡ false) h other in absurd (cc)
+shut_is e lane.PortEnd other h = let clash : is_cell_fault lane.CellFault ≡ false = subst (λ (x : Ended). is_cell_fault x ≡ false) h other in absurd (cc)
 
-shut_spent : (served : Ended) → lane.Spent ≡ shut served → served ≡ lane.Spent
-shut_spent lane.Spent h = refl
-shut_spent lane.Stopped h = absurd (cc)
-shut_spent lane.PortEnd h = absurd (cc)
-shut_spent lane.CellFault h = absurd (cc)
-shut_spent (lane.Above known newest) h = absurd (cc)
-shut_spent lane.PortFault h = absurd (cc)
+served_is : (turns : ℕ) (first : Version) (rest : List Version) (w : ℕ) (b c : LaneTold) (e : Ended) → is_cell_fault e ≡ false → (d : IsDone turns first rest w b c e) → d.served ≡ e
+served_is turns first rest w b c e other d = go d.which
+  where
+    go : IsOverNewest (first ∷ rest) d.over d.log d.served e b c ⊎ IsOverSeen first d.over d.served e b c ⊎ IsOverPast (first ∷ rest) d.over d.log e b c → d.served ≡ e
+    go (inl newest) = sym newest.ended_is
+    go (inr (inl seen)) = shut_is e d.served other seen.ended_is
+    go (inr (inr past)) = let clash : is_cell_fault (lane.Above past.last past.newest) ≡ false = subst (λ (x : Ended). is_cell_fault x ≡ false) past.ended_is other in absurd (cc)
 
 served_port : (turns : ℕ) (first : Version) (rest : List Version) (w : ℕ) (b c : LaneTold) → IsDone turns first rest w b c lane.PortFault → HasPortFault b c
-served_port turns first rest w b c d = d.failing (eight (served d.which))
-  where
-    served : IsOverNewest (first ∷ rest) d.over d.log d.served lane.PortFault b c ⊎ IsOverSeen first d.over d.served lane.PortFault b c ⊎ IsOverPast (first ∷ rest) d.over d.log lane.PortFault b c → d.served ≡ lane.PortFault
-    served (inl newest) = sym newest.ended_is
-    served (inr (inl seen)) = shut_port d.served seen.ended_is
-    served (inr (inr past)) = let is = past.ended_is in absurd (cc)
-
-    eight : d.served ≡ lane.PortFault → 0 < failures d.log
-    eight is = let eighth : failures d.log ≡ 8 = failed_last turns d.log (subst (IsEnd turns d.log) is d.ending) in omega (arith, eighth)
+served_port turns first rest w b c d =
+    let eighth : failures d.log ≡ 8 = failed_last turns d.log (subst (IsEnd turns d.log) (served_is turns first rest w b c lane.PortFault refl d) d.ending) in
+    d.failing (omega (arith, eighth))
 
 -- a port after some turns has given as many answers more
 took_one : (known : ℕ) (came : Came) (p : PortTold) → (port_after known came p).recvs ≡ raised p.recvs 1
@@ -84,24 +79,11 @@ took_all : (log : List Turn) (p : PortTold) → (fold port_turn p log).recvs ≡
 took_all [] p = sym (raised_none p.recvs)
 took_all (t ∷ log) p = took_all log (port_turn p t) ∙ ap (λ n. raised n (length log)) (took_one t.known t.came p) ∙ raised_next p.recvs (length log)
 
-pub tell_weaker : {A : Type 0} (R S : A → A → Type 0) (a b : Option A) → ((x y : A) → R x y → S x y) → BothTell a b R → BothTell a b S
-tell_weaker R S None None f h = tt
-tell_weaker R S (Some x) (Some y) f h = f x y h
-tell_weaker R S None (Some y) f h = absurd h
-tell_weaker R S (Some x) None f h = absurd h
-
 served_spent : (turns : ℕ) (first : Version) (rest : List Version) (w : ℕ) (b c : LaneTold) → IsDone turns first rest w b c lane.Spent → HasTaken turns b c
 served_spent turns first rest w b c d =
+    let ending : IsEnd turns d.log lane.Spent = subst (IsEnd turns d.log) (served_is turns first rest w b c lane.Spent refl d) d.ending in
     tell_weaker (λ (p q : PortTold). q ≡ fold port_turn p d.log) (λ (p q : PortTold). q.recvs ≡ raised p.recvs turns) b.port c.port
-    (λ p q h. ap (λ (x : PortTold). x.recvs) h ∙ took_all d.log p ∙ ap (raised p.recvs) (all (served d.which))) d.port
-  where
-    served : IsOverNewest (first ∷ rest) d.over d.log d.served lane.Spent b c ⊎ IsOverSeen first d.over d.served lane.Spent b c ⊎ IsOverPast (first ∷ rest) d.over d.log lane.Spent b c → d.served ≡ lane.Spent
-    served (inl newest) = sym newest.ended_is
-    served (inr (inl seen)) = shut_spent d.served seen.ended_is
-    served (inr (inr past)) = let is = past.ended_is in absurd (cc)
-
-    all : d.served ≡ lane.Spent → length d.log ≡ turns
-    all is = let ending : IsEnd turns d.log lane.Spent = subst (IsEnd turns d.log) is d.ending in ending.2
+    (λ p q h. ap (λ (x : PortTold). x.recvs) h ∙ took_all d.log p ∙ ap (raised p.recvs) ending.2) d.port
 
 refused_counts : (came : Came) → is_refused came ≡ true → refused_of came ≡ 1
 refused_counts came h = rw h refl

@@ -28,7 +28,7 @@ use Rattle.glb.specs.Outcome.{Outcome, RunsBy}
 use Rattle.glb.specs.Files.{Kind, IsRefused}
 use Rattle.glb.specs.Serve.{AreOpened, FirstDoorRose, IsFirstSession, IsOpening, IsPlaced, IsServed, IsSession, IsStarted, PlacedFirst, all_ready, is_cell_fault, is_port_fault, is_spent, status_by, status_of, then_failed}
 use Rattle.glb.specs.Told.{Stage}
-use Rattle.glb.proofs.Causes.{tell_weaker}
+use Rattle.glb.proofs.Loads.{tell_weaker}
 use Rattle.glb.proofs.Histories.{texts_of}
 
 -- a lane whose port and door were opened at most: no count is lower, and its port gave no answer of recv

@@ -1,10 +1,11 @@
 -- The loads of one file after another.
-use Rattle.std.proofs.Common.{◌≡◌, ◌≤◌, ℕ, zero, suc, List, [], ◌∷◌, ◌++◌, take, Option, None, Some, Result, Ok, Err, option_map, refl, ap, sym, ◌∙◌, append_assoc, inl, inr, arith}
+use Rattle.std.proofs.Common.{◌≡◌, ◌≢◌, ◌≤◌, ℕ, zero, suc, List, [], ◌∷◌, ◌++◌, take, Option, None, Some, Result, Ok, Err, option_map, refl, ap, sym, subst, ◌∙◌, append_assoc, inl, inr, arith}
 use Rattle.outside.specs.Faults.{BothTell, Rose}
 use Rattle.outside.specs.Shelf.{Load, Shelved}
+use Rattle.demand_feed.proofs.Tellings.{tell_trans}
 use Rattle.glb.specs.Outcome.{AreLoaded, AreLoadsOf, Outcome}
-use Rattle.glb.specs.Files.{IsRefused, Kind, Reads, Says, said, load_of, loads_behind, loads_from, only}
-use Rattle.glb.specs.Ending.{EndsBy, IsEnd, IsReading, ShelfAt, StopsBy, outcome_of}
+use Rattle.glb.specs.Files.{IsRefused, Kind, Reads, Says, said, load_of, loads_behind, loads_from, only, refused, with_text}
+use Rattle.glb.specs.Ending.{EndsBy, IsEnd, IsReading, IsRefusedBy, ShelfAt, StopsBy, outcome_of}
 use Rattle.glb.specs.declared.ending.Report.{Report}
 use Rattle.glb.specs.declared.ending.Stop.{Stop}
 use Rattle.glb.specs.declared.ending.Stop.TheVariants as stop
@@ -14,6 +15,10 @@ pub stops_weaker : (P Q : Outcome → Type 0) (s : Stop) → ((due : Outcome) �
 stops_weaker P Q (stop.Refused text) follows h = follows _ h
 stops_weaker P Q stop.SourceFault follows h = tt
 stops_weaker P Q stop.NoMemory follows h = tt
+
+-- what is refused with the text of a fault is refused by what was read
+pub refused_by : {T F : Type 0} (words : F → List ℕ) (none fault : F) (read : Result T F) (s : Stop) → (fault ≢ none → read ≡ Err fault) → StopsBy (λ due. (fault ≢ none) × (due ≡ refused (words fault))) s → StopsBy (IsRefusedBy (with_text words read)) s
+refused_by words none fault read s is = stops_weaker (λ due. (fault ≢ none) × (due ≡ refused (words fault))) (IsRefusedBy (with_text words read)) s (λ due h. (words fault, ap (with_text words) (is h.0), h.1))
 
 -- what follows of two things on a refusal
 stops_both : (P Q R : Outcome → Type 0) (s : Stop) → ((due : Outcome) → P due → Q due → R due) → StopsBy P s → StopsBy Q s → StopsBy R s
@@ -26,46 +31,56 @@ pub ends_weaker : (P Q : Outcome → Type 0) (e : Result Report Stop) → ((due 
 ends_weaker P Q (Ok report) follows h = follows (outcome_of report) h
 ends_weaker P Q (Err s) follows h = stops_weaker P Q s follows h
 
+-- what follows of what two moments tell
+pub tell_weaker : {A : Type 0} (R S : A → A → Type 0) (a b : Option A) → ((x y : A) → R x y → S x y) → BothTell a b R → BothTell a b S
+tell_weaker R S None None f h = tt
+tell_weaker R S (Some x) (Some y) f h = f x y h
+tell_weaker R S None (Some y) f h = absurd h
+tell_weaker R S (Some x) None f h = absurd h
+
+-- what is known of a shelf ahead of a call, beside what the call tells
+told_with : (P : Option Shelved → Type 0) (R : Shelved → Shelved → Type 0) (s t : Option Shelved) → P s → BothTell s t R → BothTell s t (λ x y. P (Some x) × R x y)
+told_with P R None None p h = tt
+told_with P R None (Some y) p h = absurd h
+told_with P R (Some x) None p h = absurd h
+told_with P R (Some x) (Some y) p h = (p, h)
+
+-- the loads that follow on a file that says something
+behind_said : {T : Type 0} (kind : Kind T) (name : List ℕ) (next : T → (List ℕ → Option (List ℕ)) → List Load) (that : T) (x y : Shelved)
+    → Says kind (Some x) name that → y.holds ≡ x.holds → loads_behind (option_map (said kind) (x.holds name)) (λ t. next t x.holds) ≡ next that y.holds
+behind_said kind name next that x y says files =
+    ap (λ o. loads_behind (option_map (said kind) o) (λ t. next t x.holds)) says.1 ∙ ap (λ r. loads_behind (Some r) (λ t. next t x.holds)) says.2 ∙ ap (next that) (sym files)
+
 -- a file that says something, and then the first of the loads that follow on it
 noted_then : {T : Type 0} (kind : Kind T) (name : List ℕ) (next : T → (List ℕ → Option (List ℕ)) → List Load) (that : T) (s t u : Option Shelved)
     → BothTell s t (AreLoaded (only kind name)) → Says kind s name that → BothTell t u (AreLoadsOf (next that)) → BothTell s u (AreLoadsOf (loads_from kind name next))
-noted_then kind name next that None None None one says two = tt
-noted_then kind name next that None None (Some z) one says two = absurd two
-noted_then kind name next that None (Some y) u one says two = absurd one
-noted_then kind name next that (Some x) None u one says two = absurd one
-noted_then kind name next that (Some x) (Some y) None one says two = absurd two
-noted_then kind name next that (Some x) (Some y) (Some z) one says two =
+noted_then kind name next that s t u one says two =
+    tell_trans s t u (λ x y. Says kind (Some x) name that × AreLoaded (only kind name) x y) (AreLoadsOf (next that)) (AreLoadsOf (loads_from kind name next)) (told_with (λ f. Says kind f name that) (AreLoaded (only kind name)) s t says one) two
+    (λ x y z one two.
     let a = load_of kind name in
     let k = two.loads.0 in
-    let behind : loads_behind (option_map (said kind) (x.holds name)) (λ t. next t x.holds) ≡ next that y.holds =
-    ap (λ o. loads_behind (option_map (said kind) o) (λ t. next t x.holds)) says.1 ∙ ap (λ r. loads_behind (Some r) (λ t. next t x.holds)) says.2 ∙ ap (next that) (sym one.files) in
     record {
-      files = two.files ∙ one.files;
+      files = two.files ∙ one.1.files;
       loads = (
         suc k,
         two.loads.1
-            ∙ ap (λ ls. ls ++ take k (next that y.holds)) one.loads
+            ∙ ap (λ ls. ls ++ take k (next that y.holds)) one.1.loads
             ∙ append_assoc x.loads (a ∷ []) (take k (next that y.holds))
-            ∙ ap (λ ls. x.loads ++ (a ∷ take k ls)) (sym behind),
+            ∙ ap (λ ls. x.loads ++ (a ∷ take k ls)) (sym (behind_said kind name next that x y one.0 one.1.files)),
       );
-    }
+    })
 
 -- a file that says something, and then all the loads that follow on it
 loaded_then : {T : Type 0} (kind : Kind T) (name : List ℕ) (next : T → (List ℕ → Option (List ℕ)) → List Load) (that : T) (s t u : Option Shelved)
     → BothTell s t (AreLoaded (only kind name)) → Says kind s name that → BothTell t u (AreLoaded (next that)) → BothTell s u (AreLoaded (loads_from kind name next))
-loaded_then kind name next that None None None one says two = tt
-loaded_then kind name next that None None (Some z) one says two = absurd two
-loaded_then kind name next that None (Some y) u one says two = absurd one
-loaded_then kind name next that (Some x) None u one says two = absurd one
-loaded_then kind name next that (Some x) (Some y) None one says two = absurd two
-loaded_then kind name next that (Some x) (Some y) (Some z) one says two =
+loaded_then kind name next that s t u one says two =
+    tell_trans s t u (λ x y. Says kind (Some x) name that × AreLoaded (only kind name) x y) (AreLoaded (next that)) (AreLoaded (loads_from kind name next)) (told_with (λ f. Says kind f name that) (AreLoaded (only kind name)) s t says one) two
+    (λ x y z one two.
     let a = load_of kind name in
-    let behind : loads_behind (option_map (said kind) (x.holds name)) (λ t. next t x.holds) ≡ next that y.holds =
-    ap (λ o. loads_behind (option_map (said kind) o) (λ t. next t x.holds)) says.1 ∙ ap (λ r. loads_behind (Some r) (λ t. next t x.holds)) says.2 ∙ ap (next that) (sym one.files) in
     record {
-      files = two.files ∙ one.files;
-      loads = two.loads ∙ ap (λ ls. ls ++ next that y.holds) one.loads ∙ append_assoc x.loads (a ∷ []) (next that y.holds) ∙ ap (λ ls. x.loads ++ (a ∷ ls)) (sym behind);
-    }
+      files = two.files ∙ one.1.files;
+      loads = two.loads ∙ ap (λ ls. ls ++ next that y.holds) one.1.loads ∙ append_assoc x.loads (a ∷ []) (next that y.holds) ∙ ap (λ ls. x.loads ++ (a ∷ ls)) (sym (behind_said kind name next that x y one.0 one.1.files));
+    })
 
 take_one : (k : ℕ) (a : Load) (rest : List Load) → (j : ℕ) × (take k (a ∷ []) ≡ take j (a ∷ rest))
 take_one zero a rest = (0, refl)
@@ -77,23 +92,23 @@ take_one (suc k) a rest = (1, take_all k)
 
 -- the first load may have failed
 noted_first : {T : Type 0} (kind : Kind T) (name : List ℕ) (next : T → (List ℕ → Option (List ℕ)) → List Load) (s t : Option Shelved) → BothTell s t (AreLoadsOf (only kind name)) → BothTell s t (AreLoadsOf (loads_from kind name next))
-noted_first kind name next None None h = tt
-noted_first kind name next None (Some y) h = absurd h
-noted_first kind name next (Some x) None h = absurd h
-noted_first kind name next (Some x) (Some y) h =
+noted_first kind name next s t h =
+    tell_weaker (AreLoadsOf (only kind name)) (AreLoadsOf (loads_from kind name next)) s t
+    (λ x y h.
     let one = take_one h.loads.0 (load_of kind name) (loads_behind (option_map (said kind) (x.holds name)) (λ t. next t x.holds)) in
-    record { files = h.files; loads = (one.0, h.loads.1 ∙ ap (λ ls. x.loads ++ ls) one.1) }
+    record { files = h.files; loads = (one.0, h.loads.1 ∙ ap (λ ls. x.loads ++ ls) one.1) })
+    h
 
 -- nothing follows on a file that is refused
 loaded_first : {T : Type 0} (kind : Kind T) (name : List ℕ) (next : T → (List ℕ → Option (List ℕ)) → List Load) (s t : Option Shelved) (due : Outcome)
     → BothTell s t (AreLoaded (only kind name)) → IsRefused kind s name due → BothTell s t (AreLoaded (loads_from kind name next))
-loaded_first kind name next None None due h refused = tt
-loaded_first kind name next None (Some y) due h refused = absurd h
-loaded_first kind name next (Some x) None due h refused = absurd h
-loaded_first kind name next (Some x) (Some y) due h refused =
+loaded_first kind name next s t due h refused =
+    tell_weaker (λ x y. IsRefused kind (Some x) name due × AreLoaded (only kind name) x y) (AreLoaded (loads_from kind name next)) s t
+    (λ x y h.
     let nothing : loads_behind (option_map (said kind) (x.holds name)) (λ t. next t x.holds) ≡ [] =
-    ap (λ o. loads_behind (option_map (said kind) o) (λ t. next t x.holds)) refused.2 ∙ ap (λ r. loads_behind (Some r) (λ t. next t x.holds)) refused.3 in
-    record { files = h.files; loads = h.loads ∙ ap (λ ls. x.loads ++ (load_of kind name ∷ ls)) (sym nothing) }
+    ap (λ o. loads_behind (option_map (said kind) o) (λ t. next t x.holds)) h.0.2 ∙ ap (λ r. loads_behind (Some r) (λ t. next t x.holds)) h.0.3 in
+    record { files = h.1.files; loads = h.1.loads ∙ ap (λ ls. x.loads ++ (load_of kind name ∷ ls)) (sym nothing) })
+    (told_with (λ f. IsRefused kind f name due) (AreLoaded (only kind name)) s t refused h)
 
 rose_later : (a b c : ℕ) → a ≤ b → Rose b c → Rose a c
 rose_later a b c le rose = omega (arith, le, rose)
@@ -104,29 +119,35 @@ source_of s read ended one two is = cc
 read_well : {X : Type 0} (x : X) (read : Result X Stop) → read ≡ Ok x → read ≡ Err stop.SourceFault → ⊥
 read_well x read one two = cc
 
--- a file that is refused, or could not be loaded, ends the command
-pub stopped : {X T : Type 0} (kind : Kind T) (see : X → T) (name : List ℕ) (next : T → (List ℕ → Option (List ℕ)) → List Load) (Next : T → Outcome → Type 0) (before after : ShelfAt) (s : Stop)
-    → IsReading kind see name before after (Err s) → IsEnd (loads_from kind name next) (Reads kind before.told name Next) before after (Err s)
-stopped kind see name next Next before after s r = record {
-  noted = noted_first kind name next before.told after.told r.noted;
-  loaded = stops_both (λ _. BothTell before.told after.told (AreLoaded (only kind name))) (IsRefused kind before.told name) (λ _. BothTell before.told after.told (AreLoaded (loads_from kind name next))) s
-      (λ due h refused. loaded_first kind name next before.told after.told due h refused) r.loaded r.said;
-  due = stops_weaker (IsRefused kind before.told name) (Reads kind before.told name Next) s (λ due h. inl h) r.said;
-  later = r.later;
-  cause = λ is. r.cause (source_of s (Err s) (Err s) refl refl is);
-  stays = λ other. r.stays (λ is. other (source_of s (Err s) (Err s) refl refl is));
-}
+-- the only file of a command is refused, or could not be loaded
+pub stopped_only : {X T : Type 0} (kind : Kind T) (see : X → T) (name : List ℕ) (Next : T → Outcome → Type 0) (before after : ShelfAt) (s : Stop) (e : Result Report Stop)
+    → IsReading kind see name before after (Err s) → Err s ≡ e → IsEnd (only kind name) (Reads kind before.told name Next) before after e
+stopped_only kind see name Next before after s e r is =
+    subst (λ (e : Result Report Stop). IsEnd (only kind name) (Reads kind before.told name Next) before after e) is
+    (record {
+      noted = r.noted;
+      loaded = r.loaded;
+      due = stops_weaker (IsRefused kind before.told name) (Reads kind before.told name Next) s (λ due h. inl h) r.said;
+      later = r.later;
+      cause = λ is. r.cause (source_of s (Err s) (Err s) refl refl is);
+      stays = λ other. r.stays (λ is. other (source_of s (Err s) (Err s) refl refl is));
+    })
 
--- and so does the only one
-pub stopped_only : {X T : Type 0} (kind : Kind T) (see : X → T) (name : List ℕ) (Next : T → Outcome → Type 0) (before after : ShelfAt) (s : Stop) → IsReading kind see name before after (Err s) → IsEnd (only kind name) (Reads kind before.told name Next) before after (Err s)
-stopped_only kind see name Next before after s r = record {
-  noted = r.noted;
-  loaded = r.loaded;
-  due = stops_weaker (IsRefused kind before.told name) (Reads kind before.told name Next) s (λ due h. inl h) r.said;
-  later = r.later;
-  cause = λ is. r.cause (source_of s (Err s) (Err s) refl refl is);
-  stays = λ other. r.stays (λ is. other (source_of s (Err s) (Err s) refl refl is));
-}
+-- and so is a file on which others would have followed
+pub stopped : {X T : Type 0} (kind : Kind T) (see : X → T) (name : List ℕ) (next : T → (List ℕ → Option (List ℕ)) → List Load) (Next : T → Outcome → Type 0) (before after : ShelfAt) (s : Stop) (e : Result Report Stop)
+    → IsReading kind see name before after (Err s) → Err s ≡ e → IsEnd (loads_from kind name next) (Reads kind before.told name Next) before after e
+stopped kind see name next Next before after s e r is =
+    let end = stopped_only kind see name Next before after s (Err s) r refl in
+    subst (λ (e : Result Report Stop). IsEnd (loads_from kind name next) (Reads kind before.told name Next) before after e) is
+    (record {
+      noted = noted_first kind name next before.told after.told r.noted;
+      loaded = stops_both (λ _. BothTell before.told after.told (AreLoaded (only kind name))) (IsRefused kind before.told name) (λ _. BothTell before.told after.told (AreLoaded (loads_from kind name next))) s
+          (λ due h refused. loaded_first kind name next before.told after.told due h refused) r.loaded r.said;
+      due = end.due;
+      later = end.later;
+      cause = end.cause;
+      stays = end.stays;
+    })
 
 always_ends : (P : Type 0) (e : Result Report Stop) → P → EndsBy (λ _. P) e
 always_ends P (Ok report) h = h
