@@ -4,6 +4,7 @@ ghost use Rattle.big_world.specs.Numbers.{behind};
 ghost use Rattle.big_world.specs.Pieces.{ahead, pieces};
 ghost use Rattle.big_world.specs.Feed.{batch_text, behind_batch, behind_change, capacity_text, change_text, demand_text};
 ghost use Rattle.big_world.specs.Topology.{line};
+ghost use Rattle.big_world.specs.declared.TheConstants.{MOST_GROUPS};
 
 use crate::draws::Draws;
 use crate::nodes::{push_number, regions_of};
@@ -42,7 +43,7 @@ fn push_capacity(
     draws: &mut Draws,
     groups: u32,
 ) -> Result<(), NoMemory>
-    requires { groups ≤ 16384 }
+    requires { groups ≤ MOST_GROUPS }
     ensures text { OnOk result (text.new.items ≡ text.old.items ++ capacity_text groups draws.old.last) }
     ensures last { OnOk result (draws.new.last ≡ behind draws.old.last 3) }
 {
@@ -65,7 +66,7 @@ fn push_change(
     groups: u32,
 ) -> Result<(), NoMemory>
     requires some { 1 ≤ groups }
-    requires most { groups ≤ 16384 }
+    requires most { groups ≤ MOST_GROUPS }
     ensures text { OnOk result (text.new.items ≡ text.old.items ++ change_text groups draws.old.last) }
     ensures last { OnOk result (draws.new.last ≡ behind_change draws.old.last) }
 {
@@ -85,7 +86,7 @@ fn push_batch(
     groups: u32,
 ) -> Result<(), NoMemory>
     requires some { 1 ≤ groups }
-    requires most { groups ≤ 16384 }
+    requires most { groups ≤ MOST_GROUPS }
     ensures text { OnOk result (text.new.items ≡ text.old.items ++ batch_text groups draws.old.last) }
     ensures last { OnOk result (draws.new.last ≡ behind_batch draws.old.last) }
 {
@@ -104,7 +105,7 @@ pub fn push_feed(
     groups: u32,
 ) -> Result<(), NoMemory>
     requires some { 1 ≤ groups }
-    requires most { groups ≤ 16384 }
+    requires most { groups ≤ MOST_GROUPS }
     ensures { OnOk result (text.new.items ≡ text.old.items ++ pieces (λ _. batch_text groups) behind_batch draws.old.last 16 ++ line (codes "stop")) }
 {
     for _batch in 0..BATCHES {

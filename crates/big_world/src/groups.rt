@@ -3,6 +3,7 @@ ghost use Rattle.std.specs.Prelude.{◌≡◌, ◌≤◌, ◌<◌, ◌==◌, ◌
 ghost use Rattle.big_world.specs.Numbers.{behind};
 ghost use Rattle.big_world.specs.Pieces.{ahead, pieces};
 ghost use Rattle.big_world.specs.Topology.{behind_group, demand_line, group_name, group_text, line, name_line, pools_line, pools_of, pools_text, prefixes_line, prefixes_text, scores_line, scores_text};
+ghost use Rattle.big_world.specs.declared.TheConstants.{MOST_GROUPS};
 
 use crate::draws::Draws;
 use crate::nodes::{pool_name, push_name, push_number, regions_of};
@@ -14,7 +15,7 @@ const MOST_POOLS: u32 = 8;
 
 /// How many pools a world of so many groups has.
 fn pools_of(groups: u32) -> u32
-    requires { groups ≤ 16384 }
+    requires { groups ≤ MOST_GROUPS }
     ensures pools { result ≡ pools_of groups }
     ensures some { 4 ≤ result }
     ensures few { result ≤ 1028 }
@@ -41,7 +42,7 @@ fn push_pools(
     start: u32,
     length: u32,
 ) -> Result<(), NoMemory>
-    requires groups { groups ≤ 16384 }
+    requires groups { groups ≤ MOST_GROUPS }
     requires start { start < 2048 }
     requires length { length ≤ 8 }
     ensures { OnOk result (text.new.items ≡ text.old.items ++ pools_text groups start length) }
@@ -115,7 +116,7 @@ fn push_pools_line(
     start: u32,
     length: u32,
 ) -> Result<(), NoMemory>
-    requires groups { groups ≤ 16384 }
+    requires groups { groups ≤ MOST_GROUPS }
     requires start { start < 2048 }
     requires length { length ≤ 8 }
     ensures { OnOk result (text.new.items ≡ text.old.items ++ pools_line groups start length) }
@@ -174,7 +175,7 @@ fn push_group(
     groups: u32,
     group: u32,
 ) -> Result<(), NoMemory>
-    requires groups { groups ≤ 16384 }
+    requires groups { groups ≤ MOST_GROUPS }
     requires group { group < groups }
     ensures text { OnOk result (text.new.items ≡ text.old.items ++ group_text groups group draws.old.last) }
     ensures last { OnOk result (draws.new.last ≡ behind_group groups draws.old.last) }
@@ -198,7 +199,7 @@ pub fn push_groups(
     draws: &mut Draws,
     groups: u32,
 ) -> Result<(), NoMemory>
-    requires { groups ≤ 16384 }
+    requires { groups ≤ MOST_GROUPS }
     ensures text { OnOk result (text.new.items ≡ text.old.items ++ pieces (group_text groups) (behind_group groups) draws.old.last groups) }
     ensures last { OnOk result (draws.new.last ≡ ahead (behind_group groups) draws.old.last groups) }
 {

@@ -4,6 +4,7 @@ ghost use Rattle.std.specs.Fmt.{decimal};
 ghost use Rattle.big_world.specs.Numbers.{behind};
 ghost use Rattle.big_world.specs.Pieces.{texts_below};
 ghost use Rattle.big_world.specs.Topology.{address_line, capacity_line, capacity_of, name_line, node_text, nodes_of, parent_line, pool_name, pool_text, region_name, region_text, regions_of};
+ghost use Rattle.big_world.specs.declared.TheConstants.{MOST_GROUPS};
 
 use crate::draws::Draws;
 use no_memory::NoMemory;
@@ -11,7 +12,7 @@ use std::alloc::Global;
 
 /// How many regions a world of so many groups has.
 pub fn regions_of(groups: u32) -> u32
-    requires { groups ≤ 16384 }
+    requires { groups ≤ MOST_GROUPS }
     ensures regions { result ≡ regions_of groups }
     ensures few { result ≤ 257 }
 {
@@ -164,7 +165,7 @@ pub fn push_nodes(
     draws: &mut Draws,
     groups: u32,
 ) -> Result<(), NoMemory>
-    requires { groups ≤ 16384 }
+    requires { groups ≤ MOST_GROUPS }
     ensures text { OnOk result (text.new.items ≡ text.old.items ++ texts_below (λ p. node_text p (behind draws.old.last p)) (nodes_of groups)) }
     ensures last { OnOk result (draws.new.last ≡ behind draws.old.last (nodes_of groups)) }
 {

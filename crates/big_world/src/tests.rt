@@ -1,5 +1,5 @@
 //! The texts, against a second generator (bench/large_world.py) that was written apart from this one.
-use crate::make;
+use crate::{MOST_GROUPS, make};
 use std::alloc::Global;
 use std::test::Fail;
 
@@ -13,7 +13,7 @@ const ROWS: &[Row] = &[
     (64, 9953, 0x464fc4593cf2574b, 1089, 0x44c7cbd325a47f4e),
     (65, 9873, 0xa153181216b73aca, 1077, 0xbfd10611e6f25c08),
     (1000, 152995, 0xdbb2e425ffb57fe3, 1130, 0x5ae94696a2c9d55a),
-    (16384, 2603327, 0x63af5d9e34c810c0, 1213, 0x29526ccc6fddbc6f),
+    (MOST_GROUPS, 2603327, 0x63af5d9e34c810c0, 1213, 0x29526ccc6fddbc6f),
 ];
 
 /// The FNV-1a checksum of 64 bits.
@@ -28,7 +28,7 @@ fn checksum(octets: &[u8]) -> u64 {
 /// Whether the texts of a row are those of the second generator.
 fn is_equal(alloc: Global, row: &Row) -> Result<bool, Fail> {
     let (groups, long, sum, feed_long, feed_sum) = *row;
-    if groups < 1 || groups > 16384 {
+    if groups < 1 || groups > MOST_GROUPS {
         return Ok(false);
     }
     let (topology, feed) = make(alloc, groups)?;
