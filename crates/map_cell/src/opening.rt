@@ -1,5 +1,5 @@
 //! The opening of a cell, with all its viewers.
-ghost use Rattle.std.specs.Prelude.{◌≡◌, ◌+◌, ◌<◌, ◌≤◌, ◌∷◌, [], ℕ, All, IfOk, IfErr, OnOk, vec_len, vec_capacity};
+ghost use Rattle.std.specs.Prelude.{◌≡◌, ◌+◌, ◌<◌, ◌≤◌, ◌∷◌, [], ℕ, All, IfOk, IfErr, IsErr, OnOk, vec_len, vec_capacity};
 ghost use Rattle.outside.specs.Faults.{Rose, raised};
 ghost use Rattle.published_map.specs.Version.{IsVersion};
 ghost use Rattle.map_cell.specs.declared.door.OpenFault.TheVariants.{CellFault as Shut};
@@ -21,7 +21,7 @@ const VIEWERS: usize = 16;
 ///
 /// # Errors
 ///
-/// `NoMemory`; `CellFault` only where the count of the door's faults rose.
+/// `NoMemory`; `CellFault` only where the count of the door's faults rose, and where a viewer was asked for.
 pub fn open<J: Naming, D: Door, R: Wait>(
     rt: &R,
     alloc: Global,
@@ -40,6 +40,7 @@ pub fn open<J: Naming, D: Door, R: Wait>(
     ensures same { (D.looks door.new ≡ D.looks door.old) × (D.greatest door.new ≡ D.greatest door.old) }
     ensures later { D.faults door.old ≤ D.faults door.new }
     ensures cause { IfErr result (λ e. e ≡ Shut → Rose (D.faults door.old) (D.faults door.new)) }
+    ensures asked_one { IfErr result (λ e. e ≡ Shut → 1 ≤ viewers) }
     ensures stays { OnOk result (D.faults door.new ≡ D.faults door.old) }
 {
     let (book, empty) = history.named::<J>();
@@ -81,6 +82,7 @@ fn fill<J: Naming, D: Door, R: Wait>(
     ensures untouched { (D.looks door.new ≡ D.looks door.old) × (D.greatest door.new ≡ D.greatest door.old) }
     ensures later { D.faults door.old ≤ D.faults door.new }
     ensures cause { IfErr result (λ e. e ≡ Shut → Rose (D.faults door.old) (D.faults door.new)) }
+    ensures asked_one { IsErr result → 1 ≤ viewers }
     ensures stays { OnOk result (D.faults door.new ≡ D.faults door.old) }
 {
     for _ in 0..viewers {
