@@ -155,7 +155,7 @@ impl<J: Naming> Mapper<J> {
     ///
     /// # Errors
     ///
-    /// `NoMemory`; `CellFault` only where the count of the door's faults rose.
+    /// `NoMemory`; `CellFault` only where the count of the door's faults rose, and where a viewer was asked for.
     pub fn open<R: Wait, D: Door, L>(
         rt: &R,
         alloc: Global,
@@ -174,6 +174,7 @@ impl<J: Naming> Mapper<J> {
         ensures same { (D.looks door.new ≡ D.looks door.old) × (D.greatest door.new ≡ D.greatest door.old) }
         ensures later { D.faults door.old ≤ D.faults door.new }
         ensures cause { IfErr result (λ e. e ≡ Shut → Rose (D.faults door.old) (D.faults door.new)) }
+        ensures asked_one { IfErr result (λ e. e ≡ Shut → 1 ≤ viewers) }
         ensures stays { OnOk result (D.faults door.new ≡ D.faults door.old) }
         ensures counted { IfOk result (λ r. IsMapping topology.market r.0.newest.lines steps.old steps.new) }
         ensures steps { OnOk result (steps.new ≤ steps.old + most_offers topology.market) }
