@@ -1,6 +1,8 @@
-//! The numbers that a world is drawn from.
-ghost use Rattle.std.specs.Prelude.{◌≡◌, ◌<◌};
+//! The numbers that a world is drawn from, and a text that is drawn.
+ghost use Rattle.std.specs.Prelude.{◌≡◌, ◌<◌, []};
 ghost use Rattle.big_world.specs.Numbers.{behind, draw, next};
+
+use std::alloc::Global;
 
 /// A linear congruential generator of 64 bits, by the number that it made last.
 #[derive(Drop)]
@@ -37,5 +39,25 @@ impl Draws {
     {
         self.step();
         ((self.last >> 33) % u64::from(end)) as u32
+    }
+}
+
+/// A text that is drawn: what is written of it, and the draws that say how it goes on.
+#[derive(Drop)]
+pub struct Pen {
+    pub text: Vec<u8>,
+    pub draws: Draws,
+}
+
+impl Pen {
+    /// One with nothing written, whose draws follow on `seed`.
+    pub fn new(alloc: Global, seed: u64) -> Pen
+        ensures text { result.text.items ≡ [] }
+        ensures last { result.draws.last ≡ seed }
+    {
+        Pen {
+            text: Vec::new(alloc),
+            draws: Draws::from(seed),
+        }
     }
 }

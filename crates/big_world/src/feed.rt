@@ -6,7 +6,7 @@ ghost use Rattle.big_world.specs.Feed.{batch_text, behind_batch, behind_change, 
 ghost use Rattle.big_world.specs.Topology.{line};
 ghost use Rattle.big_world.specs.declared.TheConstants.{MOST_GROUPS};
 
-use crate::draws::Draws;
+use crate::draws::Pen;
 use crate::nodes::{push_number, regions_of};
 use no_memory::NoMemory;
 use std::alloc::Global;
@@ -18,99 +18,72 @@ const BATCHES: u32 = 16;
 const LINES: u32 = 4;
 
 /// Another demand of a group.
-fn push_demand(
-    alloc: Global,
-    text: &mut Vec<u8>,
-    draws: &mut Draws,
-    groups: u32,
-) -> Result<(), NoMemory>
+fn push_demand(alloc: Global, pen: &mut Pen, groups: u32) -> Result<(), NoMemory>
     requires { 1 ≤ groups }
-    ensures text { OnOk result (text.new.items ≡ text.old.items ++ demand_text groups draws.old.last) }
-    ensures last { OnOk result (draws.new.last ≡ behind draws.old.last 2) }
+    ensures text { OnOk result (pen.new.text.items ≡ pen.old.text.items ++ demand_text groups pen.old.draws.last) }
+    ensures last { OnOk result (pen.new.draws.last ≡ behind pen.old.draws.last 2) }
 {
-    text.extend_from_slice(b"demand g")?;
-    let group = draws.below(groups);
-    push_number(alloc, text, group, b" ")?;
-    let demand = 1 + draws.below(15);
-    push_number(alloc, text, demand, b"\n")?;
+    let group = pen.draws.below(groups);
+    push_number(alloc, &mut pen.text, b"demand g", group, b" ")?;
+    let demand = 1 + pen.draws.below(15);
+    push_number(alloc, &mut pen.text, b"", demand, b"\n")?;
     Ok(())
 }
 
 /// Another capacity of a pool.
-fn push_capacity(
-    alloc: Global,
-    text: &mut Vec<u8>,
-    draws: &mut Draws,
-    groups: u32,
-) -> Result<(), NoMemory>
+fn push_capacity(alloc: Global, pen: &mut Pen, groups: u32) -> Result<(), NoMemory>
     requires { groups ≤ MOST_GROUPS }
-    ensures text { OnOk result (text.new.items ≡ text.old.items ++ capacity_text groups draws.old.last) }
-    ensures last { OnOk result (draws.new.last ≡ behind draws.old.last 3) }
+    ensures text { OnOk result (pen.new.text.items ≡ pen.old.text.items ++ capacity_text groups pen.old.draws.last) }
+    ensures last { OnOk result (pen.new.draws.last ≡ behind pen.old.draws.last 3) }
 {
-    text.extend_from_slice(b"capacity r")?;
-    let region = draws.below(regions_of(groups));
-    push_number(alloc, text, region, b"-")?;
-    let pool = draws.below(4);
-    push_number(alloc, text, pool, b" ")?;
-    let capacity = draws.below(30);
-    push_number(alloc, text, capacity, b"\n")?;
+    let region = pen.draws.below(regions_of(groups));
+    push_number(alloc, &mut pen.text, b"capacity r", region, b"-")?;
+    let pool = pen.draws.below(4);
+    push_number(alloc, &mut pen.text, b"", pool, b" ")?;
+    let capacity = pen.draws.below(30);
+    push_number(alloc, &mut pen.text, b"", capacity, b"\n")?;
     Ok(())
 }
 
 /// A line.
 #[tactic(auto, unfolding(crate::specs::Feed::change_text, crate::specs::Feed::behind_change))]
-fn push_change(
-    alloc: Global,
-    text: &mut Vec<u8>,
-    draws: &mut Draws,
-    groups: u32,
-) -> Result<(), NoMemory>
+fn push_change(alloc: Global, pen: &mut Pen, groups: u32) -> Result<(), NoMemory>
     requires some { 1 ≤ groups }
     requires most { groups ≤ MOST_GROUPS }
-    ensures text { OnOk result (text.new.items ≡ text.old.items ++ change_text groups draws.old.last) }
-    ensures last { OnOk result (draws.new.last ≡ behind_change draws.old.last) }
+    ensures text { OnOk result (pen.new.text.items ≡ pen.old.text.items ++ change_text groups pen.old.draws.last) }
+    ensures last { OnOk result (pen.new.draws.last ≡ behind_change pen.old.draws.last) }
 {
-    if draws.below(2) == 0 {
-        push_demand(alloc, text, draws, groups)
+    if pen.draws.below(2) == 0 {
+        push_demand(alloc, pen, groups)
     } else {
-        push_capacity(alloc, text, draws, groups)
+        push_capacity(alloc, pen, groups)
     }
 }
 
 /// A batch.
 #[tactic(auto, unfolding(crate::specs::Feed::batch_text, crate::specs::Feed::behind_batch))]
-fn push_batch(
-    alloc: Global,
-    text: &mut Vec<u8>,
-    draws: &mut Draws,
-    groups: u32,
-) -> Result<(), NoMemory>
+fn push_batch(alloc: Global, pen: &mut Pen, groups: u32) -> Result<(), NoMemory>
     requires some { 1 ≤ groups }
     requires most { groups ≤ MOST_GROUPS }
-    ensures text { OnOk result (text.new.items ≡ text.old.items ++ batch_text groups draws.old.last) }
-    ensures last { OnOk result (draws.new.last ≡ behind_batch draws.old.last) }
+    ensures text { OnOk result (pen.new.text.items ≡ pen.old.text.items ++ batch_text groups pen.old.draws.last) }
+    ensures last { OnOk result (pen.new.draws.last ≡ behind_batch pen.old.draws.last) }
 {
     for _line in 0..LINES {
-        push_change(alloc, text, draws, groups)?;
+        push_change(alloc, pen, groups)?;
     }
-    text.extend_from_slice(b"commit\n")?;
+    pen.text.extend_from_slice(b"commit\n")?;
     Ok(())
 }
 
 /// All batches, and the word that ends the feed.
-pub fn push_feed(
-    alloc: Global,
-    text: &mut Vec<u8>,
-    draws: &mut Draws,
-    groups: u32,
-) -> Result<(), NoMemory>
+pub fn push_feed(alloc: Global, pen: &mut Pen, groups: u32) -> Result<(), NoMemory>
     requires some { 1 ≤ groups }
     requires most { groups ≤ MOST_GROUPS }
-    ensures { OnOk result (text.new.items ≡ text.old.items ++ pieces (λ _. batch_text groups) behind_batch draws.old.last 16 ++ line (codes "stop")) }
+    ensures { OnOk result (pen.new.text.items ≡ pen.old.text.items ++ pieces (λ _. batch_text groups) behind_batch pen.old.draws.last 16 ++ line (codes "stop")) }
 {
     for _batch in 0..BATCHES {
-        push_batch(alloc, text, draws, groups)?;
+        push_batch(alloc, pen, groups)?;
     }
-    text.extend_from_slice(b"stop\n")?;
+    pen.text.extend_from_slice(b"stop\n")?;
     Ok(())
 }

@@ -5,7 +5,7 @@ ghost use Rattle.big_world.specs.Pieces.{ahead, pieces};
 ghost use Rattle.big_world.specs.Topology.{behind_group, demand_line, group_name, group_text, line, name_line, pools_line, pools_of, pools_text, prefixes_line, prefixes_text, scores_line, scores_text};
 ghost use Rattle.big_world.specs.declared.TheConstants.{MOST_GROUPS};
 
-use crate::draws::Draws;
+use crate::draws::Pen;
 use crate::nodes::{pool_name, push_name, push_number, regions_of};
 use no_memory::NoMemory;
 use std::alloc::Global;
@@ -61,19 +61,14 @@ fn push_pools(
 
 /// The scores of a list.
 #[tactic(auto, unfolding(crate::specs::Topology::scores_text))]
-fn push_scores(
-    alloc: Global,
-    text: &mut Vec<u8>,
-    draws: &mut Draws,
-    length: u32,
-) -> Result<(), NoMemory>
-    ensures text { OnOk result (text.new.items ≡ text.old.items ++ scores_text draws.old.last length) }
-    ensures last { OnOk result (draws.new.last ≡ behind draws.old.last length) }
+fn push_scores(alloc: Global, pen: &mut Pen, length: u32) -> Result<(), NoMemory>
+    ensures text { OnOk result (pen.new.text.items ≡ pen.old.text.items ++ scores_text pen.old.draws.last length) }
+    ensures last { OnOk result (pen.new.draws.last ≡ behind pen.old.draws.last length) }
 {
     for place in 0..length {
-        push_comma(text, place)?;
-        let score = draws.below(1000);
-        push_number(alloc, text, score, b"")?;
+        push_comma(&mut pen.text, place)?;
+        let score = pen.draws.below(1000);
+        push_number(alloc, &mut pen.text, b"", score, b"")?;
     }
     Ok(())
 }
@@ -97,14 +92,6 @@ fn group_name(alloc: Global, group: u32) -> Result<String, NoMemory>
     ensures { IfOk result (λ t. string_bytes t ≡ group_name group) }
 {
     Ok(format!(in alloc; "g{group}")?)
-}
-
-/// The line with a demand.
-#[tactic(auto, unfolding(crate::specs::Topology::demand_line))]
-fn demand_line(alloc: Global, demand: u32) -> Result<String, NoMemory>
-    ensures { IfOk result (λ t. string_bytes t ≡ demand_line demand) }
-{
-    Ok(format!(in alloc; "demand = {demand}\n")?)
 }
 
 /// The line of a list of pools.
@@ -141,70 +128,55 @@ fn push_prefixes_line(alloc: Global, text: &mut Vec<u8>, group: u32) -> Result<(
 
 /// The line of the scores of a list.
 #[tactic(auto, unfolding(crate::specs::Topology::scores_line))]
-fn push_scores_line(
-    alloc: Global,
-    text: &mut Vec<u8>,
-    draws: &mut Draws,
-    length: u32,
-) -> Result<(), NoMemory>
-    ensures text { OnOk result (text.new.items ≡ text.old.items ++ scores_line draws.old.last length) }
-    ensures last { OnOk result (draws.new.last ≡ behind draws.old.last length) }
+fn push_scores_line(alloc: Global, pen: &mut Pen, length: u32) -> Result<(), NoMemory>
+    ensures text { OnOk result (pen.new.text.items ≡ pen.old.text.items ++ scores_line pen.old.draws.last length) }
+    ensures last { OnOk result (pen.new.draws.last ≡ behind pen.old.draws.last length) }
 {
-    text.extend_from_slice(b"scores = [")?;
-    push_scores(alloc, text, draws, length)?;
-    text.extend_from_slice(b"]\n")?;
+    pen.text.extend_from_slice(b"scores = [")?;
+    push_scores(alloc, pen, length)?;
+    pen.text.extend_from_slice(b"]\n")?;
     Ok(())
 }
 
 /// The lines of a group ahead of its list.
+#[tactic(auto, unfolding(crate::specs::Topology::demand_line))]
 fn push_head(alloc: Global, text: &mut Vec<u8>, group: u32, demand: u32) -> Result<(), NoMemory>
     ensures { OnOk result (text.new.items ≡ text.old.items ++ line (codes "[[group]]") ++ demand_line demand ++ name_line (group_name group)) }
 {
     text.extend_from_slice(b"[[group]]\n")?;
-    text.extend_from_slice(demand_line(alloc, demand)?.as_bytes())?;
+    push_number(alloc, text, b"demand = ", demand, b"\n")?;
     push_name(text, group_name(alloc, group)?.as_bytes())?;
     Ok(())
 }
 
 /// A group.
 #[tactic(auto, unfolding(crate::specs::Topology::group_text, crate::specs::Topology::entry_text))]
-fn push_group(
-    alloc: Global,
-    text: &mut Vec<u8>,
-    draws: &mut Draws,
-    groups: u32,
-    group: u32,
-) -> Result<(), NoMemory>
+fn push_group(alloc: Global, pen: &mut Pen, groups: u32, group: u32) -> Result<(), NoMemory>
     requires groups { groups ≤ MOST_GROUPS }
     requires group { group < groups }
-    ensures text { OnOk result (text.new.items ≡ text.old.items ++ group_text groups group draws.old.last) }
-    ensures last { OnOk result (draws.new.last ≡ behind_group groups draws.old.last) }
+    ensures text { OnOk result (pen.new.text.items ≡ pen.old.text.items ++ group_text groups group pen.old.draws.last) }
+    ensures last { OnOk result (pen.new.draws.last ≡ behind_group groups pen.old.draws.last) }
 {
     let pools = pools_of(groups);
-    let demand = 1 + draws.below(15);
-    let length = 1 + draws.below(MOST_POOLS.min(pools));
-    let start = draws.below(pools);
-    push_head(alloc, text, group, demand)?;
-    push_pools_line(alloc, text, groups, start, length)?;
-    push_prefixes_line(alloc, text, group)?;
-    push_scores_line(alloc, text, draws, length)?;
-    text.extend_from_slice(b"\n")?;
+    let demand = 1 + pen.draws.below(15);
+    let length = 1 + pen.draws.below(MOST_POOLS.min(pools));
+    let start = pen.draws.below(pools);
+    push_head(alloc, &mut pen.text, group, demand)?;
+    push_pools_line(alloc, &mut pen.text, groups, start, length)?;
+    push_prefixes_line(alloc, &mut pen.text, group)?;
+    push_scores_line(alloc, pen, length)?;
+    pen.text.extend_from_slice(b"\n")?;
     Ok(())
 }
 
 /// All groups.
-pub fn push_groups(
-    alloc: Global,
-    text: &mut Vec<u8>,
-    draws: &mut Draws,
-    groups: u32,
-) -> Result<(), NoMemory>
+pub fn push_groups(alloc: Global, pen: &mut Pen, groups: u32) -> Result<(), NoMemory>
     requires { groups ≤ MOST_GROUPS }
-    ensures text { OnOk result (text.new.items ≡ text.old.items ++ pieces (group_text groups) (behind_group groups) draws.old.last groups) }
-    ensures last { OnOk result (draws.new.last ≡ ahead (behind_group groups) draws.old.last groups) }
+    ensures text { OnOk result (pen.new.text.items ≡ pen.old.text.items ++ pieces (group_text groups) (behind_group groups) pen.old.draws.last groups) }
+    ensures last { OnOk result (pen.new.draws.last ≡ ahead (behind_group groups) pen.old.draws.last groups) }
 {
     for group in 0..groups {
-        push_group(alloc, text, draws, groups, group)?;
+        push_group(alloc, pen, groups, group)?;
     }
     Ok(())
 }

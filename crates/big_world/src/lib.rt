@@ -11,7 +11,7 @@ mod feed;
 mod groups;
 mod nodes;
 
-use draws::Draws;
+use draws::Pen;
 use feed::push_feed;
 use groups::push_groups;
 use no_memory::NoMemory;
@@ -43,16 +43,15 @@ pub fn make(alloc: Global, groups: u32) -> Result<(Vec<u8>, Vec<u8>), NoMemory>
     ensures topology { IfOk result (λ texts. texts.0.items ≡ topology_of groups) }
     ensures feed { IfOk result (λ texts. texts.1.items ≡ feed_of groups) }
 {
-    let mut draws = Draws::from(u64::from(groups));
-    let mut nodes = Vec::new(alloc);
-    push_nodes(alloc, &mut nodes, &mut draws, groups)?;
-    let mut topology = Vec::new(alloc);
-    push_groups(alloc, &mut topology, &mut draws, groups)?;
-    topology.extend_from_slice(nodes.as_slice())?;
-    topology.extend_from_slice(ZONE)?;
-    let mut feed = Vec::new(alloc);
-    push_feed(alloc, &mut feed, &mut draws, groups)?;
-    Ok((topology, feed))
+    let mut nodes = Pen::new(alloc, u64::from(groups));
+    push_nodes(alloc, &mut nodes, groups)?;
+    let mut topology = Pen::new(alloc, nodes.draws.last);
+    push_groups(alloc, &mut topology, groups)?;
+    topology.text.extend_from_slice(nodes.text.as_slice())?;
+    topology.text.extend_from_slice(ZONE)?;
+    let mut feed = Pen::new(alloc, topology.draws.last);
+    push_feed(alloc, &mut feed, groups)?;
+    Ok((topology.text, feed.text))
 }
 
 #[cfg(test)]

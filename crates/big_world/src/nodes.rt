@@ -6,7 +6,7 @@ ghost use Rattle.big_world.specs.Pieces.{texts_below};
 ghost use Rattle.big_world.specs.Topology.{address_line, capacity_line, capacity_of, name_line, node_text, nodes_of, parent_line, pool_name, pool_text, region_name, region_text, regions_of};
 ghost use Rattle.big_world.specs.declared.TheConstants.{MOST_GROUPS};
 
-use crate::draws::Draws;
+use crate::draws::{Draws, Pen};
 use no_memory::NoMemory;
 use std::alloc::Global;
 
@@ -19,16 +19,18 @@ pub fn regions_of(groups: u32) -> u32
     1 + groups / 64
 }
 
-/// A number, and what stands behind it.
+/// A number between what stands ahead of it and behind it.
 pub fn push_number(
     alloc: Global,
     text: &mut Vec<u8>,
+    ahead: &[u8],
     number: u32,
     behind: &[u8],
 ) -> Result<(), NoMemory>
-    ensures { OnOk result (text.new.items ≡ text.old.items ++ decimal number ++ behind.now) }
+    ensures { OnOk result (text.new.items ≡ text.old.items ++ ahead.now ++ decimal number ++ behind.now) }
 {
     let digits = number.to_string(alloc)?;
+    text.extend_from_slice(ahead)?;
     text.extend_from_slice(digits.as_bytes())?;
     text.extend_from_slice(behind)?;
     Ok(())
@@ -140,37 +142,27 @@ fn draw_capacity(draws: &mut Draws, node: u32) -> u32
 
 /// A node.
 #[tactic(auto, unfolding(crate::specs::Topology::node_text))]
-fn push_node(
-    alloc: Global,
-    text: &mut Vec<u8>,
-    draws: &mut Draws,
-    node: u32,
-) -> Result<(), NoMemory>
-    ensures text { OnOk result (text.new.items ≡ text.old.items ++ node_text node draws.old.last) }
-    ensures last { OnOk result (draws.new.last ≡ behind draws.old.last 1) }
+fn push_node(alloc: Global, pen: &mut Pen, node: u32) -> Result<(), NoMemory>
+    ensures text { OnOk result (pen.new.text.items ≡ pen.old.text.items ++ node_text node pen.old.draws.last) }
+    ensures last { OnOk result (pen.new.draws.last ≡ behind pen.old.draws.last 1) }
 {
-    let capacity = draw_capacity(draws, node);
+    let capacity = draw_capacity(&mut pen.draws, node);
     let place = node % 5;
     if place == 0 {
-        push_region(alloc, text, node / 5, capacity)
+        push_region(alloc, &mut pen.text, node / 5, capacity)
     } else {
-        push_pool(alloc, text, node / 5, place - 1, capacity)
+        push_pool(alloc, &mut pen.text, node / 5, place - 1, capacity)
     }
 }
 
 /// All nodes.
-pub fn push_nodes(
-    alloc: Global,
-    text: &mut Vec<u8>,
-    draws: &mut Draws,
-    groups: u32,
-) -> Result<(), NoMemory>
+pub fn push_nodes(alloc: Global, pen: &mut Pen, groups: u32) -> Result<(), NoMemory>
     requires { groups ≤ MOST_GROUPS }
-    ensures text { OnOk result (text.new.items ≡ text.old.items ++ texts_below (λ p. node_text p (behind draws.old.last p)) (nodes_of groups)) }
-    ensures last { OnOk result (draws.new.last ≡ behind draws.old.last (nodes_of groups)) }
+    ensures text { OnOk result (pen.new.text.items ≡ pen.old.text.items ++ texts_below (λ p. node_text p (behind pen.old.draws.last p)) (nodes_of groups)) }
+    ensures last { OnOk result (pen.new.draws.last ≡ behind pen.old.draws.last (nodes_of groups)) }
 {
     for node in 0..5 * regions_of(groups) {
-        push_node(alloc, text, draws, node)?;
+        push_node(alloc, pen, node)?;
     }
     Ok(())
 }

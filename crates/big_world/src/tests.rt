@@ -13,7 +13,13 @@ const ROWS: &[Row] = &[
     (64, 9953, 0x464fc4593cf2574b, 1089, 0x44c7cbd325a47f4e),
     (65, 9873, 0xa153181216b73aca, 1077, 0xbfd10611e6f25c08),
     (1000, 152995, 0xdbb2e425ffb57fe3, 1130, 0x5ae94696a2c9d55a),
-    (MOST_GROUPS, 2603327, 0x63af5d9e34c810c0, 1213, 0x29526ccc6fddbc6f),
+    (
+        MOST_GROUPS,
+        2603327,
+        0x63af5d9e34c810c0,
+        1213,
+        0x29526ccc6fddbc6f,
+    ),
 ];
 
 /// The FNV-1a checksum of 64 bits.

@@ -11,9 +11,10 @@ returns-clause-topology c =
       c.in_ok-push_groups.ensures.text,
       c.in_ok-push_nodes.ensures.text,
       c.in_ok-push_nodes.ensures.last,
-      c.new-topology.ensures.items,
-      c.new-nodes.ensures.items,
-      c.from-draws.ensures,
+      c.new-topology.ensures.text,
+      c.new-nodes.ensures.text,
+      c.new-topology.ensures.last,
+      c.new-nodes.ensures.last,
       c.from.ensures,
       append_assoc,
     )

@@ -8,7 +8,6 @@ returns-clause-text c =
       c.in_ok-push_number-3.ensures,
       c.in_ok-push_number-2.ensures,
       c.in_ok-push_number.ensures,
-      c.in_ok-extend_from_slice.ensures.items,
       c.below-capacity.ensures.drawn,
       c.below-pool.ensures.drawn,
       c.below-region.ensures.drawn,

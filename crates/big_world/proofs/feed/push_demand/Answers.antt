@@ -4,4 +4,4 @@ use Rattle.big_world.proofs.feed.push_demand.Goals as goal
 
 pub returns-clause-text : goal.returns-clause-text
 returns-clause-text c =
-    simp (c.in_ok-push_number-2.ensures, c.in_ok-push_number.ensures, c.in_ok-extend_from_slice.ensures.items, c.below-demand.ensures.drawn, c.below-group.ensures.drawn, c.below-group.ensures.last, draw_two, append_assoc)
+    simp (c.in_ok-push_number-2.ensures, c.in_ok-push_number.ensures, c.below-demand.ensures.drawn, c.below-group.ensures.drawn, c.below-group.ensures.last, draw_two, append_assoc)

@@ -6,4 +6,4 @@ use Rattle.big_world.specs.Topology.{node_text}
 use Rattle.big_world.proofs.nodes.push_nodes.Given as goal
 
 abbrev pub invariant-loop-node : goal.invariant-loop-node
-invariant-loop-node l = (l.text.items ≡ l.initial.text.items ++ texts_below (λ p. node_text p (behind l.initial.draws.last p)) l.node) × (l.draws.last ≡ behind l.initial.draws.last l.node)
+invariant-loop-node l = (l.pen.text.items ≡ l.initial.pen.text.items ++ texts_below (λ p. node_text p (behind l.initial.pen.draws.last p)) l.node) × (l.pen.draws.last ≡ behind l.initial.pen.draws.last l.node)
