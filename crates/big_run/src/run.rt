@@ -1,6 +1,7 @@
 //! A run over a large world.
 ghost use Rattle.std.specs.Prelude.{◌≡◌, ◌<◌, ◌≤◌, ◌+◌, ◌-◌, ◌^◌, IfOk, OnOk, length};
 ghost use Rattle.big_world.specs.Topology.{topology_of};
+ghost use Rattle.big_world.specs.declared.TheConstants.{MOST_GROUPS};
 ghost use Rattle.big_world_read.specs.Read.{world_plan};
 ghost use Rattle.topology_text.specs.Plan.{Plan};
 ghost use Rattle.text_parts.specs.Parts.{whole_lines};
@@ -16,7 +17,7 @@ use crate::summary::Summary;
 use crate::work::take_lines;
 use big_world::make;
 use demand_feed::Clerk;
-use map_cell::{EmptyHistory, Naming, PlainDoor};
+use map_cell::{EmptyHistory, Naming, OpenFault, PlainDoor};
 use map_model::Steps;
 use mapper::Mapper;
 use no_memory::NoMemory;
@@ -29,7 +30,7 @@ struct Proposals;
 
 /// What the newest map of a run comes to, of so many groups.
 fn summary<J: Naming>(mapper: &Mapper<J>, groups: u32, good: u64, proposals: u64) -> Summary
-    requires groups { groups ≤ 16384 }
+    requires groups { groups ≤ MOST_GROUPS }
     requires good { good ≡ mapper.now.newest.serial + 1 }
     requires last { mapper.now.newest.serial < 2 ^ 64 - 1 }
     ensures { (t : Plan) → length mapper.now.newest.market.nodes ≡ length t.market.nodes → result ≡ summary_of groups t mapper.now proposals }
@@ -58,7 +59,7 @@ fn work<J: Naming, R: Wait>(
 ) -> Result<Summary, NoMemory>
     requires first { IsFirst mapper.old.newest.plan mapper.old }
     requires length { length feed.now < 2 ^ 63 }
-    requires groups { groups ≤ 16384 }
+    requires groups { groups ≤ MOST_GROUPS }
     ensures done { OnOk result (AllDo Publishes (items mapper.old.newest.plan (whole_lines feed.now)) mapper.old mapper.new) }
     ensures sums { IfOk result (λ s. s ≡ summary_of groups mapper.old.newest.plan mapper.new proposals) }
 {
@@ -73,7 +74,7 @@ fn work<J: Naming, R: Wait>(
 /// The topology of the world of so many groups, from its text. No fault is in it.
 fn read_world(alloc: Global, text: &[u8], groups: u32) -> Result<Topology, NoMemory>
     requires some { 1 ≤ groups }
-    requires most { groups ≤ 16384 }
+    requires most { groups ≤ MOST_GROUPS }
     requires text { text.now ≡ topology_of groups }
     ensures { IfOk result (λ t. t ≡ world_plan groups) }
 {
@@ -90,7 +91,7 @@ fn read_world(alloc: Global, text: &[u8], groups: u32) -> Result<Topology, NoMem
 ///
 /// # Errors
 ///
-/// Want of memory alone: the world's topology has no fault.
+/// Want of memory alone: the world's topology has no fault, and no viewer is asked for.
 pub fn run_world<J: Naming, R: Wait>(
     rt: &R,
     alloc: Global,
@@ -99,14 +100,14 @@ pub fn run_world<J: Naming, R: Wait>(
 ) -> Result<Summary, NoMemory>
     requires book { history ≡ J.book }
     requires some { 1 ≤ groups }
-    requires most { groups ≤ 16384 }
+    requires most { groups ≤ MOST_GROUPS }
     ensures { IfOk result (IsRun groups) }
 {
     let (topology, feed) = make(alloc, groups)?;
     let topology = read_world(alloc, topology.as_slice(), groups)?;
     let mut door = PlainDoor::new();
     let mut proposals = Steps::<Proposals>::new();
-    let Ok((mapper, _)) = Mapper::<J>::open(
+    let (mapper, _) = match Mapper::<J>::open(
         rt,
         alloc,
         history,
@@ -114,8 +115,10 @@ pub fn run_world<J: Naming, R: Wait>(
         0,
         &mut door,
         &mut proposals,
-    ) else {
-        return Err(NoMemory);
+    ) {
+        Ok(opened) => opened,
+        Err(OpenFault::NoMemory) => return Err(NoMemory),
+        Err(OpenFault::CellFault) => unreachable!(),
     };
     let mut mapper = mapper;
     let done = work(

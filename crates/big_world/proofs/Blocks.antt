@@ -1,5 +1,5 @@
 -- The lines of a document, block by block: a text with an empty line behind each block is one with an empty line ahead of each header but the first.
-use Rattle.std.proofs.Common.{◌≡◌, ◌+◌, ◌&&◌, ◌++◌, true, false, codes, List, [], ◌∷◌, drop, map, nat_lt, length, ℕ, zero, suc, refl, ap, ◌∙◌, append_assoc}
+use Rattle.std.proofs.Common.{◌≡◌, ◌+◌, ◌&&◌, ◌++◌, true, false, codes, List, [], ◌∷◌, drop, map, nat_lt, length, ℕ, zero, suc, refl, sym, ap, ◌∙◌, append_assoc, append-nil}
 use Rattle.std.specs.List.{list_all, range_with_len}
 use Rattle.toml_parser.specs.Lexical.{is_bare}
 use Rattle.toml_parser.specs.Strings.{Key}
@@ -34,9 +34,29 @@ pub header_line : (key : List ℕ) → (nat_lt 0 (length key) && list_all is_bar
 unfolding key_text
 header_line key bare = rw bare refl
 
--- five lines, from the front
-pub five_lines : (a b c d e : List ℕ) → (((a ++ b) ++ c) ++ d) ++ e ≡ a ++ (b ++ (c ++ (d ++ e)))
-five_lines a b c d e = simp append_assoc
+-- texts, one behind the other
+abbrev pub join : List (List ℕ) → List ℕ
+join [] = []
+join (t ∷ ts) = t ++ join ts
+
+pub two_joined : (a b : List ℕ) → a ++ b ≡ join (a ∷ b ∷ [])
+two_joined a b = ap (λ t. a ++ t) (sym (append-nil b))
+
+pub five_joined : (a b c d e : List ℕ) → (((a ++ b) ++ c) ++ d) ++ e ≡ join (a ∷ b ∷ c ∷ d ∷ e ∷ [])
+five_joined a b c d e = simp (append_assoc, append-nil)
+
+-- each text is the line of its expression
+abbrev pub AreLines : List Expression → List (List ℕ) → Type 0
+AreLines [] [] = Unit
+AreLines [] (t ∷ ts) = ⊥
+AreLines (e ∷ es) [] = ⊥
+AreLines (e ∷ es) (t ∷ ts) = IsLineText false true e.0 e.1 t × AreLines es ts
+
+pub lines_text : (es : List Expression) (ts : List (List ℕ)) (text : List ℕ) → text ≡ join ts → AreLines es ts → IsLinesText false true es text
+lines_text [] [] text is are = is
+lines_text [] (t ∷ ts) text is are = absurd are
+lines_text (e ∷ es) [] text is are = absurd are
+lines_text (e ∷ es) (t ∷ ts) text is are = (t, join ts, is, are.0, lines_text es ts (join ts) refl are.1)
 
 -- the text holds the table's lines under a header of its own, and an empty line behind them
 abbrev pub IsBlock : Key → Data → List ℕ → Type 0

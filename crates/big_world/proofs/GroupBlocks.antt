@@ -1,5 +1,5 @@
 -- The groups of a world, as blocks of its text.
-use Rattle.std.proofs.Common.{◌≡◌, ◌+◌, ◌/◌, ◌%◌, ◌<◌, ◌≤◌, ◌==◌, ◌^◌, ◌++◌, if◌then◌else◌, Bool, true, false, codes, pos, [], ◌∷◌, ℕ, zero, suc, refl, sym, ap, arith, append-nil}
+use Rattle.std.proofs.Common.{◌≡◌, ◌+◌, ◌/◌, ◌%◌, ◌<◌, ◌≤◌, ◌==◌, ◌^◌, ◌++◌, if◌then◌else◌, Bool, true, false, codes, pos, [], ◌∷◌, ℕ, zero, suc, refl, ap, arith}
 use Rattle.std.specs.Fmt.{decimal}
 use Rattle.toml.specs.Data.{array, integer, Items, string}
 use Rattle.toml.specs.Tables.{key_value}
@@ -8,7 +8,7 @@ use Rattle.toml_parser.specs.Strings.{Key}
 use Rattle.big_world.specs.Numbers.{behind, draw}
 use Rattle.big_world.specs.Topology.{block_text, demand_line, entry_text, group_name, group_text, length_at, line, listed_pool, name_line, name_of_pool, pools_line, pools_of, pools_text, prefixes_line, prefixes_text, quoted, score_at, scores_line, scores_text}
 use Rattle.big_world.specs.World.{array_of, entry_data, group_data, pools_data, prefixes_data, scores_data}
-use Rattle.big_world.proofs.Blocks.{five_lines, header_line, IsBlock, pair_line}
+use Rattle.big_world.proofs.Blocks.{five_joined, header_line, IsBlock, lines_text, pair_line}
 use Rattle.big_world.proofs.NodeBlocks.{name_pair, pool_plain}
 use Rattle.big_world.proofs.Plain.{AllPass, AllPass-append, is_plain, with_number}
 use Rattle.big_world.proofs.Values.{array_value, draw_below, listed_value, number_value, string_value}
@@ -98,37 +98,9 @@ entry_block n i demand s length x small some =
       line (codes "[[group]]") ++ first ++ second ++ third ++ fourth ++ last,
       refl,
       refl,
-      rw (pools.0, pools.1, prefixes.0, prefixes.1, scores.0, scores.1) (
-        header,
-        first ++ (second ++ (third ++ (fourth ++ last))),
-        ap (λ t. header ++ t) (five_lines first second third fourth last),
-        header_line (codes "group") refl,
-        (
-          first,
-          second ++ (third ++ (fourth ++ last)),
-          refl,
-          demand_pair demand small,
-          (
-            second,
-            third ++ (fourth ++ last),
-            refl,
-            name_pair (group_name i) (group_plain i),
-            (
-              third,
-              fourth ++ last,
-              refl,
-              pools_pair n s length,
-              (
-                fourth,
-                last,
-                refl,
-                prefixes_pair i,
-                (last, [], sym (append-nil last), scores_pair x length, refl),
-              ),
-            ),
-          ),
-        ),
-      ),
+      rw (pools.0, pools.1, prefixes.0, prefixes.1, scores.0, scores.1)
+          (lines_text _ (header ∷ first ∷ second ∷ third ∷ fourth ∷ last ∷ []) _ (ap (λ t. header ++ t) (five_joined first second third fourth last))
+          (header_line (codes "group") refl, (demand_pair demand small, (name_pair (group_name i) (group_plain i), (pools_pair n s length, (prefixes_pair i, (scores_pair x length, tt))))))),
     )
 
 pub group_block : (n i x : ℕ) → IsBlock group_key (group_data n i x) (group_text n i x)

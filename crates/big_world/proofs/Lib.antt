@@ -3,7 +3,7 @@ mod Pieces
 mod Joined
 mod Plain
 mod Blocks
-mod Values
+pub mod Values
 mod NodeBlocks
 mod GroupBlocks
 mod ZoneLines

@@ -1,5 +1,5 @@
 -- The nodes of a world, as blocks of its text.
-use Rattle.std.proofs.Common.{◌+◌, ◌-◌, ◌/◌, ◌%◌, ◌<◌, ◌==◌, ◌^◌, ◌++◌, if◌then◌else◌, Bool, true, false, codes, pos, List, [], ◌∷◌, ℕ, refl, sym, ap, arith, append-nil}
+use Rattle.std.proofs.Common.{◌+◌, ◌-◌, ◌/◌, ◌%◌, ◌<◌, ◌==◌, ◌^◌, ◌++◌, if◌then◌else◌, Bool, true, false, codes, pos, List, [], ◌∷◌, ℕ, refl, ap, arith}
 use Rattle.std.specs.Fmt.{decimal}
 use Rattle.toml.specs.Data.{array, boolean, integer, string, item, no_items}
 use Rattle.toml.specs.Tables.{key_value}
@@ -8,7 +8,7 @@ use Rattle.toml_parser.specs.Strings.{Key}
 use Rattle.big_world.specs.Numbers.{draw}
 use Rattle.big_world.specs.Topology.{address_line, capacity_line, capacity_of, host_text, name_line, node_text, parent_line, pool_name, pool_text, quoted, region_name, region_text, line}
 use Rattle.big_world.specs.World.{node_data, pool_data, region_data}
-use Rattle.big_world.proofs.Blocks.{five_lines, header_line, IsBlock, pair_line}
+use Rattle.big_world.proofs.Blocks.{five_joined, header_line, IsBlock, lines_text, pair_line, two_joined}
 use Rattle.big_world.proofs.Plain.{AllPass, is_plain, with_number}
 use Rattle.big_world.proofs.Values.{array_value, draw_below, number_value, string_value}
 
@@ -61,25 +61,15 @@ address_pair i j =
 region_block : (i capacity : ℕ) → capacity < 2 ^ 63 → IsBlock node_key (region_data i capacity) (region_text i capacity)
 unfolding region_data region_text
 region_block i capacity small =
+    let header = codes "\n[[node]]\n" in
     let first = capacity_line capacity in
-    let second = name_line (region_name i) in (
+    let last = name_line (region_name i) in (
       _,
-      line (codes "[[node]]") ++ first ++ second,
+      line (codes "[[node]]") ++ first ++ last,
       refl,
       refl,
-      (
-        codes "\n[[node]]\n",
-        first ++ second,
-        refl,
-        header_line (codes "node") refl,
-        (
-          first,
-          second,
-          refl,
-          capacity_pair capacity small,
-          (second, [], sym (append-nil second), name_pair (region_name i) (region_plain i), refl),
-        ),
-      ),
+      lines_text _ (header ∷ first ∷ last ∷ []) _ (ap (λ t. header ++ t) (two_joined first last))
+          (header_line (codes "node") refl, (capacity_pair capacity small, (name_pair (region_name i) (region_plain i), tt))),
     )
 
 pool_block : (i j capacity : ℕ) → capacity < 2 ^ 63 → IsBlock node_key (pool_data i j capacity) (pool_text i j capacity)
@@ -90,42 +80,14 @@ pool_block i j capacity small =
     let second = capacity_line capacity in
     let third = name_line (pool_name i j) in
     let fourth = parent_line i in
-    let last = line (codes "pool = true") in (
+    let last = line (codes "pool = true") in
+    let flag = pair_line (codes "pool") (boolean true) (codes "true") refl refl in (
       _,
       line (codes "[[node]]") ++ first ++ second ++ third ++ fourth ++ last,
       refl,
       refl,
-      (
-        header,
-        first ++ (second ++ (third ++ (fourth ++ last))),
-        ap (λ t. header ++ t) (five_lines first second third fourth last),
-        header_line (codes "node") refl,
-        (
-          first,
-          second ++ (third ++ (fourth ++ last)),
-          refl,
-          address_pair i j,
-          (
-            second,
-            third ++ (fourth ++ last),
-            refl,
-            capacity_pair capacity small,
-            (
-              third,
-              fourth ++ last,
-              refl,
-              name_pair (pool_name i j) (pool_plain i j),
-              (
-                fourth,
-                last,
-                refl,
-                parent_pair i,
-                (last, [], refl, pair_line (codes "pool") (boolean true) (codes "true") refl refl, refl),
-              ),
-            ),
-          ),
-        ),
-      ),
+      lines_text _ (header ∷ first ∷ second ∷ third ∷ fourth ∷ last ∷ []) _ (ap (λ t. header ++ t) (five_joined first second third fourth last))
+          (header_line (codes "node") refl, (address_pair i j, (capacity_pair capacity small, (name_pair (pool_name i j) (pool_plain i j), (parent_pair i, (flag, tt)))))),
     )
 
 pub node_block : (p x : ℕ) → IsBlock node_key (node_data p x) (node_text p x)

@@ -5,6 +5,7 @@ use Rattle.std.proofs.lemmas.Bool.{and_from}
 use Rattle.std.proofs.lemmas.Bool.Decides.{nat_tests}
 use Rattle.std.proofs.lemmas.List.Elements.{All-from_recursion}
 use Rattle.std.proofs.lemmas.List.FromFn.{length-map-range_with_len, map-range_with_len_more}
+use Rattle.std.proofs.lemmas.Simd.{map-map}
 use Rattle.std.specs.List.{All, AllByRecursion, list_any, range_with_len}
 use Rattle.std.specs.Option.{option_to_list}
 use Rattle.map_model.specs.declared.change.Change.{Change}
@@ -23,13 +24,10 @@ use Rattle.big_world.specs.Feed.{batch_text, behind_batch, behind_change, capaci
 use Rattle.big_world.specs.Numbers.{behind, draw}
 use Rattle.big_world.specs.Pieces.{ahead, texts_below}
 use Rattle.big_world.specs.Topology.{ahead_of_feed, group_name, line, pool_name, regions_of}
+use Rattle.big_world.proofs.Values.{draw_below}
 use Rattle.big_world_read.specs.Read.{batches_of, change_at, changes_at, pool_node}
-use Rattle.big_world_read.proofs.Lines.{capacity_lacks, capacity_line, capacity_says, commit_lacks, commit_says, demand_lacks, demand_line, demand_says, ended, ended-append, stop_lacks, stop_says, whole_lines-ended}
-
--- a draw is below its end
-draw_below : (x k m : ℕ) → 0 < m → draw x k m < m
-unfolding draw
-draw_below x k m some = omega arith
+use Rattle.big_world_read.proofs.Lines.{capacity_lacks, capacity_line, capacity_says, commit_said, demand_lacks, demand_line, demand_says, ended, ended-append, stop_said, whole_lines-ended}
+use Rattle.big_world_read.proofs.Numbered.{all_append}
 
 -- what a line of the feed says, drawn behind x, and the lines of a batch
 abbrev demand_at : ℕ → ℕ → List ℕ
@@ -108,19 +106,15 @@ line_fine n x some most = go (draw x 1 2 == 0)
 batch_fine : (n x : ℕ) → 1 ≤ n → n ≤ MOST_GROUPS → AllByRecursion IsFine (lines_at n x)
 batch_fine n x some most =
     let fine = λ (y : ℕ). line_fine n y some most in
-    (fine x, (fine (ahead behind_change x 1), (fine (ahead behind_change x 2), (fine (ahead behind_change x 3), (record { lacks = commit_lacks; goes_on = ap is_stop_said commit_says }, tt)))))
-
-fine-append : (lines more : List (List ℕ)) → AllByRecursion IsFine lines → AllByRecursion IsFine more → AllByRecursion IsFine (lines ++ more)
-fine-append [] more are are_more = are_more
-fine-append (l ∷ ls) more are are_more = (are.0, fine-append ls more are.1 are_more)
+    (fine x, (fine (ahead behind_change x 1), (fine (ahead behind_change x 2), (fine (ahead behind_change x 3), (record { lacks = commit_said.lacks; goes_on = ap is_stop_said commit_said.says }, tt)))))
 
 batches_fine : (n x k : ℕ) → 1 ≤ n → n ≤ MOST_GROUPS → AllByRecursion IsFine (lines_of_batches n x k)
 batches_fine n x zero some most = tt
 batches_fine n x (suc k) some most =
-    fine-append (lines_of_batches n x k) (lines_at n (ahead behind_batch x k)) (batches_fine n x k some most) (batch_fine n (ahead behind_batch x k) some most)
+    all_append IsFine (lines_of_batches n x k) (lines_at n (ahead behind_batch x k)) (batches_fine n x k some most) (batch_fine n (ahead behind_batch x k) some most)
 
 all_lack : (lines : List (List ℕ)) → AllByRecursion IsFine lines → AllByRecursion (Lacks 10) (lines ++ codes "stop" ∷ [])
-all_lack [] are = (stop_lacks, tt)
+all_lack [] are = (stop_said.lacks, tt)
 all_lack (l ∷ ls) are = (are.0.lacks, all_lack ls are.1)
 
 none_stops : (lines : List (List ℕ)) → AllByRecursion IsFine lines → has_stop lines ≡ false
@@ -197,7 +191,7 @@ clean m = record { number = m; refused = 0; changes = [] }
 
 commit_ends : (t : Plan) (m : ℕ) (change : Change) (changes : List Change) → step t (record { number = m; refused = 0; changes = change ∷ changes }) (codes "commit") ≡ record { item = Some (batch (change ∷ changes)); desk = clean (m + 1) }
 unfolding step
-commit_ends t m change changes = ap (by_said t (record { number = m + 1; refused = 0; changes = change ∷ changes })) commit_says
+commit_ends t m change changes = ap (by_said t (record { number = m + 1; refused = 0; changes = change ∷ changes })) commit_said.says
 
 -- what comes of some lines, and the desk behind them
 record Comes (t : Plan) (desk : Desk) (lines : List (List ℕ)) (come : List Item) (after : Desk) : Type 0 where
@@ -261,10 +255,6 @@ batches_come t n x (suc k) some most groups pools =
     let longer : map f (range_with_len 0 k) ++ f k ∷ [] ≡ map f (range_with_len 0 (suc k)) = sym (map-range_with_len_more f 0 k k (omega arith)) ∙ ap (λ j. map f (range_with_len 0 j)) one in
     (m + 1 + 1 + 1 + 1 + 1, record { come_is = all.come_is ∙ longer; after_is = all.after_is })
 
-map_twice : {A B : Type 0} (f : ℕ → A) (g : A → B) (ks : List ℕ) → map (λ k. g (f k)) ks ≡ map g (map f ks)
-map_twice f g [] = refl
-map_twice f g (k ∷ ks) = ap (λ ys. g (f k) ∷ ys) (map_twice f g ks)
-
 -- the feed says its batches, where the names of the groups and of the pools have their numbers
 pub batches : (t : Plan) (n : ℕ) → 1 ≤ n → n ≤ MOST_GROUPS
     → ((i : ℕ) → i < n → number_in t.group_names (group_name i) ≡ Some i)
@@ -274,9 +264,9 @@ batches t n some most groups pools =
     let x = ahead_of_feed n in
     let lines = lines_of_batches n x 16 in
     ap (items t) (lines_are n some most)
-    ∙ items_stop t lines (codes "stop") [] (none_stops lines (batches_fine n x 16 some most)) (ap is_stop_said stop_says)
+    ∙ items_stop t lines (codes "stop") [] (none_stops lines (batches_fine n x 16 some most)) (ap is_stop_said stop_said.says)
     ∙ (batches_come t n x 16 some most groups pools).1.come_is
-    ∙ map_twice (λ i. changes_at n (ahead behind_batch x i)) batch (range_with_len 0 16)
+    ∙ sym (map-map batch (λ i. changes_at n (ahead behind_batch x i)) (range_with_len 0 16))
 
 -- there are sixteen, each of four changes
 pub batches_count : (n : ℕ) → length (batches_of n) ≡ 16

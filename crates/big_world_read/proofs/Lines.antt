@@ -191,21 +191,17 @@ pub capacity_lacks : (i j c : ℕ) → i < 100000 → j < 100000 → c < 100000 
 capacity_lacks i j c low_i low_j low_c =
     subst (Lacks 10) (sym (capacity_in_three i j c)) (lacks_three (codes "capacity") (pool_name i j) (decimal c) (no_lf 8 (codes "capacity") capacity_is_word) (no_lf 12 (pool_name i j) (pool_word i j low_i low_j)) (no_lf 5 (decimal c) (decimal_word c low_c)))
 
+-- a word that is a line: what it says, and that no LF is in it
+pub record IsSaid (word : List ℕ) (said : Said) : Type 0 where
+  pub says : line_of word ≡ Ok said
+  pub lacks : Lacks 10 word
+
+one_said : (most : ℕ) (word : List ℕ) (said : Said) → IsWord most word → most ≤ 8300 → by_word word [] ≡ Ok said → IsSaid word said
+one_said most word said is few by = record { says = line_of_one most word is few ∙ by; lacks = no_lf most word is }
+
 -- the end of a batch, and of the feed
-commit_is_word : IsWord 6 (codes "commit")
-commit_is_word = record { some = omega arith; short = omega arith; graphic = refl }
+pub commit_said : IsSaid (codes "commit") commit
+commit_said = one_said 6 (codes "commit") commit (record { some = omega arith; short = omega arith; graphic = refl }) (omega arith) refl
 
-pub commit_says : line_of (codes "commit") ≡ Ok commit
-commit_says = line_of_one 6 (codes "commit") commit_is_word (omega arith)
-
-pub commit_lacks : Lacks 10 (codes "commit")
-commit_lacks = no_lf 6 (codes "commit") commit_is_word
-
-stop_is_word : IsWord 4 (codes "stop")
-stop_is_word = record { some = omega arith; short = omega arith; graphic = refl }
-
-pub stop_says : line_of (codes "stop") ≡ Ok stop
-stop_says = line_of_one 4 (codes "stop") stop_is_word (omega arith)
-
-pub stop_lacks : Lacks 10 (codes "stop")
-stop_lacks = no_lf 4 (codes "stop") stop_is_word
+pub stop_said : IsSaid (codes "stop") stop
+stop_said = one_said 4 (codes "stop") stop (record { some = omega arith; short = omega arith; graphic = refl }) (omega arith) refl

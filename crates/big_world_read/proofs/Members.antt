@@ -6,6 +6,7 @@ use Rattle.big_world.specs.Numbers.{behind, draw}
 use Rattle.big_world.specs.Pieces.{ahead}
 use Rattle.big_world.specs.Topology.{ahead_of_groups, behind_group, capacity_of, group_name, host_text, length_at, nodes_of, pool_name, pools_of, region_name, regions_of, score_at}
 use Rattle.big_world.specs.World.{array_of, entry_data, group_data, node_data, pool_data, pools_data, prefixes_data, region_data, scores_data}
+use Rattle.big_world.proofs.Values.{draw_below}
 use Rattle.big_world_read.proofs.Visits.{group_entry, members_of, node_entry}
 
 abbrev pub region_members : ℕ → ℕ → Members
@@ -32,14 +33,7 @@ group_members n i demand s length x =
     member (codes "scores") (array (array_of (scores_data x length)))
     no_members))))
 
--- a draw is below its bound
-remainder_below : (a m : ℕ) → 0 < m → a % m < m
-remainder_below a m some = omega arith
-
-pub draw_below : (x k m : ℕ) → 0 < m → draw x k m < m
-unfolding draw
-draw_below x k m some = remainder_below (behind x k / 2 ^ 33) m some
-
+-- what is drawn is below its bound
 pub score_below : (x t : ℕ) → score_at x t < 1000
 score_below x t = draw_below x (1 + t) 1000 (omega arith)
 

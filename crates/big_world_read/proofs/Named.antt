@@ -11,8 +11,8 @@ use Rattle.topology_text.specs.declared.schema.Key.TheVariants.{Name, Prefixes}
 use Rattle.big_world.specs.declared.TheConstants.{MOST_GROUPS}
 use Rattle.big_world.specs.World.{groups_data, nodes_data}
 use Rattle.big_world_read.proofs.Names.{group_good, group_name_free, listed_known, node_name_free, not_deep, not_misplaced, pool_good, region_found, region_good}
-use Rattle.big_world_read.proofs.Passes.{Passes, passes, prefixes_pass, whole}
-use Rattle.big_world_read.proofs.Quiet.{IsQuiet, nothing_found}
+use Rattle.big_world_read.proofs.Passes.{Passes, failing_at, passes, prefixes_pass, whole}
+use Rattle.big_world_read.proofs.Quiet.{IsQuiet, nothing_found, quiet_by}
 use Rattle.big_world_read.proofs.Visits.{group_entry, members_of, node_entry, visits, zone_visit}
 use Rattle.big_world_read.proofs.Walked.{group_is_table, node_is_table, world_entries}
 
@@ -23,7 +23,7 @@ good_names n small = record {
   whole_zone = λ ms. refl;
   nodes = λ ms. refl;
   groups = λ ms. refl;
-  zone = (refl, (refl, (refl, (refl, (refl, (refl, (refl, (refl, (refl, (refl, (refl, tt)))))))))));
+  zone = quiet_by (failing_at is_bad_name) zone_visit refl;
   region = λ i within. ap not (region_good i (omega arith));
   pool = λ i j within fits. ap not (pool_good i j (omega arith) (omega arith));
   parent = λ i within. refl;
@@ -46,7 +46,7 @@ known_names n small = record {
   whole_zone = λ ms. refl;
   nodes = λ ms. refl;
   groups = λ ms. refl;
-  zone = (refl, (refl, (refl, (refl, (refl, (refl, (refl, (refl, (refl, (refl, (refl, tt)))))))))));
+  zone = quiet_by (failing_at (is_unknown_name (world_entries n))) zone_visit refl;
   region = λ i within. refl;
   pool = λ i j within fits. refl;
   parent = λ i within. ap (λ (o : Option ℕ). not (is_some o)) (region_found n i small within);
@@ -70,7 +70,7 @@ outside n = record {
   whole_zone = λ ms. refl;
   nodes = λ ms. refl;
   groups = λ ms. refl;
-  zone = (refl, (refl, (refl, (refl, (refl, (refl, (refl, (refl, (refl, (refl, (refl, tt)))))))))));
+  zone = quiet_by (failing_at (is_inside (world_entries n))) zone_visit refl;
   region = λ i within. refl;
   pool = λ i j within fits. refl;
   parent = λ i within. refl;
@@ -94,7 +94,7 @@ name_within e is = sym (ap (λ (d : Data). text_at d Name) is)
 -- no name stands twice
 zone_once : (n : ℕ) → IsQuiet (duplicate_name (world_entries n)) zone_visit
 unfolding name_of label_name_of
-zone_once n = (refl, (refl, (refl, (refl, (refl, (refl, (refl, (refl, (refl, (refl, (refl, tt)))))))))))
+zone_once n = quiet_by (duplicate_name (world_entries n)) zone_visit refl
 
 pub none_duplicate : (n : ℕ) → n ≤ MOST_GROUPS → places_of (duplicate_name (world_entries n)) (visits n) ≡ []
 none_duplicate n small =
@@ -105,13 +105,13 @@ none_duplicate n small =
 -- each parent stands earlier and is no pool
 pub none_misplaced : (n : ℕ) → n ≤ MOST_GROUPS → places_of (parent_order (world_entries n)) (visits n) ≡ []
 none_misplaced n small =
-    nothing_found (parent_order (world_entries n)) n (refl, (refl, (refl, tt))) (refl, (refl, (refl, (refl, (refl, (refl, (refl, (refl, (refl, (refl, (refl, tt)))))))))))
+    nothing_found (parent_order (world_entries n)) n (refl, (refl, (refl, tt))) (quiet_by (parent_order (world_entries n)) zone_visit refl)
     (λ p below. (refl, (whole _ (not_misplaced n p small below), (refl, (refl, (refl, (refl, tt)))))))
     (λ i below. (refl, (refl, (refl, (refl, (refl, tt))))))
 
 -- no path is too long
 pub none_deep : (n : ℕ) → n ≤ MOST_GROUPS → places_of (too_deep (world_entries n)) (visits n) ≡ []
 none_deep n small =
-    nothing_found (too_deep (world_entries n)) n (refl, (refl, (refl, tt))) (refl, (refl, (refl, (refl, (refl, (refl, (refl, (refl, (refl, (refl, (refl, tt)))))))))))
+    nothing_found (too_deep (world_entries n)) n (refl, (refl, (refl, tt))) (quiet_by (too_deep (world_entries n)) zone_visit refl)
     (λ p below. (refl, (whole _ (not_deep n p small below), (refl, (refl, (refl, (refl, tt)))))))
     (λ i below. (refl, (refl, (refl, (refl, (refl, tt))))))

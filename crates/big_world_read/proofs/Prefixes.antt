@@ -20,6 +20,7 @@ use Rattle.big_world.specs.declared.TheConstants.{MOST_GROUPS}
 use Rattle.big_world.specs.Topology.{block_text, host_text, nodes_of}
 use Rattle.big_world.specs.World.{array_of, entry_data, group_data, prefixes_data}
 use Rattle.big_world_read.proofs.Addresses.{block_of, block_read, default_v4_read, default_v6_read, host_read}
+use Rattle.big_world_read.proofs.Numbered.{listed_again}
 use Rattle.big_world_read.proofs.Visits.{group_entry, group_visit, members_of, node_visit, top_visit, visits, zone_visit}
 
 -- the prefix of a group behind the first
@@ -57,10 +58,6 @@ pub no_bad_host : (i j : ℕ) → i < 65536 → j < 255 → is_bad_address A (st
 no_bad_host i j small few = ap (λ (o : Option Addr). not (is_some o)) (host_read i j small few)
 
 -- the items of a group
-listed_again : (ds : List Data) → list_of (array_of ds) ≡ ds
-listed_again [] = refl
-listed_again (d ∷ ds) = ap (λ (xs : List Data). d ∷ xs) (listed_again ds)
-
 group_items : (n i : ℕ) → items_at (members_of (group_entry n i)) Prefixes ≡ prefixes_data i
 unfolding group_data entry_data
 group_items n i = listed_again (prefixes_data i)

@@ -1,5 +1,6 @@
 -- A rule that finds nothing at any key of a big world's tables finds nothing on the walk.
-use Rattle.std.proofs.Common.{◌≡◌, ℕ, ◌<◌, List, [], ◌∷◌, map, refl, arith}
+use Rattle.std.proofs.Common.{◌≡◌, ℕ, ◌+◌, ◌<◌, List, [], ◌∷◌, ◌++◌, length, map, refl, sym, ◌∙◌, arith}
+use Rattle.std.proofs.lemmas.List.{length-append, nil_from_length}
 use Rattle.std.specs.List.{AllByRecursion, flat_map, range_with_len}
 use Rattle.topology_text.specs.Schema.{keys_of}
 use Rattle.topology_text.specs.Walk.{Visit, places_at, places_in, places_of}
@@ -12,6 +13,16 @@ use Rattle.big_world_read.proofs.Visits.{group_visit, node_visit, top_visit, vis
 -- nothing at any key of a table
 abbrev pub IsQuiet : (Visit → Key → List At) → Visit → Type 0
 IsQuiet finds v = AllByRecursion (λ k. finds v k ≡ []) (keys_of v.spot)
+
+-- which is so where what it finds comes to nothing
+quiet_from : (finds : Visit → Key → List At) (v : Visit) (ks : List Key) → length (flat_map (finds v) ks) ≡ 0 → AllByRecursion (λ k. finds v k ≡ []) ks
+quiet_from finds v [] none = tt
+quiet_from finds v (k ∷ ks) none =
+    let both : length (finds v k) + length (flat_map (finds v) ks) ≡ 0 = sym (length-append (finds v k) (flat_map (finds v) ks)) ∙ none in
+    (nil_from_length (finds v k) (omega arith), quiet_from finds v ks (omega arith))
+
+pub quiet_by : (finds : Visit → Key → List At) (v : Visit) → length (flat_map (finds v) (keys_of v.spot)) ≡ 0 → IsQuiet finds v
+quiet_by finds v none = quiet_from finds v (keys_of v.spot) none
 
 quiet_keys : (finds : Visit → Key → List At) (v : Visit) (ks : List Key) → AllByRecursion (λ k. finds v k ≡ []) ks → flat_map (places_at finds v) ks ≡ []
 quiet_keys finds v [] h = refl

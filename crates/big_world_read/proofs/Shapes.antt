@@ -18,8 +18,8 @@ use Rattle.big_world_read.proofs.Names.{listed_once}
 use Rattle.big_world_read.proofs.Numbered.{listed_again, none_where}
 use Rattle.big_world_read.proofs.Members.{group_cases, node_cases}
 use Rattle.big_world_read.proofs.Passes.{groups_pass, nodes_pass, pools_pass, prefixes_pass, scores_pass}
-use Rattle.big_world_read.proofs.Quiet.{IsQuiet, nothing_found, nothing_seen}
-use Rattle.big_world_read.proofs.Visits.{visits}
+use Rattle.big_world_read.proofs.Quiet.{IsQuiet, nothing_found, nothing_seen, quiet_by}
+use Rattle.big_world_read.proofs.Visits.{visits, zone_visit}
 
 -- every key that is required is there
 pub none_missing : (n : ℕ) → places_of missing (visits n) ≡ []
@@ -40,9 +40,9 @@ pub none_wrong : (n : ℕ) → places_of wrong_kind (visits n) ≡ []
 none_wrong n =
     nothing_found wrong_kind n
     (refl, (nodes_pass (λ e. not (is_item_kind Tables e)) n (λ ms. refl), (groups_pass (λ e. not (is_item_kind Tables e)) n (λ ms. refl), tt)))
-    (refl, (refl, (refl, (refl, (refl, (refl, (refl, (refl, (refl, (refl, (refl, tt)))))))))))
+    (quiet_by wrong_kind zone_visit refl)
     (λ p below. node_cases (λ ms. IsQuiet wrong_kind (record { spot = NodeTable p; members = ms })) n p below
-    (λ i c within small. (refl, (refl, (refl, (refl, (refl, (refl, tt))))))) (λ i j c within fits small. (refl, (refl, (refl, (refl, (refl, (refl, tt))))))))
+    (λ i c within small. quiet_by wrong_kind _ refl) (λ i j c within fits small. quiet_by wrong_kind _ refl))
     (λ i below. group_cases (λ ms. IsQuiet wrong_kind (record { spot = GroupTable i; members = ms })) n i (λ demand s length x drawn. (
       refl,
       (
@@ -73,9 +73,9 @@ none_too_many n small =
         (within_limit 65536 (length (list_of (array_of (groups_data n)))) n (made_again _ n) (omega arith), tt),
       ),
     )
-    (refl, (refl, (refl, (refl, (refl, (refl, (refl, (refl, (refl, (refl, (refl, tt)))))))))))
+    (quiet_by too_many zone_visit refl)
     (λ p below. node_cases (λ ms. IsQuiet too_many (record { spot = NodeTable p; members = ms })) n p below
-    (λ i c within little. (refl, (refl, (refl, (refl, (refl, (refl, tt))))))) (λ i j c within fits little. (refl, (refl, (refl, (refl, (refl, (refl, tt))))))))
+    (λ i c within little. quiet_by too_many _ refl) (λ i j c within fits little. quiet_by too_many _ refl))
     (λ i below. group_cases (λ ms. IsQuiet too_many (record { spot = GroupTable i; members = ms })) n i (λ demand s length x drawn. (refl, (refl, (refl, (refl, (refl, tt)))))))
 
 -- one to sixteen pools, none of them twice, and as many scores
@@ -92,9 +92,9 @@ pub none_misshapen : (n : ℕ) → n ≤ MOST_GROUPS → places_of list_shape (v
 none_misshapen n little =
     nothing_found list_shape n
     (refl, (refl, (refl, tt)))
-    (refl, (refl, (refl, (refl, (refl, (refl, (refl, (refl, (refl, (refl, (refl, tt)))))))))))
+    (quiet_by list_shape zone_visit refl)
     (λ p below. node_cases (λ ms. IsQuiet list_shape (record { spot = NodeTable p; members = ms })) n p below
-    (λ i c within small. (refl, (refl, (refl, (refl, (refl, (refl, tt))))))) (λ i j c within fits small. (refl, (refl, (refl, (refl, (refl, (refl, tt))))))))
+    (λ i c within small. quiet_by list_shape _ refl) (λ i j c within fits small. quiet_by list_shape _ refl))
     (λ i below. group_cases (λ ms. IsQuiet list_shape (record { spot = GroupTable i; members = ms })) n i (λ demand s length x drawn. (
       refl,
       (

@@ -6,9 +6,10 @@ use Rattle.topology_text.specs.Faults.{failures}
 use Rattle.topology_text.specs.Values.{is_bad_address, is_bad_prefix, is_out_of_range, is_within}
 use Rattle.topology_text.specs.declared.schema.Key.TheVariants.{Prefixes}
 use Rattle.big_world.specs.declared.TheConstants.{MOST_GROUPS}
-use Rattle.big_world_read.proofs.Passes.{Passes, passes, prefixes_pass}
+use Rattle.big_world_read.proofs.Passes.{Passes, failing_at, passes, prefixes_pass}
 use Rattle.big_world_read.proofs.Prefixes.{no_bad_host, no_bad_prefix}
-use Rattle.big_world_read.proofs.Visits.{visits}
+use Rattle.big_world_read.proofs.Quiet.{quiet_by}
+use Rattle.big_world_read.proofs.Visits.{visits, zone_visit}
 
 -- numbers
 within : (low high c : ℕ) → low ≤ c → c ≤ high → not (is_within low high (pos c)) ≡ false
@@ -19,7 +20,7 @@ in_range n = record {
   whole_zone = λ ms. refl;
   nodes = λ ms. refl;
   groups = λ ms. refl;
-  zone = (refl, (refl, (refl, (refl, (refl, (refl, (refl, (refl, (refl, (refl, (refl, tt)))))))))));
+  zone = quiet_by (failing_at is_out_of_range) zone_visit refl;
   region = λ i within. refl;
   pool = λ i j within fits. refl;
   parent = λ i within. refl;
@@ -42,7 +43,7 @@ good_addresses n small = record {
   whole_zone = λ ms. refl;
   nodes = λ ms. refl;
   groups = λ ms. refl;
-  zone = (refl, (refl, (refl, (refl, (refl, (refl, (refl, (refl, (refl, (refl, (refl, tt)))))))))));
+  zone = quiet_by (failing_at is_bad_address) zone_visit refl;
   region = λ i within. refl;
   pool = λ i j within fits. refl;
   parent = λ i within. refl;
@@ -65,7 +66,7 @@ good_prefixes n small = record {
   whole_zone = λ ms. refl;
   nodes = λ ms. refl;
   groups = λ ms. refl;
-  zone = (refl, (refl, (refl, (refl, (refl, (refl, (refl, (refl, (refl, (refl, (refl, tt)))))))))));
+  zone = quiet_by (failing_at is_bad_prefix) zone_visit refl;
   region = λ i within. refl;
   pool = λ i j within fits. refl;
   parent = λ i within. refl;
