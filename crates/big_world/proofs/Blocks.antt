@@ -45,6 +45,10 @@ two_joined a b = ap (λ t. a ++ t) (sym (append-nil b))
 pub five_joined : (a b c d e : List ℕ) → (((a ++ b) ++ c) ++ d) ++ e ≡ join (a ∷ b ∷ c ∷ d ∷ e ∷ [])
 five_joined a b c d e = simp (append_assoc, append-nil)
 
+-- a line with a bare key
+abbrev pub pair : List ℕ → Data → Expression
+pair key d = (([], key), key_value d)
+
 -- each text is the line of its expression
 abbrev pub AreLines : List Expression → List (List ℕ) → Type 0
 AreLines [] [] = Unit

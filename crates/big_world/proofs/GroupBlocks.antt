@@ -1,14 +1,14 @@
 -- The groups of a world, as blocks of its text.
-use Rattle.std.proofs.Common.{◌≡◌, ◌+◌, ◌/◌, ◌%◌, ◌<◌, ◌≤◌, ◌==◌, ◌^◌, ◌++◌, if◌then◌else◌, Bool, true, false, codes, pos, [], ◌∷◌, ℕ, zero, suc, refl, ap, arith}
+use Rattle.std.proofs.Common.{◌≡◌, ◌+◌, ◌/◌, ◌%◌, ◌<◌, ◌≤◌, ◌==◌, ◌^◌, ◌++◌, if◌then◌else◌, Bool, true, false, codes, pos, List, [], ◌∷◌, ℕ, zero, suc, refl, ap, arith}
 use Rattle.std.specs.Fmt.{decimal}
 use Rattle.toml.specs.Data.{array, integer, Items, string}
-use Rattle.toml.specs.Tables.{key_value}
-use Rattle.toml.specs.Text.{are_tables, has_items, IsItemsText, IsLineText}
+use Rattle.toml.specs.Tables.{array_table, key_value, Expression}
+use Rattle.toml.specs.Text.{are_tables, has_items, IsItemsText, IsLinesText, IsLineText}
 use Rattle.toml_parser.specs.Strings.{Key}
 use Rattle.big_world.specs.Numbers.{behind, draw}
 use Rattle.big_world.specs.Topology.{block_text, demand_line, entry_text, group_name, group_text, length_at, line, listed_pool, name_line, name_of_pool, pools_line, pools_of, pools_text, prefixes_line, prefixes_text, quoted, score_at, scores_line, scores_text}
 use Rattle.big_world.specs.World.{array_of, entry_data, group_data, pools_data, prefixes_data, scores_data}
-use Rattle.big_world.proofs.Blocks.{five_joined, header_line, IsBlock, lines_text, pair_line}
+use Rattle.big_world.proofs.Blocks.{five_joined, header_line, IsBlock, lines_text, pair, pair_line}
 use Rattle.big_world.proofs.NodeBlocks.{name_pair, pool_plain}
 use Rattle.big_world.proofs.Plain.{AllPass, AllPass-append, is_plain, with_number}
 use Rattle.big_world.proofs.Values.{array_value, draw_below, listed_value, number_value, string_value}
@@ -93,15 +93,20 @@ entry_block n i demand s length x small some =
     let last = scores_line x length in
     let pools = pools_inline n s length some in
     let prefixes = prefixes_inline i in
-    let scores = scores_inline x length some in (
-      _,
-      line (codes "[[group]]") ++ first ++ second ++ third ++ fourth ++ last,
-      refl,
-      refl,
-      rw (pools.0, pools.1, prefixes.0, prefixes.1, scores.0, scores.1)
-          (lines_text _ (header ∷ first ∷ second ∷ third ∷ fourth ∷ last ∷ []) _ (ap (λ t. header ++ t) (five_joined first second third fourth last))
-          (header_line (codes "group") refl, (demand_pair demand small, (name_pair (group_name i) (group_plain i), (pools_pair n s length, (prefixes_pair i, (scores_pair x length, tt))))))),
-    )
+    let scores = scores_inline x length some in
+    let lines = line (codes "[[group]]") ++ first ++ second ++ third ++ fourth ++ last in
+    let es : List Expression =
+    (group_key, array_table)
+    ∷ pair (codes "demand") (integer (pos demand))
+    ∷ pair (codes "name") (string (group_name i))
+    ∷ pair (codes "pools") (array (array_of (pools_data n s length)))
+    ∷ pair (codes "prefixes") (array (array_of (prefixes_data i)))
+    ∷ pair (codes "scores") (array (array_of (scores_data x length)))
+    ∷ [] in
+    let written : IsLinesText false true es (10 ∷ lines) =
+    lines_text es (header ∷ first ∷ second ∷ third ∷ fourth ∷ last ∷ []) (10 ∷ lines) (ap (λ t. header ++ t) (five_joined first second third fourth last))
+    (header_line (codes "group") refl, (demand_pair demand small, (name_pair (group_name i) (group_plain i), (pools_pair n s length, (prefixes_pair i, (scores_pair x length, tt)))))) in
+    (_, lines, refl, refl, rw (pools.0, pools.1, prefixes.0, prefixes.1, scores.0, scores.1) written)
 
 pub group_block : (n i x : ℕ) → IsBlock group_key (group_data n i x) (group_text n i x)
 unfolding group_data group_text

@@ -2,13 +2,13 @@
 use Rattle.std.proofs.Common.{◌+◌, ◌-◌, ◌/◌, ◌%◌, ◌<◌, ◌==◌, ◌^◌, ◌++◌, if◌then◌else◌, Bool, true, false, codes, pos, List, [], ◌∷◌, ℕ, refl, ap, arith}
 use Rattle.std.specs.Fmt.{decimal}
 use Rattle.toml.specs.Data.{array, boolean, integer, string, item, no_items}
-use Rattle.toml.specs.Tables.{key_value}
+use Rattle.toml.specs.Tables.{array_table, key_value, Expression}
 use Rattle.toml.specs.Text.{IsLineText}
 use Rattle.toml_parser.specs.Strings.{Key}
 use Rattle.big_world.specs.Numbers.{draw}
 use Rattle.big_world.specs.Topology.{address_line, capacity_line, capacity_of, host_text, name_line, node_text, parent_line, pool_name, pool_text, quoted, region_name, region_text, line}
 use Rattle.big_world.specs.World.{node_data, pool_data, region_data}
-use Rattle.big_world.proofs.Blocks.{five_joined, header_line, IsBlock, lines_text, pair_line, two_joined}
+use Rattle.big_world.proofs.Blocks.{five_joined, header_line, IsBlock, lines_text, pair, pair_line, two_joined}
 use Rattle.big_world.proofs.Plain.{AllPass, is_plain, with_number}
 use Rattle.big_world.proofs.Values.{array_value, draw_below, number_value, string_value}
 
@@ -63,12 +63,14 @@ unfolding region_data region_text
 region_block i capacity small =
     let header = codes "\n[[node]]\n" in
     let first = capacity_line capacity in
-    let last = name_line (region_name i) in (
+    let last = name_line (region_name i) in
+    let lines = line (codes "[[node]]") ++ first ++ last in
+    let es : List Expression = (node_key, array_table) ∷ pair (codes "capacity") (integer (pos capacity)) ∷ pair (codes "name") (string (region_name i)) ∷ [] in (
       _,
-      line (codes "[[node]]") ++ first ++ last,
+      lines,
       refl,
       refl,
-      lines_text _ (header ∷ first ∷ last ∷ []) _ (ap (λ t. header ++ t) (two_joined first last))
+      lines_text es (header ∷ first ∷ last ∷ []) (10 ∷ lines) (ap (λ t. header ++ t) (two_joined first last))
           (header_line (codes "node") refl, (capacity_pair capacity small, (name_pair (region_name i) (region_plain i), tt))),
     )
 
@@ -81,12 +83,21 @@ pool_block i j capacity small =
     let third = name_line (pool_name i j) in
     let fourth = parent_line i in
     let last = line (codes "pool = true") in
-    let flag = pair_line (codes "pool") (boolean true) (codes "true") refl refl in (
+    let lines = line (codes "[[node]]") ++ first ++ second ++ third ++ fourth ++ last in
+    let flag : IsLineText false true ([], codes "pool") (key_value (boolean true)) last = pair_line (codes "pool") (boolean true) (codes "true") refl refl in
+    let es : List Expression =
+    (node_key, array_table)
+    ∷ pair (codes "a") (array (item (string (host_text i j)) no_items))
+    ∷ pair (codes "capacity") (integer (pos capacity))
+    ∷ pair (codes "name") (string (pool_name i j))
+    ∷ pair (codes "parent") (string (region_name i))
+    ∷ pair (codes "pool") (boolean true)
+    ∷ [] in (
       _,
-      line (codes "[[node]]") ++ first ++ second ++ third ++ fourth ++ last,
+      lines,
       refl,
       refl,
-      lines_text _ (header ∷ first ∷ second ∷ third ∷ fourth ∷ last ∷ []) _ (ap (λ t. header ++ t) (five_joined first second third fourth last))
+      lines_text es (header ∷ first ∷ second ∷ third ∷ fourth ∷ last ∷ []) (10 ∷ lines) (ap (λ t. header ++ t) (five_joined first second third fourth last))
           (header_line (codes "node") refl, (address_pair i j, (capacity_pair capacity small, (name_pair (pool_name i j) (pool_plain i j), (parent_pair i, (flag, tt)))))),
     )
 
