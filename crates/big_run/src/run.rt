@@ -107,7 +107,7 @@ pub fn run_world<J: Naming, R: Wait>(
     let topology = read_world(alloc, topology.as_slice(), groups)?;
     let mut door = PlainDoor::new();
     let mut proposals = Steps::<Proposals>::new();
-    let (mapper, _) = match Mapper::<J>::open(
+    let mut mapper = match Mapper::<J>::open(
         rt,
         alloc,
         history,
@@ -116,11 +116,10 @@ pub fn run_world<J: Naming, R: Wait>(
         &mut door,
         &mut proposals,
     ) {
-        Ok(opened) => opened,
+        Ok((mapper, _)) => mapper,
         Err(OpenFault::NoMemory) => return Err(NoMemory),
         Err(OpenFault::CellFault) => unreachable!(),
     };
-    let mut mapper = mapper;
     let done = work(
         rt,
         alloc,

@@ -42,7 +42,7 @@ none_wrong n =
     (refl, (nodes_pass (λ e. not (is_item_kind Tables e)) n (λ ms. refl), (groups_pass (λ e. not (is_item_kind Tables e)) n (λ ms. refl), tt)))
     (quiet_by wrong_kind zone_visit refl)
     (λ p below. node_cases (λ ms. IsQuiet wrong_kind (record { spot = NodeTable p; members = ms })) n p below
-    (λ i c within small. quiet_by wrong_kind _ refl) (λ i j c within fits small. quiet_by wrong_kind _ refl))
+    (λ i c within small. (refl, (refl, (refl, (refl, (refl, (refl, tt))))))) (λ i j c within fits small. (refl, (refl, (refl, (refl, (refl, (refl, tt))))))))
     (λ i below. group_cases (λ ms. IsQuiet wrong_kind (record { spot = GroupTable i; members = ms })) n i (λ demand s length x drawn. (
       refl,
       (
@@ -75,7 +75,7 @@ none_too_many n small =
     )
     (quiet_by too_many zone_visit refl)
     (λ p below. node_cases (λ ms. IsQuiet too_many (record { spot = NodeTable p; members = ms })) n p below
-    (λ i c within little. quiet_by too_many _ refl) (λ i j c within fits little. quiet_by too_many _ refl))
+    (λ i c within little. (refl, (refl, (refl, (refl, (refl, (refl, tt))))))) (λ i j c within fits little. (refl, (refl, (refl, (refl, (refl, (refl, tt))))))))
     (λ i below. group_cases (λ ms. IsQuiet too_many (record { spot = GroupTable i; members = ms })) n i (λ demand s length x drawn. (refl, (refl, (refl, (refl, (refl, tt)))))))
 
 -- one to sixteen pools, none of them twice, and as many scores
@@ -94,7 +94,7 @@ none_misshapen n little =
     (refl, (refl, (refl, tt)))
     (quiet_by list_shape zone_visit refl)
     (λ p below. node_cases (λ ms. IsQuiet list_shape (record { spot = NodeTable p; members = ms })) n p below
-    (λ i c within small. quiet_by list_shape _ refl) (λ i j c within fits small. quiet_by list_shape _ refl))
+    (λ i c within small. (refl, (refl, (refl, (refl, (refl, (refl, tt))))))) (λ i j c within fits small. (refl, (refl, (refl, (refl, (refl, (refl, tt))))))))
     (λ i below. group_cases (λ ms. IsQuiet list_shape (record { spot = GroupTable i; members = ms })) n i (λ demand s length x drawn. (
       refl,
       (
