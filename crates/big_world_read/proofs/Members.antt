@@ -1,5 +1,5 @@
 -- The members of a big world's nodes and groups, and between what bounds they are drawn.
-use Rattle.std.proofs.Common.{◌≡◌, ℕ, ◌+◌, ◌-◌, ◌/◌, ◌%◌, ◌^◌, ◌==◌, ◌<◌, ◌≤◌, Bool, true, false, [], ◌∷◌, if◌then◌else◌, refl, arith}
+use Rattle.std.proofs.Common.{◌≡◌, ℕ, ◌+◌, ◌-◌, ◌/◌, ◌%◌, ◌==◌, ◌<◌, ◌≤◌, Bool, true, false, [], ◌∷◌, if◌then◌else◌, refl, arith}
 use Rattle.std.specs.Prelude.{codes, min, pos}
 use Rattle.toml.specs.Data.{Data, array, boolean, integer, string, Members, member, no_members}
 use Rattle.big_world.specs.Numbers.{behind, draw}

@@ -12,13 +12,13 @@ use Rattle.addr_text.specs.Addresses.{default_v4, default_v6}
 use Rattle.toml.specs.Data.{Data, string}
 use Rattle.topology_text.specs.Prefixes.{all_prefixes, count_at, duplicate_prefixes, has_prefix, is_past, is_same_prefix, no_default, passing, place_of, prefixes_at, prefixes_from, total}
 use Rattle.topology_text.specs.Values.{is_bad_address, is_bad_prefix}
-use Rattle.topology_text.specs.Walk.{Visit, items_at, list_of, marked_from}
+use Rattle.topology_text.specs.Walk.{Visit, items_at, marked_from}
 use Rattle.topology_text.specs.declared.prefixes.PrefixAt.{PrefixAt}
 use Rattle.topology_text.specs.declared.schema.Key.TheVariants.{A, Prefixes}
 use Rattle.topology_text.specs.declared.schema.At.TheVariants.{Whole}
 use Rattle.big_world.specs.declared.TheConstants.{MOST_GROUPS}
 use Rattle.big_world.specs.Topology.{block_text, host_text, nodes_of}
-use Rattle.big_world.specs.World.{array_of, entry_data, group_data, prefixes_data}
+use Rattle.big_world.specs.World.{entry_data, group_data, prefixes_data}
 use Rattle.big_world_read.proofs.Addresses.{block_of, block_read, default_v4_read, default_v6_read, host_read}
 use Rattle.big_world_read.proofs.Numbered.{listed_again}
 use Rattle.big_world_read.proofs.Visits.{group_entry, group_visit, members_of, node_visit, top_visit, visits, zone_visit}

@@ -1,5 +1,5 @@
 -- A rule that finds nothing at any key of a big world's tables finds nothing on the walk.
-use Rattle.std.proofs.Common.{◌≡◌, ℕ, ◌+◌, ◌<◌, List, [], ◌∷◌, ◌++◌, length, map, refl, sym, ◌∙◌, arith}
+use Rattle.std.proofs.Common.{◌≡◌, ℕ, ◌+◌, ◌<◌, List, [], ◌∷◌, length, map, refl, sym, ◌∙◌, arith}
 use Rattle.std.proofs.lemmas.List.{length-append, nil_from_length}
 use Rattle.std.specs.List.{AllByRecursion, flat_map, range_with_len}
 use Rattle.topology_text.specs.Schema.{keys_of}

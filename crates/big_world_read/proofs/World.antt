@@ -1,5 +1,5 @@
 -- What the two texts of a world are read as.
-use Rattle.std.proofs.Common.{◌≡◌, ℕ, ◌<◌, ◌≤◌, Some, ap, ◌∙◌}
+use Rattle.std.proofs.Common.{◌≡◌, ℕ, ◌≤◌, ap, ◌∙◌}
 use Rattle.std.specs.Prelude.{Ok, map}
 use Rattle.text_parts.specs.Parts.{whole_lines}
 use Rattle.topology_text.specs.Faults.{reading}
@@ -9,8 +9,8 @@ use Rattle.topology_text.specs.Topology.{name_of}
 use Rattle.demand_feed.specs.Item.{batch, items}
 use Rattle.big_world.specs.declared.TheConstants.{MOST_GROUPS}
 use Rattle.big_world.specs.Feed.{feed_of}
-use Rattle.big_world.specs.Topology.{group_name, pool_name, regions_of, topology_of}
-use Rattle.big_world_read.specs.Read.{batches_of, pool_node, world_plan}
+use Rattle.big_world.specs.Topology.{group_name, pool_name, topology_of}
+use Rattle.big_world_read.specs.Read.{batches_of, world_plan}
 use Rattle.big_world_read.proofs.Batches.{KnowsGroups, KnowsPools, batches}
 use Rattle.big_world_read.proofs.Names.{group_in_plan, pool_in_plan}
 use Rattle.big_world_read.proofs.NoFault.{topology_read}
