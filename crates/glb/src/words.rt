@@ -4,6 +4,7 @@ ghost use Rattle.std.specs.Option.{option_map};
 ghost use Rattle.addr_text.specs.Addresses.{addr_of};
 ghost use Rattle.command_line.specs.Asked.{texts};
 ghost use Rattle.command_line.specs.Commands.{ask_of as line_of};
+ghost use Rattle.big_world.specs.declared.TheConstants.{MOST_GROUPS};
 ghost use Rattle.glb.specs.Words.{answer, asked, asked_by, large, say, serve, service_of, workers_of};
 ghost use Rattle.glb.specs.Commands.{IsManned, ask_of, task_of};
 ghost use Rattle.glb.specs.Counts.{count_of, is_plain};
@@ -112,7 +113,7 @@ fn read_serve<'a>(topology: &'a str, listen: &str, workers: Option<&str>) -> Opt
 
 /// What `large` with this word asks for.
 fn read_large<'a>(groups: &str) -> Option<Order<'a>>
-    ensures asked { option_map task_of result ≡ option_map large (count_of 16384 groups.now) }
+    ensures asked { option_map task_of result ≡ option_map large (count_of MOST_GROUPS groups.now) }
     ensures manned { IsManned result }
 {
     match read_count(groups.as_bytes(), u64::from(MOST_GROUPS)) {
