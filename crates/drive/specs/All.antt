@@ -1,4 +1,4 @@
--- Lanes beside their workers.
+-- Inside this crate alone: lanes beside their workers.
 use Rattle.std.specs.Prelude.{List, [], ◌∷◌}
 
 -- each lane with its worker

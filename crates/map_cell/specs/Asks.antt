@@ -1,4 +1,4 @@
--- The version that is to be added to the history.
+-- Inside this crate alone: the version that is to be added to the history.
 use Rattle.std.specs.Prelude.{if◌then◌else◌}
 use Rattle.map_cell.specs.declared.asked.Asked.{Asked}
 use Rattle.published_map.specs.Version.{Version}

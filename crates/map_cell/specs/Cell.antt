@@ -1,4 +1,4 @@
--- The rule of the cell.
+-- Inside this crate alone: the rule of the cell.
 use Rattle.std.specs.Prelude.{List}
 use Rattle.map_cell.specs.declared.tag.Tag.{Tag}
 use Rattle.map_cell.specs.Histories.{IsSealed}

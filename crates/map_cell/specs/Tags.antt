@@ -1,4 +1,4 @@
--- The cell's rule: all that know a book know that of the copy.
+-- Inside this crate alone: the cell's rule, that all that know a book know that of the copy.
 use Rattle.std.specs.Prelude.{ℕ, ◌≡◌, true, false, List}
 use mathlib.Core.Option.{some}
 use lib.ListN.{get_elem?}

@@ -1,6 +1,7 @@
 //! Lines of control text, written without memory.
 ghost use Rattle.std.specs.Prelude.{◌≡◌, ◌≤◌, ◌+◌, ◌*◌, ◌++◌, [], length, decimal, option_map, IfSome};
 ghost use Rattle.hex.specs.Hex.{encode_lower};
+ghost use Rattle.outside.specs.declared.limits.TheConstants.{LARGEST_REPLY};
 ghost use Rattle.demand_feed.specs.Texts.{refusal_words};
 ghost use Rattle.mapper.specs.Sayings.{text_of};
 ghost use Rattle.mapper.specs.Texts.{digits_of};
@@ -106,7 +107,7 @@ fn words(why: Refusal) -> &'static [u8]
 /// Appends the hexadecimal digits of octets.
 fn push_digits(line: &mut Spoken, octets: &[u8])
     requires room { length line.old.items + 1024 ≤ LINE_ROOM }
-    requires few { length octets.now ≤ 512 }
+    requires few { length octets.now ≤ LARGEST_REPLY }
     ensures digits { line.new.items ≡ line.old.items ++ encode_lower octets.now }
     ensures short { length line.new.items ≤ length line.old.items + 1024 }
 {

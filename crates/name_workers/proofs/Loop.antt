@@ -1,12 +1,12 @@
 -- The loop of a lane: turns so far, and one more.
-use Rattle.std.proofs.Common.{◌≡◌, ℕ, ◌+◌, ◌<◌, Bool, true, false, ◌==◌, if◌then◌else◌, List, [], ◌∷◌, ◌++◌, None, Some, refl, sym, ap, subst, ◌∙◌, arith, length-append}
+use Rattle.std.proofs.Common.{◌≡◌, ℕ, ◌+◌, ◌<◌, ◌≤◌, Bool, true, false, ◌==◌, if◌then◌else◌, List, [], ◌∷◌, ◌++◌, None, Some, refl, sym, ap, subst, ◌∙◌, arith, length-append}
 use Rattle.std.proofs.lemmas.List.Sums.{sum_by-cons}
 use Rattle.std.proofs.lemmas.Grind.{common_steps}
 use Rattle.published_map.specs.Version.{Version}
 use Rattle.lane_model.specs.declared.ended.Ended.{Ended}
 use Rattle.lane_model.specs.declared.ended.Ended.TheVariants as end
 use Rattle.lane_model.specs.Turns.{AreCalm, Came, Turn, fails_of, failures, is_calm, is_refused, idle, oversize, ended, failed, took, silent, refused, tried}
-use Rattle.lane_model.specs.Sessions.{Moment}
+use Rattle.lane_model.specs.Sessions.{IsEnd, IsLast, IsTurn, Moment}
 use Rattle.lane_model.proofs.Going.{one_more}
 use Rattle.name_workers.specs.declared.serve.Step.{Step}
 use Rattle.name_workers.specs.declared.serve.Step.TheVariants as step
@@ -85,6 +85,17 @@ eighth_by false k' e t is = absurd (cc is)
 eighth : (k k' : ℕ) (e : Ended) → k' ≡ k + 1 → Some e ≡ (if k' == 8 then Some end.PortFault else None) → (e ≡ end.PortFault) × (k' ≡ 8)
 eighth k k' e n is = eighth_by (k' == 8) k' e refl is
 
+-- a turn more that is calm
+goes_with : {T : Type 0} (number : T → ℕ) (w i k k' : ℕ) (m mid m' : Moment Version T) → IsSoFar number w i k m mid → (t : Turn) → IsTurn replies number w t mid m' → is_calm t.came ≡ true → k' ≡ k + fails_of t.came → k' < 8 → IsSoFar number w (i + 1) k' m m'
+goes_with number w i k k' m mid m' so t turn calm fails few = record {
+  log = so.log ++ t ∷ [];
+  session = one_more replies number w so.log t m mid m' so.session turn;
+  calm = calm_more so.log t so.calm calm;
+  failures_are = failures_more so.log t ∙ omega (arith, so.failures_are, fails);
+  few = few;
+  turns_are = length-append so.log (t ∷ []) ∙ omega (arith, so.turns_are);
+}
+
 -- the lane goes on
 goes_on : {T : Type 0} (number : T → ℕ) (w i k k' : ℕ) (s : Step) (m mid m' : Moment Version T) → IsSoFar number w i k m mid → IsTurned number w s mid m' → IsNextEnd s k k' None → IsSoFar number w (i + 1) k' m m'
 goes_on number w i k k' step.Stopped m mid m' so t n = absurd (cc (n.0))
@@ -92,24 +103,24 @@ goes_on number w i k k' step.PortEnd m mid m' so t n = absurd (cc (n.0))
 goes_on number w i k k' step.Refused m mid m' so t n = absurd (cc (n.0))
 goes_on number w i k k' step.On m mid m' so t n =
     let is = on_is t.0.came t.2 in
-    record {
-      log = so.log ++ t.0 ∷ [];
-      session = one_more replies number w so.log t.0 m mid m' so.session t.1;
-      calm = calm_more so.log t.0 so.calm is.0;
-      failures_are = failures_more so.log t.0 ∙ omega (arith, so.failures_are, is.1, n.1);
-      few = omega (arith, so.few, n.1);
-      turns_are = length-append so.log (t.0 ∷ []) ∙ omega (arith, so.turns_are);
-    }
+    goes_with number w i k k' m mid m' so t.0 t.1 is.0 (omega (arith, is.1, n.1)) (omega (arith, so.few, n.1))
 goes_on number w i k k' step.PortFailed m mid m' so t n =
     let is = failed_is t.0.came t.2 in
-    record {
-      log = so.log ++ t.0 ∷ [];
-      session = one_more replies number w so.log t.0 m mid m' so.session t.1;
-      calm = calm_more so.log t.0 so.calm is.0;
-      failures_are = failures_more so.log t.0 ∙ omega (arith, so.failures_are, is.1, n.0);
-      few = not_eighth k k' n.0 n.1 so.few;
-      turns_are = length-append so.log (t.0 ∷ []) ∙ omega (arith, so.turns_are);
-    }
+    goes_with number w i k k' m mid m' so t.0 t.1 is.0 (omega (arith, is.1, n.0)) (not_eighth k k' n.0 n.1 so.few)
+
+-- the lane ends with a turn
+ends_with : {T : Type 0} (number : T → ℕ) (w i k turns : ℕ) (e x : Ended) (m mid m' : Moment Version T) (so : IsSoFar number w i k m mid) (t : Turn) → IsTurn replies number w t mid m' → i < turns → e ≡ x → IsLast x m' m'
+    → (length (so.log ++ t ∷ []) ≤ turns → IsEnd turns (so.log ++ t ∷ []) x) → IsServed number w turns m m' e
+ends_with number w i k turns e x m mid m' so t turn lt is last ending =
+    let more = length-append so.log (t ∷ []) in
+    subst (λ (y : Ended). IsServed number w turns m m' y) (sym is)
+    (record {
+      log = so.log ++ t ∷ [];
+      mid = m';
+      session = one_more replies number w so.log t m mid m' so.session turn;
+      last = last;
+      ending = ending (omega (arith, more, so.turns_are, lt));
+    })
 
 -- the lane ends
 ends : {T : Type 0} (number : T → ℕ) (w i k k' turns : ℕ) (s : Step) (e : Ended) (m mid m' : Moment Version T) → i < turns → IsSoFar number w i k m mid → IsTurned number w s mid m' → IsNextEnd s k k' (Some e) → IsServed number w turns m m' e
@@ -118,39 +129,13 @@ ends number w i k k' turns step.Stopped e m mid m' lt so t n =
     let is : e ≡ end.Stopped = cc (n.0) in
     subst (λ (x : Ended). IsServed number w turns m m' x) (sym is) (record { log = so.log; mid = mid; session = so.session; last = t; ending = (so.calm, omega (arith, so.failures_are, so.few), omega (arith, so.turns_are, lt)) })
 ends number w i k k' turns step.PortEnd e m mid m' lt so t n =
-    let is : e ≡ end.PortEnd = cc (n.0) in
-    let more = length-append so.log (t.0 ∷ []) in
-    subst (λ (x : Ended). IsServed number w turns m m' x) (sym is)
-    (record {
-      log = so.log ++ t.0 ∷ [];
-      mid = m';
-      session = one_more replies number w so.log t.0 m mid m' so.session t.1;
-      last = refl;
-      ending = (so.log, t.0, refl, so.calm, omega (arith, so.failures_are, so.few), end_is t.0.came t.2, omega (arith, more, so.turns_are, lt));
-    })
+    ends_with number w i k turns e end.PortEnd m mid m' so t.0 t.1 lt (cc (n.0)) refl (λ short. (so.log, t.0, refl, so.calm, omega (arith, so.failures_are, so.few), end_is t.0.came t.2, short))
 ends number w i k k' turns step.Refused e m mid m' lt so t n =
-    let is : e ≡ end.CellFault = cc (n.0) in
-    let more = length-append so.log (t.0 ∷ []) in
-    subst (λ (x : Ended). IsServed number w turns m m' x) (sym is)
-    (record {
-      log = so.log ++ t.0 ∷ [];
-      mid = m';
-      session = one_more replies number w so.log t.0 m mid m' so.session t.1;
-      last = refl;
-      ending = (so.log, t.0, refl, so.calm, omega (arith, so.failures_are, so.few), refused_is t.0.came t.2, omega (arith, more, so.turns_are, lt));
-    })
+    ends_with number w i k turns e end.CellFault m mid m' so t.0 t.1 lt (cc (n.0)) refl (λ short. (so.log, t.0, refl, so.calm, omega (arith, so.failures_are, so.few), refused_is t.0.came t.2, short))
 ends number w i k k' turns step.PortFailed e m mid m' lt so t n =
     let is = failed_is t.0.came t.2 in
     let here = eighth k k' e n.0 n.1 in
-    let more = length-append so.log (t.0 ∷ []) in
-    subst (λ (x : Ended). IsServed number w turns m m' x) (sym here.0)
-    (record {
-      log = so.log ++ t.0 ∷ [];
-      mid = m';
-      session = one_more replies number w so.log t.0 m mid m' so.session t.1;
-      last = refl;
-      ending = (so.log, t.0, refl, calm_more so.log t.0 so.calm is.0, omega (arith, so.failures_are, n.0, here.1), is.1, omega (arith, more, so.turns_are, lt));
-    })
+    ends_with number w i k turns e end.PortFault m mid m' so t.0 t.1 lt here.0 refl (λ short. (so.log, t.0, refl, calm_more so.log t.0 so.calm is.0, omega (arith, so.failures_are, n.0, here.1), is.1, short))
 
 -- all turns were made
 pub all_spent : {T : Type 0} (number : T → ℕ) (w i k turns : ℕ) (m m' : Moment Version T) → i ≡ turns → IsSoFar number w i k m m' → IsServed number w turns m m' end.Spent

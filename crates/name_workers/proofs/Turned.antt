@@ -1,5 +1,5 @@
 -- A turn is made of a Go, the notes, and what came.
-use Rattle.std.proofs.Common.{◌≡◌, ℕ, ◌+◌, ◌<◌, ◌≤◌, true, false, List, length, All, Option, None, Some, refl, sym, ap, subst, ◌∙◌, arith}
+use Rattle.std.proofs.Common.{◌≡◌, ℕ, ◌+◌, ◌<◌, ◌≤◌, Bool, true, false, List, length, All, Option, None, Some, refl, sym, ap, subst, ◌∙◌, arith}
 use Rattle.outside.specs.Faults.{BothTell, Rose, raised}
 use Rattle.addr_text.specs.declared.address.Peer.{Peer}
 use Rattle.published_map.specs.Version.{Version}
@@ -8,7 +8,7 @@ use Rattle.outside.specs.declared.port.Arrival.TheVariants.{Arrived}
 use Rattle.outside.specs.Gate.{IsTurning}
 use Rattle.outside.specs.declared.gate.Turning.TheVariants.{Go}
 use Rattle.lane_model.specs.Lanes.{following}
-use Rattle.lane_model.specs.Turns.{Came, IsCame, IsGiven, Turn, count_after, floor_after, looks_of, idle, oversize, ended, failed, took, silent, refused, tried}
+use Rattle.lane_model.specs.Turns.{Came, IsCame, IsGiven, Turn, count_after, fails_of, floor_after, looks_of, idle, oversize, ended, failed, took, silent, refused, tried}
 use Rattle.lane_model.specs.Sessions.{Eyes, IsRise, IsTurn, Moment}
 use Rattle.lane_model.proofs.Going.{rise_none, rise_trans}
 use Rattle.lane_model.proofs.Prefixes.{prefix_length}
@@ -19,7 +19,7 @@ use Rattle.name_workers.specs.declared.serve.Step.{Step}
 use Rattle.name_workers.specs.declared.serve.Step.TheVariants as step
 use Rattle.lane_model.specs.Replies.{replies}
 use Rattle.name_workers.proofs.Eyes.{rise_refused}
-use Rattle.name_workers.specs.Steps.{IsFared, IsTaken, IsTurned, Wire, step_of, step_of_fared}
+use Rattle.name_workers.specs.Steps.{IsFared, IsTaken, IsTried, IsTurned, Wire, step_of, step_of_fared}
 
 rose_later : (x y z : ℕ) → x ≤ y → Rose y z → Rose x z
 rose_later x y z le r = omega (arith, le, r)
@@ -84,6 +84,30 @@ tells_itself (Some b) = refl
 raised_none : (n : ℕ) → n ≡ raised n 0
 raised_none n = omega arith
 
+-- a datagram that arrived, to which a reply was tried
+arrived_tried : (w n n' known len : ℕ) (buffer : List ℕ) (from : Peer) (went : Bool) (s : Step) (e g : Eyes Version) (p q r : Wire) → known + 1 ≡ length e.told → BothTell p.told q.told (IsRecv known buffer (Arrived len from)) → p.faults ≤ q.faults
+    → (serial : ℕ) (octets : List ℕ) → IsTried w n (packet_in buffer len from) e g q r serial octets (record { octets = octets; to = from; serial = serial; went = went })
+    → (0 < fails_of (took (packet_in buffer len from) (tried serial octets went)) → Rose p.faults r.faults) → n' ≡ following n → s ≡ step_of (took (packet_in buffer len from) (tried serial octets went)) → IsTaken w n n' s e g p r
+arrived_tried w n n' known len buffer from went s e g p q r is recv later serial octets x failing count st = record {
+  known = known;
+  came = took (packet_in buffer len from) (tried serial octets went);
+  received = record {
+    known_is = is;
+    port = tells_on p.told q.told r.told (IsRecv known buffer (Arrived len from)) (λ b c. c ≡ trying (record { octets = octets; to = from; serial = serial; went = went }) b) (λ b c. c ≡ trying (record { octets = octets; to = from; serial = serial; went = went }) (taking (packet_in buffer len from) known b))
+        (λ b c d u v. v ∙ ap (λ k. trying (record { octets = octets; to = from; serial = serial; went = went }) k) u.port) recv x.port;
+    came_is = (x.replied.spoken, omega (arith, is, x.replied.fresh), x.replied.version);
+    rise = x.replied.rise;
+    knows = omega (arith, x.replied.known);
+    looks = x.looks;
+    later = let l = x.later in omega (arith, later, l);
+    refusal = λ b. absurd (cc b);
+    stays = λ b. x.replied.stays;
+    failing = failing;
+  };
+  count = count;
+  step = st;
+}
+
 -- a datagram that arrived, and what became of it
 pub arrived : (w n n' known len : ℕ) (buffer : List ℕ) (from : Peer) (f : Fared) (s : Step) (e g : Eyes Version) (p q r : Wire) → known + 1 ≡ length e.told → BothTell p.told q.told (IsRecv known buffer (Arrived len from)) → p.faults ≤ q.faults
     → IsFared w n (packet_in buffer len from) f e g q r → n' ≡ following n → s ≡ step_of_fared f → IsTaken w n n' s e g p r
@@ -123,41 +147,7 @@ arrived w n n' known len buffer from fared.Refused s e g p q r is recv later x c
   count = count;
   step = st;
 }
-arrived w n n' known len buffer from fared.Sent s e g p q r is recv later x count st = record {
-  known = known;
-  came = took (packet_in buffer len from) (tried x.0 x.1 true);
-  received = record {
-    known_is = is;
-    port = tells_on p.told q.told r.told (IsRecv known buffer (Arrived len from)) (λ b c. c ≡ trying (record { octets = x.1; to = from; serial = x.0; went = true }) b) (λ b c. c ≡ trying (record { octets = x.1; to = from; serial = x.0; went = true }) (taking (packet_in buffer len from) known b))
-        (λ b c d u v. v ∙ ap (λ k. trying (record { octets = x.1; to = from; serial = x.0; went = true }) k) u.port) recv x.2.port;
-    came_is = (x.2.replied.spoken, omega (arith, is, x.2.replied.fresh), x.2.replied.version);
-    rise = x.2.replied.rise;
-    knows = omega (arith, x.2.replied.known);
-    looks = x.2.looks;
-    later = let l = x.2.later in omega (arith, later, l);
-    refusal = λ b. absurd (cc b);
-    stays = λ b. x.2.replied.stays;
-    failing = λ b. absurd (omega (arith, b));
-  };
-  count = count;
-  step = st;
-}
-arrived w n n' known len buffer from fared.Failed s e g p q r is recv later x count st = record {
-  known = known;
-  came = took (packet_in buffer len from) (tried x.0 x.1 false);
-  received = record {
-    known_is = is;
-    port = tells_on p.told q.told r.told (IsRecv known buffer (Arrived len from)) (λ b c. c ≡ trying (record { octets = x.1; to = from; serial = x.0; went = false }) b) (λ b c. c ≡ trying (record { octets = x.1; to = from; serial = x.0; went = false }) (taking (packet_in buffer len from) known b))
-        (λ b c d u v. v ∙ ap (λ k. trying (record { octets = x.1; to = from; serial = x.0; went = false }) k) u.port) recv x.2.port;
-    came_is = (x.2.replied.spoken, omega (arith, is, x.2.replied.fresh), x.2.replied.version);
-    rise = x.2.replied.rise;
-    knows = omega (arith, x.2.replied.known);
-    looks = x.2.looks;
-    later = let l = x.2.later in omega (arith, later, l);
-    refusal = λ b. absurd (cc b);
-    stays = λ b. x.2.replied.stays;
-    failing = λ b. rose_later p.faults q.faults r.faults later x.3;
-  };
-  count = count;
-  step = st;
-}
+arrived w n n' known len buffer from fared.Sent s e g p q r is recv later x count st =
+    arrived_tried w n n' known len buffer from true s e g p q r is recv later x.0 x.1 x.2 (λ b. absurd (omega (arith, b))) count st
+arrived w n n' known len buffer from fared.Failed s e g p q r is recv later x count st =
+    arrived_tried w n n' known len buffer from false s e g p q r is recv later x.0 x.1 x.2 (λ b. rose_later p.faults q.faults r.faults later x.3) count st

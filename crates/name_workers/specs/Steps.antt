@@ -1,4 +1,4 @@
--- The steps of a lane's turn.
+-- Inside this crate alone: the steps of a lane's turn.
 use Rattle.std.specs.Prelude.{◌≡◌, ℕ, ◌+◌, ◌<◌, ◌≤◌, ◌==◌, true, false, List, length, Option, None, Some, if◌then◌else◌}
 use Rattle.outside.specs.Faults.{BothTell, Rose, raised}
 use Rattle.outside.specs.Port.{Packet, Try, PortTold, trying}

@@ -2,6 +2,7 @@
 ghost use Rattle.std.specs.Prelude.{◌≡◌, ◌≤◌, ◌+◌, ◌⊎◌, false, length, max, Some};
 ghost use mathlib.Core.List.{IsPrefix};
 ghost use Rattle.outside.specs.Faults.{raised};
+ghost use Rattle.outside.specs.declared.limits.TheConstants.{LARGEST_REPLY};
 ghost use Rattle.published_map.specs.Version.{IsVersion};
 ghost use Rattle.lane_model.specs.Lanes.{draw, following};
 ghost use Rattle.lane_model.specs.Replies.{is_silent, reply_of};
@@ -13,6 +14,7 @@ use answer_core::{reply, silent};
 use arrayvec::ArrayVec;
 use lane_model::{draw_of, next_number};
 use map_cell::{CellFault, Door, Naming, Note, Viewer};
+use outside::LARGEST_REPLY;
 use published_map::MapVersion;
 
 /// A worker of a lane: its viewer, its number, and the number of its next datagram, from 0.
@@ -32,11 +34,11 @@ fn has_none(octets: &[u8]) -> bool
 }
 
 /// The reply of a version to octets that have one.
-fn reply_by(version: &MapVersion, from: Addr, octets: &[u8], draw: u64) -> ArrayVec<u8, 512>
+fn reply_by(version: &MapVersion, from: Addr, octets: &[u8], draw: u64) -> ArrayVec<u8, LARGEST_REPLY>
     requires version { IsVersion version.now }
     requires spoken { is_silent octets.now ≡ false }
     ensures reply { reply_of version.now from octets.now draw ≡ Some result.items }
-    ensures short { length result.items ≤ 512 }
+    ensures short { length result.items ≤ LARGEST_REPLY }
 {
     let mut out = ArrayVec::new();
     let _ = reply(version, from, octets, draw, &mut out);
@@ -93,12 +95,12 @@ impl<J: Naming> Worker<J> {
         door: &mut D,
         from: Addr,
         octets: &[u8],
-        out: &mut ArrayVec<u8, 512>,
+        out: &mut ArrayVec<u8, LARGEST_REPLY>,
     ) -> Result<Option<u64>, CellFault>
         ensures answer { IsAnswer self.old.number self.old.count from octets.now (record { seen = self.old.viewer.seen; told = self.old.viewer.told; looks = D.looks door.old; greatest = D.greatest door.old; faults = D.faults door.old }) (record { seen = self.new.viewer.seen; told = self.new.viewer.told; looks = D.looks door.new; greatest = D.greatest door.new; faults = D.faults door.new }) out.new.items result }
         ensures looks { D.looks door.new ≡ raised (D.looks door.old) (looked_by octets.now) }
         ensures count { (self.new.count ≡ following self.old.count) × (self.new.number ≡ self.old.number) }
-        ensures short { length out.new.items ≤ 512 }
+        ensures short { length out.new.items ≤ LARGEST_REPLY }
         ensures asked { D.asked door.new ≡ D.asked door.old }
     {
         let draw = draw_of(self.number, self.count);
@@ -109,9 +111,9 @@ impl<J: Naming> Worker<J> {
         }
         let (text, serial) = door.look(
             &mut self.viewer,
-            |m: &MapVersion| -> (ArrayVec<u8, 512>, u64)
+            |m: &MapVersion| -> (ArrayVec<u8, LARGEST_REPLY>, u64)
                 requires { IsVersion m.now × (is_silent octets.now ≡ false) }
-                ensures { (reply_of m.now from octets.entry.now draw ≡ Some result.0.items) × (length result.0.items ≤ 512) × (result.1 ≡ m.now.serial) }
+                ensures { (reply_of m.now from octets.entry.now draw ≡ Some result.0.items) × (length result.0.items ≤ LARGEST_REPLY) × (result.1 ≡ m.now.serial) }
             { (reply_by(m, from, octets, draw), m.serial()) },
         )?;
         *out = text;

@@ -10,6 +10,7 @@ use answer_core::{Answer, reply};
 use arrayvec::ArrayVec;
 use lane_model::{draw_of, next_number};
 use no_memory::NoMemory;
+use outside::LARGEST_REPLY;
 use published_map::MapVersion;
 use std::alloc::Global;
 use std::marker::Model;
@@ -25,7 +26,7 @@ pub struct TakenRow {
 /// A reply that a lane tried.
 #[derive(Drop)]
 pub struct TryRow {
-    pub octets: ArrayVec<u8, 512>,
+    pub octets: ArrayVec<u8, LARGEST_REPLY>,
     pub to: Peer,
     pub serial: u64,
 }
@@ -98,7 +99,7 @@ impl LaneRow {
         octets: Octets,
         from: Peer,
         serial: u64,
-        text: ArrayVec<u8, 512>,
+        text: ArrayVec<u8, LARGEST_REPLY>,
     ) -> Result<(), NoMemory>
         ensures ok { OnOk result (self.new ≡ replied (record { octets = octets; from = from }) (record { octets = text.items; to = from; serial = serial; went = true }) self.old) }
         ensures err { OnErr result (self.new ≡ self.old) }
