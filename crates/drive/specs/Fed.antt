@@ -25,5 +25,6 @@ pub record IsFedBy {S K M : Type 0} (fed : S → Option Fed) (fed_faults : S →
   pub kept : IsPrefix m.history n.history
   pub later : (faults a.out.now ≤ faults b.out.now) × (faults a.maps.now ≤ faults b.maps.now) × (fed_faults a.feed.now ≤ fed_faults b.feed.now)
   pub sink : b.end ≡ SinkFault → Rose (faults a.out.now) (faults b.out.now) ⊎ Rose (faults a.maps.now) (faults b.maps.now)
+  pub sink_stays : b.end ≢ SinkFault → (faults b.out.now ≡ faults a.out.now) × (faults b.maps.now ≡ faults a.maps.now)
   pub source : b.end ≡ SourceFault → Rose (fed_faults a.feed.now) (fed_faults b.feed.now)
   pub source_stays : b.end ≢ SourceFault → fed_faults b.feed.now ≡ fed_faults a.feed.now

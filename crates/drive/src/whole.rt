@@ -136,6 +136,7 @@ fn serve_all<
     ensures run { IsFeed mapper.old.newest.plan turns result (S.told feed.old) (S.told feed.new) (scene mapper.old.newest mapper.old.history (K.told out.old) (K.told maps.old) (M.told pace.old)) (scene mapper.new.newest mapper.new.history (K.told out.new) (K.told maps.new) (M.told pace.new)) }
     ensures later { (K.faults out.old ≤ K.faults out.new) × (K.faults maps.old ≤ K.faults maps.new) × (S.faults feed.old ≤ S.faults feed.new) }
     ensures sink { result ≡ FeedEnd.SinkFault → Rose (K.faults out.old) (K.faults out.new) ⊎ Rose (K.faults maps.old) (K.faults maps.new) }
+    ensures sink_stays { result ≢ FeedEnd.SinkFault → (K.faults out.new ≡ K.faults out.old) × (K.faults maps.new ≡ K.faults maps.old) }
     ensures source { result ≡ FeedEnd.SourceFault → Rose (S.faults feed.old) (S.faults feed.new) }
     ensures source_stays { result ≢ FeedEnd.SourceFault → S.faults feed.new ≡ S.faults feed.old }
     ensures history { IsHistory mapper.new.history }
@@ -201,6 +202,7 @@ pub fn drive<
     ensures no_memory { OnErr result ((feed.new ≡ feed.old) × (out.new ≡ out.old) × (maps.new ≡ maps.old) × (lanes.new ≡ lanes.old) × (pace.new ≡ pace.old)) }
     ensures later { (K.faults out.old ≤ K.faults out.new) × (K.faults maps.old ≤ K.faults maps.new) × (S.faults feed.old ≤ S.faults feed.new) }
     ensures sink { IfOk result (λ r. r.feed ≡ FeedEnd.SinkFault → Rose (K.faults out.old) (K.faults out.new) ⊎ Rose (K.faults maps.old) (K.faults maps.new)) }
+    ensures sink_stays { IfOk result (λ r. r.feed ≢ FeedEnd.SinkFault → (K.faults out.new ≡ K.faults out.old) × (K.faults maps.new ≡ K.faults maps.old)) }
     ensures source { IfOk result (λ r. r.feed ≡ FeedEnd.SourceFault → Rose (S.faults feed.old) (S.faults feed.new)) }
     ensures source_stays { IfOk result (λ r. r.feed ≢ FeedEnd.SourceFault → S.faults feed.new ≡ S.faults feed.old) }
 {
