@@ -42,7 +42,7 @@ pub starts : (listen : Listen) (workers : ℕ) (first : Version) (text : List �
     → IsStarted listen workers first (stage fed out maps pace lanes ff of mf) (stage fed out maps' pace lanes' ff of mf')
 starts listen workers first text fed out maps maps' pace lanes lanes' ff of mf mf' is h =
     let k = subst (λ t. IsStart listen workers t start.Ready (record { maps = maps; maps_faults = mf; lanes = lanes }) (record { maps = maps'; maps_faults = mf'; lanes = lanes' })) is h in
-    record { opened = k.0; put = k.1; later = k.2; lent = refl; rest = refl }
+    record { opened = k.0; put = k.1; lent = refl; rest = rw k.2 refl }
 
 -- it was started, and then memory was wanting
 pub unfed_session : (turns : ℕ) (listen : Listen) (workers : ℕ) (first : Version) (before started after : Stage) → IsStarted listen workers first before started → after ≡ started → IsFirstSession turns listen workers first before after status.NoMemory
@@ -52,6 +52,7 @@ unfed_session turns listen workers first before started after start same = inr (
 pub served_session : (turns : ℕ) (listen : Listen) (workers : ℕ) (first : Version) (before started after : Stage) (end : FeedEnd) (places : List (Option Ended)) (result : Status) → IsStarted listen workers first before started
     → (ends : List Ended) × (length ends ≡ workers) × AreEnds ends places × IsDriven turns first end ends started.lent after.lent
     → result ≡ status_at end places → (end ≡ feed.SourceFault → Rose started.feed_faults after.feed_faults) → (end ≢ feed.SourceFault → after.feed_faults ≡ started.feed_faults) → (end ≡ feed.SinkFault → Rose started.out_faults after.out_faults ⊎ Rose started.maps_faults after.maps_faults)
+    → (end ≢ feed.SinkFault → (after.out_faults ≡ started.out_faults) × (after.maps_faults ≡ started.maps_faults))
     → (started.feed_faults ≤ after.feed_faults) × (started.out_faults ≤ after.out_faults) × (started.maps_faults ≤ after.maps_faults) → IsFirstSession turns listen workers first before after result
-served_session turns listen workers first before started after end places result start driven answer source stays sink later =
-    inr (inr (inr (started, start, is_served turns workers first started after end places result driven answer source stays sink later)))
+served_session turns listen workers first before started after end places result start driven answer source stays sink sink_stays later =
+    inr (inr (inr (started, start, is_served turns workers first started after end places result driven answer source stays sink sink_stays later)))

@@ -1,6 +1,6 @@
 -- A command that stopped, by what its files come to.
 use Rattle.std.proofs.Common.{◌≡◌, ◌∙◌, ap, inl, inr, sym, subst}
-use Rattle.std.specs.Prelude.{Option, Result, Err}
+use Rattle.std.specs.Prelude.{Option, Result, Ok, Err}
 use Rattle.glb.specs.declared.ending.Report.{Report}
 use Rattle.outside.specs.Sink.{Written}
 use Rattle.glb.specs.declared.ending.Stop.{Stop}
@@ -23,9 +23,17 @@ runs_weaker P Q before after result f (inr (inr silent)) = inr (inr silent)
 pub stopped_run : (P : Outcome → Type 0) (s : Stop) (before after : Option Written) (result : Status) → StopsBy P s → RunsBy (IsReport (Err s)) before after result → RunsBy P before after result
 stopped_run P s before after result h run = runs_weaker (IsReport (Err s)) P before after result (λ due. stopped_due P s due h) run
 
-same_stop : (s t : Stop) (ended : Result Report Stop) → ended ≡ Err s → ended ≡ Err t → s ≡ t
+same_stop : {X : Type 0} (s t : Stop) (ended : Result X Stop) → ended ≡ Err s → ended ≡ Err t → s ≡ t
 same_stop s t ended h k = cc
 
 -- a load failed where that is what is said
 pub stopped_load : {X : Type 0} (s : Stop) (load : Result X Stop) (ended : Result Report Stop) → load ≡ Err s → ended ≡ Err s → ended ≡ Err stop.SourceFault → load ≡ Err stop.SourceFault
 stopped_load s load ended h same is = h ∙ ap Err (same_stop s stop.SourceFault ended same is)
+
+-- what is said of a load that failed
+pub stopped_end : {X : Type 0} (s : Stop) (load : Result X Stop) (ended : Result Report Stop) → load ≡ Err s → ended ≡ Err s → load ≡ Err stop.SourceFault → ended ≡ Err stop.SourceFault
+stopped_end s load ended h same is = same ∙ ap Err (same_stop s stop.SourceFault load h is)
+
+-- a file that was read is no load that failed
+pub read_whole : {X : Type 0} (x : X) (load : Result X Stop) → load ≡ Ok x → load ≡ Err stop.SourceFault → ⊥
+read_whole x load h is = cc

@@ -28,8 +28,9 @@ by_ends end ends places are =
 pub is_served : (turns workers : ℕ) (first : Version) (before after : Stage) (end : FeedEnd) (places : List (Option Ended)) (result : Status)
     → (ends : List Ended) × (length ends ≡ workers) × AreEnds ends places × IsDriven turns first end ends before.lent after.lent
     → result ≡ status_at end places → (end ≡ feed.SourceFault → Rose before.feed_faults after.feed_faults) → (end ≢ feed.SourceFault → after.feed_faults ≡ before.feed_faults) → (end ≡ feed.SinkFault → Rose before.out_faults after.out_faults ⊎ Rose before.maps_faults after.maps_faults)
+    → (end ≢ feed.SinkFault → (after.out_faults ≡ before.out_faults) × (after.maps_faults ≡ before.maps_faults))
     → (before.feed_faults ≤ after.feed_faults) × (before.out_faults ≤ after.out_faults) × (before.maps_faults ≤ after.maps_faults) → IsServed turns workers first before after result
-is_served turns workers first before after end places result (ends, as_many, are, driven) answer source stays sink later =
+is_served turns workers first before after end places result (ends, as_many, are, driven) answer source stays sink sink_stays later =
     let p = list_any is_port_fault ends in
     let s = list_any is_spent ends in
     let c = list_any is_cell_fault ends in
@@ -43,6 +44,7 @@ is_served turns workers first before after end places result (ends, as_many, are
       source = source;
       source_stays = stays;
       sink = sink;
+      sink_stays = sink_stays;
       port = λ h. of_workers HasPortFault (any_port turns first driven.rest ends before.lent.lanes after.lent.lanes driven.lanes (port_means end p s c (sym h ∙ is)));
       spent = λ h. spent_by (spent_means end p s c (sym h ∙ is));
       cell = λ h. of_workers (HasCellFault (length (first ∷ driven.rest))) (any_cell turns first driven.rest ends before.lent.lanes after.lent.lanes driven.lanes (cell_means end p s c (sym h ∙ is)));

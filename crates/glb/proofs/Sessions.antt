@@ -1,5 +1,5 @@
 -- Counts of faults over a session.
-use Rattle.std.proofs.Common.{◌≡◌, inl, inr, ℕ, ◌≤◌, Bool, true, false, refl, ap, sym, ◌∙◌, arith}
+use Rattle.std.proofs.Common.{◌≡◌, inl, inr, ℕ, Bool, true, false, refl, ap, sym, ◌∙◌, arith}
 use Rattle.std.specs.List.{list_any}
 use Rattle.addr_text.specs.declared.address.Listen.{Listen}
 use Rattle.topology_text.specs.Plan.{Plan}
@@ -42,6 +42,10 @@ record IsSameCounts (before after : Stage) : Type 0 where
   out : after.out_faults ≡ before.out_faults
   maps : after.maps_faults ≡ before.maps_faults
 
+-- nothing but what is lent was touched
+lent_alone : (before after : Stage) → after ≡ record before { lent = after.lent } → IsSameCounts before after
+lent_alone before after rest = record { feed = ap (λ (s : Stage). s.feed_faults) rest; out = ap (λ (s : Stage). s.out_faults) rest; maps = ap (λ (s : Stage). s.maps_faults) rest }
+
 no_fault : (before after : Stage) (result : Status) → IsSameCounts before after → (result ≡ status.SourceFault → ⊥) → (result ≡ status.SinkFault → ⊥) → IsSessionLater before after result
 no_fault before after result same source sink = record {
   feed = omega (arith, same.feed);
@@ -49,6 +53,9 @@ no_fault before after result same source sink = record {
   maps = omega (arith, same.maps);
   source = λ h. absurd (source h);
   sink = λ h. absurd (sink h);
+  feed_stays = λ none. same.feed;
+  out_stays = λ none. same.out;
+  maps_stay = λ none. same.maps;
 }
 
 served_later : (turns workers : ℕ) (first : Version) (before after : Stage) (result : Status) → IsServed turns workers first before after result → IsSessionLater before after result
@@ -58,44 +65,48 @@ served_later turns workers first before after result s = record {
   maps = s.later.2;
   source = λ h. s.source (source_means s.end (list_any is_port_fault s.ends) (list_any is_spent s.ends) (list_any is_cell_fault s.ends) (sym h ∙ s.result_is));
   sink = λ h. s.sink (sink_means s.end (list_any is_port_fault s.ends) (list_any is_spent s.ends) (list_any is_cell_fault s.ends) (sym h ∙ s.result_is));
+  feed_stays = λ none. s.source_stays (λ e. none (ended e));
+  out_stays = λ none. (s.sink_stays (λ e. none (ended e))).0;
+  maps_stay = λ none. (s.sink_stays (λ e. none (ended e))).1;
 }
+  where
+    ended : {end : FeedEnd} → s.end ≡ end → result ≡ status_of end (list_any is_port_fault s.ends) (list_any is_spent s.ends) (list_any is_cell_fault s.ends)
+    ended e = s.result_is ∙ ap (λ x. status_of x (list_any is_port_fault s.ends) (list_any is_spent s.ends) (list_any is_cell_fault s.ends)) e
 
--- what is so from a moment on is so from one with lower counts
-from_below : (a b c : Stage) (result : Status) → a.feed_faults ≤ b.feed_faults → a.out_faults ≤ b.out_faults → a.maps_faults ≤ b.maps_faults → IsSessionLater b c result → IsSessionLater a c result
-from_below a b c result feed out maps later = record {
-  feed = omega (arith, feed, later.feed);
-  out = omega (arith, out, later.out);
-  maps = omega (arith, maps, later.maps);
-  source = λ h. let rose = later.source h in omega (arith, feed, rose);
-  sink = λ h. elim (later.sink h) [ inl r ↦ inl (omega (arith, out, r)) | inr r ↦ inr (omega (arith, maps, r)) ];
+-- what is so from a moment on is so from one with the same counts
+from_same : (a b c : Stage) (result : Status) → IsSameCounts a b → IsSessionLater b c result → IsSessionLater a c result
+from_same a b c result same later = record {
+  feed = omega (arith, same.feed, later.feed);
+  out = omega (arith, same.out, later.out);
+  maps = omega (arith, same.maps, later.maps);
+  source = λ h. let rose = later.source h in omega (arith, same.feed, rose);
+  sink = λ h. elim (later.sink h) [ inl r ↦ inl (omega (arith, same.out, r)) | inr r ↦ inr (omega (arith, same.maps, r)) ];
+  feed_stays = λ none. later.feed_stays none ∙ same.feed;
+  out_stays = λ none. later.out_stays none ∙ same.out;
+  maps_stay = λ none. later.maps_stay none ∙ same.maps;
 }
 
 started_later : (turns : ℕ) (listen : Listen) (workers : ℕ) (first : Version) (before after : Stage) (result : Status) → IsFirstSession turns listen workers first before after result → IsSessionLater before after result
 started_later turns listen workers first before after result (inl shut) =
-    no_fault before after result (record { feed = ap (λ (s : Stage). s.feed_faults) shut.rest; out = ap (λ (s : Stage). s.out_faults) shut.rest; maps = ap (λ (s : Stage). s.maps_faults) shut.rest })
-    (λ h. let is = shut.why in cc) (λ h. let is = shut.why in cc)
+    no_fault before after result (lent_alone before after shut.rest) (λ h. let is = shut.why in cc) (λ h. let is = shut.why in cc)
 started_later turns listen workers first before after result (inr (inl unput)) = record {
   feed = let same = ap (λ (s : Stage). s.feed_faults) unput.rest in omega (arith, same);
   out = let same = ap (λ (s : Stage). s.out_faults) unput.rest in omega (arith, same);
   maps = let rose = unput.rose in omega (arith, rose);
   source = λ h. let is = unput.why in absurd (cc);
   sink = λ h. inr unput.rose;
+  feed_stays = λ none. ap (λ (s : Stage). s.feed_faults) unput.rest;
+  out_stays = λ none. ap (λ (s : Stage). s.out_faults) unput.rest;
+  maps_stay = λ none. absurd (none unput.why);
 }
-started_later turns listen workers first before after result (inr (inr (inl h))) = record {
-  feed = let same = ap (λ (s : Stage). s.feed_faults) h.1.rest in omega (arith, same);
-  out = let same = ap (λ (s : Stage). s.out_faults) h.1.rest in omega (arith, same);
-  maps = h.1.later;
-  source = λ k. let is = h.0 in absurd (cc);
-  sink = λ k. let is = h.0 in absurd (cc);
-}
+started_later turns listen workers first before after result (inr (inr (inl h))) =
+    no_fault before after result (lent_alone before after h.1.rest) (λ k. let is = h.0 in cc) (λ k. let is = h.0 in cc)
 started_later turns listen workers first before after result (inr (inr (inr (started, start, served)))) =
-    from_below before started after result (let same = ap (λ (s : Stage). s.feed_faults) start.rest in omega (arith, same)) (let same = ap (λ (s : Stage). s.out_faults) start.rest in omega (arith, same)) start.later
-    (served_later turns workers first started after result served)
+    from_same before started after result (lent_alone before started start.rest) (served_later turns workers first started after result served)
 
 pub session_later : (turns : ℕ) (listen : Listen) (workers : ℕ) (t : Plan) (before after : Stage) (result : Status) → IsSession turns listen workers t before after result → IsSessionLater before after result
 session_later turns listen workers t before after result (inl unopened) =
-    no_fault before after result (record { feed = ap (λ (s : Stage). s.feed_faults) unopened.rest; out = ap (λ (s : Stage). s.out_faults) unopened.rest; maps = ap (λ (s : Stage). s.maps_faults) unopened.rest })
+    no_fault before after result (lent_alone before after unopened.rest)
     (λ h. elim unopened.why [ inl is ↦ cc | inr is ↦ let fault = is.0 in cc ]) (λ h. elim unopened.why [ inl is ↦ cc | inr is ↦ let fault = is.0 in cc ])
 session_later turns listen workers t before after result (inr (placed, first, place, is_first, session)) =
-    from_below before placed after result (let same = ap (λ (s : Stage). s.feed_faults) place.rest in omega (arith, same)) (let same = ap (λ (s : Stage). s.out_faults) place.rest in omega (arith, same))
-    (let same = ap (λ (s : Stage). s.maps_faults) place.rest in omega (arith, same)) (started_later turns listen workers first placed after result session)
+    from_same before placed after result (lent_alone before placed place.rest) (started_later turns listen workers first placed after result session)

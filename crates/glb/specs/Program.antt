@@ -33,7 +33,7 @@ loads_of (Some (say ask)) = short.loads_of (Some ask)
 loads_of (Some (serve ask)) = loads_of_serve ask
 loads_of (Some (large groups)) = λ _. []
 
--- no count of `serve` falls, and a fault of the files, the feed or an output is answered only where its count rose, and one of the lanes only with its cause
+-- no count of `serve` falls, a fault of the files, the feed or an output is answered only where its count rose, and their counts stand where it is not answered; and a fault of the lanes is answered only with its cause
 pub record HasServeCauses (turns workers : ℕ) (before after : Surroundings) (result : Status) : Type 0 where
   pub files_later : before.files_faults ≤ after.files_faults
   pub feed_later : before.stage.feed_faults ≤ after.stage.feed_faults
@@ -41,6 +41,10 @@ pub record HasServeCauses (turns workers : ℕ) (before after : Surroundings) (r
   pub maps_later : before.stage.maps_faults ≤ after.stage.maps_faults
   pub source : result ≡ status.SourceFault → Rose before.files_faults after.files_faults ⊎ Rose before.stage.feed_faults after.stage.feed_faults
   pub sink : result ≡ status.SinkFault → Rose before.stage.out_faults after.stage.out_faults ⊎ Rose before.stage.maps_faults after.stage.maps_faults
+  pub files_stay : result ≢ status.SourceFault → after.files_faults ≡ before.files_faults
+  pub feed_stays : result ≢ status.SourceFault → after.stage.feed_faults ≡ before.stage.feed_faults
+  pub out_stays : result ≢ status.SinkFault → after.stage.out_faults ≡ before.stage.out_faults
+  pub maps_stay : result ≢ status.SinkFault → after.stage.maps_faults ≡ before.stage.maps_faults
   pub lanes : HasLaneCauses turns workers before.stage.lent after.stage.lent result
 
 -- what the counts of faults say of an answer
@@ -97,7 +101,7 @@ pub record IsPromised (turns : ℕ) (task : Option Task) (before after : Surroun
   pub noted : BothTell before.files after.files (AreLoadsOf (loads_of task))
   -- and all of these, unless the answer is a fault or want of memory.
   pub loaded : result ≢ status.SourceFault → result ≢ status.NoMemory → BothTell before.files after.files (AreLoaded (loads_of task))
-  -- A fault outside is answered only where its count rose, and of all commands but `serve` a count stands where its fault is not answered. Of `serve` also: turns were spent only where the feed or one of the first lanes took all of them, and a fault of the cell is answered only where the count of the door of one of the first lanes rose, or that door showed a serial past those whose texts the maps got.
+  -- A fault of the files, of the feed or of an output is answered only where its count rose, and their counts stand where it is not answered. Of `serve` also: a fault of a port is answered only where the count of the port of one of the first lanes rose, turns were spent only where the feed or one of the first lanes took all of them, and a fault of the cell is answered only where the count of the door of one of the first lanes rose, or that door showed a serial past those whose texts the maps got.
   pub causes : AreCauses turns task before after result
   -- Status 0 says that the files hold a topology; of `check`, `answer` and `repair` also that they hold a map that is good for it, and of `repair` changes; and that the output got, in one put, `good`, or of `map` the text of a map that is good for the topology, or of `answer` the reply of the map, or of `repair` the text of a map that is good for the changed numbers and keeps the rest. Of `serve` it says that the maps hold the texts of a history of good maps and nothing else, and that each of the first lanes answered from that history until its port's end or its gate's stop. Of `large` it says that the output got the ten lines of the summary of a run.
   pub good : result ≡ status.Ok → IsGoodRun turns task before after

@@ -124,11 +124,10 @@ pub record IsUnput (listen : Listen) (workers : ℕ) (first : Version) (before a
 pub record IsStarted (listen : Listen) (workers : ℕ) (first : Version) (before after : Stage) : Type 0 where
   pub opened : AreOpened listen (all_ready workers) before.lent.lanes after.lent.lanes
   pub put : BothTell before.lent.maps after.lent.maps (IsPrinted (map_text first ∷ []))
-  pub later : before.maps_faults ≤ after.maps_faults
   pub lent : after.lent ≡ record before.lent { lanes = after.lent.lanes; maps = after.lent.maps }
-  pub rest : after ≡ record before { lent = after.lent; maps_faults = after.maps_faults }
+  pub rest : after ≡ record before { lent = after.lent }
 
--- The feed was worked and the first lanes were served, over one history of published maps that goes on from the first one. The status is that of their ends, and each fault came with what it is a fault of: the count of the feed, of an output, of a port or of a door, as many turns as there may be, or a serial that was not published. The feed's count stood where the feed did not end by its source's fault.
+-- The feed was worked and the first lanes were served, over one history of published maps that goes on from the first one. The status is that of their ends, and each fault came with what it is a fault of: the count of the feed, of an output, of a port or of a door, as many turns as there may be, or a serial that was not published. The feed's count stood where the feed did not end by its source's fault, and those of both outputs where it did not end by an output's.
 pub record IsServed (turns workers : ℕ) (first : Version) (before after : Stage) (result : Status) : Type 0 where
   pub end : FeedEnd
   pub ends : List Ended
@@ -138,6 +137,7 @@ pub record IsServed (turns workers : ℕ) (first : Version) (before after : Stag
   pub source : end ≡ feed.SourceFault → Rose before.feed_faults after.feed_faults
   pub source_stays : end ≢ feed.SourceFault → after.feed_faults ≡ before.feed_faults
   pub sink : end ≡ feed.SinkFault → Rose before.out_faults after.out_faults ⊎ Rose before.maps_faults after.maps_faults
+  pub sink_stays : end ≢ feed.SinkFault → (after.out_faults ≡ before.out_faults) × (after.maps_faults ≡ before.maps_faults)
   pub port : result ≡ status.PortFault → AnyLane workers HasPortFault before.lent.lanes after.lent.lanes
   pub spent : result ≡ status.Spent → (end ≡ feed.Spent) ⊎ AnyLane workers (HasTaken turns) before.lent.lanes after.lent.lanes
   pub cell : result ≡ status.CellFault → AnyLane workers (HasCellFault (length (first ∷ driven.rest))) before.lent.lanes after.lent.lanes

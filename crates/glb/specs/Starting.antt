@@ -1,5 +1,5 @@
 -- Inside this crate alone: how ports were opened, and a session was started.
-use Rattle.std.specs.Prelude.{◌≡◌, ◌⊎◌, ℕ, ◌<◌, ◌≤◌, Bool, false, List, [], ◌∷◌, Option, None, Some}
+use Rattle.std.specs.Prelude.{◌≡◌, ◌≢◌, ◌⊎◌, ℕ, ◌<◌, ◌≤◌, Bool, false, List, [], ◌∷◌, Option, None, Some}
 use Rattle.std.specs.List.{list_any}
 use Rattle.lane_model.specs.declared.ended.Ended.{Ended}
 use Rattle.demand_feed.specs.declared.run.FeedEnd.{FeedEnd}
@@ -33,7 +33,7 @@ pub record Staged : Type 0 where
 -- The ports of the first n lanes were opened and a text was put; or a port failed to open; or the put failed.
 abbrev pub IsStart : Listen → ℕ → List ℕ → Start → Staged → Staged → Type 0
 IsStart listen n text start.Ready before after =
-    AreOpened listen (all_ready n) before.lanes after.lanes × BothTell before.maps after.maps (IsPrinted (text ∷ [])) × (before.maps_faults ≤ after.maps_faults)
+    AreOpened listen (all_ready n) before.lanes after.lanes × BothTell before.maps after.maps (IsPrinted (text ∷ [])) × (after.maps_faults ≡ before.maps_faults)
 IsStart listen n text start.NoPort before after =
     ((k : ℕ) × (k < n) × AreOpened listen (then_failed k) before.lanes after.lanes) × (after.maps ≡ before.maps) × (after.maps_faults ≡ before.maps_faults)
 IsStart listen n text start.NoSink before after =
@@ -52,10 +52,13 @@ at_place test (Some end) = test end
 abbrev pub status_at : FeedEnd → List (Option Ended) → Status
 status_at end places = status_of end (list_any (at_place is_port_fault) places) (list_any (at_place is_spent) places) (list_any (at_place is_cell_fault) places)
 
--- no count of a session fell, and a fault of the feed or of an output came with its count
+-- no count of a session fell, a fault of the feed or of an output came with its count, and these counts stand where their fault is not answered
 pub record IsSessionLater (before after : Stage) (result : Status) : Type 0 where
   pub feed : before.feed_faults ≤ after.feed_faults
   pub out : before.out_faults ≤ after.out_faults
   pub maps : before.maps_faults ≤ after.maps_faults
   pub source : result ≡ status.SourceFault → Rose before.feed_faults after.feed_faults
   pub sink : result ≡ status.SinkFault → Rose before.out_faults after.out_faults ⊎ Rose before.maps_faults after.maps_faults
+  pub feed_stays : result ≢ status.SourceFault → after.feed_faults ≡ before.feed_faults
+  pub out_stays : result ≢ status.SinkFault → after.out_faults ≡ before.out_faults
+  pub maps_stay : result ≢ status.SinkFault → after.maps_faults ≡ before.maps_faults

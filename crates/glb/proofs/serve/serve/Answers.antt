@@ -1,6 +1,6 @@
 use Rattle.std.proofs.Common.{inl, inr, refl, rules, arith}
 use Rattle.glb.proofs.Lanes.{session_causes, unread_causes}
-use Rattle.glb.proofs.Reports.{stopped_load, stopped_run}
+use Rattle.glb.proofs.Reports.{read_whole, stopped_end, stopped_load, stopped_run}
 use Rattle.glb.proofs.Sessions.{session_later}
 use Rattle.glb.proofs.Tasks.{promised}
 use Rattle.glb.proofs.serve.serve.Goals as goal
@@ -9,7 +9,19 @@ pub returns-in-Ok : goal.returns-in-Ok
 returns-in-Ok g c =
     let later = session_later _ _ _ _ _ _ _ c.serve_topology.ensures in
     promised _ _ _ _ _ (search rules) (search rules) (search rules)
-    (record { files_later = c.load_topology.ensures.later; feed_later = later.feed; out_later = later.out; maps_later = later.maps; source = λ h. inr (later.source h); sink = later.sink; lanes = session_causes _ _ _ _ _ _ _ c.requires.workers.0 c.serve_topology.ensures })
+    (record {
+      files_later = c.load_topology.ensures.later;
+      feed_later = later.feed;
+      out_later = later.out;
+      maps_later = later.maps;
+      source = λ h. inr (later.source h);
+      sink = later.sink;
+      files_stay = λ none. c.load_topology.ensures.stays (λ e. read_whole _ _ c.in-Ok.is e);
+      feed_stays = later.feed_stays;
+      out_stays = later.out_stays;
+      maps_stay = later.maps_stay;
+      lanes = session_causes _ _ _ _ _ _ _ c.requires.workers.0 c.serve_topology.ensures;
+    })
 
 pub returns-in-Err : goal.returns-in-Err
 returns-in-Err g c = promised _ _ _ _ _
@@ -23,5 +35,9 @@ returns-in-Err g c = promised _ _ _ _ _
       maps_later = omega arith;
       source = λ h. inl (c.load_topology.ensures.cause (stopped_load c.in-Err.stop c.load_topology.result _ c.in-Err.is refl (c.finish.ensures.source.0 h)));
       sink = λ h. inl (c.finish.ensures.cause h);
+      files_stay = λ none. c.load_topology.ensures.stays (λ e. none (c.finish.ensures.source.1 (stopped_end c.in-Err.stop c.load_topology.result _ c.in-Err.is refl e)));
+      feed_stays = λ none. refl;
+      out_stays = c.finish.ensures.stays;
+      maps_stay = λ none. refl;
       lanes = unread_causes _ _ _ _ _ _ _ _ _ _ (stopped_run _ _ _ _ _ c.in-Err.ensures.said c.finish.ensures.run);
     })

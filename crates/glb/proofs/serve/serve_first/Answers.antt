@@ -8,4 +8,4 @@ returns-in-Ok g c =
     let begin = starts c.args.listen c.args.workers c.args.mapper.newest c.text.result.now (g.S.Source.told c.args.feed.now) (g.K.Sink.told c.args.out.now) (g.K.Sink.told c.args.maps.now) (g.K.Sink.told c.start_lanes.new.maps) (g.M.Pace.told c.args.pace.now) _ _
     (g.S.Source.faults c.args.feed.now) (g.K.Sink.faults c.args.out.now) (g.K.Sink.faults c.args.maps.now) (g.K.Sink.faults c.start_lanes.new.maps)
     c.text.ensures c.in-Ready.ensures.start in
-    served_session _ _ _ _ _ _ _ c.in-Ok.end.feed c.in-Ok.end.lanes _ begin (d.0, d.1 ∙ c.requires.viewers.0, d.2, d.3) c.status_of.ensures c.in-Ok.ensures.source c.in-Ok.ensures.source_stays c.in-Ok.ensures.sink (search rules, search rules, search rules)
+    served_session _ _ _ _ _ _ _ c.in-Ok.end.feed c.in-Ok.end.lanes _ begin (d.0, d.1 ∙ c.requires.viewers.0, d.2, d.3) c.status_of.ensures c.in-Ok.ensures.source c.in-Ok.ensures.source_stays c.in-Ok.ensures.sink c.in-Ok.ensures.sink_stays (search rules, search rules, search rules)
