@@ -51,20 +51,24 @@ among-path nodes m pool is n = any-map nodes ∙ ap (list_any (λ x. x == n)) is
     any-map [] = refl
     any-map (x ∷ xs) = ap (λ b. (x.0 == n) || b) (any-map xs)
 
--- What became of the queues: seats of one offer came (q0 to q1), then queues of the nodes above it were cleaned (q1 to q2). And what became of the amounts: only that offer's may have changed.
-pub record IsRefiling (m : Market) (a b : List ℕ) (q0 q1 q2 : List (List Seat)) (g k : ℕ) (nodes : List NodeId) : Type 0 where
+-- seats of one offer came to queues of the nodes above it
+pub record ArePushed (m : Market) (q0 q1 : List (List Seat)) (g k : ℕ) (nodes : List NodeId) : Type 0 where
   pub offer : IsOffer m g k
   pub among : (n : ℕ) → is_among n nodes ≡ counts_at m n g k
+  pub kept : (n : ℕ) (s : Seat) → Contains (queue_at q0 n) s → Contains (queue_at q1 n) s
+  pub from : (n : ℕ) (s : Seat) → Contains (queue_at q1 n) s → Contains (queue_at q0 n) s ⊎ (s ≡ seat_at m g k)
+  pub others : (n : ℕ) → is_among n nodes ≡ false → queue_at q1 n ≡ queue_at q0 n
+
+-- What became of the queues: seats of one offer came (q0 to q1), then queues of the nodes above it were cleaned (q1 to q2). And what became of the amounts: only that offer's may have changed.
+pub record IsRefiling (m : Market) (a b : List ℕ) (q0 q1 q2 : List (List Seat)) (g k : ℕ) (nodes : List NodeId) : Type 0 where
+  pub pushed : ArePushed m q0 q1 g k nodes
   pub count : length q2 ≡ length q0
   pub stays : (h j : ℕ) → IsOffer m h j → ((h ≡ g) × (k ≡ j) → ⊥) → amount_in b h j ≡ amount_in a h j
   pub filed : 0 < amount_in b g k → (0 < amount_in a g k) ⊎ ((n : ℕ) → is_among n nodes ≡ true → Contains (queue_at q1 n) (seat_at m g k))
-  pub kept1 : (n : ℕ) (s : Seat) → Contains (queue_at q0 n) s → Contains (queue_at q1 n) s
-  pub from1 : (n : ℕ) (s : Seat) → Contains (queue_at q1 n) s → Contains (queue_at q0 n) s ⊎ (s ≡ seat_at m g k)
-  pub others1 : (n : ℕ) → is_among n nodes ≡ false → queue_at q1 n ≡ queue_at q0 n
-  pub kept2 : (n : ℕ) (s : Seat) → Contains (queue_at q1 n) s → 0 < amount_in b s.group.0 s.place → Contains (queue_at q2 n) s
-  pub from2 : (n : ℕ) (s : Seat) → Contains (queue_at q2 n) s → Contains (queue_at q1 n) s
-  pub live2 : (n : ℕ) → is_among n nodes ≡ true → IsLive b (queue_at q2 n)
-  pub others2 : (n : ℕ) → is_among n nodes ≡ false → queue_at q2 n ≡ queue_at q1 n
+  pub kept : (n : ℕ) (s : Seat) → Contains (queue_at q1 n) s → 0 < amount_in b s.group.0 s.place → Contains (queue_at q2 n) s
+  pub from : (n : ℕ) (s : Seat) → Contains (queue_at q2 n) s → Contains (queue_at q1 n) s
+  pub live : (n : ℕ) → is_among n nodes ≡ true → IsLive b (queue_at q2 n)
+  pub others : (n : ℕ) → is_among n nodes ≡ false → queue_at q2 n ≡ queue_at q1 n
 
 -- the offer, or another
 which : (g k h j : ℕ) → ((h ≡ g) × (k ≡ j)) ⊎ ((h ≡ g) × (k ≡ j) → ⊥)
@@ -76,53 +80,52 @@ which g k h j = go (cases_eq h g) (cases_eq k j)
     go (inr e) f = inr (λ p. e p.0)
 
 -- the seats of queues to which seats of one offer came
-pub pushed_seats : (m : Market) (a : List ℕ) (q0 q1 : List (List Seat)) (g k : ℕ) (nodes : List NodeId) → AreFiled m a q0 → IsOffer m g k → ((n : ℕ) → is_among n nodes ≡ counts_at m n g k)
-    → ((n : ℕ) (s : Seat) → Contains (queue_at q1 n) s → Contains (queue_at q0 n) s ⊎ (s ≡ seat_at m g k)) → ((n : ℕ) → is_among n nodes ≡ false → queue_at q1 n ≡ queue_at q0 n) → (n : ℕ) (s : Seat) → Contains (queue_at q1 n) s → IsSeatUnder m n s
-pushed_seats m a q0 q1 g k nodes old offer among from others n s h = by (cases_Bool (is_among n nodes))
+pub pushed_seats : (m : Market) (a : List ℕ) (q0 q1 : List (List Seat)) (g k : ℕ) (nodes : List NodeId) → AreFiled m a q0 → ArePushed m q0 q1 g k nodes → (n : ℕ) (s : Seat) → Contains (queue_at q1 n) s → IsSeatUnder m n s
+pushed_seats m a q0 q1 g k nodes old p n s h = by (cases_Bool (is_among n nodes))
   where
     its_own : is_among n nodes ≡ true → s ≡ seat_at m g k → IsSeatUnder m n s
-    its_own above e = subst (IsSeatUnder m n) (sym e) (record { offer = offer; seat = refl; under = sym (among n) ∙ above })
+    its_own above e = subst (IsSeatUnder m n) (sym e) (record { offer = p.offer; seat = refl; under = sym (p.among n) ∙ above })
 
     came : is_among n nodes ≡ true → Contains (queue_at q0 n) s ⊎ (s ≡ seat_at m g k) → IsSeatUnder m n s
     came above (inl before) = old.seats n s before
     came above (inr e) = its_own above e
 
     by : (is_among n nodes ≡ true) ⊎ (is_among n nodes ≡ false) → IsSeatUnder m n s
-    by (inl above) = came above (from n s h)
-    by (inr not) = old.seats n s (subst (λ (q : List Seat). Contains q s) (others n not) h)
+    by (inl above) = came above (p.from n s h)
+    by (inr not) = old.seats n s (subst (λ (q : List Seat). Contains q s) (p.others n not) h)
 
 pub refiled : (m : Market) (a b : List ℕ) (q0 q1 q2 : List (List Seat)) (g k : ℕ) (nodes : List NodeId) → AreFiled m a q0 → IsRefiling m a b q0 q1 q2 g k nodes → AreFiled m b q2
 refiled m a b q0 q1 q2 g k nodes old r = record {
   nodes = r.count ∙ old.nodes;
-  filed = λ h j n offer some under. r.kept2 n (seat_at m h j) (there h j n offer some under (which g k h j)) some;
-  seats = λ n s h. pushed_seats m a q0 q1 g k nodes old r.offer r.among r.from1 r.others1 n s (r.from2 n s h);
+  filed = λ h j n offer some under. r.kept n (seat_at m h j) (there h j n offer some under (which g k h j)) some;
+  seats = λ n s h. pushed_seats m a q0 q1 g k nodes old r.pushed n s (r.from n s h);
   live = λ n. alive n (cases_Bool (is_among n nodes));
 }
   where
     came : (n : ℕ) → counts_at m n g k ≡ true → (0 < amount_in a g k) ⊎ ((o : ℕ) → is_among o nodes ≡ true → Contains (queue_at q1 o) (seat_at m g k)) → Contains (queue_at q1 n) (seat_at m g k)
-    came n under (inl held) = r.kept1 n (seat_at m g k) (old.filed g k n r.offer held under)
-    came n under (inr all) = all n (r.among n ∙ under)
+    came n under (inl held) = r.pushed.kept n (seat_at m g k) (old.filed g k n r.pushed.offer held under)
+    came n under (inr all) = all n (r.pushed.among n ∙ under)
 
     there : (h j n : ℕ) → IsOffer m h j → 0 < amount_in b h j → counts_at m n h j ≡ true → ((h ≡ g) × (k ≡ j)) ⊎ ((h ≡ g) × (k ≡ j) → ⊥) → Contains (queue_at q1 n) (seat_at m h j)
     there h j n offer some under (inl (e, f)) =
         let some_here : 0 < amount_in b g k = subst (λ (x : ℕ). 0 < amount_in b g x) (sym f) (subst (λ (x : ℕ). 0 < amount_in b x j) e some) in
         let under_here : counts_at m n g k ≡ true = ap (λ (x : ℕ). counts_at m n g x) f ∙ ap (λ (x : ℕ). counts_at m n x j) (sym e) ∙ under in
         subst (λ (x : ℕ). Contains (queue_at q1 n) (seat_at m x j)) (sym e) (subst (λ (x : ℕ). Contains (queue_at q1 n) (seat_at m g x)) f (came n under_here (r.filed some_here)))
-    there h j n offer some under (inr ne) = r.kept1 n (seat_at m h j) (old.filed h j n offer (omega (arith, r.stays h j offer ne)) under)
+    there h j n offer some under (inr ne) = r.pushed.kept n (seat_at m h j) (old.filed h j n offer (omega (arith, r.stays h j offer ne)) under)
 
     still : (n : ℕ) (s : Seat) → is_among n nodes ≡ false → IsSeatUnder m n s → 0 < amount_in a s.group.0 s.place → ((s.group.0 ≡ g) × (k ≡ s.place)) ⊎ ((s.group.0 ≡ g) × (k ≡ s.place) → ⊥) → 0 < amount_in b s.group.0 s.place
     still n s not seat some (inr ne) = omega (arith, r.stays s.group.0 s.place seat.offer ne)
     still n s not seat some (inl (e, f)) =
         let under : counts_at m n g k ≡ true = ap (λ (x : ℕ). counts_at m n g x) f ∙ ap (λ (x : ℕ). counts_at m n x s.place) (sym e) ∙ seat.under in
-        let clash : true ≡ false = sym under ∙ sym (r.among n) ∙ not in cc
+        let clash : true ≡ false = sym under ∙ sym (r.pushed.among n) ∙ not in cc
 
     first : (n : ℕ) → is_among n nodes ≡ false → (o : Option Seat) → slice_get (queue_at q0 n) 0 ≡ o → IfSome o (λ s. 0 < amount_in a s.group.0 s.place) → IfSome o (λ s. 0 < amount_in b s.group.0 s.place)
     first n not None e some = tt
     first n not (Some s) e some = still n s not (old.seats n s (Contains-first (queue_at q0 n) s e)) some (which g k s.group.0 s.place)
 
     alive : (n : ℕ) → (is_among n nodes ≡ true) ⊎ (is_among n nodes ≡ false) → IsLive b (queue_at q2 n)
-    alive n (inl above) = r.live2 n above
-    alive n (inr not) = subst (λ (q : List Seat). IsLive b q) (sym (r.others2 n not ∙ r.others1 n not)) (first n not (slice_get (queue_at q0 n) 0) refl (old.live n))
+    alive n (inl above) = r.live n above
+    alive n (inr not) = subst (λ (q : List Seat). IsLive b q) (sym (r.others n not ∙ r.pushed.others n not)) (first n not (slice_get (queue_at q0 n) 0) refl (old.live n))
 
 -- other amounts stay as one is changed
 pub others-set : (m : Market) → IsMarket m → (a b : List ℕ) (g k v : ℕ) → IsOffer m g k → b ≡ slice_set a (place_at g k) v → (h j : ℕ) → IsOffer m h j → ((h ≡ g) × (k ≡ j) → ⊥) → amount_in b h j ≡ amount_in a h j

@@ -1,7 +1,8 @@
 -- What contracts see of a table and its queues.
-use Rattle.std.proofs.Common.{◌≡◌, ℕ, ◌+◌, ◌-◌, ◌<◌, ◌≤◌, List, ◌++◌, length, take, drop, slice_set, sym, ap, ◌∙◌, subst, arith, if◌then◌else◌, Some, None, All, true, slice_get}
+use Rattle.std.proofs.Common.{◌≡◌, ℕ, ◌+◌, ◌-◌, ◌<◌, ◌≤◌, List, [], ◌++◌, length, get_or, take, drop, slice_set, sym, ap, ◌∙◌, subst, arith, if◌then◌else◌, Option, Some, None, All, true, slice_get}
 use Rattle.std.specs.Prelude.{Result, Ok, Err, OnOk}
 use Rattle.std.proofs.Math.Seq.{take-append_seam}
+use Rattle.std.proofs.lemmas.List.{get_or_default}
 use Rattle.map_model.specs.Market.{Market}
 use Rattle.map_model.specs.Allocation.{AreLines, IsOffer, amount_at, load, units_of}
 use Rattle.map_model.specs.Holding.{IsWorst, IsWorstKey, Puts, Takes}
@@ -53,19 +54,25 @@ pub on_ok_map : {T E : Type 0} (r : Result T E) (P Q : Type 0) → (P → Q) →
 on_ok_map (Ok x) P Q f p = f p
 on_ok_map (Err e) P Q f p = p
 
-pub view_node : (m : Market) (a : List ℕ) (q : List (List Seat)) (h : Holdings) (n : ℕ) → IsHeld m a q → seen m a ≡ h → n < length h.market.nodes → n < length q
-view_node m a q h n held is there = let inner : n < length m.nodes = subst (λ (x : Holdings). n < length x.market.nodes) (sym is) there in omega (arith, held.filing.nodes)
+-- The queue that was read at a node that is there is the node's.
+module _ (m : Market) (a : List ℕ) (q : List (List Seat)) (h : Holdings) (n : ℕ) (seats : List Seat) (held : IsHeld m a q) (is : seen m a ≡ h) (there : n < length h.market.nodes) (read : seats ≡ get_or q n seats) where
+  same : seats ≡ queue_at q n
+  same = let inner : n < length m.nodes = subst (λ (x : Holdings). n < length x.market.nodes) (sym is) there in read ∙ get_or_default q n seats [] (omega (arith, inner, held.filing.nodes))
 
-pub view_worst : (m : Market) (a : List ℕ) (q : List (List Seat)) (h : Holdings) (n : ℕ) (s : Seat) → IsHeld m a q → seen m a ≡ h → slice_get (queue_at q n) 0 ≡ Some s → All (λ t. seat_le t s ≡ true) (queue_at q n)
-    → IsWorst h.market h.lines n s.group.0 s.place (amount_in a s.group.0 s.place)
-view_worst m a q h n s held is first all = subst (λ (x : Holdings). IsWorst x.market x.lines n s.group.0 s.place (amount_in a s.group.0 s.place)) is (worst_some m a q held n s first all)
+  first_is : (o : Option Seat) → o ≡ slice_get seats 0 → slice_get (queue_at q n) 0 ≡ o
+  first_is o found = ap (λ (l : List Seat). slice_get l 0) (sym same) ∙ sym found
 
--- the key of the worst seat
-pub view_key : (m : Market) (a : List ℕ) (q : List (List Seat)) (h : Holdings) (n : ℕ) (s : Seat) → IsHeld m a q → seen m a ≡ h → slice_get (queue_at q n) 0 ≡ Some s → All (λ t. seat_le t s ≡ true) (queue_at q n)
-    → IsWorstKey h.market h.lines n (record { score = s.score; group = s.group; pool = s.pool })
-view_key m a q h n s held is first all =
-    subst (λ (x : Holdings). IsWorstKey x.market x.lines n (record { score = s.score; group = s.group; pool = s.pool })) is
-    (s.group.0, s.place, amount_in a s.group.0 s.place, worst_some m a q held n s first all, worst_seat m a q held n s first)
+  all_le : (s : Seat) → All (λ t. seat_le t s ≡ true) seats → All (λ t. seat_le t s ≡ true) (queue_at q n)
+  all_le s all = subst (λ (l : List Seat). All (λ t. seat_le t s ≡ true) l) same all
 
-pub view_none : (m : Market) (a : List ℕ) (q : List (List Seat)) (h : Holdings) (n : ℕ) → IsHeld m a q → seen m a ≡ h → slice_get (queue_at q n) 0 ≡ None → load h.market h.lines n ≡ 0
-view_none m a q h n held is none = subst (λ (x : Holdings). load x.market x.lines n ≡ 0) is (worst_none m a q held n none)
+  pub view_worst : (s : Seat) → Some s ≡ slice_get seats 0 → All (λ t. seat_le t s ≡ true) seats → IsWorst h.market h.lines n s.group.0 s.place (amount_in a s.group.0 s.place)
+  view_worst s first all = subst (λ (x : Holdings). IsWorst x.market x.lines n s.group.0 s.place (amount_in a s.group.0 s.place)) is (worst_some m a q held n s (first_is (Some s) first) (all_le s all))
+
+  -- the key of the worst seat
+  pub view_key : (s : Seat) → Some s ≡ slice_get seats 0 → All (λ t. seat_le t s ≡ true) seats → IsWorstKey h.market h.lines n (record { score = s.score; group = s.group; pool = s.pool })
+  view_key s first all =
+      subst (λ (x : Holdings). IsWorstKey x.market x.lines n (record { score = s.score; group = s.group; pool = s.pool })) is
+      (s.group.0, s.place, amount_in a s.group.0 s.place, worst_some m a q held n s (first_is (Some s) first) (all_le s all), worst_seat m a q held n s (first_is (Some s) first))
+
+  pub view_none : None ≡ slice_get seats 0 → load h.market h.lines n ≡ 0
+  view_none first = subst (λ (x : Holdings). load x.market x.lines n ≡ 0) is (worst_none m a q held n (first_is None first))

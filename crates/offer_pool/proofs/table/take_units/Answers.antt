@@ -24,16 +24,12 @@ returns-clause-held c =
     let same = c.as_slice.ensures.value in
     let was : slice_index a c.place_at-at.result ≡ amount_in a g k = ap (λ (p : ℕ). slice_index a p) c.place_at-at.ensures in
     held_again m a b c.args.queues.now c.args.queues.now c.clean_all.new.queues g k nodes c.requires.held (table-set m a b c.requires.held.market c.requires.held.table g k v c.requires.offer is) (record {
-      offer = c.requires.offer;
-      among = c.nodes_above-above.ensures.among;
+      pushed = record { offer = c.requires.offer; among = c.nodes_above-above.ensures.among; kept = λ n s h. h; from = λ n s h. inl h; others = λ n h. refl };
       count = c.clean_all.auto.queues;
       stays = others-set m c.requires.held.market a b g k v c.requires.offer is;
       filed = λ some. inl (let now : amount_in b g k ≡ v = ap (λ (l : List ℕ). amount_in l g k) is ∙ amount-set a g k v (place_there m a c.requires.held.market c.requires.held.table g k c.requires.offer) in omega (arith, now, was, some));
-      kept1 = λ n s h. h;
-      from1 = λ n s h. inl h;
-      others1 = λ n h. refl;
-      kept2 = c.clean_all.ensures.kept;
-      from2 = c.clean_all.ensures.from;
-      live2 = λ n h. c.clean_all.ensures.live n (subst (λ (ns : List NodeId). is_among n ns ≡ true) (sym same) h);
-      others2 = λ n h. c.clean_all.ensures.others n (subst (λ (ns : List NodeId). is_among n ns ≡ false) (sym same) h);
+      kept = c.clean_all.ensures.kept;
+      from = c.clean_all.ensures.from;
+      live = λ n h. c.clean_all.ensures.live n (subst (λ (ns : List NodeId). is_among n ns ≡ true) (sym same) h);
+      others = λ n h. c.clean_all.ensures.others n (subst (λ (ns : List NodeId). is_among n ns ≡ false) (sym same) h);
     })
