@@ -1,25 +1,25 @@
 -- A table without faults is sound.
-use Rattle.std.proofs.Common.{◌≡◌, ℕ, ◌^◌, ◌<◌, ◌≤◌, true, false, not, List, [], ◌++◌, length, get_or, Option, None, Some, IfSome, is_some, option_and_then, All, refl, ap, sym, ◌∙◌, subst, arith, lit<}
-use Rattle.toml.specs.Data.{Data, Members, string, integer, float, boolean, datetime, array, table}
-use Rattle.topology_text.specs.Schema.{kind_of, is_item_kind}
+use Rattle.std.proofs.Common.{◌≡◌, ℕ, ◌+◌, ◌^◌, ◌<◌, ◌≤◌, true, false, List, [], ◌++◌, length, get_or, Option, Some, IfSome, is_some, option_and_then, All, refl, ap, sym, ◌∙◌, subst, arith, lit<}
+use Rattle.std.proofs.lemmas.Bool.{not-false}
+use Rattle.toml.specs.Data.{Data, Members, boolean, table}
 use Rattle.topology_text.specs.Hosts.{IsHosts}
 use Rattle.topology_text.specs.Texts.{is_name, zone_name}
 use Rattle.topology_text.specs.Walk.{items_at, items_of_value, places_of, table_in, value_at, walk}
 use Rattle.topology_text.specs.Values.{failing, is_bad_name, is_out_of_range, missing, too_many, wrong_in, wrong_kind}
-use Rattle.topology_text.specs.Names.{ascend, count_at, duplicate_name, entries_of, entry_at, flag_in, has_repeat, is_inside, is_pool, is_taken, names_in, repeats_in, zone_items, zone_text, is_unknown_name, list_shape, number_of, parent_of, parent_order, text_at, texts_of, too_deep}
+use Rattle.topology_text.specs.Names.{ascend, count_at, duplicate_name, entries_of, entry_at, flag_in, has_repeat, is_inside, is_pool, is_taken, names_in, repeats_in, zone_items, zone_text, is_unknown_name, list_shape, parent_of, parent_order, text_at, text_in, texts_of, too_deep}
 use Rattle.topology_text.specs.Faults.{failures, faults_of, name_faults, prefix_faults, shape_faults, value_faults}
 use Rattle.topology_text.specs.Prefixes.{all_prefixes, duplicate_prefixes, no_default, passing}
 use Rattle.topology_text.specs.Topology.{AreSoundNames, IsSound, IsSoundGroup, IsSoundZone, hosts_of, number_at, zone_name_at, zone_of}
 use Rattle.name_text.specs.Names.{is_under}
 use Rattle.topology_text.specs.Plan.{IsZone}
-use Rattle.topology_text.specs.declared.schema.Key.TheVariants.{Zone, Node, Group, Apex, Mname, Rname, Serial, Refresh, Retry, Expire, Minimum, Ttl, Ns, Services, Name, Parent, Pool, A, Aaaa, Capacity, Demand, Pools, Scores}
+use Rattle.topology_text.specs.declared.schema.Key.TheVariants.{Zone, Node, Group, Apex, Mname, Rname, Serial, Refresh, Retry, Expire, Minimum, Ttl, Ns, Services, Name, Pool, A, Aaaa, Capacity, Demand, Pools, Scores}
 use Rattle.topology_text.proofs.Quiet.{empty_first, empty_second, empty_map, not_whole, quiet_top, quiet_zone, quiet_node, quiet_group}
 use Rattle.topology_text.proofs.SoundHosts.{hosts_good, hosts_none, list_empty}
 use Rattle.topology_text.proofs.SoundNames.{name_good, names_sound}
 use Rattle.topology_text.proofs.ZoneNames.{all_outside, all_services, all_short, apex_of, few_names, names_apart, ns_named, ns_there, some_names, zone_name_short}
-use Rattle.topology_text.proofs.SoundZone.{apex_good, mname_good, rname_good, serial_fits, refresh_fits, retry_fits, expire_fits, minimum_fits, ttl_fits}
-use Rattle.topology_text.proofs.Sound.{capacity_fits, not_deep, not_over, parent_before, parent_inner, root_shallow}
-use Rattle.topology_text.proofs.SoundGroups.{array_passes, demand_high, demand_low, is_there, kinds_pass, pool_there, score_fits, shape_pools, shape_scores}
+use Rattle.topology_text.proofs.SoundZone.{zone_name_good}
+use Rattle.topology_text.proofs.Sound.{is_table, not_deep, not_over, number_fits, parent_before, parent_inner, table_there}
+use Rattle.topology_text.proofs.SoundGroups.{array_passes, demand_low, is_there, kinds_pass, pool_there, score_fits, shape_pools, shape_scores}
 
 -- the rules find nothing on the walk
 pub record IsQuiet (top : Members) : Type 0 where
@@ -72,45 +72,27 @@ quiet top h =
       passed = empty_second (places_of too_many (walk top)) _ limits;
     }
 
-capacity_of : (top : Members) → IsQuiet top → (i : ℕ) → i < length (items_at top Node) → (e : Data) → entry_at (items_at top Node) i ≡ e → number_at e Capacity ≤ 2 ^ 48
-capacity_of top q i l (table ms) is = capacity_fits (value_at ms Capacity) (quiet_node (λ v k. failing (is_out_of_range k) (value_at v.members k)) top i ms 2 q.ranges l is (lit< tt))
-capacity_of top q i l (string t) is = omega arith
-capacity_of top q i l (integer z) is = omega arith
-capacity_of top q i l (float x) is = omega arith
-capacity_of top q i l (boolean b) is = omega arith
-capacity_of top q i l (datetime t) is = omega arith
-capacity_of top q i l (array ds) is = omega arith
+-- each entry of a node, and of a group, is a table
+node_table : (top : Members) → IsQuiet top → (i : ℕ) → i < length (items_at top Node) → (ms : Members) × (entry_at (items_at top Node) i ≡ table ms)
+node_table top q i l = is_table _ (not-false _ (kinds_pass Node (value_at top Node) (quiet_top wrong_kind top 1 q.kinds (lit< tt)) i (boolean false) l))
 
--- an entry that is no table has no parent
-no_parent : (nodes : List Data) (i : ℕ) (e : Data) → entry_at nodes i ≡ e → text_at e Parent ≡ None → parent_of nodes i ≡ None
-no_parent nodes i e is none = ap (λ (x : Data). option_and_then (number_of nodes) (text_at x Parent)) is ∙ ap (option_and_then (number_of nodes)) none
+group_table : (top : Members) → IsQuiet top → (g : ℕ) → g < length (items_at top Group) → (ms : Members) × (entry_at (items_at top Group) g ≡ table ms)
+group_table top q g l = is_table _ (not-false _ (kinds_pass Group (value_at top Group) (quiet_top wrong_kind top 2 q.kinds (lit< tt)) g (boolean false) l))
 
-parent_of_node : (top : Members) → IsQuiet top → (i : ℕ) → i < length (items_at top Node) → (e : Data) → entry_at (items_at top Node) i ≡ e → IfSome (parent_of (items_at top Node) i) (λ p. p < i)
-parent_of_node top q i l (table ms) is = parent_before (items_at top Node) i _ (quiet_node (parent_order (entries_of top)) top i ms 1 q.ordered l is (lit< tt))
-parent_of_node top q i l (string t) is = rw (no_parent _ i _ is refl) tt
-parent_of_node top q i l (integer z) is = rw (no_parent _ i _ is refl) tt
-parent_of_node top q i l (float x) is = rw (no_parent _ i _ is refl) tt
-parent_of_node top q i l (boolean b) is = rw (no_parent _ i _ is refl) tt
-parent_of_node top q i l (datetime t) is = rw (no_parent _ i _ is refl) tt
-parent_of_node top q i l (array ds) is = rw (no_parent _ i _ is refl) tt
+capacity_of : (top : Members) → IsQuiet top → (i : ℕ) → i < length (items_at top Node) → number_at (entry_at (items_at top Node) i) Capacity ≤ 2 ^ 48
+capacity_of top q i l =
+    let (ms, is) = node_table top q i l in
+    let fits = number_fits Capacity 0 (2 ^ 48 + 1) (lit< tt) (λ z. refl) (value_at ms Capacity) (quiet_node (λ v k. failing (is_out_of_range k) (value_at v.members k)) top i ms 2 q.ranges l is (lit< tt)) in
+    subst (λ (e : Data). number_at e Capacity ≤ 2 ^ 48) (sym is) (omega (arith, fits))
 
-inner_of_node : (top : Members) → IsQuiet top → (i : ℕ) → i < length (items_at top Node) → (e : Data) → entry_at (items_at top Node) i ≡ e → IfSome (parent_of (items_at top Node) i) (λ p. is_pool (entry_at (items_at top Node) p) ≡ false)
-inner_of_node top q i l (table ms) is = parent_inner (items_at top Node) i _ (quiet_node (parent_order (entries_of top)) top i ms 1 q.ordered l is (lit< tt))
-inner_of_node top q i l (string t) is = rw (no_parent _ i _ is refl) tt
-inner_of_node top q i l (integer z) is = rw (no_parent _ i _ is refl) tt
-inner_of_node top q i l (float x) is = rw (no_parent _ i _ is refl) tt
-inner_of_node top q i l (boolean b) is = rw (no_parent _ i _ is refl) tt
-inner_of_node top q i l (datetime t) is = rw (no_parent _ i _ is refl) tt
-inner_of_node top q i l (array ds) is = rw (no_parent _ i _ is refl) tt
+parent_of_node : (top : Members) → IsQuiet top → (i : ℕ) → i < length (items_at top Node) → IfSome (parent_of (items_at top Node) i) (λ p. p < i)
+parent_of_node top q i l = let (ms, is) = node_table top q i l in parent_before (items_at top Node) i _ (quiet_node (parent_order (entries_of top)) top i ms 1 q.ordered l is (lit< tt))
 
-shallow_node : (top : Members) → IsQuiet top → (i : ℕ) → i < length (items_at top Node) → (e : Data) → entry_at (items_at top Node) i ≡ e → length (ascend 9 (items_at top Node) (Some i)) ≤ 8
-shallow_node top q i l (table ms) is = not_deep (items_at top Node) i (quiet_node (too_deep (entries_of top)) top i ms 1 q.deep l is (lit< tt))
-shallow_node top q i l (string t) is = root_shallow _ i (no_parent _ i _ is refl)
-shallow_node top q i l (integer z) is = root_shallow _ i (no_parent _ i _ is refl)
-shallow_node top q i l (float x) is = root_shallow _ i (no_parent _ i _ is refl)
-shallow_node top q i l (boolean b) is = root_shallow _ i (no_parent _ i _ is refl)
-shallow_node top q i l (datetime t) is = root_shallow _ i (no_parent _ i _ is refl)
-shallow_node top q i l (array ds) is = root_shallow _ i (no_parent _ i _ is refl)
+inner_of_node : (top : Members) → IsQuiet top → (i : ℕ) → i < length (items_at top Node) → IfSome (parent_of (items_at top Node) i) (λ p. is_pool (entry_at (items_at top Node) p) ≡ false)
+inner_of_node top q i l = let (ms, is) = node_table top q i l in parent_inner (items_at top Node) i _ (quiet_node (parent_order (entries_of top)) top i ms 1 q.ordered l is (lit< tt))
+
+shallow_node : (top : Members) → IsQuiet top → (i : ℕ) → i < length (items_at top Node) → length (ascend 9 (items_at top Node) (Some i)) ≤ 8
+shallow_node top q i l = let (ms, is) = node_table top q i l in not_deep (items_at top Node) i (quiet_node (too_deep (entries_of top)) top i ms 1 q.deep l is (lit< tt))
 
 -- a group that is a table
 table_group : (top : Members) → IsQuiet top → (g : ℕ) → g < length (items_at top Group) → (ms : Members) → get_or (items_at top Group) g (boolean false) ≡ table ms → IsSoundGroup (items_at top Node) (table ms)
@@ -127,7 +109,7 @@ table_group top q g l ms is =
     let scores_shape : count_at ms Scores ≡ count_at ms Pools = shape_scores _ _ _ scores_there (not_whole _ (quiet_group list_shape top g ms 3 q.shapes l is (lit< tt))) in
     record {
       some = demand_low (value_at ms Demand) demand_there (quiet_group wrong_kind top g ms 1 q.kinds l is (lit< tt)) demand_range;
-      fits = demand_high (value_at ms Demand) demand_range;
+      fits = number_fits Demand 1 (2 ^ 32) (lit< tt) (λ z. refl) (value_at ms Demand) demand_range;
       asks = pools_shape.0;
       few = pools_shape.1;
       beside = scores_shape;
@@ -136,69 +118,40 @@ table_group top q g l ms is =
       scores = λ j d h. score_fits (get_or (items_of_value (value_at ms Scores)) j d) (array_passes (is_out_of_range Scores) (value_at ms Scores) scores_range j d h);
     }
 
-group_of_table : (top : Members) → IsQuiet top → (g : ℕ) → g < length (items_at top Group) → (e : Data) → get_or (items_at top Group) g (boolean false) ≡ e → not (is_item_kind (kind_of Group) e) ≡ false → IsSoundGroup (items_at top Node) e
-group_of_table top q g l (table ms) is kind = table_group top q g l ms is
-group_of_table top q g l (string t) is kind = cc
-group_of_table top q g l (integer z) is kind = cc
-group_of_table top q g l (float x) is kind = cc
-group_of_table top q g l (boolean b) is kind = cc
-group_of_table top q g l (datetime t) is kind = cc
-group_of_table top q g l (array ds) is kind = cc
+-- the name of an entry that is a table
+has_name : (entries : List Data) (i : ℕ) (ms : Members) → entry_at entries i ≡ table ms → is_some (value_at ms Name) ≡ true → wrong_in Name (value_at ms Name) ≡ [] → failing (is_bad_name Name) (value_at ms Name) ≡ []
+    → is_taken entries i (text_in (value_at ms Name)) ≡ false → (t : List ℕ) × (text_at (entry_at entries i) Name ≡ Some t) × (is_name t ≡ true) × (is_taken entries i (text_at (entry_at entries i) Name) ≡ false)
+has_name entries i ms is there kind good free =
+    let (t, named, well) = name_good (value_at ms Name) there kind good in
+    let same : text_at (entry_at entries i) Name ≡ text_in (value_at ms Name) = ap (λ (e : Data). text_at e Name) is in
+    (t, same ∙ named, well, ap (is_taken entries i) same ∙ free)
 
--- the name of a node that is a table
-node_name : (top : Members) → IsQuiet top → (i : ℕ) → i < length (items_at top Node) → (e : Data) → get_or (items_at top Node) i (boolean false) ≡ e → not (is_item_kind (kind_of Node) e) ≡ false
-    → (t : List ℕ) × (text_at e Name ≡ Some t) × (is_name t ≡ true) × (is_taken (items_at top Node) i (text_at e Name) ≡ false)
-node_name top q i l (table ms) is kind =
-    let (t, named, good) = name_good (value_at ms Name) (is_there _ (quiet_node missing top i ms 0 q.missed l is (lit< tt))) (quiet_node wrong_kind top i ms 0 q.kinds l is (lit< tt)) (quiet_node (λ v k. failing (is_bad_name k) (value_at v.members k)) top i ms 0 q.well_named l is (lit< tt)) in
-    (t, named, good, not_whole _ (quiet_node (duplicate_name (entries_of top)) top i ms 0 q.once l is (lit< tt)))
-node_name top q i l (string t) is kind = cc
-node_name top q i l (integer z) is kind = cc
-node_name top q i l (float x) is kind = cc
-node_name top q i l (boolean b) is kind = cc
-node_name top q i l (datetime t) is kind = cc
-node_name top q i l (array ds) is kind = cc
+node_names : (top : Members) → IsQuiet top → AreSoundNames (items_at top Node)
+node_names top q = names_sound (items_at top Node) (λ i l.
+    let (ms, is) = node_table top q i l in
+    has_name (items_at top Node) i ms is (is_there _ (quiet_node missing top i ms 0 q.missed l is (lit< tt))) (quiet_node wrong_kind top i ms 0 q.kinds l is (lit< tt))
+    (quiet_node (λ v k. failing (is_bad_name k) (value_at v.members k)) top i ms 0 q.well_named l is (lit< tt)) (not_whole _ (quiet_node (duplicate_name (entries_of top)) top i ms 0 q.once l is (lit< tt))))
 
-node_names_sound : (top : Members) → IsQuiet top → AreSoundNames (items_at top Node)
-node_names_sound top q = names_sound (items_at top Node) (λ i l. node_name top q i l _ refl (kinds_pass Node (value_at top Node) (quiet_top wrong_kind top 1 q.kinds (lit< tt)) i (boolean false) l))
-
--- the name of a group that is a table
-group_name : (top : Members) → IsQuiet top → (i : ℕ) → i < length (items_at top Group) → (e : Data) → get_or (items_at top Group) i (boolean false) ≡ e → not (is_item_kind (kind_of Group) e) ≡ false
-    → (t : List ℕ) × (text_at e Name ≡ Some t) × (is_name t ≡ true) × (is_taken (items_at top Group) i (text_at e Name) ≡ false)
-group_name top q i l (table ms) is kind =
-    let (t, named, good) = name_good (value_at ms Name) (is_there _ (quiet_group missing top i ms 0 q.missed l is (lit< tt))) (quiet_group wrong_kind top i ms 0 q.kinds l is (lit< tt)) (quiet_group (λ v k. failing (is_bad_name k) (value_at v.members k)) top i ms 0 q.well_named l is (lit< tt)) in
-    (t, named, good, not_whole _ (quiet_group (duplicate_name (entries_of top)) top i ms 0 q.once l is (lit< tt)))
-group_name top q i l (string t) is kind = cc
-group_name top q i l (integer z) is kind = cc
-group_name top q i l (float x) is kind = cc
-group_name top q i l (boolean b) is kind = cc
-group_name top q i l (datetime t) is kind = cc
-group_name top q i l (array ds) is kind = cc
-
-group_names_sound : (top : Members) → IsQuiet top → AreSoundNames (items_at top Group)
-group_names_sound top q = names_sound (items_at top Group) (λ i l. group_name top q i l _ refl (kinds_pass Group (value_at top Group) (quiet_top wrong_kind top 2 q.kinds (lit< tt)) i (boolean false) l))
+group_names : (top : Members) → IsQuiet top → AreSoundNames (items_at top Group)
+group_names top q = names_sound (items_at top Group) (λ i l.
+    let (ms, is) = group_table top q i l in
+    has_name (items_at top Group) i ms is (is_there _ (quiet_group missing top i ms 0 q.missed l is (lit< tt))) (quiet_group wrong_kind top i ms 0 q.kinds l is (lit< tt))
+    (quiet_group (λ v k. failing (is_bad_name k) (value_at v.members k)) top i ms 0 q.well_named l is (lit< tt)) (not_whole _ (quiet_group (duplicate_name (entries_of top)) top i ms 0 q.once l is (lit< tt))))
 
 -- the addresses of a node
-hosts_of_node : (top : Members) → IsQuiet top → (i : ℕ) → i < length (items_at top Node) → (e : Data) → entry_at (items_at top Node) i ≡ e → IsHosts (hosts_of e)
-hosts_of_node top q i l (table ms) is =
-    hosts_good (table ms) (not_over 6 _ (quiet_node too_many top i ms 4 q.many l is (lit< tt))) (not_over 6 _ (quiet_node too_many top i ms 5 q.many l is (lit< tt)))
-hosts_of_node top q i l (string t) is = hosts_good (string t) (omega arith) (omega arith)
-hosts_of_node top q i l (integer z) is = hosts_good (integer z) (omega arith) (omega arith)
-hosts_of_node top q i l (float x) is = hosts_good (float x) (omega arith) (omega arith)
-hosts_of_node top q i l (boolean b) is = hosts_good (boolean b) (omega arith) (omega arith)
-hosts_of_node top q i l (datetime t) is = hosts_good (datetime t) (omega arith) (omega arith)
-hosts_of_node top q i l (array ds) is = hosts_good (array ds) (omega arith) (omega arith)
+hosts_of_node : (top : Members) → IsQuiet top → (i : ℕ) → i < length (items_at top Node) → IsHosts (hosts_of (entry_at (items_at top Node) i))
+hosts_of_node top q i l =
+    let (ms, is) = node_table top q i l in
+    subst (λ (e : Data). IsHosts (hosts_of e)) (sym is) (hosts_good (table ms) (not_over 6 _ (quiet_node too_many top i ms 4 q.many l is (lit< tt))) (not_over 6 _ (quiet_node too_many top i ms 5 q.many l is (lit< tt))))
 
 -- a node that is no pool has none
-hosts_of_other : (top : Members) → IsQuiet top → (i : ℕ) → i < length (items_at top Node) → (e : Data) → entry_at (items_at top Node) i ≡ e → is_pool e ≡ false → hosts_of e ≡ record { v4 = []; v6 = [] }
-hosts_of_other top q i l (table ms) is other =
-    hosts_none (table ms) (list_empty (flag_in (value_at ms Pool)) (items_at ms A) other (not_whole _ (quiet_node list_shape top i ms 4 q.shapes l is (lit< tt))))
-    (list_empty (flag_in (value_at ms Pool)) (items_at ms Aaaa) other (not_whole _ (quiet_node list_shape top i ms 5 q.shapes l is (lit< tt))))
-hosts_of_other top q i l (string t) is other = refl
-hosts_of_other top q i l (integer z) is other = refl
-hosts_of_other top q i l (float x) is other = refl
-hosts_of_other top q i l (boolean b) is other = refl
-hosts_of_other top q i l (datetime t) is other = refl
-hosts_of_other top q i l (array ds) is other = refl
+hosts_of_other : (top : Members) → IsQuiet top → (i : ℕ) → i < length (items_at top Node) → is_pool (entry_at (items_at top Node) i) ≡ false → hosts_of (entry_at (items_at top Node) i) ≡ record { v4 = []; v6 = [] }
+hosts_of_other top q i l other =
+    let (ms, is) = node_table top q i l in
+    let no_pool : flag_in (value_at ms Pool) ≡ false = ap is_pool (sym is) ∙ other in
+    ap hosts_of is
+    ∙ hosts_none (table ms) (list_empty (flag_in (value_at ms Pool)) (items_at ms A) no_pool (not_whole _ (quiet_node list_shape top i ms 4 q.shapes l is (lit< tt))))
+    (list_empty (flag_in (value_at ms Pool)) (items_at ms Aaaa) no_pool (not_whole _ (quiet_node list_shape top i ms 5 q.shapes l is (lit< tt))))
 
 -- what the zone's lists show
 zone_lists : (top ms : Members) → IsQuiet top → value_at top Zone ≡ Some (table ms) → is_some (option_and_then zone_name (zone_text (Some ms) Apex)) ≡ true → IsZone (zone_of (Some ms))
@@ -219,8 +172,8 @@ zone_lists top ms q is there =
       apex = zone_name_short (zone_text (Some ms) Apex);
       mname = zone_name_short (zone_text (Some ms) Mname);
       rname = zone_name_short (zone_text (Some ms) Rname);
-      minimum = minimum_fits (value_at ms Minimum) (quiet_zone (λ v k. failing (is_out_of_range k) (value_at v.members k)) top ms 7 q.ranges is (lit< tt));
-      ttl = ttl_fits (value_at ms Ttl) (quiet_zone (λ v k. failing (is_out_of_range k) (value_at v.members k)) top ms 8 q.ranges is (lit< tt));
+      minimum = number_fits Minimum 0 (2 ^ 31) (lit< tt) (λ z. refl) (value_at ms Minimum) (quiet_zone (λ v k. failing (is_out_of_range k) (value_at v.members k)) top ms 7 q.ranges is (lit< tt));
+      ttl = number_fits Ttl 0 (2 ^ 31) (lit< tt) (λ z. refl) (value_at ms Ttl) (quiet_zone (λ v k. failing (is_out_of_range k) (value_at v.members k)) top ms 8 q.ranges is (lit< tt));
       some_ns = some_names Ns (items_at ms Ns) ns_count (ns_named _ (kinds_pass Ns (value_at ms Ns) ns_kind 0 (boolean false) ns_count) (array_passes (is_bad_name Ns) (value_at ms Ns) ns_good 0 (boolean false) ns_count));
       few_ns = omega (arith, few_names Ns (items_at ms Ns));
       short_ns = all_short (items_at ms Ns);
@@ -235,32 +188,24 @@ zone_lists top ms q is there =
 -- the zone, which is a table
 zone_table : (top ms : Members) → IsQuiet top → value_at top Zone ≡ Some (table ms) → IsSoundZone (Some ms)
 zone_table top ms q is =
-    let there = apex_good (value_at ms Apex) (is_there _ (quiet_zone missing top ms 0 q.missed is (lit< tt))) (quiet_zone wrong_kind top ms 0 q.kinds is (lit< tt)) (quiet_zone (λ v k. failing (is_bad_name k) (value_at v.members k)) top ms 0 q.well_named is (lit< tt)) in
+    let there = zone_name_good Apex refl (λ t. refl) (value_at ms Apex) (is_there _ (quiet_zone missing top ms 0 q.missed is (lit< tt))) (quiet_zone wrong_kind top ms 0 q.kinds is (lit< tt)) (quiet_zone (λ v k. failing (is_bad_name k) (value_at v.members k)) top ms 0 q.well_named is (lit< tt)) in
     record {
       whole = zone_lists top ms q is there;
-      apex = apex_good (value_at ms Apex) (is_there _ (quiet_zone missing top ms 0 q.missed is (lit< tt))) (quiet_zone wrong_kind top ms 0 q.kinds is (lit< tt)) (quiet_zone (λ v k. failing (is_bad_name k) (value_at v.members k)) top ms 0 q.well_named is (lit< tt));
-      mname = mname_good (value_at ms Mname) (is_there _ (quiet_zone missing top ms 1 q.missed is (lit< tt))) (quiet_zone wrong_kind top ms 1 q.kinds is (lit< tt)) (quiet_zone (λ v k. failing (is_bad_name k) (value_at v.members k)) top ms 1 q.well_named is (lit< tt));
-      rname = rname_good (value_at ms Rname) (is_there _ (quiet_zone missing top ms 2 q.missed is (lit< tt))) (quiet_zone wrong_kind top ms 2 q.kinds is (lit< tt)) (quiet_zone (λ v k. failing (is_bad_name k) (value_at v.members k)) top ms 2 q.well_named is (lit< tt));
-      serial = serial_fits (value_at ms Serial) (quiet_zone (λ v k. failing (is_out_of_range k) (value_at v.members k)) top ms 3 q.ranges is (lit< tt));
-      refresh = refresh_fits (value_at ms Refresh) (quiet_zone (λ v k. failing (is_out_of_range k) (value_at v.members k)) top ms 4 q.ranges is (lit< tt));
-      retry = retry_fits (value_at ms Retry) (quiet_zone (λ v k. failing (is_out_of_range k) (value_at v.members k)) top ms 5 q.ranges is (lit< tt));
-      expire = expire_fits (value_at ms Expire) (quiet_zone (λ v k. failing (is_out_of_range k) (value_at v.members k)) top ms 6 q.ranges is (lit< tt));
-      minimum = minimum_fits (value_at ms Minimum) (quiet_zone (λ v k. failing (is_out_of_range k) (value_at v.members k)) top ms 7 q.ranges is (lit< tt));
-      ttl = ttl_fits (value_at ms Ttl) (quiet_zone (λ v k. failing (is_out_of_range k) (value_at v.members k)) top ms 8 q.ranges is (lit< tt));
+      apex = there;
+      mname = zone_name_good Mname refl (λ t. refl) (value_at ms Mname) (is_there _ (quiet_zone missing top ms 1 q.missed is (lit< tt))) (quiet_zone wrong_kind top ms 1 q.kinds is (lit< tt)) (quiet_zone (λ v k. failing (is_bad_name k) (value_at v.members k)) top ms 1 q.well_named is (lit< tt));
+      rname = zone_name_good Rname refl (λ t. refl) (value_at ms Rname) (is_there _ (quiet_zone missing top ms 2 q.missed is (lit< tt))) (quiet_zone wrong_kind top ms 2 q.kinds is (lit< tt)) (quiet_zone (λ v k. failing (is_bad_name k) (value_at v.members k)) top ms 2 q.well_named is (lit< tt));
+      serial = number_fits Serial 0 (2 ^ 32) (lit< tt) (λ z. refl) (value_at ms Serial) (quiet_zone (λ v k. failing (is_out_of_range k) (value_at v.members k)) top ms 3 q.ranges is (lit< tt));
+      refresh = number_fits Refresh 0 (2 ^ 32) (lit< tt) (λ z. refl) (value_at ms Refresh) (quiet_zone (λ v k. failing (is_out_of_range k) (value_at v.members k)) top ms 4 q.ranges is (lit< tt));
+      retry = number_fits Retry 0 (2 ^ 32) (lit< tt) (λ z. refl) (value_at ms Retry) (quiet_zone (λ v k. failing (is_out_of_range k) (value_at v.members k)) top ms 5 q.ranges is (lit< tt));
+      expire = number_fits Expire 0 (2 ^ 32) (lit< tt) (λ z. refl) (value_at ms Expire) (quiet_zone (λ v k. failing (is_out_of_range k) (value_at v.members k)) top ms 6 q.ranges is (lit< tt));
+      minimum = number_fits Minimum 0 (2 ^ 31) (lit< tt) (λ z. refl) (value_at ms Minimum) (quiet_zone (λ v k. failing (is_out_of_range k) (value_at v.members k)) top ms 7 q.ranges is (lit< tt));
+      ttl = number_fits Ttl 0 (2 ^ 31) (lit< tt) (λ z. refl) (value_at ms Ttl) (quiet_zone (λ v k. failing (is_out_of_range k) (value_at v.members k)) top ms 8 q.ranges is (lit< tt));
     }
 
-zone_there : (top : Members) → IsQuiet top → (o : Option Data) → value_at top Zone ≡ o → is_some o ≡ true → wrong_in Zone o ≡ [] → IsSoundZone (table_in o)
-zone_there top q None is there kind = cc
-zone_there top q (Some (table ms)) is there kind = zone_table top ms q is
-zone_there top q (Some (string t)) is there kind = cc
-zone_there top q (Some (integer z)) is there kind = cc
-zone_there top q (Some (float x)) is there kind = cc
-zone_there top q (Some (boolean b)) is there kind = cc
-zone_there top q (Some (datetime t)) is there kind = cc
-zone_there top q (Some (array ds)) is there kind = cc
-
 zone_sound : (top : Members) → IsQuiet top → IsSoundZone (table_in (value_at top Zone))
-zone_sound top q = zone_there top q (value_at top Zone) refl (is_there _ (quiet_top missing top 0 q.missed (lit< tt))) (quiet_top wrong_kind top 0 q.kinds (lit< tt))
+zone_sound top q =
+    let (ms, is) = table_there Zone refl (value_at top Zone) (is_there _ (quiet_top missing top 0 q.missed (lit< tt))) (quiet_top wrong_kind top 0 q.kinds (lit< tt)) in
+    subst (λ (o : Option Data). IsSoundZone (table_in o)) (sym is) (zone_table top ms q is)
 
 pub sound : (top : Members) → faults_of top ≡ [] → IsSound (entries_of top)
 sound top h =
@@ -268,14 +213,14 @@ sound top h =
     record {
       few_nodes = not_over 8192 _ (quiet_top too_many top 1 q.many (lit< tt));
       few_groups = not_over 65536 _ (quiet_top too_many top 2 q.many (lit< tt));
-      capacities = λ i l. capacity_of top q i l _ refl;
-      parents = λ i l. parent_of_node top q i l _ refl;
-      inner = λ i l. inner_of_node top q i l _ refl;
-      shallow = λ i l. shallow_node top q i l _ refl;
-      node_names = node_names_sound top q;
-      group_names = group_names_sound top q;
-      hosts = λ i l. hosts_of_node top q i l _ refl;
-      pools_only = λ i l other. hosts_of_other top q i l _ refl other;
+      capacities = capacity_of top q;
+      parents = parent_of_node top q;
+      inner = inner_of_node top q;
+      shallow = shallow_node top q;
+      node_names = node_names top q;
+      group_names = group_names top q;
+      hosts = hosts_of_node top q;
+      pools_only = hosts_of_other top q;
       zone = zone_sound top q;
-      groups = λ g l. group_of_table top q g l _ refl (kinds_pass Group (value_at top Group) (quiet_top wrong_kind top 2 q.kinds (lit< tt)) g (boolean false) l);
+      groups = λ g l. let (ms, is) = group_table top q g l in subst (IsSoundGroup (items_at top Node)) (sym is) (table_group top q g l ms is);
     }

@@ -29,16 +29,6 @@ demand_low (Some (datetime t)) there kind range = cc
 demand_low (Some (array ds)) there kind range = cc
 demand_low (Some (table ms)) there kind range = cc
 
-pub demand_high : (o : Option Data) → failing (is_out_of_range Demand) o ≡ [] → natural_in o < 2 ^ 32
-demand_high None range = omega arith
-demand_high (Some (integer z)) range = let high : natural (integer z) ≤ 2 ^ 32 - 1 = within_high 1 (2 ^ 32 - 1) z (not_whole _ range) in omega arith
-demand_high (Some (string t)) range = omega arith
-demand_high (Some (float x)) range = omega arith
-demand_high (Some (boolean b)) range = omega arith
-demand_high (Some (datetime t)) range = omega arith
-demand_high (Some (array ds)) range = omega arith
-demand_high (Some (table ms)) range = omega arith
-
 -- no item fails a test
 pub items_pass : (test : Data → Bool) (i : ℕ) (ds : List Data) → items_from test i ds ≡ [] → (j : ℕ) (d : Data) → j < length ds → test (get_or ds j d) ≡ false
 items_pass test i [] h j d l = absurd (omega arith)

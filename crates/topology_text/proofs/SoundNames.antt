@@ -1,28 +1,24 @@
 -- A table without faults is sound: what the rules say of names.
-use Rattle.std.proofs.Common.{◌≡◌, ℕ, ◌+◌, ◌<◌, ◌≤◌, suc, zero, Bool, true, false, not, ◌==◌, cond, List, [], ◌∷◌, length, get_or, map, Option, None, Some, is_some, unwrap_or, refl, ap, sym, ◌∙◌, arith}
+use Rattle.std.proofs.Common.{◌≡◌, ℕ, ◌+◌, ◌<◌, ◌≤◌, suc, zero, Bool, true, false, not, ◌==◌, cond, List, [], ◌∷◌, length, get_or, map, Option, Some, is_some, unwrap_or, refl, ap, sym, ◌∙◌, arith}
 use Rattle.std.proofs.lemmas.Bool.Decides.{nat_tests}
 use Rattle.std.proofs.lemmas.List.{get_or-map, length-map}
 use Rattle.std.proofs.lemmas.Slice.Eq.{bytes_eq-Decides}
 use Rattle.std.specs.List.{position_from}
 use Rattle.std.proofs.lemmas.Bool.{not-false}
-use Rattle.toml.specs.Data.{Data, string, integer, float, boolean, datetime, array, table}
+use Rattle.toml.specs.Data.{Data, boolean}
 use Rattle.topology_text.specs.Names.{entry_at, is_called, is_other, is_taken, number_of, text_at, text_in}
 use Rattle.topology_text.specs.Texts.{is_name}
 use Rattle.topology_text.specs.Topology.{AreSoundNames, name_of}
 use Rattle.topology_text.specs.Values.{failing, is_bad_name, wrong_in}
 use Rattle.topology_text.specs.declared.schema.Key.TheVariants.{Name}
 use Rattle.topology_text.proofs.Quiet.{not_whole}
+use Rattle.topology_text.proofs.Sound.{text_there}
 
 -- a name that is there, of its kind and by its rule
 pub name_good : (o : Option Data) → is_some o ≡ true → wrong_in Name o ≡ [] → failing (is_bad_name Name) o ≡ [] → (t : List ℕ) × (text_in o ≡ Some t) × (is_name t ≡ true)
-name_good None there kind good = cc
-name_good (Some (string t)) there kind good = (t, refl, not-false (is_name t) (not_whole _ good))
-name_good (Some (integer z)) there kind good = cc
-name_good (Some (float x)) there kind good = cc
-name_good (Some (boolean b)) there kind good = cc
-name_good (Some (datetime t)) there kind good = cc
-name_good (Some (array ds)) there kind good = cc
-name_good (Some (table ms)) there kind good = cc
+name_good o there kind good =
+    let (t, is) = text_there Name refl o there kind in
+    (t, ap text_in is, not-false (is_name t) (not_whole _ (rw is at good)))
 
 -- the first place of what passes a test is no later than any such place
 position_before : {K : Type 0} (test : K → Bool) (n : ℕ) (xs : List K) (i : ℕ) (d : K) → i < length xs → test (get_or xs i d) ≡ true → (k : ℕ) × (position_from test n xs ≡ Some k) × (k ≤ n + i)
