@@ -14,7 +14,7 @@ fn push_number(numbers: &mut ArrayVec<u8, 4>, text: &[u8]) -> bool
     ensures fits { result ≡ true → length numbers.new.items ≤ 4 }
     ensures not { result ≡ false → (number_of 255 text.now ≡ None) ⊎ (length numbers.old.items ≡ 4) }
 {
-    match read_number(text, 255) {
+    match read_number(text, u32::from(u8::MAX)) {
         Some(number) => numbers.try_push(number as u8).is_ok(),
         None => false,
     }

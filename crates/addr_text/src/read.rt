@@ -110,6 +110,6 @@ pub fn read_listen(text: &[u8]) -> Option<Listen>
 {
     let (front, back) = split_last(text, b':');
     let addr = read_host(front)?;
-    let port = read_number(back, 65535)? as u16;
+    let port = read_number(back, u32::from(u16::MAX))? as u16;
     Some(Listen { addr, port })
 }

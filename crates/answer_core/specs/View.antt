@@ -1,4 +1,4 @@
--- What the code's types stand for, and what they keep.
+-- Inside this crate alone: what the code's types stand for, and what they keep.
 use Rattle.std.specs.Prelude.{ℕ, ◌≤◌, length}
 use Rattle.dns_wire.specs.View.{asked}
 use Rattle.answer_core.specs.declared.outcome.Outcome as code

@@ -7,6 +7,7 @@ ghost use Rattle.client_subnet.specs.View.{IsSubnet};
 ghost use Rattle.dns_wire.specs.Message as message;
 ghost use Rattle.dns_wire.specs.Room.{HasRoom};
 ghost use Rattle.dns_wire.specs.View.{extension};
+ghost use Rattle.name_text.specs.declared.name.TheConstants.{LONGEST_NAME};
 ghost use Rattle.topology_text.specs.Plan.{IsZone};
 ghost use Rattle.answer_core.specs.Columns as columns;
 ghost use Rattle.answer_core.specs.Sections as spec;
@@ -94,7 +95,7 @@ pub(crate) fn write_answers(out: &mut ReplyBuffer, zone: &Zone, outcome: &Outcom
 /// Writes the authority of a reply to a query for a name: the SOA record of a negative answer (RFC 2308 section 3).
 pub(crate) fn write_authority(out: &mut ReplyBuffer, zone: &Zone, name: &[u8], outcome: &Outcome)
     requires zone { IsZone zone.now }
-    requires name { length name.now ≤ 255 }
+    requires name { length name.now ≤ LONGEST_NAME }
     requires room { HasRoom (array_vec_len out.old) (length (flat_map spec.resource (spec.authority zone.now name.now (outcome_view outcome.now)))) }
     ensures { out.new.items ≡ out.old.items ++ flat_map spec.resource (spec.authority zone.now name.now (outcome_view outcome.now)) }
 {

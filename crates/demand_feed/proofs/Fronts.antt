@@ -25,23 +25,23 @@ take_more n xs ys = elim (cases_le (length xs) n) [
 ]
 
 -- what there is room for behind the front is the front of the longer line
-pub front_more : (line octets : List ℕ) → front line ++ take (8301 - length (front line)) octets ≡ front (line ++ octets)
-front_more line octets = unfold front in take_more 8301 line octets
+pub front_more : (line octets : List ℕ) → front line ++ take ((longest_line + 1) - length (front line)) octets ≡ front (line ++ octets)
+front_more line octets = unfold front in take_more (longest_line + 1) line octets
 
 line_is : (line : List ℕ) → line_of line ≡ cond (not (nat_le (length line) longest_line)) (Err TooLong) (cond (not (list_all is_visible line)) (Err BadByte) (by_words (words_of line)))
 line_is line = unfold line_of in refl
 
 -- a line that is too long
-too_long : (line : List ℕ) → 8300 < length line → line_of line ≡ Err TooLong
+too_long : (line : List ℕ) → longest_line < length line → line_of line ≡ Err TooLong
 too_long line h =
     let e : nat_le (length line) longest_line ≡ false = grind (arith, nat_tests) in
     line_is line ∙ ap (λ b. cond (not b) (Err TooLong) (cond (not (list_all is_visible line)) (Err BadByte) (by_words (words_of line)))) e
 
 -- the front says what the line says
 pub front_says : (line : List ℕ) → line_of (front line) ≡ line_of line
-front_says line = elim (cases_le (length line) 8301) [
-  | inl h ↦ ap line_of (unfold front in take_all 8301 line h)
-  | inr h ↦ too_long (front line) (unfold front in omega (arith, length-take-le 8301 line (omega arith))) ∙ sym (too_long line (omega arith))
+front_says line = elim (cases_le (length line) (longest_line + 1)) [
+  | inl h ↦ ap line_of (unfold front in take_all (longest_line + 1) line h)
+  | inr h ↦ too_long (front line) (unfold front in omega (arith, length-take-le (longest_line + 1) line (omega arith))) ∙ sym (too_long line (omega arith))
 ]
 
 pub front_none : front [] ≡ []

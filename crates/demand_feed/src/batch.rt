@@ -23,12 +23,13 @@ pub struct Batch {
 impl Model for Batch {
     ghost use Rattle.std.specs.Prelude.{◌≤◌, List, vec_len, vec_capacity};
     ghost use Rattle.map_model.specs.declared.change.Change.{Change};
+    ghost use Rattle.demand_feed.specs.Limits.{most_changes};
 
     ghost Value = { List Change };
 
     ghost view = { λ b. b.changes.items };
 
-    ghost invariant = { λ b. (4096 ≤ vec_capacity b.changes) × (vec_len b.changes ≤ 4096) };
+    ghost invariant = { λ b. (most_changes ≤ vec_capacity b.changes) × (vec_len b.changes ≤ most_changes) };
 }
 
 /// Another demand of a group, by its name.

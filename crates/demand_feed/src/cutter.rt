@@ -1,7 +1,8 @@
 //! A feed cut into lines, however it comes in pieces.
-ghost use Rattle.std.specs.Prelude.{◌≡◌, ◌<◌, ◌≤◌, ℕ, List, [], ◌∷◌, ◌++◌, ◌-◌, take, length, IfOk, IfSome, IfNone, MatchOption};
+ghost use Rattle.std.specs.Prelude.{◌≡◌, ◌<◌, ◌≤◌, ℕ, List, [], ◌∷◌, ◌++◌, ◌+◌, ◌-◌, take, length, IfOk, IfSome, IfNone, MatchOption};
 ghost use Rattle.text_parts.specs.Parts.{parts};
 ghost use Rattle.demand_feed.specs.Cutter.{GoesOn};
+ghost use Rattle.demand_feed.specs.Limits.{longest_line};
 
 use crate::limits::LONGEST_LINE;
 use no_memory::NoMemory;
@@ -20,13 +21,14 @@ pub struct Cutter {
 }
 
 impl Model for Cutter {
-    ghost use Rattle.std.specs.Prelude.{◌≤◌, List, ℕ, vec_len, vec_capacity};
+    ghost use Rattle.std.specs.Prelude.{◌≤◌, ◌+◌, List, ℕ, vec_len, vec_capacity};
+    ghost use Rattle.demand_feed.specs.Limits.{longest_line};
 
     ghost Value = { List ℕ };
 
     ghost view = { λ c. c.line.items };
 
-    ghost invariant = { λ c. (8301 ≤ vec_capacity c.line) × (vec_len c.line ≤ 8301) };
+    ghost invariant = { λ c. (longest_line + 1 ≤ vec_capacity c.line) × (vec_len c.line ≤ longest_line + 1) };
 }
 
 impl Cutter {
@@ -55,7 +57,7 @@ impl Cutter {
 
     /// The line goes on.
     fn push(&mut self, octets: &[u8])
-        ensures { self.new ≡ self.old ++ take (8301 - length self.old) octets.now }
+        ensures { self.new ≡ self.old ++ take (longest_line + 1 - length self.old) octets.now }
     {
         let room = octets.len().min(KEPT - self.line.len());
         let _fits = self.line.extend_from_slice(&octets[..room]);

@@ -120,10 +120,11 @@ pub struct Intake {
     clerk: Clerk,
     cutter: Cutter,
     buffer: Vec<u8>,
-    ghost fits: { vec_len buffer ≡ 32768 },
+    ghost fits: { vec_len buffer ≡ read_size },
 }
 
 ghost use Rattle.std.specs.Prelude.{vec_len};
+ghost use Rattle.demand_feed.specs.Limits.{read_size};
 
 impl Intake {
     /// One that was not used.

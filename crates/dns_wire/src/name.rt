@@ -4,7 +4,7 @@ ghost use Rattle.std.specs.Option.{option_map};
 ghost use Rattle.name_text.specs.Wire.{IsName};
 ghost use Rattle.dns_wire.specs.Wire.{name_len, name_in};
 
-use crate::numbers::LONGEST_NAME;
+use name_text::LONGEST_NAME;
 
 /// How many octets the name takes at the front.
 fn name_length(octets: &[u8], pointers: bool) -> Option<usize>

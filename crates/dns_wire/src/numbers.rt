@@ -6,9 +6,6 @@ pub const HEADER_SIZE: usize = 12;
 /// How many octets a datagram may have that is replied to.
 pub const LONGEST_DATAGRAM: usize = 4_096;
 
-/// How many octets a name may have on the wire (RFC 1035 section 3.1).
-pub const LONGEST_NAME: usize = 255;
-
 /// How many octets a reply may have (RFC 1035 section 4.2.1).
 pub const REPLY_SIZE: usize = 512;
 

@@ -1,14 +1,13 @@
 -- Octets that are the spelling of labels.
-use Rattle.std.proofs.Common.{◌≡◌, ℕ, ◌-◌, ◌<◌, ◌≤◌, Bool, true, false, cond, not, nat_le, nat_lt, ◌==◌, List, [], ◌∷◌, ◌++◌, length, take, Option, None, Some, Ok, Err, refl, ap, sym, ◌∙◌, subst, arith, length-append, append_assoc}
+use Rattle.std.proofs.Common.{◌≡◌, ℕ, ◌-◌, ◌<◌, ◌≤◌, Bool, true, false, cond, not, nat_le, nat_lt, ◌==◌, List, [], ◌∷◌, length, Option, None, Some, Ok, Err, refl, ap, sym, ◌∙◌, subst, arith}
 use Rattle.std.proofs.lemmas.Bool.Decides.{nat_tests}
 use Rattle.std.specs.List.{list_all, onto_first, slice_split}
 use Rattle.std.specs.Option.{ok_or, option_or}
 use Rattle.std.proofs.lemmas.Bool.{false_from_ne_true, and_parts}
-use Rattle.std.proofs.Math.Seq.{take-append_seam}
 use Rattle.name_text.specs.declared.fault.NameFault.{NameFault}
 use Rattle.name_text.specs.declared.fault.NameFault.TheVariants.{EmptyLabel, BadByte, LongLabel, LongName}
 use Rattle.name_text.specs.Wire.{wire, AreLabels, IsName}
-use Rattle.name_text.specs.Names.{first_fault, is_label_byte, joined_to, label_fault, label_name_of, labels_part, named, short_wire}
+use Rattle.name_text.specs.Names.{first_fault, is_label_byte, label_fault, label_name_of, named, short_wire}
 
 -- what the three tests of a label say where it has no fault
 passes : (empty good long : Bool) → (cond empty (Some EmptyLabel) (cond (not good) (Some BadByte) (cond long (Some LongLabel) None))) ≡ None → (empty ≡ false) × (good ≡ true) × (long ≡ false)
@@ -75,51 +74,10 @@ alone (b ∷ bs) good =
     let (first, others) = and_parts (is_label_byte b) (list_all is_label_byte bs) good in
     ap (λ (t : Bool). cond t ([] ∷ slice_split (λ b. b == 46) bs) (onto_first b (slice_split (λ b. b == 46) bs))) (no_dot b first) ∙ ap (onto_first b) (alone bs others)
 
--- the labels' octets, without the 0 at the end
-spelled : List (List ℕ) → List ℕ
-spelled [] = []
-spelled (label ∷ labels) = length label ∷ (label ++ spelled labels)
-
-wire-spelled : (labels : List (List ℕ)) → wire labels ≡ spelled labels ++ 0 ∷ []
-unfolding spelled
-wire-spelled [] = refl
-wire-spelled (label ∷ labels) = ap (λ (l : List ℕ). length label ∷ (label ++ l)) (wire-spelled labels) ∙ ap (λ (l : List ℕ). length label ∷ l) (sym (append_assoc label (spelled labels) (0 ∷ [])))
-
-wire-append : (labels more : List (List ℕ)) → wire (labels ++ more) ≡ spelled labels ++ wire more
-unfolding spelled
-wire-append [] more = refl
-wire-append (label ∷ labels) more = ap (λ (l : List ℕ). length label ∷ (label ++ l)) (wire-append labels more) ∙ ap (λ (l : List ℕ). length label ∷ l) (sym (append_assoc label (spelled labels) (wire more)))
-
-labels-append : (labels more : List (List ℕ)) → AreLabels labels → AreLabels more → AreLabels (labels ++ more)
-labels-append [] more some others = others
-labels-append (label ∷ labels) more some others = (some.0, some.1, labels-append labels more some.2 others)
-
-front_of : (xs : List ℕ) (b : ℕ) → labels_part (xs ++ b ∷ []) ≡ xs
-front_of [] b = refl
-front_of (x ∷ xs) b =
-    let size : length (x ∷ xs ++ b ∷ []) - 1 ≡ length (x ∷ xs) = omega (arith, length-append (x ∷ xs) (b ∷ [])) in
-    ap (λ (n : ℕ). take n (x ∷ xs ++ b ∷ [])) size ∙ ap (λ (l : List ℕ). x ∷ l) (take-append_seam xs (b ∷ []))
-
 -- the spelling of labels has an octet
 pub some_wire : (labels : List (List ℕ)) → 0 < length (wire labels)
 some_wire [] = omega arith
 some_wire (label ∷ labels) = omega arith
-
--- a name has an octet
-pub some_octet : (octets : List ℕ) → IsName octets → 0 < length octets
-some_octet octets name = let e = ap length (name.spelled ∙ wire-spelled name.labels) in omega (arith, e, length-append (spelled name.labels) (0 ∷ []))
-
--- labels of a name in front of another name
-pub is_joined : (name apex octets : List ℕ) → IsName name → IsName apex → Some octets ≡ joined_to apex name → IsName octets
-unfolding joined_to
-is_joined name apex octets first second is =
-    let (whole, short) = short_is (nat_le (length (labels_part name ++ apex)) 255) octets (labels_part name ++ apex) refl is in
-    let front : labels_part name ≡ spelled first.labels = ap labels_part (first.spelled ∙ wire-spelled first.labels) ∙ front_of (spelled first.labels) 0 in record {
-      labels = first.labels ++ second.labels;
-      sizes = labels-append first.labels second.labels first.sizes second.sizes;
-      spelled = whole ∙ ap (λ (l : List ℕ). l ++ apex) front ∙ ap (λ (l : List ℕ). spelled first.labels ++ l) second.spelled ∙ sym (wire-append first.labels second.labels);
-      fits = omega (arith, ap length whole);
-    }
 
 same_parts : (text : List ℕ) → label_fault text ≡ None → short_wire (slice_split (λ b. b == 46) text) ≡ short_wire (text ∷ [])
 same_parts text none = ap short_wire (alone text (sound_label text none).good)

@@ -1,5 +1,5 @@
 -- DNS name texts, and comparing names on the wire.
-use Rattle.std.specs.Prelude.{ℕ, zero, suc, ◌-◌, List, [], ◌∷◌, ◌++◌, length, take, Bool, ◌&&◌, ◌||◌, ◌==◌, nat_le, nat_lt, not, if◌then◌else◌, Option, None, Some, Result, Err, nat_eq}
+use Rattle.std.specs.Prelude.{ℕ, zero, suc, ◌-◌, List, [], ◌∷◌, length, take, Bool, ◌&&◌, ◌||◌, ◌==◌, nat_le, nat_lt, not, if◌then◌else◌, Option, None, Some, Result, Err, nat_eq}
 use Rattle.std.specs.List.{ends_with, list_all, list_any, slice_split}
 use Rattle.std.specs.Option.{ok_or, option_or}
 use Rattle.std.specs.Str.{str_eq_ignore_ascii_case}
@@ -57,10 +57,6 @@ label_name_of text = named (label_fault text) (text ∷ [])
 -- all octets of a name but its last, the 0
 abbrev pub labels_part : List ℕ → List ℕ
 labels_part name = take (length name - 1) name
-
--- the name whose labels are those of a name and then those of an apex, where it fits 255 octets
-unfoldable pub joined_to : List ℕ → List ℕ → Option (List ℕ)
-joined_to apex name = if nat_le (length (labels_part name ++ apex)) 255 then Some (labels_part name ++ apex) else None
 
 -- the same name, whatever the case of its letters (RFC 4343); a length octet is below 64, so it is no letter
 abbrev pub is_same : List ℕ → List ℕ → Bool

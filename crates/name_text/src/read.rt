@@ -2,9 +2,10 @@
 ghost use Rattle.std.specs.Prelude.{◌≡◌, ◌<◌, ◌≤◌, ◌+◌, ◌++◌, ◌∷◌, ◌==◌, [], None, Some, true, false, IfSome, length, take, drop, nat_le, option_map};
 ghost use Rattle.std.specs.List.{list_all, position_from, slice_split};
 ghost use Rattle.name_text.specs.Wire.{wire};
+ghost use Rattle.name_text.specs.declared.name.TheConstants.{LONGEST_NAME};
 ghost use Rattle.name_text.specs.Names.{first_fault, is_label_byte, label_fault, label_name_of, name_of, short_wire, undotted};
 
-use crate::{Name, NameFault};
+use crate::{LONGEST_NAME, Name, NameFault};
 use arrayvec::ArrayVec;
 use text_parts::{after, before, position_of};
 
@@ -57,11 +58,11 @@ fn first_fault(text: &[u8]) -> Option<NameFault>
 }
 
 /// Adds a label and its length, where there is room.
-fn push_label(octets: &mut ArrayVec<u8, 255>, label: &[u8]) -> bool
+fn push_label(octets: &mut ArrayVec<u8, LONGEST_NAME>, label: &[u8]) -> bool
     ensures pushed { result ≡ true → octets.new.items ≡ octets.old.items ++ length label.now ∷ label.now }
-    ensures full { result ≡ false → 255 < length octets.old.items + 1 + length label.now }
+    ensures full { result ≡ false → LONGEST_NAME < length octets.old.items + 1 + length label.now }
 {
-    if octets.len() + 1 + label.len() > 255 {
+    if octets.len() + 1 + label.len() > LONGEST_NAME {
         return false;
     }
     octets.push(label.len() as u8);
@@ -69,7 +70,7 @@ fn push_label(octets: &mut ArrayVec<u8, 255>, label: &[u8]) -> bool
 }
 
 /// The name on the wire whose labels the dots of a text part, where it fits 255 octets.
-fn wire_of(text: &[u8]) -> Option<ArrayVec<u8, 255>>
+fn wire_of(text: &[u8]) -> Option<ArrayVec<u8, LONGEST_NAME>>
     ensures { option_map (λ v. v.items) result ≡ short_wire (slice_split (λ b. b == 46) text.now) }
 {
     let mut octets = ArrayVec::new();

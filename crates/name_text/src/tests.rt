@@ -123,20 +123,6 @@ fn reads_labels(rt: HostRuntime) {
     }
 }
 
-#[test]
-fn joins_names(rt: HostRuntime) -> Result<(), Fail> {
-    let apex = read_name(b"CDN.example")?;
-    let service = read_label(b"www")?.followed_by(&apex).ok_or("too long")?;
-    assert_eq!(rt; service.wire(), b"\x03www\x03CDN\x07example\0".as_slice());
-    assert!(rt; under(service.wire(), apex.wire()));
-    let whole = read_name(labels(&[63, 63, 63], b"").as_slice())?;
-    let rest = read_name(labels(&[61], b"").as_slice())?;
-    let more = read_name(labels(&[62], b"").as_slice())?;
-    assert!(rt; rest.followed_by(&whole).is_some());
-    assert!(rt; more.followed_by(&whole).is_none());
-    Ok(())
-}
-
 /// The wire of a text that is a name.
 fn name(text: &str) -> Result<Name, NameFault> {
     read_name(text.as_bytes())

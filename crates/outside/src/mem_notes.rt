@@ -31,13 +31,14 @@ pub struct MemNotes<T> {
 impl<T> Model for MemNotes<T> {
     ghost use Rattle.std.specs.LinkedList.{linked_list_len};
     ghost use Rattle.std.specs.Prelude.{◌≤◌, ◌+◌, vec_len, vec_capacity};
+    ghost use Rattle.outside.specs.Limits.{most_notes};
     ghost use Rattle.outside.specs.MemNotes.{NotesInMemory};
 
     ghost Value = { NotesInMemory T };
 
     ghost view = { λ s. record { coming = s.coming; places = s.places.items; nones = s.nones } };
 
-    ghost invariant = { λ s. (linked_list_len s.coming ≤ 65536) × (vec_len s.places + linked_list_len s.coming ≤ vec_capacity s.places) };
+    ghost invariant = { λ s. (linked_list_len s.coming ≤ most_notes) × (vec_len s.places + linked_list_len s.coming ≤ vec_capacity s.places) };
 }
 
 impl<T: Drop> MemNotes<T> {

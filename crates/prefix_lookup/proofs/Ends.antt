@@ -56,22 +56,22 @@ started family table blocks r opened starts groups last next none = record {
     empty : {X : Type 0} {xs : List X} → xs ≡ [] → length xs ≡ 0
     empty e = ap length e
 
+-- the block of an entry is at some place
+block_there : (family : Family) (table : List Entry) (blocks : List Block) (e : Entry) (b : Block) → AreBlocks family table blocks → Contains table e → e ≡ entry_of family b → (m : ℕ) × (m < length blocks) × (block_at blocks m ≡ b)
+block_there family table blocks e b are in_table same =
+    let among = are.all b (subst (Contains table) same in_table) in
+    (among.0, among.1, get_or_default blocks among.0 _ b among.1 ∙ among.2)
+
 -- the default of a family is a block of all its numbers
 pub default_block : (family : Family) (table : List Entry) (blocks : List Block) → IsTable table → AreBlocks family table blocks → (m : ℕ) × (m < length blocks) × ((block_at blocks m).first ≡ 0) × (end_of family (block_at blocks m) ≡ 2 ^ bits_in family)
 default_block family.V4 table blocks t are =
     let r = default_entry table default_v4 t.all_v4.0 t.all_v4.1 t.all_v4.2 in
-    let b : Block = block 0 0 r.0.1 in
-    let same : r.0 ≡ entry_of family.V4 b = ap (λ (p : Prefix). (p, r.0.1)) r.2 in
-    let among = are.all b (subst (Contains table) same (in_contains table r.0 r.1)) in
-    let at : block_at blocks among.0 ≡ b = get_or_default blocks among.0 _ b among.1 ∙ among.2 in
-    (among.0, among.1, ap (λ (x : Block). x.first) at, ap (end_of family.V4) at)
+    let at = block_there family.V4 table blocks r.0 (block 0 0 r.0.1) are (in_contains table r.0 r.1) (ap (λ (p : Prefix). (p, r.0.1)) r.2) in
+    (at.0, at.1, ap (λ (x : Block). x.first) at.2, ap (end_of family.V4) at.2)
 default_block family.V6 table blocks t are =
     let r = default_entry table default_v6 t.all_v6.0 t.all_v6.1 t.all_v6.2 in
-    let b : Block = block 0 0 r.0.1 in
-    let same : r.0 ≡ entry_of family.V6 b = ap (λ (p : Prefix). (p, r.0.1)) r.2 in
-    let among = are.all b (subst (Contains table) same (in_contains table r.0 r.1)) in
-    let at : block_at blocks among.0 ≡ b = get_or_default blocks among.0 _ b among.1 ∙ among.2 in
-    (among.0, among.1, ap (λ (x : Block). x.first) at, ap (end_of family.V6) at)
+    let at = block_there family.V6 table blocks r.0 (block 0 0 r.0.1) are (in_contains table r.0 r.1) (ap (λ (p : Prefix). (p, r.0.1)) r.2) in
+    (at.0, at.1, ap (λ (x : Block). x.first) at.2, ap (end_of family.V6) at.2)
 
 -- one block has ended: its last range is there
 pub closed : (family : Family) (table : List Entry) (blocks rest : List Block) (i limit : ℕ) (r s : Ranges) (b : Block) → IsTable table → AreBlocks family table blocks → i ≤ length blocks → Swept family table blocks i r (rest ++ b ∷ []) → AllAhead blocks i limit → end_of family b ≤ limit → stop_of s ≡ max (stop_of r) (end_of family b)

@@ -15,30 +15,28 @@ no_bit a b h = sym (xor_zero_r a) ∙ ap (bit_xor a) (sym (xor_self b)) ∙ sym 
 some_bit : (a b : ℕ) → (a ≡ b → ⊥) → 0 < bit_xor a b
 some_bit a b apart = elim (cases_lt 0 (bit_xor a b)) [ inl some ↦ some | inr none ↦ absurd (apart (no_bit a b (omega arith))) ]
 
+-- the highest bit in which numbers of so many bits differ
+top_bit : (bits a b : ℕ) → bits ≤ 128 → a < 2 ^ bits → b < 2 ^ bits → (a ≡ b → ⊥) → (j : ℕ) × (count_leading_zeros 128 (bit_xor a b) + suc j ≡ 128) × (2 ^ j ≤ bit_xor a b) × (bit_xor a b < 2 ^ suc j) × (j < bits)
+top_bit bits a b wide fa fb apart =
+    let small : bit_xor a b < 2 ^ bits = xor_lt bits a b fa fb in
+    let fits : bit_xor a b < 2 ^ 128 = omega (arith, pow_mono wide) in
+    let top = leading_top 128 (bit_xor a b) (some_bit a b apart) fits in
+    let high : 2 ^ top.0 ≤ bit_xor a b = top.2 in
+    let below : top.0 < bits = elim (cases_lt top.0 bits) [ inl lt ↦ lt | inr ge ↦ absurd (omega (arith, pow_mono ge)) ] in
+    (top.0, top.1, high, top.3, below)
+
 -- they have all bits in common that numbers of so many bits do not have
 pub zeros : (bits a b : ℕ) → bits ≤ 128 → a < 2 ^ bits → b < 2 ^ bits → (a ≡ b → ⊥) → 128 - bits ≤ count_leading_zeros 128 (bit_xor a b)
-zeros bits a b wide fa fb apart =
-    let x : ℕ = bit_xor a b in
-    let small : x < 2 ^ bits = xor_lt bits a b fa fb in
-    let fits : x < 2 ^ 128 = omega (arith, pow_mono wide) in
-    let top = leading_top 128 x (some_bit a b apart) fits in
-    let j : ℕ = top.0 in
-    let sum : count_leading_zeros 128 x + suc j ≡ 128 = top.1 in
-    let high : 2 ^ j ≤ x = top.2 in
-    let below : j < bits = elim (cases_lt j bits) [ inl lt ↦ lt | inr ge ↦ absurd (omega (arith, pow_mono ge)) ] in
-    omega arith
+zeros bits a b wide fa fb apart = let top = top_bit bits a b wide fa fb apart in omega (arith, top.1, top.4)
 
--- the highest bit in which they differ
+-- the highest bit in which they differ tells them apart
 pub parts : (bits a b r : ℕ) → bits ≤ 128 → a < 2 ^ bits → b < 2 ^ bits → (a ≡ b → ⊥) → r + (128 - bits) ≡ count_leading_zeros 128 (bit_xor a b) + 1 → PartsAt bits a b r
 parts bits a b r wide fa fb apart is =
-    let x : ℕ = bit_xor a b in
-    let small : x < 2 ^ bits = xor_lt bits a b fa fb in
-    let fits : x < 2 ^ 128 = omega (arith, pow_mono wide) in
-    let top = leading_top 128 x (some_bit a b apart) fits in
+    let top = top_bit bits a b wide fa fb apart in
     let j : ℕ = top.0 in
-    let sum : count_leading_zeros 128 x + suc j ≡ 128 = top.1 in
-    let high : 2 ^ j ≤ x = top.2 in
-    let below : j < bits = elim (cases_lt j bits) [ inl lt ↦ lt | inr ge ↦ absurd (omega (arith, pow_mono ge)) ] in
+    let sum : count_leading_zeros 128 (bit_xor a b) + suc j ≡ 128 = top.1 in
+    let high : 2 ^ j ≤ bit_xor a b = top.2 in
+    let below : j < bits = top.4 in
     let rest : bits - r ≡ j = omega arith in
     let more : bits - (r - 1) ≡ suc j = omega arith in
     record {

@@ -139,30 +139,26 @@ module _ {X : Type 0} (key : X → ℕ) where
   pub behind_part : (g : ℕ) (xs ys : List X) → Rising key xs → ys ≡ from g xs → drop (prefix_len (λ x. key x == g) ys) ys ≡ from (suc g) xs
   behind_part g xs ys rising is = ap₂ (λ n zs. drop n zs) (count g xs ys rising is) (is ∙ one_group g xs rising) ∙ drop-append_seam (of g xs) (from (suc g) xs)
 
-same_line : (g : ℕ) (b : Bool) (l : MapLine) (ls : List MapLine) → (b ≡ true → l.group.0 ≡ g)
-    → map (λ (a : ℕ × ℕ). record { group = record { 0 = g }; place = a.0; amount = a.1 }) (map (λ (l : MapLine). (l.place, l.amount)) ls) ≡ ls
-    → map (λ (a : ℕ × ℕ). record { group = record { 0 = g }; place = a.0; amount = a.1 }) (map (λ (l : MapLine). (l.place, l.amount)) (cond b (l ∷ ls) ls)) ≡ cond b (l ∷ ls) ls
-same_line g true l ls is rest = ap₂ (λ x xs. x ∷ xs) (ap (λ (n : ℕ). record { group = record { 0 = n }; place = l.place; amount = l.amount }) (sym (is refl))) rest
-same_line g false l ls is rest = rest
+  own_one : {Y : Type 0} (pair : X → Y) (make : ℕ → Y → X) → ((x : X) → make (key x) (pair x) ≡ x) → (g : ℕ) (b : Bool) (x : X) (xs : List X) → (b ≡ true → key x ≡ g)
+      → map (make g) (map pair xs) ≡ xs → map (make g) (map pair (cond b (x ∷ xs) xs)) ≡ cond b (x ∷ xs) xs
+  own_one pair make back g true x xs is rest = ap₂ (λ y ys. y ∷ ys) (ap (λ (n : ℕ). make n (pair x)) (sym (is refl)) ∙ back x) rest
+  own_one pair make back g false x xs is rest = rest
+
+  -- what is taken without its number of a group, and given that number again, is what a list has of the group
+  own : {Y : Type 0} (pair : X → Y) (make : ℕ → Y → X) → ((x : X) → make (key x) (pair x) ≡ x) → (xs : List X) (g : ℕ) → map (make g) (map pair (filter (λ x. key x == g) xs)) ≡ filter (λ x. key x == g) xs
+  own pair make back [] g = refl
+  own pair make back (x ∷ xs) g = own_one pair make back g (key x == g) x (filter (λ x. key x == g) xs) (λ e. eqb-true (key x) g e) (own pair make back xs g)
 
 pub own_lines : (lines : List MapLine) (g : ℕ) → map (λ (a : ℕ × ℕ). record { group = record { 0 = g }; place = a.0; amount = a.1 }) (map (λ (l : MapLine). (l.place, l.amount)) (filter (λ (l : MapLine). l.group.0 == g) lines)) ≡ filter (λ (l : MapLine). l.group.0 == g) lines
-own_lines [] g = refl
-own_lines (l ∷ ls) g = same_line g (l.group.0 == g) l (filter (λ (l : MapLine). l.group.0 == g) ls) (λ e. eqb-true l.group.0 g e) (own_lines ls g)
+own_lines lines = own (λ (l : MapLine). l.group.0) (λ (l : MapLine). (l.place, l.amount)) (λ g (a : ℕ × ℕ). record { group = record { 0 = g }; place = a.0; amount = a.1 }) (λ l. refl) lines
 
 -- the lines of a map that rise by group are those of its rows
 pub lines_together : (m : Market) (lines : List MapLine) (names : List NameLine) → Rising (λ (l : MapLine). l.group.0) lines → AllBelow (λ (l : MapLine). l.group.0) (length m.groups) lines → in_rows lines_at 0 (rows_of m lines names) ≡ lines
 unfolding lines_at amounts_in
 lines_together m lines names rising below = all_together (λ (l : MapLine). l.group.0) lines_at (row_of m lines names) lines (own_lines lines) rising (length m.groups) below
 
-same_name : (g : ℕ) (b : Bool) (l : NameLine) (ls : List NameLine) → (b ≡ true → l.group.0 ≡ g)
-    → map (λ (a : ℕ × NodeId). record { group = record { 0 = g }; place = a.0; node = a.1 }) (map (λ (l : NameLine). (l.place, l.node)) ls) ≡ ls
-    → map (λ (a : ℕ × NodeId). record { group = record { 0 = g }; place = a.0; node = a.1 }) (map (λ (l : NameLine). (l.place, l.node)) (cond b (l ∷ ls) ls)) ≡ cond b (l ∷ ls) ls
-same_name g true l ls is rest = ap₂ (λ x xs. x ∷ xs) (ap (λ (n : ℕ). record { group = record { 0 = n }; place = l.place; node = l.node }) (sym (is refl))) rest
-same_name g false l ls is rest = rest
-
 pub own_names : (names : List NameLine) (g : ℕ) → map (λ (a : ℕ × NodeId). record { group = record { 0 = g }; place = a.0; node = a.1 }) (map (λ (l : NameLine). (l.place, l.node)) (filter (λ (l : NameLine). l.group.0 == g) names)) ≡ filter (λ (l : NameLine). l.group.0 == g) names
-own_names [] g = refl
-own_names (l ∷ ls) g = same_name g (l.group.0 == g) l (filter (λ (l : NameLine). l.group.0 == g) ls) (λ e. eqb-true l.group.0 g e) (own_names ls g)
+own_names names = own (λ (l : NameLine). l.group.0) (λ (l : NameLine). (l.place, l.node)) (λ g (a : ℕ × NodeId). record { group = record { 0 = g }; place = a.0; node = a.1 }) (λ l. refl) names
 
 -- the names of a map that rise by group are those of its rows
 pub names_together : (m : Market) (lines : List MapLine) (names : List NameLine) → Rising (λ (l : NameLine). l.group.0) names → AllBelow (λ (l : NameLine). l.group.0) (length m.groups) names → in_rows names_at 0 (rows_of m lines names) ≡ names

@@ -22,6 +22,7 @@ use Rattle.published_map.specs.Between.{IsBetween}
 use Rattle.published_map.proofs.Changes.{over, row_put, node_put}
 use Rattle.published_map.proofs.Cut.{lines_together, names_together}
 use Rattle.published_map.proofs.Ranks.{below, lines_rise, names_rise, rising}
+use Rattle.published_map.proofs.Rows.{all_with}
 use Rattle.published_map.specs.Gathered.{IsGathered, NodesChanged, RowsChanged, set_all}
 use Rattle.published_map.proofs.Gathered.{all_new, gathered}
 use Rattle.published_map.proofs.Groups.{IsOwn, amounts_are, names_are, same_lines, same_names}
@@ -30,24 +31,12 @@ use Rattle.published_map.proofs.Groups.{IsOwn, amounts_are, names_are, same_line
 demands_are : (gs hs : List Group) (rows : List GroupRow) (d : Group) (e : GroupRow) → length hs ≡ length gs → length rows ≡ length gs
     → ((i : ℕ) → i < length gs → (get_or hs i d).choices ≡ (get_or gs i d).choices) → ((i : ℕ) → i < length gs → (get_or rows i e).demand ≡ (get_or hs i d).demand) → with_demands gs rows ≡ hs
 unfolding with_demands
-demands_are [] [] rows d e many rows_many lists demands = refl
-demands_are [] (h ∷ hs) rows d e many rows_many lists demands = absurd (omega arith)
-demands_are (g ∷ gs) [] rows d e many rows_many lists demands = absurd (omega arith)
-demands_are (g ∷ gs) (h ∷ hs) [] d e many rows_many lists demands = absurd (omega arith)
-demands_are (g ∷ gs) (h ∷ hs) (r ∷ rs) d e many rows_many lists demands =
-    let here : record g { demand = r.demand } ≡ h = rw (demands 0 (omega arith), ← lists 0 (omega arith)) refl in
-    rw (here, demands_are gs hs rs d e (omega arith) (omega arith) (λ i l. lists (suc i) (omega arith)) (λ i l. demands (suc i) (omega arith))) refl
+demands_are gs hs rows d e many rows_many lists demands = all_with (λ (g : Group) (r : GroupRow). record g { demand = r.demand }) gs hs rows d e many rows_many (λ i l. rw (demands i l, ← lists i l) refl)
 
 capacities_are : (ns ms : List Node) (caps : List ℕ) (d : Node) → length ms ≡ length ns → length caps ≡ length ns
     → ((i : ℕ) → i < length ns → (get_or ms i d).parent ≡ (get_or ns i d).parent) → ((i : ℕ) → i < length ns → (get_or ms i d).is_pool ≡ (get_or ns i d).is_pool) → ((i : ℕ) → i < length ns → get_or caps i 0 ≡ (get_or ms i d).capacity) → with_capacities ns caps ≡ ms
 unfolding with_capacities
-capacities_are [] [] caps d many caps_many parents pools caps_are = refl
-capacities_are [] (m ∷ ms) caps d many caps_many parents pools caps_are = absurd (omega arith)
-capacities_are (n ∷ ns) [] caps d many caps_many parents pools caps_are = absurd (omega arith)
-capacities_are (n ∷ ns) (m ∷ ms) [] d many caps_many parents pools caps_are = absurd (omega arith)
-capacities_are (n ∷ ns) (m ∷ ms) (c ∷ cs) d many caps_many parents pools caps_are =
-    let here : record n { capacity = c } ≡ m = rw (caps_are 0 (omega arith), ← parents 0 (omega arith), ← pools 0 (omega arith)) refl in
-    rw (here, capacities_are ns ms cs d (omega arith) (omega arith) (λ i l. parents (suc i) (omega arith)) (λ i l. pools (suc i) (omega arith)) (λ i l. caps_are (suc i) (omega arith))) refl
+capacities_are ns ms caps d many caps_many parents pools caps_are = all_with (λ (n : Node) (c : ℕ). record n { capacity = c }) ns ms caps d 0 many caps_many (λ i l. rw (caps_are i l, ← parents i l, ← pools i l) refl)
 
 -- an instance of one shape with another, a map and their rows are put together again over the other
 pub put_together : (s : ℕ) (plan : Plan) (m n : Market) (lines : List MapLine) (names : List NameLine) → IsMarket n → IsMapForm n lines names → IsSameShape m n

@@ -1,5 +1,5 @@
 -- Rows of which one is replaced.
-use Rattle.std.proofs.Common.{◌≡◌, ℕ, zero, suc, ◌+◌, ◌<◌, ◌≤◌, Bool, true, false, cond, nat_lt, List, [], ◌∷◌, ◌++◌, length, map, filter, slice_set, get_or, refl, sym, ap, ◌∙◌, subst, arith, append_assoc}
+use Rattle.std.proofs.Common.{◌≡◌, ℕ, zero, suc, ◌+◌, ◌<◌, ◌≤◌, Bool, true, false, cond, nat_lt, List, [], ◌∷◌, ◌++◌, length, map, filter, slice_set, get_or, refl, sym, ap, ap₂, ◌∙◌, subst, arith, append_assoc}
 use Rattle.std.proofs.lemmas.List.Elements.{filter-append}
 use Rattle.std.proofs.lemmas.Bool.Decides.{nat_tests}
 use Rattle.map_model.specs.declared.instance.Node.{Node}
@@ -7,7 +7,7 @@ use Rattle.map_model.specs.declared.lines.MapLine.{MapLine}
 use Rattle.map_model.specs.declared.lines.NameLine.{NameLine}
 use Rattle.map_model.specs.Market.{Group}
 use Rattle.published_map.specs.declared.row.GroupRow.{GroupRow}
-use Rattle.published_map.specs.Rows.{lines_at, names_at, in_rows, with_demands, with_capacities}
+use Rattle.published_map.specs.Rows.{each_with, lines_at, names_at, in_rows, with_demands, with_capacities}
 use Rattle.published_map.specs.Changes.{replaced}
 
 kept : {X Y : Type 0} (p : X → Bool) (f : Y → X) → ((y : Y) → p (f y) ≡ true) → (ys : List Y) → filter p (map f ys) ≡ map f ys
@@ -80,49 +80,60 @@ replaced_rows X key at k o (suc i) g row (r ∷ rs) is lt =
     ∙ (sym (append_assoc (at o r) (filter (λ x. nat_lt (key x) g) xs) (at g row ++ filter (λ x. nat_lt g (key x)) xs))
     ∙ sym (ap (λ ys. ys ++ (at g row ++ filter (λ x. nat_lt g (key x)) (at o r ++ xs))) low ∙ ap (λ ys. (at o r ++ filter (λ x. nat_lt (key x) g) xs) ++ (at g row ++ ys)) high))
 
+module _ {X Y : Type 0} (put : X → Y → X) where
+  set_with : ((x : X) (y z : Y) → put (put x y) z ≡ put x z) → (xs : List X) (ys : List Y) (i : ℕ) (y : Y) (d : X) → i < length ys → length ys ≡ length xs
+      → each_with put xs (slice_set ys i y) ≡ slice_set (each_with put xs ys) i (put (get_or (each_with put xs ys) i d) y)
+  unfolding each_with
+  set_with again xs [] i y d lt same = absurd (omega arith)
+  set_with again [] (z ∷ zs) i y d lt same = absurd (omega arith)
+  set_with again (x ∷ xs) (z ∷ zs) zero y d lt same = ap (λ w. w ∷ each_with put xs zs) (sym (again x z y))
+  set_with again (x ∷ xs) (z ∷ zs) (suc i) y d lt same = ap (λ ws. put x z ∷ ws) (set_with again xs zs i y d (omega arith) (omega arith))
+
+  length_with : (xs : List X) (ys : List Y) → length (each_with put xs ys) ≡ length xs
+  unfolding each_with
+  length_with [] ys = refl
+  length_with (x ∷ xs) [] = refl
+  length_with (x ∷ xs) (y ∷ ys) = ap suc (length_with xs ys)
+
+  at_with : (xs : List X) (ys : List Y) (i : ℕ) (d : X) (e : Y) → i < length ys → length ys ≡ length xs → get_or (each_with put xs ys) i d ≡ put (get_or xs i d) (get_or ys i e)
+  unfolding each_with
+  at_with xs [] i d e lt same = absurd (omega arith)
+  at_with [] (y ∷ ys) i d e lt same = absurd (omega arith)
+  at_with (x ∷ xs) (y ∷ ys) zero d e lt same = refl
+  at_with (x ∷ xs) (y ∷ ys) (suc i) d e lt same = at_with xs ys i d e (omega arith) (omega arith)
+
+  -- it is the list that has at each place what is put there
+  pub all_with : (xs zs : List X) (ys : List Y) (d : X) (e : Y) → length zs ≡ length xs → length ys ≡ length xs → ((i : ℕ) → i < length xs → put (get_or xs i d) (get_or ys i e) ≡ get_or zs i d) → each_with put xs ys ≡ zs
+  unfolding each_with
+  all_with [] [] ys d e many same each = refl
+  all_with [] (z ∷ zs) ys d e many same each = absurd (omega arith)
+  all_with (x ∷ xs) [] ys d e many same each = absurd (omega arith)
+  all_with (x ∷ xs) (z ∷ zs) [] d e many same each = absurd (omega arith)
+  all_with (x ∷ xs) (z ∷ zs) (y ∷ ys) d e many same each = ap₂ (λ w ws. w ∷ ws) (each 0 (omega arith)) (all_with xs zs ys d e (omega arith) (omega arith) (λ i l. each (suc i) (omega arith)))
+
 -- demands of rows of which one is replaced
 pub demands_set : (gs : List Group) (rows : List GroupRow) (i : ℕ) (row : GroupRow) (d : Group) → i < length rows → length rows ≡ length gs
     → with_demands gs (slice_set rows i row) ≡ slice_set (with_demands gs rows) i (record (get_or (with_demands gs rows) i d) { demand = row.demand })
 unfolding with_demands
-demands_set [] [] i row d lt same = absurd (omega arith)
-demands_set [] (r ∷ rs) i row d lt same = absurd (omega arith)
-demands_set (g ∷ gs) [] i row d lt same = absurd (omega arith)
-demands_set (g ∷ gs) (r ∷ rs) zero row d lt same = refl
-demands_set (g ∷ gs) (r ∷ rs) (suc i) row d lt same = ap (λ xs. record g { demand = r.demand } ∷ xs) (demands_set gs rs i row d (omega arith) (omega arith))
+demands_set gs rows i row d lt same = set_with (λ (g : Group) (r : GroupRow). record g { demand = r.demand }) (λ g r s. refl) gs rows i row d lt same
 
 pub capacities_set : (ns : List Node) (caps : List ℕ) (i c : ℕ) (d : Node) → i < length caps → length caps ≡ length ns
     → with_capacities ns (slice_set caps i c) ≡ slice_set (with_capacities ns caps) i (record (get_or (with_capacities ns caps) i d) { capacity = c })
 unfolding with_capacities
-capacities_set [] [] i c d lt same = absurd (omega arith)
-capacities_set [] (x ∷ xs) i c d lt same = absurd (omega arith)
-capacities_set (n ∷ ns) [] i c d lt same = absurd (omega arith)
-capacities_set (n ∷ ns) (x ∷ xs) zero c d lt same = refl
-capacities_set (n ∷ ns) (x ∷ xs) (suc i) c d lt same = ap (λ ys. record n { capacity = x } ∷ ys) (capacities_set ns xs i c d (omega arith) (omega arith))
+capacities_set ns caps i c d lt same = set_with (λ (n : Node) (c : ℕ). record n { capacity = c }) (λ n b c. refl) ns caps i c d lt same
 
 pub length-demands : (gs : List Group) (rows : List GroupRow) → length (with_demands gs rows) ≡ length gs
 unfolding with_demands
-length-demands [] rows = refl
-length-demands (g ∷ gs) [] = refl
-length-demands (g ∷ gs) (r ∷ rs) = ap suc (length-demands gs rs)
+length-demands gs rows = length_with (λ (g : Group) (r : GroupRow). record g { demand = r.demand }) gs rows
 
 pub length-capacities : (ns : List Node) (caps : List ℕ) → length (with_capacities ns caps) ≡ length ns
 unfolding with_capacities
-length-capacities [] caps = refl
-length-capacities (n ∷ ns) [] = refl
-length-capacities (n ∷ ns) (c ∷ cs) = ap suc (length-capacities ns cs)
+length-capacities ns caps = length_with (λ (n : Node) (c : ℕ). record n { capacity = c }) ns caps
 
 pub demand_at : (gs : List Group) (rows : List GroupRow) (i : ℕ) (d : Group) (e : GroupRow) → i < length rows → length rows ≡ length gs → (get_or (with_demands gs rows) i d).demand ≡ (get_or rows i e).demand
 unfolding with_demands
-demand_at [] [] i d e lt same = absurd (omega arith)
-demand_at [] (r ∷ rs) i d e lt same = absurd (omega arith)
-demand_at (g ∷ gs) [] i d e lt same = absurd (omega arith)
-demand_at (g ∷ gs) (r ∷ rs) zero d e lt same = refl
-demand_at (g ∷ gs) (r ∷ rs) (suc i) d e lt same = demand_at gs rs i d e (omega arith) (omega arith)
+demand_at gs rows i d e lt same = ap (λ (g : Group). g.demand) (at_with (λ (g : Group) (r : GroupRow). record g { demand = r.demand }) gs rows i d e lt same)
 
 pub capacity_at : (ns : List Node) (caps : List ℕ) (i : ℕ) (d : Node) (e : ℕ) → i < length caps → length caps ≡ length ns → (get_or (with_capacities ns caps) i d).capacity ≡ get_or caps i e
 unfolding with_capacities
-capacity_at [] [] i d e lt same = absurd (omega arith)
-capacity_at [] (c ∷ cs) i d e lt same = absurd (omega arith)
-capacity_at (n ∷ ns) [] i d e lt same = absurd (omega arith)
-capacity_at (n ∷ ns) (c ∷ cs) zero d e lt same = refl
-capacity_at (n ∷ ns) (c ∷ cs) (suc i) d e lt same = capacity_at ns cs i d e (omega arith) (omega arith)
+capacity_at ns caps i d e lt same = ap (λ (n : Node). n.capacity) (at_with (λ (n : Node) (c : ℕ). record n { capacity = c }) ns caps i d e lt same)

@@ -23,17 +23,19 @@ unfoldable pub in_rows : {X : Type 0} → (ℕ → GroupRow → List X) → ℕ 
 in_rows at g [] = []
 in_rows at g (r ∷ rs) = at g r ++ in_rows at (suc g) rs
 
+-- each thing with what stands at its place
+unfoldable pub each_with : {X Y : Type 0} → (X → Y → X) → List X → List Y → List X
+each_with put [] ys = []
+each_with put (x ∷ xs) [] = x ∷ xs
+each_with put (x ∷ xs) (y ∷ ys) = put x y ∷ each_with put xs ys
+
 -- groups with the demands of rows
 unfoldable pub with_demands : List Group → List GroupRow → List Group
-with_demands [] rows = []
-with_demands (g ∷ gs) [] = g ∷ gs
-with_demands (g ∷ gs) (r ∷ rs) = record g { demand = r.demand } ∷ with_demands gs rs
+with_demands gs rows = each_with (λ g r. record g { demand = r.demand }) gs rows
 
 -- nodes with these capacities
 unfoldable pub with_capacities : List Node → List ℕ → List Node
-with_capacities [] caps = []
-with_capacities (n ∷ ns) [] = n ∷ ns
-with_capacities (n ∷ ns) (c ∷ cs) = record n { capacity = c } ∷ with_capacities ns cs
+with_capacities ns caps = each_with (λ n c. record n { capacity = c }) ns caps
 
 -- an instance with the demands of rows and these capacities
 abbrev pub market_of : Market → List GroupRow → List ℕ → Market

@@ -2,6 +2,7 @@
 ghost use Rattle.std.specs.Prelude.{◌≡◌, ◌+◌, ◌≤◌, length, map, Decides, IfOk, OnOk};
 ghost use Rattle.map_model.specs.Market.{IsSameShape};
 ghost use Rattle.map_model.specs.Allocation.{IsMapForm};
+ghost use Rattle.map_model.specs.declared.limits.TheConstants.{PLACES};
 ghost use Rattle.topology_text.specs.Plan.{Plan};
 ghost use Rattle.published_map.specs.Between.{IsBetween};
 ghost use Rattle.published_map.specs.Gathered.{IsGathered, NodesChanged, RowsChanged};
@@ -46,8 +47,8 @@ fn push_row(
     old: Part<'_>,
     new: Part<'_>,
 ) -> Result<(), NoMemory>
-    requires lines { length new.lines.now ≤ 16 }
-    requires names { length new.names.now ≤ 16 }
+    requires lines { length new.lines.now ≤ PLACES }
+    requires names { length new.names.now ≤ PLACES }
     ensures { OnOk result (IsGathered ((demands.0 ≡ demands.1) × (old.entry.lines.now ≡ new.entry.lines.now) × (old.entry.names.now ≡ new.entry.names.now)) groups.old.items (group, record { demand = demands.1; amounts = record { items = map (λ l. (l.place, l.amount)) new.entry.lines.now }; names = record { items = map (λ l. (l.place, l.node)) new.entry.names.now } }) groups.new.items) }
 {
     if demands.0 == demands.1

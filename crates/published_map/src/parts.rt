@@ -1,10 +1,11 @@
 //! A map, cut into what it has of each group.
 ghost use Rattle.std.specs.Prelude.{◌≡◌, ◌==◌, ◌≤◌, length, map, take, drop};
 ghost use Rattle.std.specs.List.{prefix_len};
+ghost use Rattle.map_model.specs.declared.limits.TheConstants.{PLACES};
 
 use crate::row::GroupRow;
 use arrayvec::ArrayVec;
-use map_model::{GroupId, MapLine, NameLine, NodeId};
+use map_model::{GroupId, MapLine, NameLine, NodeId, PLACES};
 
 /// Lines and names of a map that stand together.
 #[derive(Clone, Copy)]
@@ -44,8 +45,8 @@ pub(crate) fn split<'a>(part: Part<'a>, group: GroupId) -> (Part<'a>, Part<'a>)
 }
 
 /// The amounts of lines.
-fn amounts_of(lines: &[MapLine]) -> ArrayVec<(u8, u32), 16>
-    requires { length lines.now ≤ 16 }
+fn amounts_of(lines: &[MapLine]) -> ArrayVec<(u8, u32), PLACES>
+    requires { length lines.now ≤ PLACES }
     ensures { result.items ≡ map (λ l. (l.place, l.amount)) lines.now }
 {
     let mut amounts = ArrayVec::new();
@@ -56,8 +57,8 @@ fn amounts_of(lines: &[MapLine]) -> ArrayVec<(u8, u32), 16>
 }
 
 /// The nodes of names.
-fn nodes_of(names: &[NameLine]) -> ArrayVec<(u8, NodeId), 16>
-    requires { length names.now ≤ 16 }
+fn nodes_of(names: &[NameLine]) -> ArrayVec<(u8, NodeId), PLACES>
+    requires { length names.now ≤ PLACES }
     ensures { result.items ≡ map (λ l. (l.place, l.node)) names.now }
 {
     let mut nodes = ArrayVec::new();
@@ -69,8 +70,8 @@ fn nodes_of(names: &[NameLine]) -> ArrayVec<(u8, NodeId), 16>
 
 /// The row of a group with that demand, of which the map has that part.
 pub(crate) fn row(demand: u32, own: Part<'_>) -> GroupRow
-    requires lines { length own.lines.now ≤ 16 }
-    requires names { length own.names.now ≤ 16 }
+    requires lines { length own.lines.now ≤ PLACES }
+    requires names { length own.names.now ≤ PLACES }
     ensures { result ≡ record { demand = demand; amounts = record { items = map (λ l. (l.place, l.amount)) own.entry.lines.now }; names = record { items = map (λ l. (l.place, l.node)) own.entry.names.now } } }
 {
     GroupRow {

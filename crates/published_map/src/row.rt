@@ -1,9 +1,10 @@
 //! The rows of a version.
 ghost use Rattle.std.specs.Prelude.{◌≡◌, ◌<◌, ◌≤◌, ◌^◌, ◌==◌, if◌then◌else◌, map, sum_by};
 ghost use Rattle.std.specs.List.{range_with_len};
+ghost use Rattle.map_model.specs.declared.limits.TheConstants.{PLACES};
 
 use arrayvec::ArrayVec;
-use map_model::NodeId;
+use map_model::{NodeId, PLACES};
 
 /// What a map holds of one group: the demand for which it is made, the units at each place of the group's list that
 /// has some, and the refusing node at each place that is wanted, both by rising place.
@@ -12,9 +13,9 @@ pub struct GroupRow {
     /// How many units the group asks for.
     pub demand: u32,
     /// Places of the group's list, from 0, and the units that are placed there, at least 1 in a map's form.
-    pub amounts: ArrayVec<(u8, u32), 16>,
+    pub amounts: ArrayVec<(u8, u32), PLACES>,
     /// Places of the group's list, from 0, and the refusing node nearest to the pool.
-    pub names: ArrayVec<(u8, NodeId), 16>,
+    pub names: ArrayVec<(u8, NodeId), PLACES>,
 }
 
 impl GroupRow {
@@ -50,8 +51,8 @@ fn amount_in(own: &[(u8, u32)], place: u8) -> u32
 }
 
 /// The units at the first places.
-pub(crate) fn amounts(own: &[(u8, u32)], places: u8) -> ArrayVec<u32, 16>
-    requires { (sum_by (λ a. a.1) own.now < 2 ^ 32) × (places ≤ 16) }
+pub(crate) fn amounts(own: &[(u8, u32)], places: u8) -> ArrayVec<u32, PLACES>
+    requires { (sum_by (λ a. a.1) own.now < 2 ^ 32) × (places ≤ PLACES) }
     ensures { result.items ≡ map (λ k. sum_by (λ a. if a.0 == k then a.1 else 0) own.now) (range_with_len 0 places) }
 {
     let mut amounts = ArrayVec::new();

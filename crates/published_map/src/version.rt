@@ -2,7 +2,6 @@
 ghost use Rattle.std.specs.Prelude.{◌≡◌, ◌⊎◌, ◌<◌, ◌≤◌, ◌^◌, IfOk, IsTrue, All, Some, fold, length, nat_lt, sum};
 ghost use Rattle.std.specs.List.{list_all};
 ghost use Rattle.std.specs.Arc.{arc_value};
-ghost use Rattle.addr_text.specs.Addresses.{bits_of};
 ghost use Rattle.map_model.specs.Market.{IsSameShape, capacity_of, choice_at, demand_of};
 ghost use Rattle.map_model.specs.Allocation.{IsGood, IsMapForm, IsOffer, placed};
 ghost use Rattle.topology_text.specs.Plan.{IsPlan, IsZone, addresses_of};
@@ -20,7 +19,7 @@ use crate::row::{GroupRow, amounts};
 use crate::shared::Shared;
 use addr_text::Addr;
 use arrayvec::ArrayVec;
-use map_model::{GroupId, Instance, MapLines, NodeId, Offer, Units};
+use map_model::{GroupId, Instance, MapLines, NodeId, Offer, PLACES, Units};
 use no_memory::NoMemory;
 use std::alloc::Global;
 use std::marker::Model;
@@ -215,18 +214,9 @@ impl MapVersion {
         topology.zone()
     }
 
-    /// The group of the longest prefix that holds the address.
-    pub fn group_of_addr(&self, addr: Addr) -> GroupId
-        ensures group { group_of self.now.plan.prefixes addr ≡ Some result }
-        ensures longest { HasLongest self.now.plan.prefixes addr result }
-        ensures there { result.0 < length self.now.market.groups }
-    {
-        check_shared(&self.shared);
-        let shared: &Shared = &self.shared;
-        shared.lookup.group(addr)
-    }
-
-    /// The group of the longest prefix that holds the address, and the scope of the address, in one search.
+    /// The group of the longest prefix that holds the address, and the scope of the address: the least number of
+    /// bits such that all addresses of the family that agree with this one in its first so many bits have the same
+    /// longest prefix. It is one search.
     pub fn find_addr(&self, addr: Addr) -> (GroupId, u8)
         ensures group { group_of self.now.plan.prefixes addr ≡ Some result.0 }
         ensures longest { HasLongest self.now.plan.prefixes addr result.0 }
@@ -239,19 +229,8 @@ impl MapVersion {
         shared.lookup.find(addr)
     }
 
-    /// The least number of bits such that all addresses of the family that agree with this one in its first so
-    /// many bits have the same longest prefix.
-    pub fn scope(&self, addr: Addr) -> u8
-        ensures exact { result ≡ scope_of self.now.plan.prefixes addr }
-        ensures least { IsScope self.now.plan.prefixes addr result }
-        ensures within { result ≤ bits_of addr }
-    {
-        let shared: &Shared = &self.shared;
-        shared.lookup.scope(addr)
-    }
-
     /// What the map places of a group at each place of its list, the first place first; 0 where it places nothing.
-    pub fn amounts(&self, group: GroupId) -> ArrayVec<u32, 16>
+    pub fn amounts(&self, group: GroupId) -> ArrayVec<u32, PLACES>
         requires group { group.0 < length self.now.market.groups }
         requires version { IsVersion self.now }
         ensures amounts { result.items ≡ amounts_of self.now group.0 }

@@ -68,7 +68,7 @@ const CLIENTS: [(Addr, GroupId, u8); 3] = [
 
 /// Whether an address is of that group, which so many of its bits decide.
 fn is_found(version: &MapVersion, addr: Addr, group: GroupId, scope: u8) -> bool {
-    (version.group_of_addr(addr), version.scope(addr)) == (group, scope)
+    version.find_addr(addr) == (group, scope)
 }
 
 /// Whether all are.

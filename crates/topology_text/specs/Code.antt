@@ -1,4 +1,4 @@
--- What the code's walk stands for.
+-- Inside this crate alone: what the code's walk stands for.
 use Rattle.std.specs.Prelude.{map, option_map}
 use Rattle.toml.specs.View.{table_view, view}
 use Rattle.topology_text.specs.declared.names.Entries.{Entries as CodeEntries}

@@ -1,4 +1,4 @@
--- What the map of a table finds at a key.
+-- Inside this crate alone: what the map of a table finds at a key.
 use Rattle.std.specs.Prelude.{List, Option, String, string_bytes}
 use Rattle.std.specs.Global.{Global}
 use Rattle.std.specs.Ordering.{nat_cmp}

@@ -1,6 +1,7 @@
 use Rattle.std.proofs.Common.{◌+◌, ◌-◌, ◌*◌, ◌∙◌, [], refl, arith}
 use Rattle.std.specs.List.{concat}
 use Rattle.text_parts.specs.Parts.{whole_lines}
+use Rattle.demand_feed.specs.Limits.{read_size}
 use Rattle.demand_feed.specs.Runs.{HasRead}
 use Rattle.demand_feed.proofs.Tellings.{tell_self}
 use Rattle.demand_feed.proofs.Worked.{ready_less}
@@ -11,7 +12,7 @@ pub pieces-init : goal.pieces-init
 pieces-init g c = record {
   size = c.requires.buffer;
   used = omega arith;
-  ready = ready_less g.T.TakesItems.market g.T.TakesItems.left c.args.topology.now c.args.clerk.now c.args.to.now (32768 * (c.args.turns - 0)) (32768 * c.args.turns) (omega arith) c.requires.ready;
+  ready = ready_less g.T.TakesItems.market g.T.TakesItems.left c.args.topology.now c.args.clerk.now c.args.to.now (read_size * (c.args.turns - 0)) (read_size * c.args.turns) (omega arith) c.requires.ready;
   came = λ before reads. ([], refl, tell_self (g.S.Source.told c.args.feed.now) (HasRead []) read_none, reads);
   feed = refl;
 }
@@ -26,8 +27,8 @@ pub pieces-preserved : goal.pieces-preserved
 pieces-preserved g c = record {
   size = omega (arith, c.pieces.invariant.size, c.take_turn-end.auto.buffer);
   used = omega (arith, c.pieces-test.true);
-  ready = c.take_turn-end.ensures.ready (32768 * (c.args.turns - (c.pieces.used + 1)))
-      (ready_less g.T.TakesItems.market g.T.TakesItems.left c.args.topology.now c.pieces.clerk c.pieces.to (32768 * (c.args.turns - (c.pieces.used + 1)) + 32768) (32768 * (c.args.turns - c.pieces.used)) (omega (arith, c.pieces-test.true)) c.pieces.invariant.ready)
+  ready = c.take_turn-end.ensures.ready (read_size * (c.args.turns - (c.pieces.used + 1)))
+      (ready_less g.T.TakesItems.market g.T.TakesItems.left c.args.topology.now c.pieces.clerk c.pieces.to (read_size * (c.args.turns - (c.pieces.used + 1)) + read_size) (read_size * (c.args.turns - c.pieces.used)) (omega (arith, c.pieces-test.true)) c.pieces.invariant.ready)
       c.in_default.is;
   came = λ before reads.
       let i = c.pieces.invariant.came before reads in

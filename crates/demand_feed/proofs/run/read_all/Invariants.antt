@@ -1,15 +1,16 @@
 use Rattle.std.proofs.Common.{◌≡◌, ◌≤◌, ◌-◌, ◌*◌, ℕ, List, [], length}
 use Rattle.std.specs.List.{concat}
 use Rattle.outside.specs.Faults.{BothTell}
+use Rattle.demand_feed.specs.Limits.{read_size}
 use Rattle.demand_feed.specs.Runs.{HasRead}
 use Rattle.demand_feed.specs.Working.{IsReady, Reads}
 use Rattle.demand_feed.proofs.run.read_all.Given as goal
 
 abbrev pub invariant-pieces : goal.invariant-pieces
 invariant-pieces g l = record {
-  size : length l.buffer ≡ 32768;
+  size : length l.buffer ≡ read_size;
   used : l.used ≤ l.turns;
-  ready : IsReady g.T.TakesItems.market g.T.TakesItems.left l.topology l.clerk l.to (32768 * (l.turns - l.used));
+  ready : IsReady g.T.TakesItems.market g.T.TakesItems.left l.topology l.clerk l.to (read_size * (l.turns - l.used));
   came : (before : g.row.T.Denot) → Reads g.T.TakesItems.does l.topology before [] l.fn.cutter l.fn.clerk l.fn.to
       → (pieces : List (List ℕ)) × (length pieces ≡ l.used) × BothTell (g.S.Source.told l.fn.feed) (g.S.Source.told l.feed) (HasRead pieces) × Reads g.T.TakesItems.does l.topology before (concat pieces) l.cutter l.clerk l.to;
   feed : g.S.Source.faults l.feed ≡ g.S.Source.faults l.fn.feed;

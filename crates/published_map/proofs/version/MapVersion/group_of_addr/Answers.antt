@@ -1,7 +1,0 @@
-use Rattle.std.specs.Arc.{arc_value}
-use Rattle.published_map.specs.Shared.{plan_of}
-use Rattle.published_map.proofs.version.MapVersion.group_of_addr.Goals as goal
-use Rattle.published_map.proofs.Owned.{owned}
-
-pub returns-clause-there : goal.returns-clause-there
-returns-clause-there c = rw (← c.self.view_is) (owned (plan_of (arc_value c.self.inside.shared)) c.self.inside.rows.items c.args.addr c.group.result c.check_shared.ensures (rw (← c.self.invariant.looks_up, ← c.deref-shared.ensures) c.group.ensures.longest))
