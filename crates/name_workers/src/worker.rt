@@ -34,7 +34,12 @@ fn has_none(octets: &[u8]) -> bool
 }
 
 /// The reply of a version to octets that have one.
-fn reply_by(version: &MapVersion, from: Addr, octets: &[u8], draw: u64) -> ArrayVec<u8, LARGEST_REPLY>
+fn reply_by(
+    version: &MapVersion,
+    from: Addr,
+    octets: &[u8],
+    draw: u64,
+) -> ArrayVec<u8, LARGEST_REPLY>
     requires version { IsVersion version.now }
     requires spoken { is_silent octets.now ≡ false }
     ensures reply { reply_of version.now from octets.now draw ≡ Some result.items }
