@@ -7,7 +7,8 @@
 
 A path has to be there: from the top, or in a crate that the same line or heading names. A word has to stand somewhere
 in the code, the specifications or the files of examples. A clause, `x` of `f` or (`x`) in docs/PROVED.md, has to be an
-`ensures` or a field of a record, in a crate that the line names. GLB names the program, the built one if it is not set.
+`ensures` or a field of a record, in a crate that the line names, or a field of a record that `f` promises. GLB names
+the program, the built one if it is not set.
 The status is 0 where all is found and each example writes what is shown.
 """
 
@@ -130,6 +131,12 @@ def look_up():
     return told.end()
 
 
+def is_part(name, owned, code):
+    """Whether what is owned promises a record that has such a field."""
+    promised = {record for text in code.values() if re.search(owned, text) for record in re.findall(r"\bensures \{ (\w+) ", text)}
+    return any(re.search(rf"\brecord {record}\b", text) and re.search(rf"\bpub {name} :", text) for record in promised for text in code.values())
+
+
 def clauses():
     """The clauses that docs/PROVED.md cites: `x` of `f`, and (`x`) in a paragraph of a crate."""
     files, _ = sources()
@@ -144,7 +151,7 @@ def clauses():
             form = rf"\b(abbrev|unfoldable|record|data|type|struct|enum|trait|fn|pub)\s+(pub\s+)?{name}\b" if is_definition else rf"\bensures {name} |\b(fn|pub) {name}\b"
             owned = rf"\b(fn|struct|trait|enum|impl) {owner}\b|\bfor {owner}\b" if owner else ""
             inside = [file for file in code if is_definition or owner or file.split("/")[1] in crates]
-            is_there = any(re.search(form, code[file]) and re.search(owned, code[file]) for file in inside)
+            is_there = any(re.search(form, code[file]) and re.search(owned, code[file]) for file in inside) or owner and is_part(name, owned, code)
             told.take(is_there, f"docs/PROVED.md:{number}: no {name}" + (f" of {owner}" if owner else f" in {', '.join(crates)}"))
     return told.end()
 
