@@ -22,7 +22,9 @@ use published_map::MapVersion;
 /// Whether there is a reply.
 #[derive(Clone, Copy, Debug, PartialEq, Eq)]
 pub enum Answer {
+    /// There is one, which stands in the buffer.
     Sent,
+    /// There is none, and the buffer is empty.
     Silent,
 }
 

@@ -8,7 +8,7 @@ use Rattle.topology_text.specs.Topology.{zone_of}
 use Rattle.demand_feed.specs.Item.{batch, items}
 use Rattle.demand_feed.specs.Taking.{AllDo}
 use Rattle.map_cell.specs.Ends.{PublisherState}
-use Rattle.big_world.specs.declared.TheConstants.{MOST_GROUPS}
+use Rattle.big_world.specs.declared.TheConstants.{LARGEST_WORLD}
 use Rattle.big_world.specs.Feed.{feed_of}
 use Rattle.big_world.specs.World.{zone_data}
 use Rattle.big_world_read.specs.Read.{batches_of, world_plan}
@@ -33,7 +33,7 @@ world_zone : (n : ℕ) → (world_plan n).zone ≡ zone_of (Some zone_data)
 unfolding world_plan
 world_zone n = refl
 
-run_is : (n : ℕ) (t : Plan) (a b : PublisherState) (feed : List ℕ) (s : Summary) (proposals : ℕ) → 1 ≤ n → n ≤ MOST_GROUPS → t ≡ world_plan n → feed ≡ feed_of n → IsFirst t a
+run_is : (n : ℕ) (t : Plan) (a b : PublisherState) (feed : List ℕ) (s : Summary) (proposals : ℕ) → 1 ≤ n → n ≤ LARGEST_WORLD → t ≡ world_plan n → feed ≡ feed_of n → IsFirst t a
     → AllDo Publishes (items a.newest.plan (whole_lines feed)) a b → s ≡ summary_of n a.newest.plan b proposals → IsMapping t.market a.newest.lines 0 proposals → proposals ≤ most_offers t.market → IsRun n s
 run_is n t a b feed s proposals some most plan_is feed_is first batches sums mapping few =
     let plan = first.plan in
@@ -61,7 +61,7 @@ run_is n t a b feed s proposals some most plan_is feed_is first batches sums map
     }
 
 -- what came of the feed, where memory sufficed, makes a run
-pub run_or_none : {E : Type 0} (n : ℕ) (t : Plan) (a b : PublisherState) (feed : List ℕ) (done : Result Summary E) (proposals : ℕ) → 1 ≤ n → n ≤ MOST_GROUPS → t ≡ world_plan n → feed ≡ feed_of n → IsFirst t a
+pub run_or_none : {E : Type 0} (n : ℕ) (t : Plan) (a b : PublisherState) (feed : List ℕ) (done : Result Summary E) (proposals : ℕ) → 1 ≤ n → n ≤ LARGEST_WORLD → t ≡ world_plan n → feed ≡ feed_of n → IsFirst t a
     → OnOk done (AllDo Publishes (items a.newest.plan (whole_lines feed)) a b) → IfOk done (λ s. s ≡ summary_of n a.newest.plan b proposals) → IsMapping t.market a.newest.lines 0 proposals → proposals ≤ most_offers t.market → IfOk done (IsRun n)
 run_or_none n t a b feed (Ok s) proposals some most plan_is feed_is first batches sums mapping few = run_is n t a b feed s proposals some most plan_is feed_is first batches sums mapping few
 run_or_none n t a b feed (Err e) proposals some most plan_is feed_is first batches sums mapping few = tt

@@ -9,6 +9,6 @@ mod summary;
 mod work;
 
 pub use putting::put_lines;
-pub use replies::{ANSWERED, QUERY, SERVFAIL, client_of};
+pub use replies::{QUERY, client_of};
 pub use run::run_world;
 pub use summary::{LINE_ROOM, LINES, Summary, SummaryLine};

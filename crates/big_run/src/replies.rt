@@ -1,6 +1,6 @@
 //! One query for each group of a large world, and how many replies have a response code.
 ghost use Rattle.std.specs.Prelude.{◌≡◌, ◌≤◌, ◌<◌, ◌+◌, length, if◌then◌else◌};
-ghost use Rattle.big_world.specs.declared.TheConstants.{MOST_GROUPS};
+ghost use Rattle.big_world.specs.declared.TheConstants.{LARGEST_WORLD};
 ghost use Rattle.big_run.specs.Replies.{client_of as client, count_of, has_code, is_code_of};
 
 use addr_text::Addr;
@@ -16,16 +16,10 @@ pub const QUERY: [u8; 33] = [
     b'x', b'a', b'm', b'p', b'l', b'e', 0, 0, 1, 0, 1,
 ];
 
-/// The response code of a reply that has an answer (RFC 1035 section 4.1.1).
-pub const ANSWERED: u8 = 0;
-
-/// The response code of a reply that tells of a server failure, there.
-pub const SERVFAIL: u8 = 2;
-
 /// The address that asks for a group: one that no prefix but the default holds for the first, and the first host of the group's own prefix for the others.
 #[tactic(auto, unfolding(crate::specs::Replies::client_of))]
 pub fn client_of(group: u32) -> Addr
-    requires { group < MOST_GROUPS }
+    requires { group < LARGEST_WORLD }
     ensures { result ≡ client group }
 {
     if group == 0 {
@@ -48,7 +42,7 @@ fn is_code(reply: &[u8], code: u8) -> bool
 /// Whether the newest map's reply to the query of a group has this response code.
 #[tactic(auto, unfolding(crate::specs::Replies::has_code))]
 fn replies_by<J: Naming>(mapper: &Mapper<J>, group: u32, code: u8) -> bool
-    requires { group < MOST_GROUPS }
+    requires { group < LARGEST_WORLD }
     ensures { result ≡ has_code mapper.now.newest code group }
 {
     let mut reply = ArrayVec::<u8, LARGEST_REPLY>::new();
@@ -60,7 +54,7 @@ fn replies_by<J: Naming>(mapper: &Mapper<J>, group: u32, code: u8) -> bool
 
 /// 1 where the newest map's reply to the query of a group has this response code, and else 0.
 fn count_at<J: Naming>(mapper: &Mapper<J>, group: u32, code: u8) -> u64
-    requires { group < MOST_GROUPS }
+    requires { group < LARGEST_WORLD }
     ensures { result ≡ (if has_code mapper.now.newest code group then 1 else 0) }
 {
     if replies_by(mapper, group, code) {
@@ -73,7 +67,7 @@ fn count_at<J: Naming>(mapper: &Mapper<J>, group: u32, code: u8) -> u64
 /// How many of the first groups get a reply with this response code by the newest map.
 #[tactic(auto, unfolding(crate::specs::Replies::count_of))]
 pub(crate) fn count_replies<J: Naming>(mapper: &Mapper<J>, groups: u32, code: u8) -> u64
-    requires { groups ≤ MOST_GROUPS }
+    requires { groups ≤ LARGEST_WORLD }
     ensures { result ≡ count_of mapper.now.newest code groups }
 {
     let mut count = 0u64;

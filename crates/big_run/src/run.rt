@@ -1,7 +1,7 @@
 //! A run over a large world.
 ghost use Rattle.std.specs.Prelude.{◌≡◌, ◌<◌, ◌≤◌, ◌+◌, ◌-◌, ◌^◌, IfOk, OnOk, length};
 ghost use Rattle.big_world.specs.Topology.{topology_of};
-ghost use Rattle.big_world.specs.declared.TheConstants.{MOST_GROUPS};
+ghost use Rattle.big_world.specs.declared.TheConstants.{LARGEST_WORLD};
 ghost use Rattle.big_world_read.specs.Read.{world_plan};
 ghost use Rattle.topology_text.specs.Plan.{Plan};
 ghost use Rattle.text_parts.specs.Parts.{whole_lines};
@@ -12,11 +12,12 @@ ghost use Rattle.big_run.specs.Publishing.{Publishes};
 ghost use Rattle.big_run.specs.Runs.{IsRun, summary_of};
 
 use crate::judge::Judge;
-use crate::replies::{ANSWERED, SERVFAIL, count_replies};
+use crate::replies::count_replies;
 use crate::summary::Summary;
 use crate::work::take_lines;
 use big_world::make;
 use demand_feed::Clerk;
+use dns_wire::numbers::{NOERROR, SERVFAIL};
 use map_cell::{EmptyHistory, Naming, OpenFault, PlainDoor};
 use map_model::Steps;
 use mapper::Mapper;
@@ -30,7 +31,7 @@ struct Proposals;
 
 /// What the newest map of a run comes to, of so many groups.
 fn summary<J: Naming>(mapper: &Mapper<J>, groups: u32, good: u64, proposals: u64) -> Summary
-    requires groups { groups ≤ MOST_GROUPS }
+    requires groups { groups ≤ LARGEST_WORLD }
     requires good { good ≡ mapper.now.newest.serial + 1 }
     requires last { mapper.now.newest.serial < 2 ^ 64 - 1 }
     ensures { (t : Plan) → length mapper.now.newest.market.nodes ≡ length t.market.nodes → result ≡ summary_of groups t mapper.now proposals }
@@ -43,7 +44,7 @@ fn summary<J: Naming>(mapper: &Mapper<J>, groups: u32, good: u64, proposals: u64
         good,
         totals: mapper.totals(),
         proposals,
-        answered: count_replies(mapper, groups, ANSWERED),
+        answered: count_replies(mapper, groups, NOERROR),
         servfail: count_replies(mapper, groups, SERVFAIL),
     }
 }
@@ -59,7 +60,7 @@ fn work<J: Naming, R: Wait>(
 ) -> Result<Summary, NoMemory>
     requires first { IsFirst mapper.old.newest.plan mapper.old }
     requires length { length feed.now < 2 ^ 63 }
-    requires groups { groups ≤ MOST_GROUPS }
+    requires groups { groups ≤ LARGEST_WORLD }
     ensures done { OnOk result (AllDo Publishes (items mapper.old.newest.plan (whole_lines feed.now)) mapper.old mapper.new) }
     ensures sums { IfOk result (λ s. s ≡ summary_of groups mapper.old.newest.plan mapper.new proposals) }
 {
@@ -74,7 +75,7 @@ fn work<J: Naming, R: Wait>(
 /// The topology of the world of so many groups, from its text. No fault is in it.
 fn read_world(alloc: Global, text: &[u8], groups: u32) -> Result<Topology, NoMemory>
     requires some { 1 ≤ groups }
-    requires most { groups ≤ MOST_GROUPS }
+    requires most { groups ≤ LARGEST_WORLD }
     requires text { text.now ≡ topology_of groups }
     ensures { IfOk result (λ t. t ≡ world_plan groups) }
 {
@@ -100,7 +101,7 @@ pub fn run_world<J: Naming, R: Wait>(
 ) -> Result<Summary, NoMemory>
     requires book { history ≡ J.book }
     requires some { 1 ≤ groups }
-    requires most { groups ≤ MOST_GROUPS }
+    requires most { groups ≤ LARGEST_WORLD }
     ensures { IfOk result (IsRun groups) }
 {
     let (topology, feed) = make(alloc, groups)?;

@@ -1,13 +1,13 @@
 -- The topology of a world of n groups, as a text.
 use Rattle.std.specs.Prelude.{◌≡◌, refl, ℕ, ◌+◌, ◌-◌, ◌*◌, ◌/◌, ◌%◌, ◌==◌, ◌++◌, List, [], ◌∷◌, min, codes, if◌then◌else◌}
 use Rattle.std.specs.Fmt.{decimal}
-use Rattle.big_world.specs.declared.TheConstants.{MOST_GROUPS, ZONE}
+use Rattle.big_world.specs.declared.TheConstants.{LARGEST_WORLD, ZONE}
 use Rattle.big_world.specs.Numbers.{behind, draw}
 use Rattle.big_world.specs.Pieces.{ahead, listed, pieces, texts_below}
 
 -- the constant of the code is this numeral: a world has at most so many groups
-pub most_groups_is : MOST_GROUPS ≡ 16384
-most_groups_is = refl
+pub largest_world_is : LARGEST_WORLD ≡ 16384
+largest_world_is = refl
 
 -- a line and its end
 abbrev pub line : List ℕ → List ℕ

@@ -4,7 +4,7 @@ ghost use Rattle.big_world.specs.Numbers.{behind};
 ghost use Rattle.big_world.specs.Pieces.{ahead, pieces};
 ghost use Rattle.big_world.specs.Feed.{batch_text, behind_batch, behind_change, capacity_text, change_text, demand_text};
 ghost use Rattle.big_world.specs.Topology.{line};
-ghost use Rattle.big_world.specs.declared.TheConstants.{MOST_GROUPS};
+ghost use Rattle.big_world.specs.declared.TheConstants.{LARGEST_WORLD};
 
 use crate::draws::Pen;
 use crate::nodes::{push_number, regions_of};
@@ -32,7 +32,7 @@ fn push_demand(alloc: Global, pen: &mut Pen, groups: u32) -> Result<(), NoMemory
 
 /// Another capacity of a pool.
 fn push_capacity(alloc: Global, pen: &mut Pen, groups: u32) -> Result<(), NoMemory>
-    requires { groups ≤ MOST_GROUPS }
+    requires { groups ≤ LARGEST_WORLD }
     ensures text { OnOk result (pen.new.text.items ≡ pen.old.text.items ++ capacity_text groups pen.old.draws.last) }
     ensures last { OnOk result (pen.new.draws.last ≡ behind pen.old.draws.last 3) }
 {
@@ -49,7 +49,7 @@ fn push_capacity(alloc: Global, pen: &mut Pen, groups: u32) -> Result<(), NoMemo
 #[tactic(auto, unfolding(crate::specs::Feed::change_text, crate::specs::Feed::behind_change))]
 fn push_change(alloc: Global, pen: &mut Pen, groups: u32) -> Result<(), NoMemory>
     requires some { 1 ≤ groups }
-    requires most { groups ≤ MOST_GROUPS }
+    requires most { groups ≤ LARGEST_WORLD }
     ensures text { OnOk result (pen.new.text.items ≡ pen.old.text.items ++ change_text groups pen.old.draws.last) }
     ensures last { OnOk result (pen.new.draws.last ≡ behind_change pen.old.draws.last) }
 {
@@ -64,7 +64,7 @@ fn push_change(alloc: Global, pen: &mut Pen, groups: u32) -> Result<(), NoMemory
 #[tactic(auto, unfolding(crate::specs::Feed::batch_text, crate::specs::Feed::behind_batch))]
 fn push_batch(alloc: Global, pen: &mut Pen, groups: u32) -> Result<(), NoMemory>
     requires some { 1 ≤ groups }
-    requires most { groups ≤ MOST_GROUPS }
+    requires most { groups ≤ LARGEST_WORLD }
     ensures text { OnOk result (pen.new.text.items ≡ pen.old.text.items ++ batch_text groups pen.old.draws.last) }
     ensures last { OnOk result (pen.new.draws.last ≡ behind_batch pen.old.draws.last) }
 {
@@ -78,7 +78,7 @@ fn push_batch(alloc: Global, pen: &mut Pen, groups: u32) -> Result<(), NoMemory>
 /// All batches, and the word that ends the feed.
 pub fn push_feed(alloc: Global, pen: &mut Pen, groups: u32) -> Result<(), NoMemory>
     requires some { 1 ≤ groups }
-    requires most { groups ≤ MOST_GROUPS }
+    requires most { groups ≤ LARGEST_WORLD }
     ensures { OnOk result (pen.new.text.items ≡ pen.old.text.items ++ pieces (λ _. batch_text groups) behind_batch pen.old.draws.last 16 ++ line (codes "stop")) }
 {
     for _batch in 0..BATCHES {

@@ -3,7 +3,7 @@ ghost use Rattle.std.specs.Prelude.{◌≡◌, ◌≤◌, ◌<◌, ◌==◌, ◌
 ghost use Rattle.big_world.specs.Numbers.{behind};
 ghost use Rattle.big_world.specs.Pieces.{ahead, pieces};
 ghost use Rattle.big_world.specs.Topology.{behind_group, demand_line, group_name, group_text, line, name_line, pools_line, pools_of, pools_text, prefixes_line, prefixes_text, scores_line, scores_text};
-ghost use Rattle.big_world.specs.declared.TheConstants.{MOST_GROUPS};
+ghost use Rattle.big_world.specs.declared.TheConstants.{LARGEST_WORLD};
 
 use crate::draws::Pen;
 use crate::nodes::{pool_name, push_name, push_number, regions_of};
@@ -15,7 +15,7 @@ const MOST_POOLS: u32 = 8;
 
 /// How many pools a world of so many groups has.
 fn pools_of(groups: u32) -> u32
-    requires { groups ≤ MOST_GROUPS }
+    requires { groups ≤ LARGEST_WORLD }
     ensures pools { result ≡ pools_of groups }
     ensures some { 4 ≤ result }
     ensures few { result ≤ 1028 }
@@ -42,7 +42,7 @@ fn push_pools(
     start: u32,
     length: u32,
 ) -> Result<(), NoMemory>
-    requires groups { groups ≤ MOST_GROUPS }
+    requires groups { groups ≤ LARGEST_WORLD }
     requires start { start < 2048 }
     requires length { length ≤ 8 }
     ensures { OnOk result (text.new.items ≡ text.old.items ++ pools_text groups start length) }
@@ -103,7 +103,7 @@ fn push_pools_line(
     start: u32,
     length: u32,
 ) -> Result<(), NoMemory>
-    requires groups { groups ≤ MOST_GROUPS }
+    requires groups { groups ≤ LARGEST_WORLD }
     requires start { start < 2048 }
     requires length { length ≤ 8 }
     ensures { OnOk result (text.new.items ≡ text.old.items ++ pools_line groups start length) }
@@ -152,7 +152,7 @@ fn push_head(alloc: Global, text: &mut Vec<u8>, group: u32, demand: u32) -> Resu
 /// A group.
 #[tactic(auto, unfolding(crate::specs::Topology::group_text, crate::specs::Topology::entry_text))]
 fn push_group(alloc: Global, pen: &mut Pen, groups: u32, group: u32) -> Result<(), NoMemory>
-    requires groups { groups ≤ MOST_GROUPS }
+    requires groups { groups ≤ LARGEST_WORLD }
     requires group { group < groups }
     ensures text { OnOk result (pen.new.text.items ≡ pen.old.text.items ++ group_text groups group pen.old.draws.last) }
     ensures last { OnOk result (pen.new.draws.last ≡ behind_group groups pen.old.draws.last) }
@@ -171,7 +171,7 @@ fn push_group(alloc: Global, pen: &mut Pen, groups: u32, group: u32) -> Result<(
 
 /// All groups.
 pub fn push_groups(alloc: Global, pen: &mut Pen, groups: u32) -> Result<(), NoMemory>
-    requires { groups ≤ MOST_GROUPS }
+    requires { groups ≤ LARGEST_WORLD }
     ensures text { OnOk result (pen.new.text.items ≡ pen.old.text.items ++ pieces (group_text groups) (behind_group groups) pen.old.draws.last groups) }
     ensures last { OnOk result (pen.new.draws.last ≡ ahead (behind_group groups) pen.old.draws.last groups) }
 {

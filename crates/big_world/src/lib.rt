@@ -4,7 +4,7 @@
 ghost use Rattle.std.specs.Prelude.{◌≡◌, ◌≤◌, IfOk};
 ghost use Rattle.big_world.specs.Feed.{feed_of};
 ghost use Rattle.big_world.specs.Topology.{topology_of};
-ghost use Rattle.big_world.specs.declared.TheConstants.{MOST_GROUPS};
+ghost use Rattle.big_world.specs.declared.TheConstants.{LARGEST_WORLD};
 
 mod draws;
 mod feed;
@@ -19,7 +19,7 @@ use nodes::push_nodes;
 use std::alloc::Global;
 
 /// The most groups of a world.
-pub const MOST_GROUPS: u32 = 16384;
+pub const LARGEST_WORLD: u32 = 16384;
 
 /// The zone of every world.
 pub const ZONE: &[u8] = b"[zone]
@@ -39,7 +39,7 @@ ttl = 20
 /// The topology of a world of so many groups, and a feed of sixteen batches that changes it.
 pub fn make(alloc: Global, groups: u32) -> Result<(Vec<u8>, Vec<u8>), NoMemory>
     requires some { 1 ≤ groups }
-    requires most { groups ≤ MOST_GROUPS }
+    requires most { groups ≤ LARGEST_WORLD }
     ensures topology { IfOk result (λ texts. texts.0.items ≡ topology_of groups) }
     ensures feed { IfOk result (λ texts. texts.1.items ≡ feed_of groups) }
 {

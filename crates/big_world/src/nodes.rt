@@ -4,7 +4,7 @@ ghost use Rattle.std.specs.Fmt.{decimal};
 ghost use Rattle.big_world.specs.Numbers.{behind};
 ghost use Rattle.big_world.specs.Pieces.{texts_below};
 ghost use Rattle.big_world.specs.Topology.{address_line, capacity_line, capacity_of, name_line, node_text, nodes_of, parent_line, pool_name, pool_text, region_name, region_text, regions_of};
-ghost use Rattle.big_world.specs.declared.TheConstants.{MOST_GROUPS};
+ghost use Rattle.big_world.specs.declared.TheConstants.{LARGEST_WORLD};
 
 use crate::draws::{Draws, Pen};
 use no_memory::NoMemory;
@@ -12,7 +12,7 @@ use std::alloc::Global;
 
 /// How many regions a world of so many groups has.
 pub fn regions_of(groups: u32) -> u32
-    requires { groups ≤ MOST_GROUPS }
+    requires { groups ≤ LARGEST_WORLD }
     ensures regions { result ≡ regions_of groups }
     ensures few { result ≤ 257 }
 {
@@ -157,7 +157,7 @@ fn push_node(alloc: Global, pen: &mut Pen, node: u32) -> Result<(), NoMemory>
 
 /// All nodes.
 pub fn push_nodes(alloc: Global, pen: &mut Pen, groups: u32) -> Result<(), NoMemory>
-    requires { groups ≤ MOST_GROUPS }
+    requires { groups ≤ LARGEST_WORLD }
     ensures text { OnOk result (pen.new.text.items ≡ pen.old.text.items ++ texts_below (λ p. node_text p (behind pen.old.draws.last p)) (nodes_of groups)) }
     ensures last { OnOk result (pen.new.draws.last ≡ behind pen.old.draws.last (nodes_of groups)) }
 {

@@ -1,5 +1,5 @@
 //! The texts, against a second generator (bench/large_world.py) that was written apart from this one.
-use crate::{MOST_GROUPS, make};
+use crate::{LARGEST_WORLD, make};
 use std::alloc::Global;
 use std::test::Fail;
 
@@ -14,7 +14,7 @@ const ROWS: &[Row] = &[
     (65, 9873, 0xa153181216b73aca, 1077, 0xbfd10611e6f25c08),
     (1000, 152995, 0xdbb2e425ffb57fe3, 1130, 0x5ae94696a2c9d55a),
     (
-        MOST_GROUPS,
+        LARGEST_WORLD,
         2603327,
         0x63af5d9e34c810c0,
         1213,
@@ -34,7 +34,7 @@ fn checksum(octets: &[u8]) -> u64 {
 /// Whether the texts of a row are those of the second generator.
 fn is_equal(alloc: Global, row: &Row) -> Result<bool, Fail> {
     let (groups, long, sum, feed_long, feed_sum) = *row;
-    if groups < 1 || groups > MOST_GROUPS {
+    if groups < 1 || groups > LARGEST_WORLD {
         return Ok(false);
     }
     let (topology, feed) = make(alloc, groups)?;

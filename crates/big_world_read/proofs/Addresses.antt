@@ -17,7 +17,7 @@ use Rattle.addr_text.proofs.Chars.{char_low}
 use Rattle.addr_text.proofs.Splits.{Lacks, lacks-append}
 use Rattle.topology_text.specs.Hosts.{is_v4}
 use Rattle.topology_text.specs.Texts.{address_if, v4_address}
-use Rattle.big_world.specs.declared.TheConstants.{MOST_GROUPS}
+use Rattle.big_world.specs.declared.TheConstants.{LARGEST_WORLD}
 use Rattle.big_world.specs.Topology.{block_text, host_text}
 
 -- one digit, two and three
@@ -181,7 +181,7 @@ block_is i =
 abbrev pub block_of : ℕ → ℕ
 block_of i = (100 * 256 + (64 + i / 256)) * 256 + i % 256
 
-pub block_read : (i : ℕ) → i < MOST_GROUPS → prefix_of (block_text i) ≡ Some (record { addr = V4 (((100 * 256 + (64 + i / 256)) * 256 + i % 256) * 256); len = 24 })
+pub block_read : (i : ℕ) → i < LARGEST_WORLD → prefix_of (block_text i) ≡ Some (record { addr = V4 (((100 * 256 + (64 + i / 256)) * 256 + i % 256) * 256); len = 24 })
 block_read i small =
     let b = 64 + i / 256 in
     let c = i % 256 in

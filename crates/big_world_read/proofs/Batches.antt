@@ -19,7 +19,7 @@ use Rattle.demand_feed.specs.Line.{line_of}
 use Rattle.demand_feed.specs.declared.fault.BatchFault.TheVariants.{Full, Range}
 use Rattle.demand_feed.specs.Item.{Desk, Item, Step, batch, by_said, changed, desk_after, fresh, has_stop, is_stop, is_stop_said, items, items_of, step}
 use Rattle.demand_feed.proofs.Items.{items_join, items_stop, no_stop_none}
-use Rattle.big_world.specs.declared.TheConstants.{MOST_GROUPS}
+use Rattle.big_world.specs.declared.TheConstants.{LARGEST_WORLD}
 use Rattle.big_world.specs.Feed.{batch_text, behind_batch, behind_change, capacity_text, change_text, demand_text, feed_of}
 use Rattle.big_world.specs.Numbers.{behind, draw}
 use Rattle.big_world.specs.Pieces.{ahead, texts_below}
@@ -78,7 +78,7 @@ feed_is n =
     ∙ sym (ended-append (lines_of_batches n (ahead_of_feed n) 16) (codes "stop" ∷ []))
 
 -- what holds of every size of a world
-few_regions : (n : ℕ) → n ≤ MOST_GROUPS → regions_of n < 100000
+few_regions : (n : ℕ) → n ≤ LARGEST_WORLD → regions_of n < 100000
 few_regions n most = omega arith
 
 -- a line ends at its LF alone, and doesn't say stop
@@ -92,7 +92,7 @@ demand_fine a b low_a low_b = record { lacks = demand_lacks a b low_a low_b; goe
 capacity_fine : (i j c : ℕ) → i < 100000 → j < 100000 → c < 100000 → IsFine (capacity_line i j c)
 capacity_fine i j c low_i low_j low_c = record { lacks = capacity_lacks i j c low_i low_j low_c; goes_on = ap is_stop_said (capacity_says i j c low_i low_j low_c) }
 
-line_fine : (n x : ℕ) → 1 ≤ n → n ≤ MOST_GROUPS → IsFine (line_at n x)
+line_fine : (n x : ℕ) → 1 ≤ n → n ≤ LARGEST_WORLD → IsFine (line_at n x)
 line_fine n x some most = go (draw x 1 2 == 0)
   where
     go : (b : Bool) → IsFine (cond b (demand_at n (behind x 1)) (capacity_at n (behind x 1)))
@@ -103,12 +103,12 @@ line_fine n x some most = go (draw x 1 2 == 0)
         let y = behind x 1 in
         capacity_fine (draw y 1 (regions_of n)) (draw y 2 4) (draw y 3 30) (omega (arith, draw_below y 1 (regions_of n) (omega arith), few_regions n most)) (omega (arith, draw_below y 2 4 (omega arith))) (omega (arith, draw_below y 3 30 (omega arith)))
 
-batch_fine : (n x : ℕ) → 1 ≤ n → n ≤ MOST_GROUPS → AllByRecursion IsFine (lines_at n x)
+batch_fine : (n x : ℕ) → 1 ≤ n → n ≤ LARGEST_WORLD → AllByRecursion IsFine (lines_at n x)
 batch_fine n x some most =
     let fine = λ (y : ℕ). line_fine n y some most in
     (fine x, (fine (ahead behind_change x 1), (fine (ahead behind_change x 2), (fine (ahead behind_change x 3), (record { lacks = commit_said.lacks; goes_on = ap is_stop_said commit_said.says }, tt)))))
 
-batches_fine : (n x k : ℕ) → 1 ≤ n → n ≤ MOST_GROUPS → AllByRecursion IsFine (lines_of_batches n x k)
+batches_fine : (n x k : ℕ) → 1 ≤ n → n ≤ LARGEST_WORLD → AllByRecursion IsFine (lines_of_batches n x k)
 batches_fine n x zero some most = tt
 batches_fine n x (suc k) some most =
     all_append IsFine (lines_of_batches n x k) (lines_at n (ahead behind_batch x k)) (batches_fine n x k some most) (batch_fine n (ahead behind_batch x k) some most)
@@ -125,7 +125,7 @@ none_stops (l ∷ ls) are = next l ls are.0.goes_on (none_stops ls are.1)
     next first others goes_on none = unfold has_stop in ap (λ b. b || list_any is_stop others) goes_on ∙ none
 
 -- the lines of the feed are those of its batches, and stop
-pub lines_are : (n : ℕ) → 1 ≤ n → n ≤ MOST_GROUPS → whole_lines (feed_of n) ≡ lines_of_batches n (ahead_of_feed n) 16 ++ codes "stop" ∷ []
+pub lines_are : (n : ℕ) → 1 ≤ n → n ≤ LARGEST_WORLD → whole_lines (feed_of n) ≡ lines_of_batches n (ahead_of_feed n) 16 ++ codes "stop" ∷ []
 lines_are n some most =
     ap whole_lines (feed_is n) ∙ whole_lines-ended (lines_of_batches n (ahead_of_feed n) 16 ++ codes "stop" ∷ []) (all_lack (lines_of_batches n (ahead_of_feed n) 16) (batches_fine n (ahead_of_feed n) 16 some most))
 
@@ -164,7 +164,7 @@ takes_capacity t changes name p number known low room =
     ∙ takes changes (Capacity (record { 0 = p }) number) room
 
 -- a line of the feed adds its change
-line_takes : (t : Plan) (n x : ℕ) (desk : Desk) → 1 ≤ n → n ≤ MOST_GROUPS → KnowsGroups t n → KnowsPools t n → length desk.changes < 4096 → step t desk (line_at n x) ≡ with_one desk (change_at n x)
+line_takes : (t : Plan) (n x : ℕ) (desk : Desk) → 1 ≤ n → n ≤ LARGEST_WORLD → KnowsGroups t n → KnowsPools t n → length desk.changes < 4096 → step t desk (line_at n x) ≡ with_one desk (change_at n x)
 unfolding step change_at
 line_takes t n x desk some most groups pools room = go (draw x 1 2 == 0)
   where
@@ -222,7 +222,7 @@ comes_join t desk middle after lines more come later first second = record {
 }
 
 -- what comes of the lines of a batch
-batch_comes : (t : Plan) (n x m : ℕ) → 1 ≤ n → n ≤ MOST_GROUPS → KnowsGroups t n → KnowsPools t n → Comes t (clean m) (lines_at n x) (batch (changes_at n x) ∷ []) (clean (m + 1 + 1 + 1 + 1 + 1))
+batch_comes : (t : Plan) (n x m : ℕ) → 1 ≤ n → n ≤ LARGEST_WORLD → KnowsGroups t n → KnowsPools t n → Comes t (clean m) (lines_at n x) (batch (changes_at n x) ∷ []) (clean (m + 1 + 1 + 1 + 1 + 1))
 batch_comes t n x m some most groups pools =
     let x1 = ahead behind_change x 1 in
     let x2 = ahead behind_change x 2 in
@@ -244,7 +244,7 @@ batch_comes t n x m some most groups pools =
     comes_next t (with_one d3 c3).desk (codes "commit") (record { item = Some (batch (c0 ∷ c1 ∷ c2 ∷ c3 ∷ [])); desk = after }) [] [] after (commit_ends t (m + 1 + 1 + 1 + 1) c0 (c1 ∷ c2 ∷ c3 ∷ [])) (none_come t after)))))
 
 -- what comes of the first k batches
-batches_come : (t : Plan) (n x k : ℕ) → 1 ≤ n → n ≤ MOST_GROUPS → KnowsGroups t n → KnowsPools t n → (m : ℕ) × Comes t fresh (lines_of_batches n x k) (map (λ i. batch (changes_at n (ahead behind_batch x i))) (range_with_len 0 k)) (clean m)
+batches_come : (t : Plan) (n x k : ℕ) → 1 ≤ n → n ≤ LARGEST_WORLD → KnowsGroups t n → KnowsPools t n → (m : ℕ) × Comes t fresh (lines_of_batches n x k) (map (λ i. batch (changes_at n (ahead behind_batch x i))) (range_with_len 0 k)) (clean m)
 batches_come t n x zero some most groups pools = (0, none_come t fresh)
 batches_come t n x (suc k) some most groups pools =
     let first = batches_come t n x k some most groups pools in
@@ -256,7 +256,7 @@ batches_come t n x (suc k) some most groups pools =
     (m + 1 + 1 + 1 + 1 + 1, record { come_is = all.come_is ∙ longer; after_is = all.after_is })
 
 -- the feed says its batches, where the names of the groups and of the pools have their numbers
-pub batches : (t : Plan) (n : ℕ) → 1 ≤ n → n ≤ MOST_GROUPS
+pub batches : (t : Plan) (n : ℕ) → 1 ≤ n → n ≤ LARGEST_WORLD
     → ((i : ℕ) → i < n → number_in t.group_names (group_name i) ≡ Some i)
     → ((i j : ℕ) → i < regions_of n → j < 4 → number_in t.node_names (pool_name i j) ≡ Some (pool_node i j))
     → items t (whole_lines (feed_of n)) ≡ map batch (batches_of n)

@@ -8,7 +8,7 @@ use Rattle.topology_text.specs.Names.{duplicate_name, is_inside, is_taken, is_un
 use Rattle.topology_text.specs.Values.{is_bad_name}
 use Rattle.topology_text.specs.Walk.{places_of, value_at}
 use Rattle.topology_text.specs.declared.schema.Key.TheVariants.{Name, Prefixes}
-use Rattle.big_world.specs.declared.TheConstants.{MOST_GROUPS}
+use Rattle.big_world.specs.declared.TheConstants.{LARGEST_WORLD}
 use Rattle.big_world.specs.World.{groups_data, nodes_data}
 use Rattle.big_world_read.proofs.Names.{group_good, group_name_free, listed_known, node_name_free, not_deep, not_misplaced, pool_good, region_found, region_good}
 use Rattle.big_world_read.proofs.Passes.{Passes, failing_at, passes, prefixes_pass, whole}
@@ -17,7 +17,7 @@ use Rattle.big_world_read.proofs.Visits.{group_entry, members_of, node_entry, vi
 use Rattle.big_world_read.proofs.Walked.{group_is_table, node_is_table, world_entries}
 
 -- names by their rule
-good_names : (n : ℕ) → n ≤ MOST_GROUPS → Passes is_bad_name n
+good_names : (n : ℕ) → n ≤ LARGEST_WORLD → Passes is_bad_name n
 unfolding name_of label_name_of
 good_names n small = record {
   whole_zone = λ ms. refl;
@@ -37,11 +37,11 @@ good_names n small = record {
   prefixes = λ i below. prefixes_pass (is_bad_name Prefixes) (λ t. refl) i;
 }
 
-pub none_bad_name : (n : ℕ) → n ≤ MOST_GROUPS → failures is_bad_name (visits n) ≡ []
+pub none_bad_name : (n : ℕ) → n ≤ LARGEST_WORLD → failures is_bad_name (visits n) ≡ []
 none_bad_name n small = passes is_bad_name n (good_names n small)
 
 -- names that lead to a node, or to a pool
-known_names : (n : ℕ) → n ≤ MOST_GROUPS → Passes (is_unknown_name (world_entries n)) n
+known_names : (n : ℕ) → n ≤ LARGEST_WORLD → Passes (is_unknown_name (world_entries n)) n
 known_names n small = record {
   whole_zone = λ ms. refl;
   nodes = λ ms. refl;
@@ -60,7 +60,7 @@ known_names n small = record {
   prefixes = λ i below. prefixes_pass (is_unknown_name (world_entries n) Prefixes) (λ t. refl) i;
 }
 
-pub none_unknown_name : (n : ℕ) → n ≤ MOST_GROUPS → failures (is_unknown_name (world_entries n)) (visits n) ≡ []
+pub none_unknown_name : (n : ℕ) → n ≤ LARGEST_WORLD → failures (is_unknown_name (world_entries n)) (visits n) ≡ []
 none_unknown_name n small = passes (is_unknown_name (world_entries n)) n (known_names n small)
 
 -- name servers outside the zone
@@ -96,21 +96,21 @@ zone_once : (n : ℕ) → IsQuiet (duplicate_name (world_entries n)) zone_visit
 unfolding name_of label_name_of
 zone_once n = quiet_by (duplicate_name (world_entries n)) zone_visit refl
 
-pub none_duplicate : (n : ℕ) → n ≤ MOST_GROUPS → places_of (duplicate_name (world_entries n)) (visits n) ≡ []
+pub none_duplicate : (n : ℕ) → n ≤ LARGEST_WORLD → places_of (duplicate_name (world_entries n)) (visits n) ≡ []
 none_duplicate n small =
     nothing_found (duplicate_name (world_entries n)) n (refl, (refl, (refl, tt))) (zone_once n)
     (λ p below. (whole _ (ap (is_taken (nodes_data n) p) (name_within (node_entry n p) (node_is_table n p)) ∙ node_name_free n p small below), (refl, (refl, (refl, (refl, (refl, tt)))))))
     (λ i below. (whole _ (ap (is_taken (groups_data n) i) (name_within (group_entry n i) (group_is_table n i)) ∙ group_name_free n i small below), (refl, (refl, (refl, (refl, tt))))))
 
 -- each parent stands earlier and is no pool
-pub none_misplaced : (n : ℕ) → n ≤ MOST_GROUPS → places_of (parent_order (world_entries n)) (visits n) ≡ []
+pub none_misplaced : (n : ℕ) → n ≤ LARGEST_WORLD → places_of (parent_order (world_entries n)) (visits n) ≡ []
 none_misplaced n small =
     nothing_found (parent_order (world_entries n)) n (refl, (refl, (refl, tt))) (quiet_by (parent_order (world_entries n)) zone_visit refl)
     (λ p below. (refl, (whole _ (not_misplaced n p small below), (refl, (refl, (refl, (refl, tt)))))))
     (λ i below. (refl, (refl, (refl, (refl, (refl, tt))))))
 
 -- no path is too long
-pub none_deep : (n : ℕ) → n ≤ MOST_GROUPS → places_of (too_deep (world_entries n)) (visits n) ≡ []
+pub none_deep : (n : ℕ) → n ≤ LARGEST_WORLD → places_of (too_deep (world_entries n)) (visits n) ≡ []
 none_deep n small =
     nothing_found (too_deep (world_entries n)) n (refl, (refl, (refl, tt))) (quiet_by (too_deep (world_entries n)) zone_visit refl)
     (λ p below. (refl, (whole _ (not_deep n p small below), (refl, (refl, (refl, (refl, tt)))))))

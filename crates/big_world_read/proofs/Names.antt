@@ -12,7 +12,7 @@ use Rattle.std.specs.List.{list_all, list_any, range_with_len}
 use Rattle.std.specs.Str.{bytes_eq}
 use Rattle.std.proofs.lemmas.List.FromFn.{get_or-map-range_with_len}
 use Rattle.toml.specs.Data.{Data, boolean}
-use Rattle.big_world.specs.declared.TheConstants.{MOST_GROUPS}
+use Rattle.big_world.specs.declared.TheConstants.{LARGEST_WORLD}
 use Rattle.big_world.specs.Numbers.{behind}
 use Rattle.big_world.specs.Topology.{capacity_of, group_name, listed_pool, name_of_pool, nodes_of, pool_name, pools_of, region_name, regions_of}
 use Rattle.big_world.specs.World.{entry_data, group_data, groups_data, node_data, nodes_data, pool_data, pools_data, region_data}
@@ -204,12 +204,12 @@ called_other : (e : Data) (name text : List ℕ) → text_at e Name ≡ Some nam
 called_other e name text named apart = ap (is_called text) named ∙ other_bytes name text apart
 
 -- a name leads to its node, and to its group
-pub node_found : (n p : ℕ) → n ≤ MOST_GROUPS → p < nodes_of n → number_of (nodes_data n) (node_name p) ≡ Some p
+pub node_found : (n p : ℕ) → n ≤ LARGEST_WORLD → p < nodes_of n → number_of (nodes_data n) (node_name p) ≡ Some p
 node_found n p few within = found_from (λ e. is_called (node_name p) (text_at e Name)) (node_entry n) (nodes_of n) p within
     (λ q before. called_other (node_entry n q) (node_name q) (node_name p) (node_named n q) (λ same. let one : q ≡ p = node_tells q p (omega arith) (omega arith) same in omega arith))
     (called_so (node_entry n p) (node_name p) (node_named n p))
 
-pub group_found : (n i : ℕ) → n ≤ MOST_GROUPS → i < n → number_of (groups_data n) (group_name i) ≡ Some i
+pub group_found : (n i : ℕ) → n ≤ LARGEST_WORLD → i < n → number_of (groups_data n) (group_name i) ≡ Some i
 group_found n i few within = found_from (λ e. is_called (group_name i) (text_at e Name)) (group_entry n) n i within
     (λ q before. called_other (group_entry n q) (group_name q) (group_name i) (group_named n q) (λ same. let one : q ≡ i = group_tells q i (omega arith) (omega arith) same in omega arith))
     (called_so (group_entry n i) (group_name i) (group_named n i))
@@ -229,10 +229,10 @@ pool_node_name i j less =
     let place : pool_node i j % 5 - 1 ≡ j = omega arith in
     named_pool (pool_node i j) other ∙ ap (λ k. pool_name k (pool_node i j % 5 - 1)) same ∙ ap (pool_name i) place
 
-pub region_found : (n i : ℕ) → n ≤ MOST_GROUPS → i < regions_of n → number_of (nodes_data n) (region_name i) ≡ Some (5 * i)
+pub region_found : (n i : ℕ) → n ≤ LARGEST_WORLD → i < regions_of n → number_of (nodes_data n) (region_name i) ≡ Some (5 * i)
 region_found n i few within = ap (number_of (nodes_data n)) (sym (region_node_name i)) ∙ node_found n (5 * i) few (omega arith)
 
-pub pool_found : (n i j : ℕ) → n ≤ MOST_GROUPS → i < regions_of n → j < 4 → number_of (nodes_data n) (pool_name i j) ≡ Some (pool_node i j)
+pub pool_found : (n i j : ℕ) → n ≤ LARGEST_WORLD → i < regions_of n → j < 4 → number_of (nodes_data n) (pool_name i j) ≡ Some (pool_node i j)
 pool_found n i j few within less = ap (number_of (nodes_data n)) (sym (pool_node_name i j less)) ∙ node_found n (pool_node i j) few (omega arith)
 
 -- the parent of a node: none of a region, and of a pool its region
@@ -242,7 +242,7 @@ parent_as n p o within is = ap (λ (e : Data). option_and_then (number_of (nodes
 pub region_parent_of : (n p : ℕ) → p < nodes_of n → (p % 5 == 0) ≡ true → parent_of (nodes_data n) p ≡ None
 region_parent_of n p within first = parent_as n p None within (region_has_no_parent n p first)
 
-pub pool_parent_of : (n p : ℕ) → n ≤ MOST_GROUPS → p < nodes_of n → (p % 5 == 0) ≡ false → parent_of (nodes_data n) p ≡ Some (5 * (p / 5))
+pub pool_parent_of : (n p : ℕ) → n ≤ LARGEST_WORLD → p < nodes_of n → (p % 5 == 0) ≡ false → parent_of (nodes_data n) p ≡ Some (5 * (p / 5))
 pool_parent_of n p few within other = parent_as n p (Some (region_name (p / 5))) within (pool_has_parent n p other) ∙ region_found n (p / 5) few (omega arith)
 
 -- no path is deep
@@ -257,12 +257,12 @@ up_twice steps nodes i j once none = rw once (ap (λ (ns : List ℕ). i ∷ ns) 
 pub region_path : (n p : ℕ) → p < nodes_of n → (p % 5 == 0) ≡ true → ascend 9 (nodes_data n) (Some p) ≡ p ∷ []
 region_path n p within first = up_once 7 (nodes_data n) p (region_parent_of n p within first)
 
-pub pool_path : (n p : ℕ) → n ≤ MOST_GROUPS → p < nodes_of n → (p % 5 == 0) ≡ false → ascend 9 (nodes_data n) (Some p) ≡ p ∷ 5 * (p / 5) ∷ []
+pub pool_path : (n p : ℕ) → n ≤ LARGEST_WORLD → p < nodes_of n → (p % 5 == 0) ≡ false → ascend 9 (nodes_data n) (Some p) ≡ p ∷ 5 * (p / 5) ∷ []
 pool_path n p few within other =
     let first : ((5 * (p / 5)) % 5 == 0) ≡ true = grind (arith, nat_tests) in
     up_twice 6 (nodes_data n) p (5 * (p / 5)) (pool_parent_of n p few within other) (region_parent_of n (5 * (p / 5)) (omega arith) first)
 
-pub not_deep : (n p : ℕ) → n ≤ MOST_GROUPS → p < nodes_of n → is_deep (nodes_data n) p ≡ false
+pub not_deep : (n p : ℕ) → n ≤ LARGEST_WORLD → p < nodes_of n → is_deep (nodes_data n) p ≡ false
 not_deep n p few within = go (p % 5 == 0) refl
   where
     go : (b : Bool) → (p % 5 == 0) ≡ b → is_deep (nodes_data n) p ≡ false
@@ -270,7 +270,7 @@ not_deep n p few within = go (p % 5 == 0) refl
     go false other = ap (λ (ns : List ℕ). nat_lt 8 (length ns)) (pool_path n p few within other)
 
 -- each parent is a region that stands before its pools
-pub not_misplaced : (n p : ℕ) → n ≤ MOST_GROUPS → p < nodes_of n → is_misplaced (nodes_data n) p (parent_of (nodes_data n) p) ≡ false
+pub not_misplaced : (n p : ℕ) → n ≤ LARGEST_WORLD → p < nodes_of n → is_misplaced (nodes_data n) p (parent_of (nodes_data n) p) ≡ false
 not_misplaced n p few within = go (p % 5 == 0) refl
   where
     go : (b : Bool) → (p % 5 == 0) ≡ b → is_misplaced (nodes_data n) p (parent_of (nodes_data n) p) ≡ false
@@ -289,10 +289,10 @@ free_at entries i o name named found =
     let same : (i == i) ≡ true = grind (arith, nat_tests) in
     ap (is_taken entries i) named ∙ ap (λ (k : Option ℕ). is_other k i) found ∙ ap not same
 
-pub node_name_free : (n p : ℕ) → n ≤ MOST_GROUPS → p < nodes_of n → is_taken (nodes_data n) p (text_at (node_entry n p) Name) ≡ false
+pub node_name_free : (n p : ℕ) → n ≤ LARGEST_WORLD → p < nodes_of n → is_taken (nodes_data n) p (text_at (node_entry n p) Name) ≡ false
 node_name_free n p few within = free_at (nodes_data n) p (text_at (node_entry n p) Name) (node_name p) (node_named n p) (node_found n p few within)
 
-pub group_name_free : (n i : ℕ) → n ≤ MOST_GROUPS → i < n → is_taken (groups_data n) i (text_at (group_entry n i) Name) ≡ false
+pub group_name_free : (n i : ℕ) → n ≤ LARGEST_WORLD → i < n → is_taken (groups_data n) i (text_at (group_entry n i) Name) ≡ false
 group_name_free n i few within = free_at (groups_data n) i (text_at (group_entry n i) Name) (group_name i) (group_named n i) (group_found n i few within)
 
 -- the names of a plan
@@ -309,28 +309,28 @@ pub group_names : (n : ℕ) → map name_of (groups_data n) ≡ map group_name (
 group_names n = map_twice name_of (group_entry n) group_name (group_name_of n) (range_with_len 0 n)
 
 -- a plan's names lead to the same numbers
-pub node_in_plan : (n p : ℕ) → n ≤ MOST_GROUPS → p < nodes_of n → number_in (map name_of (nodes_data n)) (node_name p) ≡ Some p
+pub node_in_plan : (n p : ℕ) → n ≤ LARGEST_WORLD → p < nodes_of n → number_in (map name_of (nodes_data n)) (node_name p) ≡ Some p
 node_in_plan n p few within =
     ap (λ (names : List (List ℕ)). number_in names (node_name p)) (node_names n)
     ∙ found_at (bytes_eq (node_name p)) node_name (nodes_of n) p within
     (λ q before. other_bytes (node_name p) (node_name q) (λ same. let one : p ≡ q = node_tells p q (omega arith) (omega arith) same in omega arith))
     (same_bytes (node_name p))
 
-pub group_in_plan : (n i : ℕ) → n ≤ MOST_GROUPS → i < n → number_in (map name_of (groups_data n)) (group_name i) ≡ Some i
+pub group_in_plan : (n i : ℕ) → n ≤ LARGEST_WORLD → i < n → number_in (map name_of (groups_data n)) (group_name i) ≡ Some i
 group_in_plan n i few within =
     ap (λ (names : List (List ℕ)). number_in names (group_name i)) (group_names n)
     ∙ found_at (bytes_eq (group_name i)) group_name n i within
     (λ q before. other_bytes (group_name i) (group_name q) (λ same. let one : i ≡ q = group_tells i q (omega arith) (omega arith) same in omega arith))
     (same_bytes (group_name i))
 
-pub pool_in_plan : (n i j : ℕ) → n ≤ MOST_GROUPS → i < regions_of n → j < 4 → number_in (map name_of (nodes_data n)) (pool_name i j) ≡ Some (pool_node i j)
+pub pool_in_plan : (n i j : ℕ) → n ≤ LARGEST_WORLD → i < regions_of n → j < 4 → number_in (map name_of (nodes_data n)) (pool_name i j) ≡ Some (pool_node i j)
 pool_in_plan n i j few within less = ap (number_in (map name_of (nodes_data n))) (sym (pool_node_name i j less)) ∙ node_in_plan n (pool_node i j) few (omega arith)
 
 -- pool q of all is a pool among the nodes
-pub pool_number_found : (n q : ℕ) → n ≤ MOST_GROUPS → q < pools_of n → number_of (nodes_data n) (name_of_pool q) ≡ Some (pool_node (q / 4) (q % 4))
+pub pool_number_found : (n q : ℕ) → n ≤ LARGEST_WORLD → q < pools_of n → number_of (nodes_data n) (name_of_pool q) ≡ Some (pool_node (q / 4) (q % 4))
 pool_number_found n q few within = pool_found n (q / 4) (q % 4) few (omega arith) (omega arith)
 
-pub listed_is_pool : (n q : ℕ) → n ≤ MOST_GROUPS → q < pools_of n → is_pool_number (nodes_data n) (number_of (nodes_data n) (name_of_pool q)) ≡ true
+pub listed_is_pool : (n q : ℕ) → n ≤ LARGEST_WORLD → q < pools_of n → is_pool_number (nodes_data n) (number_of (nodes_data n) (name_of_pool q)) ≡ true
 listed_is_pool n q few within =
     let other : (pool_node (q / 4) (q % 4) % 5 == 0) ≡ false = grind (arith, nat_tests) in
     ap (is_pool_number (nodes_data n)) (pool_number_found n q few within)
@@ -340,7 +340,7 @@ listed_is_pool n q few within =
 pub listed_within : (n s t : ℕ) → listed_pool n s t < pools_of n
 listed_within n s t = omega arith
 
-pub listed_known : (n s t : ℕ) → n ≤ MOST_GROUPS → is_pool_number (nodes_data n) (number_of (nodes_data n) (name_of_pool (listed_pool n s t))) ≡ true
+pub listed_known : (n s t : ℕ) → n ≤ LARGEST_WORLD → is_pool_number (nodes_data n) (number_of (nodes_data n) (name_of_pool (listed_pool n s t))) ≡ true
 listed_known n s t few = listed_is_pool n (listed_pool n s t) few (listed_within n s t)
 
 -- once round at most
@@ -369,7 +369,7 @@ pool_text_tells q r low high h =
     let same = pool_tells (q / 4) (q % 4) (r / 4) (r % 4) (omega arith) (omega arith) (omega arith) (omega arith) h in
     omega (arith, same.0, same.1)
 
-pub listed_once : (n s length : ℕ) → n ≤ MOST_GROUPS → s < pools_of n → length ≤ pools_of n → has_repeat (texts_of (pools_data n s length)) ≡ false
+pub listed_once : (n s length : ℕ) → n ≤ LARGEST_WORLD → s < pools_of n → length ≤ pools_of n → has_repeat (texts_of (pools_data n s length)) ≡ false
 listed_once n s length few start short =
     ap has_repeat (texts_from (λ t. name_of_pool (listed_pool n s t)) (range_with_len 0 length))
     ∙ no_repeat (λ t. name_of_pool (listed_pool n s t)) 0 length

@@ -13,7 +13,7 @@ use Rattle.topology_text.specs.Values.{is_bad_address, is_bad_name, is_bad_prefi
 use Rattle.topology_text.specs.Walk.{Visit, first, places_of, walk}
 use Rattle.topology_text.specs.declared.fault.TopologyFault.{TopologyFault}
 use Rattle.topology_text.specs.declared.fault.TopologyFault.TheVariants.{MissingKey, WrongKind, UnknownKey, BadName, DuplicateName, UnknownName, ParentOrder, TooDeep, Range, BadAddress, BadPrefix, DuplicatePrefix, NoDefault, ListShape, NsInside, TooMany}
-use Rattle.big_world.specs.declared.TheConstants.{MOST_GROUPS}
+use Rattle.big_world.specs.declared.TheConstants.{LARGEST_WORLD}
 use Rattle.big_world.specs.Topology.{topology_of}
 use Rattle.big_world.specs.World.{world_of}
 use Rattle.big_world.proofs.Octets.{is_text}
@@ -75,7 +75,7 @@ none_at_all : (d : Entries) (vs : List Visit) → FindsNone d vs → faults_on d
 none_at_all d vs h =
     both_empty _ _ (none_of_shape d vs h) (both_empty _ _ (none_of_names d vs h) (both_empty _ _ (none_of_values d vs h) (both_empty _ _ (none_of_prefixes d vs h) (none_of_lists d vs h))))
 
-finds_none : (n : ℕ) → 1 ≤ n → n ≤ MOST_GROUPS → FindsNone (world_entries n) (visits n)
+finds_none : (n : ℕ) → 1 ≤ n → n ≤ LARGEST_WORLD → FindsNone (world_entries n) (visits n)
 finds_none n some small = record {
   missing = none_missing n;
   kinds = none_wrong n;
@@ -97,12 +97,12 @@ finds_none n some small = record {
 }
 
 -- there is no fault
-pub no_fault : (n : ℕ) → 1 ≤ n → n ≤ MOST_GROUPS → faults_of (world_of n) ≡ []
+pub no_fault : (n : ℕ) → 1 ≤ n → n ≤ LARGEST_WORLD → faults_of (world_of n) ≡ []
 unfolding faults_of
 no_fault n some small = (λ i. faults_on (entries_are n i) (walked n i)) ∙ none_at_all (world_entries n) (visits n) (finds_none n some small)
 
 -- what the document is read as
-pub reads_document : (n : ℕ) → 1 ≤ n → n ≤ MOST_GROUPS → reading_of (Some (world_of n)) ≡ Ok (world_plan n)
+pub reads_document : (n : ℕ) → 1 ≤ n → n ≤ LARGEST_WORLD → reading_of (Some (world_of n)) ≡ Ok (world_plan n)
 unfolding world_plan
 reads_document n some small = ap (λ (fs : List TopologyFault). found_or (plan_of (entries_of (world_of n)) (all_prefixes (walk (world_of n)))) (first fs)) (no_fault n some small)
 
@@ -112,9 +112,9 @@ unfolding document
 read_text bytes top parsed utf8 = ap (λ (b : Bool). reading_of (if b then parse_document bytes else None)) utf8 ∙ ap (λ (o : Option Members). reading_of o) parsed
 
 -- and the text
-pub reads : (n : ℕ) → 1 ≤ n → n ≤ MOST_GROUPS → parse_document (topology_of n) ≡ Some (world_of n) → is_utf8 (topology_of n) ≡ true → reading (topology_of n) ≡ Ok (world_plan n)
+pub reads : (n : ℕ) → 1 ≤ n → n ≤ LARGEST_WORLD → parse_document (topology_of n) ≡ Some (world_of n) → is_utf8 (topology_of n) ≡ true → reading (topology_of n) ≡ Ok (world_plan n)
 reads n some small parsed utf8 = read_text (topology_of n) (world_of n) parsed utf8 ∙ reads_document n some small
 
 -- the topology is read as what it says
-pub topology_read : (n : ℕ) → 1 ≤ n → n ≤ MOST_GROUPS → reading (topology_of n) ≡ Ok (world_plan n)
+pub topology_read : (n : ℕ) → 1 ≤ n → n ≤ LARGEST_WORLD → reading (topology_of n) ≡ Ok (world_plan n)
 topology_read n some small = reads n some small (parses n some) (is_text n)

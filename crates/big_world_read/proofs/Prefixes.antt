@@ -16,7 +16,7 @@ use Rattle.topology_text.specs.Walk.{Visit, items_at, marked_from}
 use Rattle.topology_text.specs.declared.prefixes.PrefixAt.{PrefixAt}
 use Rattle.topology_text.specs.declared.schema.Key.TheVariants.{A, Prefixes}
 use Rattle.topology_text.specs.declared.schema.At.TheVariants.{Whole}
-use Rattle.big_world.specs.declared.TheConstants.{MOST_GROUPS}
+use Rattle.big_world.specs.declared.TheConstants.{LARGEST_WORLD}
 use Rattle.big_world.specs.Topology.{block_text, host_text, nodes_of}
 use Rattle.big_world.specs.World.{entry_data, group_data, prefixes_data}
 use Rattle.big_world_read.proofs.Addresses.{block_of, block_read, default_v4_read, default_v6_read, host_read}
@@ -42,10 +42,10 @@ abbrev pub world_prefixes : ℕ → List PrefixAt
 world_prefixes n = all_v4_at ∷ all_v6_at ∷ map block_at (range_with_len 1 (n - 1))
 
 -- each item of `prefixes` is a prefix
-no_bad_block : (i : ℕ) → i < MOST_GROUPS → is_bad_prefix Prefixes (string (block_text i)) ≡ false
+no_bad_block : (i : ℕ) → i < LARGEST_WORLD → is_bad_prefix Prefixes (string (block_text i)) ≡ false
 no_bad_block i small = ap (λ (o : Option Prefix). not (is_some o)) (block_read i small)
 
-pub no_bad_prefix : (i : ℕ) → i < MOST_GROUPS → AllByRecursion (λ d. is_bad_prefix Prefixes d ≡ false) (prefixes_data i)
+pub no_bad_prefix : (i : ℕ) → i < LARGEST_WORLD → AllByRecursion (λ d. is_bad_prefix Prefixes d ≡ false) (prefixes_data i)
 unfolding prefixes_data
 no_bad_prefix i small = go (i == 0)
   where
@@ -72,7 +72,7 @@ first_items =
     ap (λ (o : Option Prefix). cons_option (option_map (λ x. record { prefix = x; group = 0; item = 0 }) o) (prefixes_from 0 1 (string (codes "::/0") ∷ []))) default_v4_read
     ∙ ap (λ (o : Option Prefix). all_v4_at ∷ cons_option (option_map (λ x. record { prefix = x; group = 0; item = 1 }) o) []) default_v6_read
 
-later_items : (i : ℕ) → 1 ≤ i → i < MOST_GROUPS → prefixes_from i 0 (prefixes_data i) ≡ block_at i ∷ []
+later_items : (i : ℕ) → 1 ≤ i → i < LARGEST_WORLD → prefixes_from i 0 (prefixes_data i) ≡ block_at i ∷ []
 unfolding prefixes_data
 later_items i some small =
     let other : (i == 0) ≡ false = grind (arith, nat_tests) in
@@ -82,7 +82,7 @@ later_items i some small =
 first_seen : (n : ℕ) → seen (group_visit n 0) ≡ all_v4_at ∷ all_v6_at ∷ []
 first_seen n = ap (λ (ds : List Data). prefixes_from 0 0 ds) (group_items n 0) ∙ first_items
 
-later_seen : (n i : ℕ) → 1 ≤ i → i < MOST_GROUPS → seen (group_visit n i) ≡ block_at i ∷ []
+later_seen : (n i : ℕ) → 1 ≤ i → i < LARGEST_WORLD → seen (group_visit n i) ≡ block_at i ∷ []
 later_seen n i some small = ap (λ (ds : List Data). prefixes_from i 0 ds) (group_items n i) ∙ later_items i some small
 
 -- no node has one
@@ -90,13 +90,13 @@ nodes_seen : (n a k : ℕ) → flat_map seen (map (node_visit n) (range_with_len
 nodes_seen n a zero = refl
 nodes_seen n a (suc k) = nodes_seen n (a + 1) k
 
-groups_seen : (n a k : ℕ) → 1 ≤ a → a + k ≤ MOST_GROUPS → flat_map seen (map (group_visit n) (range_with_len a k)) ≡ map block_at (range_with_len a k)
+groups_seen : (n a k : ℕ) → 1 ≤ a → a + k ≤ LARGEST_WORLD → flat_map seen (map (group_visit n) (range_with_len a k)) ≡ map block_at (range_with_len a k)
 groups_seen n a zero some most = refl
 groups_seen n a (suc k) some most =
     ap (λ (es : List PrefixAt). es ++ flat_map seen (map (group_visit n) (range_with_len (a + 1) k))) (later_seen n a some (omega arith))
     ∙ ap (λ (es : List PrefixAt). block_at a ∷ es) (groups_seen n (a + 1) k (omega arith) (omega arith))
 
-pub prefixes_are : (n : ℕ) → 1 ≤ n → n ≤ MOST_GROUPS → all_prefixes (visits n) ≡ world_prefixes n
+pub prefixes_are : (n : ℕ) → 1 ≤ n → n ≤ LARGEST_WORLD → all_prefixes (visits n) ≡ world_prefixes n
 prefixes_are zero some most = absurd (omega arith)
 prefixes_are (suc m) some most =
     let n = suc m in
@@ -110,7 +110,7 @@ prefixes_are (suc m) some most =
     ∙ ap (λ (k : ℕ). all_v4_at ∷ all_v6_at ∷ map block_at (range_with_len 1 k)) (sym less)
 
 -- all addresses of either version are held
-pub defaults_there : (n : ℕ) → 1 ≤ n → n ≤ MOST_GROUPS → no_default (all_prefixes (visits n)) ≡ []
+pub defaults_there : (n : ℕ) → 1 ≤ n → n ≤ LARGEST_WORLD → no_default (all_prefixes (visits n)) ≡ []
 defaults_there n some most = ap no_default (prefixes_are n some most)
 
 -- the prefix of a group is not that of an earlier one
@@ -156,7 +156,7 @@ twice_none m =
     let es : List PrefixAt = all_v4_at ∷ all_v6_at ∷ map block_at (range_with_len 1 m) in
     ap (map (λ (p : ℕ × PrefixAt). place_of p.1)) (none_marked (λ i e. has_prefix (take i es) e.prefix) block_at 2 1 m (λ j below. twice_test m j below))
 
-pub prefixes_once : (n : ℕ) → 1 ≤ n → n ≤ MOST_GROUPS → duplicate_prefixes (all_prefixes (visits n)) ≡ []
+pub prefixes_once : (n : ℕ) → 1 ≤ n → n ≤ LARGEST_WORLD → duplicate_prefixes (all_prefixes (visits n)) ≡ []
 prefixes_once n some most = ap duplicate_prefixes (prefixes_are n some most) ∙ twice_none (n - 1)
 
 -- no table has more than two
@@ -181,7 +181,7 @@ few_sum g a (suc k) few = omega (arith, sum_by-cons count (g a) (map g (range_wi
 few_nodes : (n p : ℕ) → count (node_visit n p) ≤ 2
 few_nodes n p = omega arith
 
-few_prefixes : (n : ℕ) → n ≤ MOST_GROUPS → total (visits n) ≤ 262144
+few_prefixes : (n : ℕ) → n ≤ LARGEST_WORLD → total (visits n) ≤ 262144
 few_prefixes n most =
     let nodes = map (node_visit n) (range_with_len 0 (nodes_of n)) in
     let groups = map (group_visit n) (range_with_len 0 n) in
@@ -194,7 +194,7 @@ few_prefixes n most =
     omega arith
 
 -- the total never passes its limit
-never_past : (n k : ℕ) → n ≤ MOST_GROUPS → is_past (visits n) k ≡ false
+never_past : (n k : ℕ) → n ≤ LARGEST_WORLD → is_past (visits n) k ≡ false
 never_past n k most =
     let part : total (take k (visits n)) ≤ total (visits n) = sum_by-take-le count (visits n) k in
     let whole = few_prefixes n most in
@@ -205,7 +205,7 @@ unmarked test i [] never = refl
 unmarked test i (x ∷ xs) never =
     ap (λ (b : Bool). cond b ((i, x) ∷ marked_from test (i + 1) xs) (marked_from test (i + 1) xs)) (never i x) ∙ unmarked test (i + 1) xs never
 
-pub never_passing : (n : ℕ) → n ≤ MOST_GROUPS → passing (visits n) ≡ []
+pub never_passing : (n : ℕ) → n ≤ LARGEST_WORLD → passing (visits n) ≡ []
 never_passing n most =
     let test : ℕ → Visit → Bool = λ i v. is_past (visits n) (i + 1) && not (is_past (visits n) i) in
     ap (map (λ (p : ℕ × Visit). record { spot = p.1.spot; key = Some Prefixes; at = Whole }))

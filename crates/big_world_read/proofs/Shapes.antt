@@ -11,7 +11,7 @@ use Rattle.topology_text.specs.Values.{missing, too_many, unknown, whole_if, wro
 use Rattle.topology_text.specs.Walk.{list_of, places_in, places_of}
 use Rattle.topology_text.specs.declared.schema.Kind.TheVariants.{Integers, Tables, Texts}
 use Rattle.topology_text.specs.declared.schema.Spot.TheVariants.{GroupTable, NodeTable}
-use Rattle.big_world.specs.declared.TheConstants.{MOST_GROUPS}
+use Rattle.big_world.specs.declared.TheConstants.{LARGEST_WORLD}
 use Rattle.big_world.specs.Topology.{nodes_of}
 use Rattle.big_world.specs.World.{array_of, groups_data, nodes_data, pools_data, prefixes_data}
 use Rattle.big_world_read.proofs.Names.{listed_once}
@@ -64,7 +64,7 @@ made_again f k = ap (λ (ds : List Data). length ds) (listed_again (map f (range
 within_limit : (limit m k : ℕ) → m ≡ k → k ≤ limit → whole_if (nat_lt limit m) ≡ []
 within_limit limit m k is small = ap (λ b. whole_if b) (le-ltb limit m (omega arith))
 
-pub none_too_many : (n : ℕ) → n ≤ MOST_GROUPS → places_of too_many (visits n) ≡ []
+pub none_too_many : (n : ℕ) → n ≤ LARGEST_WORLD → places_of too_many (visits n) ≡ []
 none_too_many n small =
     nothing_found too_many n (
       refl,
@@ -88,7 +88,7 @@ alike a b p = ap (λ e. whole_if (not e)) (eq-eqb a b p)
 fine_list : (ds : List Data) (k : ℕ) → length ds ≡ k → 1 ≤ k → k ≤ 16 → has_repeat (texts_of ds) ≡ false → whole_if ((length ds == 0 || nat_lt 16 (length ds)) || has_repeat (texts_of ds)) ≡ []
 fine_list ds k is some few once = neither (length ds == 0) (nat_lt 16 (length ds)) (has_repeat (texts_of ds)) (ne_eqb (length ds) 0 (λ e. omega arith)) (le-ltb 16 (length ds) (omega arith)) once
 
-pub none_misshapen : (n : ℕ) → n ≤ MOST_GROUPS → places_of list_shape (visits n) ≡ []
+pub none_misshapen : (n : ℕ) → n ≤ LARGEST_WORLD → places_of list_shape (visits n) ≡ []
 none_misshapen n little =
     nothing_found list_shape n
     (refl, (refl, (refl, tt)))

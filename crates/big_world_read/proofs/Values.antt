@@ -5,7 +5,7 @@ use Rattle.std.proofs.lemmas.Bool.{le-leb}
 use Rattle.topology_text.specs.Faults.{failures}
 use Rattle.topology_text.specs.Values.{is_bad_address, is_bad_prefix, is_out_of_range, is_within}
 use Rattle.topology_text.specs.declared.schema.Key.TheVariants.{Prefixes}
-use Rattle.big_world.specs.declared.TheConstants.{MOST_GROUPS}
+use Rattle.big_world.specs.declared.TheConstants.{LARGEST_WORLD}
 use Rattle.big_world_read.proofs.Passes.{Passes, failing_at, passes, prefixes_pass}
 use Rattle.big_world_read.proofs.Prefixes.{no_bad_host, no_bad_prefix}
 use Rattle.big_world_read.proofs.Quiet.{quiet_by}
@@ -38,7 +38,7 @@ pub none_out_of_range : (n : ℕ) → failures is_out_of_range (visits n) ≡ []
 none_out_of_range n = passes is_out_of_range n (in_range n)
 
 -- addresses
-good_addresses : (n : ℕ) → n ≤ MOST_GROUPS → Passes is_bad_address n
+good_addresses : (n : ℕ) → n ≤ LARGEST_WORLD → Passes is_bad_address n
 good_addresses n small = record {
   whole_zone = λ ms. refl;
   nodes = λ ms. refl;
@@ -57,11 +57,11 @@ good_addresses n small = record {
   prefixes = λ i below. prefixes_pass (is_bad_address Prefixes) (λ t. refl) i;
 }
 
-pub none_bad_address : (n : ℕ) → n ≤ MOST_GROUPS → failures is_bad_address (visits n) ≡ []
+pub none_bad_address : (n : ℕ) → n ≤ LARGEST_WORLD → failures is_bad_address (visits n) ≡ []
 none_bad_address n small = passes is_bad_address n (good_addresses n small)
 
 -- prefixes
-good_prefixes : (n : ℕ) → n ≤ MOST_GROUPS → Passes is_bad_prefix n
+good_prefixes : (n : ℕ) → n ≤ LARGEST_WORLD → Passes is_bad_prefix n
 good_prefixes n small = record {
   whole_zone = λ ms. refl;
   nodes = λ ms. refl;
@@ -80,5 +80,5 @@ good_prefixes n small = record {
   prefixes = λ i below. no_bad_prefix i (omega arith);
 }
 
-pub none_bad_prefix : (n : ℕ) → n ≤ MOST_GROUPS → failures is_bad_prefix (visits n) ≡ []
+pub none_bad_prefix : (n : ℕ) → n ≤ LARGEST_WORLD → failures is_bad_prefix (visits n) ≡ []
 none_bad_prefix n small = passes is_bad_prefix n (good_prefixes n small)

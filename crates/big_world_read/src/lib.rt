@@ -3,13 +3,13 @@
 #![tactic(auto)]
 
 ghost use Rattle.std.specs.Prelude.{◌≤◌};
-ghost use Rattle.big_world.specs.declared.TheConstants.{MOST_GROUPS};
+ghost use Rattle.big_world.specs.declared.TheConstants.{LARGEST_WORLD};
 ghost use Rattle.big_world_read.specs.Read.{IsWorld};
 
 /// The two texts of a world of so many groups say what `specs/Read` tells.
 pub fn world_is_read(groups: u32)
     requires some { 1 ≤ groups }
-    requires most { groups ≤ MOST_GROUPS }
+    requires most { groups ≤ LARGEST_WORLD }
     ensures { IsWorld groups }
 {
     let _ = groups;

@@ -4,6 +4,7 @@ ghost use Rattle.client_subnet.specs.Options.{subnet_in, is_subnet_of, number_of
 ghost use Rattle.client_subnet.specs.View.{HasForm};
 
 use crate::field::{u32_padded, u128_padded};
+use crate::writing::{IPV4, IPV6};
 use addr_text::Addr;
 use dns_wire::octets::u16_in;
 
@@ -67,7 +68,7 @@ pub(crate) fn read_subnet(octets: &[u8]) -> ClientSubnet
     let source = octets[2];
     match u16_in(octets, 0) {
         0 if octets.len() == 4 && source == 0 && octets[3] == 0 => ClientSubnet::Ignored,
-        1 => {
+        IPV4 => {
             let number = u32_padded(&octets[4..]);
             if is_subnet_of(32, u128::from(number), octets) {
                 ClientSubnet::Given(SubnetOpt {
@@ -78,7 +79,7 @@ pub(crate) fn read_subnet(octets: &[u8]) -> ClientSubnet
                 ClientSubnet::Bad
             }
         }
-        2 => {
+        IPV6 => {
             let number = u128_padded(&octets[4..]);
             if is_subnet_of(128, number, octets) {
                 ClientSubnet::Given(SubnetOpt {

@@ -10,10 +10,11 @@ use addr_text::Addr;
 use dns_wire::numbers::CLIENT_SUBNET;
 use dns_wire::octets::{ReplyBuffer, put, u16_octets, u32_octets, u128_octets};
 
-/// The family of IPv4, and that of IPv6.
-const IPV4: u16 = 1;
+/// The family of IPv4 (address family numbers of IANA, by RFC 7871 section 6).
+pub(crate) const IPV4: u16 = 1;
 
-const IPV6: u16 = 2;
+/// The family of IPv6, there.
+pub(crate) const IPV6: u16 = 2;
 
 /// Appends the option of a family.
 fn write_option(out: &mut ReplyBuffer, family: u16, source: u8, scope: u8, address: &[u8])

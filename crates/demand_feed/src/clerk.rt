@@ -1,5 +1,5 @@
 //! What comes of a feed's lines, one after another.
-ghost use Rattle.std.specs.Prelude.{◌≡◌, ◌↔◌, ◌≤◌, ◌<◌, ◌-◌, ◌+◌, ◌^◌, ℕ, List, Ok, Err, [], true, length, IfOk, IsTrue, MatchResult};
+ghost use Rattle.std.specs.Prelude.{◌≡◌, ◌≢◌, ◌↔◌, ◌≤◌, ◌<◌, ◌-◌, ◌+◌, ◌^◌, ℕ, List, Ok, Err, [], true, length, IfOk, IsTrue, MatchResult};
 ghost use Rattle.map_model.specs.Market.{Market};
 ghost use Rattle.demand_feed.specs.Line.{line_of};
 ghost use Rattle.demand_feed.specs.SaidBy.{IsShort, said_by};
@@ -120,6 +120,7 @@ impl Clerk {
         requires line { IsChangeLine line.now }
         requires refused { self.old.desk.refused < self.old.desk.number }
         ensures step { record { item = item_by self.new.due result; desk = self.new.desk } ≡ changed self.old.desk (with_line topology.now self.old.desk.changes line.now) }
+        ensures due { self.new.due ≡ self.old.due }
         ensures kept { AreBatches topology.now.market self.old → AreBatches topology.now.market self.new }
         ensures goes_on { ¬ (result ≡ Next.Stop) }
     {
@@ -131,6 +132,7 @@ impl Clerk {
 
     fn commit(&mut self) -> Next
         ensures step { record { item = item_by self.new.due result; desk = self.new.desk } ≡ commit_line self.old.desk }
+        ensures due { result ≢ Next.Batch → self.new.due ≡ self.old.due }
         ensures kept { (m : Market) → AreBatches m self.old → AreBatches m self.new }
         ensures goes_on { ¬ (result ≡ Next.Stop) }
     {
@@ -152,6 +154,7 @@ impl Clerk {
         requires short { IsShort LONGEST_LINE line }
         requires refused { self.old.desk.refused < self.old.desk.number }
         ensures step { record { item = item_by self.new.due result; desk = self.new.desk } ≡ by_said topology.now self.old.desk (Ok (said_by line.entry)) }
+        ensures due { result ≢ Next.Batch → self.new.due ≡ self.old.due }
         ensures kept { AreBatches topology.now.market self.old → AreBatches topology.now.market self.new }
         ensures stop { (result ≡ Next.Stop) ↔ (line.entry ≡ Line.Stop) }
     {
@@ -172,6 +175,8 @@ impl Clerk {
     pub fn take(&mut self, topology: &Topology, line: &[u8]) -> Next
         requires { self.old.desk.number < 2 ^ 64 - 1 }
         ensures step { record { item = item_by self.new.due result; desk = self.new.desk } ≡ step topology.now self.old.desk line.now }
+        // The batch that ended last stays until another one ends.
+        ensures due { result ≢ Next.Batch → self.new.due ≡ self.old.due }
         ensures kept { AreBatches topology.now.market self.old → AreBatches topology.now.market self.new }
         ensures stop { (result ≡ Next.Stop) ↔ (is_stop line.now ≡ true) }
     {

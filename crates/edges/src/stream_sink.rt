@@ -1,12 +1,15 @@
 //! A writer of std, as a sink.
-ghost use Rattle.std.specs.Prelude.{◌≡◌, None};
+ghost use Rattle.std.specs.Prelude.{◌≡◌, ◌≢◌, ◌≤◌, None};
+ghost use Rattle.std.specs.Io.KnownBytes.{Appends};
+ghost use Rattle.outside.specs.Faults.{BothTell, Rose};
+ghost use Rattle.outside.specs.Sink.{IsPut};
 
 use crate::pieces::put_whole;
 use outside::{Put, Sink};
 use std::io::Write;
 use std::marker::Model;
 
-/// A stream of the system, as a count of the puts that failed. It keeps nothing back.
+/// A stream of the system, and how many puts failed. It keeps nothing back.
 #[derive(Drop)]
 pub struct StreamSink<W: Write> {
     stream: W,
@@ -14,17 +17,17 @@ pub struct StreamSink<W: Write> {
 }
 
 impl<W: Write> Model for StreamSink<W> {
-    ghost use Rattle.std.specs.Prelude.{ℕ};
+    ghost use Rattle.edges.specs.Streams.{Writing};
 
-    ghost Value = { ℕ };
+    ghost Value = { Writing W };
 
-    ghost view = { λ s. s.faults };
+    ghost view = { λ s. record { stream = s.stream; faults = s.faults } };
 }
 
 impl<W: Write> StreamSink<W> {
     /// One over this stream, without a fault so far.
     pub fn new(stream: W) -> StreamSink<W>
-        ensures { result ≡ 0 }
+        ensures { result ≡ record { stream = stream; faults = 0 } }
     {
         StreamSink { stream, faults: 0 }
     }
@@ -33,9 +36,16 @@ impl<W: Write> StreamSink<W> {
 impl<W: Write> Sink for StreamSink<W> {
     ghost told = { λ _. None };
 
-    ghost faults = { λ s. s };
+    ghost faults = { λ s. s.faults };
 
-    fn put(&mut self, piece: &[u8]) -> Put {
+    fn put(&mut self, piece: &[u8]) -> Put
+        ensures put { BothTell None None (IsPut result piece.now) }
+        ensures later { self.old.faults ≤ self.new.faults }
+        ensures cause { result ≡ Put.Failed → Rose self.old.faults self.new.faults }
+        ensures stays { result ≢ Put.Failed → self.new.faults ≡ self.old.faults }
+        // A writer that tells its bytes has got the whole piece, once, and nothing else.
+        ensures done { result ≡ Put.Done → Appends (W.contents self.old.stream) (W.contents self.new.stream) piece.now }
+    {
         let put = put_whole(&mut self.stream, piece);
         if put == Put::Failed {
             self.faults = self.faults.saturating_add(1);

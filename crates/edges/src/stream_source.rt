@@ -1,12 +1,15 @@
 //! A reader of std, as a source.
-ghost use Rattle.std.specs.Prelude.{◌≡◌, None};
+ghost use Rattle.std.specs.Prelude.{◌≡◌, ◌≢◌, ◌≤◌, ℕ, None, true, false, take, length};
+ghost use Rattle.std.specs.Io.KnownBytes.{Consumes, IsAtEnd, Keeps};
+ghost use Rattle.outside.specs.Faults.{BothTell, Rose};
+ghost use Rattle.outside.specs.Source.{IsRead, IsWithin};
 
 use crate::pieces::read_piece;
 use outside::{Read, Source};
 use std::io;
 use std::marker::Model;
 
-/// A stream of the system, as a count of the reads that failed. Once it has ended it is asked no more.
+/// A stream of the system, whether it has ended, and how many reads failed. Once it has ended it is asked no more.
 #[derive(Drop)]
 pub struct StreamSource<T: io::Read> {
     stream: T,
@@ -15,17 +18,17 @@ pub struct StreamSource<T: io::Read> {
 }
 
 impl<T: io::Read> Model for StreamSource<T> {
-    ghost use Rattle.std.specs.Prelude.{ℕ};
+    ghost use Rattle.edges.specs.Streams.{Reading};
 
-    ghost Value = { ℕ };
+    ghost Value = { Reading T };
 
-    ghost view = { λ s. s.faults };
+    ghost view = { λ s. record { stream = s.stream; is_ended = s.is_ended; faults = s.faults } };
 }
 
 impl<T: io::Read> StreamSource<T> {
     /// One over this stream, without a fault so far.
     pub fn new(stream: T) -> StreamSource<T>
-        ensures { result ≡ 0 }
+        ensures { result ≡ record { stream = stream; is_ended = false; faults = 0 } }
     {
         StreamSource {
             stream,
@@ -38,9 +41,22 @@ impl<T: io::Read> StreamSource<T> {
 impl<T: io::Read> Source for StreamSource<T> {
     ghost told = { λ _. None };
 
-    ghost faults = { λ s. s };
+    ghost faults = { λ s. s.faults };
 
-    fn read(&mut self, buffer: &mut [u8]) -> Read {
+    fn read(&mut self, buffer: &mut [u8]) -> Read
+        requires { 1 ≤ length buffer.old }
+        ensures within { IsWithin result (length buffer.old) }
+        ensures read { BothTell None None (IsRead (length buffer.old) result buffer.new) }
+        ensures later { self.old.faults ≤ self.new.faults }
+        ensures cause { result ≡ Read.Failed → Rose self.old.faults self.new.faults }
+        ensures stays { result ≢ Read.Failed → self.new.faults ≡ self.old.faults }
+        // Of a reader that tells its bytes the next ones are taken, where it has not ended; its end is answered where none is left, and from then on, without asking it; and a read that failed takes nothing.
+        ensures got { (n : ℕ) → result ≡ Read.Got n → Consumes (T.remaining self.old.stream) (T.remaining self.new.stream) (take n buffer.new) }
+        ensures end { result ≡ Read.End → self.old.is_ended ≡ false → IsAtEnd (T.remaining self.new.stream) × Keeps (T.remaining self.old.stream) (T.remaining self.new.stream) }
+        ensures failed { result ≡ Read.Failed → Keeps (T.remaining self.old.stream) (T.remaining self.new.stream) }
+        ensures ended { (result ≡ Read.End) ↔ (self.new.is_ended ≡ true) }
+        ensures unasked { self.old.is_ended ≡ true → (result ≡ Read.End) × (self.new ≡ self.old) }
+    {
         if self.is_ended {
             return Read::End;
         }

@@ -48,30 +48,45 @@ fn reads_to_the_limit(rt: HostRuntime) {
     assert!(rt; all_read_so(rt.alloc(), LIMITS));
 }
 
-const PIECES: &[Read] = &[Read::Got(2), Read::Got(1), Read::End, Read::End];
+/// What comes of a read, and what then stands at the front of the buffer.
+type PieceRow = (Read, &'static [u8]);
+
+const PIECES: &[PieceRow] = &[
+    (Read::Got(2), b"ab"),
+    (Read::Got(1), b"c"),
+    (Read::End, b""),
+    (Read::End, b""),
+];
 
 /// Whether these pieces come of three octets, in a buffer of two.
-fn come_in_pieces(wants: &[Read]) -> bool {
+fn come_in_pieces(rows: &[PieceRow]) -> bool {
     let octets: &[u8] = b"abc";
     let mut source = StreamSource::new(octets);
     let mut buffer = [0u8; 2];
-    for want in wants {
-        if source.read(&mut buffer) != *want {
+    for (want, piece) in rows {
+        if source.read(&mut buffer) != *want || !buffer.starts_with(piece) {
             return false;
         }
     }
     true
 }
 
-fn takes(alloc: Global, octets: &[u8]) -> bool {
-    let mut sink = StreamSink::new(Vec::new(alloc));
-    sink.put(octets) == Put::Done
+/// Puts two pieces into a stream.
+fn put_two(stream: &mut Vec<u8>) -> bool {
+    let mut sink = StreamSink::new(stream);
+    sink.put(b"ab") == Put::Done && sink.put(b"c") == Put::Done
+}
+
+/// Whether a stream has got them whole, one behind the other.
+fn takes(alloc: Global) -> bool {
+    let mut stream = Vec::new(alloc);
+    put_two(&mut stream) && stream.as_slice() == b"abc"
 }
 
 #[test]
 fn streams(rt: HostRuntime) {
     assert!(rt; come_in_pieces(PIECES));
-    assert!(rt; takes(rt.alloc(), b"abc"));
+    assert!(rt; takes(rt.alloc()));
 }
 
 /// How many octets a file has within a limit, or its fault.

@@ -1,6 +1,6 @@
 -- Inside this crate alone: a command of the code, as what its words ask for.
 use Rattle.std.specs.Prelude.{◌≤◌, Option, None, Some}
-use Rattle.big_world.specs.declared.TheConstants.{MOST_GROUPS}
+use Rattle.big_world.specs.declared.TheConstants.{LARGEST_WORLD}
 use Rattle.glb.specs.Words.{Ask, Task, check, map_from, answer, repair, say, serve, large}
 use Rattle.glb.specs.declared.words.Command.{Command}
 use Rattle.glb.specs.declared.words.Order.{Order}
@@ -25,4 +25,4 @@ abbrev pub IsManned : Option Order → Type 0
 IsManned None = Unit {0}
 IsManned (Some (Say command)) = Unit {0}
 IsManned (Some (Serve topology listen workers)) = (1 ≤ workers) × (workers ≤ 16)
-IsManned (Some (Large groups)) = (1 ≤ groups) × (groups ≤ MOST_GROUPS)
+IsManned (Some (Large groups)) = (1 ≤ groups) × (groups ≤ LARGEST_WORLD)

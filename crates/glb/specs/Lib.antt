@@ -16,6 +16,5 @@ pub mod Serve
 pub mod Served
 pub mod Large
 pub mod Program
-pub mod Ran
 pub mod Starting
 pub mod Ending

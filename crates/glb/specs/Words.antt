@@ -2,7 +2,7 @@
 use Rattle.std.specs.Prelude.{ℕ, List, Option, None, Some, option_and_then, option_map}
 use Rattle.addr_text.specs.declared.address.Listen.{Listen}
 use Rattle.addr_text.specs.Addresses.{listen_of}
-use Rattle.big_world.specs.declared.TheConstants.{MOST_GROUPS}
+use Rattle.big_world.specs.declared.TheConstants.{LARGEST_WORLD}
 use Rattle.command_line.specs.Asked as line
 use Rattle.glb.specs.Datagram.{Datagram, datagram_of}
 use Rattle.glb.specs.Counts.{count_of}
@@ -46,7 +46,7 @@ asked_by (line.map_of topology) = Some (say (map_from topology))
 asked_by (line.answer topology map addr digits) = option_map say (option_map (answer topology map) (datagram_of addr digits))
 asked_by (line.repair topology map changes) = Some (say (repair topology map changes))
 asked_by (line.serve topology listen workers) = option_map serve (service_of topology listen workers)
-asked_by (line.large groups) = option_map large (count_of MOST_GROUPS groups)
+asked_by (line.large groups) = option_map large (count_of LARGEST_WORLD groups)
 
 -- What the words ask for, if they are taken: the declaration of the command line takes them, and they are in their grammars. The first is the program's name.
 unfoldable pub asked : List (List ℕ) → Option Task

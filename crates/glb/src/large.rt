@@ -1,7 +1,7 @@
 //! `glb large`: a large world, its batches, and what they came to.
 ghost use Rattle.std.specs.Prelude.{◌≡◌, ◌≢◌, ◌≤◌, ◌⊎◌};
 ghost use Rattle.outside.specs.Faults.{Rose};
-ghost use Rattle.big_world.specs.declared.TheConstants.{MOST_GROUPS};
+ghost use Rattle.big_world.specs.declared.TheConstants.{LARGEST_WORLD};
 ghost use Rattle.big_run.specs.Summary.{lines_of};
 ghost use Rattle.glb.specs.Large.{IsLargeDue};
 ghost use Rattle.glb.specs.Outcome.{RunsBy, Speaks};
@@ -38,7 +38,7 @@ fn run_named<J: Naming, R: Wait, K: Sink>(
     out: &mut K,
 ) -> Status
     requires book { history ≡ J.book }
-    requires groups { (1 ≤ groups) × (groups ≤ MOST_GROUPS) }
+    requires groups { (1 ≤ groups) × (groups ≤ LARGEST_WORLD) }
     ensures run { RunsBy (IsLargeDue groups) (K.told out.old) (K.told out.new) result }
     ensures later { K.faults out.old ≤ K.faults out.new }
     ensures cause { result ≡ Status.SinkFault → Rose (K.faults out.old) (K.faults out.new) }
@@ -53,7 +53,7 @@ fn run_named<J: Naming, R: Wait, K: Sink>(
 
 /// Runs the world of so many groups, and puts its summary, one put for each line.
 pub fn large<R: Wait, K: Sink>(rt: &R, alloc: Global, groups: u32, out: &mut K) -> Status
-    requires { (1 ≤ groups) × (groups ≤ MOST_GROUPS) }
+    requires { (1 ≤ groups) × (groups ≤ LARGEST_WORLD) }
     ensures run { RunsBy (IsLargeDue groups) (K.told out.old) (K.told out.new) result }
     ensures later { K.faults out.old ≤ K.faults out.new }
     ensures cause { result ≡ Status.SinkFault → Rose (K.faults out.old) (K.faults out.new) }

@@ -4,14 +4,14 @@ ghost use Rattle.std.specs.Option.{option_map};
 ghost use Rattle.addr_text.specs.Addresses.{addr_of};
 ghost use Rattle.command_line.specs.Asked.{texts};
 ghost use Rattle.command_line.specs.Commands.{ask_of as line_of};
-ghost use Rattle.big_world.specs.declared.TheConstants.{MOST_GROUPS};
+ghost use Rattle.big_world.specs.declared.TheConstants.{LARGEST_WORLD};
 ghost use Rattle.glb.specs.Words.{answer, asked, asked_by, large, say, serve, service_of, workers_of};
 ghost use Rattle.glb.specs.Commands.{IsManned, ask_of, task_of};
 ghost use Rattle.glb.specs.Counts.{count_of, is_plain};
 ghost use Rattle.glb.specs.Datagram.{datagram_of};
 
 use addr_text::{Addr, Listen, read_addr, read_listen};
-use big_world::MOST_GROUPS;
+use big_world::LARGEST_WORLD;
 use command_line::Command as Line;
 use hex::FromHexError;
 use no_memory::NoMemory;
@@ -113,10 +113,10 @@ fn read_serve<'a>(topology: &'a str, listen: &str, workers: Option<&str>) -> Opt
 
 /// What `large` with this word asks for.
 fn read_large<'a>(groups: &str) -> Option<Order<'a>>
-    ensures asked { option_map task_of result ≡ option_map large (count_of MOST_GROUPS groups.now) }
+    ensures asked { option_map task_of result ≡ option_map large (count_of LARGEST_WORLD groups.now) }
     ensures manned { IsManned result }
 {
-    match read_count(groups.as_bytes(), u64::from(MOST_GROUPS)) {
+    match read_count(groups.as_bytes(), u64::from(LARGEST_WORLD)) {
         Some(groups) => Some(Order::Large {
             groups: groups as u32,
         }),

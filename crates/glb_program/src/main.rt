@@ -1,25 +1,25 @@
 //! `glb`, the mapping system of a content delivery network.
 #![tactic(auto)]
 
-ghost use Rattle.std.specs.Prelude.{◌≡◌, ◌^◌, length};
+ghost use Rattle.std.specs.Prelude.{◌≡◌, ◌^◌, ◌⊎◌, ℕ, List, length, map};
 ghost use Rattle.std.specs.Process.{exit_status};
-ghost use Rattle.command_line.specs.Asked.{texts};
 ghost use Rattle.glb.specs.Outcome.{code_of};
-ghost use Rattle.glb.specs.Ran.{HasRun};
+ghost use Rattle.glb.specs.Program.{IsPromised};
+ghost use Rattle.glb.specs.Told.{lane_told, stage, surroundings};
 ghost use Rattle.glb.specs.Words.{asked};
 
 mod network;
 
 use edges::{FileShelf, FlagPace, SharedUdp, StandardStream, StopFlag, StreamSink, StreamSource};
 use glb::{Lane, Status, glb};
-use map_cell::PlainDoor;
+use map_cell::Door;
 use network::udp_lanes;
 use no_memory::NoMemory;
-use outside::{Gate, Pace, Port};
+use outside::{Gate, Pace, Port, Shelf, Sink, Source};
 use std::env;
-use std::io::{ErrorKind, Stderr, Stdin, Stdout};
+use std::io::ErrorKind;
 use std::process::ExitCode;
-use std::rt::{Env, Files};
+use std::rt::Env;
 use std::sync::Wait;
 use std::thread::Threads;
 
@@ -42,75 +42,65 @@ fn exit_code(status: Status) -> ExitCode
     ExitCode::from(status.code())
 }
 
-/// The streams of the process.
-#[derive(Drop)]
-struct Streams {
-    feed: Stdin,
-    out: Stdout,
-    maps: Stderr,
-}
-
-/// All of the program behind its words: over the files of the system, standard input as the feed, standard output, standard error for the texts of maps, and these lanes.
+/// All of the program behind its words, which it reads: over these files, this feed, these outputs and these lanes.
 fn run_words<
-    R: Threads + Wait + Sync + Files + AllocGlobal,
+    R: Threads + Wait + Sync + Env + AllocGlobal,
+    F: Shelf,
+    S: Source,
+    K: Sink,
     P: Port + Send,
     G: Gate + Send,
+    D: Door + Send,
     M: Pace,
 >(
     rt: &R,
-    words: &[String],
-    streams: Streams,
-    lanes: &mut [Lane<P, G, PlainDoor>],
+    files: &mut F,
+    feed: &mut S,
+    out: &mut K,
+    maps: &mut K,
+    lanes: &mut [Lane<P, G, D>],
     pace: &mut M,
 ) -> Status
     requires { length lanes.old ≡ 16 }
-    ensures { HasRun (2 ^ 48) (asked (texts words.now)) result }
-{
-    let mut files = FileShelf::new(rt);
-    let mut feed = StreamSource::new(streams.feed);
-    let mut out = StreamSink::new(StandardStream::Output(streams.out));
-    let mut maps = StreamSink::new(StandardStream::Error(streams.maps));
-    glb(
-        rt,
-        rt.alloc(),
-        words,
-        &mut files,
-        &mut feed,
-        &mut out,
-        &mut maps,
-        lanes,
-        pace,
-        TURNS,
-    )
-}
-
-/// The whole run: want of memory for the words is a status too.
-fn run_all<
-    R: Threads + Wait + Sync + Files + Env + AllocGlobal,
-    P: Port + Send,
-    G: Gate + Send,
-    M: Pace,
->(rt: &R, streams: Streams, lanes: &mut [Lane<P, G, PlainDoor>], pace: &mut M) -> Status
-    requires { length lanes.old ≡ 16 }
+    // Unless the words could not be read for want of memory, it is a run of what some words ask for.
+    ensures { (result ≡ Status.NoMemory) ⊎ ((words : List (List ℕ)) × IsPromised (2 ^ 48) (asked words) (surroundings (F.told files.old) (F.faults files.old) (stage (S.told feed.old) (K.told out.old) (K.told maps.old) (M.told pace.old) (map (lane_told P.told P.faults G.told D.asked D.looks D.greatest D.faults) lanes.old) (S.faults feed.old) (K.faults out.old) (K.faults maps.old))) (surroundings (F.told files.new) (F.faults files.new) (stage (S.told feed.new) (K.told out.new) (K.told maps.new) (M.told pace.new) (map (lane_told P.told P.faults G.told D.asked D.looks D.greatest D.faults) lanes.new) (S.faults feed.new) (K.faults out.new) (K.faults maps.new))) result) }
 {
     match read_args(rt) {
-        Ok(words) => run_words(rt, words.as_slice(), streams, lanes, pace),
+        Ok(words) => glb(
+            rt,
+            rt.alloc(),
+            words.as_slice(),
+            files,
+            feed,
+            out,
+            maps,
+            lanes,
+            pace,
+            TURNS,
+        ),
         Err(NoMemory) => Status::NoMemory,
     }
 }
 
-/// Lanes over one socket of UDP, which stop when the feed has ended.
+/// Over the files of the system, standard input as the feed, standard output, standard error for the texts of maps, and lanes over one socket of UDP, which stop when the feed has ended.
 fn main(rt: HostRuntime) -> ExitCode {
-    let streams = Streams {
-        feed: rt.stdin(),
-        out: rt.stdout(),
-        maps: rt.stderr(),
-    };
+    let mut files = FileShelf::new(&rt);
+    let mut feed = StreamSource::new(rt.stdin());
+    let mut out = StreamSink::new(StandardStream::Output(rt.stdout()));
+    let mut maps = StreamSink::new(StandardStream::Error(rt.stderr()));
     let shared = SharedUdp::new();
     let flag = StopFlag::new();
     let mut pace = FlagPace::new(&flag);
     let status = match udp_lanes(rt.alloc(), &rt, &shared, &flag) {
-        Ok(mut lanes) => run_all(&rt, streams, lanes.as_mut_slice(), &mut pace),
+        Ok(mut lanes) => run_words(
+            &rt,
+            &mut files,
+            &mut feed,
+            &mut out,
+            &mut maps,
+            lanes.as_mut_slice(),
+            &mut pace,
+        ),
         Err(NoMemory) => Status::NoMemory,
     };
     exit_code(status)

@@ -8,7 +8,7 @@ use Rattle.outside.specs.declared.gate.Turning.TheVariants.{Stop}
 use Rattle.lane_model.specs.declared.ended.Ended.{Ended}
 use Rattle.lane_model.specs.declared.ended.Ended.TheVariants as end
 use Rattle.lane_model.specs.Lanes.{Answers}
-use Rattle.lane_model.specs.Turns.{Turn, Came, AreCalm, IsCame, fails_of, failures, floor_after, gate_turn, is_calm, is_refused, looks_of, refused_of, idle, oversize, ended, failed, took, silent, refused, tried}
+use Rattle.lane_model.specs.Turns.{Turn, Came, AreCalm, IsCame, count_after, fails_of, failures, floor_after, gate_turn, is_calm, is_refused, looks_of, refused_of, idle, oversize, ended, failed, took, silent, refused, tried}
 use Rattle.lane_model.specs.Sessions.{IsEnd, IsGateRun, IsLaneCall, IsLaneLog, IsLast, IsSession, Moment}
 use Rattle.lane_model.proofs.Prefixes.{prefix_length}
 use Rattle.lane_model.proofs.Runs.{IsInOrder, session_gate, session_notes, session_port, session_rises, session_run, session_told, tells_on}
@@ -116,6 +116,11 @@ session_missed a number w [] m m' s = λ k d lt. absurd (omega (arith, lt))
 session_missed a number w (t ∷ log) m m' s =
     all_cons (λ x. (d : Packet) → x.came ≡ took d refused → a.silent d.octets ≡ false) t log (λ d is. subst (λ (c : Came). IsCame a s.0.eyes.seen w m.count t.known c) is s.1.came) (session_missed a number w log s.0 m' s.2)
 
+-- datagrams are counted on
+session_count : {V T : Type 0} (a : Answers V) (number : T → ℕ) (w : ℕ) (log : List Turn) (m m' : Moment V T) → IsSession a number w log m m' → m'.count ≡ fold (λ n t. count_after n t.came) m.count log
+session_count a number w [] m m' s = ap (λ k. k.count) s
+session_count a number w (t ∷ log) m m' s = session_count a number w log s.0 m' s.2 ∙ ap (λ n. fold (λ k x. count_after k x.came) n log) s.1.count
+
 -- a lane that a refused look ended met one
 pub refused_last : (turns : ℕ) (log : List Turn) → IsEnd turns log end.CellFault → 0 < sum_by (λ t. refused_of t.came) log
 refused_last turns log is =
@@ -143,12 +148,13 @@ log_of a number w log m m' s o = record {
   refusal = session_refusal a number w log m m' s;
   stays = session_stays a number w log m m' s;
   missed = session_missed a number w log m m' s;
+  count = session_count a number w log m m' s;
   port_later = session_later a number w log m m' s;
 }
 
 -- a gate alone was asked
 log_gate : {V T : Type 0} (a : Answers V) (number : T → ℕ) (w : ℕ) (log : List Turn) (m mid : Moment V T) (gate : Option GateTold) (faults : ℕ) → IsLaneLog a number w log m mid → IsLaneLog a number w log m (record mid { gate = gate; gate_faults = faults })
-log_gate a number w log m mid gate faults c = record { run = c.run; told = c.told; port = c.port; notes = c.notes; rise = c.rise; known = c.known; within = c.within; looks = c.looks; failing = c.failing; refusal = c.refusal; stays = c.stays; missed = c.missed; port_later = c.port_later }
+log_gate a number w log m mid gate faults c = record { run = c.run; told = c.told; port = c.port; notes = c.notes; rise = c.rise; known = c.known; within = c.within; looks = c.looks; failing = c.failing; refusal = c.refusal; stays = c.stays; missed = c.missed; count = c.count; port_later = c.port_later }
 
 call_same : {V T : Type 0} (a : Answers V) (number : T → ℕ) (w turns : ℕ) (log : List Turn) (m mid m' : Moment V T) (e : Ended) → 0 < length m.eyes.told → IsSession a number w log m mid → IsEnd turns log e
     → ((shown : ℕ) → BothTell m.gate mid.gate (λ b c. c ≡ fold gate_turn b log) → BothTell m.gate mid.gate (IsGateRun shown log e)) → m' ≡ mid → IsLaneCall a number w turns m m' e

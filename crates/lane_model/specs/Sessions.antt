@@ -94,7 +94,7 @@ abbrev pub IsGateRun : ℕ → List Turn → Ended → GateTold → GateTold →
 IsGateRun shown log end.Stopped before after = IsTurning shown Stop (fold gate_turn before log) after
 IsGateRun shown log _ before after = after ≡ fold gate_turn before log
 
--- What a call of a lane promises, over the turns that it made: a lane run over what its viewer has seen by then; that what was told is minded; what port and notes tell by then; one look for each datagram that isn't silent; that nothing that was handed out is past what is known by then; that faults have their causes; and that a datagram whose look was refused has a reply, which it missed.
+-- What a call of a lane promises, over the turns that it made: a lane run over what its viewer has seen by then; that what was told is minded; what port and notes tell by then; one look for each datagram that isn't silent; that nothing that was handed out is past what is known by then; that faults have their causes; that a datagram whose look was refused has a reply, which it missed; and that datagrams are counted on.
 pub record IsLaneLog {V T : Type 0} (a : Answers V) (number : T → ℕ) (w : ℕ) (log : List Turn) (m m' : Moment V T) : Type 0 where
   pub run : (floor : ℕ) → floor < length m.eyes.told → IsLaneRun a m'.eyes.seen w m.count floor (entries_of log) (tries_of log)
   pub told : (floor : ℕ) → floor < length m.eyes.told → IsTold floor log
@@ -108,6 +108,7 @@ pub record IsLaneLog {V T : Type 0} (a : Answers V) (number : T → ℕ) (w : �
   pub refusal : 0 < sum_by (λ t. refused_of t.came) log → Rose m.eyes.faults m'.eyes.faults
   pub stays : sum_by (λ t. refused_of t.came) log ≡ 0 → m'.eyes.faults ≡ m.eyes.faults
   pub missed : All (λ t. (d : Packet) → t.came ≡ took d refused → a.silent d.octets ≡ false) log
+  pub count : m'.count ≡ fold (λ n t. count_after n t.came) m.count log
   pub port_later : m.port_faults ≤ m'.port_faults
 
 -- what a call of a lane promises

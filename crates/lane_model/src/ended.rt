@@ -9,7 +9,7 @@ pub enum Ended {
     PortEnd,
     /// Eight calls of the port failed in this call.
     PortFault,
-    /// A look for the map that was to answer a datagram was refused; the datagram has no try.
+    /// A look for the map that was to answer a datagram was refused, and the datagram has no try; or the closing look was.
     CellFault,
     /// The closing look, behind all others, was at a map past the newest one.
     Above {

@@ -21,7 +21,9 @@ pub struct CellFault;
 /// Why a place was refused, or an opening.
 #[derive(Clone, Copy, Debug, PartialEq, Eq)]
 pub enum OpenFault {
+    /// There was no memory for the cell.
     NoMemory,
+    /// A door refused a place, which its count of faults shows.
     CellFault,
 }
 

@@ -21,7 +21,9 @@ pub(crate) type CellReader = Reader<Sealed, Tag, OneCell>;
 /// Why a look was refused.
 #[derive(Drop)]
 pub enum Refused {
+    /// The cell is closed.
     Gone,
+    /// The history of the newest version does not go on from all that the viewer has seen and was told of.
     Stale,
 }
 
@@ -94,6 +96,7 @@ where
 }
 
 impl<J: Naming> Viewer<J> {
+    /// The greatest serial that this viewer has seen or was told of.
     pub fn known(&self) -> u64
         ensures { result + 1 ≡ length self.now.told }
     {
@@ -108,6 +111,7 @@ impl<J: Naming> Viewer<J> {
         note.front.covers(&self.seen)
     }
 
+    /// Learns of the version that a note names, unless one at least as new is known.
     pub fn learn(&mut self, note: &Note<J>)
         ensures seen { self.new.seen ≡ self.old.seen }
         ensures kept { IsPrefix self.old.told self.new.told }
@@ -117,6 +121,7 @@ impl<J: Naming> Viewer<J> {
         self.told = self.told.longer(&note.front);
     }
 
+    /// Looks at the newest version once: what the closure makes of it, or why the look was refused, with nothing changed.
     pub fn look<R, C: FnOnce(&MapVersion) -> R>(&mut self, c: C) -> Result<R, Refused>
     where
         C: Drop,

@@ -21,6 +21,9 @@ use outside::{Arrival, Gate, LARGEST_DATAGRAM, Notes, Port, Sending, Turning};
 /// copy of its own.
 const BUFFER: usize = LARGEST_DATAGRAM + 1;
 
+/// How many failed calls of a port end a lane.
+const MOST_FAILURES: u8 = 8;
+
 /// What became of a datagram.
 #[derive(Clone, Copy)]
 pub(crate) enum Fared {
@@ -157,7 +160,7 @@ fn next_end(step: Step, failed: &mut u8) -> Option<Ended>
         Step::Refused => Some(Ended::CellFault),
         Step::PortFailed => {
             *failed += 1;
-            if *failed == 8 {
+            if *failed == MOST_FAILURES {
                 Some(Ended::PortFault)
             } else {
                 None
@@ -178,6 +181,7 @@ fn serve_turns<J: Naming, P: Port, G: Gate, D: Door, N: Notes<Note = Note<J>>>(
     ensures served { IsServed (λ n. length n.front - 1) worker.old.number turns
         (record { port = P.told port.old; gate = G.told gate.old; notes = N.told notes.old; eyes = record { seen = worker.old.viewer.seen; told = worker.old.viewer.told; looks = D.looks door.old; greatest = D.greatest door.old; faults = D.faults door.old }; count = worker.old.count; port_faults = P.faults port.old; gate_faults = G.faults gate.old })
         (record { port = P.told port.new; gate = G.told gate.new; notes = N.told notes.new; eyes = record { seen = worker.new.viewer.seen; told = worker.new.viewer.told; looks = D.looks door.new; greatest = D.greatest door.new; faults = D.faults door.new }; count = worker.new.count; port_faults = P.faults port.new; gate_faults = G.faults gate.new }) result }
+    ensures number { worker.new.number ≡ worker.old.number }
     ensures asked { D.asked door.new ≡ D.asked door.old }
 {
     let mut buffer = [0u8; BUFFER];
@@ -203,6 +207,7 @@ pub fn serve_port<J: Naming, P: Port, G: Gate, D: Door, N: Notes<Note = Note<J>>
     ensures call { IsLaneCall replies (λ n. length n.front - 1) worker.old.number turns
         (record { port = P.told port.old; gate = G.told gate.old; notes = N.told notes.old; eyes = record { seen = worker.old.viewer.seen; told = worker.old.viewer.told; looks = D.looks door.old; greatest = D.greatest door.old; faults = D.faults door.old }; count = worker.old.count; port_faults = P.faults port.old; gate_faults = G.faults gate.old })
         (record { port = P.told port.new; gate = G.told gate.new; notes = N.told notes.new; eyes = record { seen = worker.new.viewer.seen; told = worker.new.viewer.told; looks = D.looks door.new; greatest = D.greatest door.new; faults = D.faults door.new }; count = worker.new.count; port_faults = P.faults port.new; gate_faults = G.faults gate.new }) result }
+    ensures number { worker.new.number ≡ worker.old.number }
     // No place is asked for.
     ensures asked { D.asked door.new ≡ D.asked door.old }
 {

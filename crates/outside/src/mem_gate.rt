@@ -82,6 +82,7 @@ impl Gate for MemGate {
         // It stops only where no Go is left. Each turn is noted, as long as there is room.
         ensures go { (result ≡ Turning.Go) ↔ (0 < self.old.goes) }
         ensures goes { self.new.goes ≡ self.old.goes - 1 }
+        ensures room { result ≡ Turning.Go → self.new.room ≡ self.old.room }
         ensures stop { result ≡ Turning.Stop → 0 < self.old.room → (self.new.told.turns ≡ self.old.told.turns ++ record { known = known; go = false } ∷ []) × (self.new.room + 1 ≡ self.old.room) × (self.new.faults ≡ self.old.faults) }
         ensures full { result ≡ Turning.Stop → self.old.room ≡ 0 → (self.new.told.turns ≡ self.old.told.turns) × (self.new.room ≡ 0) × (self.new.faults ≡ raised self.old.faults 1) }
     {

@@ -1,6 +1,6 @@
 //! Notes in memory, each of which comes after a stated number of answers.
 ghost use Rattle.std.specs.LinkedList.{linked_list_len};
-ghost use Rattle.std.specs.Prelude.{◌≡◌, ◌≤◌, ◌<◌, Some, [], IfOk, IfSome, IfNone, MatchOption};
+ghost use Rattle.std.specs.Prelude.{◌≡◌, ◌≤◌, ◌<◌, Some, [], drop, IfOk, IfSome, IfNone, MatchOption};
 ghost use Rattle.outside.specs.Faults.{BothTell};
 ghost use Rattle.outside.specs.Notes.{IsNextNote};
 ghost use Rattle.outside.specs.MemNotes.{IsDue, noted};
@@ -71,6 +71,7 @@ impl<T: Drop> Notes for MemNotes<T> {
         ensures none { IfNone result (length self.new.coming ≡ length self.old.coming) }
         // A note is given exactly where it is due.
         ensures due { MatchOption result (¬ IsDue self.old) (λ _. IsDue self.old) }
+        ensures coming { MatchOption result (self.new.coming ≡ self.old.coming) (λ _. self.new.coming ≡ drop 1 self.old.coming) }
     {
         match self.coming.front() {
             Some(due) if due.nones <= self.nones => {}
