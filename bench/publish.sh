@@ -7,10 +7,10 @@
 #
 # First `glb serve` with a feed of six commits, each of 1, 64 or 4,096 changed demands, in a world in which nothing is
 # refused, so that as many rows differ as demands: of each call of the cell and of the rows (`publish`, `between`,
-# `absorb`), of the repair, and of what writes the map's text. Then map_cell's own test of a publisher of ten thousand
-# deltas of one row beside a viewer that looks all the time, at two groups: of a look and of a publish.
+# `absorb`), of the repair, and of what writes the map's text. Then the test in map_cell_tests of a publisher of ten
+# thousand deltas of one row beside a viewer that looks all the time, at two groups: of a look and of a publish.
 #
-# Programs that are built already are named by GLB and, for map_cell's tests, by CELL_TESTS.
+# Programs that are built already are named by GLB and, for those of map_cell_tests, by CELL_TESTS.
 source "$(dirname "$0")/set-up.sh"
 
 groups=${1:-65536}
@@ -27,8 +27,8 @@ for changes in 1 64 4096; do
 done
 
 if [ -z "${CELL_TESTS:-}" ]; then
-    (cd "$top/crates/map_cell" && rt test) >>"$work/log" 2>&1
-    CELL_TESTS=$top/crates/map_cell/out/map_cell_tests
+    (cd "$top/crates/map_cell_tests" && rt test) >>"$work/log" 2>&1
+    CELL_TESTS=$top/crates/map_cell_tests/out/map_cell_tests_tests
 fi
 profile "$CELL_TESTS" tests::looks_beside_publishes
 printf 'two groups, 10,000 commits of one row beside a viewer:\n'
