@@ -1,4 +1,4 @@
-//! Tests of replies, in a crate of their own, so that they are proved without the library.
+//! Tests of replies, in a crate of their own, so that they are proved without proving the library again.
 #![tactic(auto)]
 
 #[cfg(test)]

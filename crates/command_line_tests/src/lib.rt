@@ -1,4 +1,4 @@
-//! Tests of the command line, in a crate of their own, so that they are proved without the library.
+//! Tests of the command line, in a crate of their own, so that they are proved without proving the library again.
 #![tactic(auto)]
 
 #[cfg(test)]

@@ -45,6 +45,3 @@ pub use port::{Arrival, Opening, Port, Sending};
 pub use shelf::{LoadFault, Shelf};
 pub use sink::{Put, Sink};
 pub use source::{Read, Source};
-
-#[cfg(test)]
-mod tests;

@@ -1,4 +1,4 @@
-//! Tests of the topology file, in a crate of their own, so that they are proved without the library.
+//! Tests of the topology file, in a crate of their own, so that they are proved without proving the library again.
 #![tactic(auto)]
 
 #[cfg(test)]
