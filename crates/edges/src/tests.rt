@@ -48,6 +48,8 @@ fn reads_to_the_limit(rt: HostRuntime) {
     assert!(rt; all_read_so(rt.alloc(), LIMITS));
 }
 
+const THREE: &[u8] = b"abc";
+
 /// What comes of a read, and what then stands at the front of the buffer.
 type PieceRow = (Read, &'static [u8]);
 
@@ -60,8 +62,7 @@ const PIECES: &[PieceRow] = &[
 
 /// Whether these pieces come of three octets, in a buffer of two.
 fn come_in_pieces(rows: &[PieceRow]) -> bool {
-    let octets: &[u8] = b"abc";
-    let mut source = StreamSource::new(octets);
+    let mut source = StreamSource::new(THREE);
     let mut buffer = [0u8; 2];
     for (want, piece) in rows {
         if source.read(&mut buffer) != *want || !buffer.starts_with(piece) {
@@ -80,7 +81,7 @@ fn put_two(stream: &mut Vec<u8>) -> bool {
 /// Whether a stream has got them whole, one behind the other.
 fn takes(alloc: Global) -> bool {
     let mut stream = Vec::new(alloc);
-    put_two(&mut stream) && stream.as_slice() == b"abc"
+    put_two(&mut stream) && stream.as_slice() == THREE
 }
 
 #[test]
