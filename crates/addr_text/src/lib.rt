@@ -6,8 +6,6 @@ mod digits;
 mod groups;
 mod read;
 mod runs;
-#[cfg(test)]
-mod tests;
 mod write;
 
 pub use address::{Addr, Listen, Peer, Prefix};

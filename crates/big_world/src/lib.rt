@@ -53,6 +53,3 @@ pub fn make(alloc: Global, groups: u32) -> Result<(Vec<u8>, Vec<u8>), NoMemory>
     push_feed(alloc, &mut feed, groups)?;
     Ok((topology.text, feed.text))
 }
-
-#[cfg(test)]
-mod tests;

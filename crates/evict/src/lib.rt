@@ -13,6 +13,3 @@ mod state;
 pub use freed::{Eviction, Freed};
 pub use rival::Rival;
 pub use state::State;
-
-#[cfg(test)]
-mod tests;

@@ -15,6 +15,3 @@ pub use instance::{Choice, ClientGroup, GroupId, Instance, Key, Node, NodeId, Of
 pub use limits::{LEVELS, MOST_CAPACITY, MOST_GROUPS, MOST_NODES, PLACES};
 pub use lines::{MapLine, MapLines, NameLine};
 pub use steps::Steps;
-
-#[cfg(test)]
-mod tests;

@@ -8,6 +8,3 @@ mod repairing;
 
 pub use asked::Asked;
 pub use repairing::{repair, resume};
-
-#[cfg(test)]
-mod tests;

@@ -17,6 +17,3 @@ pub use fault::MapFault;
 pub use line::Line;
 pub use read::read_map;
 pub use write::write_map;
-
-#[cfg(test)]
-mod tests;

@@ -6,7 +6,5 @@ mod held;
 mod lists;
 mod queue;
 mod table;
-#[cfg(test)]
-mod tests;
 
 pub use held::Held;

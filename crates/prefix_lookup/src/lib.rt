@@ -9,6 +9,3 @@ mod scope;
 mod sweep;
 
 pub use lookup::Lookup;
-
-#[cfg(test)]
-mod tests;

@@ -9,6 +9,3 @@ mod verdict;
 
 pub use judge::{CheckRoom, check};
 pub use verdict::Verdict;
-
-#[cfg(test)]
-mod tests;

@@ -1,5 +1,0 @@
-use Rattle.map_model.specs.Market.{IsSameShape}
-use Rattle.map_repair.proofs.tests.changed.Given as goal
-
-abbrev pub invariant-loop-change : goal.invariant-loop-change
-invariant-loop-change l = IsSameShape l.old l.new

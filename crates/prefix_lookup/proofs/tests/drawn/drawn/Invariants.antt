@@ -1,5 +1,0 @@
-use Rattle.prefix_lookup.specs.Table.{IsTable}
-use Rattle.prefix_lookup.proofs.tests.drawn.drawn.Given as goal
-
-abbrev pub invariant-loop : goal.invariant-loop
-invariant-loop l = IsTable l.table.items

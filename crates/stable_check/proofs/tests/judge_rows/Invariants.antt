@@ -1,5 +1,0 @@
-use Rattle.std.proofs.Common.{◌≡◌, length}
-use Rattle.stable_check.proofs.tests.judge_rows.Given as goal
-
-abbrev pub invariant-loop-i : goal.invariant-loop-i
-invariant-loop-i g l = l.room ≡ record { groups = length l.instance.groups; nodes = length l.instance.nodes }
