@@ -82,6 +82,13 @@ rm "$maps"
 # a full device in the place of the output
 "$glb" check flat.toml flat.map >/dev/full
 if [ $? = 4 ]; then passed=$((passed + 1)); else failed=$((failed + 1)) && echo 'a full device: wanted 4'; fi
+# a standard stream that is closed: the socket would have its descriptor
+"$glb" serve tree.toml --listen 127.0.0.1:0 <&- >/dev/null 2>/dev/null
+if [ $? = 5 ]; then passed=$((passed + 1)); else failed=$((failed + 1)) && echo 'no standard input: wanted 5'; fi
+"$glb" serve tree.toml --listen 127.0.0.1:0 </dev/null >&- 2>/dev/null
+if [ $? = 5 ]; then passed=$((passed + 1)); else failed=$((failed + 1)) && echo 'no standard output: wanted 5'; fi
+"$glb" serve tree.toml --listen 127.0.0.1:0 </dev/null >/dev/null 2>&-
+if [ $? = 5 ]; then passed=$((passed + 1)); else failed=$((failed + 1)) && echo 'no standard error: wanted 5'; fi
 # what is written of a map is good for the same topology
 map=$(mktemp)
 for topology in flat.toml tree.toml; do

@@ -35,6 +35,7 @@ impl Judge {
         ensures room { self.new.room ≡ self.old.room }
         ensures good { self.new.good ≡ self.old.good + 1 }
     {
+        // tells the prover what the type keeps
         let _ = mapper.newest();
         let (instance, map) = mapper.newest_map();
         if let Verdict::Good = check(instance, map, &mut self.room) {

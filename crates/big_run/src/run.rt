@@ -88,7 +88,7 @@ fn read_world(alloc: Global, text: &[u8], groups: u32) -> Result<Topology, NoMem
     }
 }
 
-/// Makes the world of so many groups, maps it, and works its feed. Each map is checked, and the last one is asked once for each group.
+/// Makes the world of so many groups, maps it, and works its feed. Each map is checked, and the last one is asked for each group.
 ///
 /// # Errors
 ///

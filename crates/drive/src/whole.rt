@@ -103,6 +103,7 @@ fn run_and_close<
 {
     run_beside(rt, row, turns, works, lanes, mapper, desk);
     let note = mapper.note();
+    // tells the prover what the type keeps
     let _ = note.front.len();
     close_all(&note, works, lanes);
 }
@@ -207,6 +208,7 @@ pub fn drive<
     ensures source_stays { IfOk result (λ r. r.feed ≢ FeedEnd.SourceFault → S.faults feed.new ≡ S.faults feed.old) }
 {
     let mut mapper = mapper;
+    // tells the prover what the type keeps
     let _ = mapper.newest();
     let Ok(row) = NoteRow::new(alloc) else {
         mapper.close(rt);

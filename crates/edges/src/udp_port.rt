@@ -9,11 +9,15 @@ use addr_text::{Listen, Peer};
 use outside::{Arrival, LARGEST_DATAGRAM, Opening, Port, Sending};
 use std::marker::Model;
 use std::net::{Net, UdpSocket};
+use std::os::fd::AsRawFd;
 use std::sync::OnceLock;
 use std::time::Duration;
 
 /// How long `recv` waits for a datagram, in milliseconds. So long may a lane take to see that it is to stop.
 const LONGEST_WAIT: u64 = 50;
+
+/// The first descriptor that is no standard stream's.
+const FIRST_DESCRIPTOR: i32 = 3;
 
 /// A socket that is bound.
 #[derive(Drop)]
@@ -78,9 +82,13 @@ impl<'a, N: Net> UdpPort<'a, N> {
     }
 }
 
-/// Binds a socket there, whose `recv` waits for a while.
+/// Binds a socket there, whose `recv` waits for a while. Where a standard stream was closed at the start, the system may
+/// give the socket its descriptor, and datagrams would be read as a feed: such a socket is given up.
 fn bind<N: Net>(net: &N, listen: Listen) -> Option<Bound> {
     let socket = UdpSocket::bind(net, socket_addr(listen.addr, listen.port)).ok()?;
+    if socket.as_raw_fd() < FIRST_DESCRIPTOR {
+        return None;
+    }
     let wait = Some(Duration::from_millis(LONGEST_WAIT));
     socket.set_read_timeout(wait).ok()?;
     let port = socket.local_addr().ok()?.port();

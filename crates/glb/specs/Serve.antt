@@ -30,15 +30,17 @@ use Rattle.glb.specs.Files.{IsRefused, Says, only, topology_file}
 abbrev pub loads_of_serve : Service → (List ℕ → Option (List ℕ)) → List Load
 loads_of_serve ask = only topology_file ask.topology
 
--- how a lane ended, as a status
+-- a lane ended by a fault of its port
 abbrev pub is_port_fault : Ended → Bool
 is_port_fault lane.PortFault = true
 is_port_fault _ = false
 
+-- a lane took all its turns
 abbrev pub is_spent : Ended → Bool
 is_spent lane.Spent = true
 is_spent _ = false
 
+-- a lane's closing look was refused, or showed a map past the newest one
 abbrev pub is_cell_fault : Ended → Bool
 is_cell_fault lane.CellFault = true
 is_cell_fault (lane.Above known newest) = true
@@ -70,6 +72,11 @@ abbrev pub FirstDoorRose : List LaneTold → List LaneTold → Type 0
 FirstDoorRose (b ∷ before) (c ∷ after) = Rose b.door_faults c.door_faults
 FirstDoorRose _ _ = ⊥
 
+-- the count of the first lane's door stands
+abbrev pub FirstDoorStands : List LaneTold → List LaneTold → Type 0
+FirstDoorStands (b ∷ before) (c ∷ after) = c.door_faults ≡ b.door_faults
+FirstDoorStands _ _ = ⊥
+
 -- a lane's port was opened there, and nothing else asked of the lane
 pub record IsOpening (listen : Listen) (result : Opening) (before after : LaneTold) : Type 0 where
   pub port : BothTell before.port after.port (IsOpen listen result)
@@ -91,9 +98,10 @@ all_ready n = replicate n opening.Ready
 abbrev pub then_failed : ℕ → List Opening
 then_failed n = all_ready n ++ opening.Failed ∷ []
 
--- The map cell was not opened: a place in it was refused, or memory was wanting.
+-- The map cell was not opened: a place in it was refused, which the door counted, or memory was wanting, and it counted nothing.
 pub record IsUnopened (workers : ℕ) (before after : Stage) (result : Status) : Type 0 where
   pub why : (result ≡ status.NoMemory) ⊎ ((result ≡ status.CellFault) × FirstDoorRose before.lent.lanes after.lent.lanes)
+  pub stays : result ≢ status.CellFault → FirstDoorStands before.lent.lanes after.lent.lanes
   pub asked : (k : ℕ) × (k ≤ workers) × AskedFirst k before.lent.lanes after.lent.lanes
   pub lent : after.lent ≡ record before.lent { lanes = after.lent.lanes }
   pub rest : after ≡ record before { lent = after.lent }

@@ -17,7 +17,7 @@ use Rattle.glb.specs.declared.starting.Start.{Start}
 use Rattle.glb.specs.declared.starting.Start.TheVariants as start
 use Rattle.map_cell.specs.declared.door.OpenFault.{OpenFault}
 use Rattle.map_cell.specs.declared.door.OpenFault.TheVariants.{CellFault as Shut}
-use Rattle.glb.specs.Serve.{AreOpened, AskedFirst, FirstDoorRose, all_ready, is_cell_fault, is_port_fault, is_spent, status_of, then_failed}
+use Rattle.glb.specs.Serve.{AreOpened, AskedFirst, FirstDoorRose, FirstDoorStands, all_ready, is_cell_fault, is_port_fault, is_spent, status_of, then_failed}
 
 -- the ports of the first n lanes were opened, or those up to one that failed
 abbrev pub HasOpened : Listen → ℕ → Opening → List LaneTold → List LaneTold → Type 0
@@ -39,9 +39,9 @@ IsStart listen n text start.NoPort before after =
 IsStart listen n text start.NoSink before after =
     AreOpened listen (all_ready n) before.lanes after.lanes × BothTell before.maps after.maps (IsCut [] text) × Rose before.maps_faults after.maps_faults
 
--- Where the first door was not to give a place or memory was wanting, it was asked for no more than n, and its count rose where it was the door.
+-- Where the first door was not to give a place or memory was wanting, it was asked for no more than n, and its count rose where it was the door, and else stands.
 abbrev pub IsAskedSome : ℕ → OpenFault → List LaneTold → List LaneTold → Type 0
-IsAskedSome n fault before after = ((k : ℕ) × (k ≤ n) × AskedFirst k before after) × (fault ≡ Shut → FirstDoorRose before after)
+IsAskedSome n fault before after = ((k : ℕ) × (k ≤ n) × AskedFirst k before after) × (fault ≡ Shut → FirstDoorRose before after) × (fault ≢ Shut → FirstDoorStands before after)
 
 -- a test of the end at a place, where there is one
 abbrev pub at_place : (Ended → Bool) → Option Ended → Bool

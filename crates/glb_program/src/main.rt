@@ -1,12 +1,11 @@
 //! `glb`, the mapping system of a content delivery network.
 #![tactic(auto)]
 
-ghost use Rattle.std.specs.Prelude.{◌≡◌, ◌^◌, ◌⊎◌, ℕ, List, length, map};
+ghost use Rattle.std.specs.Prelude.{◌≡◌, length, map};
 ghost use Rattle.std.specs.Process.{exit_status};
 ghost use Rattle.glb.specs.Outcome.{code_of};
-ghost use Rattle.glb.specs.Program.{IsPromised};
 ghost use Rattle.glb.specs.Told.{lane_told, stage, surroundings};
-ghost use Rattle.glb.specs.Words.{asked};
+ghost use Rattle.glb_program.specs.Ran.{Ran};
 
 mod network;
 
@@ -62,8 +61,8 @@ fn run_words<
     pace: &mut M,
 ) -> Status
     requires { length lanes.old ≡ 16 }
-    // Unless the words could not be read for want of memory, it is a run of what some words ask for.
-    ensures { (result ≡ Status.NoMemory) ⊎ ((words : List (List ℕ)) × IsPromised (2 ^ 48) (asked words) (surroundings (F.told files.old) (F.faults files.old) (stage (S.told feed.old) (K.told out.old) (K.told maps.old) (M.told pace.old) (map (lane_told P.told P.faults G.told D.asked D.looks D.greatest D.faults) lanes.old) (S.faults feed.old) (K.faults out.old) (K.faults maps.old))) (surroundings (F.told files.new) (F.faults files.new) (stage (S.told feed.new) (K.told out.new) (K.told maps.new) (M.told pace.new) (map (lane_told P.told P.faults G.told D.asked D.looks D.greatest D.faults) lanes.new) (S.faults feed.new) (K.faults out.new) (K.faults maps.new))) result) }
+    // Unless the words could not be read for want of memory, where nothing is touched, it is a run of what some words ask for.
+    ensures { Ran (surroundings (F.told files.old) (F.faults files.old) (stage (S.told feed.old) (K.told out.old) (K.told maps.old) (M.told pace.old) (map (lane_told P.told P.faults G.told D.asked D.looks D.greatest D.faults) lanes.old) (S.faults feed.old) (K.faults out.old) (K.faults maps.old))) (surroundings (F.told files.new) (F.faults files.new) (stage (S.told feed.new) (K.told out.new) (K.told maps.new) (M.told pace.new) (map (lane_told P.told P.faults G.told D.asked D.looks D.greatest D.faults) lanes.new) (S.faults feed.new) (K.faults out.new) (K.faults maps.new))) result }
 {
     match read_args(rt) {
         Ok(words) => glb(

@@ -1,5 +1,5 @@
 //! The opening of a cell, with all its viewers.
-ghost use Rattle.std.specs.Prelude.{◌≡◌, ◌+◌, ◌<◌, ◌≤◌, ◌∷◌, [], ℕ, All, IfOk, IfErr, IsErr, OnOk, vec_len, vec_capacity};
+ghost use Rattle.std.specs.Prelude.{◌≡◌, ◌+◌, ◌<◌, ◌≤◌, ◌∷◌, [], ℕ, All, IfOk, IfErr, IsErr, IsErrOf, OnOk, vec_len, vec_capacity};
 ghost use Rattle.outside.specs.Faults.{Rose, raised};
 ghost use Rattle.published_map.specs.Version.{IsVersion};
 ghost use Rattle.map_cell.specs.declared.door.OpenFault.TheVariants.{CellFault as Shut};
@@ -21,7 +21,8 @@ const VIEWERS: usize = 16;
 ///
 /// # Errors
 ///
-/// `NoMemory`; `CellFault` only where the count of the door's faults rose, and where a viewer was asked for.
+/// `NoMemory`; `CellFault` only where the count of the door's faults rose, and where a viewer was asked for. That count
+/// stands at any other answer.
 pub fn open<J: Naming, D: Door, R: Wait>(
     rt: &R,
     alloc: Global,
@@ -41,7 +42,7 @@ pub fn open<J: Naming, D: Door, R: Wait>(
     ensures later { D.faults door.old ≤ D.faults door.new }
     ensures cause { IfErr result (λ e. e ≡ Shut → Rose (D.faults door.old) (D.faults door.new)) }
     ensures asked_one { IfErr result (λ e. e ≡ Shut → 1 ≤ viewers) }
-    ensures stays { OnOk result (D.faults door.new ≡ D.faults door.old) }
+    ensures stays { ¬ IsErrOf result Shut → D.faults door.new ≡ D.faults door.old }
 {
     let (book, empty) = history.named::<J>();
     let Ok(second) = first.try_clone() else {
@@ -83,7 +84,7 @@ fn fill<J: Naming, D: Door, R: Wait>(
     ensures later { D.faults door.old ≤ D.faults door.new }
     ensures cause { IfErr result (λ e. e ≡ Shut → Rose (D.faults door.old) (D.faults door.new)) }
     ensures asked_one { IsErr result → 1 ≤ viewers }
-    ensures stays { OnOk result (D.faults door.new ≡ D.faults door.old) }
+    ensures stays { ¬ IsErrOf result Shut → D.faults door.new ≡ D.faults door.old }
 {
     for _ in 0..viewers {
         let viewer = door.admit(rt, publisher)?;

@@ -168,6 +168,7 @@ impl<J: Naming> Publisher<J> {
         }
         let serial = delta.base + 1;
         let writer = self.writer.take().unwrap();
+        // tells the prover what the type keeps
         let _ = self.front.len();
         let mut front = self.front.again();
         if !front.add(

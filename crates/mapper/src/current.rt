@@ -93,6 +93,7 @@ fn dressed(
     ensures parts { IfOk result (λ c. (c.instance ≡ instance) × (c.map ≡ map)) }
     ensures current { IfOk result (λ c. (serial : ℕ) → IsCurrent (version_of serial topology.now c) c) }
 {
+    // tells the prover what the type keeps
     let _groups = instance.groups();
     let text = write_map(alloc, topology, &map)?;
     let totals = totals(&instance, state);
@@ -176,6 +177,7 @@ pub(crate) fn next_of<L>(
     ensures later { steps.old ≤ steps.new }
 {
     let instance = applied(&old.instance, batch)?;
+    // tells the prover what the type keeps
     let _groups = instance.groups();
     let map = repaired(alloc, old, &instance, kept, steps)?;
     dressed(alloc, topology, instance, map, &kept.state)

@@ -155,7 +155,8 @@ impl<J: Naming> Mapper<J> {
     ///
     /// # Errors
     ///
-    /// `NoMemory`; `CellFault` only where the count of the door's faults rose, and where a viewer was asked for.
+    /// `NoMemory`; `CellFault` only where the count of the door's faults rose, and where a viewer was asked for. That
+    /// count stands at any other answer.
     pub fn open<R: Wait, D: Door, L>(
         rt: &R,
         alloc: Global,
@@ -175,7 +176,7 @@ impl<J: Naming> Mapper<J> {
         ensures later { D.faults door.old ≤ D.faults door.new }
         ensures cause { IfErr result (λ e. e ≡ Shut → Rose (D.faults door.old) (D.faults door.new)) }
         ensures asked_one { IfErr result (λ e. e ≡ Shut → 1 ≤ viewers) }
-        ensures stays { OnOk result (D.faults door.new ≡ D.faults door.old) }
+        ensures stays { ¬ IsErrOf result Shut → D.faults door.new ≡ D.faults door.old }
         ensures counted { IfOk result (λ r. IsMapping topology.market r.0.newest.lines steps.old steps.new) }
         ensures steps { OnOk result (steps.new ≤ steps.old + most_offers topology.market) }
         ensures steps_later { steps.old ≤ steps.new }

@@ -139,6 +139,7 @@ impl<J: Naming> Maps<J> {
         let newest = self.publisher.newest();
         let old = &self.current;
         let current = next_of(self.alloc, newest.topology(), old, kept, batch, steps)?;
+        // tells the prover what the type keeps
         let _groups = (old.instance.groups(), current.instance.groups());
         let delta = Delta::between(
             self.alloc,

@@ -211,6 +211,7 @@ pub fn serve_port<J: Naming, P: Port, G: Gate, D: Door, N: Notes<Note = Note<J>>
     // No place is asked for.
     ensures asked { D.asked door.new ≡ D.asked door.old }
 {
+    // tells the prover what the type keeps
     let _ = worker.known();
     serve_turns(worker, port, gate, door, notes, turns)
 }

@@ -5,4 +5,4 @@ pub returns-in-Ok : goal.returns-in-Ok
 returns-in-Ok g c = inr (_, c.glb.ensures)
 
 pub returns-in-Err : goal.returns-in-Err
-returns-in-Err g c = inl refl
+returns-in-Err g c = inl (refl, refl)

@@ -6,4 +6,4 @@ pub returns-clause-asked : goal.returns-clause-asked
 returns-clause-asked g c = placed_by _ _ _ _ c.open.ensures.asked_all (rw (c.open.ensures.same.0, c.open.ensures.same.1) refl) c.open.ensures.stays
 
 pub returns-clause-refused : goal.returns-clause-refused
-returns-clause-refused g c = refused_by _ _ _ _ c.open.ensures.asked (rw (c.open.ensures.same.0, c.open.ensures.same.1) refl) c.open.ensures.later c.open.ensures.cause
+returns-clause-refused g c = refused_by _ _ _ _ c.open.ensures.asked (rw (c.open.ensures.same.0, c.open.ensures.same.1) refl) c.open.ensures.later c.open.ensures.cause c.open.ensures.stays
