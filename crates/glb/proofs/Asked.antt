@@ -25,7 +25,7 @@ more_asked told n xs (x ∷ y ∷ a) b c is one h = absurd (cc)
 
 more_refused : {L : Type 0} (told : L → LaneTold) (n : ℕ) (fault : OpenFault) (xs a b c : List L) → xs ≡ a ++ b → length a ≡ 1 → IsAskedSome n fault (map told a) (map told c) → IsAskedSome n fault (map told xs) (map told (c ++ b))
 more_refused told n fault xs (x ∷ []) b c is one h = ((h.0.0, h.0.1, more_asked told h.0.0 xs (x ∷ []) b c is one h.0.2), λ shut. rw (is, map-append told c b) (more_rose (told x) (map told c) (map told b) (h.1 shut)),
-    λ open. rw (is, map-append told c b) (more_stands (told x) (map told c) (map told b) (h.2 open)))
+    λ other. rw (is, map-append told c b) (more_stands (told x) (map told c) (map told b) (h.2 open)))
 more_refused told n fault xs [] b c is one h = absurd (cc)
 more_refused told n fault xs (x ∷ y ∷ a) b c is one h = absurd (cc)
 
@@ -42,7 +42,7 @@ placed_by (Err e) n x y count is stays = tt
 pub refused_by : {T : Type 0} (r : Result T OpenFault) (n : ℕ) (x y : LaneTold) → ((k : ℕ) × (k ≤ n) × (y.asked ≡ raised x.asked k)) → y ≡ record x { asked = y.asked; door_faults = y.door_faults } → x.door_faults ≤ y.door_faults
     → IfErr r (λ e. e ≡ Shut → Rose x.door_faults y.door_faults) → ((r ≡ Err Shut → ⊥) → y.door_faults ≡ x.door_faults) → IfErr r (λ e. IsAskedSome n e (x ∷ []) (y ∷ []))
 refused_by (Ok t) n x y count is later cause stays = tt
-refused_by (Err e) n x y count is later cause stays = ((count.0, count.1, door_asked count.0 x y count.2 is later), cause, λ open. stays (λ h. open (cc)))
+refused_by (Err e) n x y count is later cause stays = ((count.0, count.1, door_asked count.0 x y count.2 is later), cause, λ other. stays (λ h. other (cc)))
 
 more_placed : {L : Type 0} (told : L → LaneTold) (n : ℕ) (xs a b c : List L) → xs ≡ a ++ b → length a ≡ 1 → PlacedFirst n (map told a) (map told c) → PlacedFirst n (map told xs) (map told (c ++ b))
 more_placed told n xs (x ∷ []) b c is one h = rw (is, map-append told c b) (ap (λ ys. ys ++ map told b) h)
