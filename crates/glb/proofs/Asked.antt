@@ -24,8 +24,11 @@ more_asked told n xs [] b c is one h = absurd (cc)
 more_asked told n xs (x ∷ y ∷ a) b c is one h = absurd (cc)
 
 more_refused : {L : Type 0} (told : L → LaneTold) (n : ℕ) (fault : OpenFault) (xs a b c : List L) → xs ≡ a ++ b → length a ≡ 1 → IsAskedSome n fault (map told a) (map told c) → IsAskedSome n fault (map told xs) (map told (c ++ b))
-more_refused told n fault xs (x ∷ []) b c is one h = ((h.0.0, h.0.1, more_asked told h.0.0 xs (x ∷ []) b c is one h.0.2), λ shut. rw (is, map-append told c b) (more_rose (told x) (map told c) (map told b) (h.1 shut)),
-    λ other. rw (is, map-append told c b) (more_stands (told x) (map told c) (map told b) (h.2 open)))
+more_refused told n fault xs (x ∷ []) b c is one h = (
+  (h.0.0, h.0.1, more_asked told h.0.0 xs (x ∷ []) b c is one h.0.2),
+  λ shut. rw (is, map-append told c b) (more_rose (told x) (map told c) (map told b) (h.1 shut)),
+  λ other. rw (is, map-append told c b) (more_stands (told x) (map told c) (map told b) (h.2 other)),
+)
 more_refused told n fault xs [] b c is one h = absurd (cc)
 more_refused told n fault xs (x ∷ y ∷ a) b c is one h = absurd (cc)
 
