@@ -1,5 +1,5 @@
 //! The mapper: the newest map of a topology, in a cell.
-ghost use Rattle.std.specs.Prelude.{◌≡◌, ◌≢◌, ◌⊎◌, ◌+◌, ◌-◌, ◌<◌, ◌≤◌, ◌^◌, [], ◌∷◌, ℕ, All, IfErr, IfOk, OnErr, OnOk, Ok, vec_len};
+ghost use Rattle.std.specs.Prelude.{◌≡◌, ◌≢◌, ◌⊎◌, ◌+◌, ◌-◌, ◌<◌, ◌≤◌, ◌^◌, [], ◌∷◌, ℕ, All, IfErr, IsErrOf, IfOk, OnErr, OnOk, Ok, vec_len};
 ghost use mathlib.Core.List.{IsPrefix};
 ghost use Rattle.outside.specs.Faults.{Rose, raised};
 ghost use Rattle.map_model.specs.Batch.{IsBatch};
