@@ -26,7 +26,7 @@ CRATES = [folder.name for folder in (TOP / "crates").iterdir()]
 # docs/PROOFS.md is not among them: its pitfalls name what is not there
 DOCUMENTS = sorted(str(path.relative_to(TOP)) for folder in (".", "bench", "docs") for path in (TOP / folder).glob("*.md") if path.name != "PROOFS.md")
 # other programs, of whose words only the paths are looked up, and words of the system
-PROGRAMS = {"dig", "echo", "ldd", "ls", "man", "mkfifo", "nstat", "python3", "rt", "systemctl", "systemd-analyze", "tail", "usermod"}
+PROGRAMS = {"dig", "echo", "ldd", "ls", "man", "mkfifo", "nstat", "python3", "rt", "ss", "systemctl", "systemd-analyze", "tail", "usermod"}
 ELSEWHERE = {"PIPE_BUF", "net", "core", "rmem_default"}
 # places that are made when they are used
 MADE = re.compile(r"/(run|var|etc|proc|dev)/|.*/out/")
