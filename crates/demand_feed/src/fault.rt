@@ -1,5 +1,6 @@
 //! Why a line of a feed is refused.
-ghost use Rattle.std.specs.Prelude.{Some};
+ghost use Rattle.std.specs.Prelude.{◌≡◌, ◌≤◌, Some, length};
+ghost use Rattle.demand_feed.specs.Texts.{batch_words, line_words, refusal_words};
 
 use std::error::Error;
 use std::fmt;
@@ -23,13 +24,13 @@ pub enum LineFault {
     BadHex,
 }
 
-impl fmt::Display for LineFault {
-    ghost use Rattle.demand_feed.specs.Texts.{line_words};
-
-    ghost output = { λ fault. Some (line_words fault) };
-
-    fn fmt<W: fmt::Write>(&self, f: &mut fmt::Formatter<W>) -> fmt::Result {
-        f.write_str(match self {
+impl LineFault {
+    /// The words that say it, at most 12 octets.
+    pub fn words(self) -> &'static str
+        ensures words { result.now ≡ line_words self }
+        ensures short { length result.now ≤ 12 }
+    {
+        match self {
             LineFault::TooLong => "too long",
             LineFault::BadByte => "bad byte",
             LineFault::UnknownWord => "unknown word",
@@ -37,7 +38,17 @@ impl fmt::Display for LineFault {
             LineFault::BadNumber => "bad number",
             LineFault::BadAddress => "bad address",
             LineFault::BadHex => "bad hex",
-        })
+        }
+    }
+}
+
+impl fmt::Display for LineFault {
+    ghost use Rattle.demand_feed.specs.Texts.{line_words};
+
+    ghost output = { λ fault. Some (line_words fault) };
+
+    fn fmt<W: fmt::Write>(&self, f: &mut fmt::Formatter<W>) -> fmt::Result {
+        f.write_str(self.words())
     }
 }
 
@@ -54,17 +65,27 @@ pub enum BatchFault {
     Full,
 }
 
+impl BatchFault {
+    /// The words that say it, at most 12 octets.
+    pub fn words(self) -> &'static str
+        ensures words { result.now ≡ batch_words self }
+        ensures short { length result.now ≤ 12 }
+    {
+        match self {
+            BatchFault::UnknownName => "unknown name",
+            BatchFault::Range => "out of range",
+            BatchFault::Full => "batch full",
+        }
+    }
+}
+
 impl fmt::Display for BatchFault {
     ghost use Rattle.demand_feed.specs.Texts.{batch_words};
 
     ghost output = { λ fault. Some (batch_words fault) };
 
     fn fmt<W: fmt::Write>(&self, f: &mut fmt::Formatter<W>) -> fmt::Result {
-        f.write_str(match self {
-            BatchFault::UnknownName => "unknown name",
-            BatchFault::Range => "out of range",
-            BatchFault::Full => "batch full",
-        })
+        f.write_str(self.words())
     }
 }
 
@@ -79,16 +100,26 @@ pub enum Refusal {
     Batch(BatchFault),
 }
 
+impl Refusal {
+    /// The words that say it, at most 12 octets.
+    pub fn words(self) -> &'static str
+        ensures words { result.now ≡ refusal_words self }
+        ensures short { length result.now ≤ 12 }
+    {
+        match self {
+            Refusal::Line(fault) => fault.words(),
+            Refusal::Batch(fault) => fault.words(),
+        }
+    }
+}
+
 impl fmt::Display for Refusal {
     ghost use Rattle.demand_feed.specs.Texts.{refusal_words};
 
     ghost output = { λ why. Some (refusal_words why) };
 
     fn fmt<W: fmt::Write>(&self, f: &mut fmt::Formatter<W>) -> fmt::Result {
-        match self {
-            Refusal::Line(fault) => fault.fmt(f),
-            Refusal::Batch(fault) => fault.fmt(f),
-        }
+        f.write_str(self.words())
     }
 }
 

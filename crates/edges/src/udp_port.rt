@@ -16,6 +16,10 @@ use std::time::Duration;
 /// How long `recv` waits for a datagram, in milliseconds. So long may a lane take to see that it is to stop.
 const LONGEST_WAIT: u64 = 50;
 
+/// How long `send` waits where the socket's buffer is full, in milliseconds. The reply is lost then: whoever fills the
+/// buffer, with queries from neighbours that are not there, is not to hold up a lane.
+const LONGEST_SEND: u64 = 1;
+
 /// The first descriptor that is no standard stream's.
 const FIRST_DESCRIPTOR: i32 = 3;
 
@@ -91,6 +95,8 @@ fn bind<N: Net>(net: &N, listen: Listen) -> Option<Bound> {
     }
     let wait = Some(Duration::from_millis(LONGEST_WAIT));
     socket.set_read_timeout(wait).ok()?;
+    let send = Some(Duration::from_millis(LONGEST_SEND));
+    socket.set_write_timeout(send).ok()?;
     let port = socket.local_addr().ok()?.port();
     Some(Bound {
         socket,

@@ -7,16 +7,12 @@ use Rattle.outside.specs.Faults.{Rose, raised}
 use Rattle.map_cell.specs.declared.door.OpenFault.TheVariants.{CellFault as Shut}
 use Rattle.map_cell.specs.declared.door.OpenFault.{OpenFault}
 use Rattle.drive.specs.Done.{LaneTold}
-use Rattle.glb.specs.Serve.{AskedFirst, FirstDoorRose, FirstDoorStands, PlacedFirst}
+use Rattle.glb.specs.Serve.{AskedFirst, FirstDoor, PlacedFirst}
 use Rattle.glb.specs.Starting.{IsAskedSome}
 
-more_rose : (x : LaneTold) (c b : List LaneTold) → FirstDoorRose (x ∷ []) c → FirstDoorRose (x ∷ b) (c ++ b)
-more_rose x [] b h = absurd h
-more_rose x (y ∷ c) b h = h
-
-more_stands : (x : LaneTold) (c b : List LaneTold) → FirstDoorStands (x ∷ []) c → FirstDoorStands (x ∷ b) (c ++ b)
-more_stands x [] b h = absurd h
-more_stands x (y ∷ c) b h = h
+more_first : (Counts : ℕ → ℕ → Type 0) (x : LaneTold) (c b : List LaneTold) → FirstDoor Counts (x ∷ []) c → FirstDoor Counts (x ∷ b) (c ++ b)
+more_first Counts x [] b h = absurd h
+more_first Counts x (y ∷ c) b h = h
 
 more_asked : {L : Type 0} (told : L → LaneTold) (n : ℕ) (xs a b c : List L) → xs ≡ a ++ b → length a ≡ 1 → AskedFirst n (map told a) (map told c) → AskedFirst n (map told xs) (map told (c ++ b))
 more_asked told n xs (x ∷ []) b c is one h = rw (is, map-append told c b) (h.0, h.1, ap (λ ys. ys ++ map told b) h.2)
@@ -26,8 +22,8 @@ more_asked told n xs (x ∷ y ∷ a) b c is one h = absurd (cc)
 more_refused : {L : Type 0} (told : L → LaneTold) (n : ℕ) (fault : OpenFault) (xs a b c : List L) → xs ≡ a ++ b → length a ≡ 1 → IsAskedSome n fault (map told a) (map told c) → IsAskedSome n fault (map told xs) (map told (c ++ b))
 more_refused told n fault xs (x ∷ []) b c is one h = (
   (h.0.0, h.0.1, more_asked told h.0.0 xs (x ∷ []) b c is one h.0.2),
-  λ shut. rw (is, map-append told c b) (more_rose (told x) (map told c) (map told b) (h.1 shut)),
-  λ other. rw (is, map-append told c b) (more_stands (told x) (map told c) (map told b) (h.2 other)),
+  λ shut. rw (is, map-append told c b) (more_first Rose (told x) (map told c) (map told b) (h.1 shut)),
+  λ other. rw (is, map-append told c b) (more_first (λ b c. c ≡ b) (told x) (map told c) (map told b) (h.2 other)),
 )
 more_refused told n fault xs [] b c is one h = absurd (cc)
 more_refused told n fault xs (x ∷ y ∷ a) b c is one h = absurd (cc)

@@ -67,15 +67,18 @@ abbrev pub PlacedFirst : ℕ → List LaneTold → List LaneTold → Type 0
 PlacedFirst k [] after = after ≡ []
 PlacedFirst k (b ∷ before) after = after ≡ record b { asked = raised b.asked k } ∷ before
 
+-- there is a first lane, and the counts of its door before and after are so to each other
+abbrev pub FirstDoor : (ℕ → ℕ → Type 0) → List LaneTold → List LaneTold → Type 0
+FirstDoor Counts (b ∷ before) (c ∷ after) = Counts b.door_faults c.door_faults
+FirstDoor Counts _ _ = ⊥
+
 -- the count of the first lane's door rose
 abbrev pub FirstDoorRose : List LaneTold → List LaneTold → Type 0
-FirstDoorRose (b ∷ before) (c ∷ after) = Rose b.door_faults c.door_faults
-FirstDoorRose _ _ = ⊥
+FirstDoorRose before after = FirstDoor Rose before after
 
 -- the count of the first lane's door stands
 abbrev pub FirstDoorStands : List LaneTold → List LaneTold → Type 0
-FirstDoorStands (b ∷ before) (c ∷ after) = c.door_faults ≡ b.door_faults
-FirstDoorStands _ _ = ⊥
+FirstDoorStands before after = FirstDoor (λ b c. c ≡ b) before after
 
 -- a lane's port was opened there, and nothing else asked of the lane
 pub record IsOpening (listen : Listen) (result : Opening) (before after : LaneTold) : Type 0 where

@@ -9,7 +9,7 @@ ghost use Rattle.published_map.specs.Version.{Version, IsVersion};
 
 use crate::front::Naming;
 use crate::publisher::Publisher;
-use crate::viewer::{Note, Viewer};
+use crate::viewer::{Note, Refused, Viewer};
 use published_map::MapVersion;
 use std::marker::Model;
 use std::sync::Wait;
@@ -170,7 +170,7 @@ impl Door for PlainDoor {
                 self.greatest = self.greatest.max(viewer.known());
                 Ok(answer)
             }
-            Err(_) => {
+            Err(Refused) => {
                 self.faults = count(self.faults);
                 Err(CellFault)
             }

@@ -18,14 +18,10 @@ use std::marker::Model;
 
 pub(crate) type CellReader = Reader<Sealed, Tag, OneCell>;
 
-/// Why a look was refused.
-#[derive(Drop)]
-pub enum Refused {
-    /// The cell is closed.
-    Gone,
-    /// The history of the newest version does not go on from all that the viewer has seen and was told of.
-    Stale,
-}
+/// A look was refused: the cell is closed, or the newest version's history does not go on from all that the viewer has seen
+/// and was told of.
+#[derive(Clone, Copy, Debug, PartialEq, Eq)]
+pub struct Refused;
 
 /// Names a published version, with the history up to it.
 #[derive(Drop)]
@@ -121,7 +117,7 @@ impl<J: Naming> Viewer<J> {
         self.told = self.told.longer(&note.front);
     }
 
-    /// Looks at the newest version once: what the closure makes of it, or why the look was refused, with nothing changed.
+    /// Looks at the newest version once: what the closure makes of it; or the look was refused, and nothing has changed.
     pub fn look<R, C: FnOnce(&MapVersion) -> R>(&mut self, c: C) -> Result<R, Refused>
     where
         C: Drop,
@@ -134,13 +130,13 @@ impl<J: Naming> Viewer<J> {
         match reader.enter_as::<Knows>() {
             Err(reader) => {
                 self.reader = Some(reader);
-                Err(Refused::Gone)
+                Err(Refused)
             }
             Ok(reading) => {
                 let looked = look_in(reading.get(), &self.seen, &self.told, c);
                 self.reader = Some(reading.leave());
                 let Some((answer, front)) = looked else {
-                    return Err(Refused::Stale);
+                    return Err(Refused);
                 };
                 self.told = front.again();
                 self.seen = front;

@@ -1,6 +1,7 @@
 //! A map with what goes with it, and the one that follows it by a batch.
-ghost use Rattle.std.specs.Prelude.{◌≡◌, ◌+◌, ◌≤◌, ℕ, IfOk, OnOk};
-ghost use Rattle.map_model.specs.Market.{IsSameShape};
+ghost use Rattle.std.specs.Prelude.{◌≡◌, ◌+◌, ◌≤◌, ℕ, List, IfOk, IfSome, OnOk};
+ghost use Rattle.map_model.specs.Market.{IsSameShape, Market};
+ghost use Rattle.map_model.specs.declared.lines.MapLine.{MapLine};
 ghost use Rattle.map_model.specs.Allocation.{IsGood};
 ghost use Rattle.map_model.specs.Batch.{IsApplied, IsBatch};
 ghost use Rattle.map_model.specs.Progress.{IsEnded};
@@ -32,11 +33,32 @@ pub(crate) struct Current {
     pub totals: Totals,
 }
 
-/// A state of the newest map, from which the next repair goes on, and the offers by the trees of their pools.
+/// How many proposals for each group a state takes before it is made anew. Each may file its offer once more in the queues
+/// of the nodes above it, and an offer that was emptied since leaves its old seats there unless they are the worst.
+const PROPOSALS_KEPT: u64 = 8;
+
+/// A state of the newest map, from which the next repair goes on, the offers by the trees of their pools, and how many
+/// proposals repairs have made on the state.
 #[derive(Drop)]
 pub(crate) struct Kept {
     pub state: State,
     pub asked: Asked,
+    pub proposals: u64,
+}
+
+impl Kept {
+    /// It after so many proposals more, or nothing where there were so many that it is to be made anew: its memory would
+    /// grow from commit to commit.
+    pub fn after(self, proposals: u64, groups: u32) -> Option<Kept>
+        ensures { (m : Market) (lines : List MapLine) → IsKeptFor m lines self → IfSome result (λ kept. IsKeptFor m lines kept) }
+    {
+        let mut kept = self;
+        kept.proposals = kept.proposals.saturating_add(proposals);
+        if kept.proposals > PROPOSALS_KEPT * u64::from(groups) {
+            return None;
+        }
+        Some(kept)
+    }
 }
 
 /// The instance after a batch.
@@ -124,7 +146,11 @@ fn mapped<L>(alloc: Global, instance: &Instance, steps: &mut Steps<L>) -> Result
     let mut state = State::fresh(alloc, instance)?;
     run(alloc, instance, &mut state, steps)?;
     let asked = Asked::build(alloc, instance, &state)?;
-    Ok(Kept { state, asked })
+    Ok(Kept {
+        state,
+        asked,
+        proposals: 0,
+    })
 }
 
 /// The map of a topology's own instance, mapped from scratch.
@@ -155,7 +181,11 @@ pub(crate) fn kept_of(alloc: Global, current: &Current) -> Result<Kept, NoMemory
 {
     let state = State::of_map(alloc, &current.instance, &current.map)?;
     let asked = Asked::build(alloc, &current.instance, &state)?;
-    Ok(Kept { state, asked })
+    Ok(Kept {
+        state,
+        asked,
+        proposals: 0,
+    })
 }
 
 /// The map that a batch leads to.

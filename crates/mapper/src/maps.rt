@@ -167,11 +167,14 @@ impl<J: Naming> Maps<J> {
         ensures steps { OnOk result (IsWithinSpread self.old.newest.market self.old.newest.lines self.new.newest.market steps.old steps.new) }
         ensures later { steps.old ≤ steps.new }
     {
+        let before = steps.count();
         let mut kept = self.take_kept()?;
         let next = self.next(&mut kept, batch, steps)?;
         let serial = self.publisher.publish(rt, next.delta)?;
+        let groups = next.current.instance.groups();
+        let aged = kept.after(steps.count() - before, groups);
         store(&mut self.current, next.current);
-        store(&mut self.kept, Some(kept));
+        store(&mut self.kept, aged);
         Ok(serial)
     }
 

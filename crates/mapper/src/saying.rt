@@ -2,14 +2,13 @@
 ghost use Rattle.std.specs.Prelude.{◌≡◌, ◌≤◌, ◌+◌, ◌*◌, ◌++◌, [], length, decimal, option_map, IfSome};
 ghost use Rattle.hex.specs.Hex.{encode_lower};
 ghost use Rattle.outside.specs.declared.limits.TheConstants.{LARGEST_REPLY};
-ghost use Rattle.demand_feed.specs.Texts.{refusal_words};
 ghost use Rattle.mapper.specs.Sayings.{text_of};
 ghost use Rattle.mapper.specs.Texts.{digits_of};
 ghost use Rattle.mapper.specs.Texts as text;
 ghost use Rattle.mapper.specs.declared.saying.TheConstants.{LINE_ROOM};
 
 use arrayvec::ArrayVec;
-use demand_feed::{BatchFault, LineFault, Refusal};
+use demand_feed::Refusal;
 use itoa::Buffer;
 use outside::LARGEST_REPLY;
 
@@ -65,45 +64,6 @@ fn push_number(line: &mut Spoken, number: u64)
     push(line, digits.format(number).as_bytes());
 }
 
-/// The words for what is no line of a feed.
-fn line_words(fault: LineFault) -> &'static [u8]
-    ensures words { result.now ≡ refusal_words (Refusal.Line fault) }
-    ensures short { length result.now ≤ 12 }
-{
-    match fault {
-        LineFault::TooLong => b"too long",
-        LineFault::BadByte => b"bad byte",
-        LineFault::UnknownWord => b"unknown word",
-        LineFault::WrongCount => b"wrong count",
-        LineFault::BadNumber => b"bad number",
-        LineFault::BadAddress => b"bad address",
-        LineFault::BadHex => b"bad hex",
-    }
-}
-
-/// The words for a change that the batch does not take.
-fn batch_words(fault: BatchFault) -> &'static [u8]
-    ensures words { result.now ≡ refusal_words (Refusal.Batch fault) }
-    ensures short { length result.now ≤ 12 }
-{
-    match fault {
-        BatchFault::UnknownName => b"unknown name",
-        BatchFault::Range => b"out of range",
-        BatchFault::Full => b"batch full",
-    }
-}
-
-/// The words for a line that is refused.
-fn words(why: Refusal) -> &'static [u8]
-    ensures words { result.now ≡ refusal_words why }
-    ensures short { length result.now ≤ 12 }
-{
-    match why {
-        Refusal::Line(fault) => line_words(fault),
-        Refusal::Batch(fault) => batch_words(fault),
-    }
-}
-
 /// Appends the hexadecimal digits of octets.
 fn push_digits(line: &mut Spoken, octets: &[u8])
     requires room { length line.old.items + 1024 ≤ LINE_ROOM }
@@ -138,7 +98,7 @@ fn write_refused(line: &mut Spoken, number: u64, why: Refusal)
     push(line, b"refused ");
     push_number(line, number);
     push(line, b" ");
-    push(line, words(why));
+    push(line, why.words().as_bytes());
     push(line, b"\n");
 }
 
