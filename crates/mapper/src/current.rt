@@ -1,7 +1,7 @@
 //! A map with what goes with it, and the one that follows it by a batch.
 ghost use Rattle.std.specs.Prelude.{◌≡◌, ◌+◌, ◌≤◌, ℕ, List, IfOk, IfSome, OnOk};
-ghost use Rattle.map_model.specs.Market.{IsSameShape, Market};
 ghost use Rattle.map_model.specs.declared.lines.MapLine.{MapLine};
+ghost use Rattle.map_model.specs.Market.{IsSameShape, Market};
 ghost use Rattle.map_model.specs.Allocation.{IsGood};
 ghost use Rattle.map_model.specs.Batch.{IsApplied, IsBatch};
 ghost use Rattle.map_model.specs.Progress.{IsEnded};
@@ -46,19 +46,16 @@ pub(crate) struct Kept {
     pub proposals: u64,
 }
 
-impl Kept {
-    /// It after so many proposals more, or nothing where there were so many that it is to be made anew: its memory would
-    /// grow from commit to commit.
-    pub fn after(self, proposals: u64, groups: u32) -> Option<Kept>
-        ensures { (m : Market) (lines : List MapLine) → IsKeptFor m lines self → IfSome result (λ kept. IsKeptFor m lines kept) }
-    {
-        let mut kept = self;
-        kept.proposals = kept.proposals.saturating_add(proposals);
-        if kept.proposals > PROPOSALS_KEPT * u64::from(groups) {
-            return None;
-        }
-        Some(kept)
+/// What was kept, but where there were so many proposals that it is to be made anew: its memory would grow from commit to
+/// commit.
+pub(crate) fn unworn(kept: Option<Kept>, groups: u32) -> Option<Kept>
+    ensures { (m : Market) (lines : List MapLine) → IfSome kept (λ k. IsKeptFor m lines k) → IfSome result (λ k. IsKeptFor m lines k) }
+{
+    let kept = kept?;
+    if kept.proposals > PROPOSALS_KEPT * u64::from(groups) {
+        return None;
     }
+    Some(kept)
 }
 
 /// The instance after a batch.
@@ -89,6 +86,7 @@ fn repaired<L>(
     ensures steps { OnOk result (IsWithinSpread old.now.instance old.now.map.lines.items new.now steps.old steps.new) }
     ensures later { steps.old ≤ steps.new }
 {
+    let before = steps.count();
     resume(
         alloc,
         &old.instance,
@@ -97,6 +95,7 @@ fn repaired<L>(
         &mut kept.state,
         steps,
     )?;
+    kept.proposals = kept.proposals.saturating_add(steps.count() - before);
     ended_map(alloc, new, &kept.state)
 }
 

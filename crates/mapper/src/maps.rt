@@ -10,7 +10,7 @@ ghost use Rattle.mapper.specs.Currents.{IsCurrent, IsKeptFor, IsPrepared};
 ghost use Rattle.mapper.specs.Mappers.{IsPublished, IsRepairing};
 ghost use Rattle.mapper.specs.Words.{reply_by};
 
-use crate::current::{Current, First, Kept, kept_of, next_of};
+use crate::current::{Current, First, Kept, kept_of, next_of, unworn};
 use addr_text::Addr;
 use answer_core::{Answer, reply};
 use arrayvec::ArrayVec;
@@ -115,7 +115,8 @@ impl<J: Naming> Maps<J> {
         ensures same { self.new ≡ self.old }
         ensures kept { IfOk result (λ k. IsKeptFor self.old.newest.market self.old.newest.lines k) }
     {
-        match self.kept.take() {
+        let groups = self.current.instance.groups();
+        match unworn(self.kept.take(), groups) {
             Some(kept) => Ok(kept),
             None => kept_of(self.alloc, &self.current),
         }
@@ -167,14 +168,11 @@ impl<J: Naming> Maps<J> {
         ensures steps { OnOk result (IsWithinSpread self.old.newest.market self.old.newest.lines self.new.newest.market steps.old steps.new) }
         ensures later { steps.old ≤ steps.new }
     {
-        let before = steps.count();
         let mut kept = self.take_kept()?;
         let next = self.next(&mut kept, batch, steps)?;
         let serial = self.publisher.publish(rt, next.delta)?;
-        let groups = next.current.instance.groups();
-        let aged = kept.after(steps.count() - before, groups);
         store(&mut self.current, next.current);
-        store(&mut self.kept, aged);
+        store(&mut self.kept, Some(kept));
         Ok(serial)
     }
 
