@@ -37,6 +37,10 @@ ttl = 20
 ";
 
 /// The topology of a world of so many groups, and a feed of sixteen batches that changes it.
+///
+/// # Errors
+///
+/// `NoMemory`.
 pub fn make(alloc: Global, groups: u32) -> Result<(Vec<u8>, Vec<u8>), NoMemory>
     requires some { 1 ≤ groups }
     requires most { groups ≤ LARGEST_WORLD }

@@ -34,6 +34,10 @@ impl Model for Tree {
 
 impl Tree {
     /// The trees of an instance, with no units.
+    ///
+    /// # Errors
+    ///
+    /// `NoMemory`.
     pub fn build(alloc: Global, instance: &Instance) -> Result<Tree, NoMemory>
         ensures trees { IfOk result (λ tree. AreTreesOf instance.now tree.trees) }
         ensures empty { IfOk result (λ tree. tree.units ≡ replicate (length instance.now.nodes) 0) }

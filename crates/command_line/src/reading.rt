@@ -103,6 +103,10 @@ fn command_of<'a>(matches: &ArgMatches<'a>) -> Option<Command<'a>>
 
 /// What the words ask for, or none exactly where the declaration does not take them. The first word is the
 /// program's name.
+///
+/// # Errors
+///
+/// `NoMemory`.
 pub fn read_words<'a>(alloc: Global, words: &'a [String]) -> Result<Option<Command<'a>>, NoMemory>
     ensures { IfOk result (λ c. option_map ask_of c ≡ asked (texts words.entry.now)) }
 {

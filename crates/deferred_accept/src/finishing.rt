@@ -66,6 +66,10 @@ fn all_names(alloc: Global, instance: &Instance, state: &State) -> Result<Vec<Na
 
 /// The map of an ended state: what is held, and for each wanted offer the refusing node nearest to
 /// its pool. It is good for the instance. The state may be kept.
+///
+/// # Errors
+///
+/// `NoMemory`.
 pub fn ended_map(alloc: Global, instance: &Instance, state: &State) -> Result<MapLines, NoMemory>
     requires ready { IsReady instance.now state.now }
     requires ended { IsEnded instance.now state.now.pointers state.now.free }
@@ -79,6 +83,10 @@ pub fn ended_map(alloc: Global, instance: &Instance, state: &State) -> Result<Ma
 }
 
 /// The map of an ended state that is not wanted any more.
+///
+/// # Errors
+///
+/// `NoMemory`.
 pub fn finish(alloc: Global, instance: &Instance, state: State) -> Result<MapLines, NoMemory>
     requires ready { IsReady instance.now state }
     requires ended { IsEnded instance.now state.pointers state.free }

@@ -63,6 +63,7 @@ pub fn turn_at<L>(
     ensures turned { OnOk result (HasTurned instance.now state.old state.new steps.old steps.new) }
     ensures later { steps.old ≤ steps.new }
 {
+    // Tells the proof that the count is a number of 64 bits.
     let _count = steps.count();
     if let Some(hops) = circle_at(alloc, instance, state, group)? {
         let units = state.free(group);

@@ -66,6 +66,10 @@ fn capacity_change(topology: &Topology, node: &[u8], number: u64) -> Result<Chan
 
 impl Batch {
     /// An empty one, with room for all changes that it can have.
+    ///
+    /// # Errors
+    ///
+    /// `NoMemory`.
     pub fn new(alloc: Global) -> Result<Batch, NoMemory>
         ensures { IfOk result (λ b. b ≡ []) }
     {
@@ -108,6 +112,11 @@ impl Batch {
     }
 
     /// Takes the change of a line, by a topology's names. After a refusal the batch is as before.
+    ///
+    /// # Errors
+    ///
+    /// `UnknownName` where the topology has no such group or node; else `Range` where the number is not in its range;
+    /// else `Full` where there are 4,096 changes.
     pub fn add(&mut self, topology: &Topology, line: &Line<'_>) -> Result<(), BatchFault>
         requires { IsChangeLine line.now }
         ensures added { MatchResult result (λ _. with_line topology.now self.old line.now ≡ Ok self.new) (λ e. (with_line topology.now self.old line.now ≡ Err e) × (self.new ≡ self.old)) }

@@ -105,6 +105,10 @@ fn take_line(topology: &Topology, batch: &mut Batch, line: &[u8]) -> Result<(), 
 ///
 /// Only lines `demand GROUP N` and `capacity NODE N` are known. There are at most 4,096 changes: one more is refused as
 /// a full batch.
+///
+/// # Errors
+///
+/// `Refused` with the number of the first line that is refused, and why; `NoMemory`.
 pub fn read_changes(alloc: Global, topology: &Topology, text: &[u8]) -> Result<Batch, ChangesFault>
     ensures read { MatchResult result (λ batch. changes_of topology.now text.now ≡ Ok batch) (λ e. ¬ (e ≡ ChangesFault.NoMemory) → changes_of topology.now text.now ≡ Err e) }
     ensures batch { IfOk result (IsBatch topology.now.market) }

@@ -78,6 +78,10 @@ fn octets(digits: &[u8]) -> ArrayVec<u8, LONGEST_QUERY>
 
 impl Clerk {
     /// One ahead of a feed's first line.
+    ///
+    /// # Errors
+    ///
+    /// `NoMemory`.
     pub fn new(alloc: Global) -> Result<Clerk, NoMemory>
         ensures { IfOk result (λ c. c ≡ record { desk = fresh; due = [] }) }
     {

@@ -33,6 +33,10 @@ impl Model for Cutter {
 
 impl Cutter {
     /// One at the start of a line.
+    ///
+    /// # Errors
+    ///
+    /// `NoMemory`.
     pub fn new(alloc: Global) -> Result<Cutter, NoMemory>
         ensures { IfOk result (λ c. c ≡ []) }
     {

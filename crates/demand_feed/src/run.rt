@@ -128,6 +128,10 @@ ghost use Rattle.demand_feed.specs.Limits.{read_size};
 
 impl Intake {
     /// One that was not used.
+    ///
+    /// # Errors
+    ///
+    /// `NoMemory`.
     pub fn new(alloc: Global) -> Result<Intake, NoMemory> {
         Ok(Intake {
             clerk: Clerk::new(alloc)?,

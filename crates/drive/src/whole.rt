@@ -163,7 +163,8 @@ fn serve_all<
 
 /// Runs a mapper's feed beside the first lanes, one for each viewer, and then makes the closing look of each of these
 /// lanes: its worker learns of the newest map, and looks once by its lane's door. The lanes past the viewers are
-/// untouched. All memory is taken ahead of the first lane. At the end, after a refusal too, the mapper is closed.
+/// untouched. All memory but that of commits is taken ahead of the first lane. At the end, after a refusal too, the
+/// mapper is closed.
 ///
 /// A lane that its port or its gate has ended counts as ended by `CellFault` if its closing look is refused. One whose
 /// closing look shows a map past the newest one has ended `Above`.

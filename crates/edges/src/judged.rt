@@ -11,8 +11,9 @@ use std::net::SocketAddr;
 /// EOPNOTSUPP, ENOTCONN, ESHUTDOWN.
 const BROKEN_NUMBERS: [u32; 6] = [9, 32, 88, 95, 107, 108];
 
-/// Whether an error says that a socket is broken. Every other one concerns a datagram: whoever sends a datagram can bring
-/// those about, by a source port 0 or an address without a route.
+/// Whether an error says that a socket is broken. Every other one says that a wait ran out or was broken off, or
+/// concerns one datagram: whoever sends datagrams can bring those about, by a source port 0 or an address without a
+/// route.
 #[tactic(auto, unfolding(crate::specs::Judged::is_broken))]
 pub fn is_broken(error: &Error) -> bool
     ensures { result ≡ is_broken error.now }

@@ -61,6 +61,10 @@ fn demands(alloc: Global, instance: &Instance) -> Result<Vec<Units>, NoMemory>
 
 impl State {
     /// Nothing is held, each pointer is at the first place, and all demand is free.
+    ///
+    /// # Errors
+    ///
+    /// `NoMemory`.
     pub fn fresh(alloc: Global, instance: &Instance) -> Result<State, NoMemory>
         ensures fresh { IfOk result (λ state. IsFresh instance.now state) }
         ensures market { IfOk result (λ state. state.market ≡ instance.now) }
@@ -80,10 +84,15 @@ impl State {
     }
 
     /// What a good map holds. Each pointer stands behind the wanted places of its group.
+    ///
+    /// # Errors
+    ///
+    /// `NoMemory`.
     pub fn of_map(alloc: Global, instance: &Instance, map: &MapLines) -> Result<State, NoMemory>
         requires { IsGood instance.now map.now.lines.items map.now.names.items }
         ensures { IfOk result (λ state. IsOfMap instance.now map.now.lines.items state) }
     {
+        // tells the prover what the type keeps
         let _groups = instance.groups();
         let held = Held::build(alloc, instance, map)?;
         let pointers = wanted_counts(alloc, instance, &held)?;
@@ -168,6 +177,10 @@ impl State {
     }
 
     /// What is held, in the form of a map's lines.
+    ///
+    /// # Errors
+    ///
+    /// `NoMemory`.
     pub fn lines(&self, alloc: Global) -> Result<Vec<MapLine>, NoMemory>
         ensures lines { IfOk result (λ lines. lines.items ≡ self.now.lines) }
         ensures form { AreLines self.now.market self.now.lines }
@@ -195,6 +208,10 @@ impl State {
 
     /// Units are offered at a group's pointer: one proposal. Each node of the path then gives up units
     /// of its worst offers until it is within its capacity; `freed` tells which.
+    ///
+    /// # Errors
+    ///
+    /// `NoMemory`; the state is not whole then.
     pub fn put<L>(
         &mut self,
         instance: &Instance,

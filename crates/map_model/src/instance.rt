@@ -141,6 +141,10 @@ impl Instance {
     }
 
     /// An equal instance.
+    ///
+    /// # Errors
+    ///
+    /// `NoMemory`.
     pub fn try_clone(&self) -> Result<Instance, NoMemory>
         ensures { IfOk result (λ instance. instance ≡ self.now) }
     {

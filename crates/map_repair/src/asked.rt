@@ -126,6 +126,10 @@ fn list_all(instance: &Instance, state: &State, lists: &mut [Offers]) -> Result<
 
 impl Asked {
     /// The offers of an instance, over whose lists and trees the state stands.
+    ///
+    /// # Errors
+    ///
+    /// `NoMemory`.
     pub fn build(alloc: Global, instance: &Instance, state: &State) -> Result<Asked, NoMemory>
         requires { IsReady instance.now state.now }
         ensures { IfOk result (λ asked. AreAllListed instance.now asked) }

@@ -39,6 +39,7 @@ pub fn resume<L>(
     ensures steps { OnOk result (IsWithinSpread old.now state.old.lines new.now steps.old steps.new) }
     ensures later { steps.old ≤ steps.new }
 {
+    // tells the prover what the type keeps
     let _groups = new.groups();
     let marks = reached(alloc, old, new, asked, state)?;
     cut_and_trim(new, state);
@@ -50,6 +51,10 @@ pub fn resume<L>(
 ///
 /// A group with no old wanted place in a reached tree is not moved up. A group with no pool in a spread
 /// tree keeps its lines and names, and the proposals are within those that the other groups may make.
+///
+/// # Errors
+///
+/// `NoMemory`.
 pub fn repair<L>(
     alloc: Global,
     old: &Instance,

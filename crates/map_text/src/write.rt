@@ -110,6 +110,10 @@ fn push_fulls(text: &mut Vec<u8>, topology: &Topology, names: &[NameLine]) -> Re
 }
 
 /// The text of a map over a topology. There is one text for each map, and reading it gives the map back.
+///
+/// # Errors
+///
+/// `NoMemory`.
 pub fn write_map(alloc: Global, topology: &Topology, map: &MapLines) -> Result<Vec<u8>, NoMemory>
     requires { IsMapForm topology.now.market map.now.lines.items map.now.names.items }
     ensures text { IfOk result (λ text. text.items ≡ text_of_map topology.now (mapped map.now)) }

@@ -128,7 +128,7 @@ fn prepare_first(
     }
 }
 
-/// Maps a topology from scratch, and takes all room that a feed needs.
+/// Maps a topology from scratch, and takes all room that reading a feed needs.
 fn prepare<L>(alloc: Global, topology: Topology, steps: &mut Steps<L>) -> Result<Prepared, NoMemory>
     ensures plan { IfOk result (λ p. (arc_value p.topology ≡ topology) × (p.version.plan ≡ topology)) }
     ensures version { IfOk result (λ p. IsVersion p.version × (p.version.serial ≡ 0) × (p.version.market ≡ topology.market)) }
@@ -150,8 +150,8 @@ fn prepare<L>(alloc: Global, topology: Topology, steps: &mut Steps<L>) -> Result
 
 impl<J: Naming> Mapper<J> {
     /// Maps the topology from scratch, for which `steps` counts the proposals, and opens a cell with that map and so
-    /// many viewers. All room that a feed needs is taken here. Nothing is read. An opening that is refused closes what
-    /// it made, and may wait for that.
+    /// many viewers. All room that reading a feed needs is taken here. Nothing is read. An opening that is refused
+    /// closes what it made, and may wait for that.
     ///
     /// # Errors
     ///

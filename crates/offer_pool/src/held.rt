@@ -36,6 +36,10 @@ impl Model for Held {
 
 impl Held {
     /// Holds the lines of a map of this instance.
+    ///
+    /// # Errors
+    ///
+    /// `NoMemory`.
     pub fn build(alloc: Global, instance: &Instance, map: &MapLines) -> Result<Held, NoMemory>
         requires { AreLines instance.now map.now.lines.items }
         ensures held { IfOk result (λ held. held ≡ record { market = instance.now; lines = map.now.lines.items }) }
@@ -140,6 +144,10 @@ impl Held {
     }
 
     /// The lines of what is held, in a map's form.
+    ///
+    /// # Errors
+    ///
+    /// `NoMemory`.
     pub fn lines(&self, alloc: Global) -> Result<Vec<MapLine>, NoMemory>
         ensures lines { IfOk result (λ lines. lines.items ≡ self.now.lines) }
         ensures form { AreLines self.now.market self.now.lines }

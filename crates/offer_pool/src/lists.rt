@@ -91,6 +91,7 @@ impl Lists {
     pub fn build(alloc: Global, instance: &Instance) -> Result<Lists, NoMemory>
         ensures { IfOk result (λ lists. lists ≡ instance.now) }
     {
+        // Tells the proof that this is an instance.
         let _count = instance.groups();
         Ok(Lists {
             rows: rows_of(alloc, instance)?,

@@ -28,7 +28,6 @@ pub struct MemSource {
 }
 
 impl Model for MemSource {
-    //! A source in memory, which gives its bytes in pieces of stated sizes.
     ghost use Rattle.std.specs.Prelude.{◌≡◌, ◌≢◌, ◌≤◌, true, drop, vec_len, vec_capacity};
     ghost use Rattle.outside.specs.MemSource.{SourceInMemory, cut_by, total};
 

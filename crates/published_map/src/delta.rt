@@ -100,6 +100,7 @@ fn changed_rows(
     requires shape { IsSameShape old.now new.now }
     ensures { IfOk result (λ rows. RowsChanged old.now old_map.now.lines.items old_map.now.names.items new.now new_map.now.lines.items new_map.now.names.items (length old.now.groups) rows.items) }
 {
+    // tells the prover what the type keeps
     let _ = new.groups();
     let mut groups = Vec::new(alloc);
     let mut old_rest = whole(old_map);
@@ -156,6 +157,7 @@ impl Delta {
     {
         let groups = changed_rows(alloc, old, old_map, new, new_map)?;
         let nodes = changed_capacities(alloc, old, new)?;
+        // tells the prover what the type keeps
         let _ = (old.groups(), new.groups());
         Ok(Delta {
             base,

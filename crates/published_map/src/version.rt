@@ -122,6 +122,7 @@ impl MapVersion {
         ensures version { IfOk result IsVersion }
     {
         check_shared(&shared);
+        // tells the prover what the type keeps
         let _ = instance.groups();
         let rows = rows_of(alloc, instance, map)?;
         let capacities = capacities_of(alloc, instance)?;

@@ -45,6 +45,7 @@ impl Orders {
         ensures total { ¬ (a ≡ b) → IsFalse result → IsTrue (is_better self.now b a) }
         ensures transitive { (c : Offer) → IsTrue result → IsTrue (is_better self.now b c) → IsTrue (is_better self.now a c) }
     {
+        // tells the prover what the type keeps
         let _groups = self.instance.groups();
         self.instance.key(a) < self.instance.key(b)
     }

@@ -37,6 +37,10 @@ impl Model for CheckRoom {
 
 impl CheckRoom {
     /// The room for checks of maps for this instance, and for each of as many groups and nodes.
+    ///
+    /// # Errors
+    ///
+    /// `NoMemory`.
     pub fn new(alloc: Global, instance: &Instance) -> Result<CheckRoom, NoMemory>
         ensures { IfOk result (λ r. r ≡ record { groups = length instance.now.groups; nodes = length instance.now.nodes }) }
     {
@@ -68,6 +72,7 @@ fn judge(
     requires worst { length worst.old ≡ length instance.now.nodes }
     ensures { Judges instance.now lines.now names.now result }
 {
+    // tells the prover what the type keeps
     let _groups = instance.groups();
     if let Some(index) = first_bad_line(instance, lines) {
         return Verdict::BadLine { index };
