@@ -4,11 +4,12 @@ use Rattle.std.specs.Prelude.{Option, None, Some}
 use Rattle.std.specs.List.{concat}
 use Rattle.std.proofs.lemmas.Bool.{ne_eqb}
 use Rattle.std.proofs.lemmas.List.{length-take}
+use Rattle.std.proofs.lemmas.List.Elements.{All-push}
 use Rattle.map_model.specs.Market.{Market}
 use Rattle.text_parts.specs.Parts.{unfinished, whole_lines}
 use Rattle.text_parts.proofs.Lines.{nothing_unfinished, nothing_whole}
 use Rattle.outside.specs.Faults.{BothTell}
-use Rattle.outside.specs.Source.{Fed, IsRead, shorter}
+use Rattle.outside.specs.Source.{Fed, IsRead, IsWithin, shorter}
 use Rattle.outside.specs.declared.source.Read.TheVariants as read
 use Rattle.topology_text.specs.Plan.{Plan}
 use Rattle.demand_feed.specs.Limits.{longest_line, read_size}
@@ -16,7 +17,7 @@ use Rattle.demand_feed.specs.Clerk.{AreBatches, Clerking}
 use Rattle.demand_feed.specs.Cutter.{front}
 use Rattle.demand_feed.specs.Item.{Item, fresh, has_stop, is_stop, items, items_of}
 use Rattle.demand_feed.specs.Lines.{lines_of}
-use Rattle.demand_feed.specs.Runs.{HasRead, IsOver, NoStop}
+use Rattle.demand_feed.specs.Runs.{HasRead, IsOver, IsPiece, NoStop}
 use Rattle.demand_feed.specs.Taking.{AllDo, BrokeOff}
 use Rattle.demand_feed.specs.Working.{HasFailed, LastCame, PieceCame, Reads, Stands, TurnCame, end_of}
 use Rattle.demand_feed.specs.declared.run.FeedEnd.{FeedEnd}
@@ -75,12 +76,17 @@ shortest_again a b c (inl e) h = inr (h ∙ ap (λ o. shorter o read_size) e)
 shortest_again None b c (inr e) h = inr (h ∙ ap (λ o. shorter o read_size) e)
 shortest_again (Some n) b c (inr e) h = inr (h ∙ ap (λ o. shorter o read_size) e ∙ ap Some (omega arith))
 
+-- what was read into a buffer of the one size
+pub is_piece : (buffer : List ℕ) (k : ℕ) → length buffer ≡ read_size → IsWithin (read.Got k) read_size → IsPiece (take k buffer)
+is_piece buffer k full within = let size = length-take k buffer in (omega (arith, size, full, within.0, within.1), omega (arith, size, full, within.0, within.1))
+
 -- one piece more was read
-pub read_more : (pieces : List (List ℕ)) (buffer : List ℕ) (k : ℕ) (a b c : Fed) → HasRead pieces a b → IsRead read_size (read.Got k) buffer b c → HasRead (pieces ++ take k buffer ∷ []) a c
-read_more pieces buffer k a b c r s = record {
+pub read_more : (pieces : List (List ℕ)) (buffer : List ℕ) (k : ℕ) (a b c : Fed) → IsPiece (take k buffer) → HasRead pieces a b → IsRead read_size (read.Got k) buffer b c → HasRead (pieces ++ take k buffer ∷ []) a c
+read_more pieces buffer k a b c p r s = record {
   left = r.left ∙ ap (λ xs. concat pieces ++ xs) s.gives.0 ∙ sym (append_assoc (concat pieces) (take k buffer) c.left) ∙ ap (λ xs. xs ++ c.left) (sym (concat_end pieces (take k buffer)));
   given = s.gives.1 ∙ ap (λ xs. xs ++ take k buffer ∷ []) r.given ∙ append_assoc a.pieces pieces (take k buffer ∷ []);
   shortest = shortest_again a.shortest b.shortest c.shortest r.shortest s.shortest;
+  sizes = All-push IsPiece pieces (take k buffer) r.sizes p;
 }
 
 -- the end was read
@@ -89,6 +95,7 @@ read_end pieces buffer a b c r s = record {
   left = r.left ∙ ap (λ xs. concat pieces ++ xs) (s.gives.0 ∙ sym s.gives.1);
   given = s.gives.2 ∙ r.given;
   shortest = shortest_again a.shortest b.shortest c.shortest r.shortest s.shortest;
+  sizes = r.sizes;
 }
 
 -- a read failed
@@ -97,11 +104,12 @@ read_failed pieces buffer a b c r s = record {
   left = r.left ∙ ap (λ xs. concat pieces ++ xs) (sym s.gives.0);
   given = s.gives.1 ∙ r.given;
   shortest = shortest_again a.shortest b.shortest c.shortest r.shortest s.shortest;
+  sizes = r.sizes;
 }
 
 -- nothing was read
 pub read_none : (a : Fed) → HasRead [] a a
-read_none a = record { left = refl; given = sym (append-nil a.pieces); shortest = inl refl }
+read_none a = record { left = refl; given = sym (append-nil a.pieces); shortest = inl refl; sizes = λ k d h. absurd (omega (arith, h)) }
 
 -- ahead of all bytes
 pub reads_none : {X : Type 0} (does : Item → X → X → Type 0) (t : Plan) (clerk : Clerking) (s : X) → clerk.desk ≡ fresh → Reads does t s [] [] clerk s
@@ -110,13 +118,13 @@ reads_none does t clerk s e =
 
 -- a turn that read a piece
 pub turn_got : {X : Type 0} (does cuts : Item → X → X → Type 0) (result : LineEnd) (t : Plan) (a b c : Option Fed) (before : X) (pieces : List (List ℕ)) (buffer : List ℕ) (k : ℕ) (held : List ℕ) (clerk : Clerking) (now : X)
-    → BothTell a b (HasRead pieces) → BothTell b c (IsRead read_size (read.Got k) buffer) → NoStop (concat pieces) → PieceCame does cuts result t before (concat pieces ++ take k buffer) held clerk now
+    → IsPiece (take k buffer) → BothTell a b (HasRead pieces) → BothTell b c (IsRead read_size (read.Got k) buffer) → NoStop (concat pieces) → PieceCame does cuts result t before (concat pieces ++ take k buffer) held clerk now
     → TurnCame does cuts (end_of result) t a c before (length pieces) held clerk now
-turn_got does cuts lines.GoesOn t a b c before pieces buffer k held clerk now r s calm came =
-    (pieces ++ take k buffer ∷ [], one_more pieces (take k buffer), tell_trans a b c (HasRead pieces) (IsRead read_size (read.Got k) buffer) (HasRead (pieces ++ take k buffer ∷ [])) r s (read_more pieces buffer k), rw (concat_end pieces (take k buffer)) came)
-turn_got does cuts lines.Stopped t a b c before pieces buffer k held clerk now r s calm came = (
+turn_got does cuts lines.GoesOn t a b c before pieces buffer k held clerk now sized r s calm came =
+    (pieces ++ take k buffer ∷ [], one_more pieces (take k buffer), tell_trans a b c (HasRead pieces) (IsRead read_size (read.Got k) buffer) (HasRead (pieces ++ take k buffer ∷ [])) r s (λ x y z. read_more pieces buffer k x y z sized), rw (concat_end pieces (take k buffer)) came)
+turn_got does cuts lines.Stopped t a b c before pieces buffer k held clerk now sized r s calm came = (
   pieces ++ take k buffer ∷ [],
-  tell_trans a b c (HasRead pieces) (IsRead read_size (read.Got k) buffer) (HasRead (pieces ++ take k buffer ∷ [])) r s (read_more pieces buffer k),
+  tell_trans a b c (HasRead pieces) (IsRead read_size (read.Got k) buffer) (HasRead (pieces ++ take k buffer ∷ [])) r s (λ x y z. read_more pieces buffer k x y z sized),
   (λ e. cc),
   λ turns l. inl (
     ((pieces, take k buffer, refl, calm), ap (λ xs. has_stop (whole_lines xs)) (concat_end pieces (take k buffer)) ∙ ap has_stop came.2.lines ∙ has_stop_at came.0 came.1 came.2.more came.3),
@@ -124,9 +132,9 @@ turn_got does cuts lines.Stopped t a b c before pieces buffer k held clerk now r
     rw (concat_end pieces (take k buffer)) (stop_came does t before (whole_lines (concat pieces ++ take k buffer)) came.0 came.1 came.2.more now came.2.lines came.2.stop came.3 came.4),
   ),
 )
-turn_got does cuts lines.Failed t a b c before pieces buffer k held clerk now r s calm came = (
+turn_got does cuts lines.Failed t a b c before pieces buffer k held clerk now sized r s calm came = (
   pieces ++ take k buffer ∷ [],
-  tell_trans a b c (HasRead pieces) (IsRead read_size (read.Got k) buffer) (HasRead (pieces ++ take k buffer ∷ [])) r s (read_more pieces buffer k),
+  tell_trans a b c (HasRead pieces) (IsRead read_size (read.Got k) buffer) (HasRead (pieces ++ take k buffer ∷ [])) r s (λ x y z. read_more pieces buffer k x y z sized),
   (λ e. cc),
   λ turns l. inl ((pieces, take k buffer, refl, calm), omega (arith, l, one_more pieces (take k buffer)), rw (concat_end pieces (take k buffer)) (broke_off does cuts t before (whole_lines (concat pieces ++ take k buffer)) came.0 came.1 came.2.more now came.2.lines came.2.stop came.3 came.4)),
 )

@@ -7,3 +7,4 @@ pub mod Items
 pub mod Tellings
 pub mod Worked
 pub mod Ends
+pub mod Laws

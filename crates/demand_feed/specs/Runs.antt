@@ -1,5 +1,5 @@
 -- A run over a feed: what was read, what its items did, and how it ended.
-use Rattle.std.specs.Prelude.{◌≡◌, ◌⊎◌, ℕ, ◌<◌, ◌≤◌, true, false, List, [], ◌∷◌, ◌++◌, length, Option}
+use Rattle.std.specs.Prelude.{◌≡◌, ◌⊎◌, ℕ, ◌<◌, ◌≤◌, true, false, All, List, [], ◌∷◌, ◌++◌, length, Option}
 use Rattle.std.specs.List.{concat}
 use Rattle.text_parts.specs.Parts.{whole_lines}
 use Rattle.outside.specs.Faults.{BothTell}
@@ -12,11 +12,16 @@ use Rattle.demand_feed.specs.Taking.{AllDo, BrokeOff}
 use Rattle.demand_feed.specs.declared.run.FeedEnd.{FeedEnd}
 use Rattle.demand_feed.specs.declared.run.FeedEnd.TheVariants.{Ended, SourceFault, SinkFault, Spent}
 
--- these pieces were read, each into a buffer of the one size
+-- a piece that a buffer of the one size holds
+abbrev pub IsPiece : List ℕ → Type 0
+IsPiece piece = (1 ≤ length piece) × (length piece ≤ read_size)
+
+-- These pieces were read, each into a buffer of the one size: the shortest buffer of all stays or becomes one of that size, and no piece is longer.
 pub record HasRead (pieces : List (List ℕ)) (before after : Fed) : Type 0 where
   pub left : before.left ≡ concat pieces ++ after.left
   pub given : after.pieces ≡ before.pieces ++ pieces
   pub shortest : (after.shortest ≡ before.shortest) ⊎ (after.shortest ≡ shorter before.shortest read_size)
+  pub sizes : All IsPiece pieces
 
 -- nothing is left
 abbrev pub IsOver : Fed → Fed → Type 0

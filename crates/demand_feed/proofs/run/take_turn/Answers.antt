@@ -2,7 +2,7 @@ use Rattle.std.proofs.Common.{◌≤◌, ◌+◌, ◌-◌, ◌∙◌, sym, lengt
 use Rattle.std.specs.List.{concat}
 use Rattle.std.proofs.lemmas.List.{length-take-le}
 use Rattle.demand_feed.proofs.Worked.{ready_less}
-use Rattle.demand_feed.proofs.Ends.{goes_on, turn_end, turn_failed, turn_got}
+use Rattle.demand_feed.proofs.Ends.{goes_on, is_piece, turn_end, turn_failed, turn_got}
 use Rattle.demand_feed.proofs.run.take_turn.Goals as goal
 
 pub returns-in-Got-clause-ready : goal.returns-in-Got-clause-ready
@@ -16,7 +16,8 @@ returns-in-Got-clause-ready g c = λ n r none.
 
 pub returns-in-Got-clause-came : goal.returns-in-Got-clause-came
 returns-in-Got-clause-came g c = λ fed before pieces told reads.
-    rw c.piece_end.ensures.end (turn_got g.T.TakesItems.does g.T.TakesItems.cuts c.take_piece.result c.args.topology.now fed _ _ before pieces c.read.new.buffer c.in-Got.size c.take_piece.new.cutter c.take_piece.new.clerk c.take_piece.new.to told
+    rw c.piece_end.ensures.end (turn_got g.T.TakesItems.does g.T.TakesItems.cuts c.take_piece.result c.args.topology.now fed _ _ before pieces c.read.new.buffer c.in-Got.size c.take_piece.new.cutter c.take_piece.new.clerk c.take_piece.new.to
+    (is_piece c.read.new.buffer c.in-Got.size (omega (arith, c.read.auto.buffer, c.requires.buffer)) (omega (arith, c.in-Got.ensures.within.0), omega (arith, c.in-Got.ensures.within.1, c.requires.buffer))) told
     (rw (c.requires.buffer, c.in-Got.is) at c.read.ensures.read) reads.1.1 (c.take_piece.ensures.came before (concat pieces) reads))
 
 pub returns-in-End-clause-came : goal.returns-in-End-clause-came
