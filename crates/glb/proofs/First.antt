@@ -6,17 +6,21 @@ use Rattle.outside.specs.Faults.{Rose}
 use Rattle.outside.specs.Sink.{Written}
 use Rattle.outside.specs.Source.{Fed}
 use Rattle.outside.specs.declared.pace.PaceCall.{PaceCall}
+use Rattle.topology_text.specs.Plan.{Plan}
+use Rattle.map_cell.specs.Ends.{PublisherState}
 use Rattle.lane_model.specs.declared.ended.Ended.{Ended}
 use Rattle.demand_feed.specs.declared.run.FeedEnd.{FeedEnd}
 use Rattle.demand_feed.specs.declared.run.FeedEnd.TheVariants as feed
 use Rattle.published_map.specs.Version.{Version}
 use Rattle.mapper.specs.Words.{map_text}
+use Rattle.mapper.specs.Mappers.{IsFirst}
 use Rattle.drive.specs.Done.{LaneTold}
 use Rattle.drive.specs.Driven.{AreEnds, IsDriven}
 use Rattle.glb.specs.declared.starting.Start.TheVariants as start
 use Rattle.glb.specs.declared.status.Status.{Status}
 use Rattle.glb.specs.declared.status.Status.TheVariants as status
-use Rattle.glb.specs.Serve.{IsFirstSession, IsStarted}
+use Rattle.glb.specs.Map.{IsFromScratch}
+use Rattle.glb.specs.Serve.{IsFirstSession, IsSession, IsStarted, PlacedFirst}
 use Rattle.glb.specs.Starting.{IsStart, status_at}
 use Rattle.glb.specs.Told.{Stage, stage}
 use Rattle.glb.proofs.Served.{is_served}
@@ -56,3 +60,15 @@ pub served_session : (turns : ℕ) (listen : Listen) (workers : ℕ) (first : Ve
     → (started.feed_faults ≤ after.feed_faults) × (started.out_faults ≤ after.out_faults) × (started.maps_faults ≤ after.maps_faults) → IsFirstSession turns listen workers first before after result
 served_session turns listen workers first before started after end places result start driven answer source stays sink sink_stays later =
     inr (inr (inr (started, start, is_served turns workers first started after end places result driven answer source stays sink sink_stays later)))
+
+-- a session that begins with the first map of a topology
+pub begun : (turns : ℕ) (listen : Listen) (workers : ℕ) (t : Plan) (m : PublisherState) (fed : Option Fed) (out maps : Option Written) (pace : Option (List PaceCall)) (lanes lanes' : List LaneTold) (ff of mf : ℕ) (after : Stage) (result : Status)
+    → PlacedFirst workers lanes lanes' → IsFirst t m → IsFromScratch t.market m.newest.lines → IsFirstSession turns listen workers m.newest (stage fed out maps pace lanes' ff of mf) after result
+    → IsSession turns listen workers t (stage fed out maps pace lanes ff of mf) after result
+begun turns listen workers t m fed out maps pace lanes lanes' ff of mf after result placed first scratch session = inr (
+  stage fed out maps pace lanes' ff of mf,
+  m.newest,
+  record { asked = placed; lent = refl; rest = refl },
+  (record { history = refl; serial = first.serial; plan = first.plan; market = first.market; good = first.good }, scratch),
+  session,
+)

@@ -3,6 +3,7 @@ mod Reading
 mod Plans
 mod Said
 mod Good
+mod Scratch
 mod Opened
 mod Asked
 mod Histories

@@ -38,7 +38,7 @@ judged_said : (t : Plan) (m : Mapped) (due : Outcome) → IsJudged t m due → I
 judged_said t m due judged = one_text due (status_of judged.0) _ (has_text judged.0) judged.2
 
 mapped_said : (t : Plan) (due : Outcome) → IsMapped t due → IsSaid due
-mapped_said t due mapped = record { status = subst IsSaidStatus (sym mapped.status) tt; one = ap (λ (ps : List (List ℕ)). length ps) mapped.text.2 }
+mapped_said t due mapped = record { status = subst IsSaidStatus (sym mapped.status) tt; one = ap (λ (ps : List (List ℕ)). length ps) mapped.text.3 }
 
 answered_said : (d : Datagram) (t : Plan) (m : Mapped) (due : Outcome) → IsAnswered d t m due → IsSaid due
 answered_said d t m due (inl replied) = record { status = subst IsSaidStatus (sym replied.status) tt; one = ap (λ (ps : List (List ℕ)). length ps) replied.reply.text }

@@ -112,7 +112,7 @@ session_well turns ask topology before after plan says placed started first plac
     let parts = ok_parts served.end (list_any is_port_fault served.ends) (list_any is_spent served.ends) (list_any is_cell_fault served.ends) served.result_is in
     let d = served.driven in
     let fed : IsFeed topology turns feed.Ended started.lent.feed after.stage.lent.feed (scene first (first ∷ []) started.lent.out started.lent.maps started.lent.pace) (scene d.newest (first ∷ d.rest) after.stage.lent.out after.stage.lent.maps after.stage.lent.pace) =
-    subst (λ (t : Plan). IsFeed t turns feed.Ended started.lent.feed after.stage.lent.feed (scene first (first ∷ []) started.lent.out started.lent.maps started.lent.pace) (scene d.newest (first ∷ d.rest) after.stage.lent.out after.stage.lent.maps after.stage.lent.pace)) is_first.plan
+    subst (λ (t : Plan). IsFeed t turns feed.Ended started.lent.feed after.stage.lent.feed (scene first (first ∷ []) started.lent.out started.lent.maps started.lent.pace) (scene d.newest (first ∷ d.rest) after.stage.lent.out after.stage.lent.maps after.stage.lent.pace)) is_first.0.plan
     (subst (λ (e : FeedEnd). IsFeed first.plan turns e started.lent.feed after.stage.lent.feed (scene first (first ∷ []) started.lent.out started.lent.maps started.lent.pace) (scene d.newest (first ∷ d.rest) after.stage.lent.out after.stage.lent.maps after.stage.lent.pace)) parts.0 d.feed) in
     let placed_maps : placed.lent.maps ≡ before.stage.lent.maps = ap (λ (l : Lent). l.maps) place.lent in
     record {

@@ -1,5 +1,7 @@
 -- What is due to `map`.
-use Rattle.std.specs.Prelude.{◌≡◌, ℕ, List, [], ◌∷◌, Option}
+use Rattle.std.specs.Prelude.{◌≡◌, ℕ, ◌≤◌, List, [], ◌∷◌, Option}
+use Rattle.map_model.specs.declared.lines.MapLine.{MapLine}
+use Rattle.map_model.specs.Market.{Market}
 use Rattle.map_model.specs.Allocation.{IsGood}
 use Rattle.outside.specs.Faults.{BothTell}
 use Rattle.outside.specs.Shelf.{Load, Shelved}
@@ -7,20 +9,27 @@ use Rattle.topology_text.specs.Plan.{IsPlan, Plan}
 use Rattle.map_text.specs.Reading.{Mapped}
 use Rattle.map_text.specs.Writing.{text_of_map}
 use Rattle.glb.specs.declared.status.Status.TheVariants.{Ok}
+use Rattle.mapper.specs.Mappers.{IsMapping, most_offers}
 use Rattle.mapper.specs.Scenes.{IsPrinted}
 use Rattle.glb.specs.Outcome.{Outcome, Outside}
 use Rattle.glb.specs.Files.{Reads, Says, only, topology_file}
 
--- these texts are the one text of a map that is good for the instance of a topology
-abbrev pub AreGoodMap : Plan → List (List ℕ) → Type 0
-AreGoodMap t pieces = (m : Mapped) × IsGood t.market m.lines m.names × (pieces ≡ text_of_map t m ∷ [])
+-- some number of proposals leads from nothing held to these lines, and it is no more than a mapping from scratch may make
+pub record IsFromScratch (m : Market) (lines : List MapLine) : Type 0 where
+  pub steps : ℕ
+  pub counted : IsMapping m lines 0 steps
+  pub few : steps ≤ most_offers m
 
--- the text of a good map
+-- these texts are the one text of a map that is good for the instance of a topology, mapped from scratch
+abbrev pub AreGoodMap : Plan → List (List ℕ) → Type 0
+AreGoodMap t pieces = (m : Mapped) × IsGood t.market m.lines m.names × IsFromScratch t.market m.lines × (pieces ≡ text_of_map t m ∷ [])
+
+-- the text of a good map, mapped from scratch
 pub record IsMapped (t : Plan) (due : Outcome) : Type 0 where
   pub status : due.status ≡ Ok
   pub text : AreGoodMap t due.pieces
 
--- what is due to `map`: the refusal of the topology, or the text of a good map
+-- what is due to `map`: the refusal of the topology, or the text of a good map, mapped from scratch
 abbrev pub IsMapDue : List ℕ → Option Shelved → Outcome → Type 0
 IsMapDue topology files = Reads topology_file files topology IsMapped
 
@@ -28,7 +37,7 @@ IsMapDue topology files = Reads topology_file files topology IsMapped
 abbrev pub HoldsTopology : List ℕ → Option Shelved → Type 0
 HoldsTopology topology files = (t : Plan) × Says topology_file files topology t
 
--- What status 0 of `map` says of the files and the output: the file holds a topology, and the output got the text of a map that is good for its instance, in one put.
+-- What status 0 of `map` says of the files and the output: the file holds a topology, and the output got the text of a map that is good for its instance, mapped from scratch, in one put.
 abbrev pub IsMappedRun : List ℕ → Outside → Outside → Type 0
 IsMappedRun topology before after =
     (t : Plan) × (pieces : List (List ℕ)) × IsPlan t × Says topology_file before.files topology t × AreGoodMap t pieces × BothTell before.out after.out (IsPrinted pieces)

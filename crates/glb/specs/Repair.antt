@@ -4,7 +4,8 @@ use Rattle.map_model.specs.declared.change.Change.{Change}
 use Rattle.map_model.specs.Market.{Market}
 use Rattle.map_model.specs.Allocation.{IsGood}
 use Rattle.map_model.specs.Batch.{IsApplied}
-use Rattle.map_repair.specs.Repaired.{IsKept, IsLocal}
+use Rattle.map_repair.specs.Repaired.{IsKept, IsLocal, IsWithinSpread}
+use Rattle.map_repair.specs.Resumed.{HasRepaired}
 use Rattle.outside.specs.Faults.{BothTell}
 use Rattle.outside.specs.Shelf.{Load, Shelved}
 use Rattle.topology_text.specs.Plan.{IsPlan, Plan}
@@ -16,7 +17,7 @@ use Rattle.glb.specs.Outcome.{Outcome, Outside}
 use Rattle.glb.specs.Answer.{IsNotGood}
 use Rattle.glb.specs.Files.{Reads, Says, changes_file, loads_from, map_file, only, topology_file}
 
--- These texts are the one text of a repaired map: the old map is good; the new one is good for the numbers as the changes say, moves no group up that has no wanted place in a reached tree, and is the same for each group that has no pool in a spread tree.
+-- These texts are the one text of a repaired map: the old map is good; the new one is good for the numbers as the changes say, moves no group up that has no wanted place in a reached tree, and is the same for each group that has no pool in a spread tree; and some number of proposals leads from the old map to the new one, as a repair comes to its map, within those of the groups with a pool in a spread tree.
 pub record AreRepaired (t : Plan) (m : Mapped) (changes : List Change) (pieces : List (List ℕ)) : Type 0 where
   pub good : IsGood t.market m.lines m.names
   pub changed : Market
@@ -25,6 +26,9 @@ pub record AreRepaired (t : Plan) (m : Mapped) (changes : List Change) (pieces :
   pub good_again : IsGood changed repaired.lines repaired.names
   pub kept : IsKept t.market m.lines changed repaired.lines
   pub local : IsLocal t.market m.lines changed repaired.lines
+  pub steps : ℕ
+  pub counted : HasRepaired t.market m.lines changed repaired.lines 0 steps
+  pub few : IsWithinSpread t.market m.lines changed 0 steps
   pub text : pieces ≡ text_of_map t repaired ∷ []
 
 -- the map is good, and the text of the repaired one is due

@@ -25,6 +25,7 @@ use Rattle.glb.specs.Causes.{AnyLane, HasCellFault, HasPortFault, HasTaken}
 use Rattle.glb.specs.Outcome.{RunsBy}
 use Rattle.glb.specs.Told.{IsOutAlone, Stage, Surroundings}
 use Rattle.glb.specs.Files.{IsRefused, Says, only, topology_file}
+use Rattle.glb.specs.Map.{IsFromScratch}
 
 -- the loads of `serve`: the topology
 abbrev pub loads_of_serve : Service → (List ℕ → Option (List ℕ)) → List Load
@@ -161,9 +162,9 @@ IsFirstSession turns listen workers first before after result = IsPortUnopened l
     ⊎ ((result ≡ status.NoMemory) × IsStarted listen workers first before after)
     ⊎ ((started : Stage) × IsStarted listen workers first before started × IsServed turns workers first started after result)
 
--- the first version of a topology: serial 0, its own numbers, and a good map
+-- the first version of a topology: serial 0, its own numbers, and a good map, mapped from scratch
 abbrev pub IsFirstOf : Plan → Version → Type 0
-IsFirstOf t first = IsFirst t (record { history = first ∷ []; newest = first })
+IsFirstOf t first = IsFirst t (record { history = first ∷ []; newest = first }) × IsFromScratch t.market first.lines
 
 -- what follows where a topology was read
 abbrev pub IsSession : ℕ → Listen → ℕ → Plan → Stage → Stage → Status → Type 0

@@ -39,7 +39,7 @@ AreWellDone turns history w zero before after = after ≡ before
 AreWellDone turns history w (suc n) (b ∷ before) (c ∷ after) = IsWellDone turns history w b c × AreWellDone turns history (w + 1) n before after
 AreWellDone turns history w (suc n) _ _ = ⊥
 
--- The file holds a topology; a history of good maps begins with the topology's own numbers and goes on by the feed's batches; the maps got the texts of that history and nothing else; the output got what the feed's lines come to; and each of the first lanes was opened and answered from that history until it ended.
+-- The file holds a topology; a history of good maps begins with the topology's own numbers, mapped from scratch, and goes on by the feed's batches; the maps got the texts of that history and nothing else; the output got what the feed's lines come to; and each of the first lanes was opened and answered from that history until it ended.
 pub record IsWellServed (turns : ℕ) (ask : Service) (before after : Surroundings) : Type 0 where
   pub topology : Plan
   pub is_plan : IsPlan topology

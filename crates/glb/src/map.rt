@@ -1,7 +1,7 @@
 //! `glb map`: a good map, from scratch.
 ghost use Rattle.std.specs.Prelude.{◌≢◌, Err, IfOk};
 ghost use Rattle.map_model.specs.Allocation.{IsGood, IsMapForm};
-ghost use Rattle.glb.specs.Map.{IsMapDue, IsMapped, loads_of_map};
+ghost use Rattle.glb.specs.Map.{IsFromScratch, IsMapDue, IsMapped, loads_of_map};
 ghost use Rattle.glb.specs.Ending.{EndsBy, IsEnd};
 
 use crate::ending::{Report, Stop};
@@ -22,6 +22,7 @@ pub struct Proposals;
 /// A good map for an instance, from scratch.
 fn map_afresh(alloc: Global, instance: &Instance) -> Result<MapLines, NoMemory>
     ensures good { IfOk result (λ map. IsGood instance.now map.lines.items map.names.items) }
+    ensures scratch { IfOk result (λ map. IsFromScratch instance.now map.lines.items) }
     ensures form { IfOk result (λ map. IsMapForm instance.now map.lines.items map.names.items) }
 {
     let mut state = State::fresh(alloc, instance)?;

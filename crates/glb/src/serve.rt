@@ -3,6 +3,7 @@ ghost use Rattle.std.specs.Prelude.{◌≡◌, ◌≤◌, ◌∷◌, [], All, If
 ghost use Rattle.std.specs.List.{list_any};
 ghost use Rattle.demand_feed.specs.declared.limits.TheConstants.{MOST_TURNS};
 ghost use Rattle.mapper.specs.Mappers.{IsFirst};
+ghost use Rattle.glb.specs.Map.{IsFromScratch};
 ghost use Rattle.glb.specs.Program.{IsPromised};
 ghost use Rattle.glb.specs.Serve.{IsFirstSession, IsSession, PlacedFirst, is_cell_fault, is_port_fault, is_spent, status_by};
 ghost use Rattle.glb.specs.Starting.{IsAskedSome, at_place, status_at};
@@ -106,6 +107,7 @@ fn open_by<J: Naming, R: Wait, P: Port, G: Gate, D: Door>(
     requires book { history ≡ J.book }
     requires workers { workers ≤ 16 }
     ensures mapper { IfOk result (λ r. IsFirst topology r.0) }
+    ensures scratch { IfOk result (λ r. IsFromScratch topology.market r.0.newest.lines) }
     ensures viewers { IfOk result (λ r. (vec_len r.1 ≡ workers) × All (λ v. (v.seen ≡ r.0.history) × (v.told ≡ r.0.history)) r.1.items) }
     ensures asked { IfOk result (λ _. PlacedFirst workers (lane_told P.told P.faults G.told D.asked D.looks D.greatest D.faults lane.old ∷ []) (lane_told P.told P.faults G.told D.asked D.looks D.greatest D.faults lane.new ∷ [])) }
     ensures refused { IfErr result (λ e. IsAskedSome workers e (lane_told P.told P.faults G.told D.asked D.looks D.greatest D.faults lane.old ∷ []) (lane_told P.told P.faults G.told D.asked D.looks D.greatest D.faults lane.new ∷ [])) }
@@ -135,6 +137,7 @@ fn open_first<J: Naming, R: Wait, P: Port, G: Gate, D: Door>(
     requires workers { workers ≤ 16 }
     requires lanes { length lanes.old ≡ 1 }
     ensures mapper { IfOk result (λ r. IsFirst topology r.0) }
+    ensures scratch { IfOk result (λ r. IsFromScratch topology.market r.0.newest.lines) }
     ensures viewers { IfOk result (λ r. (vec_len r.1 ≡ workers) × All (λ v. (v.seen ≡ r.0.history) × (v.told ≡ r.0.history)) r.1.items) }
     ensures length { length lanes.new ≡ length lanes.old }
     ensures asked { IfOk result (λ _. PlacedFirst workers (map (lane_told P.told P.faults G.told D.asked D.looks D.greatest D.faults) lanes.old) (map (lane_told P.told P.faults G.told D.asked D.looks D.greatest D.faults) lanes.new)) }
@@ -156,6 +159,7 @@ fn open_mapper<J: Naming, R: Wait, P: Port, G: Gate, D: Door>(
     requires workers { workers ≤ 16 }
     requires lanes { 1 ≤ length lanes.old }
     ensures mapper { IfOk result (λ r. IsFirst topology r.0) }
+    ensures scratch { IfOk result (λ r. IsFromScratch topology.market r.0.newest.lines) }
     ensures viewers { IfOk result (λ r. (vec_len r.1 ≡ workers) × All (λ v. (v.seen ≡ r.0.history) × (v.told ≡ r.0.history)) r.1.items) }
     ensures length { length lanes.new ≡ length lanes.old }
     ensures asked { IfOk result (λ _. PlacedFirst workers (map (lane_told P.told P.faults G.told D.asked D.looks D.greatest D.faults) lanes.old) (map (lane_told P.told P.faults G.told D.asked D.looks D.greatest D.faults) lanes.new)) }

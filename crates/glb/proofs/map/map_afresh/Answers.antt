@@ -1,9 +1,13 @@
-use Rattle.std.proofs.Common.{Result, Ok, Err, IfOk}
+use Rattle.std.proofs.Common.{Result, Ok, Err, IfOk, List, sym, subst}
+use Rattle.std.proofs.lemmas.Result.{IfOk-weaker}
+use Rattle.map_model.specs.declared.lines.MapLine.{MapLine}
 use Rattle.map_model.specs.declared.lines.MapLines.{MapLines}
 use Rattle.map_model.specs.Market.{Market, IsMarket}
 use Rattle.map_model.specs.Allocation.{IsGood, IsMapForm}
 use Rattle.map_model.proofs.NameForm.{IsMapForm-IsGood}
 use Rattle.no_memory.specs.declared.NoMemory.{NoMemory}
+use Rattle.glb.specs.Map.{IsFromScratch}
+use Rattle.glb.proofs.Scratch.{scratch_of}
 use Rattle.glb.proofs.map.map_afresh.Goals as goal
 
 -- a map that is good is in the form of a map
@@ -13,3 +17,9 @@ in_form m market (Err e) good = tt
 
 pub returns-clause-form : goal.returns-clause-form
 returns-clause-form c = in_form c.args.instance.now c.in_ok-state.ensures.fresh.ready.market c.finish.result c.finish.ensures.good
+
+pub returns-clause-scratch : goal.returns-clause-scratch
+returns-clause-scratch c =
+    let run = c.in_ok-run.ensures in
+    let made = scratch_of c.args.instance.now c.in_ok-state.state c.run.new.state c.new-steps.result c.run.new.steps c.in_ok-state.ensures.fresh c.new-steps.ensures run.counted run.steps in
+    IfOk-weaker c.finish.result _ _ (λ map lines. subst (λ (ls : List MapLine). IsFromScratch c.args.instance.now ls) (sym lines) made) c.finish.ensures.lines
