@@ -3,7 +3,7 @@ use Rattle.std.proofs.Common.{◌≡◌, ℕ, ◌≤◌, List, [], ◌∷◌, �
 use Rattle.std.specs.Prelude.{slice_set}
 use Rattle.std.proofs.Common.{get_or}
 use Rattle.std.proofs.lemmas.List.{map-append}
-use Rattle.outside.specs.Faults.{Rose, raised}
+use Rattle.outside.specs.Faults.{raised}
 use Rattle.map_cell.specs.declared.door.OpenFault.TheVariants.{CellFault as Shut}
 use Rattle.map_cell.specs.declared.door.OpenFault.{OpenFault}
 use Rattle.drive.specs.Done.{LaneTold}
@@ -22,7 +22,7 @@ more_asked told n xs (x ∷ y ∷ a) b c is one h = absurd (cc)
 more_refused : {L : Type 0} (told : L → LaneTold) (n : ℕ) (fault : OpenFault) (xs a b c : List L) → xs ≡ a ++ b → length a ≡ 1 → IsAskedSome n fault (map told a) (map told c) → IsAskedSome n fault (map told xs) (map told (c ++ b))
 more_refused told n fault xs (x ∷ []) b c is one h = (
   (h.0.0, h.0.1, more_asked told h.0.0 xs (x ∷ []) b c is one h.0.2),
-  λ shut. rw (is, map-append told c b) (more_first Rose (told x) (map told c) (map told b) (h.1 shut)),
+  λ shut. rw (is, map-append told c b) (more_first (λ b c. c ≡ raised b 1) (told x) (map told c) (map told b) (h.1 shut)),
   λ other. rw (is, map-append told c b) (more_first (λ b c. c ≡ b) (told x) (map told c) (map told b) (h.2 other)),
 )
 more_refused told n fault xs [] b c is one h = absurd (cc)
@@ -39,7 +39,7 @@ placed_by (Ok t) n x y count is stays =
 placed_by (Err e) n x y count is stays = tt
 
 pub refused_by : {T : Type 0} (r : Result T OpenFault) (n : ℕ) (x y : LaneTold) → ((k : ℕ) × (k ≤ n) × (y.asked ≡ raised x.asked k)) → y ≡ record x { asked = y.asked; door_faults = y.door_faults } → x.door_faults ≤ y.door_faults
-    → IfErr r (λ e. e ≡ Shut → Rose x.door_faults y.door_faults) → ((r ≡ Err Shut → ⊥) → y.door_faults ≡ x.door_faults) → IfErr r (λ e. IsAskedSome n e (x ∷ []) (y ∷ []))
+    → IfErr r (λ e. e ≡ Shut → y.door_faults ≡ raised x.door_faults 1) → ((r ≡ Err Shut → ⊥) → y.door_faults ≡ x.door_faults) → IfErr r (λ e. IsAskedSome n e (x ∷ []) (y ∷ []))
 refused_by (Ok t) n x y count is later cause stays = tt
 refused_by (Err e) n x y count is later cause stays = ((count.0, count.1, door_asked count.0 x y count.2 is later), cause, λ other. stays (λ h. other (cc)))
 

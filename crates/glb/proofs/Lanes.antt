@@ -4,7 +4,7 @@ use Rattle.std.specs.Prelude.{Option, None, Some}
 use Rattle.std.specs.List.{list_any}
 use Rattle.std.proofs.lemmas.List.{length-map}
 use Rattle.addr_text.specs.declared.address.Listen.{Listen}
-use Rattle.outside.specs.Faults.{BothTell, raised}
+use Rattle.outside.specs.Faults.{BothTell, Rose, raised}
 use Rattle.outside.specs.Port.{IsOpen, PortTold}
 use Rattle.outside.specs.Shelf.{Shelved}
 use Rattle.outside.specs.Sink.{Written}
@@ -115,9 +115,13 @@ failed_port listen (suc k) (suc n) (x ∷ xs) (y ∷ ys) lt h = inr (failed_port
 failed_port listen (suc k) (suc n) [] ys lt h = absurd h
 failed_port listen (suc k) (suc n) (x ∷ xs) [] lt h = absurd h
 
+once_rose : (b c : ℕ) → c ≡ raised b 1 → Rose b c
+once_rose b c is = omega (arith, is)
+
+-- a first lane whose door counted one more has a fault
 first_door : (n : ℕ) (xs ys : List LaneTold) → 1 ≤ n → FirstDoorRose xs ys → AnyLane n HasDoorFault xs ys
 first_door zero xs ys some h = absurd (omega (arith, some))
-first_door (suc n) (x ∷ xs) (y ∷ ys) some h = inl h
+first_door (suc n) (x ∷ xs) (y ∷ ys) some h = inl (once_rose x.door_faults y.door_faults h)
 first_door (suc n) [] ys some h = absurd h
 first_door (suc n) (x ∷ xs) [] some h = absurd h
 

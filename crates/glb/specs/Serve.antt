@@ -73,9 +73,9 @@ abbrev pub FirstDoor : (ℕ → ℕ → Type 0) → List LaneTold → List LaneT
 FirstDoor Counts (b ∷ before) (c ∷ after) = Counts b.door_faults c.door_faults
 FirstDoor Counts _ _ = ⊥
 
--- the count of the first lane's door rose
+-- the count of the first lane's door rose by one
 abbrev pub FirstDoorRose : List LaneTold → List LaneTold → Type 0
-FirstDoorRose before after = FirstDoor Rose before after
+FirstDoorRose before after = FirstDoor (λ b c. c ≡ raised b 1) before after
 
 -- the count of the first lane's door stands
 abbrev pub FirstDoorStands : List LaneTold → List LaneTold → Type 0
@@ -102,7 +102,7 @@ all_ready n = replicate n opening.Ready
 abbrev pub then_failed : ℕ → List Opening
 then_failed n = all_ready n ++ opening.Failed ∷ []
 
--- The map cell was not opened: a place in it was refused, which the door counted, or memory was wanting, and it counted nothing.
+-- The map cell was not opened: a place in it was refused, which the door counted once, or memory was wanting, and it counted nothing.
 pub record IsUnopened (workers : ℕ) (before after : Stage) (result : Status) : Type 0 where
   pub why : (result ≡ status.NoMemory) ⊎ ((result ≡ status.CellFault) × FirstDoorRose before.lent.lanes after.lent.lanes)
   pub stays : result ≢ status.CellFault → FirstDoorStands before.lent.lanes after.lent.lanes

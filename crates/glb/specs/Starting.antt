@@ -39,7 +39,7 @@ IsStart listen n text start.NoPort before after =
 IsStart listen n text start.NoSink before after =
     AreOpened listen (all_ready n) before.lanes after.lanes × BothTell before.maps after.maps (IsCut [] text) × Rose before.maps_faults after.maps_faults
 
--- Where the first door was not to give a place or memory was wanting, it was asked for no more than n, and its count rose where it was the door, and else stands.
+-- Where the first door was not to give a place or memory was wanting, it was asked for no more than n, and its count rose by one where it was the door, and else stands.
 abbrev pub IsAskedSome : ℕ → OpenFault → List LaneTold → List LaneTold → Type 0
 IsAskedSome n fault before after = ((k : ℕ) × (k ≤ n) × AskedFirst k before after) × (fault ≡ Shut → FirstDoorRose before after) × (fault ≢ Shut → FirstDoorStands before after)
 

@@ -47,7 +47,7 @@ pub trait Door: Drop {
     ///
     /// # Errors
     ///
-    /// `NoMemory`; `CellFault` only where the count of faults rose.
+    /// `NoMemory`; `CellFault` only where the count of faults rose by one.
     fn admit<J: Naming, R: Wait>(
         &mut self,
         rt: &R,
@@ -57,7 +57,7 @@ pub trait Door: Drop {
         ensures seen { IfOk result (λ v. (v.seen ≡ publisher.old.history) × (v.told ≡ publisher.old.history)) }
         ensures counts { (asked self.new ≡ raised (asked self.old) 1) × (looks self.new ≡ looks self.old) × (greatest self.new ≡ greatest self.old) }
         ensures later { faults self.old ≤ faults self.new }
-        ensures cause { IfErr result (λ e. e ≡ Shut → Rose (faults self.old) (faults self.new)) }
+        ensures cause { IfErr result (λ e. e ≡ Shut → faults self.new ≡ raised (faults self.old) 1) }
         ensures stays { ¬ IsErrOf result Shut → faults self.new ≡ faults self.old };
 
     /// Tells the viewer of a published version, and of no more.
@@ -143,7 +143,13 @@ impl Door for PlainDoor {
         &mut self,
         _rt: &R,
         publisher: &mut Publisher<J>,
-    ) -> Result<Viewer<J>, OpenFault> {
+    ) -> Result<Viewer<J>, OpenFault>
+        ensures same { publisher.new ≡ publisher.old }
+        ensures seen { IfOk result (λ v. (v.seen ≡ publisher.old.history) × (v.told ≡ publisher.old.history)) }
+        ensures counts { (self.new.asked ≡ raised self.old.asked 1) × (self.new.looks ≡ self.old.looks) × (self.new.greatest ≡ self.old.greatest) }
+        ensures stays { self.new.faults ≡ self.old.faults }
+        ensures granted { ¬ IsErrOf result OpenFault.CellFault }
+    {
         self.asked = count(self.asked);
         match publisher.admit() {
             Ok(viewer) => Ok(viewer),

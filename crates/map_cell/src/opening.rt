@@ -1,6 +1,6 @@
 //! The opening of a cell, with all its viewers.
 ghost use Rattle.std.specs.Prelude.{◌≡◌, ◌+◌, ◌<◌, ◌≤◌, ◌∷◌, [], ℕ, All, IfOk, IfErr, IsErr, IsErrOf, OnOk, vec_len, vec_capacity};
-ghost use Rattle.outside.specs.Faults.{Rose, raised};
+ghost use Rattle.outside.specs.Faults.{raised};
 ghost use Rattle.published_map.specs.Version.{IsVersion};
 ghost use Rattle.map_cell.specs.declared.door.OpenFault.TheVariants.{CellFault as Shut};
 
@@ -21,8 +21,8 @@ const VIEWERS: usize = 16;
 ///
 /// # Errors
 ///
-/// `NoMemory`; `CellFault` only where the count of the door's faults rose, and where a viewer was asked for. That count
-/// stands at any other answer.
+/// `NoMemory`; `CellFault` only where the count of the door's faults rose by one, and where a viewer was asked for. That
+/// count stands at any other answer.
 pub fn open<J: Naming, D: Door, R: Wait>(
     rt: &R,
     alloc: Global,
@@ -40,7 +40,7 @@ pub fn open<J: Naming, D: Door, R: Wait>(
     ensures asked_all { OnOk result (D.asked door.new ≡ raised (D.asked door.old) viewers) }
     ensures same { (D.looks door.new ≡ D.looks door.old) × (D.greatest door.new ≡ D.greatest door.old) }
     ensures later { D.faults door.old ≤ D.faults door.new }
-    ensures cause { IfErr result (λ e. e ≡ Shut → Rose (D.faults door.old) (D.faults door.new)) }
+    ensures cause { IfErr result (λ e. e ≡ Shut → D.faults door.new ≡ raised (D.faults door.old) 1) }
     ensures asked_one { IfErr result (λ e. e ≡ Shut → 1 ≤ viewers) }
     ensures stays { ¬ IsErrOf result Shut → D.faults door.new ≡ D.faults door.old }
 {
@@ -82,7 +82,7 @@ fn fill<J: Naming, D: Door, R: Wait>(
     ensures asked_all { OnOk result (D.asked door.new ≡ raised (D.asked door.old) viewers) }
     ensures untouched { (D.looks door.new ≡ D.looks door.old) × (D.greatest door.new ≡ D.greatest door.old) }
     ensures later { D.faults door.old ≤ D.faults door.new }
-    ensures cause { IfErr result (λ e. e ≡ Shut → Rose (D.faults door.old) (D.faults door.new)) }
+    ensures cause { IfErr result (λ e. e ≡ Shut → D.faults door.new ≡ raised (D.faults door.old) 1) }
     ensures asked_one { IsErr result → 1 ≤ viewers }
     ensures stays { ¬ IsErrOf result Shut → D.faults door.new ≡ D.faults door.old }
 {

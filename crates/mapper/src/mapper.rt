@@ -155,8 +155,8 @@ impl<J: Naming> Mapper<J> {
     ///
     /// # Errors
     ///
-    /// `NoMemory`; `CellFault` only where the count of the door's faults rose, and where a viewer was asked for. That
-    /// count stands at any other answer.
+    /// `NoMemory`; `CellFault` only where the count of the door's faults rose by one, and where a viewer was asked for.
+    /// That count stands at any other answer.
     pub fn open<R: Wait, D: Door, L>(
         rt: &R,
         alloc: Global,
@@ -174,7 +174,7 @@ impl<J: Naming> Mapper<J> {
         ensures asked_all { OnOk result (D.asked door.new ≡ raised (D.asked door.old) viewers) }
         ensures same { (D.looks door.new ≡ D.looks door.old) × (D.greatest door.new ≡ D.greatest door.old) }
         ensures later { D.faults door.old ≤ D.faults door.new }
-        ensures cause { IfErr result (λ e. e ≡ Shut → Rose (D.faults door.old) (D.faults door.new)) }
+        ensures cause { IfErr result (λ e. e ≡ Shut → D.faults door.new ≡ raised (D.faults door.old) 1) }
         ensures asked_one { IfErr result (λ e. e ≡ Shut → 1 ≤ viewers) }
         ensures stays { ¬ IsErrOf result Shut → D.faults door.new ≡ D.faults door.old }
         ensures counted { IfOk result (λ r. IsMapping topology.market r.0.newest.lines steps.old steps.new) }
