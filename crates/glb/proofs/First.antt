@@ -13,13 +13,12 @@ use Rattle.demand_feed.specs.declared.run.FeedEnd.{FeedEnd}
 use Rattle.demand_feed.specs.declared.run.FeedEnd.TheVariants as feed
 use Rattle.published_map.specs.Version.{Version}
 use Rattle.mapper.specs.Words.{map_text}
-use Rattle.mapper.specs.Mappers.{IsFirst}
+use Rattle.mapper.specs.Mappers.{IsFirst, IsFromScratch}
 use Rattle.drive.specs.Done.{LaneTold}
 use Rattle.drive.specs.Driven.{AreEnds, IsDriven}
 use Rattle.glb.specs.declared.starting.Start.TheVariants as start
 use Rattle.glb.specs.declared.status.Status.{Status}
 use Rattle.glb.specs.declared.status.Status.TheVariants as status
-use Rattle.glb.specs.Map.{IsFromScratch}
 use Rattle.glb.specs.Serve.{IsFirstSession, IsSession, IsStarted, PlacedFirst}
 use Rattle.glb.specs.Starting.{IsStart, status_at}
 use Rattle.glb.specs.Told.{Stage, stage}

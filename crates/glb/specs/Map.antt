@@ -1,7 +1,5 @@
 -- What is due to `map`.
-use Rattle.std.specs.Prelude.{◌≡◌, ℕ, ◌≤◌, List, [], ◌∷◌, Option}
-use Rattle.map_model.specs.declared.lines.MapLine.{MapLine}
-use Rattle.map_model.specs.Market.{Market}
+use Rattle.std.specs.Prelude.{◌≡◌, ℕ, List, [], ◌∷◌, Option}
 use Rattle.map_model.specs.Allocation.{IsGood}
 use Rattle.outside.specs.Faults.{BothTell}
 use Rattle.outside.specs.Shelf.{Load, Shelved}
@@ -9,16 +7,10 @@ use Rattle.topology_text.specs.Plan.{IsPlan, Plan}
 use Rattle.map_text.specs.Reading.{Mapped}
 use Rattle.map_text.specs.Writing.{text_of_map}
 use Rattle.glb.specs.declared.status.Status.TheVariants.{Ok}
-use Rattle.mapper.specs.Mappers.{IsMapping, most_offers}
+use Rattle.mapper.specs.Mappers.{IsFromScratch}
 use Rattle.mapper.specs.Scenes.{IsPrinted}
 use Rattle.glb.specs.Outcome.{Outcome, Outside}
 use Rattle.glb.specs.Files.{Reads, Says, only, topology_file}
-
--- some number of proposals leads from nothing held to these lines, and it is no more than a mapping from scratch may make
-pub record IsFromScratch (m : Market) (lines : List MapLine) : Type 0 where
-  pub steps : ℕ
-  pub counted : IsMapping m lines 0 steps
-  pub few : steps ≤ most_offers m
 
 -- these texts are the one text of a map that is good for the instance of a topology, mapped from scratch
 abbrev pub AreGoodMap : Plan → List (List ℕ) → Type 0

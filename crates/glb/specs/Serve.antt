@@ -15,7 +15,7 @@ use Rattle.demand_feed.specs.declared.run.FeedEnd.{FeedEnd}
 use Rattle.demand_feed.specs.declared.run.FeedEnd.TheVariants as feed
 use Rattle.mapper.specs.Scenes.{IsCut, IsPrinted}
 use Rattle.mapper.specs.Words.{map_text}
-use Rattle.mapper.specs.Mappers.{IsFirst}
+use Rattle.mapper.specs.Mappers.{IsFirst, IsFromScratch}
 use Rattle.drive.specs.Done.{LaneTold}
 use Rattle.drive.specs.Driven.{IsDriven}
 use Rattle.glb.specs.declared.status.Status.{Status}
@@ -25,7 +25,6 @@ use Rattle.glb.specs.Causes.{AnyLane, HasCellFault, HasPortFault, HasTaken}
 use Rattle.glb.specs.Outcome.{RunsBy}
 use Rattle.glb.specs.Told.{IsOutAlone, Stage, Surroundings}
 use Rattle.glb.specs.Files.{IsRefused, Says, only, topology_file}
-use Rattle.glb.specs.Map.{IsFromScratch}
 
 -- the loads of `serve`: the topology
 abbrev pub loads_of_serve : Service → (List ℕ → Option (List ℕ)) → List Load

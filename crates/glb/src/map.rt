@@ -1,7 +1,8 @@
 //! `glb map`: a good map, from scratch.
 ghost use Rattle.std.specs.Prelude.{◌≢◌, Err, IfOk};
 ghost use Rattle.map_model.specs.Allocation.{IsGood, IsMapForm};
-ghost use Rattle.glb.specs.Map.{IsFromScratch, IsMapDue, IsMapped, loads_of_map};
+ghost use Rattle.mapper.specs.Mappers.{IsFromScratch};
+ghost use Rattle.glb.specs.Map.{IsMapDue, IsMapped, loads_of_map};
 ghost use Rattle.glb.specs.Ending.{EndsBy, IsEnd};
 
 use crate::ending::{Report, Stop};

@@ -2,8 +2,7 @@
 ghost use Rattle.std.specs.Prelude.{◌≡◌, ◌≤◌, ◌∷◌, [], All, IfErr, IfOk, Some, length, map, vec_len};
 ghost use Rattle.std.specs.List.{list_any};
 ghost use Rattle.demand_feed.specs.declared.limits.TheConstants.{MOST_TURNS};
-ghost use Rattle.mapper.specs.Mappers.{IsFirst};
-ghost use Rattle.glb.specs.Map.{IsFromScratch};
+ghost use Rattle.mapper.specs.Mappers.{IsFirst, IsFromScratch};
 ghost use Rattle.glb.specs.Program.{IsPromised};
 ghost use Rattle.glb.specs.Serve.{IsFirstSession, IsSession, PlacedFirst, is_cell_fault, is_port_fault, is_spent, status_by};
 ghost use Rattle.glb.specs.Starting.{IsAskedSome, at_place, status_at};

@@ -4,6 +4,6 @@ pub mod Chains
 mod Together
 mod Followed
 pub mod Counted
-mod Fresh
+pub mod Fresh
 pub mod Nexts
 pub mod Opened

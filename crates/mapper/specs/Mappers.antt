@@ -1,5 +1,5 @@
 -- What opening a mapper and committing a batch come to.
-use Rattle.std.specs.Prelude.{◌≡◌, ℕ, ◌+◌, ◌*◌, List, [], ◌∷◌, ◌++◌, length, sum_by}
+use Rattle.std.specs.Prelude.{◌≡◌, ℕ, ◌+◌, ◌*◌, ◌≤◌, List, [], ◌∷◌, ◌++◌, length, sum_by}
 use Rattle.std.specs.List.{range_with_len}
 use Rattle.map_model.specs.declared.change.Change.{Change}
 use Rattle.map_model.specs.declared.lines.MapLine.{MapLine}
@@ -32,6 +32,12 @@ pub record IsMapping (m : Market) (lines : List MapLine) (before after : ℕ) : 
   pub fresh : IsFresh m start
   pub proposed : HasProposed m start mapped before after
   pub holds : mapped.lines ≡ lines
+
+-- some number of proposals leads from nothing held to these lines, and it is no more than a mapping from scratch may make
+pub record IsFromScratch (m : Market) (lines : List MapLine) : Type 0 where
+  pub steps : ℕ
+  pub counted : IsMapping m lines 0 steps
+  pub few : steps ≤ most_offers m
 
 -- A repair leads from the map of one version to that of another, and a counter rose by the number of its proposals.
 abbrev pub IsRepairing : Version → Version → ℕ → ℕ → Type 0

@@ -6,7 +6,7 @@ use Rattle.map_model.specs.Market.{Market, IsMarket}
 use Rattle.map_model.specs.Allocation.{IsGood, IsMapForm}
 use Rattle.map_model.proofs.NameForm.{IsMapForm-IsGood}
 use Rattle.no_memory.specs.declared.NoMemory.{NoMemory}
-use Rattle.glb.specs.Map.{IsFromScratch}
+use Rattle.mapper.specs.Mappers.{IsFromScratch}
 use Rattle.glb.proofs.Scratch.{scratch_of}
 use Rattle.glb.proofs.map.map_afresh.Goals as goal
 

@@ -2,7 +2,7 @@ use Rattle.std.proofs.Common.{rules, ◌∷◌, [], List, ℕ, ap, refl, subst}
 use Rattle.map_model.specs.Market.{Market}
 use Rattle.map_model.specs.Allocation.{IsGood}
 use Rattle.map_text.specs.Writing.{mapped}
-use Rattle.glb.specs.Map.{IsFromScratch}
+use Rattle.mapper.specs.Mappers.{IsFromScratch}
 use Rattle.glb.proofs.map.report.Goals as goal
 
 pub returns : goal.returns
