@@ -6,7 +6,7 @@
 In two network namespaces of its own, joined by a cable that ends in both, it starts `glb serve` on the example with two
 workers, and for SECONDS (10) lets one host send 2,000 forged queries a second from sixteen addresses of the server's
 own network at which nobody is. Their replies wait in the system until it gives these addresses up, and fill the
-socket's buffer. Beside them a host that is there asks twenty times a second, and waits 2 seconds at most. It prints how
+socket's buffer. Beside them a host that is there asks twenty times a second, and waits a quarter of a second at most. It prints how
 many of its questions were answered, and how long the answers took; and how long the server took to stop when its
 feed ended in the middle of it. GLB names the program.
 """
@@ -67,7 +67,7 @@ def ask(seconds, waits):
     end = time.monotonic() + seconds
     with socket.socket(socket.AF_INET, socket.SOCK_DGRAM) as client:
         client.connect((SERVER, PORT))
-        client.settimeout(2)
+        client.settimeout(0.25)
         while time.monotonic() < end:
             begun = time.monotonic()
             client.send(QUERY)
