@@ -1,14 +1,15 @@
 #!/usr/bin/env python3
 """What a server does while forged queries come from neighbours that are not there. Wants root, and `ip` of Debian's iproute2.
 
-    neighbours.py [SECONDS]
+    neighbours.py [SECONDS [OCTETS]]
 
 In two network namespaces of its own, joined by a cable that ends in both, it starts `glb serve` on the example with two
 workers, and for SECONDS (10) lets one host send 2,000 forged queries a second from sixteen addresses of the server's
 own network at which nobody is. Their replies wait in the system until it gives these addresses up, and fill the
-socket's buffer. Beside them a host that is there asks twenty times a second, and waits a quarter of a second at most. It prints how
-many of its questions were answered, and how long the answers took; and how long the server took to stop when its
-feed ended in the middle of it. GLB names the program.
+socket's buffer. Beside them a host that is there asks again and again, a twentieth of a second behind each answer, for
+which it waits a quarter of a second at most. It prints how many of its questions were answered, and how long the
+answers took; and how long the server took to stop when its feed ended in the middle of it. With OCTETS no more of the
+replies wait for one neighbour (`net.ipv4.neigh.*.unres_qlen_bytes` of the server's host). GLB names the program.
 """
 
 import os
@@ -32,13 +33,16 @@ def ip(*words):
     subprocess.run(["ip", *words], check=True)
 
 
-def set_up():
+def set_up(octets):
     for host, _ in HOSTS:
         ip("netns", "add", host)
     ip("link", "add", "glb-s", "netns", "glb-server", "type", "veth", "peer", "name", "glb-c", "netns", "glb-client")
     for (host, address), end in zip(HOSTS, ("glb-s", "glb-c")):
         ip("-n", host, "addr", "add", f"{address}/24", "dev", end)
         ip("-n", host, "link", "set", end, "up")
+    if octets:
+        setting = f"net.ipv4.neigh.glb-s.unres_qlen_bytes={octets}"
+        ip("netns", "exec", "glb-server", "sysctl", "-q", "-w", setting)
 
 
 def tear_down():
@@ -93,18 +97,18 @@ def as_client(seconds):
 
 
 def main():
-    seconds = float(sys.argv[1]) if len(sys.argv) > 1 else 10
-    if len(sys.argv) > 2:
-        as_client(seconds)
+    if sys.argv[1:2] == ["client"]:
+        as_client(float(sys.argv[2]))
         return
-    set_up()
+    seconds = float(sys.argv[1]) if len(sys.argv) > 1 else 10
+    set_up(sys.argv[2] if len(sys.argv) > 2 else None)
     try:
         words = ["ip", "netns", "exec", "glb-server", GLB, "serve", str(TOP / "examples/tree.toml"), "--listen", f"{SERVER}:{PORT}", "--workers", "2"]
         server = subprocess.Popen(words, stdin=subprocess.PIPE, stdout=subprocess.DEVNULL, stderr=subprocess.DEVNULL)
         time.sleep(1)
-        client = subprocess.Popen(["ip", "netns", "exec", "glb-client", sys.executable, __file__, str(seconds), "client"])
+        client = subprocess.Popen(["ip", "netns", "exec", "glb-client", sys.executable, __file__, "client", str(seconds)])
         client.wait()
-        beside = subprocess.Popen(["ip", "netns", "exec", "glb-client", sys.executable, __file__, "4", "client"], stdout=subprocess.DEVNULL)
+        beside = subprocess.Popen(["ip", "netns", "exec", "glb-client", sys.executable, __file__, "client", "4"], stdout=subprocess.DEVNULL)
         time.sleep(4)
         begun = time.monotonic()
         server.stdin.close()
