@@ -59,8 +59,8 @@ fn hex_digit(b: u8) -> Option<u16>
 {
     match b {
         b'0'..=b'9' => Some(u16::from(b - b'0')),
-        b'a'..=b'f' => Some(u16::from(b - 87)),
-        b'A'..=b'F' => Some(u16::from(b - 55)),
+        b'a'..=b'f' => Some(u16::from(b - b'a' + 10)),
+        b'A'..=b'F' => Some(u16::from(b - b'A' + 10)),
         _ => None,
     }
 }

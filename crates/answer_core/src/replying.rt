@@ -41,8 +41,8 @@ fn write_reply(version: &MapVersion, from: Addr, query: Query, draw: u64, out: &
     write_full(out, version.zone(), &request, &outcome);
 }
 
-/// What is so of a version's prefixes.
-fn check_prefixes(version: &MapVersion)
+/// Tells the prover what is always so of a version's prefixes. Nothing is done.
+fn recall_prefixes(version: &MapVersion)
     requires { IsVersion version.now }
     ensures { (a : Addr) → IsAddress a → IsLookedUp version.now a }
 {
@@ -64,7 +64,7 @@ pub fn reply(
     ensures short { IfSome (reply_of version.now from octets.now draw) (λ r. length r ≤ reply_size) }
     ensures lookup { (a : Addr) → IsAddress a → IsLookedUp version.now a }
 {
-    check_prefixes(version);
+    recall_prefixes(version);
     out.clear();
     match read_query(octets) {
         Message::Silent => return Answer::Silent,

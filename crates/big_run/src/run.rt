@@ -19,15 +19,12 @@ use big_world::make;
 use demand_feed::Clerk;
 use dns_wire::numbers::{NOERROR, SERVFAIL};
 use map_cell::{EmptyHistory, Naming, OpenFault, PlainDoor};
-use map_model::Steps;
+use map_model::{Proposals, Steps};
 use mapper::Mapper;
 use no_memory::NoMemory;
 use std::alloc::Global;
 use std::sync::{Arc, Wait};
 use topology_text::{Topology, TopologyFault, read_topology};
-
-/// The proposals of the first mapping, as what is counted.
-struct Proposals;
 
 /// What the newest map of a run comes to, of so many groups.
 fn summary<J: Naming>(mapper: &Mapper<J>, groups: u32, good: u64, proposals: u64) -> Summary

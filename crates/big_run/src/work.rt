@@ -12,15 +12,12 @@ ghost use Rattle.big_run.specs.Working.{IsAtWork, IsLineTaken};
 use crate::judge::Judge;
 use demand_feed::{Clerk, Next};
 use map_cell::Naming;
-use map_model::Steps;
+use map_model::{Proposals, Steps};
 use mapper::Mapper;
 use no_memory::NoMemory;
 use std::sync::Wait;
 use text_parts::cut;
 use topology_text::Topology;
-
-/// The proposals of a repair, as what is counted.
-struct Proposals;
 
 /// Publishes the map that a batch leads to, and checks it.
 fn publish<J: Naming, R: Wait>(

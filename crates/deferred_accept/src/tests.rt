@@ -9,17 +9,13 @@ use crate::work::{add_again, next_offer, wake};
 use crate::work_list::WorkList;
 use crate::{finish, run};
 use evict::{Freed, State};
-use map_model::{Choice, ClientGroup, Instance, MapLine, MapLines, NameLine, Node, NodeId, Steps};
+use map_model::{Choice, ClientGroup, Instance, MapLine, MapLines, NameLine, Node, NodeId, Proposals, Steps};
 use no_memory::NoMemory;
 use std::alloc::Global;
 use worlds::{
     EMPTY_POOL, EXAMPLE, FULL_REGION, GroupAt, INNER, NameAt, NodeAt, POOL, Placed,
     REFUSER_NO_LONGER_FULL, World, instance_of,
 };
-
-/// What the proposals of these tests are counted as.
-#[derive(Clone, Copy, Debug)]
-struct Proposals;
 
 const WORLDS: &[World] = &[
     EXAMPLE,

@@ -3,6 +3,9 @@
 /// The most octets of a line, its LF left out.
 pub const LONGEST_LINE: usize = 8_300;
 
+/// The most digits of a number.
+pub const MOST_DIGITS: usize = 19;
+
 /// The most changes of a batch.
 pub const MOST_CHANGES: usize = 4_096;
 

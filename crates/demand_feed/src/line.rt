@@ -10,7 +10,7 @@ ghost use Rattle.demand_feed.specs.Changing.{IsChangeLine};
 ghost use Rattle.demand_feed.specs.declared.limits.TheConstants.{LONGEST_LINE};
 
 use crate::LineFault;
-use crate::limits::LONGEST_LINE;
+use crate::limits::{LONGEST_LINE, MOST_DIGITS};
 use crate::words::next_word;
 use addr_text::{Addr, read_addr};
 use text_parts::{are_digits, decimal_value};
@@ -49,7 +49,7 @@ pub(crate) fn are_visible(text: &[u8]) -> bool
 fn is_number(word: &[u8]) -> bool
     ensures { result ≡ is_number word.now }
 {
-    !word.is_empty() && word.len() <= 19 && are_digits(word)
+    !word.is_empty() && word.len() <= MOST_DIGITS && are_digits(word)
 }
 
 /// The number that a word writes.

@@ -4,7 +4,10 @@ ghost use Rattle.std.specs.Option.{option_map};
 ghost use Rattle.name_text.specs.Wire.{IsName};
 ghost use Rattle.dns_wire.specs.Wire.{name_len, name_in};
 
-use name_text::LONGEST_NAME;
+use name_text::{LONGEST_LABEL, LONGEST_NAME};
+
+/// The first octet of a pointer is no less (RFC 1035 section 4.1.4).
+const POINTER: u8 = 0xc0;
 
 /// How many octets the name takes at the front.
 fn name_length(octets: &[u8], pointers: bool) -> Option<usize>
@@ -15,8 +18,8 @@ fn name_length(octets: &[u8], pointers: bool) -> Option<usize>
     while at < octets.len() {
         match octets[at] {
             0 => return Some(at + 1),
-            length @ 1..=63 => at += 1 + length as usize,
-            192..=255 if pointers && at + 1 < octets.len() => return Some(at + 2),
+            length if length as usize <= LONGEST_LABEL => at += 1 + length as usize,
+            POINTER..=u8::MAX if pointers && at + 1 < octets.len() => return Some(at + 2),
             _ => return None,
         }
     }

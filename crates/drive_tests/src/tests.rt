@@ -6,7 +6,7 @@ use demand_feed::FeedEnd;
 use drive::{DriveEnd, Lane, drive};
 use lane_model::Ended;
 use map_cell::{Door, EmptyHistory, MemDoor, Naming, PlainDoor};
-use map_model::Steps;
+use map_model::{Proposals, Steps};
 use mapper::Mapper;
 use outside::{
     Gate, HeldLane, HoldGate, HoldPace, Marks, MemGate, MemPace, MemPacket, MemPort, MemSink,
@@ -22,9 +22,6 @@ use topology_text::{Topology, read_topology};
 use worlds::EXAMPLE_TREE;
 
 mod turns;
-
-/// What the steps of these tests are counted as.
-struct Proposals;
 
 /// A client of the second group.
 const CLIENT: Peer = Peer {

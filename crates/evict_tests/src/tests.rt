@@ -4,13 +4,9 @@ ghost use Rattle.std.specs.Prelude.{IfSome};
 ghost use Rattle.evict.specs.Standing.{IsReady};
 
 use evict::{Eviction, Freed, State};
-use map_model::{GroupId, Instance, MapLine, NodeId, Offer, Steps, Units};
+use map_model::{GroupId, Instance, MapLine, NodeId, Offer, Proposals, Steps, Units};
 use std::alloc::Global;
 use worlds::{GroupAt, INNER, NodeAt, POOL, Placed, instance_of};
-
-/// What the proposals of these tests are counted as.
-#[derive(Clone, Copy, Debug)]
-struct Proposals;
 
 /// A group offers all its free units at its pointer, and what is so afterwards.
 struct Turn {

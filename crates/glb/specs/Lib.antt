@@ -1,5 +1,4 @@
 pub mod Datagram
-pub mod Counts
 pub mod Words
 pub mod Commands
 pub mod Texts

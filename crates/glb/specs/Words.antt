@@ -5,7 +5,7 @@ use Rattle.addr_text.specs.Addresses.{listen_of}
 use Rattle.big_world.specs.declared.TheConstants.{LARGEST_WORLD}
 use Rattle.command_line.specs.Asked as line
 use Rattle.glb.specs.Datagram.{Datagram, datagram_of}
-use Rattle.glb.specs.Counts.{count_of}
+use Rattle.text_parts.specs.Counts.{count_of}
 
 -- a command, with the names of its files, and the datagram that `answer` is asked for
 pub data Ask : Type 0 where

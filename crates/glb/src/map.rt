@@ -10,15 +10,12 @@ use crate::files::load_topology;
 use crate::status::Status;
 use deferred_accept::{finish, run};
 use evict::State;
-use map_model::{Instance, MapLines, Steps};
+use map_model::{Instance, MapLines, Proposals, Steps};
 use map_text::write_map;
 use no_memory::NoMemory;
 use outside::Shelf;
 use std::alloc::Global;
 use topology_text::Topology;
-
-/// The proposals of a mapping, as what is counted.
-pub struct Proposals;
 
 /// A good map for an instance, from scratch.
 fn map_afresh(alloc: Global, instance: &Instance) -> Result<MapLines, NoMemory>

@@ -9,10 +9,9 @@ ghost use Rattle.glb.specs.Repair.{IsRepairDue, IsRepairOf, IsRepaired, loads_of
 use crate::check::{judge, not_good};
 use crate::ending::{Report, Stop};
 use crate::files::{load_changes, load_map, load_topology};
-use crate::map::Proposals;
 use crate::status::Status;
 use demand_feed::{Batch, apply};
-use map_model::{MapLines, Steps};
+use map_model::{MapLines, Proposals, Steps};
 use map_repair::repair;
 use map_text::write_map;
 use no_memory::NoMemory;

@@ -11,7 +11,6 @@ ghost use Rattle.glb.specs.Words.{serve as task, service};
 
 use crate::ending::finish;
 use crate::files::load_topology;
-use crate::map::Proposals;
 use crate::starting::{Start, start_lanes};
 use crate::status::Status;
 use addr_text::Listen;
@@ -19,7 +18,7 @@ use demand_feed::FeedEnd;
 use drive::{Lane, drive};
 use lane_model::Ended;
 use map_cell::{Door, EmptyHistory, Naming, OpenFault, Viewer};
-use map_model::Steps;
+use map_model::{Proposals, Steps};
 use mapper::Mapper;
 use no_memory::NoMemory;
 use outside::{Gate, Pace, Port, Shelf, Sink, Source};

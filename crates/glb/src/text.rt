@@ -1,14 +1,12 @@
 //! What the program says.
 ghost use Rattle.std.specs.Prelude.{◌≡◌, ◌++◌, [], ◌∷◌, IfOk, Some};
 ghost use Rattle.std.specs.Fmt.{decimal};
-ghost use Rattle.map_model.specs.Market.{pool_of};
-ghost use Rattle.map_model.specs.Allocation.{IsOffer};
 ghost use Rattle.glb.specs.Texts as text;
 ghost use Rattle.glb.specs.Ending.{IsNameable};
 
 use demand_feed::ChangesFault;
 use map_model::Offer;
-use map_text::MapFault;
+use map_text::{MapFault, pool_name};
 use no_memory::NoMemory;
 use stable_check::Verdict;
 use std::alloc::Global;
@@ -63,15 +61,6 @@ fn named(alloc: Global, words: &[u8], name: &[u8]) -> Result<Vec<u8>, NoMemory>
     line.extend_from_slice(name)?;
     line.push(b' ')?;
     Ok(line)
-}
-
-/// The name of the pool of an offer.
-fn pool_name(topology: &Topology, offer: Offer) -> &[u8]
-    requires { IsOffer topology.now.market offer.group.0 offer.place }
-    ensures { result.now ≡ text.node_name topology.now (pool_of topology.now.market offer.group.0 offer.place) }
-{
-    let pool = topology.instance().pool_at(offer);
-    topology.node_name(pool)
 }
 
 /// What is written of a verdict.

@@ -4,10 +4,10 @@ ghost use Rattle.std.specs.Option.{option_map};
 ghost use Rattle.addr_text.specs.Addresses.{addr_of};
 ghost use Rattle.command_line.specs.Asked.{texts};
 ghost use Rattle.command_line.specs.Commands.{ask_of as line_of};
+ghost use Rattle.text_parts.specs.Counts.{count_of};
 ghost use Rattle.big_world.specs.declared.TheConstants.{LARGEST_WORLD};
 ghost use Rattle.glb.specs.Words.{answer, asked, asked_by, large, say, serve, service_of, workers_of};
 ghost use Rattle.glb.specs.Commands.{IsManned, ask_of, task_of};
-ghost use Rattle.glb.specs.Counts.{count_of, is_plain};
 ghost use Rattle.glb.specs.Datagram.{datagram_of};
 
 use addr_text::{Addr, Listen, read_addr, read_listen};
@@ -16,7 +16,7 @@ use command_line::Command as Line;
 use hex::FromHexError;
 use no_memory::NoMemory;
 use std::alloc::Global;
-use text_parts::{are_digits, decimal_value};
+use text_parts::read_count;
 
 /// The most workers.
 const MOST_WORKERS: u64 = 16;
@@ -56,31 +56,6 @@ pub enum Order<'a> {
     Large {
         groups: u32,
     },
-}
-
-/// Whether a text is decimal digits, of which the first is not `0`.
-fn is_plain(text: &[u8]) -> bool
-    ensures { result ≡ is_plain text.now }
-{
-    match text {
-        [] => false,
-        [first, ..] => *first > b'0' && are_digits(text),
-    }
-}
-
-/// The decimal number from 1 to the limit that a text writes, without sign or leading zeros.
-#[tactic(auto, unfolding(crate::specs::Counts::count_of))]
-fn read_count(text: &[u8], limit: u64) -> Option<u64>
-    ensures count { result ≡ count_of limit text.now }
-    ensures within { IfSome result (λ n. (1 ≤ n) × (n ≤ limit)) }
-{
-    if !is_plain(text) {
-        return None;
-    }
-    match decimal_value(text) {
-        Some(count) if count >= 1 && count <= limit => Some(count),
-        _ => None,
-    }
 }
 
 /// How many workers there are to be.

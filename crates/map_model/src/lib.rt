@@ -14,4 +14,4 @@ pub use change::Change;
 pub use instance::{Choice, ClientGroup, GroupId, Instance, Key, Node, NodeId, Offer, Units};
 pub use limits::{LEVELS, MOST_CAPACITY, MOST_GROUPS, MOST_NODES, PLACES};
 pub use lines::{MapLine, MapLines, NameLine};
-pub use steps::Steps;
+pub use steps::{Proposals, Steps};

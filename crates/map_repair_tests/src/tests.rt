@@ -8,7 +8,7 @@ mod every_change;
 mod smallest;
 
 use map_model::Change::{Capacity, Demand};
-use map_model::{Change, GroupId, Instance, MapLines, NodeId, Steps};
+use map_model::{Change, GroupId, Instance, MapLines, NodeId, Proposals, Steps};
 use map_repair::repair;
 use no_memory::NoMemory;
 use stable_check::{CheckRoom, Verdict, check};
@@ -18,9 +18,6 @@ use worlds::{
     EMPTY_POOL, EXAMPLE, FULL_REGION, NameAt, Placed, REFUSER_NO_LONGER_FULL, TWO_GOOD_MAPS, World,
     map_of,
 };
-
-/// What the proposals of these tests are counted as.
-struct Proposals;
 
 /// A batch of changes, the repaired map, and how many proposals that takes.
 struct Batch {

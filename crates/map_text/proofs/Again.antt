@@ -22,8 +22,7 @@ use Rattle.map_model.proofs.NameForm.{no_name}
 use Rattle.topology_text.specs.Plan.{IsPlan, Plan, number_in}
 use Rattle.text_parts.specs.Parts.{unfinished}
 use Rattle.map_text.specs.Words.{four_of}
-use Rattle.map_text.specs.Lines.{entry_of, full_line, line_of, offer_of, place_line}
-use Rattle.map_text.specs.Number.{amount_of}
+use Rattle.map_text.specs.Lines.{amount_of, entry_of, full_line, line_of, offer_of, place_line}
 use Rattle.map_text.specs.Reading.{Mapped, SoFar, fault_of, map_of, so_far}
 use Rattle.map_text.specs.Reader.{with_line}
 use Rattle.map_text.specs.Writing.{ended, full_row, name_at as word_at, place_row, rows_of, text_of_map}

@@ -1,5 +1,5 @@
 -- What is read of a word that was written.
-use Rattle.std.proofs.Common.{◌≡◌, ℕ, ◌<◌, ◌^◌, ◌==◌, Bool, true, false, not, ◌&&◌, cond, nat_le, nat_lt, List, [], ◌∷◌, length, get_or, AllPairs, IsTrue, Option, None, Some, option_map, refl, ap, sym, ◌∙◌, arith}
+use Rattle.std.proofs.Common.{◌≡◌, ℕ, ◌<◌, ◌^◌, ◌==◌, Bool, true, false, ◌&&◌, cond, nat_le, nat_lt, List, [], ◌∷◌, length, get_or, AllPairs, IsTrue, Option, None, Some, option_map, refl, ap, sym, ◌∙◌, arith}
 use Rattle.std.proofs.lemmas.Bool.{and_parts, false_from_ne_true}
 use Rattle.std.proofs.lemmas.Bool.Decides.{nat_tests}
 use Rattle.std.proofs.lemmas.Fmt.{decimal_is_IsNumeral, first_decimal}
@@ -17,8 +17,8 @@ use Rattle.map_model.specs.Allocation.{IsOffer}
 use Rattle.map_model.proofs.Paths.{pool_there}
 use Rattle.topology_text.specs.Plan.{IsPlan, Plan, number_in}
 use Rattle.topology_text.specs.Texts.{is_name, is_name_byte}
-use Rattle.map_text.specs.Lines.{offer_of, place_of}
-use Rattle.map_text.specs.Number.{amount_of}
+use Rattle.text_parts.specs.Counts.{count_of}
+use Rattle.map_text.specs.Lines.{amount_of, offer_of, place_of}
 use Rattle.map_text.specs.Writing.{name_at}
 use Rattle.map_text.proofs.Firsts.{position_here}
 use Rattle.addr_text.proofs.Splits.{Lacks}
@@ -56,14 +56,15 @@ amount_word n fits =
     record { no_space = lacks_all 32 is_ascii_digit refl (decimal n) ds; no_end = lacks_all 10 is_ascii_digit refl (decimal n) ds; some = h.0.0 }
 
 read_digits : (w : List ℕ) (n : ℕ) → list_all is_ascii_digit w ≡ true → 48 < get_or w 0 0 → digits_value 10 w ≡ n → 0 < n → n < 2 ^ 32 → amount_of w ≡ Some n
+unfolding count_of
 read_digits w n digits lead value some fits =
-    let first : (get_or w 0 0 == 48) ≡ false = grind (arith, nat_tests) in
-    let low : nat_lt 0 (digits_value 10 w) ≡ true = grind (arith, nat_tests) in
-    let high : nat_lt (digits_value 10 w) (2 ^ 32) ≡ true = grind (arith, nat_tests) in
-    go (list_all is_ascii_digit w) (get_or w 0 0 == 48) (nat_lt 0 (digits_value 10 w)) (nat_lt (digits_value 10 w) (2 ^ 32)) digits first low high ∙ ap Some value
+    let first : nat_lt 48 (get_or w 0 0) ≡ true = grind (arith, nat_tests) in
+    let low : nat_le 1 (digits_value 10 w) ≡ true = grind (arith, nat_tests) in
+    let high : nat_le (digits_value 10 w) 4294967295 ≡ true = grind (arith, nat_tests) in
+    go (nat_lt 48 (get_or w 0 0)) (list_all is_ascii_digit w) (nat_le 1 (digits_value 10 w)) (nat_le (digits_value 10 w) 4294967295) first digits low high ∙ ap Some value
   where
-    go : (a b c d : Bool) → a ≡ true → b ≡ false → c ≡ true → d ≡ true → cond (a && not b && c && d) (Some (digits_value 10 w)) None ≡ Some (digits_value 10 w)
-    go a b c d ta fb tc td = rw (ta, fb, tc, td) refl
+    go : (a b c d : Bool) → a ≡ true → b ≡ true → c ≡ true → d ≡ true → cond ((a && b) && (c && d)) (Some (digits_value 10 w)) None ≡ Some (digits_value 10 w)
+    go a b c d ta tb tc td = rw (ta, tb, tc, td) refl
 
 pub amount_again : (n : ℕ) → 0 < n → n < 2 ^ 32 → amount_of (decimal n) ≡ Some n
 amount_again n some fits =

@@ -1,6 +1,5 @@
 pub mod Texts
 pub mod Words
-pub mod Number
 pub mod Lines
 pub mod Reading
 pub mod Reader

@@ -5,9 +5,9 @@ use Rattle.map_model.specs.declared.instance.Offer.{Offer}
 use Rattle.map_model.specs.Market.{Market, choices_of}
 use Rattle.map_model.specs.Allocation.{IsOffer}
 use Rattle.topology_text.specs.Plan.{Plan, number_in}
+use Rattle.text_parts.specs.Counts.{count_of}
 use Rattle.text_parts.specs.Parts.{parts}
 use Rattle.map_text.specs.Words.{Words, four_of}
-use Rattle.map_text.specs.Number.{amount_of}
 use Rattle.map_text.specs.declared.line.Line.{Line}
 use Rattle.map_text.specs.declared.line.Line.TheVariants.{Header, Place, Full, End, Unknown, Bad}
 
@@ -19,6 +19,10 @@ place_of m g pool = position (λ c. c.pool.0 == pool) (choices_of m g)
 abbrev pub offer_of : Plan → List ℕ → List ℕ → Option Offer
 offer_of t group pool =
     option_and_then (λ g. option_and_then (λ n. option_map (λ k. record { group = record { 0 = g }; place = k }) (place_of t.market g n)) (number_in t.node_names pool)) (number_in t.group_names group)
+
+-- the amount that a word writes: 1 to 2^32-1
+abbrev pub amount_of : List ℕ → Option ℕ
+amount_of word = count_of 4294967295 word
 
 -- so many units at an offer
 abbrev pub place_line : Option Offer → Option ℕ → Line

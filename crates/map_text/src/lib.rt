@@ -16,4 +16,4 @@ mod write;
 pub use fault::MapFault;
 pub use line::Line;
 pub use read::read_map;
-pub use write::write_map;
+pub use write::{pool_name, write_map};

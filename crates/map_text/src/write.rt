@@ -12,7 +12,7 @@ use std::alloc::Global;
 use topology_text::Topology;
 
 /// The name of the pool of an offer.
-fn pool_name(topology: &Topology, offer: Offer) -> &[u8]
+pub fn pool_name(topology: &Topology, offer: Offer) -> &[u8]
     requires { IsOffer topology.now.market offer.group.0 offer.place }
     ensures { result.now ≡ name_at topology.now.node_names (pool_of topology.now.market offer.group.0 offer.place) }
 {

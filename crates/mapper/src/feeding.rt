@@ -9,13 +9,10 @@ use answer_core::Answer;
 use arrayvec::ArrayVec;
 use demand_feed::Batch;
 use map_cell::{Naming, NoteRow};
-use map_model::Steps;
+use map_model::{Proposals, Steps};
 use no_memory::NoMemory;
 use outside::LARGEST_REPLY;
 use std::sync::Wait;
-
-/// The proposals of commits, as what is counted.
-struct Proposals;
 
 /// The published maps, and the row into which their notes go, from a cell on.
 #[derive(Drop)]

@@ -10,5 +10,5 @@ mod tests;
 
 pub use compare::{same_name, under};
 pub use fault::NameFault;
-pub use name::{LONGEST_NAME, Name};
+pub use name::{LONGEST_LABEL, LONGEST_NAME, Name};
 pub use read::{read_label, read_name};

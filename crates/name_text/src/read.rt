@@ -5,7 +5,7 @@ ghost use Rattle.name_text.specs.Wire.{wire};
 ghost use Rattle.name_text.specs.declared.name.TheConstants.{LONGEST_NAME};
 ghost use Rattle.name_text.specs.Names.{first_fault, is_label_byte, label_fault, label_name_of, name_of, short_wire, undotted};
 
-use crate::{LONGEST_NAME, Name, NameFault};
+use crate::{LONGEST_LABEL, LONGEST_NAME, Name, NameFault};
 use arrayvec::ArrayVec;
 use text_parts::{after, before, position_of};
 
@@ -29,7 +29,7 @@ fn label_fault(label: &[u8]) -> Option<NameFault>
         Some(NameFault::EmptyLabel)
     } else if !are_label_bytes(label) {
         Some(NameFault::BadByte)
-    } else if label.len() > 63 {
+    } else if label.len() > LONGEST_LABEL {
         Some(NameFault::LongLabel)
     } else {
         None

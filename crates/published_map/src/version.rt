@@ -50,8 +50,8 @@ impl Model for MapVersion {
     ghost invariant = { IsKept };
 }
 
-/// What is always so of the topology.
-fn check_shared(shared: &Arc<Shared>)
+/// Tells the prover what is always so of the topology. Nothing is done.
+fn recall_plan(shared: &Arc<Shared>)
     ensures { IsPlan (plan_of (arc_value shared.now)) }
 {
     let shared: &Shared = shared;
@@ -121,7 +121,7 @@ impl MapVersion {
         ensures value { IfOk result (λ v. v ≡ record { serial = serial; market = instance.now; lines = map.now.lines.items; names = map.now.names.items; plan = plan_of (arc_value shared) }) }
         ensures version { IfOk result IsVersion }
     {
-        check_shared(&shared);
+        recall_plan(&shared);
         // tells the prover what the type keeps
         let _ = instance.groups();
         let rows = rows_of(alloc, instance, map)?;
@@ -225,7 +225,7 @@ impl MapVersion {
         ensures scope { result.1 ≡ scope_of self.now.plan.prefixes addr }
         ensures least { IsScope self.now.plan.prefixes addr result.1 }
     {
-        check_shared(&self.shared);
+        recall_plan(&self.shared);
         let shared: &Shared = &self.shared;
         shared.lookup.find(addr)
     }

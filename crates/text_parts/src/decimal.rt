@@ -1,8 +1,9 @@
 //! Decimal digits.
-ghost use Rattle.std.specs.Prelude.{◌≡◌, ◌^◌, ◌≤◌, true, length, MatchOption};
+ghost use Rattle.std.specs.Prelude.{◌≡◌, ◌^◌, ◌≤◌, true, length, IfSome, MatchOption};
 ghost use Rattle.std.specs.Char.{is_ascii_digit};
 ghost use Rattle.std.specs.List.{list_all};
 ghost use Rattle.std.specs.Str.Parse.{digits_value};
+ghost use Rattle.text_parts.specs.Counts.{count_of, is_plain};
 
 /// Whether all octets are decimal digits.
 pub fn are_digits(word: &[u8]) -> bool
@@ -25,4 +26,29 @@ pub fn decimal_value(digits: &[u8]) -> Option<u64>
         value = longer as u64;
     }
     Some(value)
+}
+
+/// Whether a text is decimal digits, of which the first is not `0`.
+fn is_plain(text: &[u8]) -> bool
+    ensures { result ≡ is_plain text.now }
+{
+    match text {
+        [] => false,
+        [first, ..] => *first > b'0' && are_digits(text),
+    }
+}
+
+/// The decimal number from 1 to the limit that a text writes, without sign or leading zeros.
+#[tactic(auto, unfolding(crate::specs::Counts::count_of))]
+pub fn read_count(text: &[u8], limit: u64) -> Option<u64>
+    ensures count { result ≡ count_of limit text.now }
+    ensures within { IfSome result (λ n. (1 ≤ n) × (n ≤ limit)) }
+{
+    if !is_plain(text) {
+        return None;
+    }
+    match decimal_value(text) {
+        Some(count) if count >= 1 && count <= limit => Some(count),
+        _ => None,
+    }
 }

@@ -7,7 +7,7 @@ ghost use Rattle.text_parts.specs.Parts.{parts};
 
 mod decimal;
 
-pub use decimal::{are_digits, decimal_value};
+pub use decimal::{are_digits, decimal_value, read_count};
 
 #[cfg(test)]
 mod tests;

@@ -1,5 +1,7 @@
 //! Texts cut, and digits read.
-use crate::{after, are_digits, before, cut, decimal_value, position_of, split_first, split_last};
+use crate::{
+    after, are_digits, before, cut, decimal_value, position_of, read_count, split_first, split_last,
+};
 
 #[test]
 fn finds_the_first(rt: HostRuntime) {
@@ -65,5 +67,22 @@ fn reads_digits(rt: HostRuntime) {
     for (digits, want) in rows {
         assert!(rt; are_digits(digits));
         assert_eq!(rt; decimal_value(digits), want);
+    }
+}
+
+#[test]
+fn reads_counts(rt: HostRuntime) {
+    let rows: [(&[u8], u64, Option<u64>); 8] = [
+        (b"", 16, None),
+        (b"0", 16, None),
+        (b"01", 16, None),
+        (b"1", 16, Some(1)),
+        (b"16", 16, Some(16)),
+        (b"17", 16, None),
+        (b"+1", 16, None),
+        (b"18446744073709551616", u64::MAX, None),
+    ];
+    for (text, limit, want) in rows {
+        assert_eq!(rt; read_count(text, limit), want);
     }
 }

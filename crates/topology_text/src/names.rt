@@ -53,10 +53,7 @@ pub fn text_at(entry: &Value, key: Key) -> Option<&str>
     ensures { option_map (λ t. t.now) result ≡ text_at (view entry.now) key }
 {
     match entry {
-        Value::Table(table) => match value_of(table, key) {
-            Some(Value::String(text)) => Some(text.as_str()),
-            _ => None,
-        },
+        Value::Table(table) => text_of(table, key),
         _ => None,
     }
 }

@@ -9,6 +9,9 @@ use map_model::{GroupId, Instance, NodeId};
 use name_text::Name;
 use std::marker::Model;
 
+/// The type of a record with an IPv6 address (RFC 3596 section 2.1).
+const AAAA: u16 = 28;
+
 /// Names of the DNS, in the order of the file.
 #[derive(Debug, Drop)]
 pub struct Names {
@@ -105,7 +108,7 @@ impl Hosts {
     pub(crate) fn of_kind(&self, kind: u16) -> &[Addr]
         ensures { result.now ≡ addresses_at self.now kind }
     {
-        if kind == 28 {
+        if kind == AAAA {
             self.v6.as_slice()
         } else {
             self.v4.as_slice()

@@ -1,14 +1,14 @@
 //! Lanes between whose turns a mapper publishes, in one thread.
 ghost use Rattle.std.specs.Prelude.{◌≡◌, ◌+◌, ◌<◌, ◌≤◌, ◌^◌};
 
-use super::{Proposals, QUERY, port_of};
+use super::{QUERY, port_of};
 use addr_text::{Addr, Peer};
 use answer_core::Answer;
 use arrayvec::ArrayVec;
 use demand_feed::{Batch, Line};
 use lane_model::Ended;
 use map_cell::{EmptyHistory, Naming, Note, PlainDoor, Viewer};
-use map_model::Steps;
+use map_model::{Proposals, Steps};
 use mapper::Mapper;
 use name_workers::{Worker, serve_port};
 use outside::{Due, MemGate, MemNotes, MemPacket, MemPort};

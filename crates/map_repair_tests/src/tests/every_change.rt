@@ -1,12 +1,12 @@
 //! Each single change of each smallest world, there and back, against the definitions.
-use super::{Proposals, changed, is_good, repaired};
+use super::{changed, is_good, repaired};
 use crate::tests::definitions::{
     Row, Side, is_kept, is_local, most_inside, moved, outside, reached, rows_of, spread,
 };
 use crate::tests::smallest::{KINDS, Kind, Numbers, Small, back};
 use deferred_accept::{finish, run};
 use evict::State;
-use map_model::{Change, Instance, MapLines, Steps};
+use map_model::{Change, Instance, MapLines, Proposals, Steps};
 use no_memory::NoMemory;
 use std::alloc::Global;
 use std::test::Fail;

@@ -4,4 +4,4 @@ use Rattle.published_map.proofs.version.MapVersion.find_addr.Goals as goal
 use Rattle.published_map.proofs.Owned.{owned}
 
 pub returns-clause-there : goal.returns-clause-there
-returns-clause-there c = rw (← c.self.view_is) (owned (plan_of (arc_value c.self.inside.shared)) c.self.inside.rows.items c.args.addr c.find.result.0 c.check_shared.ensures (rw (← c.self.invariant.looks_up, ← c.deref-shared.ensures) c.find.ensures.longest))
+returns-clause-there c = rw (← c.self.view_is) (owned (plan_of (arc_value c.self.inside.shared)) c.self.inside.rows.items c.args.addr c.find.result.0 c.recall_plan.ensures (rw (← c.self.invariant.looks_up, ← c.deref-shared.ensures) c.find.ensures.longest))

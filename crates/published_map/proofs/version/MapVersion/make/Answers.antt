@@ -30,4 +30,4 @@ pub returns-clause-value : goal.returns-clause-value
 returns-clause-value c = whole c
 
 pub returns-clause-version : goal.returns-clause-version
-returns-clause-version c = rw (whole c) (record { plan = c.check_shared.ensures; market = c.groups.ensures.market; shape = c.requires.shape; good = c.requires.good })
+returns-clause-version c = rw (whole c) (record { plan = c.recall_plan.ensures; market = c.groups.ensures.market; shape = c.requires.shape; good = c.requires.good })

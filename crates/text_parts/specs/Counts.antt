@@ -1,4 +1,4 @@
--- Counts, as words of the command line say them.
+-- Decimal numbers without leading zeros.
 use Rattle.std.specs.Prelude.{ℕ, List, Bool, ◌&&◌, nat_le, nat_lt, slice_index, if◌then◌else◌, Option, None, Some}
 use Rattle.std.specs.Char.{is_ascii_digit}
 use Rattle.std.specs.List.{list_all}
