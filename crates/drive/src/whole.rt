@@ -19,7 +19,7 @@ use crate::joins::close_all;
 use crate::lane::{Held, Lane};
 use demand_feed::FeedEnd;
 use lane_model::Ended;
-use map_cell::{Door, Naming, NoteRow, Viewer};
+use map_cell::{Door, MOST_VIEWERS, Naming, NoteRow, Viewer};
 use mapper::Mapper;
 use name_workers::Worker;
 use no_memory::NoMemory;
@@ -28,16 +28,13 @@ use std::alloc::Global;
 use std::sync::Wait;
 use std::thread::Threads;
 
-/// How many lanes a drive can have.
-const MOST_LANES: usize = 16;
-
 /// How a drive ended.
 #[derive(Clone, Copy, Debug, PartialEq, Eq)]
 pub struct DriveEnd {
     /// How the feed ended.
     pub feed: FeedEnd,
     /// How each lane ended that had a viewer.
-    pub lanes: [Option<Ended>; 16],
+    pub lanes: [Option<Ended>; MOST_VIEWERS],
 }
 
 /// A worker for each viewer, numbered from 0 on.
@@ -59,11 +56,11 @@ fn hold_all<J: Naming>(alloc: Global, viewers: Vec<Viewer<J>>) -> Result<Vec<Hel
 }
 
 /// The ends of the lanes.
-fn ends_of<J: Naming>(works: &Vec<Held<J>>) -> [Option<Ended>; 16]
+fn ends_of<J: Naming>(works: &Vec<Held<J>>) -> [Option<Ended>; MOST_VIEWERS]
     requires { vec_len works.now ≤ 16 }
     ensures { AreEnds (map (λ h. h.ended) works.now.items) result }
 {
-    let mut ends = [None; MOST_LANES];
+    let mut ends = [None; MOST_VIEWERS];
     for k in 0..works.len() {
         ends[k] = Some(works[k].ended);
     }

@@ -16,6 +16,7 @@ mod text;
 mod top;
 mod words;
 
+pub use demand_feed::MOST_TURNS;
 pub use drive::Lane;
 pub use status::Status;
 pub use top::glb;

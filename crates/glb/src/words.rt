@@ -14,12 +14,10 @@ use addr_text::{Addr, Listen, read_addr, read_listen};
 use big_world::LARGEST_WORLD;
 use command_line::Command as Line;
 use hex::FromHexError;
+use map_cell::MOST_VIEWERS;
 use no_memory::NoMemory;
 use std::alloc::Global;
 use text_parts::read_count;
-
-/// The most workers.
-const MOST_WORKERS: u64 = 16;
 
 /// A command that says one text on what files say.
 #[derive(Drop)]
@@ -64,7 +62,7 @@ fn read_workers(text: Option<&str>) -> Option<u8>
     ensures within { IfSome result (λ n. (1 ≤ n) × (n ≤ 16)) }
 {
     match text {
-        Some(text) => match read_count(text.as_bytes(), MOST_WORKERS) {
+        Some(text) => match read_count(text.as_bytes(), MOST_VIEWERS as u64) {
             Some(count) => Some(count as u8),
             None => None,
         },

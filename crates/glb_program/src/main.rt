@@ -10,7 +10,7 @@ ghost use Rattle.glb_program.specs.Ran.{Ran};
 mod network;
 
 use edges::{FileShelf, FlagPace, SharedUdp, StandardStream, StopFlag, StreamSink, StreamSource};
-use glb::{Lane, Status, glb};
+use glb::{Lane, MOST_TURNS, Status, glb};
 use map_cell::Door;
 use network::udp_lanes;
 use no_memory::NoMemory;
@@ -21,9 +21,6 @@ use std::process::ExitCode;
 use std::rt::Env;
 use std::sync::Wait;
 use std::thread::Threads;
-
-/// How many turns each lane has, and how many pieces the feed.
-const TURNS: u64 = 1 << 48;
 
 /// The words of the command line. Where one of them is no text, there is none at all.
 fn read_args<R: Env + AllocGlobal>(rt: &R) -> Result<Vec<String>, NoMemory> {
@@ -75,7 +72,7 @@ fn run_words<
             maps,
             lanes,
             pace,
-            TURNS,
+            MOST_TURNS,
         ),
         Err(NoMemory) => Status::NoMemory,
     }

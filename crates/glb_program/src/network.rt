@@ -1,15 +1,13 @@
 //! Lanes that serve a network: ports of UDP over one socket, gates that one flag stops, and plain doors.
 ghost use Rattle.std.specs.Prelude.{◌≡◌, IfOk, vec_len};
+ghost use Rattle.map_cell.specs.declared.opening.TheConstants.{MOST_VIEWERS};
 
 use edges::{FlagGate, SharedUdp, StopFlag, UdpPort};
 use glb::Lane;
-use map_cell::PlainDoor;
+use map_cell::{MOST_VIEWERS, PlainDoor};
 use no_memory::NoMemory;
 use std::alloc::Global;
 use std::net::Net;
-
-/// How many lanes there are.
-pub const LANES: usize = 16;
 
 /// A lane at a port of UDP.
 pub type UdpLane<'a, N> = Lane<UdpPort<'a, N>, FlagGate<'a>, PlainDoor>;
@@ -30,10 +28,10 @@ pub fn udp_lanes<'a, N: Net>(
     shared: &'a SharedUdp,
     flag: &'a StopFlag,
 ) -> Result<Vec<UdpLane<'a, N>>, NoMemory>
-    ensures { IfOk result (λ v. vec_len v ≡ LANES) }
+    ensures { IfOk result (λ v. vec_len v ≡ MOST_VIEWERS) }
 {
-    let mut lanes = Vec::with_capacity(alloc, LANES)?;
-    for _ in 0..LANES {
+    let mut lanes = Vec::with_capacity(alloc, MOST_VIEWERS)?;
+    for _ in 0..MOST_VIEWERS {
         lanes.push_reserved(udp_lane(net, shared, flag));
     }
     Ok(lanes)

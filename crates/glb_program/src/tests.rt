@@ -1,7 +1,8 @@
 //! A client on loopback and `serve` over real ports, in one process.
 ghost use Rattle.std.specs.Prelude.{◌≡◌, IfOk, None, vec_len};
+ghost use Rattle.map_cell.specs.declared.opening.TheConstants.{MOST_VIEWERS};
 
-use crate::network::{LANES, udp_lanes};
+use crate::network::udp_lanes;
 use edges::{SharedUdp, StopFlag};
 use glb::{Lane, Status};
 use map_cell::PlainDoor;
@@ -102,8 +103,8 @@ fn lent_of<P: Port + Drop, G: Gate + Drop, M: Pace + Drop>(
     lanes: Vec<Lane<P, G, PlainDoor>>,
     pace: M,
 ) -> Result<Lent<P, G, PlainDoor, M>, NoMemory>
-    requires { vec_len lanes ≡ LANES }
-    ensures { IfOk result (λ s. vec_len s.lanes ≡ LANES) }
+    requires { vec_len lanes ≡ MOST_VIEWERS }
+    ensures { IfOk result (λ s. vec_len s.lanes ≡ MOST_VIEWERS) }
 {
     Ok(Lent {
         words: words_of(alloc, WORDS)?,
@@ -126,7 +127,7 @@ fn serves_a_client_on_loopback(rt: HostRuntime) -> Result<(), Fail> {
     let mut lent = lent_of(rt.alloc(), lanes, WordPace { word, flag: &flag })?;
     let mut asking = || ask(&client, &shared, to);
     let mut serving = || -> Status
-        requires { vec_len lent.lanes ≡ LANES }
+        requires { vec_len lent.lanes ≡ MOST_VIEWERS }
     { run(&rt, rt.alloc(), &mut lent, 1_000_000) };
     let (is_right, status) = join_mut(&rt, &mut asking, &mut serving);
     assert!(rt; is_right);

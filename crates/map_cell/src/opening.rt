@@ -12,8 +12,8 @@ use published_map::MapVersion;
 use std::alloc::Global;
 use std::sync::Wait;
 
-/// How many viewers a cell has room for.
-const VIEWERS: usize = 16;
+/// How many viewers a cell has room for: as many as there are lanes, each of which has one.
+pub const MOST_VIEWERS: usize = 16;
 
 /// Opens a cell with its first version and so many viewers, for each of which the door is asked once, and for none after
 /// one that it refused. Both copies of the version and all places are made here. An opening that is refused closes what
@@ -51,7 +51,7 @@ pub fn open<J: Naming, D: Door, R: Wait>(
     let Ok(mut seats) = Vec::with_capacity(alloc, viewers as usize) else {
         return Err(OpenFault::NoMemory);
     };
-    match start(rt, alloc, book, empty, (first, second), VIEWERS) {
+    match start(rt, alloc, book, empty, (first, second), MOST_VIEWERS) {
         Err(_) => Err(OpenFault::NoMemory),
         Ok(publisher) => {
             let mut publisher = publisher;

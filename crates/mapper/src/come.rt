@@ -33,7 +33,7 @@ fn say<K: Sink>(line: &mut Spoken, out: &mut K, saying: &Saying) -> Put
 }
 
 /// Puts the newest map's text, and then the line that it is published. Then all who look are told of it.
-fn publish<R: Wait, X: Mapping, K: Sink>(
+fn announce<R: Wait, X: Mapping, K: Sink>(
     rt: &R,
     mapper: &mut X,
     line: &mut Spoken,
@@ -84,7 +84,7 @@ fn commit<R: Wait, X: Mapping, K: Sink>(
     ensures stays { result ≢ Put.Failed → (K.faults out.new ≡ K.faults out.old) × (K.faults maps.new ≡ K.faults maps.old) }
 {
     match mapper.commit(rt, batch) {
-        Ok(serial) => publish(rt, mapper, line, serial, out, maps),
+        Ok(serial) => announce(rt, mapper, line, serial, out, maps),
         Err(NoMemory) => say(line, out, &Saying::NoMemory),
     }
 }

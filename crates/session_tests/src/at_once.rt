@@ -1,8 +1,9 @@
 //! Two lanes that run beside the feed: each side waits until the other has come to a stated point.
 ghost use Rattle.std.specs.Prelude.{◌≡◌, IfOk, vec_len};
+ghost use Rattle.map_cell.specs.declared.opening.TheConstants.{MOST_VIEWERS};
 
 use glb::{Lane, Status};
-use map_cell::PlainDoor;
+use map_cell::{MOST_VIEWERS, PlainDoor};
 use no_memory::NoMemory;
 use outside::{
     HeldLane, HoldGate, HoldPace, Marks, MemPort, MemSink, MemSource, MemTaken, MemTry, Point,
@@ -13,7 +14,7 @@ use std::sync::Wait;
 use std::test::Fail;
 use std::thread::Threads;
 use trial_runs::Held::{Missing, Topology};
-use trial_runs::{LANES, Lent, REGION, SERVE_TWO, queries, run, shelf, words_of};
+use trial_runs::{Lent, REGION, SERVE_TWO, queries, run, shelf, words_of};
 
 /// What waits at a lane, and what is waited for at its turns.
 #[derive(Clone, Copy)]
@@ -97,10 +98,10 @@ fn held_lanes<'a>(
     marks: &'a Marks,
     first: &[Held],
 ) -> Result<Vec<HoldLane<'a>>, NoMemory>
-    ensures { IfOk result (λ v. vec_len v ≡ LANES) }
+    ensures { IfOk result (λ v. vec_len v ≡ MOST_VIEWERS) }
 {
-    let mut lanes = Vec::with_capacity(alloc, LANES)?;
-    for i in 0..LANES {
+    let mut lanes = Vec::with_capacity(alloc, MOST_VIEWERS)?;
+    for i in 0..MOST_VIEWERS {
         let held = first.get(i).copied().unwrap_or(IDLE);
         lanes.push(held_lane(alloc, marks, held)?)?;
     }
@@ -122,7 +123,7 @@ type HeldLent<'a> = Lent<MemPort, HoldGate<'a>, PlainDoor, HoldPace<'a>>;
 
 /// A feed and two lanes that hold each other by these marks.
 fn held_lent(alloc: Global, marks: &Marks) -> Result<HeldLent<'_>, NoMemory>
-    ensures { IfOk result (λ l. vec_len l.lanes ≡ LANES) }
+    ensures { IfOk result (λ l. vec_len l.lanes ≡ MOST_VIEWERS) }
 {
     let feed = Vec::from_slice(alloc, FEED)?;
     Ok(Lent {

@@ -1,17 +1,15 @@
 //! Lanes by scripts: what waits at them, and which of their calls fail.
 ghost use Rattle.std.specs.Prelude.{◌≡◌, IfOk, vec_len};
+ghost use Rattle.map_cell.specs.declared.opening.TheConstants.{MOST_VIEWERS};
 
 use crate::fails::{Fails, NEVER};
 use addr_text::{Addr, Peer};
 use glb::Lane;
-use map_cell::MemDoor;
+use map_cell::{MOST_VIEWERS, MemDoor};
 use no_memory::NoMemory;
 use outside::{MemGate, MemPacket, MemPort};
 use std::alloc::Global;
 use std::collections::LinkedList;
-
-/// How many lanes there are.
-pub const LANES: usize = 16;
 
 /// A client of the second group.
 const CLIENT: Peer = Peer {
@@ -87,10 +85,10 @@ fn lane_of(alloc: Global, script: Script) -> Result<MemLane, NoMemory> {
 
 /// 16 lanes: the first ones as the scripts say, and quiet ones.
 pub fn lanes_of(alloc: Global, scripts: &[Script]) -> Result<Vec<MemLane>, NoMemory>
-    ensures { IfOk result (λ v. vec_len v ≡ LANES) }
+    ensures { IfOk result (λ v. vec_len v ≡ MOST_VIEWERS) }
 {
-    let mut lanes = Vec::with_capacity(alloc, LANES)?;
-    for i in 0..LANES {
+    let mut lanes = Vec::with_capacity(alloc, MOST_VIEWERS)?;
+    for i in 0..MOST_VIEWERS {
         let script = scripts.get(i).copied().unwrap_or(QUIET);
         lanes.push(lane_of(alloc, script)?)?;
     }

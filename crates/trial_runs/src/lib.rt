@@ -13,7 +13,7 @@ pub use came::{Came, Lent, MemLent, are_joined, run};
 pub use commands::{ROOM, Row, came_of, came_over, first_wrong};
 pub use fails::{Fails, NEVER};
 pub use files::{Held, shelf, shelf_of};
-pub use lanes::{LANES, MemLane, ONE, QUERY, QUIET, Script, queries};
+pub use lanes::{MemLane, ONE, QUERY, QUIET, Script, queries};
 pub use sessions::{PLAIN, SERVE, SERVE_TWO, Scene, session_of};
 pub use texts::{
     EIGHT_LEVELS, EMPTY_POOL, FLAT, GOOD_FLAT, GOOD_REGION, NO_DEFAULT, NO_LONGER_FULL, REGION,

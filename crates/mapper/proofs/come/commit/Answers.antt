@@ -6,8 +6,8 @@ use Rattle.mapper.proofs.come.commit.Goals as goal
 
 pub returns-in-Ok-clause-came : goal.returns-in-Ok-clause-came
 returns-in-Ok-clause-came g c = λ before base k pace eo em at.
-    rw (c.publish.ensures.newest, c.publish.ensures.history) (published_at c.publish.result before base k c.args.batch.now _ _ _ _ _ _ _ _ pace eo em at c.in-Ok.ensures.next.0 c.in-Ok.ensures.history
-    (rw c.in-Ok.ensures.next.1 at c.publish.ensures.put))
+    rw (c.announce.ensures.newest, c.announce.ensures.history) (published_at c.announce.result before base k c.args.batch.now _ _ _ _ _ _ _ _ pace eo em at c.in-Ok.ensures.next.0 c.in-Ok.ensures.history
+    (rw c.in-Ok.ensures.next.1 at c.announce.ensures.put))
 
 pub returns-in-Err-clause-came : goal.returns-in-Err-clause-came
 returns-in-Err-clause-came g c = λ before base k pace eo em at.
