@@ -6,6 +6,9 @@ ghost use Rattle.dns_wire.specs.Wire.{name_len, name_in};
 
 use name_text::{LONGEST_LABEL, LONGEST_NAME};
 
+/// The length octet of a label is no more.
+const LABEL: u8 = LONGEST_LABEL as u8;
+
 /// The first octet of a pointer is no less (RFC 1035 section 4.1.4).
 const POINTER: u8 = 0xc0;
 
@@ -18,7 +21,7 @@ fn name_length(octets: &[u8], pointers: bool) -> Option<usize>
     while at < octets.len() {
         match octets[at] {
             0 => return Some(at + 1),
-            length if length as usize <= LONGEST_LABEL => at += 1 + length as usize,
+            length @ 1..=LABEL => at += 1 + length as usize,
             POINTER..=u8::MAX if pointers && at + 1 < octets.len() => return Some(at + 2),
             _ => return None,
         }
