@@ -31,7 +31,7 @@ fn look<L>(
     ensures turned { OnOk result (HasTurned instance.now state.old state.new steps.old steps.new) }
     ensures later { steps.old ≤ steps.new }
 {
-    // Tells the proof that the count is a number of 64 bits.
+    // Tells the prover that the count is a number of 64 bits.
     let _count = steps.count();
     if !pace.meets(group) {
         return Ok(());
@@ -44,8 +44,11 @@ fn look<L>(
 ///
 /// Take a set of trees such that no list has pools both in it and out of it, and let only groups whose
 /// lists are in it be waiting. Then all other groups keep what they hold, their pointers and their free
-/// units, and the steps are bounded by what the groups in the set may offer. After `NoMemory` the state
-/// is only to be dropped, and the count has not fallen.
+/// units, and the steps are bounded by what the groups in the set may offer.
+///
+/// # Errors
+///
+/// `NoMemory`. The state is only to be dropped then, and the count has not fallen.
 pub fn run<L>(
     alloc: Global,
     instance: &Instance,

@@ -9,7 +9,9 @@ use crate::work::{add_again, next_offer, wake};
 use crate::work_list::WorkList;
 use crate::{finish, run};
 use evict::{Freed, State};
-use map_model::{Choice, ClientGroup, Instance, MapLine, MapLines, NameLine, Node, NodeId, Proposals, Steps};
+use map_model::{
+    Choice, ClientGroup, Instance, MapLine, MapLines, NameLine, Node, NodeId, Proposals, Steps,
+};
 use no_memory::NoMemory;
 use std::alloc::Global;
 use worlds::{

@@ -38,7 +38,7 @@ fn make_rounds<L>(
     ensures turned { OnOk result (HasTurned instance.now state.old state.new steps.old steps.new) }
     ensures later { steps.old ≤ steps.new }
 {
-    // Tells the proof that the count is a number of 64 bits, and that this is an instance.
+    // Tells the prover that the count is a number of 64 bits, and that this is an instance.
     let _count = steps.count();
     let _groups = instance.groups();
     let rounds = common_room(instance, state, hops) / units;
@@ -63,7 +63,7 @@ pub fn turn_at<L>(
     ensures turned { OnOk result (HasTurned instance.now state.old state.new steps.old steps.new) }
     ensures later { steps.old ≤ steps.new }
 {
-    // Tells the proof that the count is a number of 64 bits.
+    // Tells the prover that the count is a number of 64 bits.
     let _count = steps.count();
     if let Some(hops) = circle_at(alloc, instance, state, group)? {
         let units = state.free(group);

@@ -187,7 +187,11 @@ fn by_word<'a>(word: &[u8], rest: &'a [u8]) -> Result<Line<'a>, LineFault>
     }
 }
 
-/// What a line of a feed says, or its first fault. The line's LF is no part of it.
+/// What a line of a feed says. The line's LF is no part of it.
+///
+/// # Errors
+///
+/// The line's first fault.
 #[tactic(auto, unfolding(crate::specs::Line::line_of))]
 pub fn read_line(line: &[u8]) -> Result<Line<'_>, LineFault>
     ensures short { IfOk result (IsShort LONGEST_LINE) }

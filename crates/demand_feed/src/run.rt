@@ -141,7 +141,7 @@ impl Intake {
     }
 }
 
-/// Runs a feed, from its first line on, to its end or for so many turns. Each turn is one read.
+/// Runs a feed, from its first line on, to its end or for so many turns, 2^48 at most. Each turn is one read.
 ///
 /// What follows a line `stop` is not looked at, and nothing is read behind the piece that brings its end.
 pub fn run_lines<S: Source, T: TakesItems>(

@@ -1,7 +1,7 @@
 -- Room in the buffer of a reply.
 use Rattle.std.specs.Prelude.{◌≡◌, ℕ, ◌+◌, ◌≤◌}
 use Rattle.std.proofs.Common.{refl}
-use Rattle.dns_wire.specs.declared.numbers.TheConstants.{REPLY_SIZE}
+use Rattle.dns_wire.specs.declared.numbers.TheConstants.{LARGEST_REPLY}
 
 -- how many octets a reply may have
 abbrev pub reply_size : ℕ
@@ -11,5 +11,5 @@ reply_size = 512
 abbrev pub HasRoom : ℕ → ℕ → Type 0
 HasRoom written more = written + more ≤ reply_size
 
-pub reply_size_is : REPLY_SIZE ≡ reply_size
+pub reply_size_is : LARGEST_REPLY ≡ reply_size
 reply_size_is = refl

@@ -4,10 +4,10 @@
 pub const HEADER_SIZE: usize = 12;
 
 /// How many octets a datagram may have that is replied to.
-pub const LONGEST_DATAGRAM: usize = 4_096;
+pub const LARGEST_DATAGRAM: usize = 4_096;
 
 /// How many octets a reply may have (RFC 1035 section 4.2.1).
-pub const REPLY_SIZE: usize = 512;
+pub const LARGEST_REPLY: usize = 512;
 
 /// The size of a datagram that this server takes, as its OPT records tell it. It is a choice of this server.
 pub const PAYLOAD_SIZE: u16 = 1_232;
@@ -53,6 +53,9 @@ pub const REFUSED: u8 = 5;
 
 /// The upper part of the code of an EDNS version that is not spoken, BADVERS, which is 16 (RFC 6891 section 9).
 pub const BADVERS_UPPER: u8 = 1;
+
+/// The flag of an OPT record by which DNSSEC records are wanted (RFC 3225 section 3).
+pub const DNSSEC_OK: u16 = 0x8000;
 
 /// The option of a client subnet (RFC 7871 section 6).
 pub const CLIENT_SUBNET: u16 = 8;

@@ -5,12 +5,12 @@ ghost use Rattle.byteorder.specs.Endian.{big_bytes};
 ghost use Rattle.dns_wire.specs.Room.{HasRoom};
 ghost use Rattle.dns_wire.specs.Wire.{u16_at, u32_at};
 
-use crate::numbers::REPLY_SIZE;
+use crate::numbers::LARGEST_REPLY;
 use arrayvec::ArrayVec;
 use byteorder::{BigEndian, ByteOrder};
 
 /// The octets of a reply.
-pub type ReplyBuffer = ArrayVec<u8, REPLY_SIZE>;
+pub type ReplyBuffer = ArrayVec<u8, LARGEST_REPLY>;
 
 /// The number of 16 bits that begins at an octet.
 pub fn u16_in(octets: &[u8], at: usize) -> u16

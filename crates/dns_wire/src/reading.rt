@@ -6,7 +6,7 @@ ghost use Rattle.dns_wire.specs.Message.{reading, head_of, is_silent, query_in};
 ghost use Rattle.dns_wire.specs.View.{view, HasName, asked};
 
 use crate::name::read_name;
-use crate::numbers::{HEADER_SIZE, LONGEST_DATAGRAM};
+use crate::numbers::{HEADER_SIZE, LARGEST_DATAGRAM};
 use crate::octets::u16_in;
 use crate::record::read_opt;
 use crate::{Head, Message, Query};
@@ -49,7 +49,7 @@ fn read_body(head: Head, octets: &[u8]) -> Option<Query<'_>>
 pub fn is_silent(octets: &[u8]) -> bool
     ensures { result ≡ is_silent octets.now }
 {
-    octets.len() < HEADER_SIZE || octets.len() > LONGEST_DATAGRAM || octets[2] >= 0x80
+    octets.len() < HEADER_SIZE || octets.len() > LARGEST_DATAGRAM || octets[2] >= 0x80
 }
 
 /// What a datagram is, by the first of these that holds:

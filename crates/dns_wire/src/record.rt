@@ -8,7 +8,7 @@ ghost use Rattle.dns_wire.specs.View.{extension, record_view};
 
 use crate::Opt;
 use crate::name::read_name;
-use crate::numbers::OPT;
+use crate::numbers::{DNSSEC_OK, OPT};
 use crate::octets::{u16_in, u32_in};
 
 /// A record of a message.
@@ -66,7 +66,7 @@ fn with_record<'a>(found: Option<Opt<'a>>, next: Record<'a>) -> Option<Option<Op
     Some(Some(Opt {
         payload: next.class,
         version: ((next.ttl >> 16) & 0xff) as u8,
-        dnssec_ok: next.ttl & 0xffff >= 0x8000,
+        dnssec_ok: next.ttl & 0xffff >= u32::from(DNSSEC_OK),
         options: next.content,
     }))
 }

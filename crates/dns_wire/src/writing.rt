@@ -6,7 +6,7 @@ ghost use Rattle.dns_wire.specs.Room.{HasRoom};
 ghost use Rattle.dns_wire.specs.Spelling as spelling;
 
 use crate::Head;
-use crate::numbers::{IN, OPT, PAYLOAD_SIZE};
+use crate::numbers::{DNSSEC_OK, IN, OPT, PAYLOAD_SIZE};
 use crate::octets::{ReplyBuffer, put, u16_octets, u32_octets};
 
 /// A bit that counts for so much in the header's flags.
@@ -79,7 +79,7 @@ pub fn write_record(out: &mut ReplyBuffer, owner: u16, kind: u16, ttl: u32, octe
 fn opt_flags(dnssec_ok: bool) -> u16
     ensures { result ≡ spelling.bit dnssec_ok 32768 }
 {
-    if dnssec_ok { 0x8000 } else { 0 }
+    if dnssec_ok { DNSSEC_OK } else { 0 }
 }
 
 /// Writes the OPT record of a reply (RFC 6891 section 6.1.2): the root's name, payload size 1232, version 0, DO as given, and the octets of its options. `extended` is the upper part of the reply's code.

@@ -40,6 +40,10 @@ fn read_most<T: io::Read + Drop>(
 
 /// All octets of a reader, if there are at most `limit`. No more than one past it are read. Room is taken once for as
 /// many as are expected, and more where more come.
+///
+/// # Errors
+///
+/// `TooLong` only where there are more; `Failed` where the reader failed; `NoMemory`.
 pub fn read_within<T: io::Read + Drop>(
     reader: T,
     alloc: Global,

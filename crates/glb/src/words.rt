@@ -135,7 +135,7 @@ fn order_of(command: Option<Command<'_>>) -> Option<Order<'_>>
 }
 
 /// A command line, as an order: none where a word is not in its grammar.
-fn read_line(alloc: Global, line: Line<'_>) -> Result<Option<Order<'_>>, NoMemory>
+fn read_command(alloc: Global, line: Line<'_>) -> Result<Option<Order<'_>>, NoMemory>
     ensures asked { IfOk result (λ c. option_map task_of c ≡ asked_by (line_of line.entry)) }
     ensures manned { IfOk result IsManned }
 {
@@ -176,7 +176,7 @@ pub fn read_words(alloc: Global, words: &[String]) -> Result<Option<Order<'_>>, 
     ensures manned { IfOk result IsManned }
 {
     match command_line::read_words(alloc, words)? {
-        Some(line) => read_line(alloc, line),
+        Some(line) => read_command(alloc, line),
         None => Ok(None),
     }
 }

@@ -15,7 +15,7 @@ use std::sync::Wait;
 /// How many viewers a cell has room for: as many as there are lanes, each of which has one.
 pub const MOST_VIEWERS: usize = 16;
 
-/// Opens a cell with its first version and so many viewers, for each of which the door is asked once, and for none after
+/// Opens a cell with its first version and so many viewers, 0 to 16, for each of which the door is asked once, and for none after
 /// one that it refused. Both copies of the version and all places are made here. An opening that is refused closes what
 /// it made, and may wait for that.
 ///
@@ -48,15 +48,15 @@ pub fn open<J: Naming, D: Door, R: Wait>(
     let Ok(second) = first.try_clone() else {
         return Err(OpenFault::NoMemory);
     };
-    let Ok(mut seats) = Vec::with_capacity(alloc, viewers as usize) else {
+    let Ok(mut made) = Vec::with_capacity(alloc, viewers as usize) else {
         return Err(OpenFault::NoMemory);
     };
     match start(rt, alloc, book, empty, (first, second), MOST_VIEWERS) {
         Err(_) => Err(OpenFault::NoMemory),
         Ok(publisher) => {
             let mut publisher = publisher;
-            match fill(rt, &mut publisher, door, viewers, &mut seats) {
-                Ok(()) => Ok((publisher, seats)),
+            match fill(rt, &mut publisher, door, viewers, &mut made) {
+                Ok(()) => Ok((publisher, made)),
                 Err(fault) => {
                     publisher.close(rt);
                     Err(fault)
@@ -72,12 +72,12 @@ fn fill<J: Naming, D: Door, R: Wait>(
     publisher: &mut Publisher<J>,
     door: &mut D,
     viewers: u8,
-    seats: &mut Vec<Viewer<J>>,
+    made: &mut Vec<Viewer<J>>,
 ) -> Result<(), OpenFault>
-    requires { (vec_len seats.old ≡ 0) × (viewers ≤ vec_capacity seats.old) }
+    requires { (vec_len made.old ≡ 0) × (viewers ≤ vec_capacity made.old) }
     ensures same { publisher.new ≡ publisher.old }
-    ensures count { OnOk result (vec_len seats.new ≡ viewers) }
-    ensures seats { OnOk result (All (λ v. (v.seen ≡ publisher.old.history) × (v.told ≡ publisher.old.history)) seats.new.items) }
+    ensures count { OnOk result (vec_len made.new ≡ viewers) }
+    ensures made { OnOk result (All (λ v. (v.seen ≡ publisher.old.history) × (v.told ≡ publisher.old.history)) made.new.items) }
     ensures asked { (k : ℕ) × (k ≤ viewers) × (D.asked door.new ≡ raised (D.asked door.old) k) }
     ensures asked_all { OnOk result (D.asked door.new ≡ raised (D.asked door.old) viewers) }
     ensures untouched { (D.looks door.new ≡ D.looks door.old) × (D.greatest door.new ≡ D.greatest door.old) }
@@ -88,7 +88,7 @@ fn fill<J: Naming, D: Door, R: Wait>(
 {
     for _ in 0..viewers {
         let viewer = door.admit(rt, publisher)?;
-        seats.push_reserved(viewer);
+        made.push_reserved(viewer);
     }
     Ok(())
 }

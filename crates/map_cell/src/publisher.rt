@@ -12,7 +12,7 @@ use crate::front::{Book, Front, Naming};
 use crate::rule::{Names, OneCell, Same};
 use crate::sealed::{Sealed, Step};
 use crate::tag::Tag;
-use crate::viewer::{CellReader, Note, Viewer, seat};
+use crate::viewer::{CellReader, Note, Viewer, new_viewer};
 use left_right::writer::Writer;
 use no_memory::NoMemory;
 use published_map::{Delta, MapVersion};
@@ -112,7 +112,7 @@ impl<J: Naming> Publisher<J> {
             unreachable!()
         };
         let reader = join_cell(writer)?;
-        Ok(seat(reader, &self.front))
+        Ok(new_viewer(reader, &self.front))
     }
 
     /// Names what is published.

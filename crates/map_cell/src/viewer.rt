@@ -69,7 +69,7 @@ impl<J: Naming> Model for Viewer<J> {
     ghost invariant = { λ v. IsSome v.reader × IfSome v.reader (λ r. client_view r.place ≡ tag_of J.book) × (0 < length v.seen) × (length v.seen ≤ length v.told) };
 }
 
-// Runs the closure on the copy, where it is no older than what was told.
+/// Runs the closure on the copy, where it is no older than what was seen and told.
 fn look_in<J: Naming, R, C: FnOnce(&MapVersion) -> R>(
     sealed: &Sealed,
     seen: &Front<J>,
@@ -117,7 +117,11 @@ impl<J: Naming> Viewer<J> {
         self.told = self.told.longer(&note.front);
     }
 
-    /// Looks at the newest version once: what the closure makes of it; or the look was refused, and nothing has changed.
+    /// Looks at the newest version once: what the closure makes of it.
+    ///
+    /// # Errors
+    ///
+    /// `Refused`. Nothing has changed then.
     pub fn look<R, C: FnOnce(&MapVersion) -> R>(&mut self, c: C) -> Result<R, Refused>
     where
         C: Drop,
@@ -147,7 +151,7 @@ impl<J: Naming> Viewer<J> {
 }
 
 /// A viewer that has seen what the front has.
-pub(crate) fn seat<J: Naming>(reader: CellReader, front: &Front<J>) -> Viewer<J>
+pub(crate) fn new_viewer<J: Naming>(reader: CellReader, front: &Front<J>) -> Viewer<J>
     requires some { 0 < length front.now }
     requires book { client_view reader.place ≡ tag_of J.book }
     ensures { (result.seen ≡ front.now) × (result.told ≡ front.now) }

@@ -205,7 +205,7 @@ impl Instance {
         requires { node.0 < length self.now.nodes }
         ensures { map (λ n. n.0) result.items ≡ path self.now node.0 }
     {
-        // Tells the proof that this is an instance.
+        // Tells the prover that this is an instance.
         let _count = self.nodes();
         let mut path = ArrayVec::new();
         let mut at = Some(node);

@@ -18,7 +18,11 @@ use reopen::{cut_and_trim, roll_back};
 use std::alloc::Global;
 
 /// Changes a state of a good map to one of a good map for an instance that differs in demands and
-/// capacities alone. It may be kept for the next change. After `NoMemory` it is only to be dropped.
+/// capacities alone. It may be kept for the next change.
+///
+/// # Errors
+///
+/// `NoMemory`. The state is only to be dropped then.
 pub fn resume<L>(
     alloc: Global,
     old: &Instance,

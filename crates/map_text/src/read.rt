@@ -120,6 +120,10 @@ impl Reader {
 ///
 /// Lines are read in order. In the first one at fault `BadLine` comes before `UnknownName` before `OrderBroken`.
 /// The fault is `Truncated` where no whole line has one and the text does not end with the LF of its `end` line.
+///
+/// # Errors
+///
+/// The first fault, its line numbered from 1; `NoMemory`.
 pub fn read_map(alloc: Global, topology: &Topology, text: &[u8]) -> Result<MapLines, MapFault>
     ensures read { MatchResult result (λ m. map_of topology.now text.now ≡ Ok (record { lines = m.lines.items; names = m.names.items })) (λ e. ¬ (e ≡ MapFault.NoMemory) → map_of topology.now text.now ≡ Err e) }
     ensures form { IfOk result (λ m. IsMapForm topology.now.market m.lines.items m.names.items) }

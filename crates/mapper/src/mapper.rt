@@ -150,7 +150,7 @@ fn prepare<L>(alloc: Global, topology: Topology, steps: &mut Steps<L>) -> Result
 
 impl<J: Naming> Mapper<J> {
     /// Maps the topology from scratch, for which `steps` counts the proposals, and opens a cell with that map and so
-    /// many viewers. All room that reading a feed needs is taken here. Nothing is read. An opening that is refused
+    /// many viewers, 0 to 16. All room that reading a feed needs is taken here. Nothing is read. An opening that is refused
     /// closes what it made, and may wait for that.
     ///
     /// # Errors
@@ -190,7 +190,7 @@ impl<J: Naming> Mapper<J> {
             first,
             version,
         } = prepared;
-        let (publisher, seats) = match map_cell::open(rt, alloc, history, version, viewers, door) {
+        let (publisher, made) = match map_cell::open(rt, alloc, history, version, viewers, door) {
             Ok(opened) => opened,
             Err(fault) => return Err(fault),
         };
@@ -201,7 +201,7 @@ impl<J: Naming> Mapper<J> {
                 intake,
                 maps,
             },
-            seats,
+            made,
         ))
     }
 
@@ -289,7 +289,7 @@ impl<J: Naming> Mapper<J> {
         self.maps.commit(rt, batch, steps)
     }
 
-    /// Runs a feed to its end or for so many turns, from the newest map on, and then tells the pace that it has ended.
+    /// Runs a feed to its end or for so many turns, 2^48 at most, from the newest map on, and then tells the pace that it has ended.
     ///
     /// Each map's text and each line of control text is one put, and nothing is put behind one that failed. When both
     /// puts of a map are done, a note of it goes into the row, unless that is full.

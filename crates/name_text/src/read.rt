@@ -90,6 +90,8 @@ fn wire_of(text: &[u8]) -> Option<ArrayVec<u8, LONGEST_NAME>>
 
 /// Reads a name as it is written in zone files (RFC 1035 section 5.1), without escapes: its labels, a dot between each two, and perhaps the dot of the root behind them. Letters keep their case.
 ///
+/// # Errors
+///
 /// The fault is that of the leftmost label with one, and in a label the first of `EmptyLabel`, `BadByte` and `LongLabel`; `LongName` comes only where no label has a fault.
 #[tactic(auto, unfolding(crate::specs::Names::name_of))]
 pub fn read_name(text: &[u8]) -> Result<Name, NameFault>
@@ -106,6 +108,10 @@ pub fn read_name(text: &[u8]) -> Result<Name, NameFault>
 }
 
 /// Reads one label of 1 to 63 octets, with no dot, as a name of that label alone.
+///
+/// # Errors
+///
+/// The label's first fault, in the order of `read_name`; a dot is a `BadByte`.
 #[tactic(auto, unfolding(crate::specs::Names::label_name_of))]
 pub fn read_label(text: &[u8]) -> Result<Name, NameFault>
     ensures { result ≡ label_name_of text.now }

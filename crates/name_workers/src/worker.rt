@@ -51,7 +51,8 @@ fn reply_by(
 }
 
 impl<J: Naming> Worker<J> {
-    /// A worker of that number, which has had no datagram.
+    /// A worker of that number, which has had no datagram. Numbers from 0 to 15 have draws that begin at different places;
+    /// those of 16 are those of 0 again.
     pub fn new(viewer: Viewer<J>, number: u8) -> Worker<J>
         ensures { (result.viewer ≡ viewer) × (result.number ≡ number) × (result.count ≡ 0) }
     {

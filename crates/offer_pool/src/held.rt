@@ -61,7 +61,11 @@ impl Held {
         })
     }
 
-    /// Adds units to an offer. Where memory is wanted, nothing has changed.
+    /// Adds units to an offer.
+    ///
+    /// # Errors
+    ///
+    /// `NoMemory`. Nothing has changed then.
     pub fn put(&mut self, offer: Offer, units: Units) -> Result<(), NoMemory>
         requires offer { IsOffer self.old.market offer.group.0 offer.place }
         requires room { amount_at self.old.lines offer.group.0 offer.place + units < 2 ^ 32 }

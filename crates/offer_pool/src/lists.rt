@@ -48,7 +48,7 @@ fn row_of(instance: &Instance, group: GroupId) -> Row
     requires { group.0 < length instance.now.groups }
     ensures { result ≡ group_at instance.now group.0 }
 {
-    // Tells the proof that this is an instance.
+    // Tells the prover that this is an instance.
     let _count = instance.groups();
     let mut choices = ArrayVec::new();
     for place in 0..instance.list_len(group) {
@@ -91,7 +91,7 @@ impl Lists {
     pub fn build(alloc: Global, instance: &Instance) -> Result<Lists, NoMemory>
         ensures { IfOk result (λ lists. lists ≡ instance.now) }
     {
-        // Tells the proof that this is an instance.
+        // Tells the prover that this is an instance.
         let _count = instance.groups();
         Ok(Lists {
             rows: rows_of(alloc, instance)?,

@@ -40,6 +40,10 @@ impl Model for MemGate {
 
 impl MemGate {
     /// One that answers `Go` so many times.
+    ///
+    /// # Errors
+    ///
+    /// `NoMemory`.
     pub fn new(alloc: Global, goes: usize) -> Result<MemGate, NoMemory>
         ensures { IfOk result (λ g. g ≡ record { told = record { turns = []; is_stopped = false }; goes = goes; room = 1; faults = 0 }) }
     {

@@ -43,6 +43,10 @@ impl<T> Model for MemNotes<T> {
 
 impl<T: Drop> MemNotes<T> {
     /// These notes.
+    ///
+    /// # Errors
+    ///
+    /// `NoMemory`.
     pub fn new(alloc: Global, coming: LinkedList<Due<T>>) -> Result<MemNotes<T>, NoMemory>
         requires { linked_list_len coming ≤ MOST_NOTES }
         ensures { IfOk result (λ s. s ≡ record { coming = coming; places = []; nones = 0 }) }

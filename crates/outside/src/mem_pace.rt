@@ -29,6 +29,10 @@ impl Model for MemPace {
 
 impl MemPace {
     /// One that was not called.
+    ///
+    /// # Errors
+    ///
+    /// `NoMemory`.
     pub fn new(alloc: Global, room: usize) -> Result<MemPace, NoMemory>
         ensures { IfOk result (λ p. p ≡ record { calls = []; room = room; faults = 0 }) }
     {

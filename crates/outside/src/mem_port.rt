@@ -84,6 +84,10 @@ impl Model for MemPort {
 impl MemPort {
     /// One at which these datagrams wait. The openings, the calls of `recv` and those of `send` with these numbers,
     /// each from 0, are to fail.
+    ///
+    /// # Errors
+    ///
+    /// `NoMemory`.
     pub fn new(
         alloc: Global,
         waiting: LinkedList<MemPacket>,

@@ -41,6 +41,10 @@ impl Model for MemSource {
 impl MemSource {
     /// One of these bytes. The pieces have these sizes in turn, but at least one octet and no more than fit and are
     /// left; behind the last size each piece has all that fits. The reads with these numbers, from 0, are to fail.
+    ///
+    /// # Errors
+    ///
+    /// `NoMemory`.
     pub fn new(
         alloc: Global,
         bytes: Vec<u8>,

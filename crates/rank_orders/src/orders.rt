@@ -28,6 +28,10 @@ impl Model for Orders {
 
 impl Orders {
     /// The order of an instance's offers. The copy that it keeps is in the instance's own memory.
+    ///
+    /// # Errors
+    ///
+    /// `NoMemory`.
     pub fn build(_alloc: Global, instance: &Instance) -> Result<Orders, NoMemory>
         ensures { IfOk result (λ orders. orders ≡ instance.now) }
     {

@@ -149,7 +149,11 @@ fn parse(alloc: Global, bytes: &[u8]) -> Result<Table, TopologyFault>
     }
 }
 
-/// Reads a topology: what the bytes say, or their first fault. Only want of memory may come in the place of either.
+/// Reads a topology: what the bytes say, or their first fault.
+///
+/// # Errors
+///
+/// The first fault, with its place; `NoMemory`, which may come in the place of either.
 pub fn read_topology(alloc: Global, bytes: &[u8]) -> Result<Topology, TopologyFault>
     ensures { MatchResult result (λ t. reading bytes.now ≡ Ok t) (λ e. ¬ (e ≡ TopologyFault.NoMemory) → reading bytes.now ≡ Err e) }
 {
