@@ -19,11 +19,9 @@ use arrayvec::ArrayVec;
 use map_model::MapLines;
 use no_memory::NoMemory;
 use outside::Shelf;
-use prefix_lookup::Lookup;
 use published_map::{MapVersion, Shared};
 use stable_check::Verdict;
 use std::alloc::Global;
-use std::sync::Arc;
 use topology_text::Topology;
 
 /// The draw by which `answer` picks a pool.
@@ -36,9 +34,7 @@ fn first_version(alloc: Global, topology: Topology, map: MapLines) -> Result<Map
     ensures version { IfOk result IsVersion }
 {
     let instance = topology.instance().try_clone()?;
-    let lookup = Lookup::build(alloc, topology.prefixes())?;
-    let topology = Arc::new(alloc, topology)?;
-    let shared = Arc::new(alloc, Shared { topology, lookup })?;
+    let shared = Shared::build(alloc, topology)?;
     MapVersion::make(alloc, 0, &instance, &map, shared)
 }
 

@@ -30,7 +30,6 @@ use map_cell::{Door, EmptyHistory, Naming, Note, NoteRow, OpenFault, Viewer};
 use map_model::{Instance, MapLines, Steps};
 use no_memory::NoMemory;
 use outside::{LARGEST_REPLY, Pace, Sink, Source};
-use prefix_lookup::Lookup;
 use published_map::{MapVersion, Shared};
 use std::alloc::Global;
 use std::marker::Model;
@@ -70,26 +69,13 @@ struct Prepared {
 /// The topology, and what its versions share.
 type Sharing = (Arc<Topology>, Arc<Shared>);
 
-/// A shared value of the topology with its lookup.
-fn shared_of(
-    alloc: Global,
-    topology: &Arc<Topology>,
-    lookup: Lookup,
-) -> Result<Arc<Shared>, NoMemory>
-    ensures { IfOk result (λ s. (arc_value (arc_value s).topology ≡ arc_value topology.now) × ((arc_value s).lookup ≡ lookup)) }
-{
-    let topology = Arc::try_clone(topology)?;
-    Ok(Arc::new(alloc, Shared { topology, lookup })?)
-}
-
 /// The topology, and what its versions share.
 fn share(alloc: Global, topology: Topology) -> Result<Sharing, NoMemory>
     ensures plan { IfOk result (λ r. (arc_value r.0 ≡ topology) × (plan_of (arc_value r.1) ≡ topology)) }
     ensures lookup { IfOk result (λ r. LooksUp (arc_value r.1)) }
 {
-    let lookup = Lookup::build(alloc, topology.prefixes())?;
-    let topology = Arc::new(alloc, topology)?;
-    let shared = shared_of(alloc, &topology, lookup)?;
+    let shared = Shared::build(alloc, topology)?;
+    let topology = Arc::try_clone(&shared.topology)?;
     Ok((topology, shared))
 }
 

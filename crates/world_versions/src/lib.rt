@@ -4,16 +4,12 @@
 ghost use Rattle.std.specs.Prelude.{◌≡◌, true, IfSome};
 ghost use Rattle.map_model.specs.Market.{IsSameShape};
 ghost use Rattle.map_model.specs.Allocation.{IsGood};
-ghost use Rattle.std.specs.Arc.{arc_value};
-ghost use Rattle.published_map.specs.Shared.{LooksUp, plan_of};
 ghost use Rattle.published_map.specs.Version.{IsVersion};
 
 use map_model::{GroupId, Instance, MapLines};
-use prefix_lookup::Lookup;
 use published_map::{MapVersion, Shared};
 use stable_check::{CheckRoom, Verdict, check};
 use std::alloc::Global;
-use std::sync::Arc;
 use topology_text::{Topology, read_topology};
 use worlds::{EXAMPLE, EXAMPLE_TREE, map_of};
 
@@ -30,19 +26,6 @@ pub fn is_good(alloc: Global, instance: &Instance, map: &MapLines) -> bool
     }
 }
 
-/// What versions of a topology share.
-fn shared_of(alloc: Global, topology: Topology) -> Option<Arc<Shared>>
-    ensures { IfSome result (λ s. LooksUp (arc_value s) × (plan_of (arc_value s) ≡ topology)) }
-{
-    let Ok(lookup) = Lookup::build(alloc, topology.prefixes()) else {
-        return None;
-    };
-    let Ok(topology) = Arc::new(alloc, topology) else {
-        return None;
-    };
-    Arc::new(alloc, Shared { topology, lookup }).ok()
-}
-
 /// The version of a serial of a topology, over its own numbers.
 pub fn version_of(
     alloc: Global,
@@ -56,9 +39,9 @@ pub fn version_of(
     ensures version { IfSome result (λ v. IsVersion v × (v.serial ≡ serial) × (v.market ≡ v.plan.market)) }
     ensures parts { IfSome result (λ v. (v.market ≡ instance.now) × (v.lines ≡ map.now.lines.items) × (v.names ≡ map.now.names.items)) }
 {
-    match shared_of(alloc, topology) {
-        None => None,
-        Some(shared) => MapVersion::make(alloc, serial, instance, map, shared).ok(),
+    match Shared::build(alloc, topology) {
+        Err(_) => None,
+        Ok(shared) => MapVersion::make(alloc, serial, instance, map, shared).ok(),
     }
 }
 
