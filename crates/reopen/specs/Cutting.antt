@@ -33,9 +33,10 @@ pub record CanCut (m : Market) (state : Standing) : Type 0 where
   pub form : AreLines m state.lines
   pub count : length state.free ≡ length m.groups
 
--- Units that go from the last places of each group that holds more than it asks for, and no more of them than it has to give up: where a place has fewer than before no later place has any, and the group still holds what it asks for.
+-- Units that go from the last places of each group that holds more than it asks for, as many as it has to give up and no more: each group then holds at most what it asks for, and where a place has fewer than before no later place has any, and the group still holds what it asks for.
 pub record IsTrimmed (m : Market) (old new : List MapLine) : Type 0 where
   pub fewer : (test : ℕ → ℕ → Bool) → units_of test new ≤ units_of test old
+  pub fits : (g : ℕ) → g < length m.groups → placed new g ≤ demand_of m g
   pub last : (g j k : ℕ) → IsOffer m g k → j < k → amount_at new g j < amount_at old g j → amount_at new g k ≡ 0
   pub enough : (g k : ℕ) → IsOffer m g k → amount_at new g k < amount_at old g k → demand_of m g ≤ placed new g
 
@@ -44,9 +45,14 @@ pub record IsGroupTrimmed (m : Market) (g : ℕ) (old new : List MapLine) : Type
   pub last : (j k : ℕ) → IsOffer m g k → j < k → amount_at new g j < amount_at old g j → amount_at new g k ≡ 0
   pub enough : (k : ℕ) → IsOffer m g k → amount_at new g k < amount_at old g k → demand_of m g ≤ placed new g
 
--- A state cut for an instance: no offer holds more than before, no node is over its capacity, what each group holds and has free adds up to its demand, and in the trees in which no unit has to go all offers hold what they held. What is held is among what the groups hold once they are trimmed.
+-- units that are left of others: no more at any offer, and all of them in the trees in which none has to go
+pub record IsLeft (m : Market) (all left : List MapLine) : Type 0 where
+  pub fewer : (test : ℕ → ℕ → Bool) → units_of test left ≤ units_of test all
+  pub still : (test : ℕ → ℕ → Bool) → ((g k : ℕ) → IsOffer m g k → test g k ≡ true → IsFitting m all (tree_of m g k)) → units_of test left ≡ units_of test all
+
+-- A state cut for an instance: no offer holds more than before, no node is over its capacity, what each group holds and has free adds up to its demand, and in the trees in which no unit has to go all offers hold what they held. What is held is left of what the groups hold once they are trimmed.
 pub record IsCut (m : Market) (old new : Standing) : Type 0 where
   pub less : IsLess m old new
   pub capacities : (n : ℕ) → n < length m.nodes → load m new.lines n ≤ capacity_of m n
   pub totals : (g : ℕ) → g < length m.groups → placed new.lines g + slice_index new.free g ≡ demand_of m g
-  pub trimmed : (trimmed : List MapLine) × IsTrimmed m old.lines trimmed × ((test : ℕ → ℕ → Bool) → units_of test new.lines ≤ units_of test trimmed)
+  pub trimmed : (trimmed : List MapLine) × IsTrimmed m old.lines trimmed × IsLeft m trimmed new.lines
