@@ -46,14 +46,7 @@ pub returns-in-Err-clause-kept : goal.returns-in-Err-clause-kept
 returns-in-Err-clause-kept c = λ first kept. subst (λ (m : Machine Version). IsKept replies Follows first m) (sym c.in-Err.ensures.same) (c.loop-event.invariant.2 first kept)
 
 pub returns-in-Err-clause-minded : goal.returns-in-Err-clause-minded
-returns-in-Err-clause-minded c =
-    let m = c.loop-event.self in
-    let e = c.in-Some.event in
-    let rest = reverse c.pop.new.self.items in
-    let front : reverse c.loop-event.behind.items ≡ e ∷ rest = first_of_reversed c.loop-event.behind.items c.pop.new.self.items e c.in-Some.ensures.items in
-    let runs : RunsTo c.args.events.items c.args.self.now c.step.new.self (Some c.in-Err.fault) = c.loop-event.invariant.0 c.step.new.self (Some c.in-Err.fault)
-    (subst (λ (es : List Event). RunsTo es m c.step.new.self (Some c.in-Err.fault)) (sym front) (refused_here e rest m c.step.new.self c.in-Err.fault c.in-Err.ensures.refused c.in-Err.ensures.same)) in
-    run_minded c.args.events.items c.args.self.now c.step.new.self (Some c.in-Err.fault) runs
+returns-in-Err-clause-minded c = run_minded c.args.events.items c.args.self.now c.step.new.self (Some c.in-Err.fault) (returns-in-Err-clause-runs c)
 
 pub returns-clause-minded : goal.returns-clause-minded
 returns-clause-minded c = let runs : RunsTo c.args.events.items c.args.self.now c.loop-event.self None = search rules in run_minded c.args.events.items c.args.self.now c.loop-event.self None runs
