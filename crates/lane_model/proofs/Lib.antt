@@ -4,6 +4,7 @@ pub mod Runs
 pub mod Calls
 pub mod Machines
 pub mod Keeps
+pub mod Minded
 pub mod Ports
 mod Rows
 pub mod Stated

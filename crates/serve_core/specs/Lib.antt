@@ -2,3 +2,4 @@ pub mod Lanes
 pub mod Worlds
 pub mod Events
 pub mod Takings
+pub mod Minded

@@ -2,6 +2,7 @@
 ghost use Rattle.std.specs.Prelude.{◌≡◌, true, OnOk, OnErr};
 ghost use Rattle.lane_model.specs.Machine.{fresh, passed, replied, told};
 ghost use Rattle.published_map.specs.Version.{IsVersion};
+ghost use Rattle.serve_core.specs.Lanes.{entry_of};
 ghost use Rattle.serve_core.specs.Takings.{IsTakenBy};
 
 use crate::octets::Octets;
@@ -77,17 +78,24 @@ impl LaneRow {
         self.seen = self.seen.max(serial);
     }
 
+    /// A datagram, with what the lane knows.
+    fn row(&self, octets: Octets, from: Peer) -> TakenRow
+        ensures { entry_of result ≡ record { packet = record { octets = octets; from = from }; known = self.now.seen } }
+    {
+        TakenRow {
+            octets,
+            from,
+            known: self.seen,
+        }
+    }
+
     /// Takes a datagram that has no reply.
     fn pass(&mut self, octets: Octets, from: Peer, serial: u64) -> Result<(), NoMemory>
         ensures ok { OnOk result (self.new ≡ passed (record { octets = octets; from = from }) serial self.old) }
         ensures err { OnErr result (self.new ≡ self.old) }
     {
-        let known = self.seen;
-        self.taken.push(TakenRow {
-            octets,
-            from,
-            known,
-        })?;
+        let row = self.row(octets, from);
+        self.taken.push(row)?;
         self.seen = serial;
         self.count = next_number(self.count);
         Ok(())
@@ -105,12 +113,8 @@ impl LaneRow {
         ensures err { OnErr result (self.new ≡ self.old) }
     {
         self.tries.reserve(1)?;
-        let known = self.seen;
-        self.taken.push(TakenRow {
-            octets,
-            from,
-            known,
-        })?;
+        let row = self.row(octets, from);
+        self.taken.push(row)?;
         self.tries.push_reserved(TryRow {
             octets: text,
             to: from,

@@ -11,6 +11,7 @@ ghost use Rattle.published_map.specs.Version.{IsVersion, Version};
 ghost use Rattle.map_model.specs.Batch.{IsBatch};
 ghost use Rattle.stable_check.specs.Judgement.{Judges};
 ghost use Rattle.serve_core.specs.Events.{IsCommitOf, IsEventFor, IsRefused, RunsTo, Takes, lane_at, newest_of};
+ghost use Rattle.serve_core.specs.Minded.{AreMinded};
 ghost use Rattle.serve_core.specs.Takings.{IsCommitFault, IsTaking};
 
 use crate::event::{Event, StepFault};
@@ -216,7 +217,7 @@ impl World {
     /// Takes events in order, up to the first that is refused, whose fault it answers.
     ///
     /// What it takes is taken by the machine of commits, tells and takes, so it keeps a history, and lanes that are
-    /// lane runs over it.
+    /// lane runs over it; and what a lane knew at each datagram is no less than all that it was told of and used before.
     ///
     /// # Errors
     ///
@@ -225,6 +226,7 @@ impl World {
         requires { (v : Version) → newest_of self.old.history ≡ Some v → All (IsEventFor v.market) events.items }
         ensures runs { RunsTo events.items self.old self.new (result_err result) }
         ensures kept { (first : Version) → IsKept replies Follows first self.old → IsKept replies Follows first self.new }
+        ensures minded { AreMinded events.items self.old self.new (result_err result) }
     {
         let mut behind = backwards(events);
         while let Some(event) = behind.pop() {

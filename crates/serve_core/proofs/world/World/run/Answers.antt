@@ -1,4 +1,4 @@
-use Rattle.std.proofs.Common.{◌≡◌, ◌∙◌, ◌∷◌, suc, List, All, Some, reverse, ap, sym, subst, arith}
+use Rattle.std.proofs.Common.{rules, ◌≡◌, ◌∙◌, ◌∷◌, suc, List, All, None, Some, reverse, ap, sym, subst, arith}
 use Rattle.published_map.specs.Version.{Version}
 use Rattle.lane_model.specs.Histories.{Follows}
 use Rattle.lane_model.specs.Kept.{IsKept}
@@ -7,6 +7,7 @@ use Rattle.lane_model.specs.Replies.{replies}
 use Rattle.serve_core.specs.declared.event.Event.{Event}
 use Rattle.serve_core.specs.Events.{IsEventFor, RunsTo}
 use Rattle.serve_core.proofs.Kept.{first_of_reversed, kept_step, refused_here, reverse_twice, still_for, taken_more}
+use Rattle.serve_core.proofs.Minded.{run_minded}
 use Rattle.serve_core.proofs.world.World.run.Goals as goal
 
 pub loop-event-init : goal.loop-event-init
@@ -43,3 +44,9 @@ returns-in-Err-clause-runs c =
 
 pub returns-in-Err-clause-kept : goal.returns-in-Err-clause-kept
 returns-in-Err-clause-kept c = λ first kept. subst (λ (m : Machine Version). IsKept replies Follows first m) (sym c.in-Err.ensures.same) (c.loop-event.invariant.2 first kept)
+
+pub returns-in-Err-clause-minded : goal.returns-in-Err-clause-minded
+returns-in-Err-clause-minded c = run_minded c.args.events.items c.args.self.now c.step.new.self (Some c.in-Err.fault) (returns-in-Err-clause-runs c)
+
+pub returns-clause-minded : goal.returns-clause-minded
+returns-clause-minded c = let runs : RunsTo c.args.events.items c.args.self.now c.loop-event.self None = search rules in run_minded c.args.events.items c.args.self.now c.loop-event.self None runs
