@@ -4,4 +4,5 @@ pub mod Rules
 pub mod Tags
 pub mod Asks
 pub mod Cell
+pub mod Rows
 pub mod Doors

@@ -1,5 +1,5 @@
 -- Inside this crate alone: the rule of the history, and what its step tells.
-use Rattle.std.specs.Prelude.{ℕ, ◌≡◌, ◌==◌, ◌+◌, true, List, [], ◌∷◌, ◌++◌, length, MatchBool, if◌then◌else◌}
+use Rattle.std.specs.Prelude.{ℕ, ◌≡◌, ◌==◌, true, List, [], ◌∷◌, ◌++◌, length, MatchBool, if◌then◌else◌}
 use Rattle.logbook.specs.Pages.{Cell, Step, View, Book, Named}
 use Rattle.published_map.specs.declared.delta.Delta.{Delta}
 use Rattle.published_map.specs.Version.{Version}

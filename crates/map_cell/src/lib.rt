@@ -14,7 +14,7 @@ mod viewer;
 
 pub use door::{CellFault, Door, MemDoor, OpenFault, PlainDoor};
 pub use front::{EmptyHistory, Front, Naming};
-pub use notes::{NoteRow, RowNotes};
+pub use notes::{KeptNote, NoteRow, RowNotes};
 pub use opening::{MOST_VIEWERS, open};
 pub use publisher::Publisher;
 pub use viewer::{Note, Refused, Viewer};

@@ -1,8 +1,9 @@
 //! Rows of notes, by which one thread tells others of published versions, and what reads them.
-ghost use Rattle.std.specs.Prelude.{◌≡◌, ◌+◌, ◌<◌, ◌^◌, ◌≤◌, ℕ, length, vec_len, IfSome, IfNone, IfOk, MatchBool, MatchOption, None, ◌-◌};
+ghost use Rattle.std.specs.Prelude.{◌≡◌, ◌+◌, ◌<◌, ◌^◌, ◌≤◌, ℕ, length, vec_len, IfSome, IfNone, IfOk, IfErr, MatchBool, MatchOption, None, Some, ◌-◌, slice_get};
 ghost use Rattle.outside.specs.Faults.{BothTell};
 ghost use Rattle.outside.specs.Limits.{most_notes};
 ghost use Rattle.outside.specs.Notes.{IsNextNote};
+ghost use Rattle.map_cell.specs.Rows.{Gives};
 
 use crate::front::Naming;
 use crate::viewer::Note;
@@ -10,13 +11,57 @@ use no_memory::NoMemory;
 use outside::{MOST_NOTES, Notes};
 use std::alloc::Global;
 use std::marker::Model;
-use std::sync::{OnceLock, Wait};
+use std::sync::{OnceLock, OnceToken, Wait};
 
-/// Cells that are set once, to notes of one cell, as many as a run tells of; of later maps nobody is told.
+/// What shows that a cell of a row holds a note, and always will. It takes no bytes.
+#[derive(Drop)]
+pub struct KeptNote<'a, J: Naming> {
+    token: OnceToken<'a, Note<J>>,
+}
+
+impl<'a, J: Naming> Model for KeptNote<'a, J> {
+    ghost use Rattle.map_cell.specs.Rows.{KeptState};
+
+    ghost Value = { KeptState };
+
+    ghost view = { λ k. record { cell = k.token.of; history = k.token.value.front } };
+}
+
+impl<'a, J: Naming> KeptNote<'a, J> {
+    /// The same once more.
+    pub fn again(&self) -> KeptNote<'a, J>
+        ensures { result ≡ self.now }
+    {
+        KeptNote {
+            token: self.token.again(),
+        }
+    }
+
+    /// A cell holds one note, whoever put it and whoever read it.
+    pub fn agrees(&self, other: &KeptNote<'a, J>)
+        requires { self.now.cell ≡ other.now.cell }
+        ensures { self.now.history ≡ other.now.history }
+    {
+        self.token.agrees(&other.token);
+    }
+}
+
+/// Cells that are set once, to notes of one cell, as many as a run tells of; of later maps nobody is told. Contracts see
+/// the names of the cells, in order.
 #[derive(Drop)]
 pub struct NoteRow<J: Naming> {
     cells: Vec<OnceLock<Note<J>>>,
-    ghost full: { vec_len cells ≡ most_notes },
+}
+
+impl<J: Naming> Model for NoteRow<J> {
+    ghost use Rattle.std.specs.Prelude.{◌≡◌, ℕ, List, map, vec_len};
+    ghost use Rattle.outside.specs.Limits.{most_notes};
+
+    ghost Value = { List ℕ };
+
+    ghost view = { λ r. map (λ c. c.id) r.cells.items };
+
+    ghost invariant = { λ r. vec_len r.cells ≡ most_notes };
 }
 
 impl<J: Naming> NoteRow<J> {
@@ -25,7 +70,9 @@ impl<J: Naming> NoteRow<J> {
     /// # Errors
     ///
     /// `NoMemory` where there was none for its cells.
-    pub fn new(alloc: Global) -> Result<NoteRow<J>, NoMemory> {
+    pub fn new(alloc: Global) -> Result<NoteRow<J>, NoMemory>
+        ensures { IfOk result (λ row. length row ≡ most_notes) }
+    {
         let mut cells = Vec::with_capacity(alloc, MOST_NOTES)?;
         for _ in 0..MOST_NOTES {
             cells.push_reserved(OnceLock::new());
@@ -37,18 +84,39 @@ impl<J: Naming> NoteRow<J> {
     pub fn put<R: Wait>(&self, rt: &R, at: &mut u32, note: Note<J>) -> bool
         ensures { MatchBool result ((at.old < at.new) × (at.new ≤ most_notes)) (at.new ≡ most_notes) }
     {
+        self.put_shown(rt, at, note).is_some()
+    }
+
+    /// As `put`, and shows that the cell just before the new `at` holds the note.
+    pub fn put_shown<R: Wait>(&self, rt: &R, at: &mut u32, note: Note<J>) -> Option<KeptNote<'_, J>>
+        ensures place { MatchOption result (at.new ≡ most_notes) (λ _. (at.old < at.new) × (at.new ≤ most_notes)) }
+        ensures cell { IfSome result (λ kept. slice_get self.now (at.new - 1) ≡ Some kept.cell) }
+        ensures note { IfSome result (λ kept. kept.history ≡ note.front) }
+    {
         let mut rest = note;
         for k in *at..MOST_NOTES as u32 {
-            match self.cells[k as usize].set(rt, rest) {
-                Ok(_) => {
+            match self.set(rt, k as usize, rest) {
+                Ok(kept) => {
                     *at = k + 1;
-                    return true;
+                    return Some(kept);
                 }
                 Err(back) => rest = back,
             }
         }
         *at = MOST_NOTES as u32;
-        false
+        None
+    }
+
+    /// Sets a cell to the note, or hands it back.
+    fn set<R: Wait>(&self, rt: &R, place: usize, note: Note<J>) -> Result<KeptNote<'_, J>, Note<J>>
+        requires { place < most_notes }
+        ensures ok { IfOk result (λ kept. (slice_get self.now place ≡ Some kept.cell) × (kept.history ≡ note.front)) }
+        ensures err { IfErr result (λ back. back.front ≡ note.front) }
+    {
+        match self.cells[place].set(rt, note) {
+            Ok(token) => Ok(KeptNote { token }),
+            Err(back) => Err(back),
+        }
     }
 }
 
@@ -57,16 +125,18 @@ impl<J: Naming> NoteRow<J> {
 pub struct RowNotes<'a, J: Naming> {
     row: &'a NoteRow<J>,
     next: usize,
+    /// What shows the note that was given last.
+    last: Option<KeptNote<'a, J>>,
 }
 
 impl<'a, J: Naming> Model for RowNotes<'a, J> {
-    ghost use Rattle.std.specs.Prelude.{ℕ, ◌≤◌};
+    ghost use Rattle.std.specs.Prelude.{◌≤◌};
     ghost use Rattle.outside.specs.Limits.{most_notes};
+    ghost use Rattle.map_cell.specs.Rows.{ReaderState};
 
-    // how many notes it has given
-    ghost Value = { ℕ };
+    ghost Value = { ReaderState };
 
-    ghost view = { λ s. s.next };
+    ghost view = { λ s. record { row = s.row.now; given = s.next; last = s.last } };
 
     ghost invariant = { λ s. s.next ≤ most_notes };
 }
@@ -74,9 +144,23 @@ impl<'a, J: Naming> Model for RowNotes<'a, J> {
 impl<'a, J: Naming> RowNotes<'a, J> {
     /// The notes of a row, from the first on.
     pub fn over(row: &'a NoteRow<J>) -> RowNotes<'a, J>
-        ensures { result ≡ 0 }
+        ensures { result ≡ record { row = row.now; given = 0; last = None } }
     {
-        RowNotes { row, next: 0 }
+        RowNotes {
+            row,
+            next: 0,
+            last: None,
+        }
+    }
+
+    /// What shows the note that was given last.
+    pub fn last(&self) -> Option<KeptNote<'a, J>>
+        ensures { result ≡ self.now.last }
+    {
+        match &self.last {
+            None => None,
+            Some(kept) => Some(kept.again()),
+        }
     }
 }
 
@@ -88,21 +172,25 @@ impl<J: Naming> Notes for RowNotes<'_, J> {
 
     ghost told = { λ s. None };
 
-    ghost left = { λ s. most_notes - s };
+    ghost left = { λ s. most_notes - s.given };
 
     fn next(&mut self) -> Option<Note<J>>
         ensures next { BothTell None None (IsNextNote result) }
-        ensures few { most_notes - self.old ≤ most_notes }
-        ensures some { IfSome result (λ _. most_notes - self.new < most_notes - self.old) }
-        ensures none { IfNone result (most_notes - self.new ≡ most_notes - self.old) }
-        // Each note that it gives is counted, and nothing else.
-        ensures count { MatchOption result (self.new ≡ self.old) (λ _. self.new ≡ self.old + 1) }
+        ensures few { most_notes - self.old.given ≤ most_notes }
+        ensures some { IfSome result (λ _. most_notes - self.new.given < most_notes - self.old.given) }
+        ensures none { IfNone result (most_notes - self.new.given ≡ most_notes - self.old.given) }
+        // Each note that it gives is that of the next cell, and it counts it; else nothing changes.
+        ensures gives { MatchOption result (self.new ≡ self.old) (λ note. Gives self.old note.front self.new) }
     {
         if self.next >= MOST_NOTES {
             return None;
         }
-        let note = self.row.cells[self.next].get()?.again();
+        let row = self.row;
+        let cell = &row.cells[self.next];
+        let token = cell.witness()?;
+        let note = cell.value(&token).again();
         self.next += 1;
+        self.last = Some(KeptNote { token });
         Some(note)
     }
 }

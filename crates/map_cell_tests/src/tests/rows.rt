@@ -1,9 +1,11 @@
 //! Rows of notes: what is put is what is read, in its order, up to a row that is full.
-ghost use Rattle.std.specs.Prelude.{◌≡◌, ◌<◌, ◌^◌};
+ghost use Rattle.std.specs.Prelude.{◌≡◌, ◌<◌, ◌^◌, IfSome, Some, slice_get};
 ghost use Rattle.map_cell_tests.specs.Examples.{AreGood, IsOf};
 
 use super::{Worlds, first_version, publish_to};
-use map_cell::{EmptyHistory, Naming, NoteRow, PlainDoor, Publisher, RowNotes, open};
+use map_cell::{
+    EmptyHistory, KeptNote, Naming, Note, NoteRow, PlainDoor, Publisher, RowNotes, open,
+};
 use outside::Notes;
 use std::alloc::Global;
 use std::marker::Brand;
@@ -18,12 +20,59 @@ fn next_serial<J: Naming>(notes: &mut RowNotes<'_, J>) -> Option<u64> {
     }
 }
 
-/// What was read of a row ahead of all puts, behind the first, behind the second twice, and by a reader that began then;
-/// and where the puts left off.
+/// The next note of a reader that stands at the cell of a note that was put: if there is one, it is that note.
+fn next_as_put<'a, J: Naming>(
+    notes: &mut RowNotes<'a, J>,
+    kept: &KeptNote<'a, J>,
+) -> Option<Note<J>>
+    requires { slice_get notes.old.row notes.old.given ≡ Some kept.now.cell }
+    ensures { IfSome result (λ note. note.front ≡ kept.now.history) }
+{
+    let note = notes.next()?;
+    match notes.last() {
+        None => unreachable!(),
+        Some(last) => last.agrees(kept),
+    }
+    Some(note)
+}
+
+/// What a new reader gives at the place of a note that was put, behind one note for each cell ahead of it: if it gives
+/// one, it is that note.
+fn read_at<'a, J: Naming>(
+    row: &'a NoteRow<J>,
+    place: u32,
+    kept: &KeptNote<'a, J>,
+) -> Option<Note<J>>
+    requires { slice_get row.now place ≡ Some kept.now.cell }
+    ensures { IfSome result (λ note. note.front ≡ kept.now.history) }
+{
+    let mut notes = RowNotes::over(row);
+    for _ in 0..place {
+        notes.next()?;
+    }
+    next_as_put(&mut notes, kept)
+}
+
+/// Puts a note and reads it where it was put: what is read there is what was put.
+fn put_and_read<J: Naming, R: Wait>(
+    rt: &R,
+    row: &NoteRow<J>,
+    at: &mut u32,
+    note: Note<J>,
+) -> Option<Note<J>>
+    ensures { IfSome result (λ read. read.front ≡ note.front) }
+{
+    let kept = row.put_shown(rt, at, note)?;
+    read_at(row, *at - 1, &kept)
+}
+
+/// What was read of a row ahead of all puts, behind the first, where the second was put, behind it twice, and by a reader
+/// that began then; and where the puts left off.
 #[derive(Clone, Copy, PartialEq, Eq)]
 struct Turns {
     unset: Option<u64>,
     first: Option<u64>,
+    there: Option<u64>,
     second: Option<u64>,
     behind: Option<u64>,
     again: Option<u64>,
@@ -50,15 +99,17 @@ fn turns_of<J: Naming, R: Wait>(
     if !took || publish_to(rt, alloc, publisher, &worlds.old, &worlds.new).is_none() {
         return None;
     }
-    if !row.put(rt, &mut at, publisher.note()) {
-        return None;
-    }
+    let there = match put_and_read(rt, row, &mut at, publisher.note()) {
+        None => None,
+        Some(note) => Some(note.serial()),
+    };
     let second = next_serial(&mut notes);
     let behind = next_serial(&mut notes);
     let again = next_serial(&mut RowNotes::over(row));
     Some(Turns {
         unset,
         first,
+        there,
         second,
         behind,
         again,
@@ -160,6 +211,7 @@ fn rows_are_read_in_order(rt: HostRuntime) -> Result<(), Fail> {
     let turns = Turns {
         unset: None,
         first: Some(0),
+        there: Some(1),
         second: Some(1),
         behind: None,
         again: Some(0),
