@@ -8,3 +8,5 @@ pub mod Tellings
 pub mod Worked
 pub mod Ends
 pub mod Laws
+pub mod FileLaws
+pub mod FileRows

@@ -10,6 +10,7 @@ pub mod Clerk
 pub mod Texts
 pub mod Changes
 pub mod ChangesTexts
+pub mod Saying
 pub mod Taking
 pub mod Runs
 pub mod Working

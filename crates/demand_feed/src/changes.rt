@@ -6,6 +6,7 @@ ghost use Rattle.demand_feed.specs.Changes.{change_by, change_line_of, changes_b
 ghost use Rattle.demand_feed.specs.Line.{words_of};
 ghost use Rattle.demand_feed.specs.SaidBy.{said_by};
 ghost use Rattle.demand_feed.specs.Changing.{IsChangeLine};
+ghost use Rattle.demand_feed.specs.Saying.{FileSays};
 
 use crate::limits::LONGEST_LINE;
 use crate::line::{are_visible, capacity_line, demand_line};
@@ -111,6 +112,7 @@ fn take_line(topology: &Topology, batch: &mut Batch, line: &[u8]) -> Result<(), 
 /// `Refused` with the number of the first line that is refused, and why; `NoMemory`.
 pub fn read_changes(alloc: Global, topology: &Topology, text: &[u8]) -> Result<Batch, ChangesFault>
     ensures read { MatchResult result (λ batch. changes_of topology.now text.now ≡ Ok batch) (λ e. ¬ (e ≡ ChangesFault.NoMemory) → changes_of topology.now text.now ≡ Err e) }
+    ensures plain { MatchResult result (λ batch. FileSays topology.now text.now (Ok batch)) (λ e. ¬ (e ≡ ChangesFault.NoMemory) → FileSays topology.now text.now (Err e)) }
     ensures batch { IfOk result (IsBatch topology.now.market) }
 {
     let mut batch = Batch::new(alloc)?;

@@ -4,6 +4,7 @@ use Rattle.std.specs.Prelude.{List}
 use Rattle.demand_feed.specs.Changes.{changes_behind}
 use Rattle.demand_feed.specs.Lines.{lines_of}
 use Rattle.demand_feed.proofs.FileLines.{batch_none, breaks_last, breaks_off, changes_are, ends_whole, ends_with, goes_on}
+use Rattle.demand_feed.proofs.FileLaws.{answered}
 use Rattle.demand_feed.proofs.changes.read_changes.Goals as goal
 
 pub lines-init : goal.lines-init
@@ -38,3 +39,15 @@ returns-in-Ok-take_line-clause-read c =
 pub returns-in-Err-take_line-clause-read : goal.returns-in-Err-take_line-clause-read
 returns-in-Err-take_line-clause-read c = λ _.
     breaks_last c.args.topology.now c.lines.number c.lines.rest.now c.lines.batch c.in-Err-take_line.why _ c.lines.invariant.reading c.in_default.ensures.parts (sym c.is_empty.ensures ∙ c.if-is_empty.false) c.in-Err-take_line.ensures.taken
+
+pub returns-in-Err-clause-plain : goal.returns-in-Err-clause-plain
+returns-in-Err-clause-plain c = λ e. answered c.args.topology.now c.args.text.now _ (returns-in-Err-clause-read c e)
+
+pub returns-then-is_empty-clause-plain : goal.returns-then-is_empty-clause-plain
+returns-then-is_empty-clause-plain c = answered c.args.topology.now c.args.text.now _ (returns-then-is_empty-clause-read c)
+
+pub returns-in-Ok-take_line-clause-plain : goal.returns-in-Ok-take_line-clause-plain
+returns-in-Ok-take_line-clause-plain c = answered c.args.topology.now c.args.text.now _ (returns-in-Ok-take_line-clause-read c)
+
+pub returns-in-Err-take_line-clause-plain : goal.returns-in-Err-take_line-clause-plain
+returns-in-Err-take_line-clause-plain c = λ e. answered c.args.topology.now c.args.text.now _ (returns-in-Err-take_line-clause-read c e)
