@@ -70,9 +70,22 @@ session_looks a number w [] m m' s = ap (λ k. k.eyes.looks) s ∙ raised_none m
 session_looks a number w (t ∷ log) m m' s =
     session_looks a number w log s.0 m' s.2 ∙ (ap (λ k. raised k (sum_by (λ x. looks_of x.came) log)) s.1.looks ∙ (raised_more m.eyes.looks (looks_of t.came) (sum_by (λ x. looks_of x.came) log) ∙ ap (λ k. raised m.eyes.looks k) (sym (sum_by-cons (λ x. looks_of x.came) t log))))
 
-session_later : {V T : Type 0} (a : Answers V) (number : T → ℕ) (w : ℕ) (log : List Turn) (m m' : Moment V T) → IsSession a number w log m m' → m.port_faults ≤ m'.port_faults
-session_later a number w [] m m' s = subst (λ k. m.port_faults ≤ k.port_faults) (sym s) (omega arith)
-session_later a number w (t ∷ log) m m' s = let r = session_later a number w log s.0 m' s.2 in let q = s.1.port_later in omega (arith, r, q)
+raised_through : (x y z j k : ℕ) → raised x j ≤ y → raised y k ≤ z → raised x (j + k) ≤ z
+raised_through x y z j k p q = omega (arith, p, q)
+
+-- the port's count rises by at least as many as its calls fail
+session_failures : {V T : Type 0} (a : Answers V) (number : T → ℕ) (w : ℕ) (log : List Turn) (m m' : Moment V T) → IsSession a number w log m m' → raised m.port_faults (failures log) ≤ m'.port_faults
+session_failures a number w [] m m' s = subst (λ k. raised m.port_faults 0 ≤ k.port_faults) (sym s) (omega arith)
+session_failures a number w (t ∷ log) m m' s =
+    let through = raised_through m.port_faults s.0.port_faults m'.port_faults (fails_of t.came) (failures log) s.1.port_faults (session_failures a number w log s.0 m' s.2) in
+    subst (λ (k : ℕ). raised m.port_faults k ≤ m'.port_faults) (sym (sum_by-cons (λ x. fails_of x.came) t log)) through
+
+-- where none failed, it stays
+session_port_stays : {V T : Type 0} (a : Answers V) (number : T → ℕ) (w : ℕ) (log : List Turn) (m m' : Moment V T) → IsSession a number w log m m' → failures log ≡ 0 → m'.port_faults ≡ m.port_faults
+session_port_stays a number w [] m m' s none = ap (λ k. k.port_faults) s
+session_port_stays a number w (t ∷ log) m m' s none =
+    let sum = sum_by-cons (λ x. fails_of x.came) t log in
+    session_port_stays a number w log s.0 m' s.2 (omega (arith, sum, none)) ∙ s.1.port_stays (omega (arith, sum, none))
 
 rose_later : (x y z : ℕ) → x ≤ y → Rose y z → Rose x z
 rose_later x y z le r = omega (arith, le, r)
@@ -84,11 +97,6 @@ later_rose x y z r le = omega (arith, le, r)
 rises_by : (n k x y z : ℕ) → x ≤ y → y ≤ z → (0 < n → Rose x y) → (0 < k → Rose y z) → 0 < n + k → Rose x z
 rises_by zero k x y z le le' f g lt = rose_later x y z le (g (omega (arith, lt)))
 rises_by (suc n) k x y z le le' f g lt = later_rose x y z (f (omega arith)) le'
-
-session_failing : {V T : Type 0} (a : Answers V) (number : T → ℕ) (w : ℕ) (log : List Turn) (m m' : Moment V T) → IsSession a number w log m m' → 0 < failures log → Rose m.port_faults m'.port_faults
-session_failing a number w [] m m' s lt = absurd (omega (arith, lt))
-session_failing a number w (t ∷ log) m m' s lt =
-    rises_by (fails_of t.came) (failures log) m.port_faults s.0.port_faults m'.port_faults s.1.port_later (session_later a number w log s.0 m' s.2) s.1.failing (session_failing a number w log s.0 m' s.2) (subst (λ (k : ℕ). 0 < k) (sum_by-cons (λ x. fails_of x.came) t log) lt)
 
 refused_by : (b : Bool) → 0 < (if b then 1 else 0) → b ≡ true
 refused_by true lt = refl
@@ -144,17 +152,17 @@ log_of a number w log m m' s o = record {
   known = session_known a number w log m m' s;
   within = session_within a number w log m m' s;
   looks = session_looks a number w log m m' s;
-  failing = session_failing a number w log m m' s;
+  port_faults = session_failures a number w log m m' s;
+  port_stays = session_port_stays a number w log m m' s;
   refusal = session_refusal a number w log m m' s;
   stays = session_stays a number w log m m' s;
   missed = session_missed a number w log m m' s;
   count = session_count a number w log m m' s;
-  port_later = session_later a number w log m m' s;
 }
 
 -- a gate alone was asked
 log_gate : {V T : Type 0} (a : Answers V) (number : T → ℕ) (w : ℕ) (log : List Turn) (m mid : Moment V T) (gate : Option GateTold) (faults : ℕ) → IsLaneLog a number w log m mid → IsLaneLog a number w log m (record mid { gate = gate; gate_faults = faults })
-log_gate a number w log m mid gate faults c = record { run = c.run; told = c.told; port = c.port; notes = c.notes; rise = c.rise; known = c.known; within = c.within; looks = c.looks; failing = c.failing; refusal = c.refusal; stays = c.stays; missed = c.missed; count = c.count; port_later = c.port_later }
+log_gate a number w log m mid gate faults c = record { run = c.run; told = c.told; port = c.port; notes = c.notes; rise = c.rise; known = c.known; within = c.within; looks = c.looks; port_faults = c.port_faults; port_stays = c.port_stays; refusal = c.refusal; stays = c.stays; missed = c.missed; count = c.count }
 
 call_same : {V T : Type 0} (a : Answers V) (number : T → ℕ) (w turns : ℕ) (log : List Turn) (m mid m' : Moment V T) (e : Ended) → 0 < length m.eyes.told → IsSession a number w log m mid → IsEnd turns log e
     → ((shown : ℕ) → BothTell m.gate mid.gate (λ b c. c ≡ fold gate_turn b log) → BothTell m.gate mid.gate (IsGateRun shown log e)) → m' ≡ mid → IsLaneCall a number w turns m m' e

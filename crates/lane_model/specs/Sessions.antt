@@ -52,11 +52,11 @@ pub record IsTurn {V T : Type 0} (a : Answers V) (number : T → ℕ) (w : ℕ) 
   pub floor : t.known ≤ floor_after t.known t.came
   pub knows : floor_after t.known t.came < length m'.eyes.told
   pub looks : m'.eyes.looks ≡ raised m.eyes.looks (looks_of t.came)
-  pub port_later : m.port_faults ≤ m'.port_faults
+  pub port_faults : raised m.port_faults (fails_of t.came) ≤ m'.port_faults
+  pub port_stays : fails_of t.came ≡ 0 → m'.port_faults ≡ m.port_faults
   pub gate_later : m.gate_faults ≤ m'.gate_faults
   pub refusal : is_refused t.came ≡ true → Rose m.eyes.faults m'.eyes.faults
   pub stays : is_refused t.came ≡ false → m'.eyes.faults ≡ m.eyes.faults
-  pub failing : 0 < fails_of t.came → Rose m.port_faults m'.port_faults
 
 -- some turns, one after the other
 abbrev pub IsSession : {V T : Type 0} → Answers V → (T → ℕ) → ℕ → List Turn → Moment V T → Moment V T → Type 0
@@ -94,7 +94,7 @@ abbrev pub IsGateRun : ℕ → List Turn → Ended → GateTold → GateTold →
 IsGateRun shown log end.Stopped before after = IsTurning shown Stop (fold gate_turn before log) after
 IsGateRun shown log _ before after = after ≡ fold gate_turn before log
 
--- What a call of a lane promises, over the turns that it made: a lane run over what its viewer has seen by then; that what was told is minded; what port and notes tell by then; one look for each datagram that isn't silent; that nothing that was handed out is past what is known by then; that faults have their causes; that a datagram whose look was refused has a reply, which it missed; and that datagrams are counted on.
+-- What a call of a lane promises, over the turns that it made: a lane run over what its viewer has seen by then; that what was told is minded; what port and notes tell by then; one look for each datagram that isn't silent; that nothing that was handed out is past what is known by then; that the port's count rose by at least as many as its calls failed, and stands where none did; that the door's count rose where a look was refused, and stands where none was; that a datagram whose look was refused has a reply, which it missed; and that datagrams are counted on.
 pub record IsLaneLog {V T : Type 0} (a : Answers V) (number : T → ℕ) (w : ℕ) (log : List Turn) (m m' : Moment V T) : Type 0 where
   pub run : (floor : ℕ) → floor < length m.eyes.told → IsLaneRun a m'.eyes.seen w m.count floor (entries_of log) (tries_of log)
   pub told : (floor : ℕ) → floor < length m.eyes.told → IsTold floor log
@@ -104,12 +104,12 @@ pub record IsLaneLog {V T : Type 0} (a : Answers V) (number : T → ℕ) (w : �
   pub known : All (λ t. t.known < length m'.eyes.told) log
   pub within : All (λ t. floor_after t.known t.came < length m'.eyes.told) log
   pub looks : m'.eyes.looks ≡ raised m.eyes.looks (sum_by (λ t. looks_of t.came) log)
-  pub failing : 0 < failures log → Rose m.port_faults m'.port_faults
+  pub port_faults : raised m.port_faults (failures log) ≤ m'.port_faults
+  pub port_stays : failures log ≡ 0 → m'.port_faults ≡ m.port_faults
   pub refusal : 0 < sum_by (λ t. refused_of t.came) log → Rose m.eyes.faults m'.eyes.faults
   pub stays : sum_by (λ t. refused_of t.came) log ≡ 0 → m'.eyes.faults ≡ m.eyes.faults
   pub missed : All (λ t. (d : Packet) → t.came ≡ took d refused → a.silent d.octets ≡ false) log
   pub count : m'.count ≡ fold (λ n t. count_after n t.came) m.count log
-  pub port_later : m.port_faults ≤ m'.port_faults
 
 -- what a call of a lane promises
 pub record IsLaneCall {V T : Type 0} (a : Answers V) (number : T → ℕ) (w turns : ℕ) (m m' : Moment V T) (result : Ended) : Type 0 where

@@ -70,11 +70,11 @@ turn_of number w w1 n1 shown s e1 m m' is gate gl given rise looks faults same c
       floor = floor_up m'.eyes.seen w1 n1 q.known q.came r.came_is;
       knows = r.knows;
       looks = r.looks ∙ ap (λ x. raised x (looks_of q.came)) looks;
-      port_later = r.later;
+      port_faults = r.port_faults;
+      port_stays = r.port_stays;
       gate_later = gl;
       refusal = λ x. rose_later m.eyes.faults e1.faults m'.eyes.faults rise.faults (r.refusal x);
       stays = λ x. r.stays x ∙ faults;
-      failing = r.failing;
     }) q.step
 
 tells_itself : {A : Type 0} (x : Option A) → BothTell x x (λ b c. c ≡ b)
@@ -84,11 +84,14 @@ tells_itself (Some b) = refl
 raised_none : (n : ℕ) → n ≡ raised n 0
 raised_none n = omega arith
 
+rose_from : (x y z : ℕ) → y ≡ x → Rose y z → raised x 1 ≤ z
+rose_from x y z same r = omega (arith, same, r)
+
 -- a datagram that arrived, to which a reply was tried
-arrived_tried : (w n n' known len : ℕ) (buffer : List ℕ) (from : Peer) (went : Bool) (s : Step) (e g : Eyes Version) (p q r : Wire) → known + 1 ≡ length e.told → BothTell p.told q.told (IsRecv known buffer (Arrived len from)) → p.faults ≤ q.faults
+arrived_tried : (w n n' known len : ℕ) (buffer : List ℕ) (from : Peer) (went : Bool) (s : Step) (e g : Eyes Version) (p q r : Wire) → known + 1 ≡ length e.told → BothTell p.told q.told (IsRecv known buffer (Arrived len from))
     → (serial : ℕ) (octets : List ℕ) → IsTried w n (packet_in buffer len from) e g q r serial octets (record { octets = octets; to = from; serial = serial; went = went })
-    → (0 < fails_of (took (packet_in buffer len from) (tried serial octets went)) → Rose p.faults r.faults) → n' ≡ following n → s ≡ step_of (took (packet_in buffer len from) (tried serial octets went)) → IsTaken w n n' s e g p r
-arrived_tried w n n' known len buffer from went s e g p q r is recv later serial octets x failing count st = record {
+    → raised p.faults (fails_of (took (packet_in buffer len from) (tried serial octets went))) ≤ r.faults → (fails_of (took (packet_in buffer len from) (tried serial octets went)) ≡ 0 → r.faults ≡ p.faults) → n' ≡ following n → s ≡ step_of (took (packet_in buffer len from) (tried serial octets went)) → IsTaken w n n' s e g p r
+arrived_tried w n n' known len buffer from went s e g p q r is recv serial octets x faults stays count st = record {
   known = known;
   came = took (packet_in buffer len from) (tried serial octets went);
   received = record {
@@ -99,19 +102,19 @@ arrived_tried w n n' known len buffer from went s e g p q r is recv later serial
     rise = x.replied.rise;
     knows = omega (arith, x.replied.known);
     looks = x.looks;
-    later = let l = x.later in omega (arith, later, l);
     refusal = λ b. absurd (cc b);
     stays = λ b. x.replied.stays;
-    failing = failing;
+    port_faults = faults;
+    port_stays = stays;
   };
   count = count;
   step = st;
 }
 
 -- a datagram that arrived, and what became of it
-pub arrived : (w n n' known len : ℕ) (buffer : List ℕ) (from : Peer) (f : Fared) (s : Step) (e g : Eyes Version) (p q r : Wire) → known + 1 ≡ length e.told → BothTell p.told q.told (IsRecv known buffer (Arrived len from)) → p.faults ≤ q.faults
+pub arrived : (w n n' known len : ℕ) (buffer : List ℕ) (from : Peer) (f : Fared) (s : Step) (e g : Eyes Version) (p q r : Wire) → known + 1 ≡ length e.told → BothTell p.told q.told (IsRecv known buffer (Arrived len from)) → q.faults ≡ p.faults
     → IsFared w n (packet_in buffer len from) f e g q r → n' ≡ following n → s ≡ step_of_fared f → IsTaken w n n' s e g p r
-arrived w n n' known len buffer from fared.Silent s e g p q r is recv later x count st = record {
+arrived w n n' known len buffer from fared.Silent s e g p q r is recv same x count st = record {
   known = known;
   came = took (packet_in buffer len from) silent;
   received = record {
@@ -121,15 +124,15 @@ arrived w n n' known len buffer from fared.Silent s e g p q r is recv later x co
     rise = subst (λ (k : Eyes Version). IsRise e k) (sym x.1) (rise_none e);
     knows = subst (λ (k : Eyes Version). known < length k.told) (sym x.1) (omega (arith, is));
     looks = ap (λ k. k.looks) x.1 ∙ raised_none e.looks;
-    later = subst (λ (k : Wire). p.faults ≤ k.faults) (sym x.2) later;
     refusal = λ b. absurd (cc b);
     stays = λ b. ap (λ k. k.faults) x.1;
-    failing = λ b. absurd (omega (arith, b));
+    port_faults = subst (λ (k : Wire). raised p.faults 0 ≤ k.faults) (sym x.2) (omega (arith, same));
+    port_stays = λ none. ap (λ k. k.faults) x.2 ∙ same;
   };
   count = count;
   step = st;
 }
-arrived w n n' known len buffer from fared.Refused s e g p q r is recv later x count st = record {
+arrived w n n' known len buffer from fared.Refused s e g p q r is recv same x count st = record {
   known = known;
   came = took (packet_in buffer len from) refused;
   received = record {
@@ -139,15 +142,16 @@ arrived w n n' known len buffer from fared.Refused s e g p q r is recv later x c
     rise = rise_refused (packet_in buffer len from).octets e g x.0;
     knows = subst (λ (k : List Version). known < length k) (sym x.0.told) (omega (arith, is));
     looks = x.0.looks;
-    later = subst (λ (k : Wire). p.faults ≤ k.faults) (sym x.1) later;
     refusal = λ b. x.0.rose;
     stays = λ b. absurd (cc b);
-    failing = λ b. absurd (omega (arith, b));
+    port_faults = subst (λ (k : Wire). raised p.faults 0 ≤ k.faults) (sym x.1) (omega (arith, same));
+    port_stays = λ none. ap (λ k. k.faults) x.1 ∙ same;
   };
   count = count;
   step = st;
 }
-arrived w n n' known len buffer from fared.Sent s e g p q r is recv later x count st =
-    arrived_tried w n n' known len buffer from true s e g p q r is recv later x.0 x.1 x.2 (λ b. absurd (omega (arith, b))) count st
-arrived w n n' known len buffer from fared.Failed s e g p q r is recv later x count st =
-    arrived_tried w n n' known len buffer from false s e g p q r is recv later x.0 x.1 x.2 (λ b. rose_later p.faults q.faults r.faults later x.3) count st
+arrived w n n' known len buffer from fared.Sent s e g p q r is recv same x count st =
+    let stays : r.faults ≡ p.faults = x.3 ∙ same in
+    arrived_tried w n n' known len buffer from true s e g p q r is recv x.0 x.1 x.2 (omega (arith, stays)) (λ none. stays) count st
+arrived w n n' known len buffer from fared.Failed s e g p q r is recv same x count st =
+    arrived_tried w n n' known len buffer from false s e g p q r is recv x.0 x.1 x.2 (rose_from p.faults q.faults r.faults same x.3) (λ none. absurd (omega (arith, none))) count st

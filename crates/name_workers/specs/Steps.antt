@@ -25,13 +25,12 @@ pub record IsTried (w n : ℕ) (d : Packet) (e f : Eyes Version) (p q : Wire) (s
   pub looks : f.looks ≡ raised e.looks 1
   pub try_is : (t.octets ≡ octets) × (t.to ≡ d.from) × (t.serial ≡ serial)
   pub port : BothTell p.told q.told (λ b c. c ≡ trying t b)
-  pub later : p.faults ≤ q.faults
 
--- what became of a datagram that was taken
+-- What became of a datagram that was taken. The port's count rose where the reply did not go, and else stands.
 abbrev pub IsFared : ℕ → ℕ → Packet → Fared → Eyes Version → Eyes Version → Wire → Wire → Type 0
 IsFared w n d fared.Silent e f p q = (is_silent d.octets ≡ true) × (f ≡ e) × (q ≡ p)
 IsFared w n d fared.Refused e f p q = IsLookRefused d.octets e f × (q ≡ p)
-IsFared w n d fared.Sent e f p q = (serial : ℕ) × (octets : List ℕ) × IsTried w n d e f p q serial octets (record { octets = octets; to = d.from; serial = serial; went = true })
+IsFared w n d fared.Sent e f p q = (serial : ℕ) × (octets : List ℕ) × IsTried w n d e f p q serial octets (record { octets = octets; to = d.from; serial = serial; went = true }) × (q.faults ≡ p.faults)
 IsFared w n d fared.Failed e f p q = (serial : ℕ) × (octets : List ℕ) × IsTried w n d e f p q serial octets (record { octets = octets; to = d.from; serial = serial; went = false }) × Rose p.faults q.faults
 
 abbrev pub step_of_fared : Fared → Step
@@ -62,10 +61,10 @@ pub record IsReceived (w n known : ℕ) (came : Came) (e f : Eyes Version) (p q 
   pub rise : IsRise e f
   pub knows : floor_after known came < length f.told
   pub looks : f.looks ≡ raised e.looks (looks_of came)
-  pub later : p.faults ≤ q.faults
   pub refusal : is_refused came ≡ true → Rose e.faults f.faults
   pub stays : is_refused came ≡ false → f.faults ≡ e.faults
-  pub failing : 0 < fails_of came → Rose p.faults q.faults
+  pub port_faults : raised p.faults (fails_of came) ≤ q.faults
+  pub port_stays : fails_of came ≡ 0 → q.faults ≡ p.faults
 
 -- the same, of what came by then
 pub record IsTaken (w n n' : ℕ) (s : Step) (e f : Eyes Version) (p q : Wire) : Type 0 where
