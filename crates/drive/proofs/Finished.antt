@@ -54,11 +54,12 @@ done_over number turns first rest w m m' f served e n n' asked one c q over run 
       ending = c.ending;
       asked = asked;
       looks = omega (arith, c.all.looks, q.looks);
-      failing = c.all.failing;
+      port_faults = c.all.port_faults;
+      port_stays = c.all.port_stays;
       refusal = λ x. later_rose m.eyes.faults m'.eyes.faults f.faults (c.all.refusal x) q.rise.faults;
       missed = c.all.missed;
       learned = let known = prefix_length (first ∷ rest) f.told q.learned in omega (arith, one, known, rise.above);
-      rising = (rise.rising, c.all.port_later, rise.faults);
+      rising = (rise.rising, rise.faults);
       which = which;
     }
 

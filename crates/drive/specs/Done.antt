@@ -53,7 +53,7 @@ pub record IsOverPast (h over : List Version) (log : List Turn) (ended : Ended) 
   pub newest_is : newest + 1 ≡ length h
   pub ended_is : ended ≡ Above last newest
 
--- Lane w after a drive, whose worker knew the first version alone: the turns that it made, as a lane run; what was told; what port, gate and door tell, which was asked for no place; why it ended; that a datagram whose look was refused has a reply, which it missed; that the whole history was learned ahead of the closing look; and over which history it stands.
+-- Lane w after a drive, whose worker knew the first version alone: the turns that it made, as a lane run; what was told; what port, gate and door tell, which was asked for no place; why it ended; that its port's count rose by at least as many as its calls failed, and stands where none did; that a datagram whose look was refused has a reply, which it missed; that the whole history was learned ahead of the closing look; and over which history it stands.
 pub record IsDone (turns : ℕ) (first : Version) (rest : List Version) (w : ℕ) (before after : LaneTold) (ended : Ended) : Type 0 where
   pub log : List Turn
   pub over : List Version
@@ -68,9 +68,10 @@ pub record IsDone (turns : ℕ) (first : Version) (rest : List Version) (w : ℕ
   pub ending : IsEnd turns log served
   pub asked : after.asked ≡ before.asked
   pub looks : after.looks ≡ raised before.looks (sum_by (λ t. looks_of t.came) log + 1)
-  pub failing : 0 < failures log → Rose before.port_faults after.port_faults
+  pub port_faults : raised before.port_faults (failures log) ≤ after.port_faults
+  pub port_stays : failures log ≡ 0 → after.port_faults ≡ before.port_faults
   pub refusal : 0 < sum_by (λ t. refused_of t.came) log → Rose before.door_faults after.door_faults
   pub missed : All (λ t. (d : Packet) → t.came ≡ took d refused → is_silent d.octets ≡ false) log
   pub learned : length (first ∷ rest) ≤ after.greatest + 1
-  pub rising : (before.greatest ≤ after.greatest) × (before.port_faults ≤ after.port_faults) × (before.door_faults ≤ after.door_faults)
+  pub rising : (before.greatest ≤ after.greatest) × (before.door_faults ≤ after.door_faults)
   pub which : IsOverNewest (first ∷ rest) over log served ended before after ⊎ IsOverSeen first over served ended before after ⊎ IsOverPast (first ∷ rest) over log ended before after

@@ -17,7 +17,7 @@ use Rattle.drive.specs.Closing.{shut}
 use Rattle.drive.specs.Done.{IsDone, IsOverNewest, IsOverPast, IsOverSeen, LaneTold}
 use Rattle.drive.specs.Driven.{AreDone}
 use Rattle.glb.specs.declared.status.Status.TheVariants as status
-use Rattle.glb.specs.Causes.{AnyLane, HasCellFault, HasPortFault, HasTaken}
+use Rattle.glb.specs.Causes.{AnyLane, HasCellFault, HasEightPortFaults, HasTaken}
 use Rattle.glb.specs.Serve.{is_cell_fault, is_port_fault, is_spent, status_by, status_of}
 use Rattle.glb.proofs.Loads.{tell_weaker}
 
@@ -54,10 +54,10 @@ served_is turns first rest w b c e other d = go d.which
     go (inr (inl seen)) = shut_is e d.served other seen.ended_is
     go (inr (inr past)) = let clash : is_cell_fault (lane.Above past.last past.newest) ≡ false = subst (λ (x : Ended). is_cell_fault x ≡ false) past.ended_is other in absurd (cc)
 
-served_port : (turns : ℕ) (first : Version) (rest : List Version) (w : ℕ) (b c : LaneTold) → IsDone turns first rest w b c lane.PortFault → HasPortFault b c
+served_port : (turns : ℕ) (first : Version) (rest : List Version) (w : ℕ) (b c : LaneTold) → IsDone turns first rest w b c lane.PortFault → HasEightPortFaults b c
 served_port turns first rest w b c d =
     let eighth : failures d.log ≡ 8 = failed_last turns d.log (subst (IsEnd turns d.log) (served_is turns first rest w b c lane.PortFault refl d) d.ending) in
-    d.failing (omega (arith, eighth))
+    subst (λ (n : ℕ). raised b.port_faults n ≤ c.port_faults) eighth d.port_faults
 
 -- a port after some turns has given as many answers more
 took_one : (known : ℕ) (came : Came) (p : PortTold) → (port_after known came p).recvs ≡ raised p.recvs 1
@@ -125,9 +125,9 @@ any_done test P turns first rest w (e ∷ ends) (b ∷ before) (c ∷ after) f h
 any_done test P turns first rest w (e ∷ ends) [] after f h some = absurd h
 any_done test P turns first rest w (e ∷ ends) (b ∷ before) [] f h some = absurd h
 
-pub any_port : (turns : ℕ) (first : Version) (rest : List Version) (ends : List Ended) (before after : List LaneTold) → AreDone turns first rest 0 ends before after → list_any is_port_fault ends ≡ true → AnyLane (length ends) HasPortFault before after
+pub any_port : (turns : ℕ) (first : Version) (rest : List Version) (ends : List Ended) (before after : List LaneTold) → AreDone turns first rest 0 ends before after → list_any is_port_fault ends ≡ true → AnyLane (length ends) HasEightPortFaults before after
 any_port turns first rest ends before after h some =
-    any_done is_port_fault HasPortFault turns first rest 0 ends before after (λ w b c e is d. served_port turns first rest w b c (subst (IsDone turns first rest w b c) (is_port e is) d)) h some
+    any_done is_port_fault HasEightPortFaults turns first rest 0 ends before after (λ w b c e is d. served_port turns first rest w b c (subst (IsDone turns first rest w b c) (is_port e is) d)) h some
 
 pub any_spent : (turns : ℕ) (first : Version) (rest : List Version) (ends : List Ended) (before after : List LaneTold) → AreDone turns first rest 0 ends before after → list_any is_spent ends ≡ true → AnyLane (length ends) (HasTaken turns) before after
 any_spent turns first rest ends before after h some =

@@ -23,7 +23,7 @@ use Rattle.drive.specs.Done.{LaneTold}
 use Rattle.drive.specs.Driven.{Lent}
 use Rattle.glb.specs.declared.status.Status.{Status}
 use Rattle.glb.specs.declared.status.Status.TheVariants as status
-use Rattle.glb.specs.Causes.{AnyLane, AreSpent, HasCellFault, HasDoorFault, HasGiven, HasLaneCauses, HasPortFault, HasShown, HasTaken, IsPastMaps}
+use Rattle.glb.specs.Causes.{AnyLane, AreSpent, HasCellFault, HasDoorFault, HasEightPortFaults, HasGiven, HasLaneCauses, HasPortFault, HasShown, HasTaken, IsPastMaps}
 use Rattle.glb.specs.Outcome.{Outcome, RunsBy}
 use Rattle.glb.specs.Files.{Kind, IsRefused}
 use Rattle.glb.specs.Serve.{AreOpened, FirstDoorRose, IsFirstSession, IsOpening, IsPlaced, IsServed, IsSession, IsStarted, PlacedFirst, all_ready, is_cell_fault, is_port_fault, is_spent, status_by, status_of, then_failed}
@@ -82,6 +82,9 @@ any_from P Q (suc n) [] (y ∷ ys) (z ∷ zs) f b h = absurd b
 
 pub port_from : (n : ℕ) (xs ys zs : List LaneTold) → AreBegun xs ys → AnyLane n HasPortFault ys zs → AnyLane n HasPortFault xs zs
 port_from n xs ys zs b h = any_from HasPortFault HasPortFault n xs ys zs (λ x y z o r. omega (arith, o.port_faults, r)) b h
+
+eight_from : (n : ℕ) (xs ys zs : List LaneTold) → AreBegun xs ys → AnyLane n HasEightPortFaults ys zs → AnyLane n HasPortFault xs zs
+eight_from n xs ys zs b h = any_from HasEightPortFaults HasPortFault n xs ys zs (λ x y z o r. omega (arith, o.port_faults, r)) b h
 
 pub door_from : (n : ℕ) (xs ys zs : List LaneTold) → AreBegun xs ys → AnyLane n HasDoorFault ys zs → AnyLane n HasDoorFault xs zs
 door_from n xs ys zs b h = any_from HasDoorFault HasDoorFault n xs ys zs (λ x y z o r. omega (arith, o.door_faults, r)) b h
@@ -158,7 +161,7 @@ cell_ends feed.SinkFault p s c h = absurd (cc)
 -- a session that was started and served
 served_causes : (turns workers : ℕ) (listen : Listen) (first : Version) (before started after : Stage) (result : Status) → IsStarted listen workers first before started → IsServed turns workers first started after result → HasLaneCauses turns workers before.lent after.lent result
 served_causes turns workers listen first before started after result start served = record {
-  port = λ h. port_from workers before.lent.lanes started.lent.lanes after.lent.lanes begun (served.port h);
+  port = λ h. eight_from workers before.lent.lanes started.lent.lanes after.lent.lanes begun (served.port h);
   spent = λ h. spent_of (served.spent h);
   cell = λ h. cell_of h (any_parts (length (first ∷ served.driven.rest)) workers started.lent.lanes after.lent.lanes (served.cell h));
 }

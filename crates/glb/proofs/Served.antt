@@ -11,7 +11,7 @@ use Rattle.drive.specs.Done.{LaneTold}
 use Rattle.drive.specs.Driven.{AreEnds, IsDriven}
 use Rattle.glb.specs.declared.status.Status.{Status}
 use Rattle.glb.specs.Told.{Stage}
-use Rattle.glb.specs.Causes.{AnyLane, HasCellFault, HasPortFault, HasTaken}
+use Rattle.glb.specs.Causes.{AnyLane, HasCellFault, HasEightPortFaults, HasTaken}
 use Rattle.glb.specs.Serve.{IsServed, is_cell_fault, is_port_fault, is_spent, status_of}
 use Rattle.glb.specs.Starting.{at_place, status_at}
 use Rattle.glb.proofs.Causes.{any_cell, any_port, any_spent, cell_means, port_means, spent_means}
@@ -45,7 +45,7 @@ is_served turns workers first before after end places result (ends, as_many, are
       source_stays = stays;
       sink = sink;
       sink_stays = sink_stays;
-      port = λ h. of_workers HasPortFault (any_port turns first driven.rest ends before.lent.lanes after.lent.lanes driven.lanes (port_means end p s c (sym h ∙ is)));
+      port = λ h. of_workers HasEightPortFaults (any_port turns first driven.rest ends before.lent.lanes after.lent.lanes driven.lanes (port_means end p s c (sym h ∙ is)));
       spent = λ h. spent_by (spent_means end p s c (sym h ∙ is));
       cell = λ h. of_workers (HasCellFault (length (first ∷ driven.rest))) (any_cell turns first driven.rest ends before.lent.lanes after.lent.lanes driven.lanes (cell_means end p s c (sym h ∙ is)));
       later = later;

@@ -67,6 +67,8 @@ well_done turns first rest w b c e d well = elim d.which [
     told = d.told;
     port = d.port;
     gate = d.gate;
+    port_faults = d.port_faults;
+    port_stays = d.port_stays;
     ending = d.ending;
     well = subst (λ (x : Ended). (x ≡ lane.Stopped) ⊎ (x ≡ lane.PortEnd)) newest.ended_is well;
   }

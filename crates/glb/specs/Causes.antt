@@ -20,6 +20,10 @@ AnyLane (suc n) P _ _ = ⊥
 abbrev pub HasPortFault : LaneTold → LaneTold → Type 0
 HasPortFault before after = Rose before.port_faults after.port_faults
 
+-- the count of its port rose by eight
+abbrev pub HasEightPortFaults : LaneTold → LaneTold → Type 0
+HasEightPortFaults before after = raised before.port_faults 8 ≤ after.port_faults
+
 -- the count of its door rose
 abbrev pub HasDoorFault : LaneTold → LaneTold → Type 0
 HasDoorFault before after = Rose before.door_faults after.door_faults

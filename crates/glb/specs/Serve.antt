@@ -21,7 +21,7 @@ use Rattle.drive.specs.Driven.{IsDriven}
 use Rattle.glb.specs.declared.status.Status.{Status}
 use Rattle.glb.specs.declared.status.Status.TheVariants as status
 use Rattle.glb.specs.Words.{Service}
-use Rattle.glb.specs.Causes.{AnyLane, HasCellFault, HasPortFault, HasTaken}
+use Rattle.glb.specs.Causes.{AnyLane, HasCellFault, HasEightPortFaults, HasTaken}
 use Rattle.glb.specs.Outcome.{RunsBy}
 use Rattle.glb.specs.Told.{IsOutAlone, Stage, Surroundings}
 use Rattle.glb.specs.Files.{IsRefused, Says, only, topology_file}
@@ -80,11 +80,12 @@ FirstDoorRose before after = FirstDoor (λ b c. c ≡ raised b 1) before after
 abbrev pub FirstDoorStands : List LaneTold → List LaneTold → Type 0
 FirstDoorStands before after = FirstDoor (λ b c. c ≡ b) before after
 
--- a lane's port was opened there, and nothing else asked of the lane
+-- A lane's port was opened there, whose count of faults rose where that failed, and else stands. Nothing else was asked of the lane.
 pub record IsOpening (listen : Listen) (result : Opening) (before after : LaneTold) : Type 0 where
   pub port : BothTell before.port after.port (IsOpen listen result)
   pub later : before.port_faults ≤ after.port_faults
   pub cause : result ≡ opening.Failed → Rose before.port_faults after.port_faults
+  pub stays : result ≢ opening.Failed → after.port_faults ≡ before.port_faults
   pub rest : after ≡ record before { port = after.port; port_faults = after.port_faults }
 
 -- the ports of the first lanes were opened there in order, once each, with these results; the lanes behind them are untouched
@@ -138,7 +139,7 @@ pub record IsStarted (listen : Listen) (workers : ℕ) (first : Version) (before
   pub lent : after.lent ≡ record before.lent { lanes = after.lent.lanes; maps = after.lent.maps }
   pub rest : after ≡ record before { lent = after.lent }
 
--- The feed was worked and the first lanes were served, over one history of published maps that goes on from the first one. The status is that of their ends, and each fault came with what it is a fault of: the count of the feed, of an output, of a port or of a door, as many turns as there may be, or a serial that was not published. The feed's count stood where the feed did not end by its source's fault, and those of both outputs where it did not end by an output's.
+-- The feed was worked and the first lanes were served, over one history of published maps that goes on from the first one. The status is that of their ends, and each fault came with what it is a fault of: the count of the feed, of an output or of a door, eight more on that of a port, as many turns as there may be, or a serial that was not published. The feed's count stood where the feed did not end by its source's fault, and those of both outputs where it did not end by an output's.
 pub record IsServed (turns workers : ℕ) (first : Version) (before after : Stage) (result : Status) : Type 0 where
   pub end : FeedEnd
   pub ends : List Ended
@@ -149,7 +150,7 @@ pub record IsServed (turns workers : ℕ) (first : Version) (before after : Stag
   pub source_stays : end ≢ feed.SourceFault → after.feed_faults ≡ before.feed_faults
   pub sink : end ≡ feed.SinkFault → Rose before.out_faults after.out_faults ⊎ Rose before.maps_faults after.maps_faults
   pub sink_stays : end ≢ feed.SinkFault → (after.out_faults ≡ before.out_faults) × (after.maps_faults ≡ before.maps_faults)
-  pub port : result ≡ status.PortFault → AnyLane workers HasPortFault before.lent.lanes after.lent.lanes
+  pub port : result ≡ status.PortFault → AnyLane workers HasEightPortFaults before.lent.lanes after.lent.lanes
   pub spent : result ≡ status.Spent → (end ≡ feed.Spent) ⊎ AnyLane workers (HasTaken turns) before.lent.lanes after.lent.lanes
   pub cell : result ≡ status.CellFault → AnyLane workers (HasCellFault (length (first ∷ driven.rest))) before.lent.lanes after.lent.lanes
   pub later : (before.feed_faults ≤ after.feed_faults) × (before.out_faults ≤ after.out_faults) × (before.maps_faults ≤ after.maps_faults)

@@ -1,6 +1,6 @@
 -- What status 0 of `serve` says.
-use Rattle.std.specs.Prelude.{◌≡◌, ◌⊎◌, ℕ, zero, suc, ◌+◌, List, [], ◌∷◌, fold, map}
-use Rattle.outside.specs.Faults.{BothTell}
+use Rattle.std.specs.Prelude.{◌≡◌, ◌⊎◌, ℕ, zero, suc, ◌+◌, ◌≤◌, List, [], ◌∷◌, fold, map}
+use Rattle.outside.specs.Faults.{BothTell, raised}
 use Rattle.topology_text.specs.Plan.{IsPlan, Plan}
 use Rattle.published_map.specs.Version.{Version}
 use Rattle.lane_model.specs.declared.ended.Ended.{Ended}
@@ -9,7 +9,7 @@ use Rattle.lane_model.specs.Lanes.{IsLaneRun}
 use Rattle.lane_model.specs.Machine.{GoesOn}
 use Rattle.lane_model.specs.Replies.{replies}
 use Rattle.lane_model.specs.Sessions.{IsEnd, IsGateRun}
-use Rattle.lane_model.specs.Turns.{IsTold, Turn, entries_of, port_turn, tries_of}
+use Rattle.lane_model.specs.Turns.{IsTold, Turn, entries_of, failures, port_turn, tries_of}
 use Rattle.demand_feed.specs.declared.run.FeedEnd.TheVariants as feed
 use Rattle.mapper.specs.Feeding.{IsFeed}
 use Rattle.mapper.specs.Scenes.{IsPrinted, scene}
@@ -21,7 +21,7 @@ use Rattle.glb.specs.Told.{Stage, Surroundings}
 use Rattle.glb.specs.Files.{Says, topology_file}
 use Rattle.glb.specs.Serve.{IsFirstOf, IsPlaced, IsStarted}
 
--- A lane that ended well: in each turn its gate was asked and its port after that; each datagram with a reply was answered from a version of the history that is no older than what the lane had used or was told of; and it went on until its port's end or its gate's stop.
+-- A lane that ended well: in each turn its gate was asked and its port after that, whose count of faults rose by at least as many as its calls failed, and stands where none did; each datagram with a reply was answered from a version of the history that is no older than what the lane had used or was told of; and it went on until its port's end or its gate's stop.
 pub record IsWellDone (turns : ℕ) (history : List Version) (w : ℕ) (before after : LaneTold) : Type 0 where
   pub log : List Turn
   pub ended : Ended
@@ -30,6 +30,8 @@ pub record IsWellDone (turns : ℕ) (history : List Version) (w : ℕ) (before a
   pub told : IsTold 0 log
   pub port : BothTell before.port after.port (λ b c. c ≡ fold port_turn b log)
   pub gate : BothTell before.gate after.gate (IsGateRun shown log ended)
+  pub port_faults : raised before.port_faults (failures log) ≤ after.port_faults
+  pub port_stays : failures log ≡ 0 → after.port_faults ≡ before.port_faults
   pub ending : IsEnd turns log ended
   pub well : (ended ≡ Stopped) ⊎ (ended ≡ PortEnd)
 
