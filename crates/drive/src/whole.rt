@@ -145,7 +145,7 @@ fn serve_all<
         h.ended) 0 lanes.old lanes.new works.new.items }
 {
     let mut at = 0u32;
-    let _ = row.put(rt, &mut at, mapper.note());
+    let _ = row.put_shown(rt, &mut at, mapper.note());
     let mut desk = Desk {
         feed,
         out,

@@ -46,7 +46,7 @@ impl<J: Naming> Mapping for Feeding<'_, '_, J> {
 
     fn tell<R: Wait>(&mut self, rt: &R) {
         let note = self.maps.note();
-        let _ = self.row.put(rt, &mut self.at, note);
+        let _ = self.row.put_shown(rt, &mut self.at, note);
     }
 
     fn serial(&self) -> u64 {
