@@ -69,10 +69,8 @@ def run_command(shim, command, number, count, told=""):
     return done.returncode, done.stdout, done.stderr
 
 
-def free_port():
-    with socket.socket(socket.AF_INET, socket.SOCK_DGRAM) as probe:
-        probe.bind(("127.0.0.1", 0))
-        return probe.getsockname()[1]
+# below the ports that the system gives to clients, so that no client of another run is in the way
+FIRST_PORT = 20_000
 
 
 def ask_until_reply(process, port):
@@ -93,7 +91,7 @@ def ask_until_reply(process, port):
 
 def run_serve(shim, number, count, told=""):
     """Status, control text, texts of maps, and whether a client had a reply. The feed comes behind the first reply, or where there is none."""
-    port = free_port()
+    port = FIRST_PORT + number
     words = [GLB, "serve", "tree.toml", "--listen", f"127.0.0.1:{port}", "--workers", "2"]
     process = subprocess.Popen(words, cwd=FILES, env=environment(shim, number, count, told), stdin=subprocess.PIPE, stdout=subprocess.PIPE, stderr=subprocess.PIPE)
     replied = ask_until_reply(process, port)
