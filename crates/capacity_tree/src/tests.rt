@@ -1,7 +1,7 @@
 //! Loads by hand, on a small tree and on a chain of eight.
 
 use crate::Tree;
-use map_model::{Choice, ClientGroup, Instance, Node, NodeId};
+use map_model::{Choice, ClientGroup, Instance, NO_LIMIT, Node, NodeId};
 use std::alloc::Global;
 use std::test::Fail;
 
@@ -20,7 +20,8 @@ fn instance(alloc: Global) -> Result<Instance, Fail> {
     let choices = vec![in alloc;
         Choice {
             pool: NodeId(2),
-            score: 1
+            score: 1,
+            limit: NO_LIMIT
         },
     ]?;
     let groups = vec![in alloc; ClientGroup::new(1, choices)]?;

@@ -1,18 +1,19 @@
 -- Units of a better offer in place of as many of the worst one under a full node.
-use Rattle.std.proofs.Common.{◌≡◌, ℕ, ◌+◌, ◌<◌, ◌≤◌, Bool, true, false, not, ◌&&◌, if◌then◌else◌, List, length, IsSome, refl, ap, ◌∙◌, inl, inr, ◌⊎◌, arith}
-use Rattle.std.proofs.lemmas.Bool.{and_from, and_parts, cases_Bool}
+use Rattle.std.proofs.Common.{◌≡◌, ℕ, ◌+◌, ◌<◌, ◌≤◌, ◌==◌, Bool, true, false, not, ◌&&◌, if◌then◌else◌, List, length, IsSome, refl, ap, subst, ◌∙◌, inl, inr, ◌⊎◌, arith}
+use Rattle.std.proofs.lemmas.Bool.{and_from, and_parts, cases_Bool, eq-eqb, eqb-true}
 use Rattle.map_model.specs.declared.instance.Key.{Key}
 use Rattle.map_model.specs.declared.lines.MapLine.{MapLine}
-use Rattle.map_model.specs.Market.{Market, IsMarket, capacity_of, key_of, pool_of}
-use Rattle.map_model.specs.Allocation.{AreLines, IsOffer, counts_at, is_under, key_le, load, refuser_of, units_of}
+use Rattle.map_model.specs.Market.{Market, IsMarket, capacity_of, key_of, limit_of, pool_of}
+use Rattle.map_model.specs.Allocation.{AreLines, IsOffer, amount_at, counts_at, is_under, key_le, load, refuser_of, refusing_node, units_of}
 use Rattle.map_model.specs.Holding.{IsSaturated, under_within, under_worse}
 use Rattle.map_model.proofs.Keys.{key_le_itself, key_le_trans}
 use Rattle.map_model.proofs.Paths.{pool_there}
+use Rattle.map_model.proofs.Refused.{refused_either, refused_limit, refused_node}
 use Rattle.map_model.proofs.Trees.{comparable, under_itself, under_there, under_trans}
 use Rattle.evict.specs.Putting.{IsSettled}
 use Rattle.evict.specs.Standing.{KeepsRefusals}
 use Rattle.evict.proofs.Evictions.{within-all}
-use Rattle.evict.proofs.Refusals.{refusals_kept, refused_at, refused_by}
+use Rattle.evict.proofs.Refusals.{full_from_saturated, refusals_kept, refused_at, refused_by}
 
 -- some units of (h, j), the worst offer under the full node n, gave way to as many of (g, k), which is better and stands under n too
 pub record IsExchange (m : Market) (old new : List MapLine) (n g k h j units : ℕ) : Type 0 where
@@ -67,10 +68,33 @@ exchange_settled m market old new n g k h j units x = record { fits = x.fits; ke
 pub exchange_keeps : (m : Market) → IsMarket m → (old new : List MapLine) (n g k h j units : ℕ) → IsExchange m old new n g k h j units → AreLines m old → AreLines m new → KeepsRefusals m old new
 exchange_keeps m market old new n g k h j units x form form' = refusals_kept m market old new form form' (exchange_settled m market old new n g k h j units x)
 
--- an offer that some node refused is refused still
-pub refused_still : (m : Market) → IsMarket m → (old new : List MapLine) → KeepsRefusals m old new → (g k : ℕ) → IsOffer m g k → IsSome (refuser_of m old g k) → IsSome (refuser_of m new g k)
-refused_still m market old new kept g k o some =
+-- an offer that some node refused is refused by one still
+node_still : (m : Market) → IsMarket m → (old new : List MapLine) → KeepsRefusals m old new → (g k : ℕ) → IsOffer m g k → IsSome (refusing_node m old g k) → IsSome (refusing_node m new g k)
+node_still m market old new kept g k o some =
     let w = refused_by m old g k some in
     let pool = pool_there m market g k o in
     let v = kept w.0 (key_of m g k) (under_there m market w.0 (pool_of m g k) pool w.1) w.2 in
     refused_at m new g k v.0 (under_trans m market v.0 w.0 (pool_of m g k) pool v.1 w.1) v.2
+
+-- the offer that gave way is refused by the node
+pub exchange_turned : (m : Market) → IsMarket m → (old new : List MapLine) (n g k h j units : ℕ) → IsExchange m old new n g k h j units → AreLines m new → IsSome (refusing_node m new h j)
+exchange_turned m market old new n g k h j units x form =
+    let there = under_there m market n (pool_of m h j) (pool_there m market h j x.loser) x.under in
+    refused_at m new h j n x.under (full_from_saturated m new n (key_of m h j) form (x.fits n there) (still_full m old new n g k h j units x (key_of m h j) (key_le_itself (key_of m h j))))
+
+-- an offer that was refused is refused still, where all amounts are within limits: one at its limit gave up nothing, or gave way
+pub refused_still : (m : Market) → IsMarket m → (old new : List MapLine) (n g k h j units : ℕ) → IsExchange m old new n g k h j units → AreLines m old → AreLines m new → ((a b : ℕ) → IsOffer m a b → amount_at new a b ≤ limit_of m a b)
+    → (a b : ℕ) → IsOffer m a b → IsSome (refuser_of m old a b) → IsSome (refuser_of m new a b)
+refused_still m market old new n g k h j units x form form' limits a b o some = elim (refused_either m old a b some) [
+  | inr node ↦ refused_node m new a b (node_still m market old new (exchange_keeps m market old new n g k h j units x form form') a b o node)
+  | inl full ↦ elim (cases_Bool ((h == a) && (j == b))) [
+    | inl e ↦
+        let p = and_parts (h == a) (j == b) e in
+        refused_node m new a b (subst (λ y. IsSome (refusing_node m new a y)) (eqb-true j b p.1) (subst (λ y. IsSome (refusing_node m new y j)) (eqb-true h a p.0) (exchange_turned m market old new n g k h j units x form')))
+    | inr e ↦
+        let gone : (if (h == a) && (j == b) then units else 0) ≡ 0 = ap (λ c. if c then units else 0) e in
+        let was : amount_at old a b ≡ limit_of m a b = eqb-true (amount_at old a b) (limit_of m a b) full in
+        let now : amount_at new a b ≡ limit_of m a b = omega (arith, x.held (λ y z. (y == a) && (z == b)), gone, was, limits a b o) in
+        refused_limit m new a b (eq-eqb (amount_at new a b) (limit_of m a b) now)
+  ]
+]

@@ -40,7 +40,7 @@ placed-le-through m (l ∷ ls) g k offers none =
 pub finished : (m : Market) (state : Standing) (names : List NameLine) → IsReady m state → IsEnded m state.pointers state.free → names ≡ names_of m state.lines → IsGood m state.lines names
 finished m state names ready ended named =
     let r = ready.resumable in
-    record { form = r.form; feasible = record { demands = λ g l. omega (arith, r.totals g l); capacities = r.capacities }; stable = λ g k o w. r.refused g k o (before g k o (ltb-true _ _ w)); named = named }
+    record { form = r.form; feasible = record { demands = λ g l. omega (arith, r.totals g l); capacities = r.capacities; limits = r.limits }; stable = λ g k o w. r.refused g k o (before g k o (ltb-true _ _ w)); named = named }
   where
     before : (g k : ℕ) → IsOffer m g k → placed_through state.lines g k < demand_of m g → k < slice_index state.pointers g
     before g k o wanted = elim (cases_lt k (slice_index state.pointers g)) [

@@ -5,6 +5,8 @@ pub mod Proposed
 pub mod Listed
 pub mod Finished
 pub mod Within
+pub mod Skips
+pub mod Offering
 pub mod Past
 pub mod Exchange
 pub mod Nearest

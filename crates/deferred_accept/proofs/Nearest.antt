@@ -67,11 +67,11 @@ worst_one m market lines n g k units h j more w v =
 pool_in : (m : Market) → IsMarket m → (f g k : ℕ) → f < length m.nodes → pool_of m g k < length m.nodes
 pool_in m market f g k there = elim (cases_lt g (length m.groups)) [
   | inr past ↦
-      let none : pool_of m g k ≡ 0 = ap (λ (x : Group). (slice_index_or x.choices k (record { pool = record { 0 = 0 }; score = 0 })).pool.0) (get_or_past m.groups g (record { demand = 0; choices = [] }) past) in
+      let none : pool_of m g k ≡ 0 = ap (λ (x : Group). (slice_index_or x.choices k (record { pool = record { 0 = 0 }; score = 0; limit = 0 })).pool.0) (get_or_past m.groups g (record { demand = 0; choices = [] }) past) in
       omega arith
   | inl l ↦ elim (cases_lt k (length (choices_of m g))) [
     | inr past ↦
-        let none : pool_of m g k ≡ 0 = ap (λ (c : Choice). c.pool.0) (get_or_past (choices_of m g) k (record { pool = record { 0 = 0 }; score = 0 }) past) in
+        let none : pool_of m g k ≡ 0 = ap (λ (c : Choice). c.pool.0) (get_or_past (choices_of m g) k (record { pool = record { 0 = 0 }; score = 0; limit = 0 }) past) in
         omega arith
     | inl l' ↦ pool_there m market g k (record { group = l; place = l' })
   ]

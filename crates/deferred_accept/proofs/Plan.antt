@@ -1,13 +1,14 @@
 -- Hops of so many units each, made one after another, are proposals.
-use Rattle.std.proofs.Common.{◌≡◌, ℕ, zero, suc, ◌+◌, ◌<◌, ◌≤◌, ◌==◌, Bool, true, false, not, ◌&&◌, if◌then◌else◌, List, [], ◌∷◌, ◌++◌, length, map, take, slice_index, slice_index_or, All, IsTrue, ◌⊎◌, refl, sym, ap, ◌∙◌, subst, inl, inr, arith}
+use Rattle.std.proofs.Common.{◌≡◌, ℕ, zero, suc, ◌+◌, ◌<◌, ◌≤◌, ◌==◌, Bool, true, false, not, ◌&&◌, if◌then◌else◌, List, [], ◌∷◌, ◌++◌, length, map, take, slice_index, slice_index_or, All, IsSome, IsTrue, ◌⊎◌, refl, sym, ap, ◌∙◌, subst, inl, inr, arith}
 use Rattle.std.proofs.lemmas.Bool.{and_parts, cases_Bool, cases_eq, eq-eqb, eqb-true, false≢true, ne_eqb}
 use Rattle.std.proofs.lemmas.List.{get_or-map, get_or_append_left, length-map}
 use Rattle.std.proofs.lemmas.List.Elements.{All-cons, All-nil, All-take}
-use Rattle.std.proofs.lemmas.List.Sums.{sum_by-cons, sum_by_more_le, sum_by_push}
+use Rattle.std.proofs.lemmas.List.Sums.{sum_by-cons, sum_by-take-le, sum_by_more_le, sum_by_push}
+use Rattle.std.proofs.Math.Nat.{min-eq_left}
 use Rattle.std.proofs.Math.Seq.{take-suc}
 use Rattle.map_model.specs.declared.lines.MapLine.{MapLine}
-use Rattle.map_model.specs.Market.{Market, IsSameShape, capacity_of, choices_of, key_of}
-use Rattle.map_model.specs.Allocation.{AreLines, IsOffer, amount_at, counts_at, key_le, load, units_of}
+use Rattle.map_model.specs.Market.{Market, IsSameShape, capacity_of, choices_of, key_of, limit_of}
+use Rattle.map_model.specs.Allocation.{AreLines, IsOffer, amount_at, counts_at, key_le, load, refusing_node, units_of}
 use Rattle.map_model.specs.Holding.{under_worse}
 use Rattle.map_model.proofs.Keys.{key_le_total}
 use Rattle.evict.specs.declared.freed.Eviction.{Eviction}
@@ -15,10 +16,11 @@ use Rattle.evict.specs.declared.rival.Rival.{Rival}
 use Rattle.evict.specs.Evictions.{IsEviction, freed_units, gave_up}
 use Rattle.evict.specs.Standing.{IsPut, IsReady, Standing}
 use Rattle.deferred_accept.specs.declared.circle.Hop.{Hop}
-use Rattle.deferred_accept.specs.Runs.{AreProposals, IsProposal}
+use Rattle.evict.proofs.Done.{gave_up_each}
+use Rattle.deferred_accept.specs.Runs.{AreProposals, IsProposal, offered}
 use Rattle.deferred_accept.specs.Turning.{IsHop, came, displaced, gone, hopper, raises}
 use Rattle.deferred_accept.proofs.Amounts.{carried, moved}
-use Rattle.deferred_accept.proofs.Exchange.{IsExchange, exchange_keeps, refused_still}
+use Rattle.deferred_accept.proofs.Exchange.{IsExchange, exchange_keeps, exchange_turned, refused_still}
 use Rattle.deferred_accept.proofs.Nearest.{hop_better}
 use Rattle.deferred_accept.proofs.Rounds.{sums-le, sums-none, sums-part, sums-same}
 
@@ -26,7 +28,7 @@ use Rattle.deferred_accept.proofs.Rounds.{sums-le, sums-none, sums-part, sums-sa
 abbrev pub lowers : Market → ℕ → Hop → Bool
 lowers m n hop = counts_at m n hop.rival.offer.group.0 hop.rival.offer.place && not (counts_at m n hop.offer.group.0 hop.offer.place)
 
--- Hops that may be made one after another from a state, of so many units each, which the group of the first one has free and the last one gives back to it. Each is a hop in that state; none changes the load at the full node of another, and no two change that of one node in different directions; at the end all is within capacity, and no offer gave up more than it held.
+-- Hops that may be made one after another from a state, of so many units each, which the group of the first one has free and the last one gives back to it. Each is a hop in that state; none changes the load at the full node of another, and no two change that of one node in different directions; at the end all is within capacity and within limits, and no offer gave up more than it held.
 pub record IsPlan (m : Market) (s : Standing) (start : ℕ) (plan : List Hop) (x : ℕ) : Type 0 where
   pub ready : IsReady m s
   pub some : 0 < x
@@ -37,6 +39,7 @@ pub record IsPlan (m : Market) (s : Standing) (start : ℕ) (plan : List Hop) (x
   pub level : All (λ (f : Hop). All (λ (h : Hop). counts_at m f.rival.node.0 h.offer.group.0 h.offer.place ≡ counts_at m f.rival.node.0 h.rival.offer.group.0 h.rival.offer.place) plan) plan
   pub signs : (n : ℕ) → All (λ (h : Hop). raises m n h ≡ false) plan ⊎ All (λ (h : Hop). lowers m n h ≡ false) plan
   pub fits : (n : ℕ) → n < length m.nodes → load m s.lines n + came (counts_at m n) x plan ≤ capacity_of m n + gone (counts_at m n) x plan
+  pub limits : (g k : ℕ) → IsOffer m g k → amount_at s.lines g k + came (λ h j. (h == g) && (j == k)) x plan ≤ limit_of m g k
   pub enough : All (λ (h : Hop). gone (λ g k. (g == h.rival.offer.group.0) && (k == h.rival.offer.place)) x plan ≤ amount_at s.lines h.rival.offer.group.0 h.rival.offer.place) plan
 
 -- the group that has the units free after so many hops
@@ -87,6 +90,11 @@ within m s start plan x n t p q c l = elim (p.signs c) [
       (λ i d li. if-le _ _ x (none i d li)) in
       omega (arith, q.held (counts_at m c), p.fits c l, up)
 ]
+
+-- and so is all within limits: an offer has the most at the end
+within_limits : (m : Market) (s : Standing) (start : ℕ) (plan : List Hop) (x n : ℕ) (t : Standing) → IsPlan m s start plan x → IsPlanned m s start plan x n t → (g k : ℕ) → IsOffer m g k → amount_at t.lines g k ≤ limit_of m g k
+within_limits m s start plan x n t p q g k o =
+    omega (arith, q.held (λ h j. (h == g) && (j == k)), p.limits g k o, sum_by-take-le (λ (h : Hop). if (h.offer.group.0 == g) && (h.offer.place == k) then x else 0) plan n)
 
 -- the group that has the units free is that of the next hop
 carrier-next : (m : Market) (s : Standing) (start : ℕ) (plan : List Hop) (x n : ℕ) (d : Hop) → IsPlan m s start plan x → n < length plan → carrier start plan n ≡ hopper (slice_index_or plan n d)
@@ -210,10 +218,11 @@ ready_step m s t u start plan x n d e = record {
     pointers_for = ap length e.new.pointers ∙ e.hops.ready.resumable.pointers_for;
     free_for = e.new.count;
     capacities = within m s start plan x (suc n) u e.hops e.new;
+    limits = within_limits m s start plan x (suc n) u e.hops e.new;
     totals = λ h l. omega (arith, held_step m s t u start plan x n d e (λ g _. g == h), free_step m s t u start plan x n d e h l, e.ready.resumable.totals h l);
     in_list = λ h l. subst (λ p. p ≤ length (choices_of m h)) (sym (pointer h)) (e.ready.resumable.in_list h l);
     none_past = λ h j o past. none h j o (subst (λ p. p < j) (pointer h) past);
-    refused = λ h j o before. refused_still m e.hops.ready.market t.lines u.lines (exchange_keeps m e.hops.ready.market t.lines u.lines _ _ _ _ _ x (exchange m s t u start plan x n d e) e.old.form e.new.form) h j o
+    refused = λ h j o before. refused_still m e.hops.ready.market t.lines u.lines _ _ _ _ _ x (exchange m s t u start plan x n d e) e.old.form e.new.form (within_limits m s start plan x (suc n) u e.hops e.new) h j o
         (e.ready.resumable.refused h j o (subst (λ p. j < p) (pointer h) before));
   };
 }
@@ -243,7 +252,8 @@ proposal m s t u start plan x n d e = record {
     free = omega (arith, units, e.hops.some);
     place = subst (λ p. p < length (choices_of m (hopper hop))) at is.offer.place;
   };
-  put = subst (λ k. IsPut m t u (hopper hop) k (slice_index t.free (hopper hop)) (lost ∷ [])) at (subst (λ v. IsPut m t u (hopper hop) hop.offer.place v (lost ∷ [])) (sym units) put);
+  some = omega (arith, offers, e.hops.some);
+  put = subst (λ k. IsPut m t u (hopper hop) k (offered m t (hopper hop)) (lost ∷ [])) at (subst (λ v. IsPut m t u (hopper hop) hop.offer.place v (lost ∷ [])) (sym offers) put);
 }
   where
     hop : Hop
@@ -261,6 +271,26 @@ proposal m s t u start plan x n d e = record {
     units : slice_index t.free (hopper hop) ≡ x
     units = free_here m s t start plan x n d e.hops e.old e.there
 
+    -- there is room for them under the limit
+    room : amount_at t.lines (hopper hop) hop.offer.place + x ≤ limit_of m (hopper hop) hop.offer.place
+    room =
+        let test : ℕ → ℕ → Bool = λ g k. (g == hopper hop) && (k == hop.offer.place) in
+        let this : (if test (hopper hop) hop.offer.place then x else 0) ≡ x = rw (eq-eqb (hopper hop) (hopper hop) refl, eq-eqb hop.offer.place hop.offer.place refl) refl in
+        omega (
+          arith,
+          e.old.held test,
+          came-more test x plan n d e.there,
+          this,
+          e.hops.limits (hopper hop) hop.offer.place is.offer,
+          sum_by-take-le (λ (h : Hop). if test h.offer.group.0 h.offer.place then x else 0) plan (suc n),
+        )
+
+    offers : offered m t (hopper hop) ≡ x
+    offers =
+        let fits : amount_at t.lines (hopper hop) (slice_index t.pointers (hopper hop)) + x ≤ limit_of m (hopper hop) (slice_index t.pointers (hopper hop))
+        = subst (λ k. amount_at t.lines (hopper hop) k + x ≤ limit_of m (hopper hop) k) at room in
+        min-eq_left (omega (arith, fits, units)) ∙ units
+
     one : (test : ℕ → ℕ → Bool) → freed_units test (lost ∷ []) ≡ (if test hop.rival.offer.group.0 hop.rival.offer.place then x else 0)
     one test = omega (arith, sum_by-cons (λ (v : Eviction). if test v.offer.group.0 v.offer.place then v.units else 0) lost [])
 
@@ -273,6 +303,9 @@ proposal m s t u start plan x n d e = record {
           absurd (omega (arith, is.behind, same, eqb-true hop.rival.offer.place (slice_index t.pointers h) p.1))
     ]
 
+    gone_away : IsSome (refusing_node m u.lines hop.rival.offer.group.0 hop.rival.offer.place)
+    gone_away = exchange_turned m e.hops.ready.market t.lines u.lines _ _ _ _ _ x (exchange m s t u start plan x n d e) e.new.form
+
     put : IsPut m t u (hopper hop) hop.offer.place x (lost ∷ [])
     put = record {
       ready = ready_step m s t u start plan x n d e;
@@ -281,6 +314,7 @@ proposal m s t u start plan x n d e = record {
       free = λ h l. omega (arith, free_step m s t u start plan x n d e h l, one (λ g _. g == h));
       pointers = λ h l. ap (λ ps. slice_index ps h) (e.new.pointers ∙ sym e.old.pointers) ∙ sym (ap (λ b. if b then slice_index t.pointers h + 1 else slice_index t.pointers h) (stays h));
       refusals = exchange_keeps m e.hops.ready.market t.lines u.lines _ _ _ _ _ x (exchange m s t u start plan x n d e) e.old.form e.new.form;
+      turned = λ h j o gave. gave_up_each (λ y z. IsSome (refusing_node m u.lines y z)) (lost ∷ []) h j (All-cons (λ (v : Eviction). IsSome (refusing_node m u.lines v.offer.group.0 v.offer.place)) lost [] gone_away (All-nil (λ (v : Eviction). IsSome (refusing_node m u.lines v.offer.group.0 v.offer.place)))) gave;
     }
 
 -- the state after one hop more is there
@@ -315,15 +349,15 @@ next_state m s t start plan x n d p q l = (
 
 -- The first n hops of a plan are proposals that lead to some state.
 planned : (m : Market) (s : Standing) (start : ℕ) (plan : List Hop) (x : ℕ) (d : Hop) → IsPlan m s start plan x → (n : ℕ) → n ≤ length plan → (t : Standing) × AreProposals m n s t × IsReady m t × IsPlanned m s start plan x n t
-planned m s start plan x d p zero l = (s, refl, p.ready, record { whole = p.ready.whole; shape = p.ready.shape; form = p.ready.resumable.form; pointers = refl; count = p.ready.resumable.free_for; free = λ h lh. refl; held = λ test. refl })
+planned m s start plan x d p zero l = (s, (0, refl), p.ready, record { whole = p.ready.whole; shape = p.ready.shape; form = p.ready.resumable.form; pointers = refl; count = p.ready.resumable.free_for; free = λ h lh. refl; held = λ test. refl })
 planned m s start plan x d p (suc n) l =
     let before = planned m s start plan x d p n (omega arith) in
     let after = next_state m s before.0 start plan x n d p before.3 (omega arith) in
     let step : IsStep m s before.0 after.0 start plan x n d = record { hops = p; there = omega arith; ready = before.2; old = before.3; new = after.1 } in
-    (after.0, (before.0, before.1, proposal m s before.0 after.0 start plan x n d step), ready_step m s before.0 after.0 start plan x n d step, after.1)
+    (after.0, (before.0, after.0, 0, before.1, proposal m s before.0 after.0 start plan x n d step, refl), ready_step m s before.0 after.0 start plan x n d step, after.1)
 
 -- So all hops of a plan are proposals that lead to any state as if they had been made.
 pub proposals : (m : Market) (s new : Standing) (start : ℕ) (plan : List Hop) (x n : ℕ) (d : Hop) → IsPlan m s start plan x → length plan ≡ suc n → IsPlanned m s start plan x (suc n) new → AreProposals m (suc n) s new
 proposals m s new start plan x n d p count q =
     let before = planned m s start plan x d p n (omega arith) in
-    (before.0, before.1, proposal m s before.0 new start plan x n d (record { hops = p; there = omega arith; ready = before.2; old = before.3; new = q }))
+    (before.0, new, 0, before.1, proposal m s before.0 new start plan x n d (record { hops = p; there = omega arith; ready = before.2; old = before.3; new = q }), refl)

@@ -1,10 +1,11 @@
 -- How many proposals were made, and the counter.
-use Rattle.std.proofs.Common.{◌≡◌, ℕ, ◌+◌, ◌-◌, ◌^◌, ◌<◌, ◌≤◌, ◌==◌, nat_lt, false, List, if◌then◌else◌, slice_index, suc, refl, sym, ap, ◌∙◌, subst, inl, inr, arith}
+use Rattle.std.proofs.Common.{◌≡◌, ℕ, zero, ◌+◌, ◌-◌, ◌^◌, ◌<◌, ◌≤◌, ◌==◌, nat_lt, false, List, if◌then◌else◌, suc, refl, sym, ap, ◌∙◌, inl, inr, arith}
 use Rattle.std.proofs.lemmas.Bool.{cases_lt, eq-eqb, le-ltb, lt-ltb, ne_eqb}
 use Rattle.map_model.specs.Market.{Market}
 use Rattle.evict.specs.declared.freed.Eviction.{Eviction}
-use Rattle.evict.specs.Standing.{IsPut, Standing}
-use Rattle.deferred_accept.specs.Runs.{HasProposed, IsWaiting}
+use Rattle.evict.specs.Standing.{Standing}
+use Rattle.deferred_accept.specs.Runs.{AreProposals, HasProposed, IsSkip}
+use Rattle.deferred_accept.specs.Work.{HasOffered}
 
 -- a counter that rose by a number, and stands still at its end
 abbrev pub risen : ℕ → ℕ → ℕ
@@ -52,13 +53,21 @@ risen_twice before k n was now l so then' = elim (cases_lt (before + k) (2 ^ 64)
 
 -- no proposal yet
 pub proposed_none : (m : Market) (start : Standing) (before : ℕ) → HasProposed m start start before before
-proposed_none m start before = record { count = 0; proposals = refl; counted = λ l. omega (arith, below before 0 (omega arith)) }
+proposed_none m start before = record { count = 0; proposals = (0, refl); counted = λ l. omega (arith, below before 0 (omega arith)) }
 
 -- one proposal more
-pub proposed_more : (m : Market) (start old new : Standing) (g k units : ℕ) (freed : List Eviction) (before was now : ℕ) → HasProposed m start old before was → IsWaiting m old g → k ≡ slice_index old.pointers g → units ≡ slice_index old.free g
-    → IsPut m old new g k units freed → now ≡ (if was == 2 ^ 64 - 1 then was else was + 1) → HasProposed m start new before now
-proposed_more m start old new g k units freed before was now sofar waits at all put tick = record {
+pub proposed_more : (m : Market) (start old new : Standing) (g : ℕ) (freed : List Eviction) (before was now : ℕ) → HasProposed m start old before was → HasOffered m old new g freed was now → HasProposed m start new before now
+proposed_more m start old new g freed before was now sofar made = record {
   count = suc sofar.count;
-  proposals = (old, sofar.proposals, record { group = g; freed = freed; waiting = waits; put = subst (λ u. IsPut m old new g (slice_index old.pointers g) u freed) all (subst (λ p. IsPut m old new g p units freed) at put) });
-  counted = λ l. ticked before sofar.count was now (sofar.counted l) tick;
+  proposals = (old, new, 0, sofar.proposals, record { group = g; freed = freed; waiting = made.waiting; some = made.some; put = made.put }, refl);
+  counted = λ l. ticked before sofar.count was now (sofar.counted l) made.counted;
 }
+
+-- a place that is skipped after some proposals
+skip_more : (m : Market) (n : ℕ) (start old new : Standing) → AreProposals m n start old → IsSkip m old new → AreProposals m n start new
+skip_more m zero start old new made skip = (suc made.0, (old, made.1, skip))
+skip_more m (suc n) start old new made skip = (made.0, made.1, suc made.2, made.3, made.4, (old, made.5, skip))
+
+-- is not counted
+pub proposed_skip : (m : Market) (start old new : Standing) (before was : ℕ) → HasProposed m start old before was → IsSkip m old new → HasProposed m start new before was
+proposed_skip m start old new before was sofar skip = record { count = sofar.count; proposals = skip_more m sofar.count start old new sofar.proposals skip; counted = sofar.counted }

@@ -5,8 +5,8 @@ use Rattle.std.proofs.lemmas.Bool.{and_parts, eq-eqb, eqb-true, not-true, or_cas
 use Rattle.std.proofs.lemmas.List.Elements.{All-cons, All-head, All-more, All-nil}
 use Rattle.std.proofs.lemmas.List.Folds.{list_any_at, list_any_more}
 use Rattle.map_model.specs.declared.instance.NodeId.{NodeId}
-use Rattle.map_model.specs.Market.{Market, IsMarket, capacity_of, path, pool_of}
-use Rattle.map_model.specs.Allocation.{IsOffer, is_under, load}
+use Rattle.map_model.specs.Market.{Market, IsMarket, capacity_of, limit_of, path, pool_of}
+use Rattle.map_model.specs.Allocation.{IsOffer, amount_at, is_under, load}
 use Rattle.map_model.proofs.Paths.{pool_there}
 use Rattle.map_model.proofs.Trees.{under_there}
 use Rattle.evict.specs.Standing.{Standing}
@@ -46,9 +46,10 @@ rooms_more m state nodes others i was here now d l less less' before this n in' 
 
 -- room at all nodes of the path of a hop's offer that are not on the path of the other
 pub hop_room : (m : Market) (state : Standing) (hop : Hop) (nodes others : List NodeId) (units : ℕ) → map (λ (x : NodeId). x.0) nodes ≡ path m (pool_of m hop.offer.group.0 hop.offer.place) → map (λ (x : NodeId). x.0) others ≡ path m (pool_of m hop.rival.offer.group.0 hop.rival.offer.place)
-    → units ≤ hop.rival.units → ((n : ℕ) → has_node nodes n ≡ true → has_node others n ≡ false → load m state.lines n + units ≤ capacity_of m n) → HasRoomFor m state (hop ∷ []) units
-hop_room m state hop nodes others units is are amount rooms = record {
+    → units ≤ hop.rival.units → amount_at state.lines hop.offer.group.0 hop.offer.place + units ≤ limit_of m hop.offer.group.0 hop.offer.place → ((n : ℕ) → has_node nodes n ≡ true → has_node others n ≡ false → load m state.lines n + units ≤ capacity_of m n) → HasRoomFor m state (hop ∷ []) units
+hop_room m state hop nodes others units is are amount limit rooms = record {
   amounts = All-cons (λ (h : Hop). units ≤ h.rival.units) hop [] amount (All-nil (λ (h : Hop). units ≤ h.rival.units));
+  limits = All-cons (λ (h : Hop). amount_at state.lines h.offer.group.0 h.offer.place + units ≤ limit_of m h.offer.group.0 h.offer.place) hop [] limit (All-nil (λ (h : Hop). amount_at state.lines h.offer.group.0 h.offer.place + units ≤ limit_of m h.offer.group.0 h.offer.place));
   rooms = λ n l. All-cons (λ (h : Hop). raises m n h ≡ true → load m state.lines n + units ≤ capacity_of m n) hop [] (room n) (All-nil (λ (h : Hop). raises m n h ≡ true → load m state.lines n + units ≤ capacity_of m n));
 }
   where
@@ -63,10 +64,11 @@ hop_room m state hop nodes others units is are amount rooms = record {
 pub room_more : (m : Market) (state : Standing) (hops : List Hop) (i was here now : ℕ) (d : Hop) → i < length hops → now ≤ was → now ≤ here → HasRoomFor m state (take i hops) was → HasRoomFor m state (get_or hops i d ∷ []) here → HasRoomFor m state (take (i + 1) hops) now
 room_more m state hops i was here now d l less less' before this = record {
   amounts = All-more (λ (h : Hop). now ≤ h.rival.units) hops i d l (λ k e j. omega (arith, before.amounts k e j)) (omega (arith, All-head (λ (h : Hop). here ≤ h.rival.units) (get_or hops i d) [] this.amounts));
+  limits = All-more (λ (h : Hop). amount_at state.lines h.offer.group.0 h.offer.place + now ≤ limit_of m h.offer.group.0 h.offer.place) hops i d l (λ k e j. omega (arith, before.limits k e j)) (omega (arith, All-head (λ (h : Hop). amount_at state.lines h.offer.group.0 h.offer.place + here ≤ limit_of m h.offer.group.0 h.offer.place) (get_or hops i d) [] this.limits));
   rooms = λ n there. All-more (λ (h : Hop). raises m n h ≡ true → load m state.lines n + now ≤ capacity_of m n) hops i d l (λ k e j raised. omega (arith, before.rooms n there k e j raised))
       (λ raised. omega (arith, All-head (λ (h : Hop). raises m n h ≡ true → load m state.lines n + here ≤ capacity_of m n) (get_or hops i d) [] (this.rooms n there) raised));
 }
 
 -- fewer units have room too
 pub room_less : (m : Market) (state : Standing) (hops : List Hop) (few many : ℕ) → few ≤ many → HasRoomFor m state hops many → HasRoomFor m state hops few
-room_less m state hops few many le room = record { amounts = λ k e j. omega (arith, room.amounts k e j); rooms = λ n there k e j raised. omega (arith, room.rooms n there k e j raised) }
+room_less m state hops few many le room = record { amounts = λ k e j. omega (arith, room.amounts k e j); limits = λ k e j. omega (arith, room.limits k e j); rooms = λ n there k e j raised. omega (arith, room.rooms n there k e j raised) }

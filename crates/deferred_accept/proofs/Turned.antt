@@ -1,19 +1,20 @@
 -- Whole rounds of a circle are proposals.
-use Rattle.std.proofs.Common.{◌≡◌, ℕ, zero, suc, ◌*◌, ◌<◌, ◌≤◌, ◌==◌, Bool, true, false, not, ◌&&◌, if◌then◌else◌, List, [], ◌∷◌, length, map, take, slice_index, slice_index_or, All, ◌⊎◌, refl, sym, ap, ◌∙◌, subst, inl, inr, arith}
+use Rattle.std.proofs.Common.{◌≡◌, ℕ, zero, suc, ◌+◌, ◌*◌, ◌<◌, ◌≤◌, ◌==◌, Bool, true, false, not, ◌&&◌, if◌then◌else◌, List, [], ◌∷◌, length, map, take, slice_index, slice_index_or, All, ◌⊎◌, refl, sym, ap, ◌∙◌, subst, inl, inr, arith}
 use Rattle.std.proofs.lemmas.Bool.{and_parts, cases_Bool, eqb-true, not-true}
 use Rattle.std.proofs.lemmas.List.{length-map, take_all}
 use Rattle.std.proofs.lemmas.List.Elements.{All-cons, All-head, All-tail}
 use Rattle.std.proofs.Math.Seq.{get_or-append_seam}
-use Rattle.map_model.specs.Market.{IsSameShape, Market}
-use Rattle.map_model.specs.Allocation.{amount_at, counts_at}
+use Rattle.map_model.specs.Market.{IsSameShape, Market, limit_of}
+use Rattle.map_model.specs.Allocation.{IsOffer, amount_at, counts_at}
 use Rattle.evict.specs.Standing.{IsReady, Standing}
 use Rattle.deferred_accept.specs.declared.circle.Hop.{Hop}
 use Rattle.deferred_accept.specs.Runs.{AreProposals}
 use Rattle.deferred_accept.specs.Turning.{HasRoomFor, IsCircle, IsHop, IsTurned, came, displaced, gone, hopper, raises}
 use Rattle.deferred_accept.proofs.Circles.{displaced_apart}
+use Rattle.deferred_accept.proofs.Nearest.{hop_one}
 use Rattle.deferred_accept.proofs.Signs.{apart_signs, ends_within, level}
 use Rattle.deferred_accept.proofs.Plan.{IsPlan, IsPlanned, lowers, proposals}
-use Rattle.deferred_accept.proofs.Rounds.{length-rounds, rounds, rounds-All, rounds-linked, sums-once, sums-rounds}
+use Rattle.deferred_accept.proofs.Rounds.{length-rounds, rounds, rounds-All, rounds-linked, sums-none, sums-once, sums-rounds}
 
 -- no element of a list passes a test, or what is so for each that does
 none_or : {X : Type 0} (test : X → Bool) (Q : Type 0) (xs : List X) → All (λ x. test x ≡ true → Q) xs → All (λ x. test x ≡ false) xs ⊎ Q
@@ -46,6 +47,31 @@ gone_once m s ready first rest x most circle g k =
     displaced_apart m s ready.market first rest x circle i j d l e
     (eqb-true _ g (and_parts _ _ a).0 ∙ sym (eqb-true _ g (and_parts _ _ b).0)))
 
+-- and so is what an offer gets
+came_once : (m : Market) (s : Standing) → IsReady m s → (first : Hop) (rest : List Hop) (x most : ℕ) → IsCircle m s first rest x → (g k : ℕ) → came (λ h j. (h == g) && (j == k)) most (first ∷ rest) ≤ most
+came_once m s ready first rest x most circle g k =
+    sums-once (λ (h : Hop). (h.offer.group.0 == g) && (h.offer.place == k)) most (first ∷ rest) (λ i j d l e a b.
+    displaced_apart m s ready.market first rest x circle i j d l e
+    (hop_one m s ready.market (slice_index_or (first ∷ rest) i d) (slice_index_or (first ∷ rest) j d) (circle.hops i d (omega (arith, l, e))) (circle.hops j d e)
+    (eqb-true _ g (and_parts _ _ a).0 ∙ sym (eqb-true _ g (and_parts _ _ b).0))))
+
+-- so no offer gets more than there is room for under its limit
+ends_within_limits : (m : Market) (s : Standing) → IsReady m s → (first : Hop) (rest : List Hop) (x most : ℕ) → IsCircle m s first rest x → HasRoomFor m s (first ∷ rest) most → (g k : ℕ) → IsOffer m g k
+    → amount_at s.lines g k + came (λ h j. (h == g) && (j == k)) most (first ∷ rest) ≤ limit_of m g k
+ends_within_limits m s ready first rest x most circle room g k o =
+    elim (none_or (λ (h : Hop). (h.offer.group.0 == g) && (h.offer.place == k)) (amount_at s.lines g k + most ≤ limit_of m g k) (first ∷ rest) (λ i d l e. room_at i d l e)) [
+      | inl none ↦
+          let zero_came = sums-none (λ (h : Hop). if (h.offer.group.0 == g) && (h.offer.place == k) then most else 0) (first ∷ rest) (λ i d l. rw (none i d l) refl) in
+          omega (arith, zero_came, ready.resumable.limits g k o)
+      | inr fits ↦ omega (arith, came_once m s ready first rest x most circle g k, fits)
+    ]
+  where
+    room_at : (i : ℕ) (d : Hop) → i < length (first ∷ rest) → (((slice_index_or (first ∷ rest) i d).offer.group.0 == g) && ((slice_index_or (first ∷ rest) i d).offer.place == k)) ≡ true → amount_at s.lines g k + most ≤ limit_of m g k
+    room_at i d l e =
+        let h : Hop = slice_index_or (first ∷ rest) i d in
+        let p = and_parts (h.offer.group.0 == g) (h.offer.place == k) e in
+        subst (λ y. amount_at s.lines g y + most ≤ limit_of m g y) (eqb-true h.offer.place k p.1) (subst (λ y. amount_at s.lines y h.offer.place + most ≤ limit_of m y h.offer.place) (eqb-true h.offer.group.0 g p.0) (room.limits i d l))
+
 -- the rounds of a circle are a plan
 plan_of : (m : Market) (s : Standing) → IsReady m s → (first : Hop) (rest : List Hop) (x r : ℕ) → IsCircle m s first rest x → HasRoomFor m s (first ∷ rest) (r * x) → IsPlan m s (hopper first) (rounds r (first ∷ rest)) x
 plan_of m s ready first rest x r circle room = record {
@@ -64,6 +90,7 @@ plan_of m s ready first rest x r circle room = record {
     | inr none ↦ inr (rounds-All (λ (h : Hop). lowers m n h ≡ false) r hops none)
   ];
   fits = λ n l. omega (arith, ends_within m s ready first rest x circle (r * x) room n l, all_came (counts_at m n), all_gone (counts_at m n));
+  limits = λ g k o. omega (arith, ends_within_limits m s ready first rest x (r * x) circle room g k o, all_came (λ h j. (h == g) && (j == k)));
   enough = rounds-All (λ (h : Hop). gone (λ g k. (g == h.rival.offer.group.0) && (k == h.rival.offer.place)) x (rounds r hops) ≤ amount_at s.lines h.rival.offer.group.0 h.rival.offer.place) r hops (λ i d l.
       let w = (slice_index_or hops i d).rival.offer in
       omega (arith, all_gone (λ g k. (g == w.group.0) && (k == w.place)), gone_once m s ready first rest x (r * x) circle w.group.0 w.place, room.amounts i d l, (circle.hops i d l).rival.worst.held));

@@ -6,15 +6,14 @@ use Rattle.std.proofs.lemmas.List.{get_or-set_other, length-set}
 use Rattle.std.proofs.lemmas.Grind.{get_or-set_at}
 use Rattle.std.proofs.lemmas.List.Sums.{sum_by-cons}
 use Rattle.std.proofs.Math.Bool.{or-false}
-use Rattle.map_model.specs.declared.instance.Offer.{Offer}
-use Rattle.map_model.specs.Market.{Market, choices_of}
+use Rattle.map_model.specs.Market.{Market}
 use Rattle.map_model.specs.Allocation.{IsOffer, placed_through}
 use Rattle.map_model.specs.Progress.{IsEnded}
 use Rattle.evict.specs.declared.freed.Eviction.{Eviction}
 use Rattle.evict.specs.Evictions.{freed_units, gave_up}
 use Rattle.evict.specs.Standing.{CanPut, IsPut, IsReady, Standing}
 use Rattle.deferred_accept.specs.Runs.{HasRun, most_proposals, proposals_of, IsWaiting}
-use Rattle.deferred_accept.specs.Work.{CoversRest, CoversWork, IsDueOffer, gave_any, is_on, worth, worth_of}
+use Rattle.deferred_accept.specs.Work.{CoversRest, CoversWork, gave_any, is_on, worth, worth_of}
 use Rattle.deferred_accept.proofs.Sums.{sum-le, sum-lt}
 use Rattle.deferred_accept.proofs.Worth.{worth_falls}
 
@@ -81,9 +80,9 @@ waited m old new g k units freed put h w none =
     record { group = w.group; free = omega (arith, put.free h w.group, none_freed freed h none, w.free); place = omega (arith, same, w.place) }
 
 -- the list of work after a proposal: the group of the offer is on it again, and so are those that gave up units
-pub covers_step : (m : Market) (old new : Standing) (g k units : ℕ) (freed : List Eviction) (rest work : List Bool) → CoversRest m old g rest → IsPut m old new g k units freed → g < length m.groups → length work ≡ length rest
+pub covers_step : (m : Market) (old new : Standing) (g : ℕ) (freed : List Eviction) (rest work : List Bool) → CoversRest m old g rest → ((h : ℕ) → IsWaiting m new h → gave_any freed h ≡ false → IsWaiting m old h) → g < length m.groups → length work ≡ length rest
     → ((h : ℕ) → h < length rest → is_on work h ≡ (is_on (slice_set rest g true) h || gave_any freed h)) → CoversWork m new work
-covers_step m old new g k units freed rest work covered put there count each = record {
+covers_step m old new g freed rest work covered before there count each = record {
   count = count ∙ covered.count;
   waiting = λ h w. each h (omega (arith, covered.count, w.group)) ∙ on h w;
 }
@@ -93,7 +92,7 @@ covers_step m old new g k units freed rest work covered put there count each = r
       | inl gave ↦ or_right (is_on (slice_set rest g true) h) (gave_any freed h) gave
       | inr none ↦ or_left (is_on (slice_set rest g true) h) (gave_any freed h) (elim (cases_eq h g) [
         | inl e ↦ get_or-set_at rest g h true false e (omega (arith, covered.count, there))
-        | inr ne ↦ get_or-set_other rest g h true false ne ∙ still h ne (covered.waiting h (waited m old new g k units freed put h w none))
+        | inr ne ↦ get_or-set_other rest g h true false ne ∙ still h ne (covered.waiting h (before h w none))
       ])
     ]
       where
@@ -139,15 +138,6 @@ on_more old work freed i d h l there before =
       | inr ne ↦ get_or-set_other work e.offer.group.0 h true false ne ∙ before
           ∙ ap (λ b. is_on old h || b) (sym (more ∙ ap (λ b. gave_any (take i freed) h || b) (ne_eqb e.offer.group.0 h (λ x. ne (sym x))) ∙ or-false (gave_any (take i freed) h)))
     ]
-
--- an offer that is due may be put, with all the free units of its group
-pub can_put : (m : Market) (state : Standing) (o : Offer) (units : ℕ) → IsReady m state → IsDueOffer m state o → units ≡ slice_index state.free o.group.0 → CanPut m state o.group.0 o.place units
-can_put m state o units ready d is = record {
-  ready = ready;
-  offer = record { group = d.waiting.group; place = subst (λ k. k < length (choices_of m o.group.0)) (sym d.pointer) d.waiting.place };
-  pointer = d.pointer;
-  free = omega arith;
-}
 
 -- a proposal is counted once, and the worth of the state falls by one at least
 pub counted_step : (start worth0 old new was now : ℕ) (full : Bool) → new ≡ (if full then old else old + 1) → now < was → old + was ≤ start + worth0 → new + now ≤ start + worth0

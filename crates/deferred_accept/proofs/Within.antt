@@ -1,11 +1,11 @@
 -- A run in a set of trees.
 use Rattle.std.proofs.Common.{◌≡◌, ℕ, ◌+◌, ◌-◌, ◌<◌, ◌≤◌, ◌==◌, Bool, true, false, ◌&&◌, if◌then◌else◌, List, [], ◌∷◌, length, All, IsFalse, slice_index, slice_index_or, refl, sym, ap, ◌∙◌, subst, inl, inr, arith}
 use Rattle.std.specs.List.{range_with_len, sum_by}
-use Rattle.std.proofs.lemmas.Bool.{and_from, and_parts, cases_Bool, cases_order, eq-eqb, eqb-true, ne_eqb, or_cases, false≢true}
+use Rattle.std.proofs.lemmas.Bool.{and_from, and_parts, cases_Bool, eq-eqb, eqb-true, ne_eqb, or_cases, false≢true}
 use Rattle.std.proofs.lemmas.List.Folds.{list_any_at}
 use Rattle.std.proofs.lemmas.List.Elements.{All-head, All-tail}
 use Rattle.map_model.specs.Market.{Market, IsMarket, capacity_of, pool_of}
-use Rattle.map_model.specs.Allocation.{IsOffer, amount_at, counts_at, load, none_worse, units_of}
+use Rattle.map_model.specs.Allocation.{IsOffer, counts_at, load, none_worse, units_of}
 use Rattle.map_model.specs.Progress.{tree_of}
 use Rattle.map_model.proofs.Trees.{under_there}
 use Rattle.map_model.proofs.Paths.{pool_there}
@@ -20,53 +20,17 @@ use Rattle.deferred_accept.specs.Spreading.{HoldsWork, IsSameFor, StaysInside, i
 use Rattle.deferred_accept.specs.Work.{gave_any, worth_of}
 use Rattle.map_model.proofs.Roots.{root-under}
 use Rattle.deferred_accept.proofs.Sums.{sum-le, sum-lt}
-use Rattle.deferred_accept.proofs.Turns.{counted_step, none_at, none_freed, pointer_rises, waited}
-use Rattle.deferred_accept.proofs.Worth.{freed_none, worth_falls}
-
--- where an offer past its group's pointer gave up units, it was the offer of the put
-past_none : (m : Market) (old new : Standing) (g k units : ℕ) (freed : List Eviction) → CanPut m old g k units → IsPut m old new g k units freed → (i : ℕ) (d : Eviction) → i < length freed
-    → slice_index old.pointers (slice_index_or freed i d).offer.group.0 < (slice_index_or freed i d).offer.place → ⊥
-past_none m old new g k units freed can put i d l past =
-    let e : Eviction = slice_index_or freed i d in
-    let test : ℕ → ℕ → Bool = λ h j. (h == e.offer.group.0) && (j == e.offer.place) in
-    let none : amount_at old.lines e.offer.group.0 e.offer.place ≡ 0 = can.ready.resumable.none_past e.offer.group.0 e.offer.place (put.evictions i d l).offer past in
-    let apart : test g k ≡ false = elim (cases_Bool (test g k)) [
-      | inr n ↦ n
-      | inl y ↦
-          let p = and_parts (g == e.offer.group.0) (k == e.offer.place) y in
-          let eg : g ≡ e.offer.group.0 = eqb-true g e.offer.group.0 p.0 in
-          let ek : k ≡ e.offer.place = eqb-true k e.offer.place p.1 in
-          let at : k ≡ slice_index old.pointers e.offer.group.0 = can.pointer ∙ ap (slice_index old.pointers) eg in
-          absurd (omega (arith, past))
-    ] in
-    let zero_put : (if test g k then units else 0) ≡ 0 = rw apart refl in
-    let more = freed_more test freed i d l (and_from _ _ (eq-eqb e.offer.group.0 e.offer.group.0 refl) (eq-eqb e.offer.place e.offer.place refl)) in
-    omega (arith, put.held test, zero_put, more, none, (put.evictions i d l).some)
-
--- an offer that gave up units stands before its group's new pointer
-before_pointer : (m : Market) (old new : Standing) (g k units : ℕ) (freed : List Eviction) → CanPut m old g k units → IsPut m old new g k units freed → (i : ℕ) (d : Eviction) → i < length freed
-    → (slice_index_or freed i d).offer.place < slice_index new.pointers (slice_index_or freed i d).offer.group.0
-before_pointer m old new g k units freed can put i d l =
-    let e : Eviction = slice_index_or freed i d in
-    let h : ℕ = e.offer.group.0 in
-    let there : h < length m.groups = (put.evictions i d l).offer.group in
-    elim (cases_order e.offer.place (slice_index old.pointers h)) [
-      | inl same ↦
-          let gave : gave_up freed h (slice_index old.pointers h) ≡ true = list_any_at (λ (x : Eviction). (x.offer.group.0 == h) && (x.offer.place == slice_index old.pointers h)) freed i d l (and_from _ _ (eq-eqb h h refl) (eq-eqb e.offer.place (slice_index old.pointers h) same)) in
-          let moved : slice_index new.pointers h ≡ slice_index old.pointers h + 1 = put.pointers h there ∙ ap (λ b. if b then slice_index old.pointers h + 1 else slice_index old.pointers h) gave in
-          omega (arith, same, moved)
-      | inr rest ↦ elim rest [
-        | inl less ↦ omega (arith, less, pointer_rises m old new g k units freed put h there)
-        | inr past ↦ absurd (past_none m old new g k units freed can put i d l past)
-      ]
-    ]
+use Rattle.deferred_accept.proofs.Turns.{counted_step, none_at, none_freed, waited}
+use Rattle.evict.proofs.Done.{freed_none}
+use Rattle.deferred_accept.proofs.Worth.{worth_falls}
 
 -- An offer that gave up units is refused now, by a full node of its path. Had no units come under that node, it would be below its capacity.
 pub same_tree : (m : Market) (old new : Standing) (g k units : ℕ) (freed : List Eviction) → CanPut m old g k units → IsPut m old new g k units freed → All (λ e. tree_of m e.offer.group.0 e.offer.place ≡ tree_of m g k) freed
 same_tree m old new g k units freed can put i d l =
     let e : Eviction = slice_index_or freed i d in
     let ev = put.evictions i d l in
-    let by = refused_by m new.lines e.offer.group.0 e.offer.place (put.ready.resumable.refused e.offer.group.0 e.offer.place ev.offer (before_pointer m old new g k units freed can put i d l)) in
+    let gave : gave_up freed e.offer.group.0 e.offer.place ≡ true = list_any_at (λ (x : Eviction). (x.offer.group.0 == e.offer.group.0) && (x.offer.place == e.offer.place)) freed i d l (and_from _ _ (eq-eqb e.offer.group.0 e.offer.group.0 refl) (eq-eqb e.offer.place e.offer.place refl)) in
+    let by = refused_by m new.lines e.offer.group.0 e.offer.place (put.turned e.offer.group.0 e.offer.place ev.offer gave) in
     let o : ℕ = by.0 in
     let market : IsMarket m = put.ready.market in
     let pool = pool_there m market e.offer.group.0 e.offer.place ev.offer in

@@ -1,25 +1,15 @@
 -- What a state has left to offer falls with each proposal.
-use Rattle.std.proofs.Common.{◌≡◌, ℕ, ◌+◌, ◌-◌, ◌*◌, ◌<◌, ◌≤◌, ◌==◌, Bool, true, false, ◌&&◌, if◌then◌else◌, List, [], ◌∷◌, length, slice_index, refl, ap, ◌∙◌, subst, arith}
-use Rattle.std.proofs.lemmas.Bool.{eq-eqb, or_parts}
-use Rattle.std.proofs.lemmas.List.Sums.{sum_by-cons}
+use Rattle.std.proofs.Common.{◌≡◌, ℕ, ◌+◌, ◌-◌, ◌*◌, ◌<◌, ◌≤◌, ◌==◌, Bool, true, false, ◌&&◌, if◌then◌else◌, List, length, slice_index, refl, ap, ◌∙◌, subst, arith}
+use Rattle.std.proofs.lemmas.Bool.{eq-eqb}
 use Rattle.map_model.specs.Market.{Market, choices_of, demand_of}
 use Rattle.map_model.specs.Allocation.{IsOffer, amount_at}
 use Rattle.map_model.proofs.Units.{amount-le-placed}
 use Rattle.evict.specs.declared.freed.Eviction.{Eviction}
-use Rattle.evict.specs.Evictions.{freed_units, gave_up}
+use Rattle.evict.specs.Evictions.{gave_up}
 use Rattle.evict.specs.Standing.{CanPut, IsPut, IsReady, Standing}
-use Rattle.evict.proofs.Done.{gave_up_each}
+use Rattle.evict.proofs.Done.{freed_none, gave_up_each}
 use Rattle.deferred_accept.specs.Runs.{proposals_of}
 use Rattle.deferred_accept.specs.Work.{worth_of}
-
--- where an offer gave up nothing, none of its units are listed
-pub freed_none : (freed : List Eviction) (h k : ℕ) → gave_up freed h k ≡ false → freed_units (λ x y. (x == h) && (y == k)) freed ≡ 0
-freed_none [] h k none = refl
-freed_none (e ∷ es) h k none =
-    let p = or_parts ((e.offer.group.0 == h) && (e.offer.place == k)) (gave_up es h k) none in
-    let f : Eviction → ℕ = λ x. if (x.offer.group.0 == h) && (x.offer.place == k) then x.units else 0 in
-    let z : f e ≡ 0 = rw p.0 refl in
-    omega (arith, sum_by-cons f e es, z, freed_none es h k p.1)
 
 -- one place fewer is one demand and one proposal fewer
 place_fewer : (len p d : ℕ) → p < len → (len - p) * (d + 1) ≡ (len - (p + 1)) * (d + 1) + (d + 1)
@@ -32,7 +22,7 @@ amount_small : (m : Market) (state : Standing) (h k : ℕ) → IsReady m state �
 amount_small m state h k ready l = omega (arith, amount-le-placed state.lines h k, ready.resumable.totals h l)
 
 -- a group whose pointer moved on is worth less
-moved_on : (m : Market) (old new : Standing) (h : ℕ) → IsReady m old → h < length m.groups → slice_index old.pointers h < length (choices_of m h) → slice_index new.pointers h ≡ slice_index old.pointers h + 1 → worth_of m new h < worth_of m old h
+pub moved_on : (m : Market) (old new : Standing) (h : ℕ) → IsReady m old → h < length m.groups → slice_index old.pointers h < length (choices_of m h) → slice_index new.pointers h ≡ slice_index old.pointers h + 1 → worth_of m new h < worth_of m old h
 moved_on m old new h ready l left moved =
     let p = slice_index old.pointers h in
     let fewer = place_fewer (length (choices_of m h)) p (demand_of m h) left in

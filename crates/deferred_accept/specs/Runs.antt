@@ -1,8 +1,8 @@
 -- What a run does to a state, and how many proposals it makes.
-use Rattle.std.specs.Prelude.{◌≡◌, ℕ, ◌+◌, ◌-◌, ◌*◌, ◌^◌, ◌<◌, ◌≤◌, nat_lt, true, if◌then◌else◌, zero, suc, List, length, slice_index, sum_by}
+use Rattle.std.specs.Prelude.{◌≡◌, ℕ, ◌+◌, ◌-◌, ◌*◌, ◌^◌, ◌<◌, ◌≤◌, nat_lt, true, if◌then◌else◌, zero, suc, List, length, IsTrue, min, slice_index, slice_set, sum_by}
 use Rattle.std.specs.List.{range_with_len}
-use Rattle.map_model.specs.Market.{Market, choices_of, demand_of}
-use Rattle.map_model.specs.Allocation.{IsOffer, placed_through, is_wanted}
+use Rattle.map_model.specs.Market.{Market, choices_of, demand_of, limit_of}
+use Rattle.map_model.specs.Allocation.{IsOffer, amount_at, is_at_limit, placed_through, is_wanted}
 use Rattle.evict.specs.declared.freed.Eviction.{Eviction}
 use Rattle.evict.specs.Standing.{IsPut, IsReady, Standing}
 
@@ -30,17 +30,34 @@ pub record IsWaiting (m : Market) (state : Standing) (h : ℕ) : Type 0 where
   pub free : 0 < slice_index state.free h
   pub place : slice_index state.pointers h < length (choices_of m h)
 
--- one proposal: a waiting group offered all its free units at its pointer, and offers lost what is listed
+-- how many units a group offers at its pointer: its free ones, as many as fit under the limit there
+abbrev pub offered : Market → Standing → ℕ → ℕ
+offered m state g = min (slice_index state.free g) (limit_of m g (slice_index state.pointers g) - amount_at state.lines g (slice_index state.pointers g))
+
+-- one proposal: a waiting group offered its free units at its pointer, as many as fit under the limit there, which is not full, and offers lost what is listed
 pub record IsProposal (m : Market) (old new : Standing) : Type 0 where
   pub group : ℕ
   pub freed : List Eviction
   pub waiting : IsWaiting m old group
-  pub put : IsPut m old new group (slice_index old.pointers group) (slice_index old.free group) freed
+  pub some : 0 < offered m old group
+  pub put : IsPut m old new group (slice_index old.pointers group) (offered m old group) freed
 
--- so many proposals lead from one state to the other
+-- the offer at a waiting group's pointer is at its limit, and the pointer goes to the next place; nothing else changes
+pub record IsSkip (m : Market) (old new : Standing) : Type 0 where
+  pub group : ℕ
+  pub waiting : IsWaiting m old group
+  pub full : IsTrue (is_at_limit m old.lines group (slice_index old.pointers group))
+  pub skipped : new ≡ record old { pointers = slice_set old.pointers group (slice_index old.pointers group + 1) }
+
+-- so many places are skipped, one after another
+abbrev pub AreSkips : Market → ℕ → Standing → Standing → Type 0
+AreSkips m zero old new = new ≡ old
+AreSkips m (suc n) old new = (last : Standing) × AreSkips m n old last × IsSkip m last new
+
+-- so many proposals lead from one state to the other, with places that are skipped between them
 abbrev pub AreProposals : Market → ℕ → Standing → Standing → Type 0
-AreProposals m zero old new = new ≡ old
-AreProposals m (suc n) old new = (last : Standing) × AreProposals m n old last × IsProposal m last new
+AreProposals m zero old new = (skips : ℕ) × AreSkips m skips old new
+AreProposals m (suc n) old new = (last : Standing) × (next : Standing) × (skips : ℕ) × AreProposals m n old last × IsProposal m last next × AreSkips m skips next new
 
 -- Proposals lead from one state to the other, and a counter rose by their number. It stands still at 2^64 - 1.
 pub record HasProposed (m : Market) (old new : Standing) (before after : ℕ) : Type 0 where

@@ -1,7 +1,7 @@
 -- Inside this crate alone: groups that displace each other round a circle, and whole rounds of it at once.
 use Rattle.std.specs.Prelude.{◌≡◌, ℕ, ◌+◌, ◌<◌, ◌≤◌, Bool, false, not, ◌&&◌, if◌then◌else◌, List, [], ◌∷◌, ◌++◌, All, AllPairs, IsTrue, length, map, slice_index, sum_by, ◌-◌, ◌^◌, nat_lt}
-use Rattle.map_model.specs.Market.{Market, capacity_of, key_of}
-use Rattle.map_model.specs.Allocation.{AreLines, IsOffer, counts_at, key_le, load, units_of}
+use Rattle.map_model.specs.Market.{Market, capacity_of, key_of, limit_of}
+use Rattle.map_model.specs.Allocation.{AreLines, IsOffer, amount_at, counts_at, key_le, load, units_of}
 use Rattle.evict.specs.Standing.{CanShift, IsRival, Standing}
 use Rattle.deferred_accept.specs.declared.circle.Hop.{Hop}
 use Rattle.deferred_accept.specs.Runs.{AreProposals}
@@ -42,9 +42,10 @@ pub record AreRound (m : Market) (state : Standing) (hops : List Hop) (units : �
 abbrev pub raises : Market → ℕ → Hop → Bool
 raises m n hop = counts_at m n hop.offer.group.0 hop.offer.place && not (counts_at m n hop.rival.offer.group.0 hop.rival.offer.place)
 
--- so many units may go round: each offer that is displaced has them, and each node whose load a hop raises has room for them
+-- so many units may go round: each offer that is displaced has them, each offer of a hop may hold as many more, and each node whose load a hop raises has room for them
 pub record HasRoomFor (m : Market) (state : Standing) (hops : List Hop) (units : ℕ) : Type 0 where
   pub amounts : All (λ h. units ≤ h.rival.units) hops
+  pub limits : All (λ h. amount_at state.lines h.offer.group.0 h.offer.place + units ≤ limit_of m h.offer.group.0 h.offer.place) hops
   pub rooms : (n : ℕ) → n < length m.nodes → All (λ h. IsTrue (raises m n h) → load m state.lines n + units ≤ capacity_of m n) hops
 
 -- the units that came to the offers of the hops that pass a test

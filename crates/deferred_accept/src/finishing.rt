@@ -11,19 +11,19 @@ use map_model::{GroupId, Instance, MapLines, NameLine, Offer, Units};
 use no_memory::NoMemory;
 use std::alloc::Global;
 
-/// The name of an offer, if it is wanted: the refusing node nearest to the pool. The group has that
-/// many units there and at better places.
+/// The name of an offer, if it is wanted: what refuses it. The group has that many units there and at
+/// better places.
 fn name(instance: &Instance, state: &State, offer: Offer, through: Units) -> Option<NameLine>
     requires asked { CanAsk instance.now state.now offer.group.0 offer.place }
     requires through { through ≡ placed_through state.now.lines offer.group.0 offer.place }
     ensures { result ≡ name_of instance.now state.now.lines offer }
 {
     if through < u64::from(instance.demand(offer.group)) {
-        let node = state.refuser(instance, offer)?;
+        let by = state.refuser(instance, offer)?;
         Some(NameLine {
             group: offer.group,
             place: offer.place,
-            node,
+            by,
         })
     } else {
         None
@@ -64,8 +64,7 @@ fn all_names(alloc: Global, instance: &Instance, state: &State) -> Result<Vec<Na
     Ok(names)
 }
 
-/// The map of an ended state: what is held, and for each wanted offer the refusing node nearest to
-/// its pool. It is good for the instance. The state may be kept.
+/// The map of an ended state: what is held, and for each wanted offer what refuses it. It is good for the instance. The state may be kept.
 ///
 /// # Errors
 ///

@@ -9,7 +9,7 @@ ghost use Rattle.deferred_accept.specs.Turning.{HasTurned};
 
 use crate::pace::Pace;
 use crate::turn::turn_at;
-use crate::work::{add_again, offer_ahead, wake};
+use crate::work::{add_again, offer_ahead, offer_or_skip, wake};
 use crate::work_list::WorkList;
 use evict::{Freed, State};
 use map_model::{GroupId, Instance, Steps};
@@ -39,7 +39,8 @@ fn look<L>(
     turn_at(alloc, instance, state, group, steps)
 }
 
-/// Offers free units until no group has any before the end of its list. Each offer is one step: a
+/// Offers free units, as many as fit under the limit of an offer, until no group has any before the
+/// end of its list. A place whose limit is full is skipped. Each offer is one step: a
 /// group makes at most one for each unit of its demand and one more, at each place from its pointer on.
 ///
 /// Take a set of trees such that no list has pools both in it and out of it, and let only groups whose
@@ -70,8 +71,7 @@ pub fn run<L>(
     let mut ahead = None;
     while let Some(offer) = offer_ahead(instance, state, &mut work, ahead) {
         look(alloc, instance, state, offer.group, &mut pace, steps)?;
-        let units = state.free(offer.group);
-        state.put(instance, offer, units, &mut freed, steps)?;
+        offer_or_skip(instance, state, offer, &mut freed, steps)?;
         let given_up = freed.evictions();
         add_again(&mut work, offer.group, given_up)?;
         wake(&mut work, given_up)?;

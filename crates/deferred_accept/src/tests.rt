@@ -5,18 +5,19 @@ ghost use Rattle.std.specs.Prelude.{OnOk};
 ghost use Rattle.map_model.specs.Progress.{IsEnded};
 ghost use Rattle.evict.specs.Standing.{IsReady};
 
-use crate::work::{add_again, next_offer, wake};
+use crate::work::{add_again, next_offer, offer_or_skip, wake};
 use crate::work_list::WorkList;
 use crate::{finish, run};
 use evict::{Freed, State};
 use map_model::{
-    Choice, ClientGroup, Instance, MapLine, MapLines, NameLine, Node, NodeId, Proposals, Steps,
+    By, Choice, ClientGroup, Instance, MapLine, MapLines, NO_LIMIT, NameLine, Node, NodeId,
+    Proposals, Steps,
 };
 use no_memory::NoMemory;
 use std::alloc::Global;
 use worlds::{
-    EMPTY_POOL, EXAMPLE, FULL_REGION, GroupAt, INNER, NameAt, NodeAt, POOL, Placed,
-    REFUSER_NO_LONGER_FULL, World, instance_of,
+    EMPTY_POOL, EXAMPLE, FULL_REGION, GroupAt, INNER, LIMIT, LimitAt, NameAt, NodeAt, POOL, Placed,
+    REFUSER_NO_LONGER_FULL, World, instance_of, limited_instance_of,
 };
 
 const WORLDS: &[World] = &[
@@ -119,7 +120,11 @@ fn are_lines(lines: &[MapLine], rows: &[Placed]) -> bool {
 }
 
 fn is_name(name: &NameLine, row: &NameAt) -> bool {
-    (name.group.0, name.place, name.node.0) == *row
+    let by = match name.by {
+        By::Limit => LIMIT,
+        By::Node(node) => node.0,
+    };
+    (name.group.0, name.place, by) == *row
 }
 
 fn are_names(names: &[NameLine], rows: &[NameAt]) -> bool {
@@ -175,8 +180,7 @@ fn plain_run(
     let mut freed = Freed::new(alloc);
     let mut work = WorkList::all(alloc, instance)?;
     while let Some(offer) = next_offer(instance, state, &mut work) {
-        let units = state.free(offer.group);
-        state.put(instance, offer, units, &mut freed, steps)?;
+        offer_or_skip(instance, state, offer, &mut freed, steps)?;
         let given_up = freed.evictions();
         add_again(&mut work, offer.group, given_up)?;
         wake(&mut work, given_up)?;
@@ -202,6 +206,11 @@ const THIRD_OF_PAIR: &[(u32, u32)] = &[(0, 2)];
 /// Two pools and two groups, each of which fills one. A pool likes best the group that likes it least.
 /// The one unit of a third group comes between.
 fn pair(alloc: Global, units: u32) -> Option<Instance> {
+    limited_pair(alloc, units, &[])
+}
+
+/// The same with limits.
+fn limited_pair(alloc: Global, units: u32, limits: &[LimitAt]) -> Option<Instance> {
     let room = u64::from(units);
     let nodes: [NodeAt; 2] = [(room, None, POOL), (room, None, POOL)];
     let groups: [GroupAt; 3] = [
@@ -209,7 +218,7 @@ fn pair(alloc: Global, units: u32) -> Option<Instance> {
         (units, SECOND_OF_PAIR),
         (1, THIRD_OF_PAIR),
     ];
-    instance_of(alloc, &nodes, &groups).ok()?
+    limited_instance_of(alloc, &nodes, &groups, limits).ok()?
 }
 
 /// The pools in turn from that one on, each with a lower score.
@@ -218,7 +227,8 @@ fn ring_list(alloc: Global, first: u32) -> Option<Vec<Choice>> {
     for place in 0..10u32 {
         let pool = NodeId((first % 10 + place) % 10);
         let score = 10 - place;
-        choices.push(Choice { pool, score }).ok()?;
+        let limit = NO_LIMIT;
+        choices.push(Choice { pool, score, limit }).ok()?;
     }
     Some(choices)
 }
@@ -230,7 +240,8 @@ fn ring_group(alloc: Global, units: u32, first: u32) -> Option<ClientGroup> {
 /// A group of one unit, which the first pool likes best.
 fn one_more(alloc: Global) -> Option<ClientGroup> {
     let (pool, score) = (NodeId(0), 0);
-    let choices = vec![in alloc; Choice { pool, score }].ok()?;
+    let limit = NO_LIMIT;
+    let choices = vec![in alloc; Choice { pool, score, limit }].ok()?;
     Some(ClientGroup::new(1, choices))
 }
 
@@ -337,4 +348,61 @@ fn ends_as_proposals_do(alloc: Global, instance: Option<Instance>, counts: bool)
 fn turns_as_proposals_would(rt: HostRuntime) {
     assert!(rt; ends_as_proposals_do(rt.alloc(), pair(rt.alloc(), 50), true));
     assert!(rt; ends_as_proposals_do(rt.alloc(), ring(rt.alloc(), 40), false));
+}
+
+/// The example of README with at most five units of the first group at its better pool: the other three
+/// stand in the second pool, and the second group has what is left of both.
+const LIMITED: World = World {
+    name: "two-level eviction with limits",
+    nodes: &[(15, None, INNER), (10, Some(0), POOL), (10, Some(0), POOL)],
+    groups: &[(8, &[(1, 1), (2, 2)]), (8, &[(1, 3), (2, 4)])],
+    lines: &[(0, 0, 5), (0, 1, 3), (1, 0, 5), (1, 1, 2)],
+    names: &[(0, 0, LIMIT), (1, 0, 1), (1, 1, 0)],
+};
+
+fn ends_limited(alloc: Global) -> bool {
+    match limited_instance_of(
+        alloc,
+        LIMITED.nodes,
+        LIMITED.groups,
+        &[(0, 0, 5), (0, 1, 10)],
+    ) {
+        Ok(Some(instance)) => ends_in(alloc, &instance, &LIMITED),
+        _ => false,
+    }
+}
+
+#[test]
+fn keeps_within_limits(rt: HostRuntime) {
+    assert!(rt; ends_limited(rt.alloc()));
+}
+
+/// Whether units of the pair go round until the first group's offer at its last pool is at its limit; one
+/// unit of that group is left.
+fn pair_stops(alloc: Global, units: u32, limit: u32) -> bool {
+    match limited_pair(alloc, units, &[(0, 1, limit)]) {
+        Some(instance) => {
+            let proposals = u64::from(limit) * 2 + 3;
+            let rest = units.saturating_sub(limit);
+            ends_so(
+                alloc,
+                &instance,
+                &[
+                    (0, 0, rest.saturating_sub(1)),
+                    (0, 1, limit),
+                    (1, 0, rest),
+                    (1, 1, limit),
+                    (2, 0, 1),
+                ],
+                Some(proposals),
+            )
+        }
+        None => false,
+    }
+}
+
+#[test]
+fn stops_at_the_limit(rt: HostRuntime) {
+    assert!(rt; pair_stops(rt.alloc(), 50, 20));
+    assert!(rt; pair_stops(rt.alloc(), u32::MAX, 1 << 31));
 }

@@ -1,14 +1,15 @@
 //! The groups that may still have to offer, and what they offer next.
 
-ghost use Rattle.std.specs.Prelude.{◌≡◌, ℕ, ◌<◌, ◌||◌, All, IfSome, MatchOption, OnOk, length, slice_set, true};
+ghost use Rattle.std.specs.Prelude.{◌≡◌, ℕ, ◌<◌, ◌≤◌, ◌||◌, All, IfSome, MatchOption, OnOk, length, slice_set, true};
 ghost use Rattle.map_model.specs.Progress.{IsEnded};
 ghost use Rattle.evict.specs.Standing.{IsReady};
 ghost use Rattle.deferred_accept.specs.Runs.{IsWaiting};
-ghost use Rattle.deferred_accept.specs.Work.{CoversRest, CoversWork, IsDueOffer, gave_any, is_on};
+ghost use Rattle.deferred_accept.specs.Work.{CoversRest, CoversWork, HasStepped, IsDueOffer, gave_any, is_on};
 
+use crate::room::room_under;
 use crate::work_list::WorkList;
-use evict::{Eviction, State};
-use map_model::{GroupId, Instance, Offer};
+use evict::{Eviction, Freed, State};
+use map_model::{GroupId, Instance, Offer, Steps};
 use no_memory::NoMemory;
 
 /// What a group offers next, if it is waiting.
@@ -62,6 +63,31 @@ pub fn offer_ahead(
         }
     }
     next_offer(instance, state, work)
+}
+
+/// Offers free units of a waiting group at its pointer, as many as fit under the limit there. Where none
+/// fits, the pointer goes to the next place, and nothing is offered.
+pub fn offer_or_skip<L>(
+    instance: &Instance,
+    state: &mut State,
+    offer: Offer,
+    freed: &mut Freed,
+    steps: &mut Steps<L>,
+) -> Result<(), NoMemory>
+    requires ready { IsReady instance.now state.old }
+    requires due { IsDueOffer instance.now state.old offer }
+    ensures stepped { OnOk result (HasStepped instance.now state.old state.new offer.group.0 freed.new steps.old steps.new) }
+    ensures later { steps.old ≤ steps.new }
+{
+    let units = state
+        .free(offer.group)
+        .min(room_under(instance, state, offer));
+    if units > 0 {
+        return state.put(instance, offer, units, freed, steps);
+    }
+    freed.clear();
+    state.set_pointer(offer.group, offer.place + 1);
+    Ok(())
 }
 
 /// Puts the group of a proposal on the list again: in front where it alone gave up units, since its

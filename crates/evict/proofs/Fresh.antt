@@ -36,6 +36,7 @@ fresh m market pointers free none count each = record {
       pointers_for = ap length none ∙ length-replicate (length m.groups) 0;
       free_for = count;
       capacities = λ n l. omega arith;
+      limits = λ g k o. omega arith;
       totals = λ g l. let nothing : placed [] g ≡ 0 = refl in omega (arith, each g l, nothing);
       in_list = λ g l. omega (arith, ap (λ xs. slice_index xs g) none, zeros (length m.groups) g);
       none_past = λ g k o l. refl;

@@ -72,6 +72,7 @@ of_good m market lines names good pointers free pcount fcount past sums = record
       pointers_for = pcount;
       free_for = fcount;
       capacities = good.feasible.capacities;
+      limits = good.feasible.limits;
       totals = sums;
       in_list = λ g l. (past g l).in_list;
       none_past = λ g k o later. none g k o later;

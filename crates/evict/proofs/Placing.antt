@@ -5,7 +5,7 @@ use Rattle.std.proofs.lemmas.List.Sums.{sum_by-cons}
 use Rattle.capacity_tree.specs.Loads.{AddsUnits, AreTreesOf, Loads}
 use Rattle.map_model.specs.declared.lines.MapLine.{MapLine}
 use Rattle.map_model.specs.Market.{Market, IsSameShape, capacity_of, key_of, pool_of}
-use Rattle.map_model.specs.Allocation.{AreLines, counts_at, is_under, load, refuser_of}
+use Rattle.map_model.specs.Allocation.{AreLines, counts_at, is_under, load, refusing_node}
 use Rattle.map_model.specs.Holding.{IsSaturated, Puts}
 use Rattle.map_model.proofs.Trees.{under_itself}
 use Rattle.map_model.proofs.Paths.{pool_there}
@@ -62,7 +62,7 @@ relieving_start m origin g k units held held' tree tree' freed p same puts form 
     subst (λ (o : Origin). IsRelieving m o g k (pool_of m g k) units held' tree' freed) (sym p.start) (subst (λ (xs : List Eviction). IsRelieving m start g k (pool_of m g k) units held' tree' xs) (sym p.nothing) done)
 
 -- units of an offer that some node refuses are given up as they come
-pub turned_away : (m : Market) (origin : Origin) (g k units : ℕ) (held : Holdings) (tree : Loads) (freed freed' : List Eviction) (e : Eviction) → IsPlacing m origin g k units held tree freed → 0 < units → is_some (refuser_of m held.lines g k) ≡ true
+pub turned_away : (m : Market) (origin : Origin) (g k units : ℕ) (held : Holdings) (tree : Loads) (freed freed' : List Eviction) (e : Eviction) → IsPlacing m origin g k units held tree freed → 0 < units → is_some (refusing_node m held.lines g k) ≡ true
     → e ≡ record { offer = record { group = record { 0 = g }; place = k }; units = units } → freed' ≡ freed ++ e ∷ [] → IsRelieved m origin g k held tree freed'
 turned_away m origin g k units held tree freed freed' e p some refused itself listed =
     let start : Origin = record { lines = held.lines; units = units } in

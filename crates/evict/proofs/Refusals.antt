@@ -7,7 +7,7 @@ use Rattle.std.proofs.Math.Bool.{or-true}
 use Rattle.map_model.specs.declared.instance.Key.{Key}
 use Rattle.map_model.specs.declared.lines.MapLine.{MapLine}
 use Rattle.map_model.specs.Market.{Market, IsMarket, capacity_of, key_of, path, pool_of}
-use Rattle.map_model.specs.Allocation.{AreLines, counts_at, is_full_of_better, load, none_worse, refuser_of, units_of}
+use Rattle.map_model.specs.Allocation.{AreLines, counts_at, is_full_of_better, load, none_worse, refusing_node, units_of}
 use Rattle.map_model.specs.Holding.{IsSaturated, under_worse}
 use Rattle.map_model.proofs.MapForm.{IsLineAt-from}
 use Rattle.map_model.proofs.Trees.{under_there}
@@ -52,10 +52,10 @@ found test (x ∷ xs) h = elim (cases_Bool (test x)) [
 ]
 
 -- an offer is refused where a node of its path is full of units ranked at least as high
-pub refused_at : (m : Market) (lines : List MapLine) (g k n : ℕ) → counts_at m n g k ≡ true → is_full_of_better m lines n (key_of m g k) ≡ true → IsSome (refuser_of m lines g k)
+pub refused_at : (m : Market) (lines : List MapLine) (g k n : ℕ) → counts_at m n g k ≡ true → is_full_of_better m lines n (key_of m g k) ≡ true → IsSome (refusing_node m lines g k)
 refused_at m lines g k n on full = find_some (λ n. is_full_of_better m lines n (key_of m g k)) (path m (pool_of m g k)) n on full
 
-pub refused_by : (m : Market) (lines : List MapLine) (g k : ℕ) → IsSome (refuser_of m lines g k) → (n : ℕ) × (counts_at m n g k ≡ true) × (is_full_of_better m lines n (key_of m g k) ≡ true)
+pub refused_by : (m : Market) (lines : List MapLine) (g k : ℕ) → IsSome (refusing_node m lines g k) → (n : ℕ) × (counts_at m n g k ≡ true) × (is_full_of_better m lines n (key_of m g k) ≡ true)
 refused_by m lines g k some = found (λ n. is_full_of_better m lines n (key_of m g k)) (path m (pool_of m g k)) some
 
 -- after a put, what a node refused is refused by it or by a node above it

@@ -1,9 +1,9 @@
 -- States, and what each of their calls asks and gives.
-use Rattle.std.specs.Prelude.{◌≡◌, ℕ, ◌+◌, ◌<◌, ◌≤◌, ◌^◌, Bool, nat_lt, ◌==◌, if◌then◌else◌, List, [], length, All, IsTrue, slice_index, slice_set}
+use Rattle.std.specs.Prelude.{◌≡◌, ℕ, ◌+◌, ◌<◌, ◌≤◌, ◌^◌, Bool, nat_lt, ◌==◌, if◌then◌else◌, List, [], length, All, IsSome, IsTrue, slice_index, slice_set}
 use Rattle.map_model.specs.declared.instance.Key.{Key}
 use Rattle.map_model.specs.declared.lines.MapLine.{MapLine}
-use Rattle.map_model.specs.Market.{Market, IsMarket, IsSameShape, capacity_of, choices_of}
-use Rattle.map_model.specs.Allocation.{AreLines, IsOffer, amount_at, counts_at, is_full_of_better, is_under, is_wanted, load, units_of}
+use Rattle.map_model.specs.Market.{Market, IsMarket, IsSameShape, capacity_of, choices_of, limit_of}
+use Rattle.map_model.specs.Allocation.{AreLines, IsOffer, amount_at, counts_at, is_full_of_better, is_under, is_wanted, load, refusing_node, units_of}
 use Rattle.map_model.specs.Holding.{IsWorst, Takes}
 use Rattle.map_model.specs.Progress.{IsResumable}
 use Rattle.evict.specs.declared.freed.Eviction.{Eviction}
@@ -32,18 +32,19 @@ pub record CanAsk (m : Market) (state : Standing) (g k : ℕ) : Type 0 where
   pub shape : IsSameShape state.market m
   pub offer : IsOffer m g k
 
--- some units may be offered: a place of the group's list at its pointer, and no more units than are free
+-- some units may be offered: a place of the group's list at its pointer, and no more units than are free and fit under the offer's limit
 pub record CanPut (m : Market) (state : Standing) (g k units : ℕ) : Type 0 where
   pub ready : IsReady m state
   pub offer : IsOffer m g k
   pub pointer : k ≡ slice_index state.pointers g
   pub free : units ≤ slice_index state.free g
+  pub limit : amount_at state.lines g k + units ≤ limit_of m g k
 
 -- what a node refused before is refused after by it or by a node above it
 abbrev pub KeepsRefusals : Market → List MapLine → List MapLine → Type 0
 KeepsRefusals m old new = (n : ℕ) (key : Key) → n < length m.nodes → IsTrue (is_full_of_better m old n key) → (o : ℕ) × IsTrue (is_under m o n) × IsTrue (is_full_of_better m new o key)
 
--- A put of units at (g, k), with a list of what offers lost by it. What is held now and what is listed make up what was held before and the units put. Each group's free units count what it lost, and no longer what was put. A pointer goes to the next place where its group lost units at the place before it, and nowhere else. The new state is resumable, and no refusal is taken back.
+-- A put of units at (g, k), with a list of what offers lost by it. What is held now and what is listed make up what was held before and the units put. Each group's free units count what it lost, and no longer what was put. A pointer goes to the next place where its group lost units at the place before it, and nowhere else. The new state is resumable, and no node takes a refusal back. An offer that lost units is refused by a node, also where its limit refused it.
 pub record IsPut (m : Market) (old new : Standing) (g k units : ℕ) (freed : List Eviction) : Type 0 where
   pub ready : IsReady m new
   pub evictions : All (λ e. IsEviction m e) freed
@@ -51,6 +52,7 @@ pub record IsPut (m : Market) (old new : Standing) (g k units : ℕ) (freed : Li
   pub free : (h : ℕ) → h < length m.groups → slice_index new.free h + (if g == h then units else 0) ≡ slice_index old.free h + freed_units (λ x _. x == h) freed
   pub pointers : (h : ℕ) → h < length m.groups → slice_index new.pointers h ≡ (if gave_up freed h (slice_index old.pointers h) then slice_index old.pointers h + 1 else slice_index old.pointers h)
   pub refusals : KeepsRefusals m old.lines new.lines
+  pub turned : (h j : ℕ) → IsOffer m h j → IsTrue (gave_up freed h j) → IsSome (refusing_node m new.lines h j)
 
 -- a fresh state: whole and resumable, with nothing held and all pointers at the first place, so that all units are free
 pub record IsFresh (m : Market) (state : Standing) : Type 0 where

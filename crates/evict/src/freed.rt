@@ -46,7 +46,8 @@ impl Freed {
         self.evictions.as_slice()
     }
 
-    pub(crate) fn clear(&mut self)
+    /// Forgets what was given up.
+    pub fn clear(&mut self)
         ensures { self.new ≡ [] }
     {
         self.evictions.clear();

@@ -1,13 +1,13 @@
-//! Which node refuses an offer.
+//! What refuses an offer.
 
 ghost use Rattle.std.specs.Prelude.{◌≡◌, ◌<◌, length, IsTrue};
 ghost use Rattle.std.specs.Option.{option_map};
 ghost use Rattle.map_model.specs.Market.{IsMarket, IsSameShape};
-ghost use Rattle.map_model.specs.Allocation.{IsOffer, is_full_of_better, none_worse, refuser_of};
+ghost use Rattle.map_model.specs.Allocation.{IsOffer, is_at_limit, is_full_of_better, none_worse, refuser_of, refusing_node};
 ghost use Rattle.evict.specs.Putting.{AgreesWith};
 
 use capacity_tree::Tree;
-use map_model::{Instance, Key, LEVELS, NodeId, Offer};
+use map_model::{By, Instance, Key, LEVELS, NodeId, Offer, Units};
 use offer_pool::Held;
 
 /// Whether a node is full and holds only offers ranked at least as high as that key.
@@ -33,12 +33,12 @@ fn is_none_worse(instance: &Instance, held: &Held, node: NodeId, key: Key) -> bo
 }
 
 /// The refusing node nearest to an offer's pool.
-pub fn refuser(instance: &Instance, held: &Held, tree: &Tree, offer: Offer) -> Option<NodeId>
+pub fn refusing_node(instance: &Instance, held: &Held, tree: &Tree, offer: Offer) -> Option<NodeId>
     requires market { IsMarket instance.now }
     requires offer { IsOffer instance.now offer.group.0 offer.place }
     requires shape { IsSameShape held.now.market instance.now }
     requires agrees { AgreesWith instance.now held.now.lines tree.now }
-    ensures { option_map (λ n. n.0) result ≡ refuser_of instance.now held.now.lines offer.group.0 offer.place }
+    ensures { option_map (λ n. n.0) result ≡ refusing_node instance.now held.now.lines offer.group.0 offer.place }
 {
     let key = instance.key(offer);
     let mut at = Some(key.pool);
@@ -51,4 +51,27 @@ pub fn refuser(instance: &Instance, held: &Held, tree: &Tree, offer: Offer) -> O
         }
     }
     None
+}
+
+/// Whether an offer holds as many units as its limit.
+fn is_at_limit(instance: &Instance, held: &Held, offer: Offer) -> bool
+    requires offer { IsOffer instance.now offer.group.0 offer.place }
+    requires shape { IsSameShape held.now.market instance.now }
+    ensures { result ≡ is_at_limit instance.now held.now.lines offer.group.0 offer.place }
+{
+    held.units(offer) == Units::from(instance.limit(offer.group, offer.place))
+}
+
+/// What refuses an offer: its limit, or else the refusing node nearest to its pool.
+pub fn refuser(instance: &Instance, held: &Held, tree: &Tree, offer: Offer) -> Option<By>
+    requires market { IsMarket instance.now }
+    requires offer { IsOffer instance.now offer.group.0 offer.place }
+    requires shape { IsSameShape held.now.market instance.now }
+    requires agrees { AgreesWith instance.now held.now.lines tree.now }
+    ensures { result ≡ refuser_of instance.now held.now.lines offer.group.0 offer.place }
+{
+    if is_at_limit(instance, held, offer) {
+        return Some(By::Limit);
+    }
+    refusing_node(instance, held, tree, offer).map(By::Node)
 }

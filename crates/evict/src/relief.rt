@@ -2,11 +2,11 @@
 
 ghost use Rattle.std.specs.Prelude.{◌≡◌, ◌<◌, ◌≤◌, [], IfOk, OnOk, is_some};
 ghost use Rattle.map_model.specs.Market.{IsMarket, IsSameShape, capacity_of, pool_of};
-ghost use Rattle.map_model.specs.Allocation.{IsOffer, load, refuser_of};
+ghost use Rattle.map_model.specs.Allocation.{IsOffer, load, refusing_node};
 ghost use Rattle.evict.specs.Putting.{AgreesWith, IsPlacing, IsRelieved, IsRelieving, Origin};
 
 use crate::freed::Freed;
-use crate::refuser::refuser;
+use crate::refuser::refusing_node;
 use capacity_tree::Tree;
 use map_model::{Instance, NodeId, Offer, Units};
 use no_memory::NoMemory;
@@ -74,9 +74,9 @@ fn is_refused(instance: &Instance, held: &Held, tree: &Tree, offer: Offer) -> bo
     requires offer { IsOffer instance.now offer.group.0 offer.place }
     requires shape { IsSameShape held.now.market instance.now }
     requires agrees { AgreesWith instance.now held.now.lines tree.now }
-    ensures { result ≡ is_some (refuser_of instance.now held.now.lines offer.group.0 offer.place) }
+    ensures { result ≡ is_some (refusing_node instance.now held.now.lines offer.group.0 offer.place) }
 {
-    refuser(instance, held, tree, offer).is_some()
+    refusing_node(instance, held, tree, offer).is_some()
 }
 
 /// Holds units of an offer, and brings each node of its path within its capacity.

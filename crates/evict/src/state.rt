@@ -1,7 +1,6 @@
 //! A state of deferred acceptance, and its calls.
 
 ghost use Rattle.std.specs.Prelude.{◌≡◌, ℕ, ◌+◌, ◌-◌, ◌<◌, ◌≤◌, ◌^◌, ◌==◌, IfOk, OnOk, IsTrue, MatchOption, length, slice_index, slice_set, if◌then◌else◌};
-ghost use Rattle.std.specs.Option.{option_map};
 ghost use Rattle.map_model.specs.Market.{demand_of};
 ghost use Rattle.map_model.specs.Progress.{root_of};
 ghost use Rattle.map_model.specs.Allocation.{AreLines, IsGood, IsOffer, amount_at, load, placed, refuser_of};
@@ -15,7 +14,7 @@ use crate::relief::place;
 use crate::rival::{Rival, rival_of};
 use crate::settle::settle;
 use capacity_tree::Tree;
-use map_model::{GroupId, Instance, MapLine, MapLines, NodeId, Offer, Steps, Units};
+use map_model::{By, GroupId, Instance, MapLine, MapLines, NodeId, Offer, Steps, Units};
 use no_memory::NoMemory;
 use offer_pool::Held;
 use std::alloc::Global;
@@ -188,10 +187,11 @@ impl State {
         self.held.lines(alloc)
     }
 
-    /// The refusing node nearest to an offer's pool; none exactly where no node refuses it.
-    pub fn refuser(&self, instance: &Instance, offer: Offer) -> Option<NodeId>
+    /// What refuses an offer: its limit, or else the refusing node nearest to its pool; none exactly
+    /// where neither its limit nor a node refuses it.
+    pub fn refuser(&self, instance: &Instance, offer: Offer) -> Option<By>
         requires { CanAsk instance.now self.now offer.group.0 offer.place }
-        ensures { option_map (λ n. n.0) result ≡ refuser_of instance.now self.now.lines offer.group.0 offer.place }
+        ensures { result ≡ refuser_of instance.now self.now.lines offer.group.0 offer.place }
     {
         refuser(instance, &self.held, &self.tree, offer)
     }
@@ -206,7 +206,7 @@ impl State {
         rival_of(instance, &self.held, &self.tree, offer)
     }
 
-    /// Units are offered at a group's pointer: one proposal. Each node of the path then gives up units
+    /// Units that fit under the offer's limit are offered at a group's pointer: one proposal. Each node of the path then gives up units
     /// of its worst offers until it is within its capacity; `freed` tells which.
     ///
     /// # Errors

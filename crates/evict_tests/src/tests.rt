@@ -4,9 +4,9 @@ ghost use Rattle.std.specs.Prelude.{IfSome};
 ghost use Rattle.evict.specs.Standing.{IsReady};
 
 use evict::{Eviction, Freed, State};
-use map_model::{GroupId, Instance, MapLine, NodeId, Offer, Proposals, Steps, Units};
+use map_model::{By, GroupId, Instance, MapLine, NodeId, Offer, Proposals, Steps, Units};
 use std::alloc::Global;
-use worlds::{GroupAt, INNER, NodeAt, POOL, Placed, instance_of};
+use worlds::{GroupAt, INNER, LIMIT, NodeAt, POOL, Placed, instance_of};
 
 /// A group offers all its free units at its pointer, and what is so afterwards.
 struct Turn {
@@ -154,7 +154,11 @@ fn offer_all(
         return None;
     }
     let units = state.free(group);
-    match state.put(instance, Offer { group, place }, units, freed, steps) {
+    let offer = Offer { group, place };
+    if state.units(offer) + units > Units::from(instance.limit(offer.group, offer.place)) {
+        return None;
+    }
+    match state.put(instance, offer, units, freed, steps) {
         Ok(()) => Some((place, units)),
         Err(_) => None,
     }
@@ -211,6 +215,15 @@ fn has_groups(instance: &Instance, state: &State, pointers: &[u8], free: &[u64])
     true
 }
 
+/// What refuses, by the number of a row.
+fn by_of(by: u32) -> By {
+    if by == LIMIT {
+        By::Limit
+    } else {
+        By::Node(NodeId(by))
+    }
+}
+
 /// Whether that node refuses an offer, or none does.
 fn has_refuser(instance: &Instance, state: &State, offer: Offer, node: Option<u32>) -> bool
     requires { IsReady instance.now state.now }
@@ -218,7 +231,7 @@ fn has_refuser(instance: &Instance, state: &State, offer: Offer, node: Option<u3
     if offer.group.0 >= instance.groups() || offer.place >= instance.list_len(offer.group) {
         return false;
     }
-    state.refuser(instance, offer) == node.map(NodeId)
+    state.refuser(instance, offer) == node.map(by_of)
 }
 
 /// Whether those nodes refuse those offers.

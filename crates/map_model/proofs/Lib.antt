@@ -13,5 +13,6 @@ pub mod NameForm
 pub mod Rising
 pub mod Turns
 pub mod Roots
+pub mod Refused
 mod StateRows
 mod TreeRows

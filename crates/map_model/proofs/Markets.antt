@@ -32,6 +32,7 @@ IsGroup-same nodes nodes' len same group h = record {
   few = h.few;
   there = λ k d l. omega (arith, h.there k d l);
   pools = λ k d l. same _ ∙ h.pools k d l;
+  limits = h.limits;
   distinct = h.distinct;
 }
 
@@ -68,6 +69,7 @@ IsMarket-set_group m g group market within same some fits =
       few = subst (λ (cs : List _). length cs ≤ 16) (sym same) was.few;
       there = subst (λ (cs : List _). All (λ c. c.pool.0 < length m.nodes) cs) (sym same) was.there;
       pools = subst (λ (cs : List _). All (λ c. IsTrue (node_in m.nodes c.pool.0).is_pool) cs) (sym same) was.pools;
+      limits = subst (λ (cs : List _). All (λ c. (1 ≤ c.limit) × (c.limit < 2 ^ 32)) cs) (sym same) was.limits;
       distinct = subst (λ (cs : List _). AllPairs (λ c d. c.pool.0 ≡ d.pool.0 → ⊥) cs) (sym same) was.distinct;
     } in
     record {

@@ -5,10 +5,12 @@ use Rattle.std.specs.Option.{IfSome, option_map}
 use Rattle.std.proofs.lemmas.Bool.{cases_Bool, lt-ltb, and_from}
 use Rattle.std.proofs.lemmas.List.Elements.{filter_map-append}
 use Rattle.map_model.specs.declared.instance.NodeId.{NodeId}
+use Rattle.map_model.specs.declared.lines.By.{By}
+use Rattle.map_model.specs.declared.lines.By.TheVariants.{Limit, Node}
 use Rattle.map_model.specs.declared.lines.MapLine.{MapLine}
 use Rattle.map_model.specs.declared.lines.NameLine.{NameLine}
 use Rattle.map_model.specs.Market.{Market, IsMarket, choices_of, climb, parent_of, pool_of}
-use Rattle.map_model.specs.Allocation.{AreNames, IsGood, IsMapForm, IsOffer, is_name, is_wanted, name_at, name_of, names_of, offers_from, refuser_of}
+use Rattle.map_model.specs.Allocation.{AreNames, IsGood, IsMapForm, IsOffer, is_at_limit, is_by, is_name, is_wanted, name_at, name_of, names_of, offers_from, refuser_of, refusing_node}
 use Rattle.map_model.proofs.MapForm.{few_places}
 use Rattle.map_model.proofs.Paths.{parent_there, pool_there}
 use Rattle.map_model.proofs.Rising.{IsRisen, Rises, Rises-at, Rises-lower, before_by_rank, first_or}
@@ -24,8 +26,19 @@ find_there m market test (suc steps) (Some p) h = elim (cases_Bool (test p.0)) [
 ]
 
 -- the refusing node of an offer is there
-pub refuser_there : (m : Market) → IsMarket m → (lines : List MapLine) (g k : ℕ) → IsOffer m g k → IfSome (refuser_of m lines g k) (λ n. n < length m.nodes)
-refuser_there m market lines g k o = find_there m market _ 8 (Some (record { 0 = pool_of m g k })) (pool_there m market g k o)
+pub refusing_there : (m : Market) → IsMarket m → (lines : List MapLine) (g k : ℕ) → IsOffer m g k → IfSome (refusing_node m lines g k) (λ n. n < length m.nodes)
+refusing_there m market lines g k o = find_there m market _ 8 (Some (record { 0 = pool_of m g k })) (pool_there m market g k o)
+
+-- and so is what refuses it
+pub refuser_there : (m : Market) → IsMarket m → (lines : List MapLine) (g k : ℕ) → IsOffer m g k → IfSome (refuser_of m lines g k) (λ by. IsTrue (is_by m by))
+refuser_there m market lines g k o = elim (cases_Bool (is_at_limit m lines g k)) [
+  | inl e ↦ rw e refl
+  | inr e ↦ rw e (node_there (refusing_node m lines g k) (refusing_there m market lines g k o))
+]
+  where
+    node_there : (at : Option ℕ) → IfSome at (λ n. n < length m.nodes) → IfSome (option_map (λ n. Node (record { 0 = n })) at) (λ by. IsTrue (is_by m by))
+    node_there None h = tt
+    node_there (Some n) h = lt-ltb _ _ h
 
 -- where a name stands in the order
 abbrev rank : NameLine → ℕ
@@ -34,11 +47,11 @@ rank l = l.group.0 * 16 + l.place
 -- the ids and the place of a name are in range
 record IsInRange (m : Market) (l : NameLine) : Type 0 where
   offer : IsOffer m l.group.0 l.place
-  node : l.node.0 < length m.nodes
+  by : IsTrue (is_by m l.by)
 
 -- a name that no list holds
 abbrev pub no_name : NameLine
-no_name = record { group = record { 0 = 0 }; place = 0; node = record { 0 = 0 } }
+no_name = record { group = record { 0 = 0 }; place = 0; by = Limit }
 
 -- names in range whose ranks rise, from one on
 abbrev Rise : Market → ℕ → List NameLine → Type 0
@@ -52,9 +65,9 @@ Rises-name m market lines g k o rest r = elim (cases_Bool (is_wanted m lines g k
   | inr e ↦ rw e (Rises-lower rank (IsInRange m) (g * 16 + k) (g * 16 + k + 1) rest (omega arith) r)
 ]
   where
-    named : (refuser : Option ℕ) → IfSome refuser (λ n. n < length m.nodes) → Rise m (g * 16 + k) (cons_option (option_map (λ n. record { group = record { 0 = g }; place = k; node = record { 0 = n } }) refuser) rest)
+    named : (refuser : Option By) → IfSome refuser (λ by. IsTrue (is_by m by)) → Rise m (g * 16 + k) (cons_option (option_map (λ by. record { group = record { 0 = g }; place = k; by = by }) refuser) rest)
     named None h = Rises-lower rank (IsInRange m) (g * 16 + k) (g * 16 + k + 1) rest (omega arith) r
-    named (Some n) h = (omega arith, record { offer = o; node = h }, r)
+    named (Some by) h = (omega arith, record { offer = o; by = h }, r)
 
 -- the names of a group's offers from one place on, before those of later groups
 Rises-group : (m : Market) → IsMarket m → (lines : List MapLine) (g : ℕ) → g < length m.groups → (rest : List NameLine) → Rise m ((g + 1) * 16) rest → (n k : ℕ) → k + n ≡ length (choices_of m g)
@@ -86,7 +99,7 @@ in_form : (m : Market) → IsMarket m → (names : List NameLine) (i : ℕ) → 
 in_form m market names i h a each =
     let l = name_at names i in
     let b = name_at names (i - 1) in
-    and_from _ _ (and_from _ _ (and_from _ _ (lt-ltb _ _ a.range.offer.group) (lt-ltb _ _ a.range.offer.place)) (lt-ltb _ _ a.range.node)) (first_or i _ (λ some. before_by_rank b.group.0 b.place l.group.0 l.place (few_places m market _ _ (each (i - 1) (omega arith)).offer) (few_places m market _ _ a.range.offer) (a.above some)))
+    and_from _ _ (and_from _ _ (and_from _ _ (lt-ltb _ _ a.range.offer.group) (lt-ltb _ _ a.range.offer.place)) a.range.by) (first_or i _ (λ some. before_by_rank b.group.0 b.place l.group.0 l.place (few_places m market _ _ (each (i - 1) (omega arith)).offer) (few_places m market _ _ a.range.offer) (a.above some)))
 
 -- the names of a map are in the form of a map
 pub AreNames-names_of : (m : Market) → IsMarket m → (lines : List MapLine) → AreNames m (names_of m lines)

@@ -3,10 +3,12 @@ use Rattle.std.proofs.Common.{◌≡◌, ℕ, ◌<◌, refl, sym, ap, ◌∙◌,
 use Rattle.std.specs.List.{list_any}
 use Rattle.map_model.specs.declared.instance.Choice.{Choice}
 use Rattle.map_model.specs.declared.instance.Key.{Key}
+use Rattle.map_model.specs.declared.lines.By.{By}
+use Rattle.map_model.specs.declared.lines.By.TheVariants.{Limit, Node}
 use Rattle.map_model.specs.declared.lines.MapLine.{MapLine}
 use Rattle.map_model.specs.declared.lines.NameLine.{NameLine}
-use Rattle.map_model.specs.Market.{Market, IsSameShape, choice_at, key_of, path, pool_of}
-use Rattle.map_model.specs.Allocation.{IsMapForm, IsOffer, counts_at, is_line, is_name, is_under, line_at, name_at}
+use Rattle.map_model.specs.Market.{Market, IsSameShape, choice_at, key_of, limit_of, path, pool_of}
+use Rattle.map_model.specs.Allocation.{IsMapForm, IsOffer, counts_at, is_by, is_line, is_name, is_under, line_at, name_at}
 use Rattle.map_model.specs.Progress.{root_of, tree_of}
 use Rattle.map_model.proofs.Markets.{climb-same}
 
@@ -31,7 +33,10 @@ pub IsOffer-shape : (m m' : Market) → IsSameShape m m' → (g k : ℕ) → IsO
 IsOffer-shape m m' s g k o = record { group = omega (arith, s.groups, o.group); place = subst (λ (cs : List Choice). k < length cs) (sym (s.lists g)) o.place }
 
 pub choice_at-shape : (m m' : Market) → IsSameShape m m' → (g k : ℕ) → choice_at m' g k ≡ choice_at m g k
-choice_at-shape m m' s g k = ap (λ (cs : List Choice). slice_index_or cs k (record { pool = record { 0 = 0 }; score = 0 })) (s.lists g)
+choice_at-shape m m' s g k = ap (λ (cs : List Choice). slice_index_or cs k (record { pool = record { 0 = 0 }; score = 0; limit = 0 })) (s.lists g)
+
+pub limit_of-shape : (m m' : Market) → IsSameShape m m' → (g k : ℕ) → limit_of m' g k ≡ limit_of m g k
+limit_of-shape m m' s g k = ap (λ (c : Choice). c.limit) (choice_at-shape m m' s g k)
 
 pub pool_of-shape : (m m' : Market) → IsSameShape m m' → (g k : ℕ) → pool_of m' g k ≡ pool_of m g k
 pool_of-shape m m' s g k = ap (λ (c : Choice). c.pool.0) (choice_at-shape m m' s g k)
@@ -57,6 +62,11 @@ root_of-shape m m' s n = ap (λ (ns : List ℕ). slice_index ns (length ns - 1))
 pub tree_of-shape : (m m' : Market) → IsSameShape m m' → (g k : ℕ) → tree_of m' g k ≡ tree_of m g k
 tree_of-shape m m' s g k = ap (root_of m') (pool_of-shape m m' s g k) ∙ root_of-shape m m' s (pool_of m g k)
 
+-- what a name says is there by the shape alone
+pub is_by-shape : (m m' : Market) → IsSameShape m m' → (by : By) → is_by m' by ≡ is_by m by
+is_by-shape m m' s Limit = refl
+is_by-shape m m' s (Node n) = rw s.nodes refl
+
 -- a map's form rests on the shape alone
 pub IsMapForm-shape : (m m' : Market) → IsSameShape m m' → (lines : List MapLine) (names : List NameLine) → IsMapForm m lines names → IsMapForm m' lines names
 IsMapForm-shape m m' s lines names form = record {
@@ -68,4 +78,4 @@ IsMapForm-shape m m' s lines names form = record {
     is_line-shape i = rw (s.groups, s.lists (line_at lines i).group.0) refl
 
     is_name-shape : (i : ℕ) → is_name m' names i ≡ is_name m names i
-    is_name-shape i = rw (s.groups, s.lists (name_at names i).group.0, s.nodes) refl
+    is_name-shape i = rw (s.groups, s.lists (name_at names i).group.0, is_by-shape m m' s (name_at names i).by) refl

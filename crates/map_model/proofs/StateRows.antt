@@ -10,7 +10,7 @@ use Rattle.map_model.specs.Batch.{IsApplied, last_capacity, last_demand}
 use Rattle.map_model.specs.Progress.{IsEnded, IsGroupBest, IsResumable}
 use Rattle.map_model.proofs.Units.{through-le-placed}
 use Rattle.map_model.proofs.Decide.{IsResumable-computed, is_not}
-use Rattle.map_model.proofs.Rows.{crossed, line, region, scratch-good, two_level}
+use Rattle.map_model.proofs.Rows.{crossed, limited, line, region, scratch-good, two_level}
 
 abbrev asks : ℕ → ℕ → Change
 asks g units = Demand (record { 0 = g }) units
@@ -88,6 +88,21 @@ loses-nothing state = is_not 7 8 refl (state.totals 1 (omega arith))
 -- units at a place past the pointer
 holds-nothing-past : IsResumable two_level (line 0 0 8 ∷ line 1 0 2 ∷ line 1 1 5 ∷ []) (0 ∷ 0 ∷ []) (0 ∷ 1 ∷ []) → ⊥
 holds-nothing-past state = is_not 5 0 refl (state.none_past 1 1 (record { group = omega arith; place = omega arith }) (omega arith))
+
+-- where five units are the limit of the first group at the first pool, its other three ask the second one next, though the first pool has room
+abbrev at_limit : List MapLine
+at_limit = line 0 0 5 ∷ []
+
+at_limit-resumable : IsResumable limited at_limit (1 ∷ 0 ∷ []) (3 ∷ 8 ∷ [])
+unfolding climb
+at_limit-resumable = IsResumable-computed limited at_limit (1 ∷ 0 ∷ []) (3 ∷ 8 ∷ []) refl
+
+-- and no more than that may be held there
+past_limit : IsResumable limited (line 0 0 6 ∷ []) (0 ∷ 0 ∷ []) (2 ∷ 8 ∷ []) → ⊥
+past_limit state = absurd (omega (arith, six state))
+  where
+    six : IsResumable limited (line 0 0 6 ∷ []) (0 ∷ 0 ∷ []) (2 ∷ 8 ∷ []) → 6 ≤ 5
+    six state = state.limits 0 0 (record { group = omega arith; place = omega arith })
 
 -- it is ended where the group has reached the end of its list, or has nothing free
 ended-at-end : IsEnded two_level (0 ∷ 2 ∷ []) (0 ∷ 1 ∷ [])

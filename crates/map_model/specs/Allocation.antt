@@ -1,14 +1,16 @@
 -- Keys, loads, what is wanted, what refuses, and what a good map is.
-use Rattle.std.specs.Prelude.{◌≡◌, ℕ, ◌-◌, ◌<◌, ◌≤◌, Bool, true, ◌&&◌, ◌||◌, ◌==◌, nat_lt, nat_le, if◌then◌else◌, List, length, Option, None, IsTrue, IsSome, slice_index_or, sum_by, find, map}
+use Rattle.std.specs.Prelude.{◌≡◌, ℕ, ◌-◌, ◌<◌, ◌≤◌, Bool, true, ◌&&◌, ◌||◌, ◌==◌, nat_lt, nat_le, if◌then◌else◌, List, length, Option, None, Some, IsTrue, IsSome, slice_index_or, sum_by, find, map}
 use Rattle.std.specs.List.{list_any, list_all, range_with_len, flat_map, filter_map}
 use Rattle.std.specs.Option.{option_map}
 use Rattle.std.specs.declared.cmp.Ordering.{Ordering}
 use Rattle.std.specs.Ordering.{nat_cmp, ordering_then, is_le}
 use Rattle.map_model.specs.declared.instance.Key.{Key}
 use Rattle.map_model.specs.declared.instance.Offer.{Offer}
+use Rattle.map_model.specs.declared.lines.By.{By}
+use Rattle.map_model.specs.declared.lines.By.TheVariants.{Limit, Node}
 use Rattle.map_model.specs.declared.lines.MapLine.{MapLine}
 use Rattle.map_model.specs.declared.lines.NameLine.{NameLine}
-use Rattle.map_model.specs.Market.{Market, demand_of, choices_of, pool_of, key_of, capacity_of, path}
+use Rattle.map_model.specs.Market.{Market, demand_of, choices_of, pool_of, key_of, limit_of, capacity_of, path}
 
 -- the order of keys: by score, then by group, then by pool
 abbrev pub key_cmp : Key → Key → Ordering
@@ -55,10 +57,11 @@ amount_at lines g k = units_of (λ h j. (h == g) && (j == k)) lines
 abbrev pub placed : List MapLine → ℕ → ℕ
 placed lines g = units_of (λ h _. h == g) lines
 
--- feasible: no group has more than its demand, and no node more than its capacity
+-- feasible: no group has more than its demand, no node more than its capacity, and no offer more than its limit
 pub record IsFeasible (m : Market) (lines : List MapLine) : Type 0 where
   pub demands : (g : ℕ) → g < length m.groups → placed lines g ≤ demand_of m g
   pub capacities : (n : ℕ) → n < length m.nodes → load m lines n ≤ capacity_of m n
+  pub limits : (g k : ℕ) → IsOffer m g k → amount_at lines g k ≤ limit_of m g k
 
 -- wanted: some of the group's demand is placed worse than at this place, or not at all
 abbrev pub is_wanted : Market → List MapLine → ℕ → ℕ → Bool
@@ -73,14 +76,22 @@ abbrev pub is_full_of_better : Market → List MapLine → ℕ → Key → Bool
 is_full_of_better m lines n key = (load m lines n == capacity_of m n) && none_worse m lines n key
 
 -- the refusing node nearest to the pool: the first of the offer's path that is full and holds only offers ranked at least as high
-abbrev pub refuser_of : Market → List MapLine → ℕ → ℕ → Option ℕ
-refuser_of m lines g k = find (λ n. is_full_of_better m lines n (key_of m g k)) (path m (pool_of m g k))
+abbrev pub refusing_node : Market → List MapLine → ℕ → ℕ → Option ℕ
+refusing_node m lines g k = find (λ n. is_full_of_better m lines n (key_of m g k)) (path m (pool_of m g k))
 
--- if the offer is wanted, some node refuses it
+-- the limit refuses the offer, which holds as many units
+abbrev pub is_at_limit : Market → List MapLine → ℕ → ℕ → Bool
+is_at_limit m lines g k = amount_at lines g k == limit_of m g k
+
+-- what refuses an offer: its limit, or else the refusing node nearest to the pool
+abbrev pub refuser_of : Market → List MapLine → ℕ → ℕ → Option By
+refuser_of m lines g k = if is_at_limit m lines g k then Some Limit else option_map (λ n. Node (record { 0 = n })) (refusing_node m lines g k)
+
+-- if the offer is wanted, its limit or some node refuses it
 abbrev pub IsRefusedIfWanted : Market → List MapLine → ℕ → ℕ → Type 0
 IsRefusedIfWanted m lines g k = IsTrue (is_wanted m lines g k) → IsSome (refuser_of m lines g k)
 
--- stable: some node refuses each wanted offer
+-- stable: each wanted offer is refused by its limit or by some node
 abbrev pub IsStable : Market → List MapLine → Type 0
 IsStable m lines = (g k : ℕ) → IsOffer m g k → IsRefusedIfWanted m lines g k
 
@@ -92,10 +103,10 @@ offers_from m g k = map (λ k. record { group = record { 0 = g }; place = k }) (
 abbrev pub offers_of : Market → List Offer
 offers_of m = flat_map (λ g. offers_from m g 0) (range_with_len 0 (length m.groups))
 
--- the name of an offer, if it is wanted: the refusing node nearest to the pool
+-- the name of an offer, if it is wanted: its limit where that refuses, and otherwise the refusing node nearest to the pool
 abbrev pub name_of : Market → List MapLine → Offer → Option NameLine
 name_of m lines o =
-    if is_wanted m lines o.group.0 o.place then option_map (λ n. record { group = o.group; place = o.place; node = record { 0 = n } }) (refuser_of m lines o.group.0 o.place) else None
+    if is_wanted m lines o.group.0 o.place then option_map (λ by. record { group = o.group; place = o.place; by = by }) (refuser_of m lines o.group.0 o.place) else None
 
 -- the names of a map: one for each wanted offer, by group and place
 abbrev pub names_of : Market → List MapLine → List NameLine
@@ -121,17 +132,22 @@ AreLines m lines = (i : ℕ) → i < length lines → IsTrue (is_line m lines i)
 
 -- the name of that number
 abbrev pub name_at : List NameLine → ℕ → NameLine
-name_at names i = slice_index_or names i (record { group = record { 0 = 0 }; place = 0; node = record { 0 = 0 } })
+name_at names i = slice_index_or names i (record { group = record { 0 = 0 }; place = 0; by = Limit })
 
 -- a name is before another: by group, and then by place
 abbrev pub is_name_before : NameLine → NameLine → Bool
 is_name_before a b = nat_lt a.group.0 b.group.0 || ((a.group.0 == b.group.0) && nat_lt a.place b.place)
 
--- the name of that number is at an offer, has a node that is there, and stands above the one before it
+-- what a name says is there: the limit, or a node of the instance
+abbrev pub is_by : Market → By → Bool
+is_by m Limit = true
+is_by m (Node n) = nat_lt n.0 (length m.nodes)
+
+-- the name of that number is at an offer, has a limit or a node that is there, and stands above the one before it
 abbrev pub is_name : Market → List NameLine → ℕ → Bool
 is_name m names i =
     let l = name_at names i in
-    nat_lt l.group.0 (length m.groups) && nat_lt l.place (length (choices_of m l.group.0)) && nat_lt l.node.0 (length m.nodes) && ((i == 0) || is_name_before (name_at names (i - 1)) l)
+    nat_lt l.group.0 (length m.groups) && nat_lt l.place (length (choices_of m l.group.0)) && is_by m l.by && ((i == 0) || is_name_before (name_at names (i - 1)) l)
 
 -- names in the form of a map
 abbrev pub AreNames : Market → List NameLine → Type 0

@@ -1,12 +1,12 @@
 -- Instances: groups that ask pools, trees of capacities, paths, and what makes rows an instance.
-use Rattle.std.specs.Prelude.{◌≡◌, refl, ℕ, zero, suc, ◌<◌, ◌≤◌, ◌^◌, Bool, false, IsTrue, IsFalse, List, [], ◌∷◌, length, Option, None, Some, IfSome, All, AllPairs, slice_index_or}
+use Rattle.std.specs.Prelude.{◌≡◌, refl, ℕ, zero, suc, ◌<◌, ◌≤◌, ◌-◌, ◌^◌, Bool, false, IsTrue, IsFalse, List, [], ◌∷◌, length, Option, None, Some, IfSome, All, AllPairs, slice_index_or}
 use Rattle.map_model.specs.declared.instance.NodeId.{NodeId}
 use Rattle.map_model.specs.declared.instance.Key.{Key}
 use Rattle.map_model.specs.declared.instance.Choice.{Choice}
 use Rattle.map_model.specs.declared.instance.Node.{Node}
-use Rattle.map_model.specs.declared.limits.TheConstants.{LEVELS, MOST_CAPACITY, MOST_GROUPS, MOST_NODES, PLACES}
+use Rattle.map_model.specs.declared.limits.TheConstants.{LEVELS, MOST_CAPACITY, MOST_GROUPS, MOST_NODES, NO_LIMIT, PLACES}
 
--- a group: its demand, and its list of pools with their scores, the best place first
+-- a group: its demand, and its list of pools with their scores and limits, the best place first
 pub record Group : Type 0 where
   pub demand : ℕ
   pub choices : List Choice
@@ -28,9 +28,9 @@ demand_of m g = (group_at m g).demand
 abbrev pub choices_of : Market → ℕ → List Choice
 choices_of m g = (group_at m g).choices
 
--- the pool and the score at one place of a group's list
+-- the pool, the score and the limit at one place of a group's list
 abbrev pub choice_at : Market → ℕ → ℕ → Choice
-choice_at m g k = slice_index_or (choices_of m g) k (record { pool = record { 0 = 0 }; score = 0 })
+choice_at m g k = slice_index_or (choices_of m g) k (record { pool = record { 0 = 0 }; score = 0; limit = 0 })
 
 -- the number of the pool at one place of a group's list
 abbrev pub pool_of : Market → ℕ → ℕ → ℕ
@@ -39,6 +39,10 @@ pool_of m g k = (choice_at m g k).pool.0
 -- the key of an offer: its score, its group and its pool
 abbrev pub key_of : Market → ℕ → ℕ → Key
 key_of m g k = record { score = (choice_at m g k).score; group = record { 0 = g }; pool = (choice_at m g k).pool }
+
+-- how many units an offer may hold
+abbrev pub limit_of : Market → ℕ → ℕ → ℕ
+limit_of m g k = (choice_at m g k).limit
 
 -- the node of that number
 abbrev pub node_in : List Node → ℕ → Node
@@ -70,7 +74,7 @@ climb (suc steps) m (Some n) = n.0 ∷ climb steps m (parent_of m n.0)
 abbrev pub path : Market → ℕ → List ℕ
 path m n = climb 8 m (Some (record { 0 = n }))
 
--- a group over these nodes: 1 to 2^32-1 units, and a list of 1 to 16 distinct pools
+-- a group over these nodes: 1 to 2^32-1 units, and a list of 1 to 16 distinct pools, each with a limit of 1 to 2^32-1 units
 pub record IsGroup (nodes : List Node) (group : Group) : Type 0 where
   pub some : 1 ≤ group.demand
   pub fits : group.demand < 2 ^ 32
@@ -78,6 +82,7 @@ pub record IsGroup (nodes : List Node) (group : Group) : Type 0 where
   pub few : length group.choices ≤ 16
   pub there : All (λ c. c.pool.0 < length nodes) group.choices
   pub pools : All (λ c. IsTrue (node_in nodes c.pool.0).is_pool) group.choices
+  pub limits : All (λ c. (1 ≤ c.limit) × (c.limit < 2 ^ 32)) group.choices
   pub distinct : AllPairs (λ c d. c.pool.0 ≡ d.pool.0 → ⊥) group.choices
 
 -- What makes groups and nodes an instance: at most 65,536 groups; at most 8,192 nodes with capacities of at most 2^48, in trees: each parent has a lower number than its children and is no pool, and no path has nine nodes.
@@ -106,7 +111,10 @@ most_nodes_is = refl
 pub most_capacity_is : MOST_CAPACITY ≡ 2 ^ 48
 most_capacity_is = refl
 
--- two instances that differ in demands and capacities alone: the lists and the trees are the same
+pub no_limit_is : NO_LIMIT ≡ 2 ^ 32 - 1
+no_limit_is = refl
+
+-- two instances that differ in demands and capacities alone: the lists, their limits too, and the trees are the same
 pub record IsSameShape (old new : Market) : Type 0 where
   pub groups : length new.groups ≡ length old.groups
   pub nodes : length new.nodes ≡ length old.nodes

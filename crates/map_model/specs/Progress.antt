@@ -1,15 +1,16 @@
 -- Resumable, ended and group-best, and the trees to which changes reach and spread.
 use Rattle.std.specs.Prelude.{◌≡◌, ◌≢◌, ℕ, ◌+◌, ◌-◌, ◌<◌, ◌≤◌, Bool, List, length, IsTrue, IsSome, slice_index}
 use Rattle.map_model.specs.declared.lines.MapLine.{MapLine}
-use Rattle.map_model.specs.Market.{Market, capacity_of, choices_of, demand_of, path, pool_of}
+use Rattle.map_model.specs.Market.{Market, capacity_of, choices_of, demand_of, limit_of, path, pool_of}
 use Rattle.map_model.specs.Allocation.{AreLines, IsFeasible, IsOffer, IsStable, amount_at, placed_through, is_wanted, load, placed, refuser_of}
 
--- A resumable state, of what is held, a pointer for each group, and free units for each group: no node is over its capacity; what is held and what is free make up the demand; a group holds nothing at a place after its pointer; and some node refuses each place before it.
+-- A resumable state, of what is held, a pointer for each group, and free units for each group: no node is over its capacity and no offer over its limit; what is held and what is free make up the demand; a group holds nothing at a place after its pointer; and each place before it is refused, by its limit or by some node.
 pub record IsResumable (m : Market) (lines : List MapLine) (pointers free : List ℕ) : Type 0 where
   pub form : AreLines m lines
   pub pointers_for : length pointers ≡ length m.groups
   pub free_for : length free ≡ length m.groups
   pub capacities : (n : ℕ) → n < length m.nodes → load m lines n ≤ capacity_of m n
+  pub limits : (g k : ℕ) → IsOffer m g k → amount_at lines g k ≤ limit_of m g k
   pub totals : (g : ℕ) → g < length m.groups → placed lines g + slice_index free g ≡ demand_of m g
   pub in_list : (g : ℕ) → g < length m.groups → slice_index pointers g ≤ length (choices_of m g)
   pub none_past : (g k : ℕ) → IsOffer m g k → slice_index pointers g < k → amount_at lines g k ≡ 0

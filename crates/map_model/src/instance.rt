@@ -1,7 +1,7 @@
 //! Instances: groups that ask pools, in trees of capacities.
 
 ghost use Rattle.std.specs.Prelude.{◌≡◌, ◌↔◌, ◌<◌, ◌≤◌, ◌^◌, length, slice_set, map, IfOk, IfSome, IsSome};
-ghost use Rattle.map_model.specs.Market.{Group, Market, IsMarket, IsSameShape, capacity_of, choice_at, choices_of, demand_of, group_at, key_of, node_at, parent_of, path};
+ghost use Rattle.map_model.specs.Market.{Group, Market, IsMarket, IsSameShape, capacity_of, choice_at, choices_of, demand_of, group_at, key_of, limit_of, node_at, parent_of, path};
 ghost use Rattle.map_model.specs.declared.limits.TheConstants.{MOST_CAPACITY};
 ghost use Rattle.map_model.specs.Allocation.{IsOffer};
 
@@ -38,11 +38,14 @@ pub struct Key {
     pub pool: NodeId,
 }
 
-/// One place of a group's list: a pool, and the score of the group there. Lower scores are better.
+/// One place of a group's list: a pool, the score of the group there, and how many of its units it
+/// may hold there. Lower scores are better.
 #[derive(Clone, Copy, Debug, Default, PartialEq, Eq)]
 pub struct Choice {
     pub pool: NodeId,
     pub score: u32,
+    /// How many units the offer may hold, at least 1 in an instance.
+    pub limit: u32,
 }
 
 /// A node of a tree.
@@ -248,6 +251,15 @@ impl Instance {
             group: offer.group,
             pool: choice.pool,
         }
+    }
+
+    /// How many units a group may hold at a place of its list: 1 to 2^32-1.
+    pub fn limit(&self, group: GroupId, place: u8) -> u32
+        requires { IsOffer self.now group.0 place }
+        ensures { result ≡ limit_of self.now group.0 place }
+    {
+        let row = &self.groups[group.0 as usize];
+        row.choices()[place as usize].limit
     }
 
     /// Gives a group another demand. All else stays.

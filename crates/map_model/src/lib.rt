@@ -12,6 +12,6 @@ mod validity;
 
 pub use change::Change;
 pub use instance::{Choice, ClientGroup, GroupId, Instance, Key, Node, NodeId, Offer, Units};
-pub use limits::{LEVELS, MOST_CAPACITY, MOST_GROUPS, MOST_NODES, PLACES};
-pub use lines::{MapLine, MapLines, NameLine};
+pub use limits::{LEVELS, MOST_CAPACITY, MOST_GROUPS, MOST_NODES, NO_LIMIT, PLACES};
+pub use lines::{By, MapLine, MapLines, NameLine};
 pub use steps::{Proposals, Steps};

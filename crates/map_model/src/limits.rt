@@ -14,3 +14,6 @@ pub const PLACES: usize = 16;
 
 /// How many units a node may hold at most.
 pub const MOST_CAPACITY: u64 = 1 << 48;
+
+/// The limit of an offer that has none of its own: no demand is larger.
+pub const NO_LIMIT: u32 = u32::MAX;

@@ -75,11 +75,13 @@ fn are_trees(nodes: &[Node]) -> bool
     nodes.len() <= MOST_NODES && are_tree_nodes(nodes) && are_shallow(nodes)
 }
 
-/// Whether a choice's pool is there and a pool.
+/// Whether a choice's pool is there and a pool, and its limit in range.
 fn is_choice(nodes: &[Node], choice: Choice) -> bool
-    ensures { IsTrue result ↔ ((choice.pool.0 < length nodes.now) × IsTrue (node_in nodes.now choice.pool.0).is_pool) }
+    ensures { IsTrue result ↔ ((choice.pool.0 < length nodes.now) × IsTrue (node_in nodes.now choice.pool.0).is_pool × (1 ≤ choice.limit) × (choice.limit < 2 ^ 32)) }
 {
-    (choice.pool.0 as usize) < nodes.len() && nodes[choice.pool.0 as usize].is_pool
+    (choice.pool.0 as usize) < nodes.len()
+        && nodes[choice.pool.0 as usize].is_pool
+        && choice.limit >= 1
 }
 
 /// Whether none of the choices is of that pool.

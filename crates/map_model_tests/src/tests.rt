@@ -1,6 +1,6 @@
 //! Instances by hand: their parts, one number changed, and rows that are none.
 
-use map_model::{Choice, ClientGroup, GroupId, Instance, Key, Node, NodeId, Offer};
+use map_model::{Choice, ClientGroup, GroupId, Instance, Key, NO_LIMIT, Node, NodeId, Offer};
 use std::alloc::Global;
 
 /// Capacity, parent and whether it is a pool.
@@ -36,8 +36,13 @@ fn nodes_of(alloc: Global, rows: &[NodeRow]) -> Option<Vec<Node>> {
 fn choices_of(alloc: Global, rows: &[(u32, u32)]) -> Option<Vec<Choice>> {
     let mut choices = Vec::new(alloc);
     for &(pool, score) in rows {
-        let pool = NodeId(pool);
-        choices.push(Choice { pool, score }).ok()?;
+        choices
+            .push(Choice {
+                pool: NodeId(pool),
+                score,
+                limit: NO_LIMIT,
+            })
+            .ok()?;
     }
     Some(choices)
 }
@@ -79,7 +84,9 @@ fn has_offer(instance: &Instance) -> bool {
     if instance.groups() != 2 || instance.list_len(group) != 2 {
         return false;
     }
-    instance.pool_at(offer) == pool && instance.key(offer) == Key { score, group, pool }
+    instance.pool_at(offer) == pool
+        && instance.key(offer) == Key { score, group, pool }
+        && instance.limit(offer.group, offer.place) == NO_LIMIT
 }
 
 #[test]
@@ -186,6 +193,26 @@ fn takes_only_instances(rt: HostRuntime) {
     assert_eq!(rt; wrong_row(rt.alloc(), ROWS), None);
 }
 
+/// Whether one pool, with a group that may hold so many units there, is an instance that says so.
+fn keeps_limit(alloc: Global, limit: u32) -> Option<bool> {
+    let pool = NodeId(0);
+    let score = 1;
+    let choices = vec![in alloc; Choice { pool, score, limit }].ok()?;
+    let groups = vec![in alloc; ClientGroup::new(1, choices)].ok()?;
+    let Some(instance) = Instance::try_from_rows(groups, pools(alloc, 1)?) else {
+        return Some(false);
+    };
+    let (group, place) = (GroupId(0), 0);
+    Some(instance.limit(group, place) == limit)
+}
+
+#[test]
+fn takes_limits_above_zero(rt: HostRuntime) {
+    assert_eq!(rt; keeps_limit(rt.alloc(), 0), Some(false));
+    assert_eq!(rt; keeps_limit(rt.alloc(), 1), Some(true));
+    assert_eq!(rt; keeps_limit(rt.alloc(), NO_LIMIT), Some(true));
+}
+
 /// A chain of nodes, each under the one before; the last is the pool.
 fn chain(alloc: Global, levels: u32) -> Option<Vec<Node>> {
     let mut nodes = Vec::new(alloc);
@@ -227,8 +254,13 @@ fn pools(alloc: Global, count: usize) -> Option<Vec<Node>> {
 fn wide(alloc: Global, count: u32) -> Option<Vec<Choice>> {
     let mut choices = Vec::new(alloc);
     for n in 0..count {
-        let pool = NodeId(n);
-        choices.push(Choice { pool, score: 1 }).ok()?;
+        choices
+            .push(Choice {
+                pool: NodeId(n),
+                score: 1,
+                limit: NO_LIMIT,
+            })
+            .ok()?;
     }
     Some(choices)
 }

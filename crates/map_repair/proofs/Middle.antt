@@ -3,12 +3,13 @@ use Rattle.std.proofs.Common.{◌≡◌, ◌≢◌, ℕ, ◌+◌, ◌-◌, ◌*�
 use Rattle.std.specs.Option.{option_map}
 use Rattle.std.proofs.Math.Nat.{mul-le-mul_right}
 use Rattle.std.proofs.lemmas.Bool.{and_parts, cases_Bool, cases_eq, cases_lt, eqb-true, false≢true, leb-false, leb-true, lt-ltb, ltb-true, ltb-false}
+use Rattle.map_model.specs.declared.lines.By.{By}
 use Rattle.map_model.specs.declared.lines.MapLine.{MapLine}
 use Rattle.map_model.specs.Market.{Market, IsMarket, IsSameShape, capacity_of, choices_of, demand_of}
 use Rattle.map_model.specs.Allocation.{IsOffer, amount_at, placed_through, is_wanted, name_of, placed, refuser_of, units_of}
 use Rattle.map_model.specs.Progress.{HoldsIn, IsClosedUnderRepair, IsClosedUnderSpread, IsEnded, root_of, tree_of}
 use Rattle.map_model.proofs.MapForm.{offers-AreLines, line-some}
-use Rattle.map_model.proofs.Shapes.{IsOffer-shape, root_of-shape, shape_sym, shape_trans, tree_of-shape}
+use Rattle.map_model.proofs.Shapes.{IsOffer-shape, limit_of-shape, root_of-shape, shape_sym, shape_trans, tree_of-shape}
 use Rattle.map_model.proofs.Units.{units_of-le, through-le-placed, units-agree, none-units}
 use Rattle.evict.specs.Standing.{IsReady, Standing}
 use Rattle.evict.proofs.Shaped.{load-shape}
@@ -121,6 +122,9 @@ module _ (old new : Market) (s mid : Standing) (marks : List Bool) (k0 : IsMiddl
         pointers_for = ap length k0.cut.less.pointers ∙ r.pointers_for ∙ sym k0.shape.groups;
         free_for = k0.cut.less.count ∙ r.free_for ∙ sym k0.shape.groups;
         capacities = k0.cut.capacities;
+        limits = λ g k o.
+            let was = r.limits g k (to_old g k o) in
+            omega (arith, k0.cut.less.fewer (λ h j. (h == g) && (j == k)), was, limit_of-shape old new k0.shape g k);
         totals = k0.cut.totals;
         in_list = λ g l. omega (arith, pointer_same g, r.in_list g (omega (arith, l, k0.shape.groups)), ap length (k0.shape.lists g));
         none_past = λ g k o past. omega (arith, k0.cut.less.fewer (λ h j. (h == g) && (j == k)), r.none_past g k (to_old g k o) (omega (arith, past, pointer_same g)));
@@ -270,8 +274,8 @@ module _ (old new : Market) (s mid : Standing) (marks : List Bool) (k0 : IsMiddl
 
           named : (g k : ℕ) → IsOffer old g k → trees (tree_of old g k) ≡ false → name_of new final.lines (record { group = record { 0 = g }; place = k }) ≡ name_of old s.lines (record { group = record { 0 = g }; place = k })
           named g k o out =
-              ap (λ b. if b then option_map (λ n. record { group = record { 0 = g }; place = k; node = record { 0 = n } }) (refuser_of new final.lines g k) else None) wants
-              ∙ ap (λ (r : Option ℕ). if is_wanted old s.lines g k then option_map (λ n. record { group = record { 0 = g }; place = k; node = record { 0 = n } }) r else None) refuses
+              ap (λ b. if b then option_map (λ by. record { group = record { 0 = g }; place = k; by = by }) (refuser_of new final.lines g k) else None) wants
+              ∙ ap (λ (r : Option By). if is_wanted old s.lines g k then option_map (λ by. record { group = record { 0 = g }; place = k; by = by }) r else None) refuses
             where
               of_group : (j : ℕ) → IsOffer old g j → trees (tree_of old g j) ≡ false
               of_group j oj = all_out g k j o oj out

@@ -12,25 +12,29 @@ use Rattle.std.specs.List.{flat_map}
 use Rattle.std.specs.Option.{option_map_or}
 use Rattle.std.specs.Prelude.{slice_get}
 use Rattle.map_model.specs.declared.instance.Offer.{Offer}
+use Rattle.addr_text.proofs.Splits.{Lacks}
+use Rattle.map_model.specs.declared.lines.By.{By}
+use Rattle.map_model.specs.declared.lines.By.TheVariants.{Limit, Node}
 use Rattle.map_model.specs.declared.lines.MapLine.{MapLine}
 use Rattle.map_model.specs.declared.lines.NameLine.{NameLine}
 use Rattle.map_model.specs.Market.{Market, pool_of}
-use Rattle.map_model.specs.Allocation.{AreLines, AreNames, IsMapForm, IsOffer, is_before, is_name, is_name_before}
+use Rattle.map_model.specs.Allocation.{AreLines, AreNames, IsMapForm, IsOffer, is_before, is_by, is_name, is_name_before}
 use Rattle.map_model.proofs.MapForm.{IsLineAt-from, no_line}
 use Rattle.map_model.proofs.Paths.{pool_there}
 use Rattle.map_model.proofs.NameForm.{no_name}
 use Rattle.topology_text.specs.Plan.{IsPlan, Plan, number_in}
 use Rattle.text_parts.specs.Parts.{unfinished}
-use Rattle.map_text.specs.Words.{four_of}
-use Rattle.map_text.specs.Lines.{amount_of, entry_of, full_line, line_of, offer_of, place_line}
+use Rattle.map_text.specs.Words.{four_of, three_of}
+use Rattle.map_text.specs.Lines.{amount_of, entry_of, full_line, limit_line, line_of, offer_of, place_line}
 use Rattle.map_text.specs.Reading.{Mapped, SoFar, fault_of, map_of, so_far}
 use Rattle.map_text.specs.Reader.{with_line}
-use Rattle.map_text.specs.Writing.{ended, full_row, name_at as word_at, place_row, rows_of, text_of_map}
+use Rattle.map_text.specs.Writing.{by_row, ended, name_at as word_at, name_row, place_row, rows_of, text_of_map}
 use Rattle.map_text.specs.declared.fault.MapFault.{MapFault}
 use Rattle.map_text.specs.declared.line.Line.{Line}
-use Rattle.map_text.specs.declared.line.Line.TheVariants.{Header, Place, Full, End, Bad}
+use Rattle.map_text.specs.declared.line.Line.TheVariants.{Header, Place, Named, End, Bad}
+use Rattle.map_text.specs.declared.line.Version.TheVariants.{Second}
 use Rattle.map_text.proofs.Readings.{read_all, read_on, unless}
-use Rattle.map_text.proofs.Rows.{AllLack, all_lack-append, four_lacks, four_parts, unfinished_ended, whole_ended}
+use Rattle.map_text.proofs.Rows.{AllLack, all_lack-append, four_lacks, four_parts, three_lacks, three_parts, unfinished_ended, whole_ended}
 use Rattle.map_text.proofs.Spelled.{IsWord, amount_again, amount_word, name_word, number_again, offer_again}
 
 -- the amounts fit 32 bits
@@ -62,25 +66,44 @@ place_again_line t plan x o some fits =
     let wg = group_word t plan x.group.0 o.group in
     let wp = node_word t plan (pool_of t.market x.group.0 x.place) (pool_there t.market plan.market x.group.0 x.place o) in
     let wl = amount_word x.amount fits in
-    ap (λ (ps : List (List ℕ)). entry_of t (four_of ps)) (four_parts (codes "place") g p l (refl, (refl, (refl, (refl, (refl, tt))))) wg.no_space wp.no_space wl.no_space)
+    ap (λ (ps : List (List ℕ)). entry_of t (three_of ps) (four_of ps)) (four_parts (codes "place") g p l (refl, (refl, (refl, (refl, (refl, tt))))) wg.no_space wp.no_space wl.no_space)
     ∙ ap (λ (b : Bool). cond b Bad (place_line (offer_of t g p) (amount_of l))) (entry_words t (codes "place") g p l wg.some wp.some wl.some)
     ∙ ap (λ (a : Option ℕ). place_line (offer_of t g p) a) (amount_again x.amount some fits)
     ∙ ap (λ (a : Option Offer). place_line a (Some x.amount)) (offer_again t plan x.group.0 x.place o)
 
 -- what is named, as a line again
-full_again_line : (t : Plan) → IsPlan t → (x : NameLine) → IsOffer t.market x.group.0 x.place → x.node.0 < length t.market.nodes → line_of t (full_row t x) ≡ Full x
-full_again_line t plan x o there =
-    let g = word_at t.group_names x.group.0 in
-    let p = word_at t.node_names (pool_of t.market x.group.0 x.place) in
-    let l = word_at t.node_names x.node.0 in
-    let wg = group_word t plan x.group.0 o.group in
-    let wp = node_word t plan (pool_of t.market x.group.0 x.place) (pool_there t.market plan.market x.group.0 x.place o) in
-    let wl = node_word t plan x.node.0 there in
-    let in_nodes : x.node.0 < length t.node_names = let e = plan.nodes.as_many in omega arith in
-    ap (λ (ps : List (List ℕ)). entry_of t (four_of ps)) (four_parts (codes "full") g p l (refl, (refl, (refl, (refl, tt)))) wg.no_space wp.no_space wl.no_space)
-    ∙ ap (λ (b : Bool). cond b Bad (full_line (offer_of t g p) (number_in t.node_names l))) (entry_words t (codes "full") g p l wg.some wp.some wl.some)
-    ∙ ap (λ (a : Option ℕ). full_line (offer_of t g p) a) (number_again t.node_names x.node.0 plan.nodes.distinct in_nodes)
-    ∙ ap (λ (a : Option Offer). full_line a (Some x.node.0)) (offer_again t plan x.group.0 x.place o)
+name_again_line : (t : Plan) → IsPlan t → (x : NameLine) → IsOffer t.market x.group.0 x.place → IsTrue (is_by t.market x.by) → line_of t (name_row t x) ≡ Named x
+name_again_line t plan x o there = go x.by there refl
+  where
+    g : List ℕ
+    g = word_at t.group_names x.group.0
+
+    p : List ℕ
+    p = word_at t.node_names (pool_of t.market x.group.0 x.place)
+
+    wg : IsWord (word_at t.group_names x.group.0)
+    wg = group_word t plan x.group.0 o.group
+
+    wp : IsWord (word_at t.node_names (pool_of t.market x.group.0 x.place))
+    wp = node_word t plan (pool_of t.market x.group.0 x.place) (pool_there t.market plan.market x.group.0 x.place o)
+
+    go : (by : By) → IsTrue (is_by t.market by) → by ≡ x.by → line_of t (by_row t g p by) ≡ Named (record { group = x.group; place = x.place; by = by })
+    go Limit there is =
+        let a : (length g == 0) ≡ false = let some = wg.some in grind (arith, nat_tests) in
+        let b : (length p == 0) ≡ false = let some = wp.some in grind (arith, nat_tests) in
+        let words : ((length g == 0) || (length p == 0)) ≡ false = rw (a, b) refl in
+        ap (λ (ps : List (List ℕ)). entry_of t (three_of ps) (four_of ps)) (three_parts (codes "limit") g p (refl, (refl, (refl, (refl, (refl, tt))))) wg.no_space wp.no_space)
+        ∙ ap (λ (b : Bool). cond b Bad (limit_line (offer_of t g p))) words
+        ∙ ap (λ (a : Option Offer). limit_line a) (offer_again t plan x.group.0 x.place o)
+    go (Node n) there is =
+        let l = word_at t.node_names n.0 in
+        let within : n.0 < length t.market.nodes = ltb-true _ _ there in
+        let wl = node_word t plan n.0 within in
+        let in_nodes : n.0 < length t.node_names = let e = plan.nodes.as_many in omega arith in
+        ap (λ (ps : List (List ℕ)). entry_of t (three_of ps) (four_of ps)) (four_parts (codes "full") g p l (refl, (refl, (refl, (refl, tt)))) wg.no_space wp.no_space wl.no_space)
+        ∙ ap (λ (b : Bool). cond b Bad (full_line (offer_of t g p) (number_in t.node_names l))) (entry_words t (codes "full") g p l wg.some wp.some wl.some)
+        ∙ ap (λ (a : Option ℕ). full_line (offer_of t g p) a) (number_again t.node_names n.0 plan.nodes.distinct in_nodes)
+        ∙ ap (λ (a : Option Offer). full_line a (Some n.0)) (offer_again t plan x.group.0 x.place o)
 
 -- what holds of a line of a map
 record IsPlaced (m : Market) (x : MapLine) : Type 0 where
@@ -91,7 +114,7 @@ record IsPlaced (m : Market) (x : MapLine) : Type 0 where
 -- what holds of a name of a map
 pub record IsNamed (m : Market) (x : NameLine) : Type 0 where
   pub offer : IsOffer m x.group.0 x.place
-  pub node : x.node.0 < length m.nodes
+  pub by : IsTrue (is_by m x.by)
 
 placed_at : (m : Market) (lines : List MapLine) → AreLines m lines → Fit lines → (i : ℕ) → i < length lines → IsPlaced m (get_or lines i no_line)
 placed_at m lines form fit i lt = let at = IsLineAt-from m lines i (form i lt) in record { offer = at.offer; some = at.some; fits = fit i no_line lt }
@@ -101,7 +124,7 @@ named_at m names form i lt =
     let p = and_parts _ _ (form i lt) in
     let q = and_parts _ _ p.0 in
     let r = and_parts _ _ q.0 in
-    record { offer = record { group = ltb-true _ _ r.0; place = ltb-true _ _ r.1 }; node = ltb-true _ _ q.1 }
+    record { offer = record { group = ltb-true _ _ r.0; place = ltb-true _ _ r.1 }; by = q.1 }
 
 named_above : (m : Market) (names : List NameLine) (i : ℕ) → IsTrue (is_name m names i) → 0 < i → is_name_before (get_or names (i - 1) no_name) (get_or names i no_name) ≡ true
 named_above m names i h some = elim (or_cases _ _ (and_parts _ _ h).1) [
@@ -117,12 +140,12 @@ place_rows t plan (x ∷ xs) h =
     ap (λ (l : Line). l ∷ map (line_of t) (map (place_row t) xs)) (place_again_line t plan x here.offer here.some here.fits)
     ∙ ap (λ (ls : List Line). Place x ∷ ls) (place_rows t plan xs (λ i lt. h (suc i) (omega arith)))
 
-full_rows : (t : Plan) → IsPlan t → (xs : List NameLine) → ((i : ℕ) → i < length xs → IsNamed t.market (get_or xs i no_name)) → map (line_of t) (map (full_row t) xs) ≡ map Full xs
-full_rows t plan [] h = refl
-full_rows t plan (x ∷ xs) h =
+name_rows : (t : Plan) → IsPlan t → (xs : List NameLine) → ((i : ℕ) → i < length xs → IsNamed t.market (get_or xs i no_name)) → map (line_of t) (map (name_row t) xs) ≡ map Named xs
+name_rows t plan [] h = refl
+name_rows t plan (x ∷ xs) h =
     let here = h 0 (omega arith) in
-    ap (λ (l : Line). l ∷ map (line_of t) (map (full_row t) xs)) (full_again_line t plan x here.offer here.node)
-    ∙ ap (λ (ls : List Line). Full x ∷ ls) (full_rows t plan xs (λ i lt. h (suc i) (omega arith)))
+    ap (λ (l : Line). l ∷ map (line_of t) (map (name_row t) xs)) (name_again_line t plan x here.offer here.by)
+    ∙ ap (λ (ls : List Line). Named x ∷ ls) (name_rows t plan xs (λ i lt. h (suc i) (omega arith)))
 
 place_rows_lack : (t : Plan) → IsPlan t → (xs : List MapLine) → ((i : ℕ) → i < length xs → IsPlaced t.market (get_or xs i no_line)) → AllLack 10 (map (place_row t) xs)
 place_rows_lack t plan [] h = tt
@@ -133,14 +156,17 @@ place_rows_lack t plan (x ∷ xs) h =
     let l = amount_word x.amount here.fits in
     (four_lacks (codes "place") _ _ _ (refl, (refl, (refl, (refl, (refl, tt))))) g.no_end p.no_end l.no_end, place_rows_lack t plan xs (λ i lt. h (suc i) (omega arith)))
 
-full_rows_lack : (t : Plan) → IsPlan t → (xs : List NameLine) → ((i : ℕ) → i < length xs → IsNamed t.market (get_or xs i no_name)) → AllLack 10 (map (full_row t) xs)
-full_rows_lack t plan [] h = tt
-full_rows_lack t plan (x ∷ xs) h =
+by_lacks : (t : Plan) → IsPlan t → (g p : List ℕ) → Lacks 10 g → Lacks 10 p → (by : By) → IsTrue (is_by t.market by) → Lacks 10 (by_row t g p by)
+by_lacks t plan g p lg lp Limit there = three_lacks (codes "limit") g p (refl, (refl, (refl, (refl, (refl, tt))))) lg lp
+by_lacks t plan g p lg lp (Node n) there = four_lacks (codes "full") g p (word_at t.node_names n.0) (refl, (refl, (refl, (refl, tt)))) lg lp (node_word t plan n.0 (ltb-true _ _ there)).no_end
+
+name_rows_lack : (t : Plan) → IsPlan t → (xs : List NameLine) → ((i : ℕ) → i < length xs → IsNamed t.market (get_or xs i no_name)) → AllLack 10 (map (name_row t) xs)
+name_rows_lack t plan [] h = tt
+name_rows_lack t plan (x ∷ xs) h =
     let here = h 0 (omega arith) in
     let g = group_word t plan x.group.0 here.offer.group in
     let p = node_word t plan (pool_of t.market x.group.0 x.place) (pool_there t.market plan.market x.group.0 x.place here.offer) in
-    let l = node_word t plan x.node.0 here.node in
-    (four_lacks (codes "full") _ _ _ (refl, (refl, (refl, (refl, tt)))) g.no_end p.no_end l.no_end, full_rows_lack t plan xs (λ i lt. h (suc i) (omega arith)))
+    (by_lacks t plan (word_at t.group_names x.group.0) (word_at t.node_names (pool_of t.market x.group.0 x.place)) g.no_end p.no_end x.by here.by, name_rows_lack t plan xs (λ i lt. h (suc i) (omega arith)))
 
 -- a line above the one before it
 line_above : (m : Market) (done : List MapLine) (x : MapLine) (todo : List MapLine) → AreLines m (done ++ x ∷ todo) → option_map_or (λ y. is_before y x) (slice_get done (length done - 1)) true ≡ true
@@ -181,39 +207,39 @@ name_above m (d ∷ ds) x todo form =
 
 -- the lines of a map, behind the header
 reads_places : (m : Market) (done todo : List MapLine) (n : ℕ) (more : List Line) (rest : List ℕ) (r : Result Mapped MapFault) → 0 < n → AreLines m (done ++ todo)
-    → ((k : ℕ) → 0 < k → read_on (record { count = k; lines = done ++ todo; names = []; is_ended = false }) more rest ≡ r)
-    → read_on (record { count = n; lines = done; names = []; is_ended = false }) (map Place todo ++ more) rest ≡ r
+    → ((k : ℕ) → 0 < k → read_on (record { count = k; lines = done ++ todo; names = []; takes_limits = true; is_ended = false }) more rest ≡ r)
+    → read_on (record { count = n; lines = done; names = []; takes_limits = true; is_ended = false }) (map Place todo ++ more) rest ≡ r
 reads_places m done [] n more rest r some form next =
-    ap (λ (xs : List MapLine). read_on (record { count = n; lines = xs; names = []; is_ended = false }) more rest) (sym (append-nil done)) ∙ next n some
+    ap (λ (xs : List MapLine). read_on (record { count = n; lines = xs; names = []; takes_limits = true; is_ended = false }) more rest) (sym (append-nil done)) ∙ next n some
 reads_places m done (x ∷ todo) n more rest r some form next =
-    let before : SoFar = record { count = n; lines = done; names = []; is_ended = false } in
+    let before : SoFar = record { count = n; lines = done; names = []; takes_limits = true; is_ended = false } in
     let shift : (done ++ x ∷ []) ++ todo ≡ done ++ x ∷ todo = append_assoc done (x ∷ []) todo in
     let not_first : (n == 0) ≡ false = grind (arith, nat_tests) in
     let no_fault : fault_of before (Place x) ≡ None = rw (not_first, line_above m done x todo form) refl in
     ap (λ (fault : Option MapFault). unless fault (read_on (with_line before (Place x)) (map Place todo ++ more) rest)) no_fault
     ∙ reads_places m (done ++ x ∷ []) todo (n + 1) more rest r (omega arith) (subst (λ (xs : List MapLine). AreLines m xs) (sym shift) form)
-    (λ k above. ap (λ (xs : List MapLine). read_on (record { count = k; lines = xs; names = []; is_ended = false }) more rest) shift ∙ next k above)
+    (λ k above. ap (λ (xs : List MapLine). read_on (record { count = k; lines = xs; names = []; takes_limits = true; is_ended = false }) more rest) shift ∙ next k above)
 
 -- the names of a map, behind its lines
-reads_fulls : (m : Market) (lines : List MapLine) (done todo : List NameLine) (n : ℕ) (more : List Line) (rest : List ℕ) (r : Result Mapped MapFault) → 0 < n → AreNames m (done ++ todo)
-    → ((k : ℕ) → 0 < k → read_on (record { count = k; lines = lines; names = done ++ todo; is_ended = false }) more rest ≡ r)
-    → read_on (record { count = n; lines = lines; names = done; is_ended = false }) (map Full todo ++ more) rest ≡ r
-reads_fulls m lines done [] n more rest r some form next =
-    ap (λ (xs : List NameLine). read_on (record { count = n; lines = lines; names = xs; is_ended = false }) more rest) (sym (append-nil done)) ∙ next n some
-reads_fulls m lines done (x ∷ todo) n more rest r some form next =
-    let before : SoFar = record { count = n; lines = lines; names = done; is_ended = false } in
+reads_names : (m : Market) (lines : List MapLine) (done todo : List NameLine) (n : ℕ) (more : List Line) (rest : List ℕ) (r : Result Mapped MapFault) → 0 < n → AreNames m (done ++ todo)
+    → ((k : ℕ) → 0 < k → read_on (record { count = k; lines = lines; names = done ++ todo; takes_limits = true; is_ended = false }) more rest ≡ r)
+    → read_on (record { count = n; lines = lines; names = done; takes_limits = true; is_ended = false }) (map Named todo ++ more) rest ≡ r
+reads_names m lines done [] n more rest r some form next =
+    ap (λ (xs : List NameLine). read_on (record { count = n; lines = lines; names = xs; takes_limits = true; is_ended = false }) more rest) (sym (append-nil done)) ∙ next n some
+reads_names m lines done (x ∷ todo) n more rest r some form next =
+    let before : SoFar = record { count = n; lines = lines; names = done; takes_limits = true; is_ended = false } in
     let shift : (done ++ x ∷ []) ++ todo ≡ done ++ x ∷ todo = append_assoc done (x ∷ []) todo in
     let not_first : (n == 0) ≡ false = grind (arith, nat_tests) in
-    let no_fault : fault_of before (Full x) ≡ None = rw (not_first, name_above m done x todo form) refl in
-    ap (λ (fault : Option MapFault). unless fault (read_on (with_line before (Full x)) (map Full todo ++ more) rest)) no_fault
-    ∙ ap (λ (xs : List MapLine). read_on (record { count = n + 1; lines = xs; names = done ++ x ∷ []; is_ended = false }) (map Full todo ++ more) rest) (append-nil lines)
-    ∙ reads_fulls m lines (done ++ x ∷ []) todo (n + 1) more rest r (omega arith) (subst (λ (xs : List NameLine). AreNames m xs) (sym shift) form)
-    (λ k above. ap (λ (xs : List NameLine). read_on (record { count = k; lines = lines; names = xs; is_ended = false }) more rest) shift ∙ next k above)
+    let no_fault : fault_of before (Named x) ≡ None = rw (not_first, name_above m done x todo form) refl in
+    ap (λ (fault : Option MapFault). unless fault (read_on (with_line before (Named x)) (map Named todo ++ more) rest)) no_fault
+    ∙ ap (λ (xs : List MapLine). read_on (record { count = n + 1; lines = xs; names = done ++ x ∷ []; takes_limits = true; is_ended = false }) (map Named todo ++ more) rest) (append-nil lines)
+    ∙ reads_names m lines (done ++ x ∷ []) todo (n + 1) more rest r (omega arith) (subst (λ (xs : List NameLine). AreNames m xs) (sym shift) form)
+    (λ k above. ap (λ (xs : List NameLine). read_on (record { count = k; lines = lines; names = xs; takes_limits = true; is_ended = false }) more rest) shift ∙ next k above)
 
 -- the end
-reads_end : (lines : List MapLine) (names : List NameLine) (k : ℕ) → 0 < k → read_on (record { count = k; lines = lines; names = names; is_ended = false }) (End ∷ []) [] ≡ Ok (record { lines = lines; names = names })
+reads_end : (lines : List MapLine) (names : List NameLine) (k : ℕ) → 0 < k → read_on (record { count = k; lines = lines; names = names; takes_limits = true; is_ended = false }) (End ∷ []) [] ≡ Ok (record { lines = lines; names = names })
 reads_end lines names k some =
-    let before : SoFar = record { count = k; lines = lines; names = names; is_ended = false } in
+    let before : SoFar = record { count = k; lines = lines; names = names; takes_limits = true; is_ended = false } in
     let not_first : (k == 0) ≡ false = grind (arith, nat_tests) in
     let no_fault : fault_of before End ≡ None = rw not_first refl in
     ap (λ (fault : Option MapFault). unless fault (read_on (with_line before End) [] [])) no_fault
@@ -222,20 +248,20 @@ reads_end lines names k some =
 
 -- the rows of a map, as lines again
 rows_again : (t : Plan) → IsPlan t → (m : Mapped) → ((i : ℕ) → i < length m.lines → IsPlaced t.market (get_or m.lines i no_line)) → ((i : ℕ) → i < length m.names → IsNamed t.market (get_or m.names i no_name))
-    → map (line_of t) (rows_of t m) ≡ Header ∷ (map Place m.lines ++ (map Full m.names ++ End ∷ []))
+    → map (line_of t) (rows_of t m) ≡ Header Second ∷ (map Place m.lines ++ (map Named m.names ++ End ∷ []))
 rows_again t plan m placed named =
     let places = map (place_row t) m.lines in
-    let fulls = map (full_row t) m.names in
-    map-append (line_of t) (codes "glb map 1" ∷ places ++ fulls) (codes "end" ∷ [])
-    ∙ ap (λ (ls : List Line). ls ++ End ∷ []) (map-append (line_of t) (codes "glb map 1" ∷ places) fulls)
-    ∙ append_assoc (Header ∷ map (line_of t) places) (map (line_of t) fulls) (End ∷ [])
-    ∙ ap (λ (ls : List Line). Header ∷ (ls ++ (map (line_of t) fulls ++ End ∷ []))) (place_rows t plan m.lines placed)
-    ∙ ap (λ (ls : List Line). Header ∷ (map Place m.lines ++ (ls ++ End ∷ []))) (full_rows t plan m.names named)
+    let names = map (name_row t) m.names in
+    map-append (line_of t) (codes "glb map 2" ∷ places ++ names) (codes "end" ∷ [])
+    ∙ ap (λ (ls : List Line). ls ++ End ∷ []) (map-append (line_of t) (codes "glb map 2" ∷ places) names)
+    ∙ append_assoc (Header Second ∷ map (line_of t) places) (map (line_of t) names) (End ∷ [])
+    ∙ ap (λ (ls : List Line). Header Second ∷ (ls ++ (map (line_of t) names ++ End ∷ []))) (place_rows t plan m.lines placed)
+    ∙ ap (λ (ls : List Line). Header Second ∷ (map Place m.lines ++ (ls ++ End ∷ []))) (name_rows t plan m.names named)
 
 rows_lack : (t : Plan) → IsPlan t → (m : Mapped) → ((i : ℕ) → i < length m.lines → IsPlaced t.market (get_or m.lines i no_line)) → ((i : ℕ) → i < length m.names → IsNamed t.market (get_or m.names i no_name)) → AllLack 10 (rows_of t m)
 rows_lack t plan m placed named =
-    all_lack-append 10 (codes "glb map 1" ∷ map (place_row t) m.lines ++ map (full_row t) m.names) (codes "end" ∷ [])
-    (all_lack-append 10 (codes "glb map 1" ∷ map (place_row t) m.lines) (map (full_row t) m.names) ((refl, (refl, (refl, (refl, (refl, (refl, (refl, (refl, (refl, tt))))))))), place_rows_lack t plan m.lines placed) (full_rows_lack t plan m.names named))
+    all_lack-append 10 (codes "glb map 2" ∷ map (place_row t) m.lines ++ map (name_row t) m.names) (codes "end" ∷ [])
+    (all_lack-append 10 (codes "glb map 2" ∷ map (place_row t) m.lines) (map (name_row t) m.names) ((refl, (refl, (refl, (refl, (refl, (refl, (refl, (refl, (refl, tt))))))))), place_rows_lack t plan m.lines placed) (name_rows_lack t plan m.names named))
     ((refl, (refl, (refl, tt))), tt)
 
 -- a map in its form, with amounts of 32 bits, is read from its text
@@ -249,8 +275,8 @@ map_again t plan m form fit =
     ∙ ap (λ (ls : List (List ℕ)). read_on (so_far []) (map (line_of t) ls) (unfinished (text_of_map t m))) (whole_ended rows lack)
     ∙ ap (λ (rest : List ℕ). read_on (so_far []) (map (line_of t) rows) rest) (unfinished_ended rows lack)
     ∙ ap (λ (ls : List Line). read_on (so_far []) ls []) (rows_again t plan m placed named)
-    ∙ reads_places t.market [] m.lines 1 (map Full m.names ++ End ∷ []) [] (Ok m) (omega arith) form.of_lines
-    (λ k above. reads_fulls t.market m.lines [] m.names k (End ∷ []) [] (Ok m) above form.of_names (λ j over. reads_end m.lines m.names j over))
+    ∙ reads_places t.market [] m.lines 1 (map Named m.names ++ End ∷ []) [] (Ok m) (omega arith) form.of_lines
+    (λ k above. reads_names t.market m.lines [] m.names k (End ∷ []) [] (Ok m) above form.of_names (λ j over. reads_end m.lines m.names j over))
 
 -- a text of lines, from what each of them was written for
 flat_map_map : {X : Type 0} (f : X → List ℕ) (g : List ℕ → List ℕ) (xs : List X) → flat_map g (map f xs) ≡ flat_map (λ x. g (f x)) xs
@@ -258,13 +284,13 @@ flat_map_map f g [] = refl
 flat_map_map f g (x ∷ xs) = ap (λ (ys : List ℕ). g (f x) ++ ys) (flat_map_map f g xs)
 
 -- the text of a map, piece by piece
-pub text_by_pieces : (t : Plan) (m : Mapped) → text_of_map t m ≡ (ended (codes "glb map 1") ++ flat_map (λ x. ended (place_row t x)) m.lines) ++ flat_map (λ x. ended (full_row t x)) m.names ++ ended (codes "end")
+pub text_by_pieces : (t : Plan) (m : Mapped) → text_of_map t m ≡ (ended (codes "glb map 2") ++ flat_map (λ x. ended (place_row t x)) m.lines) ++ flat_map (λ x. ended (name_row t x)) m.names ++ ended (codes "end")
 text_by_pieces t m =
-    let header = codes "glb map 1" in
+    let header = codes "glb map 2" in
     let places = map (place_row t) m.lines in
-    let fulls = map (full_row t) m.names in
+    let names = map (name_row t) m.names in
     let tail = ended (codes "end") in
-    flat_map-append ended (header ∷ places ++ fulls) (codes "end" ∷ [])
-    ∙ ap (λ (ys : List ℕ). ys ++ tail) (flat_map-append ended (header ∷ places) fulls)
-    ∙ ap (λ (ys : List ℕ). (ended header ++ ys) ++ flat_map ended fulls ++ tail) (flat_map_map (place_row t) ended m.lines)
-    ∙ ap (λ (ys : List ℕ). (ended header ++ flat_map (λ x. ended (place_row t x)) m.lines) ++ ys ++ tail) (flat_map_map (full_row t) ended m.names)
+    flat_map-append ended (header ∷ places ++ names) (codes "end" ∷ [])
+    ∙ ap (λ (ys : List ℕ). ys ++ tail) (flat_map-append ended (header ∷ places) names)
+    ∙ ap (λ (ys : List ℕ). (ended header ++ ys) ++ flat_map ended names ++ tail) (flat_map_map (place_row t) ended m.lines)
+    ∙ ap (λ (ys : List ℕ). (ended header ++ flat_map (λ x. ended (place_row t x)) m.lines) ++ ys ++ tail) (flat_map_map (name_row t) ended m.names)

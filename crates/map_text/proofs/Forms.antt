@@ -10,7 +10,7 @@ use Rattle.std.specs.Option.{option_map_or}
 use Rattle.map_model.specs.declared.lines.MapLine.{MapLine}
 use Rattle.map_model.specs.declared.lines.NameLine.{NameLine}
 use Rattle.map_model.specs.Market.{Market, choices_of}
-use Rattle.map_model.specs.Allocation.{AreLines, AreNames, IsMapForm, IsOffer, is_before, is_line, is_name, is_name_before}
+use Rattle.map_model.specs.Allocation.{AreLines, AreNames, IsMapForm, IsOffer, is_before, is_by, is_line, is_name, is_name_before}
 use Rattle.map_model.proofs.MapForm.{no_line}
 use Rattle.map_model.proofs.NameForm.{no_name}
 use Rattle.map_text.specs.Lines.{IsInRange}
@@ -18,7 +18,7 @@ use Rattle.map_text.specs.Reading.{SoFar, fault_of, is_bad, is_in_order, is_unkn
 use Rattle.map_text.specs.Reader.{with_line}
 use Rattle.map_text.specs.declared.fault.MapFault.TheVariants.{BadLine, UnknownName, OrderBroken}
 use Rattle.map_text.specs.declared.line.Line.{Line}
-use Rattle.map_text.specs.declared.line.Line.TheVariants.{Header, Place, Full, End, Unknown, Bad}
+use Rattle.map_text.specs.declared.line.Line.TheVariants.{Header, Place, Named, End, Unknown, UnknownLimit, Bad}
 
 all_four : (a b c d : Bool) → a ≡ true → b ≡ true → c ≡ true → d ≡ true → (a && b && c && d) ≡ true
 all_four a b c d ta tb tc td = rw (ta, tb, tc, td) refl
@@ -52,7 +52,7 @@ lines_more m lines x form offer some above i lt = elim (cases_lt i (length lines
       (above_last is_before lines x no_line above)))
 ]
 
-names_more : (m : Market) (names : List NameLine) (x : NameLine) → AreNames m names → IsOffer m x.group.0 x.place → x.node.0 < length m.nodes
+names_more : (m : Market) (names : List NameLine) (x : NameLine) → AreNames m names → IsOffer m x.group.0 x.place → IsTrue (is_by m x.by)
     → option_map_or (λ y. is_name_before y x) (slice_get names (length names - 1)) true ≡ true → AreNames m (names ++ x ∷ [])
 names_more m names x form offer there above i lt = elim (cases_lt i (length names)) [
   | inl l ↦
@@ -62,7 +62,7 @@ names_more m names x form offer there above i lt = elim (cases_lt i (length name
       let last : i ≡ length names = omega (arith, length-append names (x ∷ [])) in
       subst (λ k. IsTrue (is_name m (names ++ x ∷ []) k)) (sym last)
       (rw (get_or-append_seam names x [] no_name)
-      (all_four _ _ _ _ (lt-ltb x.group.0 (length m.groups) offer.group) (lt-ltb x.place (length (choices_of m x.group.0)) offer.place) (lt-ltb x.node.0 (length m.nodes) there)
+      (all_four _ _ _ _ (lt-ltb x.group.0 (length m.groups) offer.group) (lt-ltb x.place (length (choices_of m x.group.0)) offer.place) there
       (above_last is_name_before names x no_name above)))
 ]
 
@@ -82,11 +82,12 @@ pub form_more : (m : Market) (before : SoFar) (line : Line) → IsMapForm m befo
 form_more m before (Place x) form range none =
     let order = and_parts _ _ (in_order before (Place x) none) in
     record { of_lines = lines_more m before.lines x form.of_lines range.0 range.1 order.1; of_names = rw (append-nil before.names) form.of_names }
-form_more m before (Full x) form range none =
-    record { of_lines = rw (append-nil before.lines) form.of_lines; of_names = names_more m before.names x form.of_names range.0 range.1 (in_order before (Full x) none) }
-form_more m before Header form range none = record { of_lines = rw (append-nil before.lines) form.of_lines; of_names = rw (append-nil before.names) form.of_names }
+form_more m before (Named x) form range none =
+    record { of_lines = rw (append-nil before.lines) form.of_lines; of_names = names_more m before.names x form.of_names range.0 range.1 (in_order before (Named x) none) }
+form_more m before (Header v) form range none = record { of_lines = rw (append-nil before.lines) form.of_lines; of_names = rw (append-nil before.names) form.of_names }
 form_more m before End form range none = record { of_lines = rw (append-nil before.lines) form.of_lines; of_names = rw (append-nil before.names) form.of_names }
 form_more m before Unknown form range none = record { of_lines = rw (append-nil before.lines) form.of_lines; of_names = rw (append-nil before.names) form.of_names }
+form_more m before UnknownLimit form range none = record { of_lines = rw (append-nil before.lines) form.of_lines; of_names = rw (append-nil before.names) form.of_names }
 form_more m before Bad form range none = record { of_lines = rw (append-nil before.lines) form.of_lines; of_names = rw (append-nil before.names) form.of_names }
 
 -- the same of what is equal to it
@@ -94,5 +95,5 @@ pub form_next : (m : Market) (before after : SoFar) (line : Line) → after ≡ 
 form_next m before after line is form = subst (λ (b : SoFar). IsMapForm m b.lines b.names) (sym is) form
 
 -- no line has the form
-pub form_none : (m : Market) (b : SoFar) → b ≡ record { count = 0; lines = []; names = []; is_ended = false } → IsMapForm m b.lines b.names
+pub form_none : (m : Market) (b : SoFar) → b ≡ record { count = 0; lines = []; names = []; takes_limits = false; is_ended = false } → IsMapForm m b.lines b.names
 form_none m b is = subst (λ (x : SoFar). IsMapForm m x.lines x.names) (sym is) (record { of_lines = λ i lt. absurd (omega arith); of_names = λ i lt. absurd (omega arith) })

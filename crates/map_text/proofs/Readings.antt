@@ -8,7 +8,7 @@ use Rattle.std.specs.Option.{option_to_list}
 use Rattle.topology_text.specs.Plan.{Plan}
 use Rattle.text_parts.specs.Parts.{parts, unfinished}
 use Rattle.map_text.specs.Lines.{line_of}
-use Rattle.map_text.specs.Reading.{Mapped, SoFar, fault_at, fault_of, finished, first_of, is_end, lines_of, map_of, named_by, placed_by, so_far}
+use Rattle.map_text.specs.Reading.{Mapped, SoFar, fault_at, fault_of, finished, first_of, is_end, is_second, lines_of, map_of, named_by, placed_by, so_far}
 use Rattle.map_text.specs.Reader.{with_line}
 use Rattle.map_text.specs.declared.fault.MapFault.{MapFault}
 use Rattle.map_text.specs.declared.line.Line.{Line}
@@ -30,7 +30,7 @@ any_more p xs x = or_push (λ ys. list_any p ys) p refl (λ _ _. refl) xs x
 
 -- what some lines and one more come to
 so_far_more : (before : List Line) (line : Line) → so_far (before ++ line ∷ []) ≡ with_line (so_far before) line
-so_far_more before line = rw (length-append before (line ∷ []), more_of placed_by before line, more_of named_by before line, any_more is_end before line) refl
+so_far_more before line = rw (length-append before (line ∷ []), more_of placed_by before line, more_of named_by before line, any_more is_second before line, any_more is_end before line) refl
 
 -- a fault, or else what follows
 abbrev pub unless : Option MapFault → Result Mapped MapFault → Result Mapped MapFault

@@ -4,7 +4,7 @@ use Rattle.std.specs.List.{flat_map}
 use Rattle.text_parts.specs.Parts.{but_last, last_of, parts, unfinished, whole_lines}
 use Rattle.text_parts.proofs.Lines.{but_last-end, last_of-end, rest_is, whole_are}
 use Rattle.addr_text.proofs.Splits.{Lacks, lacks-append, split_alone, split_part}
-use Rattle.map_text.specs.Writing.{ended, four}
+use Rattle.map_text.specs.Writing.{ended, four, three}
 
 -- each of some texts lacks an octet
 abbrev pub AllLack : ℕ → List (List ℕ) → Type 0
@@ -26,6 +26,17 @@ four_parts k g p l lk lg lp ll =
     ∙ ap (λ (ps : List (List ℕ)). k ∷ ps) (split_part 32 g (p ++ 32 ∷ l) lg)
     ∙ ap (λ (ps : List (List ℕ)). k ∷ g ∷ ps) (split_part 32 p l lp)
     ∙ ap (λ (ps : List (List ℕ)). k ∷ g ∷ p ∷ ps) (split_alone 32 l ll)
+
+-- and of three
+pub three_parts : (k g p : List ℕ) → Lacks 32 k → Lacks 32 g → Lacks 32 p → parts 32 (three k g p) ≡ k ∷ g ∷ p ∷ []
+three_parts k g p lk lg lp =
+    ap (parts 32) (append_assoc k (32 ∷ g) (32 ∷ p))
+    ∙ split_part 32 k (g ++ 32 ∷ p) lk
+    ∙ ap (λ (ps : List (List ℕ)). k ∷ ps) (split_part 32 g p lg)
+    ∙ ap (λ (ps : List (List ℕ)). k ∷ g ∷ ps) (split_alone 32 p lp)
+
+pub three_lacks : (k g p : List ℕ) → Lacks 10 k → Lacks 10 g → Lacks 10 p → Lacks 10 (three k g p)
+three_lacks k g p lk lg lp = lacks-append 10 (k ++ 32 ∷ g) (32 ∷ p) (lacks-append 10 k (32 ∷ g) lk (refl, lg)) (refl, lp)
 
 -- words without the end of a line make a line without it
 pub four_lacks : (k g p l : List ℕ) → Lacks 10 k → Lacks 10 g → Lacks 10 p → Lacks 10 l → Lacks 10 (four k g p l)

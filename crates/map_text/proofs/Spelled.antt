@@ -82,8 +82,8 @@ number_again names n distinct lt =
 pub place_again : (m : Market) → IsMarket m → (g k : ℕ) → IsOffer m g k → place_of m g (pool_of m g k) ≡ Some k
 place_again m market g k o =
     let group = market.groups g (record { demand = 0; choices = [] }) o.group in
-    position_here (λ c. c.pool.0 == pool_of m g k) (choices_of m g) k (record { pool = record { 0 = 0 }; score = 0 }) o.place
-    (λ j below. false_from_ne_true (pool_of m g j == pool_of m g k) (λ e. group.distinct j k (record { pool = record { 0 = 0 }; score = 0 }) below o.place (grind (arith, nat_tests))))
+    position_here (λ c. c.pool.0 == pool_of m g k) (choices_of m g) k (record { pool = record { 0 = 0 }; score = 0; limit = 0 }) o.place
+    (λ j below. false_from_ne_true (pool_of m g j == pool_of m g k) (λ e. group.distinct j k (record { pool = record { 0 = 0 }; score = 0; limit = 0 }) below o.place (grind (arith, nat_tests))))
     (grind (arith, nat_tests))
 
 -- the offer of the names of an offer

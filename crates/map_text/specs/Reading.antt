@@ -2,6 +2,8 @@
 use Rattle.std.specs.Prelude.{ℕ, ◌+◌, ◌-◌, Bool, true, false, not, ◌&&◌, ◌||◌, ◌==◌, if◌then◌else◌, List, [], ◌∷◌, length, take, map, Option, None, Some, Result, Ok, Err, slice_get, slice_index_or}
 use Rattle.std.specs.List.{filter_map, list_any, range_with_len}
 use Rattle.std.specs.Option.{option_map_or}
+use Rattle.map_model.specs.declared.lines.By.{By}
+use Rattle.map_model.specs.declared.lines.By.TheVariants.{Limit, Node}
 use Rattle.map_model.specs.declared.lines.MapLine.{MapLine}
 use Rattle.map_model.specs.declared.lines.NameLine.{NameLine}
 use Rattle.map_model.specs.Allocation.{is_before, is_name_before}
@@ -11,12 +13,18 @@ use Rattle.map_text.specs.Lines.{line_of}
 use Rattle.map_text.specs.declared.fault.MapFault.{MapFault}
 use Rattle.map_text.specs.declared.fault.MapFault.TheVariants.{BadLine, UnknownName, OrderBroken, Truncated}
 use Rattle.map_text.specs.declared.line.Line.{Line}
-use Rattle.map_text.specs.declared.line.Line.TheVariants.{Header, Place, Full, End, Unknown, Bad}
+use Rattle.map_text.specs.declared.line.Version.TheVariants.{Second}
+use Rattle.map_text.specs.declared.line.Line.TheVariants.{Header, Place, Named, End, Unknown, UnknownLimit, Bad}
 
 -- a map: what it places, and what it names
 pub record Mapped : Type 0 where
   pub lines : List MapLine
   pub names : List NameLine
+
+-- it is the limit that refuses
+abbrev pub is_limit : By → Bool
+is_limit Limit = true
+is_limit (Node n) = false
 
 -- what a line places
 abbrev pub placed_by : Line → Option MapLine
@@ -25,43 +33,56 @@ placed_by _ = None
 
 -- what a line names
 abbrev pub named_by : Line → Option NameLine
-named_by (Full x) = Some x
+named_by (Named x) = Some x
 named_by _ = None
 
 -- the line that begins a text
 abbrev pub is_header : Line → Bool
-is_header Header = true
+is_header (Header v) = true
 is_header _ = false
+
+-- the line that begins a text in which limits may refuse
+abbrev pub is_second : Line → Bool
+is_second (Header Second) = true
+is_second _ = false
+
+-- the line says that a limit refuses
+abbrev pub is_of_limit : Line → Bool
+is_of_limit UnknownLimit = true
+is_of_limit (Named x) = is_limit x.by
+is_of_limit _ = false
 
 -- the line that ends a text
 abbrev pub is_end : Line → Bool
 is_end End = true
 is_end _ = false
 
--- what some lines come to: how many they are, what they place and name, and whether one of them ends the text
+-- what some lines come to: how many they are, what they place and name, whether limits may refuse, and whether one of them ends the text
 pub record SoFar : Type 0 where
   pub count : ℕ
   pub lines : List MapLine
   pub names : List NameLine
+  pub takes_limits : Bool
   pub is_ended : Bool
 
 abbrev pub so_far : List Line → SoFar
-so_far before = record { count = length before; lines = filter_map placed_by before; names = filter_map named_by before; is_ended = list_any is_end before }
+so_far before = record { count = length before; lines = filter_map placed_by before; names = filter_map named_by before; takes_limits = list_any is_second before; is_ended = list_any is_end before }
 
--- the line can't stand behind those lines: the first is the header and no other is, none is malformed, and none stands behind the end
+-- the line can't stand behind those lines: the first is a header and no other is, none is malformed, none stands behind the end, and a limit refuses only behind the second header
 abbrev pub is_bad : SoFar → Line → Bool
 is_bad before Bad = true
-is_bad before line = before.is_ended || (if before.count == 0 then not (is_header line) else is_header line)
+is_bad before line = before.is_ended || (if before.count == 0 then not (is_header line) else is_header line) || (not before.takes_limits && is_of_limit line)
 
 -- the line names something that is not there
 abbrev pub is_unknown : Line → Bool
 is_unknown Unknown = true
+is_unknown UnknownLimit = true
 is_unknown _ = false
 
 -- what is placed stands above what was placed last, and ahead of all names; a name stands above the last one
 abbrev pub is_in_order : SoFar → Line → Bool
 is_in_order before (Place x) = (length before.names == 0) && option_map_or (λ y. is_before y x) (slice_get before.lines (length before.lines - 1)) true
-is_in_order before (Full x) = option_map_or (λ y. is_name_before y x) (slice_get before.names (length before.names - 1)) true
+is_in_order before (Named x) = option_map_or (λ y. is_name_before y x) (slice_get before.names (length before.names - 1)) true
 is_in_order before _ = true
 
 -- the fault of a line behind some lines, if it has one. Lines are numbered from 1.

@@ -2,6 +2,8 @@
 use Rattle.std.specs.Prelude.{ℕ, List, [], ◌∷◌, ◌++◌, codes, map, slice_index_or}
 use Rattle.std.specs.List.{flat_map}
 use Rattle.std.specs.Fmt.{decimal}
+use Rattle.map_model.specs.declared.lines.By.{By}
+use Rattle.map_model.specs.declared.lines.By.TheVariants.{Limit, Node}
 use Rattle.map_model.specs.declared.lines.MapLine.{MapLine}
 use Rattle.map_model.specs.declared.lines.MapLines.{MapLines}
 use Rattle.map_model.specs.declared.lines.NameLine.{NameLine}
@@ -25,9 +27,18 @@ four keyword group pool last = keyword ++ 32 ∷ group ++ 32 ∷ pool ++ 32 ∷ 
 abbrev pub place_row : Plan → MapLine → List ℕ
 place_row t x = four (codes "place") (name_at t.group_names x.group.0) (name_at t.node_names (pool_of t.market x.group.0 x.place)) (decimal x.amount)
 
--- the line of the node that refuses an offer
-abbrev pub full_row : Plan → NameLine → List ℕ
-full_row t x = four (codes "full") (name_at t.group_names x.group.0) (name_at t.node_names (pool_of t.market x.group.0 x.place)) (name_at t.node_names x.node.0)
+-- three words
+abbrev pub three : List ℕ → List ℕ → List ℕ → List ℕ
+three keyword group pool = keyword ++ 32 ∷ group ++ 32 ∷ pool
+
+-- the line of what refuses an offer of a group to a pool
+abbrev pub by_row : Plan → List ℕ → List ℕ → By → List ℕ
+by_row t group pool Limit = three (codes "limit") group pool
+by_row t group pool (Node n) = four (codes "full") group pool (name_at t.node_names n.0)
+
+-- the line of a name
+abbrev pub name_row : Plan → NameLine → List ℕ
+name_row t x = by_row t (name_at t.group_names x.group.0) (name_at t.node_names (pool_of t.market x.group.0 x.place)) x.by
 
 -- a line with its end
 abbrev pub ended : List ℕ → List ℕ
@@ -35,7 +46,7 @@ ended row = row ++ 10 ∷ []
 
 -- the lines of a map's text
 abbrev pub rows_of : Plan → Mapped → List (List ℕ)
-rows_of t m = codes "glb map 1" ∷ map (place_row t) m.lines ++ map (full_row t) m.names ++ codes "end" ∷ []
+rows_of t m = codes "glb map 2" ∷ map (place_row t) m.lines ++ map (name_row t) m.names ++ codes "end" ∷ []
 
 -- the text of a map: its lines, each with its end
 abbrev pub text_of_map : Plan → Mapped → List ℕ

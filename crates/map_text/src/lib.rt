@@ -1,8 +1,8 @@
 //! The text of a map: one line for each amount that is placed, and one for each name.
 //!
-//! Each line ends at LF, and one space stands between two words. The first line is `glb map 1` and the last one
+//! Each line ends at LF, and one space stands between two words. The first line is `glb map 2` and the last one
 //! `end`. Between them stands `place GROUP POOL AMOUNT` for each line of the map, and then `full GROUP POOL NODE`
-//! for each of its names, both strictly increasing by the group's number and the pool's place in the group's list.
+//! or `limit GROUP POOL` for each of its names, both strictly increasing by the group's number and the pool's place in the group's list.
 #![tactic(auto)]
 
 mod fault;
@@ -14,6 +14,6 @@ mod words;
 mod write;
 
 pub use fault::MapFault;
-pub use line::Line;
+pub use line::{Line, Version};
 pub use read::read_map;
 pub use write::{pool_name, write_map};

@@ -1,12 +1,12 @@
 //! A map file read.
-ghost use Rattle.std.specs.Prelude.{◌≡◌, ◌+◌, ◌<◌, ◌≤◌, ◌^◌, None, Some, Ok, [], length, IfOk, IfErr, MatchResult, option_map, false};
+ghost use Rattle.std.specs.Prelude.{◌≡◌, ◌+◌, ◌<◌, ◌≤◌, ◌^◌, None, Some, Ok, [], length, IfOk, IfErr, MatchResult, option_map, false, not, ◌&&◌, ◌||◌, ◌==◌};
 ghost use Rattle.map_model.specs.Allocation.{IsMapForm, is_before, is_name_before};
-ghost use Rattle.map_text.specs.Reading.{fault_of, is_bad, is_in_order, map_of};
+ghost use Rattle.map_text.specs.Reading.{fault_of, is_bad, is_in_order, is_limit, is_unknown, map_of};
 ghost use Rattle.map_text.specs.Reader.{kept, with_line};
 
-use crate::line::read_line;
+use crate::line::{Version, read_line};
 use crate::{Line, MapFault};
-use map_model::{MapLine, MapLines, NameLine};
+use map_model::{By, MapLine, MapLines, NameLine};
 use no_memory::NoMemory;
 use std::alloc::Global;
 use text_parts::cut;
@@ -17,6 +17,8 @@ use topology_text::Topology;
 struct Reader {
     count: usize,
     map: MapLines,
+    // Whether limits may refuse.
+    takes_limits: bool,
     is_ended: bool,
 }
 
@@ -32,9 +34,27 @@ fn is_name_before(a: NameLine, b: NameLine) -> bool
     a.group < b.group || (a.group == b.group && a.place < b.place)
 }
 
+fn is_limit(by: By) -> bool
+    ensures { result ≡ is_limit by }
+{
+    match by {
+        By::Limit => true,
+        By::Node(_) => false,
+    }
+}
+
+fn is_unknown(line: Line) -> bool
+    ensures { result ≡ is_unknown line }
+{
+    match line {
+        Line::Unknown | Line::UnknownLimit => true,
+        _ => false,
+    }
+}
+
 impl Reader {
     fn new(alloc: Global) -> Reader
-        ensures { kept result ≡ record { count = 0; lines = []; names = []; is_ended = false } }
+        ensures { kept result ≡ record { count = 0; lines = []; names = []; takes_limits = false; is_ended = false } }
     {
         Reader {
             count: 0,
@@ -42,8 +62,16 @@ impl Reader {
                 lines: Vec::new(alloc),
                 names: Vec::new(alloc),
             },
+            takes_limits: false,
             is_ended: false,
         }
+    }
+
+    /// Whether a line that says or does not say of a limit that it refuses can't stand behind the header.
+    fn is_misplaced(&self, is_of_limit: bool) -> bool
+        ensures { result ≡ (self.now.is_ended || (self.now.count == 0) || (not self.now.takes_limits && is_of_limit)) }
+    {
+        self.is_ended || self.count == 0 || (!self.takes_limits && is_of_limit)
     }
 
     fn is_bad(&self, line: Line) -> bool
@@ -51,8 +79,10 @@ impl Reader {
     {
         match line {
             Line::Bad => true,
-            Line::Header => self.is_ended || self.count != 0,
-            _ => self.is_ended || self.count == 0,
+            Line::Header(_) => self.is_ended || self.count != 0,
+            Line::UnknownLimit => self.is_misplaced(true),
+            Line::Named(named) => self.is_misplaced(is_limit(named.by)),
+            _ => self.is_misplaced(false),
         }
     }
 
@@ -64,7 +94,7 @@ impl Reader {
                 let last = self.map.lines.as_slice().last();
                 self.map.names.is_empty() && last.map_or(true, |last| is_before(*last, placed))
             }
-            Line::Full(named) => {
+            Line::Named(named) => {
                 let last = self.map.names.as_slice().last();
                 last.map_or(true, |last| is_name_before(*last, named))
             }
@@ -79,7 +109,7 @@ impl Reader {
         let number = self.count + 1;
         if self.is_bad(line) {
             Some(MapFault::BadLine(number))
-        } else if line == Line::Unknown {
+        } else if is_unknown(line) {
             Some(MapFault::UnknownName(number))
         } else if !self.is_in_order(line) {
             Some(MapFault::OrderBroken(number))
@@ -95,7 +125,8 @@ impl Reader {
         self.count += 1;
         match line {
             Line::Place(placed) => self.map.lines.push(placed)?,
-            Line::Full(named) => self.map.names.push(named)?,
+            Line::Named(named) => self.map.names.push(named)?,
+            Line::Header(Version::Second) => self.takes_limits = true,
             Line::End => self.is_ended = true,
             _ => {}
         }

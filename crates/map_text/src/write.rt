@@ -1,12 +1,12 @@
 //! A map file written.
-ghost use Rattle.std.specs.Prelude.{◌≡◌, ◌++◌, ◌<◌, ◌^◌, length, All, Ok, IfOk};
+ghost use Rattle.std.specs.Prelude.{◌≡◌, ◌++◌, ◌<◌, ◌^◌, length, All, Ok, IfOk, IsTrue};
 ghost use Rattle.std.specs.List.{flat_map};
-ghost use Rattle.map_model.specs.Allocation.{AreLines, AreNames, IsMapForm, IsOffer};
+ghost use Rattle.map_model.specs.Allocation.{AreLines, AreNames, IsMapForm, IsOffer, is_by};
 ghost use Rattle.map_model.specs.Market.{pool_of};
 ghost use Rattle.map_text.specs.Reading.{map_of};
-ghost use Rattle.map_text.specs.Writing.{ended, four, full_row, mapped, name_at, place_row, text_of_map};
+ghost use Rattle.map_text.specs.Writing.{ended, four, mapped, name_at, name_row, place_row, text_of_map, three};
 
-use map_model::{MapLine, MapLines, NameLine, Offer};
+use map_model::{By, MapLine, MapLines, NameLine, Offer};
 use no_memory::NoMemory;
 use std::alloc::Global;
 use topology_text::Topology;
@@ -67,20 +67,31 @@ fn push_place(
     )
 }
 
-fn push_full(text: &mut Vec<u8>, topology: &Topology, name: NameLine) -> Result<(), NoMemory>
-    requires offer { IsOffer topology.now.market name.group.0 name.place }
-    requires node { name.node.0 < length topology.now.market.nodes }
-    ensures { IfOk result (λ _. text.new.items ≡ text.old.items ++ ended (full_row topology.now name)) }
+/// Three words with a space between two of them, and the end of their line.
+fn push_three(text: &mut Vec<u8>, keyword: &[u8], group: &[u8], pool: &[u8]) -> Result<(), NoMemory>
+    ensures { IfOk result (λ _. text.new.items ≡ text.old.items ++ ended (three keyword.now group.now pool.now)) }
 {
-    let NameLine { group, place, node } = name;
+    text.extend_from_slice(keyword)?;
+    text.push(b' ')?;
+    text.extend_from_slice(group)?;
+    text.push(b' ')?;
+    text.extend_from_slice(pool)?;
+    text.push(b'\n')?;
+    Ok(())
+}
+
+fn push_name(text: &mut Vec<u8>, topology: &Topology, name: NameLine) -> Result<(), NoMemory>
+    requires offer { IsOffer topology.now.market name.group.0 name.place }
+    requires by { IsTrue (is_by topology.now.market name.by) }
+    ensures { IfOk result (λ _. text.new.items ≡ text.old.items ++ ended (name_row topology.now name)) }
+{
+    let NameLine { group, place, by } = name;
     let pool = pool_name(topology, Offer { group, place });
-    push_row(
-        text,
-        b"full",
-        topology.group_name(group),
-        pool,
-        topology.node_name(node),
-    )
+    let group = topology.group_name(group);
+    match by {
+        By::Limit => push_three(text, b"limit", group, pool),
+        By::Node(node) => push_row(text, b"full", group, pool, topology.node_name(node)),
+    }
 }
 
 fn push_places(
@@ -99,12 +110,12 @@ fn push_places(
     Ok(())
 }
 
-fn push_fulls(text: &mut Vec<u8>, topology: &Topology, names: &[NameLine]) -> Result<(), NoMemory>
+fn push_names(text: &mut Vec<u8>, topology: &Topology, names: &[NameLine]) -> Result<(), NoMemory>
     requires { AreNames topology.now.market names.now }
-    ensures { IfOk result (λ _. text.new.items ≡ text.old.items ++ flat_map (λ x. ended (full_row topology.now x)) names.now) }
+    ensures { IfOk result (λ _. text.new.items ≡ text.old.items ++ flat_map (λ x. ended (name_row topology.now x)) names.now) }
 {
     for name in names {
-        push_full(text, topology, *name)?;
+        push_name(text, topology, *name)?;
     }
     Ok(())
 }
@@ -123,9 +134,9 @@ pub fn write_map(alloc: Global, topology: &Topology, map: &MapLines) -> Result<V
 {
     // What each topology keeps: its names are distinct words. The proof of `again` takes it from here.
     let _instance = topology.instance();
-    let mut text = Vec::from_slice(alloc, b"glb map 1\n")?;
+    let mut text = Vec::from_slice(alloc, b"glb map 2\n")?;
     push_places(alloc, &mut text, topology, map.lines.as_slice())?;
-    push_fulls(&mut text, topology, map.names.as_slice())?;
+    push_names(&mut text, topology, map.names.as_slice())?;
     text.extend_from_slice(b"end\n")?;
     Ok(text)
 }

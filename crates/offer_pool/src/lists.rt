@@ -52,10 +52,12 @@ fn row_of(instance: &Instance, group: GroupId) -> Row
     let _count = instance.groups();
     let mut choices = ArrayVec::new();
     for place in 0..instance.list_len(group) {
-        let key = instance.key(Offer { group, place });
+        let offer = Offer { group, place };
+        let key = instance.key(offer);
         choices.push(Choice {
             pool: key.pool,
             score: key.score,
+            limit: instance.limit(offer.group, offer.place),
         });
     }
     Row {

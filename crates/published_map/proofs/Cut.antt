@@ -5,7 +5,7 @@ use Rattle.std.specs.Prelude.{take, drop}
 use Rattle.std.proofs.Math.Seq.{take-append_seam, drop-append_seam}
 use Rattle.std.proofs.lemmas.Bool.{eqb-true}
 use Rattle.std.proofs.lemmas.Bool.Decides.{nat_tests}
-use Rattle.map_model.specs.declared.instance.NodeId.{NodeId}
+use Rattle.map_model.specs.declared.lines.By.{By}
 use Rattle.map_model.specs.declared.lines.MapLine.{MapLine}
 use Rattle.map_model.specs.declared.lines.NameLine.{NameLine}
 use Rattle.map_model.specs.Market.{Market}
@@ -157,8 +157,8 @@ pub lines_together : (m : Market) (lines : List MapLine) (names : List NameLine)
 unfolding lines_at amounts_in
 lines_together m lines names rising below = all_together (λ (l : MapLine). l.group.0) lines_at (row_of m lines names) lines (own_lines lines) rising (length m.groups) below
 
-pub own_names : (names : List NameLine) (g : ℕ) → map (λ (a : ℕ × NodeId). record { group = record { 0 = g }; place = a.0; node = a.1 }) (map (λ (l : NameLine). (l.place, l.node)) (filter (λ (l : NameLine). l.group.0 == g) names)) ≡ filter (λ (l : NameLine). l.group.0 == g) names
-own_names names = own (λ (l : NameLine). l.group.0) (λ (l : NameLine). (l.place, l.node)) (λ g (a : ℕ × NodeId). record { group = record { 0 = g }; place = a.0; node = a.1 }) (λ l. refl) names
+pub own_names : (names : List NameLine) (g : ℕ) → map (λ (a : ℕ × By). record { group = record { 0 = g }; place = a.0; by = a.1 }) (map (λ (l : NameLine). (l.place, l.by)) (filter (λ (l : NameLine). l.group.0 == g) names)) ≡ filter (λ (l : NameLine). l.group.0 == g) names
+own_names names = own (λ (l : NameLine). l.group.0) (λ (l : NameLine). (l.place, l.by)) (λ g (a : ℕ × By). record { group = record { 0 = g }; place = a.0; by = a.1 }) (λ l. refl) names
 
 -- the names of a map that rise by group are those of its rows
 pub names_together : (m : Market) (lines : List MapLine) (names : List NameLine) → Rising (λ (l : NameLine). l.group.0) names → AllBelow (λ (l : NameLine). l.group.0) (length m.groups) names → in_rows names_at 0 (rows_of m lines names) ≡ names

@@ -1,7 +1,7 @@
 -- A map that is gone through group by group.
 use Rattle.std.proofs.Common.{◌≡◌, ℕ, suc, ◌+◌, ◌≤◌, ◌==◌, List, length, map, take, drop, sym, ap, subst, ◌∙◌, arith}
 use Rattle.std.specs.List.{prefix_len}
-use Rattle.map_model.specs.declared.instance.NodeId.{NodeId}
+use Rattle.map_model.specs.declared.lines.By.{By}
 use Rattle.map_model.specs.declared.lines.MapLine.{MapLine}
 use Rattle.map_model.specs.declared.lines.NameLine.{NameLine}
 use Rattle.map_model.specs.Market.{Market, IsMarket}
@@ -61,9 +61,9 @@ pub amounts_are : (lines : List MapLine) (g : ℕ) (own : List MapLine) → own 
 unfolding of amounts_in
 amounts_are lines g mine is = ap (map (λ (l : MapLine). (l.place, l.amount))) is
 
-pub names_are : (names : List NameLine) (g : ℕ) (own : List NameLine) → own ≡ of name_group g names → map (λ (l : NameLine). (l.place, l.node)) own ≡ names_in names g
+pub names_are : (names : List NameLine) (g : ℕ) (own : List NameLine) → own ≡ of name_group g names → map (λ (l : NameLine). (l.place, l.by)) own ≡ names_in names g
 unfolding of names_in
-names_are names g mine is = ap (map (λ (l : NameLine). (l.place, l.node))) is
+names_are names g mine is = ap (map (λ (l : NameLine). (l.place, l.by))) is
 
 pub same_lines : (a b : List MapLine) (g : ℕ) (x y : List MapLine) → x ≡ of line_group g a → y ≡ of line_group g b → amounts_in a g ≡ amounts_in b g → x ≡ y
 unfolding of amounts_in
@@ -71,4 +71,4 @@ same_lines a b g x y is also same = is ∙ (sym (own_lines a g) ∙ (ap (map (λ
 
 pub same_names : (a b : List NameLine) (g : ℕ) (x y : List NameLine) → x ≡ of name_group g a → y ≡ of name_group g b → names_in a g ≡ names_in b g → x ≡ y
 unfolding of names_in
-same_names a b g x y is also same = is ∙ (sym (own_names a g) ∙ (ap (map (λ (p : ℕ × NodeId). record { group = record { 0 = g }; place = p.0; node = p.1 })) same ∙ own_names b g)) ∙ sym also
+same_names a b g x y is also same = is ∙ (sym (own_names a g) ∙ (ap (map (λ (p : ℕ × By). record { group = record { 0 = g }; place = p.0; by = p.1 })) same ∙ own_names b g)) ∙ sym also

@@ -1,5 +1,5 @@
 -- What is put together from rows and capacities, and what a delta leads to.
-use Rattle.std.proofs.Common.{◌≡◌, ℕ, suc, ◌+◌, ◌<◌, false, List, [], ◌∷◌, length, map, fold, slice_set, get_or, refl, sym, ap, ap₂, ◌∙◌, arith}
+use Rattle.std.proofs.Common.{◌≡◌, ℕ, ◌+◌, ◌<◌, false, List, [], ◌∷◌, length, map, fold, slice_set, get_or, refl, sym, ap, ap₂, ◌∙◌, arith}
 use Rattle.std.specs.Prelude.{All, None}
 use Rattle.std.specs.List.{range_with_len}
 use Rattle.std.proofs.Math.ListN.{length-set}
@@ -111,17 +111,17 @@ between base plan m lines names n lines' names' d market market' form form' shap
 -- one group further, where its new row was gathered if it is another
 pub one_row : (m : Market) (lines : List MapLine) (names : List NameLine) (n : Market) (lines' : List MapLine) (names' : List NameLine) (g : ℕ) (rs ss : List (GroupId × GroupRow)) (demand demand' : ℕ)
     (own : List MapLine) (own_names : List NameLine) (own' : List MapLine) (own_names' : List NameLine) → g < length m.groups → demand ≡ demand_of m g → demand' ≡ demand_of n g → IsOwn lines names g own own_names → IsOwn lines' names' g own' own_names'
-    → IsGathered ((demand ≡ demand') × (own ≡ own') × (own_names ≡ own_names')) rs (record { 0 = g }, record { demand = demand'; amounts = record { items = map (λ (l : MapLine). (l.place, l.amount)) own' }; names = record { items = map (λ (l : NameLine). (l.place, l.node)) own_names' } }) ss
+    → IsGathered ((demand ≡ demand') × (own ≡ own') × (own_names ≡ own_names')) rs (record { 0 = g }, record { demand = demand'; amounts = record { items = map (λ (l : MapLine). (l.place, l.amount)) own' }; names = record { items = map (λ (l : NameLine). (l.place, l.by)) own_names' } }) ss
     → RowsChanged m lines names n lines' names' g rs → RowsChanged m lines names n lines' names' (g + 1) ss
 one_row m lines names n lines' names' g rs ss demand demand' own own_names own' own_names' lt is_demand is_demand' was is step so_far =
     let amounts : map (λ (l : MapLine). (l.place, l.amount)) own' ≡ amounts_in lines' g = amounts_are lines' g own' is.of_lines in
-    let nodes : map (λ (l : NameLine). (l.place, l.node)) own_names' ≡ names_in names' g = names_are names' g own_names' is.of_names in
+    let nodes : map (λ (l : NameLine). (l.place, l.by)) own_names' ≡ names_in names' g = names_are names' g own_names' is.of_names in
     let old_amounts : map (λ (l : MapLine). (l.place, l.amount)) own ≡ amounts_in lines g = amounts_are lines g own was.of_lines in
-    let old_nodes : map (λ (l : NameLine). (l.place, l.node)) own_names ≡ names_in names g = names_are names g own_names was.of_names in
+    let old_nodes : map (λ (l : NameLine). (l.place, l.by)) own_names ≡ names_in names g = names_are names g own_names was.of_names in
     gathered (λ (r : GroupId × GroupRow). r.0.0) (λ (r : GroupId × GroupRow). r.1) (row_of m lines names) (row_of n lines' names') (length m.groups) g ((demand ≡ demand') × (own ≡ own') × (own_names ≡ own_names')) rs
-    (record { 0 = g }, record { demand = demand'; amounts = record { items = map (λ (l : MapLine). (l.place, l.amount)) own' }; names = record { items = map (λ (l : NameLine). (l.place, l.node)) own_names' } }) ss lt refl
+    (record { 0 = g }, record { demand = demand'; amounts = record { items = map (λ (l : MapLine). (l.place, l.amount)) own' }; names = record { items = map (λ (l : NameLine). (l.place, l.by)) own_names' } }) ss lt refl
     (rw (is_demand', amounts, nodes) refl)
-    (λ same. to (sym is_demand ∙ same.0 ∙ is_demand') (sym old_amounts ∙ ap (map (λ (l : MapLine). (l.place, l.amount))) same.1 ∙ amounts) (sym old_nodes ∙ ap (map (λ (l : NameLine). (l.place, l.node))) same.2 ∙ nodes))
+    (λ same. to (sym is_demand ∙ same.0 ∙ is_demand') (sym old_amounts ∙ ap (map (λ (l : MapLine). (l.place, l.amount))) same.1 ∙ amounts) (sym old_nodes ∙ ap (map (λ (l : NameLine). (l.place, l.by))) same.2 ∙ nodes))
     (λ same. (
       is_demand ∙ ap (λ (r : GroupRow). r.demand) same ∙ sym is_demand',
       same_lines lines lines' g own own' was.of_lines is.of_lines (ap (λ (r : GroupRow). r.amounts.items) same),

@@ -2,6 +2,7 @@
 use Rattle.std.proofs.Common.{◌≡◌, ℕ, zero, suc, ◌+◌, ◌-◌, ◌*◌, ◌<◌, ◌≤◌, ◌==◌, true, cond, List, [], ◌∷◌, length, slice_index_or, IsTrue, sym, ap, subst, arith, inl, inr}
 use Rattle.std.proofs.lemmas.Bool.{and_parts, or_cases, ltb-true, eqb-true, cases_Bool}
 use Rattle.map_model.specs.declared.lines.MapLine.{MapLine}
+use Rattle.map_model.specs.declared.lines.By.TheVariants.{Limit}
 use Rattle.map_model.specs.declared.lines.NameLine.{NameLine}
 use Rattle.map_model.specs.Market.{Market, IsMarket}
 use Rattle.map_model.specs.Allocation.{AreLines, AreNames, is_name, is_name_before, name_at}
@@ -137,9 +138,9 @@ name_form m market names i h =
 
 -- the names of a map
 pub names_rise : (m : Market) → IsMarket m → (names : List NameLine) → AreNames m names → Rises (rank_by (λ (l : NameLine). l.group.0) (λ (l : NameLine). l.place)) (IsPlaced (λ (l : NameLine). l.group.0) (λ (l : NameLine). l.place) (length m.groups)) 0 names
-names_rise m market names form = rises_by (rank_by (λ (l : NameLine). l.group.0) (λ (l : NameLine). l.place)) (IsPlaced (λ (l : NameLine). l.group.0) (λ (l : NameLine). l.place) (length m.groups)) (record { group = record { 0 = 0 }; place = 0; node = record { 0 = 0 } }) names 0 at (λ some. omega arith)
+names_rise m market names form = rises_by (rank_by (λ (l : NameLine). l.group.0) (λ (l : NameLine). l.place)) (IsPlaced (λ (l : NameLine). l.group.0) (λ (l : NameLine). l.place) (length m.groups)) (record { group = record { 0 = 0 }; place = 0; by = Limit }) names 0 at (λ some. omega arith)
   where
-    at : (i : ℕ) → i < length names → IsUp (rank_by (λ (l : NameLine). l.group.0) (λ (l : NameLine). l.place)) (IsPlaced (λ (l : NameLine). l.group.0) (λ (l : NameLine). l.place) (length m.groups)) (record { group = record { 0 = 0 }; place = 0; node = record { 0 = 0 } }) names i
+    at : (i : ℕ) → i < length names → IsUp (rank_by (λ (l : NameLine). l.group.0) (λ (l : NameLine). l.place)) (IsPlaced (λ (l : NameLine). l.group.0) (λ (l : NameLine). l.place) (length m.groups)) (record { group = record { 0 = 0 }; place = 0; by = Limit }) names i
     at i lt =
         let here = name_form m market names i (form i lt) in (
           (here.group, here.place),

@@ -1,8 +1,8 @@
 -- A map as rows, one for each group, and what versions rows and capacities stand for.
 use Rattle.std.specs.Prelude.{ℕ, suc, List, [], ◌∷◌, ◌++◌, length, map, filter, ◌==◌}
 use Rattle.std.specs.List.{range_with_len}
-use Rattle.map_model.specs.declared.instance.NodeId.{NodeId}
 use Rattle.map_model.specs.declared.instance.Node.{Node}
+use Rattle.map_model.specs.declared.lines.By.{By}
 use Rattle.map_model.specs.declared.lines.MapLine.{MapLine}
 use Rattle.map_model.specs.declared.lines.NameLine.{NameLine}
 use Rattle.map_model.specs.Market.{Group, Market, capacity_of, demand_of}
@@ -16,7 +16,7 @@ lines_at g r = map (λ a. record { group = record { 0 = g }; place = a.0; amount
 
 -- the names of group g
 unfoldable pub names_at : ℕ → GroupRow → List NameLine
-names_at g r = map (λ a. record { group = record { 0 = g }; place = a.0; node = a.1 }) r.names.items
+names_at g r = map (λ a. record { group = record { 0 = g }; place = a.0; by = a.1 }) r.names.items
 
 -- what stands in rows, of which the first is that of group g
 unfoldable pub in_rows : {X : Type 0} → (ℕ → GroupRow → List X) → ℕ → List GroupRow → List X
@@ -56,8 +56,8 @@ unfoldable pub amounts_in : List MapLine → ℕ → List (ℕ × ℕ)
 amounts_in lines g = map (λ (l : MapLine). (l.place, l.amount)) (filter (λ (l : MapLine). l.group.0 == g) lines)
 
 -- the names of a group of a map, by place
-unfoldable pub names_in : List NameLine → ℕ → List (ℕ × NodeId)
-names_in names g = map (λ (l : NameLine). (l.place, l.node)) (filter (λ (l : NameLine). l.group.0 == g) names)
+unfoldable pub names_in : List NameLine → ℕ → List (ℕ × By)
+names_in names g = map (λ (l : NameLine). (l.place, l.by)) (filter (λ (l : NameLine). l.group.0 == g) names)
 
 -- the row of a group of an instance and a map
 abbrev pub row_of : Market → List MapLine → List NameLine → ℕ → GroupRow

@@ -49,7 +49,7 @@ fn push_row(
 ) -> Result<(), NoMemory>
     requires lines { length new.lines.now ≤ PLACES }
     requires names { length new.names.now ≤ PLACES }
-    ensures { OnOk result (IsGathered ((demands.0 ≡ demands.1) × (old.entry.lines.now ≡ new.entry.lines.now) × (old.entry.names.now ≡ new.entry.names.now)) groups.old.items (group, record { demand = demands.1; amounts = record { items = map (λ l. (l.place, l.amount)) new.entry.lines.now }; names = record { items = map (λ l. (l.place, l.node)) new.entry.names.now } }) groups.new.items) }
+    ensures { OnOk result (IsGathered ((demands.0 ≡ demands.1) × (old.entry.lines.now ≡ new.entry.lines.now) × (old.entry.names.now ≡ new.entry.names.now)) groups.old.items (group, record { demand = demands.1; amounts = record { items = map (λ l. (l.place, l.amount)) new.entry.lines.now }; names = record { items = map (λ l. (l.place, l.by)) new.entry.names.now } }) groups.new.items) }
 {
     if demands.0 == demands.1
         && same_lines(old.lines, new.lines)

@@ -5,7 +5,7 @@ ghost use Rattle.map_model.specs.declared.limits.TheConstants.{PLACES};
 
 use crate::row::GroupRow;
 use arrayvec::ArrayVec;
-use map_model::{GroupId, MapLine, NameLine, NodeId, PLACES};
+use map_model::{By, GroupId, MapLine, NameLine, PLACES};
 
 /// Lines and names of a map that stand together.
 #[derive(Clone, Copy)]
@@ -56,27 +56,27 @@ fn amounts_of(lines: &[MapLine]) -> ArrayVec<(u8, u32), PLACES>
     amounts
 }
 
-/// The nodes of names.
-fn nodes_of(names: &[NameLine]) -> ArrayVec<(u8, NodeId), PLACES>
+/// What refuses, at the places of names.
+fn named_of(names: &[NameLine]) -> ArrayVec<(u8, By), PLACES>
     requires { length names.now ≤ PLACES }
-    ensures { result.items ≡ map (λ l. (l.place, l.node)) names.now }
+    ensures { result.items ≡ map (λ l. (l.place, l.by)) names.now }
 {
-    let mut nodes = ArrayVec::new();
+    let mut named = ArrayVec::new();
     for name in names {
-        nodes.push((name.place, name.node));
+        named.push((name.place, name.by));
     }
-    nodes
+    named
 }
 
 /// The row of a group with that demand, of which the map has that part.
 pub(crate) fn row(demand: u32, own: Part<'_>) -> GroupRow
     requires lines { length own.lines.now ≤ PLACES }
     requires names { length own.names.now ≤ PLACES }
-    ensures { result ≡ record { demand = demand; amounts = record { items = map (λ l. (l.place, l.amount)) own.entry.lines.now }; names = record { items = map (λ l. (l.place, l.node)) own.entry.names.now } } }
+    ensures { result ≡ record { demand = demand; amounts = record { items = map (λ l. (l.place, l.amount)) own.entry.lines.now }; names = record { items = map (λ l. (l.place, l.by)) own.entry.names.now } } }
 {
     GroupRow {
         demand,
         amounts: amounts_of(own.lines),
-        names: nodes_of(own.names),
+        names: named_of(own.names),
     }
 }

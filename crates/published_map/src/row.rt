@@ -4,18 +4,18 @@ ghost use Rattle.std.specs.List.{range_with_len};
 ghost use Rattle.map_model.specs.declared.limits.TheConstants.{PLACES};
 
 use arrayvec::ArrayVec;
-use map_model::{NodeId, PLACES};
+use map_model::{By, PLACES};
 
 /// What a map holds of one group: the demand for which it is made, the units at each place of the group's list that
-/// has some, and the refusing node at each place that is wanted, both by rising place.
+/// has some, and what refuses at each place that is wanted, both by rising place.
 #[derive(Clone, Drop)]
 pub struct GroupRow {
     /// How many units the group asks for.
     pub demand: u32,
     /// Places of the group's list, from 0, and the units that are placed there, at least 1 in a map's form.
     pub amounts: ArrayVec<(u8, u32), PLACES>,
-    /// Places of the group's list, from 0, and the refusing node nearest to the pool.
-    pub names: ArrayVec<(u8, NodeId), PLACES>,
+    /// Places of the group's list, from 0, and what refuses there.
+    pub names: ArrayVec<(u8, By), PLACES>,
 }
 
 impl GroupRow {

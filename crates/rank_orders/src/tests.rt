@@ -3,7 +3,7 @@
 ghost use Rattle.std.specs.Prelude.{◌≡◌};
 
 use crate::Orders;
-use map_model::{Choice, ClientGroup, GroupId, Instance, Node, NodeId, Offer};
+use map_model::{Choice, ClientGroup, GroupId, Instance, NO_LIMIT, Node, NodeId, Offer};
 use std::alloc::Global;
 use std::test::Fail;
 
@@ -13,6 +13,7 @@ fn group(alloc: Global, list: &[(u32, u32)]) -> Result<ClientGroup, Fail> {
         choices.push(Choice {
             pool: NodeId(pool),
             score,
+            limit: NO_LIMIT,
         })?;
     }
     Ok(ClientGroup::new(1, choices))

@@ -233,6 +233,7 @@ rolled_back m marks i old new can done all = record {
       pointers_for = done.count;
       free_for = done.can.count;
       capacities = λ n l. omega (arith, can.capacities n l, fewer (counts_at m n));
+      limits = λ g k o. omega (arith, can.limits g k o, fewer (λ h j. (h == g) && (j == k)));
       totals = λ g l. done.sums g (omega (arith, can.free_for)) ∙ can.totals g l;
       in_list = λ g l. omega (arith, (at g l).within, can.in_list g l);
       none_past = λ g k o past. none g k past;

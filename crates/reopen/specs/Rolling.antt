@@ -1,6 +1,6 @@
 -- Sending groups back to the first place in a marked tree.
 use Rattle.std.specs.Prelude.{◌≡◌, ℕ, ◌+◌, ◌<◌, ◌≤◌, Bool, true, false, not, ◌&&◌, ◌==◌, nat_lt, nat_le, List, length, IsTrue, IsSome, slice_index, slice_index_or, slice_set}
-use Rattle.map_model.specs.Market.{Market, IsMarket, IsSameShape, capacity_of, choices_of, demand_of}
+use Rattle.map_model.specs.Market.{Market, IsMarket, IsSameShape, capacity_of, choices_of, demand_of, limit_of}
 use Rattle.map_model.specs.Allocation.{AreLines, IsOffer, amount_at, load, placed, refuser_of, units_of}
 use Rattle.map_model.specs.Progress.{tree_of}
 use Rattle.evict.specs.Standing.{IsReady, Standing}
@@ -20,6 +20,7 @@ pub record CanRollBack (m : Market) (marks : List Bool) (state : Standing) : Typ
   pub pointers_for : length state.pointers ≡ length m.groups
   pub free_for : length state.free ≡ length m.groups
   pub capacities : (n : ℕ) → n < length m.nodes → load m state.lines n ≤ capacity_of m n
+  pub limits : (g k : ℕ) → IsOffer m g k → amount_at state.lines g k ≤ limit_of m g k
   pub totals : (g : ℕ) → g < length m.groups → placed state.lines g + slice_index state.free g ≡ demand_of m g
   pub in_list : (g : ℕ) → g < length m.groups → slice_index state.pointers g ≤ length (choices_of m g)
   pub none_past : (g k : ℕ) → IsOffer m g k → slice_index state.pointers g < k → amount_at state.lines g k ≡ 0

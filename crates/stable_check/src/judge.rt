@@ -7,7 +7,9 @@ ghost use Rattle.stable_check.specs.declared.verdict.Verdict.TheVariants.{Good};
 ghost use Rattle.stable_check.specs.Judgement.{Judges, RoomSize};
 
 use crate::lines::first_bad_line;
-use crate::scans::{first_bad_name, first_blocking, first_over_capacity, first_over_demand};
+use crate::scans::{
+    first_bad_name, first_blocking, first_over_capacity, first_over_demand, first_over_limit,
+};
 use crate::tallies::{tally_groups, tally_loads, tally_places, tally_worst};
 use crate::verdict::Verdict;
 use map_model::{Instance, Key, MapLine, MapLines, NameLine, PLACES};
@@ -84,6 +86,14 @@ fn judge(
             placed: totals[group.0 as usize],
         };
     }
+    tally_places(lines, amounts);
+    if let Some(offer) = first_over_limit(instance, amounts) {
+        return Verdict::OverLimit {
+            group: offer.group,
+            place: offer.place,
+            amount: amounts[offer.group.0 as usize * PLACES + usize::from(offer.place)],
+        };
+    }
     tally_loads(instance, lines, loads);
     tally_worst(instance, lines, worst);
     if let Some(node) = first_over_capacity(instance, loads) {
@@ -92,7 +102,6 @@ fn judge(
             load: loads[node.0 as usize],
         };
     }
-    tally_places(lines, amounts);
     if let Some(offer) = first_blocking(instance, amounts, loads, worst) {
         return Verdict::Blocking {
             group: offer.group,

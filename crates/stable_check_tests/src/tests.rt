@@ -1,7 +1,7 @@
 //! Maps by hand, good ones and one for each fault.
 
 use map_model::{
-    Choice, ClientGroup, GroupId, Instance, MapLine, MapLines, NameLine, Node, NodeId,
+    By, Choice, ClientGroup, GroupId, Instance, MapLine, MapLines, NO_LIMIT, NameLine, Node, NodeId,
 };
 use stable_check::{CheckRoom, Verdict, check};
 use std::alloc::Global;
@@ -44,11 +44,23 @@ fn instance_of(
             choices.push(Choice {
                 pool: NodeId(pool),
                 score,
+                limit: NO_LIMIT,
             })?;
         }
         rows.push(ClientGroup::new(demand, choices))?;
     }
     Ok(Instance::try_from_rows(rows, nodes.to_vec(alloc)?).ok_or("no instance")?)
+}
+
+/// In place of a node: the offer's own limit.
+const LIMIT: u32 = u32::MAX;
+
+fn by_of(by: u32) -> By {
+    if by == LIMIT {
+        By::Limit
+    } else {
+        By::Node(NodeId(by))
+    }
 }
 
 fn map_of(alloc: Global, row: &Row) -> Result<MapLines, Fail> {
@@ -61,11 +73,11 @@ fn map_of(alloc: Global, row: &Row) -> Result<MapLines, Fail> {
         })?;
     }
     let mut names = Vec::new(alloc);
-    for &(group, place, node) in row.names {
+    for &(group, place, by) in row.names {
         names.push(NameLine {
             group: GroupId(group),
             place,
-            node: NodeId(node),
+            by: by_of(by),
         })?;
     }
     Ok(MapLines { lines, names })
@@ -475,4 +487,79 @@ fn judges_large_amounts(rt: HostRuntime) -> Result<(), Fail> {
         },
     ];
     judge_rows(&rt, alloc, &instance, &rows)
+}
+
+/// A group of that demand, with pools, scores and limits.
+fn limited_group(
+    alloc: Global,
+    demand: u32,
+    list: &[(u32, u32, u32)],
+) -> Result<ClientGroup, Fail> {
+    let mut choices = Vec::new(alloc);
+    for &(pool, score, limit) in list {
+        choices.push(Choice {
+            pool: NodeId(pool),
+            score,
+            limit,
+        })?;
+    }
+    Ok(ClientGroup::new(demand, choices))
+}
+
+// R 15; A 10 and B 10 under R; g1 8 [A,B] 1,2 with at most 5 and 10 units; g2 8 [A,B] 3,4.
+fn limited(alloc: Global) -> Result<Instance, Fail> {
+    let first = limited_group(alloc, 8, &[(1, 1, 5), (2, 2, 10)])?;
+    let second = limited_group(alloc, 8, &[(1, 3, NO_LIMIT), (2, 4, NO_LIMIT)])?;
+    let groups = vec![in alloc; first, second]?;
+    let nodes = [root(15), pool(10, Some(0)), pool(10, Some(0))];
+    Ok(Instance::try_from_rows(groups, nodes.to_vec(alloc)?).ok_or("no instance")?)
+}
+
+#[test]
+fn judges_limits(rt: HostRuntime) -> Result<(), Fail> {
+    let alloc = rt.alloc();
+    let names: &[(u32, u8, u32)] = &[(0, 0, LIMIT), (1, 0, 1), (1, 1, 0)];
+    let rows = [
+        Row {
+            lines: &[(0, 0, 5), (0, 1, 3), (1, 0, 5), (1, 1, 2)],
+            names,
+            verdict: Verdict::Good,
+        },
+        Row {
+            lines: &[(0, 0, 6), (0, 1, 2), (1, 0, 5), (1, 1, 2)],
+            names,
+            verdict: Verdict::OverLimit {
+                group: GroupId(0),
+                place: 0,
+                amount: 6,
+            },
+        },
+        // Ahead of a node over its capacity, and behind a group over its demand.
+        Row {
+            lines: &[(0, 0, 6), (0, 1, 2), (1, 0, 8)],
+            names,
+            verdict: Verdict::OverLimit {
+                group: GroupId(0),
+                place: 0,
+                amount: 6,
+            },
+        },
+        Row {
+            lines: &[(0, 0, 6), (0, 1, 3), (1, 0, 5), (1, 1, 2)],
+            names,
+            verdict: over_demand(0, 9),
+        },
+        Row {
+            lines: &[(0, 0, 4), (0, 1, 4), (1, 0, 6), (1, 1, 1)],
+            names,
+            verdict: blocking(0, 0),
+        },
+        // A node is named where the limit refuses.
+        Row {
+            lines: &[(0, 0, 5), (0, 1, 3), (1, 0, 5), (1, 1, 2)],
+            names: &[(0, 0, 1), (1, 0, 1), (1, 1, 0)],
+            verdict: Verdict::BadName { index: 0 },
+        },
+    ];
+    judge_rows(&rt, alloc, &limited(alloc)?, &rows)
 }

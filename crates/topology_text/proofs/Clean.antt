@@ -12,14 +12,14 @@ use Rattle.topology_text.specs.Prefixes.{all_prefixes, duplicate_prefixes, no_de
 use Rattle.topology_text.specs.Topology.{AreSoundNames, IsSound, IsSoundGroup, IsSoundZone, hosts_of, number_at, zone_name_at, zone_of}
 use Rattle.name_text.specs.Names.{is_under}
 use Rattle.topology_text.specs.Plan.{IsZone}
-use Rattle.topology_text.specs.declared.schema.Key.TheVariants.{Zone, Node, Group, Apex, Mname, Rname, Serial, Refresh, Retry, Expire, Minimum, Ttl, Ns, Services, Name, Pool, A, Aaaa, Capacity, Demand, Pools, Scores}
+use Rattle.topology_text.specs.declared.schema.Key.TheVariants.{Zone, Node, Group, Apex, Mname, Rname, Serial, Refresh, Retry, Expire, Minimum, Ttl, Ns, Services, Name, Pool, A, Aaaa, Capacity, Demand, Pools, Scores, Limits}
 use Rattle.topology_text.proofs.Quiet.{empty_first, empty_second, empty_map, not_whole, quiet_top, quiet_zone, quiet_node, quiet_group}
 use Rattle.topology_text.proofs.SoundHosts.{hosts_good, hosts_none, list_empty}
 use Rattle.topology_text.proofs.SoundNames.{name_good, names_sound}
 use Rattle.topology_text.proofs.ZoneNames.{all_outside, all_services, all_short, apex_of, few_names, names_apart, ns_named, ns_there, some_names, zone_name_short}
 use Rattle.topology_text.proofs.SoundZone.{zone_name_good}
 use Rattle.topology_text.proofs.Sound.{is_table, not_deep, not_over, number_fits, parent_before, parent_inner, table_there}
-use Rattle.topology_text.proofs.SoundGroups.{array_passes, demand_low, is_there, kinds_pass, pool_there, score_fits, shape_pools, shape_scores}
+use Rattle.topology_text.proofs.SoundGroups.{array_passes, demand_low, is_there, kinds_pass, limit_fits, pool_there, score_fits, shape_pools, shape_scores}
 
 -- the rules find nothing on the walk
 pub record IsQuiet (top : Members) : Type 0 where
@@ -104,6 +104,8 @@ table_group top q g l ms is =
     let pools_kind = quiet_group wrong_kind top g ms 2 q.kinds l is (lit< tt) in
     let pools_known = quiet_group (λ v k. failing (is_unknown_name (entries_of top) k) (value_at v.members k)) top g ms 2 q.named l is (lit< tt) in
     let scores_range = quiet_group (λ v k. failing (is_out_of_range k) (value_at v.members k)) top g ms 3 q.ranges l is (lit< tt) in
+    let limits_kind = quiet_group wrong_kind top g ms 4 q.kinds l is (lit< tt) in
+    let limits_range = quiet_group (λ v k. failing (is_out_of_range k) (value_at v.members k)) top g ms 4 q.ranges l is (lit< tt) in
     let pools_shape : (1 ≤ count_at ms Pools) × (count_at ms Pools ≤ 16) × (has_repeat (texts_of (items_at ms Pools)) ≡ false) =
     shape_pools _ _ _ pools_there (not_whole _ (quiet_group list_shape top g ms 2 q.shapes l is (lit< tt))) in
     let scores_shape : count_at ms Scores ≡ count_at ms Pools = shape_scores _ _ _ scores_there (not_whole _ (quiet_group list_shape top g ms 3 q.shapes l is (lit< tt))) in
@@ -115,6 +117,7 @@ table_group top q g l ms is =
       beside = scores_shape;
       pools = λ j d h. pool_there (entries_of top) _ (kinds_pass Pools (value_at ms Pools) pools_kind j d h) (array_passes (is_unknown_name (entries_of top) Pools) (value_at ms Pools) pools_known j d h);
       distinct = pools_shape.2;
+      limits = λ j d h. limit_fits (get_or (items_of_value (value_at ms Limits)) j d) (kinds_pass Limits (value_at ms Limits) limits_kind j d h) (array_passes (is_out_of_range Limits) (value_at ms Limits) limits_range j d h);
       scores = λ j d h. score_fits (get_or (items_of_value (value_at ms Scores)) j d) (array_passes (is_out_of_range Scores) (value_at ms Scores) scores_range j d h);
     }
 

@@ -1,9 +1,10 @@
 -- The pools of a sound group are distinct, and its rows are an instance's.
 use Rattle.std.proofs.Common.{◌≡◌, ℕ, ◌^◌, ◌<◌, ◌≤◌, suc, zero, true, false, List, [], ◌∷◌, length, get_or, map, Option, None, Some, IfSome, IsFalse, All, option_map, unwrap_or, ap, sym, ◌∙◌, subst, arith}
-use Rattle.std.proofs.lemmas.List.{length-map, get_or-map}
+use Rattle.std.proofs.lemmas.List.{length-map}
+use Rattle.std.proofs.lemmas.List.Elements.{All-head, All-tail}
+use Rattle.std.proofs.lemmas.List.FromFn.{get_or-map-range_with_len, length-map-range_with_len}
 use Rattle.std.proofs.lemmas.Slice.Eq.{bytes_eq-Decides}
-use Rattle.std.proofs.lemmas.Slice.Zip.{length-zip, get_or-zip}
-use Rattle.std.specs.List.{list_any, zip}
+use Rattle.std.specs.List.{list_any, range_with_len}
 use Rattle.std.specs.Str.{bytes_eq}
 use Rattle.std.proofs.lemmas.Bool.{or_parts}
 use Rattle.toml.specs.Data.{Data, string, integer, float, boolean, datetime, array, table}
@@ -12,8 +13,8 @@ use Rattle.map_model.specs.declared.instance.Choice.{Choice}
 use Rattle.map_model.specs.declared.instance.Node.{Node}
 use Rattle.map_model.specs.Market.{IsGroup, IsMarket, is_pool_at, node_in}
 use Rattle.topology_text.specs.Names.{Entries, entry_at, has_repeat, is_pool, is_pool_number, number_of, parent_of, texts_of}
-use Rattle.topology_text.specs.Topology.{IsSound, IsSoundGroup, choice_of, group_of, items_in, market_of, node_of, pool_number}
-use Rattle.topology_text.specs.declared.schema.Key.TheVariants.{Pools, Scores}
+use Rattle.topology_text.specs.Topology.{IsSound, IsSoundGroup, choice_in, group_of, items_in, limit_in, market_of, natural, node_of, pool_number}
+use Rattle.topology_text.specs.declared.schema.Key.TheVariants.{Pools, Scores, Limits}
 use Rattle.topology_text.proofs.Markets.{All-map_at, climb_ascend, get_or-map_at, one_text, parent_same, pool_within}
 
 -- the pool of a text, or 0
@@ -74,20 +75,35 @@ pool_is : (nodes : List Data) (o : Option ℕ) → is_pool_number nodes o ≡ tr
 pool_is nodes None h = cc
 pool_is nodes (Some n) h = h
 
-choices_len : (nodes : List Data) (ps ss : List Data) → length ss ≡ length ps → length (map (choice_of nodes) (zip ps ss)) ≡ length ps
-choices_len nodes ps ss h = length-map (zip ps ss) (choice_of nodes) ∙ length-zip ps ss ∙ omega arith
+-- the choices of a group, one for each pool
+abbrev made : List Data → List Data → List Data → List Data → List Choice
+made nodes ps ss ls = map (choice_in nodes ps ss ls) (range_with_len 0 (length ps))
+
+choices_len : (nodes ps ss ls : List Data) → length (made nodes ps ss ls) ≡ length ps
+choices_len nodes ps ss ls = length-map-range_with_len (choice_in nodes ps ss ls) 0 (length ps)
 
 -- the pool of a choice
-choice_pool : (nodes : List Data) (ps ss : List Data) (j : ℕ) (c : Choice) (d : Data) → length ss ≡ length ps → j < length ps → (get_or (map (choice_of nodes) (zip ps ss)) j c).pool.0 ≡ at_pool nodes (get_or ps j d)
-choice_pool nodes ps ss j c d h l =
-    let both : j < length (zip ps ss) = omega (arith, length-zip ps ss) in
-    ap (λ (x : Choice). x.pool.0) (get_or-map (choice_of nodes) (zip ps ss) j (d, d) c both ∙ ap (choice_of nodes) (get_or-zip ps ss j (d, d) l (omega arith)))
+choice_pool : (nodes ps ss ls : List Data) (j : ℕ) (c : Choice) → j < length ps → (get_or (made nodes ps ss ls) j c).pool.0 ≡ at_pool nodes (get_or ps j (boolean false))
+choice_pool nodes ps ss ls j c l = ap (λ (x : Choice). x.pool.0) (get_or-map-range_with_len (choice_in nodes ps ss ls) 0 (length ps) j j c l (omega arith))
+
+-- and its limit
+limit_good : (ls : List Data) (j : ℕ) → All (λ l. (1 ≤ natural l) × (natural l < 2 ^ 32)) ls → (1 ≤ limit_in ls j) × (limit_in ls j < 2 ^ 32)
+limit_good [] j h = (omega arith, omega arith)
+limit_good (l ∷ ls) zero h = All-head (λ x. (1 ≤ natural x) × (natural x < 2 ^ 32)) l ls h
+limit_good (l ∷ ls) (suc j) h = limit_good ls j (All-tail (λ x. (1 ≤ natural x) × (natural x < 2 ^ 32)) l ls h)
+
+choice_limit : (nodes ps ss ls : List Data) (j : ℕ) (c : Choice) → j < length ps → All (λ l. (1 ≤ natural l) × (natural l < 2 ^ 32)) ls → (1 ≤ (get_or (made nodes ps ss ls) j c).limit) × ((get_or (made nodes ps ss ls) j c).limit < 2 ^ 32)
+choice_limit nodes ps ss ls j c l h =
+    let same : (get_or (made nodes ps ss ls) j c).limit ≡ limit_in ls j = ap (λ (x : Choice). x.limit) (get_or-map-range_with_len (choice_in nodes ps ss ls) 0 (length ps) j j c l (omega arith)) in
+    let fits = limit_good ls j h in
+    (omega (arith, same, fits.0), omega (arith, same, fits.1))
 
 pub group_good : (d : Entries) (e : Data) → IsSoundGroup d.nodes e → IsGroup (map (node_of d.nodes) d.nodes) (group_of d.nodes e)
 group_good d e g =
     let ps = items_in e Pools in
     let ss = items_in e Scores in
-    let len : length (map (choice_of d.nodes) (zip ps ss)) ≡ length ps = choices_len d.nodes ps ss g.beside in
+    let ls = items_in e Limits in
+    let len : length (made d.nodes ps ss ls) ≡ length ps = choices_len d.nodes ps ss ls in
     let nodes_len : length (map (node_of d.nodes) d.nodes) ≡ length d.nodes = length-map d.nodes (node_of d.nodes) in
     record {
       some = g.some;
@@ -97,16 +113,17 @@ group_good d e g =
       there = λ j c h.
           let l : j < length ps = omega arith in
           let within : at_pool d.nodes (get_or ps j (boolean false)) < length d.nodes = pool_within d.nodes (get_or ps j (boolean false)) (g.pools j (boolean false) l) in
-          let same = choice_pool d.nodes ps ss j c (boolean false) g.beside l in
+          let same = choice_pool d.nodes ps ss ls j c l in
           omega arith;
       pools = λ j c h.
           let l : j < length ps = omega arith in
-          let same : (get_or (map (choice_of d.nodes) (zip ps ss)) j c).pool.0 ≡ at_pool d.nodes (get_or ps j (boolean false)) = choice_pool d.nodes ps ss j c (boolean false) g.beside l in
+          let same : (get_or (made d.nodes ps ss ls) j c).pool.0 ≡ at_pool d.nodes (get_or ps j (boolean false)) = choice_pool d.nodes ps ss ls j c l in
           ap (λ n. (node_in (map (node_of d.nodes) d.nodes) n).is_pool) same ∙ pool_same d (at_pool d.nodes (get_or ps j (boolean false))) ∙ pool_is d.nodes (pool_number d.nodes (get_or ps j (boolean false))) (g.pools j (boolean false) l);
+      limits = λ j c h. choice_limit d.nodes ps ss ls j c (omega arith) g.limits;
       distinct = λ i j c before h.
           let l : j < length ps = omega arith in
-          let left = choice_pool d.nodes ps ss i c (boolean false) g.beside (omega arith) in
-          let right = choice_pool d.nodes ps ss j c (boolean false) g.beside l in
+          let left = choice_pool d.nodes ps ss ls i c (omega arith) in
+          let right = choice_pool d.nodes ps ss ls j c l in
           λ same. apart d.nodes ps i j (boolean false) g.distinct g.pools before l (sym left ∙ same ∙ right);
     }
 

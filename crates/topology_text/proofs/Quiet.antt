@@ -75,7 +75,7 @@ quiet_node finds top i ms j h l is within =
     let at : places_in finds (record { spot = NodeTable (0 + i); members = ms }) ≡ [] = quiet_entries (places_in finds) Node 0 (items_at top Node) i ms (walk_four (places_in finds) top h).2 l is in
     quiet_key finds (record { spot = NodeTable i; members = ms }) j (rw (← e) at) within
 
-pub quiet_group : (finds : Visit → Key → List At) (top : Members) (i : ℕ) (ms : Members) (j : ℕ) → places_of finds (walk top) ≡ [] → i < length (items_at top Group) → get_or (items_at top Group) i (boolean false) ≡ table ms → j < 5
+pub quiet_group : (finds : Visit → Key → List At) (top : Members) (i : ℕ) (ms : Members) (j : ℕ) → places_of finds (walk top) ≡ [] → i < length (items_at top Group) → get_or (items_at top Group) i (boolean false) ≡ table ms → j < 6
     → finds (record { spot = GroupTable i; members = ms }) (get_or (keys_of (GroupTable i)) j Zone) ≡ []
 quiet_group finds top i ms j h l is within =
     let e : 0 + i ≡ i = omega arith in

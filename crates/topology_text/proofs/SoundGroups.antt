@@ -11,7 +11,7 @@ use Rattle.topology_text.specs.Names.{Entries, is_pool_number, is_unknown_name, 
 use Rattle.topology_text.specs.Topology.{natural, natural_in, pool_number}
 use Rattle.topology_text.specs.declared.schema.At.TheVariants.{Whole, Item}
 use Rattle.topology_text.specs.declared.schema.Key.{Key}
-use Rattle.topology_text.specs.declared.schema.Key.TheVariants.{Demand, Pools, Scores}
+use Rattle.topology_text.specs.declared.schema.Key.TheVariants.{Demand, Pools, Scores, Limits}
 use Rattle.topology_text.proofs.Quiet.{not_whole}
 use Rattle.topology_text.proofs.Sound.{within_high, within_low}
 
@@ -62,6 +62,19 @@ score_fits (boolean b) h = omega arith
 score_fits (datetime t) h = omega arith
 score_fits (array ds) h = omega arith
 score_fits (table ms) h = omega arith
+
+-- an item of a list of limits is a number in range
+pub limit_fits : (d : Data) → not (is_item_kind (kind_of Limits) d) ≡ false → is_out_of_range Limits d ≡ false → (1 ≤ natural d) × (natural d < 2 ^ 32)
+limit_fits (integer z) kind h =
+    let high : natural (integer z) ≤ 2 ^ 32 - 1 = within_high 1 (2 ^ 32 - 1) z h in
+    let low : 1 ≤ natural (integer z) = within_low 1 (2 ^ 32 - 1) z h in
+    (low, omega arith)
+limit_fits (string t) kind h = cc
+limit_fits (float x) kind h = cc
+limit_fits (boolean b) kind h = cc
+limit_fits (datetime t) kind h = cc
+limit_fits (array ds) kind h = cc
+limit_fits (table ms) kind h = cc
 
 -- an item of the right kind that is not unknown names a pool
 pub pool_there : (d : Entries) (e : Data) → not (is_item_kind (kind_of Pools) e) ≡ false → is_unknown_name d Pools e ≡ false → is_pool_number d.nodes (pool_number d.nodes e) ≡ true

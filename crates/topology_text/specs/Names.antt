@@ -12,7 +12,7 @@ use Rattle.topology_text.specs.declared.schema.At.TheVariants.{Item}
 use Rattle.topology_text.specs.declared.schema.Spot.{Spot}
 use Rattle.topology_text.specs.declared.schema.Spot.TheVariants.{NodeTable, GroupTable}
 use Rattle.topology_text.specs.declared.schema.Key.{Key}
-use Rattle.topology_text.specs.declared.schema.Key.TheVariants.{Zone, Node, Group, Apex, Name, Parent, Pool, Pools, Ns, Services, A, Aaaa, Scores}
+use Rattle.topology_text.specs.declared.schema.Key.TheVariants.{Zone, Node, Group, Apex, Name, Parent, Pool, Pools, Ns, Services, A, Aaaa, Scores, Limits}
 
 -- a value that is a text
 abbrev pub text_in : Option Data → Option (List ℕ)
@@ -199,6 +199,7 @@ is_misshapen ms A = nat_lt 0 (count_at ms A) && not (flag_in (value_at ms Pool))
 is_misshapen ms Aaaa = nat_lt 0 (count_at ms Aaaa) && not (flag_in (value_at ms Pool))
 is_misshapen ms Pools = is_some (value_at ms Pools) && ((count_at ms Pools == 0 || nat_lt 16 (count_at ms Pools)) || has_repeat (texts_of (items_at ms Pools)))
 is_misshapen ms Scores = is_some (value_at ms Scores) && not (count_at ms Scores == count_at ms Pools)
+is_misshapen ms Limits = is_some (value_at ms Limits) && not (count_at ms Limits == count_at ms Pools)
 is_misshapen ms _ = false
 
 -- a list against its shape, as a whole

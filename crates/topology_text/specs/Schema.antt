@@ -2,7 +2,7 @@
 use Rattle.std.specs.Prelude.{ℕ, codes, List, [], ◌∷◌, Bool, true, false}
 use Rattle.toml.specs.Data.{Data, string, integer, boolean, array, table}
 use Rattle.topology_text.specs.declared.schema.Key.{Key}
-use Rattle.topology_text.specs.declared.schema.Key.TheVariants.{Zone, Node, Group, Apex, Mname, Rname, Serial, Refresh, Retry, Expire, Minimum, Ttl, Ns, Services, Name, Parent, Capacity, Pool, A, Aaaa, Demand, Pools, Scores, Prefixes}
+use Rattle.topology_text.specs.declared.schema.Key.TheVariants.{Zone, Node, Group, Apex, Mname, Rname, Serial, Refresh, Retry, Expire, Minimum, Ttl, Ns, Services, Name, Parent, Capacity, Pool, A, Aaaa, Demand, Pools, Scores, Limits, Prefixes}
 use Rattle.topology_text.specs.declared.schema.Kind.{Kind}
 use Rattle.topology_text.specs.declared.schema.Kind.TheVariants.{Text, Integer, Flag, Table, Texts, Integers, Tables}
 use Rattle.topology_text.specs.declared.schema.Spot.{Spot}
@@ -33,6 +33,7 @@ key_text Aaaa = codes "aaaa"
 key_text Demand = codes "demand"
 key_text Pools = codes "pools"
 key_text Scores = codes "scores"
+key_text Limits = codes "limits"
 key_text Prefixes = codes "prefixes"
 
 -- the kind of a key's value
@@ -60,6 +61,7 @@ kind_of Aaaa = Texts
 kind_of Demand = Integer
 kind_of Pools = Texts
 kind_of Scores = Integers
+kind_of Limits = Integers
 kind_of Prefixes = Texts
 
 -- the keys that a table must have
@@ -68,6 +70,7 @@ is_required Parent = false
 is_required Pool = false
 is_required A = false
 is_required Aaaa = false
+is_required Limits = false
 is_required _ = true
 
 -- the keys of a table, in their order
@@ -75,7 +78,7 @@ abbrev pub keys_of : Spot → List Key
 keys_of Top = Zone ∷ Node ∷ Group ∷ []
 keys_of ZoneTable = Apex ∷ Mname ∷ Rname ∷ Serial ∷ Refresh ∷ Retry ∷ Expire ∷ Minimum ∷ Ttl ∷ Ns ∷ Services ∷ []
 keys_of (NodeTable n) = Name ∷ Parent ∷ Capacity ∷ Pool ∷ A ∷ Aaaa ∷ []
-keys_of (GroupTable g) = Name ∷ Demand ∷ Pools ∷ Scores ∷ Prefixes ∷ []
+keys_of (GroupTable g) = Name ∷ Demand ∷ Pools ∷ Scores ∷ Limits ∷ Prefixes ∷ []
 keys_of (Family f) = []
 
 -- a value is of a kind; the items of an array are looked at apart

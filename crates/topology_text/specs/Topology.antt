@@ -1,7 +1,7 @@
 -- What a fault-free table says.
-use Rattle.std.specs.Prelude.{◌≡◌, ℕ, ◌<◌, ◌≤◌, ◌^◌, pos, List, [], map, length, true, false, Option, None, Some, IfSome, All, AllPairs, is_some, option_map, option_and_then, unwrap_or}
-use Rattle.std.specs.List.{filter_map, zip}
-use Rattle.toml.specs.Data.{Data, Members, integer, string, table}
+use Rattle.std.specs.Prelude.{◌≡◌, ℕ, ◌<◌, ◌≤◌, ◌^◌, pos, List, [], map, length, true, false, Option, None, Some, IfSome, All, AllPairs, is_some, option_map, option_and_then, slice_get, slice_index_or, unwrap_or}
+use Rattle.std.specs.List.{filter_map, range_with_len}
+use Rattle.toml.specs.Data.{Data, Members, boolean, integer, string, table}
 use Rattle.addr_text.specs.declared.address.Addr.{Addr}
 use Rattle.addr_text.specs.declared.address.Prefix.{Prefix}
 use Rattle.map_model.specs.declared.instance.Choice.{Choice}
@@ -17,7 +17,7 @@ use Rattle.topology_text.specs.declared.topology.Zone.{Zone}
 use Rattle.topology_text.specs.Walk.{items_at, value_at}
 use Rattle.topology_text.specs.Names.{Entries, ascend, entry_at, has_repeat, is_pool, is_pool_number, names_in, number_of, parent_of, text_at, texts_of, zone_items, zone_text}
 use Rattle.topology_text.specs.declared.schema.Key.{Key}
-use Rattle.topology_text.specs.declared.schema.Key.TheVariants.{Apex, Mname, Rname, Serial, Refresh, Retry, Expire, Minimum, Ttl, Ns, Services, Name, Parent, Capacity, A, Aaaa, Demand, Pools, Scores}
+use Rattle.topology_text.specs.declared.schema.Key.TheVariants.{Apex, Mname, Rname, Serial, Refresh, Retry, Expire, Minimum, Ttl, Ns, Services, Name, Parent, Capacity, A, Aaaa, Demand, Pools, Scores, Limits}
 
 -- a value that is a number, or 0
 abbrev pub natural : Data → ℕ
@@ -48,13 +48,17 @@ abbrev pub pool_number : List Data → Data → Option ℕ
 pool_number nodes (string t) = number_of nodes t
 pool_number nodes _ = None
 
--- a pool of a list, and its score
-abbrev pub choice_of : List Data → Data × Data → Choice
-choice_of nodes p = record { pool = record { 0 = unwrap_or (pool_number nodes p.0) 0 }; score = natural p.1 }
+-- the limit at a place: the number there, or the largest where there is none
+abbrev pub limit_in : List Data → ℕ → ℕ
+limit_in limits k = unwrap_or (option_map natural (slice_get limits k)) 4294967295
 
--- a group: its demand, and each pool beside its score
+-- the pool at one place of a list, its score and its limit
+abbrev pub choice_in : List Data → List Data → List Data → List Data → ℕ → Choice
+choice_in nodes pools scores limits k = record { pool = record { 0 = unwrap_or (pool_number nodes (slice_index_or pools k (boolean false))) 0 }; score = natural (slice_index_or scores k (boolean false)); limit = limit_in limits k }
+
+-- a group: its demand, and each pool beside its score and its limit; a group without limits has the largest
 abbrev pub group_of : List Data → Data → Group
-group_of nodes e = record { demand = number_at e Demand; choices = map (choice_of nodes) (zip (items_in e Pools) (items_in e Scores)) }
+group_of nodes e = record { demand = number_at e Demand; choices = map (choice_in nodes (items_in e Pools) (items_in e Scores) (items_in e Limits)) (range_with_len 0 (length (items_in e Pools))) }
 
 -- the instance
 abbrev pub market_of : Entries → Market
@@ -125,6 +129,7 @@ pub record IsSoundGroup (nodes : List Data) (e : Data) : Type 0 where
   pub pools : All (λ p. is_pool_number nodes (pool_number nodes p) ≡ true) (items_in e Pools)
   pub distinct : has_repeat (texts_of (items_in e Pools)) ≡ false
   pub scores : All (λ s. natural s < 2 ^ 32) (items_in e Scores)
+  pub limits : All (λ l. (1 ≤ natural l) × (natural l < 2 ^ 32)) (items_in e Limits)
 
 -- entries whose names can stand in a topology
 pub record AreSoundNames (entries : List Data) : Type 0 where

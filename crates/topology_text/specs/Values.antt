@@ -10,7 +10,7 @@ use Rattle.topology_text.specs.Walk.{Visit, items_of_value, items_where, list_of
 use Rattle.topology_text.specs.declared.schema.At.{At}
 use Rattle.topology_text.specs.declared.schema.At.TheVariants.{Whole}
 use Rattle.topology_text.specs.declared.schema.Key.{Key}
-use Rattle.topology_text.specs.declared.schema.Key.TheVariants.{Node, Group, Apex, Mname, Rname, Serial, Refresh, Retry, Expire, Minimum, Ttl, Ns, Services, Name, Capacity, A, Aaaa, Demand, Scores, Prefixes}
+use Rattle.topology_text.specs.declared.schema.Key.TheVariants.{Node, Group, Apex, Mname, Rname, Serial, Refresh, Retry, Expire, Minimum, Ttl, Ns, Services, Name, Capacity, A, Aaaa, Demand, Scores, Limits, Prefixes}
 use Rattle.topology_text.specs.declared.schema.Place.{Place}
 use Rattle.topology_text.specs.declared.schema.Spot.{Spot}
 
@@ -71,6 +71,7 @@ is_in_range Ttl z = is_within 0 (2 ^ 31 - 1) z
 is_in_range Capacity z = is_within 0 (2 ^ 48) z
 is_in_range Demand z = is_within 1 (2 ^ 32 - 1) z
 is_in_range Scores z = is_within 0 (2 ^ 32 - 1) z
+is_in_range Limits z = is_within 1 (2 ^ 32 - 1) z
 is_in_range _ z = true
 
 -- a number out of its key's range

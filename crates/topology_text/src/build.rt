@@ -1,15 +1,15 @@
 //! The instance that sound entries stand for.
-ghost use Rattle.std.specs.Prelude.{◌≡◌, ◌<◌, ◌^◌, All, map, length, option_and_then, unwrap_or, IfOk, IfSome};
-ghost use Rattle.std.specs.List.{zip};
+ghost use Rattle.std.specs.Prelude.{◌≡◌, ◌<◌, ◌≤◌, ◌^◌, All, map, length, option_and_then, unwrap_or, IfOk, IfSome};
+ghost use Rattle.std.specs.List.{range_with_len};
 ghost use Rattle.toml.specs.View.{view};
 ghost use Rattle.topology_text.specs.Code.{entries};
 ghost use Rattle.topology_text.specs.Names.{number_of, text_at};
-ghost use Rattle.topology_text.specs.Topology.{IsSound, IsSoundGroup, choice_of, group_of, items_in, market_of, natural, node_of, number_at, pool_number};
+ghost use Rattle.topology_text.specs.Topology.{IsSound, IsSoundGroup, choice_in, group_of, items_in, limit_in, market_of, natural, node_of, number_at, pool_number};
 
 use crate::names::{Entries, is_pool, text_at};
 use crate::schema::Key;
 use crate::visited::{items_of, value_of};
-use map_model::{Choice, ClientGroup, Instance, Node, NodeId};
+use map_model::{Choice, ClientGroup, Instance, NO_LIMIT, Node, NodeId};
 use std::alloc::{AllocError, Global};
 use toml::Value;
 
@@ -89,16 +89,37 @@ fn pool_in(index: &Entries<'_>, pool: &Value) -> usize
     }
 }
 
-fn choice(index: &Entries<'_>, pool: &Value, score: &Value) -> Choice
-    requires sound { IsSound (entries index.now) }
-    requires fits { natural (view score.now) < 2 ^ 32 }
-    ensures { result ≡ choice_of (entries index.now).nodes (view pool.now, view score.now) }
+/// The limit at a place, or the largest where there is none.
+fn limit_in(limits: &[Value], place: usize) -> u32
+    requires { All (λ l. (1 ≤ natural l) × (natural l < 2 ^ 32)) (map view limits.now) }
+    ensures { result ≡ limit_in (map view limits.now) place }
 {
-    let pool = pool_in(index, pool);
-    let score = natural(score);
+    match limits.get(place) {
+        Some(limit) => natural(limit) as u32,
+        None => NO_LIMIT,
+    }
+}
+
+fn choice(
+    index: &Entries<'_>,
+    pools: &[Value],
+    scores: &[Value],
+    limits: &[Value],
+    place: usize,
+) -> Choice
+    requires sound { IsSound (entries index.now) }
+    requires beside { length scores.now ≡ length pools.now }
+    requires place { place < length pools.now }
+    requires scores { All (λ s. natural s < 2 ^ 32) (map view scores.now) }
+    requires limits { All (λ l. (1 ≤ natural l) × (natural l < 2 ^ 32)) (map view limits.now) }
+    ensures { result ≡ choice_in (entries index.now).nodes (map view pools.now) (map view scores.now) (map view limits.now) place }
+{
+    let pool = pool_in(index, &pools[place]);
+    let score = natural(&scores[place]);
     Choice {
         pool: NodeId(pool as u32),
         score: score as u32,
+        limit: limit_in(limits, place),
     }
 }
 
@@ -107,16 +128,17 @@ fn choices(
     index: &Entries<'_>,
     pools: &[Value],
     scores: &[Value],
+    limits: &[Value],
 ) -> Result<Vec<Choice>, AllocError>
     requires sound { IsSound (entries index.now) }
     requires beside { length scores.now ≡ length pools.now }
-    requires fits { All (λ s. natural s < 2 ^ 32) (map view scores.now) }
-    ensures { IfOk result (λ v. v.items ≡ map (choice_of (entries index.now).nodes) (zip (map view pools.now) (map view scores.now))) }
+    requires scores { All (λ s. natural s < 2 ^ 32) (map view scores.now) }
+    requires limits { All (λ l. (1 ≤ natural l) × (natural l < 2 ^ 32)) (map view limits.now) }
+    ensures { IfOk result (λ v. v.items ≡ map (choice_in (entries index.now).nodes (map view pools.now) (map view scores.now) (map view limits.now)) (range_with_len 0 (length pools.now))) }
 {
     let mut choices = Vec::new(alloc);
-    for (i, pool) in pools.iter().enumerate() {
-        let score = &scores[i];
-        choices.push(choice(index, pool, score))?;
+    for place in 0..pools.len() {
+        choices.push(choice(index, pools, scores, limits, place))?;
     }
     Ok(choices)
 }
@@ -132,6 +154,7 @@ fn group_row(alloc: Global, index: &Entries<'_>, entry: &Value) -> Result<Client
         index,
         items_in(entry, Key::Pools),
         items_in(entry, Key::Scores),
+        items_in(entry, Key::Limits),
     )?;
     Ok(ClientGroup::new(demand as u32, choices))
 }

@@ -207,7 +207,9 @@ fn is_misshapen(table: &TableAt<'_>, key: Key) -> bool
             table.value(key).is_some()
                 && (count == 0 || count > PLACES || has_repeat(table.items(key)))
         }
-        Key::Scores => table.value(key).is_some() && count != table.items(Key::Pools).len(),
+        Key::Scores | Key::Limits => {
+            table.value(key).is_some() && count != table.items(Key::Pools).len()
+        }
         _ => false,
     }
 }

@@ -31,6 +31,7 @@ pub enum Key {
     Demand,
     Pools,
     Scores,
+    Limits,
     Prefixes,
 }
 
@@ -101,6 +102,7 @@ impl Key {
             Key::Demand => "demand",
             Key::Pools => "pools",
             Key::Scores => "scores",
+            Key::Limits => "limits",
             Key::Prefixes => "prefixes",
         }
     }
@@ -115,7 +117,7 @@ impl Key {
             Key::Apex | Key::Mname | Key::Rname | Key::Name | Key::Parent => Kind::Text,
             Key::Ns | Key::Services | Key::A | Key::Aaaa | Key::Pools | Key::Prefixes =>
                 Kind::Texts,
-            Key::Scores => Kind::Integers,
+            Key::Scores | Key::Limits => Kind::Integers,
             Key::Pool => Kind::Flag,
             Key::Serial | Key::Refresh | Key::Retry | Key::Expire | Key::Minimum | Key::Ttl => {
                 Kind::Integer
@@ -133,8 +135,8 @@ impl Key {
             Key::Node | Key::Mname | Key::Parent | Key::Demand => 1,
             Key::Group | Key::Rname | Key::Capacity | Key::Pools => 2,
             Key::Serial | Key::Pool | Key::Scores => 3,
-            Key::Refresh | Key::A | Key::Prefixes => 4,
-            Key::Retry | Key::Aaaa => 5,
+            Key::Refresh | Key::A | Key::Limits => 4,
+            Key::Retry | Key::Aaaa | Key::Prefixes => 5,
             Key::Expire => 6,
             Key::Minimum => 7,
             Key::Ttl => 8,
@@ -147,7 +149,10 @@ impl Key {
     pub fn is_required(self) -> bool
         ensures { result ≡ is_required self }
     {
-        !matches!(self, Key::Parent | Key::Pool | Key::A | Key::Aaaa)
+        !matches!(
+            self,
+            Key::Parent | Key::Pool | Key::A | Key::Aaaa | Key::Limits
+        )
     }
 }
 
@@ -184,6 +189,7 @@ impl Spot {
                 Key::Demand,
                 Key::Pools,
                 Key::Scores,
+                Key::Limits,
                 Key::Prefixes,
             ],
             Spot::Family(_) => &[],

@@ -181,7 +181,7 @@ fn is_in_range(key: Key, number: i64) -> bool
         Key::Serial | Key::Refresh | Key::Retry | Key::Expire | Key::Scores => {
             is_within(0, 0xffff_ffff, number)
         }
-        Key::Demand => is_within(1, 0xffff_ffff, number),
+        Key::Demand | Key::Limits => is_within(1, 0xffff_ffff, number),
         Key::Minimum | Key::Ttl => is_within(0, MOST_SECONDS, number),
         Key::Capacity => is_within(0, MOST_CAPACITY, number),
         _ => true,

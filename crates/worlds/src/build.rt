@@ -1,6 +1,6 @@
 //! Instances and maps from constant rows.
 use map_model::{
-    Choice, ClientGroup, GroupId, Instance, MapLine, MapLines, NameLine, Node, NodeId,
+    By, Choice, ClientGroup, GroupId, Instance, MapLine, MapLines, NO_LIMIT, NameLine, Node, NodeId,
 };
 use no_memory::NoMemory;
 use std::alloc::Global;
@@ -14,8 +14,14 @@ pub type GroupAt = (u32, &'static [(u32, u32)]);
 /// Units of a group at a place of its list.
 pub type Placed = (u32, u8, u32);
 
-/// A group, a place of its list, and the node that refuses it.
+/// A group, a place of its list, and the most units that it may hold there.
+pub type LimitAt = (u32, u8, u32);
+
+/// A group, a place of its list, and the node that refuses it, or [`LIMIT`].
 pub type NameAt = (u32, u8, u32);
+
+/// In place of a node: the offer's own limit.
+pub const LIMIT: u32 = u32::MAX;
 
 /// An instance, and a map that is good for it.
 #[derive(Clone, Copy)]
@@ -27,14 +33,30 @@ pub struct World {
     pub names: &'static [NameAt],
 }
 
-/// A group of that demand and list.
-fn group_of(alloc: Global, group: GroupAt) -> Result<ClientGroup, NoMemory> {
+/// The limit of a group at a place of its list; without a row it has none of its own.
+fn limit_at(limits: &[LimitAt], group: u32, place: usize) -> u32 {
+    for &(of, at, limit) in limits {
+        if of == group && usize::from(at) == place {
+            return limit;
+        }
+    }
+    NO_LIMIT
+}
+
+/// A group of that demand and list, with the limits of the group of that number.
+fn group_of(
+    alloc: Global,
+    number: u32,
+    group: GroupAt,
+    limits: &[LimitAt],
+) -> Result<ClientGroup, NoMemory> {
     let (demand, list) = group;
     let mut choices = Vec::new(alloc);
-    for &(pool, score) in list {
+    for (place, &(pool, score)) in list.iter().enumerate() {
         choices.push(Choice {
             pool: NodeId(pool),
             score,
+            limit: limit_at(limits, number, place),
         })?;
     }
     Ok(ClientGroup::new(demand, choices))
@@ -46,9 +68,20 @@ pub fn instance_of(
     nodes: &[NodeAt],
     groups: &[GroupAt],
 ) -> Result<Option<Instance>, NoMemory> {
+    limited_instance_of(alloc, nodes, groups, &[])
+}
+
+/// The same with limits of offers.
+pub fn limited_instance_of(
+    alloc: Global,
+    nodes: &[NodeAt],
+    groups: &[GroupAt],
+    limits: &[LimitAt],
+) -> Result<Option<Instance>, NoMemory> {
     let mut rows = Vec::new(alloc);
-    for &group in groups {
-        rows.push(group_of(alloc, group)?)?;
+    for (g, &group) in groups.iter().enumerate() {
+        let number = u32::try_from(g).unwrap_or(u32::MAX);
+        rows.push(group_of(alloc, number, group, limits)?)?;
     }
     let mut made = Vec::new(alloc);
     for &(capacity, parent, is_pool) in nodes {
@@ -59,6 +92,15 @@ pub fn instance_of(
         })?;
     }
     Ok(Instance::try_from_rows(rows, made))
+}
+
+/// What refuses, by the number of a row.
+fn by_of(by: u32) -> By {
+    if by == LIMIT {
+        By::Limit
+    } else {
+        By::Node(NodeId(by))
+    }
 }
 
 /// The map of these rows.
@@ -74,11 +116,11 @@ pub fn map_of(alloc: Global, lines: &[Placed], names: &[NameAt]) -> Result<MapLi
             amount,
         })?;
     }
-    for &(group, place, node) in names {
+    for &(group, place, by) in names {
         map.names.push(NameLine {
             group: GroupId(group),
             place,
-            node: NodeId(node),
+            by: by_of(by),
         })?;
     }
     Ok(map)

@@ -2,9 +2,10 @@
 ghost use Rattle.std.specs.Prelude.{◌≡◌};
 
 use crate::tests::smallest::{Kind, Numbers, Place};
-use map_model::{MapLine, MapLines, NameLine};
+use map_model::{By, MapLine, MapLines, NameLine};
 use no_memory::NoMemory;
 use std::alloc::Global;
+use worlds::LIMIT;
 
 /// Numbers, and a map that is good for them.
 #[derive(Clone, Copy)]
@@ -47,7 +48,10 @@ fn units(lines: &[MapLine], group: u32, from: u8, to: u8) -> u32 {
 fn name_at(names: &[NameLine], group: u32, place: u8) -> Option<u32> {
     for name in names {
         if name.group.0 == group && name.place == place {
-            return Some(name.node.0);
+            return Some(match name.by {
+                By::Limit => LIMIT,
+                By::Node(node) => node.0,
+            });
         }
     }
     None

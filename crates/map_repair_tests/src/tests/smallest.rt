@@ -2,7 +2,7 @@
 ghost use Rattle.std.specs.Prelude.{◌<◌};
 
 use map_model::Change::{Capacity, Demand};
-use map_model::{Change, Choice, ClientGroup, GroupId, Instance, Node, NodeId};
+use map_model::{Change, Choice, ClientGroup, GroupId, Instance, NO_LIMIT, Node, NodeId};
 use no_memory::NoMemory;
 use std::alloc::Global;
 use std::test::Fail;
@@ -316,6 +316,7 @@ fn choices_of(alloc: Global, places: &[Place], group: u32) -> Result<Vec<Choice>
             choices.push(Choice {
                 pool: NodeId(place.pool),
                 score: place.score,
+                limit: NO_LIMIT,
             })?;
         }
     }

@@ -42,6 +42,18 @@ const OTHER_KINDS: &[Row] = &[
         "3 wrong kind at node 1 pool",
     ),
     (
+        &[("scores = [1, 2]", "scores = [1, 2]\nlimits = [5]")],
+        "15 list shape at group 0 limits",
+    ),
+    (
+        &[("scores = [1, 2]", "scores = [1, 2]\nlimits = [5, 0]")],
+        "10 out of range at group 0 limits 1",
+    ),
+    (
+        &[("scores = [1, 2]", "scores = [1, 2]\nlimits = [5, \"x\"]")],
+        "3 wrong kind at group 0 limits 1",
+    ),
+    (
         &[("[1, 2]", "[1, \"2\"]")],
         "3 wrong kind at group 0 scores 1",
     ),

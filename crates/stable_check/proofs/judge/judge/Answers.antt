@@ -1,6 +1,6 @@
 use Rattle.std.proofs.Common.{◌∙◌, arith}
 use Rattle.map_model.proofs.MapForm.{length-AreLines, offers-AreLines}
-use Rattle.stable_check.proofs.Needs.{tallies_made, within}
+use Rattle.stable_check.proofs.Needs.{places_made, tallies_made, within}
 use Rattle.stable_check.proofs.judge.judge.Goals as goal
 
 pub tally_groups-requires-clause-few : goal.tally_groups-requires-clause-few
@@ -24,6 +24,12 @@ tally_places-requires-clause-few g c = length-AreLines c.args.instance.now c.gro
 pub tally_places-requires-clause-places : goal.tally_places-requires-clause-places
 tally_places-requires-clause-places g c = λ k d l.
     within c.args.instance.now c.groups-groups.ensures.market _ _ _ (offers-AreLines c.args.instance.now c.args.lines.now c.in_default.ensures k d l) c.requires.1.1.0
+
+pub first_over_limit-requires : goal.first_over_limit-requires
+first_over_limit-requires g c = (
+  c.groups-groups.ensures.market,
+  places_made c.args.instance.now c.groups-groups.ensures.market c.args.lines.now g.held c.requires.0 c.in_default.ensures c.tally_places.new.amounts (c.tally_places.auto.amounts ∙ c.requires.1.1.0) c.tally_places.ensures.each c.tally_places.ensures.small,
+)
 
 pub first_blocking-requires : goal.first_blocking-requires
 first_blocking-requires g c =

@@ -11,3 +11,6 @@ ghost-first_blocking g a = g.held
 
 abbrev pub ghost-first_bad_name : goal.ghost-first_bad_name
 ghost-first_bad_name g a = g.held
+
+abbrev pub ghost-first_over_limit : goal.ghost-first_over_limit
+ghost-first_over_limit g a = g.held

@@ -1,11 +1,14 @@
-use Rattle.std.proofs.Common.{arith, sym, subst, ◌<◌, ◌^◌, length}
+use Rattle.std.proofs.Common.{◌++◌, ◌∷◌, [], List, map, ap, sym, ◌∙◌, arith}
+use Rattle.std.specs.List.{range_with_len}
+use Rattle.std.proofs.lemmas.List.FromFn.{map-range_with_len_more}
 use Rattle.toml.specs.View.{view}
-use Rattle.toml.specs.declared.value.Value.{Value}
-use Rattle.topology_text.specs.Topology.{natural}
-use Rattle.topology_text.proofs.Rows.{score_at}
+use Rattle.map_model.specs.declared.instance.Choice.{Choice}
+use Rattle.topology_text.specs.Code.{entries}
+use Rattle.topology_text.specs.Topology.{choice_in}
 use Rattle.topology_text.proofs.build.choices.Goals as goal
 
-pub choice-requires-clause-fits : goal.choice-requires-clause-fits
-choice-requires-clause-fits c =
-    let l : c.loop-i.i < length c.args.scores.now = omega arith in
-    subst (λ (s : Value). natural (view s) < 2 ^ 32) (sym c.index-scores-i.is) (score_at c.args.scores.now c.loop-i.i c.index-scores-i.result c.requires.fits l)
+pub loop-place-preserved : goal.loop-place-preserved
+loop-place-preserved c =
+    c.in_ok-push.ensures.items ∙ ap (λ (xs : List Choice). xs ++ c.choice.result ∷ []) c.loop-place.invariant
+    ∙ ap (λ (x : Choice). map (choice_in (entries c.args.index.now).nodes (map view c.args.pools.now) (map view c.args.scores.now) (map view c.args.limits.now)) (range_with_len 0 c.loop-place.place) ++ x ∷ []) c.choice.ensures
+    ∙ sym (map-range_with_len_more (choice_in (entries c.args.index.now).nodes (map view c.args.pools.now) (map view c.args.scores.now) (map view c.args.limits.now)) 0 c.loop-place.place c.loop-place.place (omega arith))

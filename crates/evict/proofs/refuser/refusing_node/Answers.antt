@@ -3,8 +3,8 @@ use Rattle.std.specs.Option.{IfSome}
 use Rattle.map_model.specs.Allocation.{is_full_of_better}
 use Rattle.map_model.specs.Market.{key_of}
 use Rattle.map_model.proofs.Paths.{walk_there, find_here, find_on, find_over, find-climb_done}
-use Rattle.evict.proofs.refuser.refuser.Goals as goal
-use Rattle.evict.proofs.refuser.refuser.Goals.{in-Some+else-is_refusing, in_default}
+use Rattle.evict.proofs.refuser.refusing_node.Goals as goal
+use Rattle.evict.proofs.refuser.refusing_node.Goals.{in-Some+else-is_refusing, in_default}
 
 pub returns-then-is_refusing : goal.returns-then-is_refusing
 returns-then-is_refusing c =

@@ -1,7 +1,0 @@
-use Rattle.std.proofs.Common.{◌≡◌, ◌++◌, take}
-use Rattle.std.specs.List.{flat_map}
-use Rattle.map_text.specs.Writing.{ended, full_row}
-use Rattle.map_text.proofs.write.push_fulls.Given as goal
-
-abbrev pub invariant-loop-name : goal.invariant-loop-name
-invariant-loop-name l = l.text.items ≡ l.initial.text.items ++ flat_map (λ x. ended (full_row l.topology x)) (take l.name-index l.names)
