@@ -4,7 +4,7 @@ use Rattle.map_model.specs.Market.{Market, choices_of, demand_of}
 use Rattle.evict.specs.Standing.{IsFresh, Standing}
 use Rattle.deferred_accept.specs.Runs.{HasRun, WantsBefore, most_proposals, proposals_of}
 use Rattle.deferred_accept.proofs.Past.{past_of_ended}
-use Rattle.deferred_accept.proofs.Sums.{sum-le}
+use Rattle.best_laws.proofs.Sums.{sum-le}
 use Rattle.map_model.specs.Progress.{IsEnded}
 use Rattle.map_repair.specs.Repaired.{IsStateOf}
 use Rattle.mapper.specs.Mappers.{most_offers}
