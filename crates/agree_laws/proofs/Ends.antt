@@ -1,34 +1,20 @@
 -- What a run ends in is determined by where it begins; the map from scratch by its instance.
-use Rattle.std.proofs.Common.{◌≡◌, ℕ, ◌<◌, ◌≤◌, ◌==◌, ◌&&◌, nat_le, List, length, slice_index, sym, ap, ◌∙◌, inl, inr, arith}
-use Rattle.std.proofs.lemmas.Bool.{and_parts, and_from, cases_lt, leb-true, le-leb, lt-ltb}
+use Rattle.std.proofs.Common.{◌≡◌, ℕ, ◌<◌, ◌≤◌, List, length, slice_index, sym, ap, ◌∙◌, arith}
 use Rattle.map_model.specs.declared.lines.MapLine.{MapLine}
 use Rattle.map_model.specs.declared.lines.NameLine.{NameLine}
-use Rattle.map_model.specs.Market.{Market, IsMarket, demand_of}
+use Rattle.map_model.specs.Market.{Market, IsMarket}
 use Rattle.map_model.specs.Allocation.{IsGood, IsOffer, IsStable, amount_at, names_of, placed_through}
-use Rattle.map_model.specs.Progress.{IsGroupBest, IsResumable}
-use Rattle.map_model.proofs.Units.{through-le-placed, units_of-le}
+use Rattle.map_model.specs.Progress.{IsGroupBest}
 use Rattle.evict.specs.Standing.{IsReady, Standing}
 use Rattle.best_laws.specs.Ahead.{IsRightMap, IsWithin}
-use Rattle.best_laws.proofs.Wants.{no_more_refused, through_le, wants_less}
+use Rattle.best_laws.proofs.Ended.{best_within}
 use Rattle.deferred_accept.specs.Runs.{AreProposals}
+use Rattle.deferred_accept.proofs.Best.{within_many}
 use Rattle.deferred_accept.proofs.Many.{ready_many}
 use Rattle.agree_laws.specs.Below.{IsBestBelow}
 use Rattle.agree_laws.proofs.Amounts.{same_amounts}
 use Rattle.agree_laws.proofs.Same.{same_lines}
-use Rattle.agree_laws.proofs.Within.{later_many, within_many}
-
--- a stable state has no less than a map within it
-pub best_within : (m : Market) → IsMarket m → (lines other : List MapLine) (pointers free : List ℕ) → IsResumable m lines pointers free → IsStable m lines → IsRightMap m other → IsWithin m other lines pointers → (g k : ℕ) → IsOffer m g k → placed_through other g k ≤ placed_through lines g k
-best_within m market lines other pointers free r stable right within g k o = elim (cases_lt (placed_through lines g k) (demand_of m g)) [
-  | inr full ↦ omega (arith, full, through-le-placed other g k, right.feasible.demands g o.group)
-  | inl wanted ↦ through_le other lines g k (λ j l.
-      let more = units_of-le (λ x y. (x == g) && nat_le y j) (λ x y. (x == g) && nat_le y k) (λ x y t.
-      let p = and_parts (x == g) (nat_le y j) t in
-      and_from (x == g) (nat_le y k) p.0 (le-leb y k (omega (arith, leb-true y j p.1, l)))) lines in
-      let oj : IsOffer m g j = record { group = o.group; place = omega (arith, o.place, l) } in
-      no_more_refused m market lines other right r.form r.capacities r.limits (λ h i oh less. wants_less m lines lines other pointers free r (λ a b oa. omega arith) within h i oh less) g j oj
-      (stable g j oj (lt-ltb (placed_through lines g j) (demand_of m g) (omega (arith, more, wanted)))))
-]
+use Rattle.agree_laws.proofs.Within.{later_many}
 
 -- stable lines of a resumable state are a right map
 pub right_of : (m : Market) (state : Standing) → IsReady m state → IsStable m state.lines → IsRightMap m state.lines

@@ -1,45 +1,17 @@
--- A map that is within a state stays so, and the end of a run is within its start.
+-- The end of a run is within its start.
 use Rattle.std.proofs.Common.{◌≡◌, ℕ, zero, suc, ◌+◌, ◌≤◌, ◌==◌, if◌then◌else◌, List, slice_index, true, false, ◌⊎◌, refl, sym, ap, subst, inl, inr, arith}
 use Rattle.std.proofs.lemmas.Bool.{cases_Bool, ne_eqb}
 use Rattle.map_model.specs.declared.lines.MapLine.{MapLine}
-use Rattle.map_model.specs.Market.{Market, IsMarket}
+use Rattle.map_model.specs.Market.{Market}
 use Rattle.map_model.specs.Allocation.{IsOffer, amount_at}
-use Rattle.map_model.specs.Progress.{IsResumable}
 use Rattle.evict.specs.declared.freed.Eviction.{Eviction}
 use Rattle.evict.specs.Evictions.{gave_up}
 use Rattle.evict.specs.Standing.{CanPut, IsPut, IsReady, Standing}
-use Rattle.best_laws.specs.Ahead.{GainsFree, IsRightMap, IsWithin}
+use Rattle.best_laws.specs.Ahead.{IsWithin}
 use Rattle.best_laws.proofs.Step.{put_gains}
-use Rattle.best_laws.proofs.Wants.{no_more_refused, wants_less}
-use Rattle.deferred_accept.specs.Runs.{AreProposals, AreSkips, IsProposal, IsSkip, offered}
+use Rattle.deferred_accept.specs.Runs.{AreProposals, AreSkips, IsProposal, offered}
 use Rattle.deferred_accept.proofs.Many.{can_propose, ready_many}
-use Rattle.deferred_accept.proofs.Skips.{lines_skip, pointer_up, ready_skip, ready_skips}
-
--- from one resumable state to another in which offers gained at pointers what was free: the law of the best map for one map at a time
-pub within_next : (m : Market) → IsMarket m → (old new other : List MapLine) (was free now left : List ℕ) → IsResumable m old was free → IsResumable m new now left → GainsFree m old new was free → IsRightMap m other → IsWithin m other old was → IsWithin m other new now
-within_next m market old new other was free now left r s gains right within h j o below =
-    no_more_refused m market new other right s.form s.capacities s.limits (λ g k og less. wants_less m old new other was free r gains within g k og less) h j o (s.refused h j o below)
-
-pub within_put : (m : Market) (old new : Standing) (other : List MapLine) (g k units : ℕ) (freed : List Eviction) → CanPut m old g k units → IsPut m old new g k units freed → IsRightMap m other → IsWithin m other old.lines old.pointers → IsWithin m other new.lines new.pointers
-within_put m old new other g k units freed can put right within =
-    within_next m can.ready.market old.lines new.lines other old.pointers old.free new.pointers new.free can.ready.resumable put.ready.resumable (put_gains m old new g k units freed can put) right within
-
-pub within_skip : (m : Market) (old new : Standing) (other : List MapLine) → IsReady m old → IsSkip m old new → IsRightMap m other → IsWithin m other old.lines old.pointers → IsWithin m other new.lines new.pointers
-within_skip m old new other ready skip right within =
-    within_next m ready.market old.lines new.lines other old.pointers old.free new.pointers new.free ready.resumable (ready_skip m old new ready skip).resumable
-    (λ g k o. let units : amount_at new.lines g k ≡ amount_at old.lines g k = ap (λ (ls : List MapLine). amount_at ls g k) (lines_skip m old new skip) in omega (arith, units)) right within
-
-pub within_skips : (m : Market) (n : ℕ) (old new : Standing) (other : List MapLine) → IsReady m old → AreSkips m n old new → IsRightMap m other → IsWithin m other old.lines old.pointers → IsWithin m other new.lines new.pointers
-within_skips m zero old new other ready made right within = subst (λ (s : Standing). IsWithin m other s.lines s.pointers) (sym made) within
-within_skips m (suc n) old new other ready made right within = within_skip m made.0 new other (ready_skips m n old made.0 ready made.1) made.2 right (within_skips m n old made.0 other ready made.1 right within)
-
--- by many proposals
-pub within_many : (m : Market) (n : ℕ) (old new : Standing) (other : List MapLine) → IsReady m old → AreProposals m n old new → IsRightMap m other → IsWithin m other old.lines old.pointers → IsWithin m other new.lines new.pointers
-within_many m zero old new other ready made right within = within_skips m made.0 old new other ready made.1 right within
-within_many m (suc n) old new other ready made right within =
-    let p : IsProposal m made.0 made.1 = made.4 in
-    within_skips m made.2 made.1 new other p.put.ready made.5 right
-    (within_put m made.0 made.1 other p.group (slice_index made.0.pointers p.group) (offered m made.0 p.group) p.freed (can_propose m made.0 made.1 (ready_many m n old made.0 ready made.3) p) p.put right (within_many m n old made.0 other ready made.3 right within))
+use Rattle.deferred_accept.proofs.Skips.{lines_skip, pointer_up, ready_skips}
 
 -- what a later state has before the pointers of an earlier one is no more than that had there, and pointers do not fall
 pub record IsLater (m : Market) (old new : Standing) : Type 0 where

@@ -1,4 +1,4 @@
--- A put of units at a pointer keeps a state ahead of all feasible and stable maps.
+-- A put of units at a pointer, and a pointer that moves on, keep a map within a state; a fresh state has all maps within it.
 use Rattle.std.proofs.Common.{◌≡◌, ℕ, ◌<◌, ◌≤◌, ◌==◌, ◌&&◌, if◌then◌else◌, List, slice_index, refl, sym, ap, ◌∙◌, subst, inl, inr, arith}
 use Rattle.std.proofs.lemmas.Bool.{and_parts, cases_Bool, eq-eqb, eqb-true}
 use Rattle.map_model.specs.declared.lines.MapLine.{MapLine}
@@ -7,13 +7,13 @@ use Rattle.map_model.specs.Allocation.{IsOffer, amount_at, placed_through}
 use Rattle.map_model.specs.Progress.{IsResumable}
 use Rattle.evict.specs.declared.freed.Eviction.{Eviction}
 use Rattle.evict.specs.Standing.{CanPut, IsFresh, IsPut, IsReady, Standing}
-use Rattle.best_laws.specs.Ahead.{GainsFree, IsAhead, IsRightMap}
+use Rattle.best_laws.specs.Ahead.{GainsFree, IsAhead, IsRightMap, IsWithin}
 use Rattle.best_laws.proofs.Wants.{no_more_refused, through_le, wants_less}
 
 -- from one resumable state to another in which offers gained at pointers what was free
-pub ahead_next : (m : Market) → IsMarket m → (old new : List MapLine) (was free now left : List ℕ) → IsResumable m old was free → IsResumable m new now left → GainsFree m old new was free → IsAhead m old was → IsAhead m new now
-ahead_next m market old new was free now left r s gains ahead other right h j o below =
-    no_more_refused m market new other right s.form s.capacities s.limits (λ g k og less. wants_less m old new other was free r gains (ahead other right) g k og less) h j o (s.refused h j o below)
+pub within_next : (m : Market) → IsMarket m → (old new other : List MapLine) (was free now left : List ℕ) → IsResumable m old was free → IsResumable m new now left → GainsFree m old new was free → IsRightMap m other → IsWithin m other old was → IsWithin m other new now
+within_next m market old new other was free now left r s gains right within h j o below =
+    no_more_refused m market new other right s.form s.capacities s.limits (λ g k og less. wants_less m old new other was free r gains within g k og less) h j o (s.refused h j o below)
 
 -- in a put, the offer at the pointer alone gains, and no more than was free
 pub put_gains : (m : Market) (old new : Standing) (g k units : ℕ) (freed : List Eviction) → CanPut m old g k units → IsPut m old new g k units freed → GainsFree m old.lines new.lines old.pointers old.free
@@ -31,16 +31,16 @@ put_gains m old new g k units freed can put h j o = omega (arith, put.held (λ x
           omega (arith, all, room, subst (λ x. units ≤ slice_index old.free x) group can.free)
     ]
 
--- a put keeps a state ahead
-pub ahead_put : (m : Market) (old new : Standing) (g k units : ℕ) (freed : List Eviction) → CanPut m old g k units → IsPut m old new g k units freed → IsAhead m old.lines old.pointers → IsAhead m new.lines new.pointers
-ahead_put m old new g k units freed can put ahead =
-    ahead_next m can.ready.market old.lines new.lines old.pointers old.free new.pointers new.free can.ready.resumable put.ready.resumable (put_gains m old new g k units freed can put) ahead
+-- a put keeps a map within the state
+pub within_put : (m : Market) (old new : Standing) (other : List MapLine) (g k units : ℕ) (freed : List Eviction) → CanPut m old g k units → IsPut m old new g k units freed → IsRightMap m other → IsWithin m other old.lines old.pointers → IsWithin m other new.lines new.pointers
+within_put m old new other g k units freed can put right within =
+    within_next m can.ready.market old.lines new.lines other old.pointers old.free new.pointers new.free can.ready.resumable put.ready.resumable (put_gains m old new g k units freed can put) right within
 
--- pointers that move on over refused places keep it so: where nothing else changes, and both states are resumable
-pub ahead_moved : (m : Market) (old new : Standing) → IsReady m old → IsReady m new → new.lines ≡ old.lines → IsAhead m old.lines old.pointers → IsAhead m new.lines new.pointers
-ahead_moved m old new ready later same ahead =
-    ahead_next m ready.market old.lines new.lines old.pointers old.free new.pointers new.free ready.resumable later.resumable
-    (λ g k o. let units : amount_at new.lines g k ≡ amount_at old.lines g k = ap (λ (ls : List MapLine). amount_at ls g k) same in omega arith) ahead
+-- and so do pointers that move on over refused places: where nothing else changes, and both states are resumable
+pub within_moved : (m : Market) (old new : Standing) (other : List MapLine) → IsReady m old → IsReady m new → new.lines ≡ old.lines → IsRightMap m other → IsWithin m other old.lines old.pointers → IsWithin m other new.lines new.pointers
+within_moved m old new other ready later same right within =
+    within_next m ready.market old.lines new.lines other old.pointers old.free new.pointers new.free ready.resumable later.resumable
+    (λ g k o. let units : amount_at new.lines g k ≡ amount_at old.lines g k = ap (λ (ls : List MapLine). amount_at ls g k) same in omega (arith, units)) right within
 
 -- a fresh state is ahead: no place stands before a pointer
 pub ahead_fresh : (m : Market) (state : Standing) → IsFresh m state → IsAhead m state.lines state.pointers

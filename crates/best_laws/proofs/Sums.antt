@@ -1,9 +1,9 @@
--- Sums by offers and by nodes.
-use Rattle.std.proofs.Common.{◌≡◌, ℕ, zero, suc, ◌+◌, ◌*◌, ◌/◌, ◌%◌, ◌<◌, ◌≤◌, ◌==◌, Bool, true, false, ◌&&◌, if◌then◌else◌, List, [], ◌∷◌, Option, None, Some, All, refl, sym, ap, ◌∙◌, subst, inl, inr, arith}
+-- Sums over the first numbers, by offers and by nodes.
+use Rattle.std.proofs.Common.{◌≡◌, ℕ, zero, suc, ◌+◌, ◌*◌, ◌/◌, ◌%◌, ◌<◌, ◌≤◌, ◌==◌, Bool, true, false, ◌&&◌, if◌then◌else◌, List, [], ◌∷◌, ◌++◌, Option, None, Some, All, refl, sym, ap, ◌∙◌, subst, inl, inr, arith}
 use Rattle.std.specs.List.{sum_by, range_with_len}
 use Rattle.std.specs.Option.{IfSome, is_some}
 use Rattle.std.proofs.lemmas.Bool.{cases_eq, eq-eqb, ne_eqb, eqb-true}
-use Rattle.std.proofs.lemmas.List.Sums.{sum_by-cons}
+use Rattle.std.proofs.lemmas.List.Sums.{sum_by-cons, sum_by_push}
 use Rattle.std.proofs.lemmas.List.Elements.{All-head, All-tail}
 use Rattle.map_model.specs.declared.lines.MapLine.{MapLine}
 use Rattle.map_model.proofs.Units.{sum_by-add}
@@ -24,6 +24,17 @@ sum-one f x (suc n) a none low high = elim (cases_eq a x) [
       omega (arith, sum_by-cons f a (range_with_len (a + 1) n), rest, same)
   | inr ne ↦ omega (arith, sum_by-cons f a (range_with_len (a + 1) n), none a ne, sum-one f x n (a + 1) none (omega arith) (omega arith))
 ]
+
+-- the first numbers and one more
+pub range_more : (a n j : ℕ) → a + n ≡ j → range_with_len a (suc n) ≡ range_with_len a n ++ j ∷ []
+range_more a zero j e = let same : a ≡ j = omega (arith, e) in ap (λ k. k ∷ []) same
+range_more a (suc n) j e = ap (λ xs. a ∷ xs) (range_more (a + 1) n j (omega (arith, e)))
+
+-- a sum over them with one more
+pub sum_more : (f : ℕ → ℕ) (n : ℕ) → sum_by f (range_with_len 0 (n + 1)) ≡ sum_by f (range_with_len 0 n) + f n
+sum_more f n =
+    let one : n + 1 ≡ suc n = omega arith in
+    ap (λ k. sum_by f (range_with_len 0 k)) one ∙ (ap (sum_by f) (range_more 0 n n (omega arith)) ∙ sum_by_push f (range_with_len 0 n) n)
 
 -- larger terms, larger sum; and strictly, where one is
 pub sum-le : (f g : ℕ → ℕ) (n a : ℕ) → ((i : ℕ) → a ≤ i → i < a + n → f i ≤ g i) → sum_by f (range_with_len a n) ≤ sum_by g (range_with_len a n)

@@ -1,4 +1,4 @@
--- Words of the proof alone: the topmost node of a path that is closed to an offer.
+-- Inside this crate alone, words of its proof: the topmost node of a path that is closed to an offer.
 use Rattle.std.specs.Prelude.{ℕ, Bool, not, ◌&&◌, ◌==◌, if◌then◌else◌, List, [], ◌∷◌, Option, None, Some}
 use Rattle.map_model.specs.declared.instance.Key.{Key}
 use Rattle.map_model.specs.declared.lines.MapLine.{MapLine}

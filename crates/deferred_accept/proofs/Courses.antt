@@ -5,13 +5,10 @@ use Rattle.map_model.specs.declared.instance.Offer.{Offer}
 use Rattle.map_model.specs.Market.{Market}
 use Rattle.evict.specs.declared.freed.Eviction.{Eviction}
 use Rattle.evict.specs.Standing.{IsReady, Standing}
-use Rattle.best_laws.specs.Ahead.{IsAhead}
-use Rattle.best_laws.proofs.Step.{ahead_put}
 use Rattle.deferred_accept.specs.Runs.{HasProposed, HasRun, IsSkip, IsWaiting, WantsBefore, offered}
 use Rattle.deferred_accept.specs.Spreading.{HoldsWork}
 use Rattle.deferred_accept.specs.Turning.{HasTurned}
 use Rattle.deferred_accept.specs.Work.{CoversRest, HasOffered, HasStepped, IsDueOffer, gave_any, worth}
-use Rattle.deferred_accept.proofs.Best.{ahead_many, ahead_skip}
 use Rattle.deferred_accept.proofs.Many.{added_few, proposed_many, run_many, spread_many, wants_many, worth_many}
 use Rattle.deferred_accept.proofs.Past.{wants_step}
 use Rattle.deferred_accept.proofs.Proposed.{proposed_more, proposed_none, proposed_skip}
@@ -25,7 +22,6 @@ pub record IsCourse (m : Market) (start now : Standing) (before after : ℕ) : T
   pub counted : after + worth m now ≤ before + worth m start
   pub proposed : HasProposed m start now before after
   pub wanted : WantsBefore m start → WantsBefore m now
-  pub ahead : IsAhead m start.lines start.pointers → IsAhead m now.lines now.pointers
   pub spread : (trees : ℕ → Bool) → HoldsWork m trees start → IsSpreading m trees start now before after
 
 -- its start
@@ -35,7 +31,6 @@ course_start m start before ready = record {
   counted = omega arith;
   proposed = proposed_none m start before;
   wanted = λ w. w;
-  ahead = λ a. a;
   spread = λ trees work. spread_start m trees start before work;
 }
 
@@ -49,7 +44,6 @@ course_turned m start old new before was now course turned =
       counted = omega (arith, few.1, worth_many m turned.count old new ready turned.proposals, course.counted);
       proposed = proposed_many m turned.count start old new before was now course.proposed turned.proposals turned.counted;
       wanted = λ w. wants_many m turned.count old new ready turned.proposals (course.wanted w);
-      ahead = λ a. ahead_many m turned.count old new ready turned.proposals (course.ahead a);
       spread = λ trees work. spread_many m trees turned.count start old new before was now ready (course.spread trees work) turned.proposals few.1;
     }
 
@@ -83,7 +77,6 @@ course_skip m start old new before was course skip =
       counted = omega (arith, worth_skip m old new ready skip, course.counted);
       proposed = proposed_skip m start old new before was course.proposed skip;
       wanted = λ w. wants_skip m old new ready skip (course.wanted w);
-      ahead = λ a. ahead_skip m old new ready skip (course.ahead a);
       spread = λ trees work. spread_skip m trees start old new before was ready (course.spread trees work) skip;
     }
 
@@ -99,7 +92,6 @@ course_offered m start old new g freed before was now course made =
       counted = counted_step before (worth m start) was now (worth m old) (worth m new) (was == 2 ^ 64 - 1) made.counted less course.counted;
       proposed = proposed_more m start old new g freed before was now course.proposed made;
       wanted = λ w. wants_step m old new g k units freed can made.put (course.wanted w);
-      ahead = λ a. ahead_put m old new g k units freed can made.put (course.ahead a);
       spread = λ trees work. spread_step m trees start old new g k units freed before was now (was == 2 ^ 64 - 1) (course.spread trees work) can made.put made.waiting made.some made.counted;
     }
 

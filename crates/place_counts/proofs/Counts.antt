@@ -1,27 +1,15 @@
--- Sums over the first groups, and places past a group's list.
-use Rattle.std.proofs.Common.{◌≡◌, ℕ, zero, suc, ◌+◌, ◌≤◌, List, [], ◌∷◌, ◌++◌, length, append-nil, ap, ◌∙◌, inl, inr, arith}
-use Rattle.std.specs.Prelude.{sum_by}
+-- Places past a group's list, and pieces of text one by one.
+use Rattle.std.proofs.Common.{◌≡◌, ℕ, suc, ◌+◌, ◌≤◌, List, [], ◌∷◌, ◌++◌, length, append-nil, ap, ◌∙◌, inl, inr, arith}
 use Rattle.std.specs.List.{flat_map, range_with_len}
 use Rattle.std.proofs.lemmas.Bool.{cases_lt}
 use Rattle.std.proofs.lemmas.Grind.{flat_map-append}
 use Rattle.std.proofs.lemmas.List.Concat.{flat_map-cons}
-use Rattle.std.proofs.lemmas.List.Sums.{sum_by_push}
 use Rattle.map_model.specs.declared.lines.MapLine.{MapLine}
 use Rattle.map_model.specs.Market.{Market, choices_of}
 use Rattle.map_model.specs.Allocation.{AreLines, amount_at}
 use Rattle.map_model.proofs.MapForm.{offers-AreLines}
 use Rattle.best_laws.proofs.Offers.{held_offer}
-
--- the first numbers and one more
-pub range_more : (a n j : ℕ) → a + n ≡ j → range_with_len a (suc n) ≡ range_with_len a n ++ j ∷ []
-range_more a zero j e = let same : a ≡ j = omega (arith, e) in ap (λ k. k ∷ []) same
-range_more a (suc n) j e = ap (λ xs. a ∷ xs) (range_more (a + 1) n j (omega (arith, e)))
-
--- a sum over them with one more
-pub sum_more : (f : ℕ → ℕ) (n : ℕ) → sum_by f (range_with_len 0 (n + 1)) ≡ sum_by f (range_with_len 0 n) + f n
-sum_more f n =
-    let one : n + 1 ≡ suc n = omega arith in
-    ap (λ k. sum_by f (range_with_len 0 k)) one ∙ (ap (sum_by f) (range_more 0 n n (omega arith)) ∙ sum_by_push f (range_with_len 0 n) n)
+use Rattle.best_laws.proofs.Sums.{range_more}
 
 -- a group holds nothing past the end of its list
 pub none_at_end : (m : Market) (lines : List MapLine) (g k : ℕ) → AreLines m lines → length (choices_of m g) ≤ k → amount_at lines g k ≡ 0

@@ -10,10 +10,9 @@ use Rattle.map_model.specs.Allocation.{AreLines, IsFeasible, IsOffer, IsStable, 
 use Rattle.map_model.specs.Progress.{IsGroupBest}
 use Rattle.map_model.proofs.MapForm.{offers-AreLines}
 use Rattle.map_model.proofs.Units.{none-units, placed_below, placed_through-below, placed_through-split, sum_by-add, sum_by-same, through-le-placed, units_of-le}
-use Rattle.best_laws.proofs.Sums.{sum-le, sum-zeros}
+use Rattle.best_laws.proofs.Sums.{sum-le, sum-zeros, sum_more}
 use Rattle.deferred_accept.proofs.Finished.{placed-le-through}
 use Rattle.place_counts.specs.Places.{units_at}
-use Rattle.place_counts.proofs.Counts.{sum_more}
 
 -- the units below a place, group by group and place by place
 below_sum : (m : Market) (lines : List MapLine) (k : ℕ) → sum_by (λ g. placed_below lines g k) (range_with_len 0 (length m.groups)) ≡ sum_by (λ j. units_at m lines j) (range_with_len 0 k)

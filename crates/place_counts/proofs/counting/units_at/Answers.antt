@@ -1,6 +1,6 @@
 use Rattle.std.proofs.Common.{arith}
 use Rattle.map_model.specs.Allocation.{amount_at}
-use Rattle.place_counts.proofs.Counts.{sum_more}
+use Rattle.best_laws.proofs.Sums.{sum_more}
 use Rattle.place_counts.proofs.counting.units_at.Goals as goal
 
 pub loop-g-preserved : goal.loop-g-preserved

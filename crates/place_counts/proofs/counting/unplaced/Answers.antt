@@ -2,7 +2,7 @@ use Rattle.std.proofs.Common.{◌≡◌, ◌-◌, ◌<◌, length, arith}
 use Rattle.map_model.specs.Market.{Market, demand_of}
 use Rattle.map_model.specs.Allocation.{placed}
 use Rattle.evict.proofs.Settled.{small_demand}
-use Rattle.place_counts.proofs.Counts.{sum_more}
+use Rattle.best_laws.proofs.Sums.{sum_more}
 use Rattle.place_counts.proofs.counting.unplaced.Goals as goal
 
 pub loop-g-preserved : goal.loop-g-preserved
