@@ -97,7 +97,7 @@ pub fn rows_of(
 }
 
 /// Whether a tree is in a set, which has a bit for each root.
-fn has(trees: u8, root: u32) -> bool {
+pub fn has(trees: u8, root: u32) -> bool {
     trees.checked_shr(root).unwrap_or(0) % 2 == 1
 }
 

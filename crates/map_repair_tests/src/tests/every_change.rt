@@ -3,7 +3,7 @@ use super::{changed, is_good, repaired};
 use crate::tests::definitions::{
     Row, Side, is_kept, is_local, most_inside, moved, outside, reached, rows_of, spread,
 };
-use crate::tests::listed::maps_at_most;
+use crate::tests::listed::{is_the_repaired, maps_at_most};
 use crate::tests::smallest::{KINDS, Kind, Numbers, Small, back};
 use deferred_accept::{finish, run};
 use evict::State;
@@ -60,8 +60,7 @@ fn mapped(alloc: Global, instance: &Instance) -> Result<MapLines, NoMemory> {
 }
 
 /// Whether a repair keeps what the definitions say, in that many proposals; how many places are outside its trees.
-fn judged(rows: &[Row], moved: u8, proposals: u64) -> Option<u64> {
-    let reached = reached(rows, moved);
+fn judged(rows: &[Row], reached: u8, proposals: u64) -> Option<u64> {
     let spread = spread(rows, reached);
     let kept = rows.iter().all(|row| is_kept(rows, reached, row));
     let local = rows.iter().all(|row| is_local(spread, row));
@@ -93,8 +92,11 @@ fn stepped(
     };
     let after = Side { numbers, map: &map };
     let rows = rows_of(alloc, &small.places, before, after)?;
-    let moved = moved(kind, &old.numbers, &numbers);
-    let outside = judged(&rows, moved, steps.count()).ok_or("the repaired map moves too much")?;
+    let reached = reached(&rows, moved(kind, &old.numbers, &numbers));
+    if !is_the_repaired(kind, &small.places, before, after, reached) {
+        return Err(Fail::from("another map is the repaired one"));
+    }
+    let outside = judged(&rows, reached, steps.count()).ok_or("the repaired map moves too much")?;
     Ok((
         Standing {
             numbers,
@@ -126,8 +128,9 @@ fn there_and_back(
 fn tried(alloc: Global, kind: &Kind, small: &Small) -> Result<Tally, Fail> {
     let instance = kind.instance(alloc, small)?;
     let map = mapped(alloc, &instance)?;
-    let maps = maps_at_most(kind, small, &map.lines).ok_or("another map places more")?;
     let numbers = small.numbers;
+    let maps = maps_at_most(kind, &small.places, numbers, &map.lines)
+        .ok_or("another map places more")?;
     let old = Standing {
         numbers,
         instance,
