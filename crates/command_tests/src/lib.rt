@@ -14,6 +14,8 @@ mod map_texts;
 #[cfg(test)]
 mod maps;
 #[cfg(test)]
+mod places;
+#[cfg(test)]
 mod repairs;
 #[cfg(test)]
 mod usage;

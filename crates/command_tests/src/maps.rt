@@ -12,7 +12,7 @@ use trial_runs::{
 };
 
 /// The groups of TWO_GOOD, where the third one asks for one unit more.
-const TWO_GOOD_CHANGED: &str = "node = [
+pub const TWO_GOOD_CHANGED: &str = "node = [
 {name = \"P\", capacity = 1, pool = true},
 {name = \"Q\", capacity = 1, pool = true},
 {name = \"Z\", capacity = 5, pool = true},
