@@ -84,8 +84,8 @@ pub fn verdict_text(
             place,
             amount,
         } => {
-            let words = named(alloc, b"over limit ", topology.group_name(group))?;
             let pool = pool_name(topology, Offer { group, place });
+            let words = named(alloc, b"over limit ", topology.group_name(group))?;
             let words = named(alloc, words.as_slice(), pool)?;
             numbered(alloc, words.as_slice(), amount)?
         }

@@ -5,9 +5,9 @@ use Rattle.evict.specs.Standing.{IsFresh, Standing}
 use Rattle.deferred_accept.specs.Runs.{HasRun, WantsBefore, most_proposals, proposals_of}
 use Rattle.best_laws.specs.Ahead.{IsAhead}
 use Rattle.best_laws.proofs.Step.{ahead_fresh}
+use Rattle.best_laws.proofs.Sums.{sum-le}
 use Rattle.deferred_accept.proofs.Best.{best_of_ended}
 use Rattle.deferred_accept.proofs.Past.{past_of_ended}
-use Rattle.best_laws.proofs.Sums.{sum-le}
 use Rattle.map_model.specs.Progress.{IsEnded, IsGroupBest}
 use Rattle.map_repair.specs.Repaired.{IsStateOf}
 use Rattle.mapper.specs.Mappers.{most_offers}
