@@ -120,11 +120,12 @@ class Topology:
     def group_of(self, address):
         """The group of an address, and the prefix that decides."""
         bits, number = address.max_prefixlen, int(address)
+        network = ipaddress.IPv4Network if address.version == 4 else ipaddress.IPv6Network
         for length in sorted(self.prefixes[address.version], reverse=True):
             start = number >> bits - length << bits - length
             group = self.prefixes[address.version][length].get(start)
             if group is not None:
-                return group, ipaddress.ip_network((start, length))
+                return group, network((start, length))
         raise Fault(f"no group has {address}")
 
 

@@ -94,7 +94,7 @@ def say_world(report):
         end = ", answered SERVFAIL" if unit["nowhere"] == unit["demand"] else ""
         print(f"{unit['kind']} {unit['name']}: {unit['nowhere']} of {unit['demand']} nowhere{end}")
     for node in report["full"]:
-        print(f"{full_text(node)}; it refuses {node['refuses']} offers")
+        print(f"{full_text(node)}; offers that it refuses: {node['refuses']}")
     for limit in report["limits"]:
         print(f"{limit['unit']} has its limit at {limit['pool']}")
 
