@@ -141,7 +141,10 @@ ok 'all agree when it is back' agreed
 ok 'one entry more, or two' [ $(($(last) - before)) -le 2 ]
 
 # All go over to a base, and what stands before it is cut away.
-tool 1 glb-append --numbers "$work/topology.toml" >"$work/base.toml" 2>/dev/null
+tool 1 glb-append --numbers "$work/topology.toml" >"$work/early.toml"
+printf 'demand g2 3\n' | tool 2 glb-append >/dev/null
+ok 'a base that misses an entry is refused' bash -c "! ip netns exec glbfleet1 env GLB_ETCD=$(etcd_of 1) $here/tools/glb-append --base '$work/early.toml' 2>/dev/null"
+tool 1 glb-append --numbers "$work/topology.toml" >"$work/base.toml"
 tool 1 glb-append --base "$work/base.toml" >"$work/number"
 mv "$work/base.toml" "$work/topology.toml"
 ok 'all agree behind the base' agreed

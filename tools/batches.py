@@ -198,11 +198,13 @@ class Log:
         text = self.etcd.get(f"{self.prefix}/by/{ident}")
         return None if text is None else int(text)
 
-    def append(self, text, ident):
-        """Appends an entry, once whatever happens on the way, and says its number. Whoever finds no majority may ask again by the same id."""
+    def append(self, text, ident, last=None):
+        """Appends an entry, once whatever happens on the way, and says its number. Whoever finds no majority may ask again by the same id. With `last` it is appended behind that entry alone, and none is said where others came between."""
         by, lease = encoded(f"{self.prefix}/by/{ident}"), self.etcd.lease(KEPT)
         while True:
             number = self.ends()[1] + 1
+            if last is not None and number != last + 1:
+                return self.number_of(ident)
             key = encoded(self.key(number))
             puts = [{"request_put": {"key": key, "value": encoded(text)}}, {"request_put": {"key": by, "value": encoded(str(number)), "lease": lease}}]
             compare = [{"key": name, "target": "VERSION", "result": "EQUAL", "version": "0"} for name in (key, by)]
