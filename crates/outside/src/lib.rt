@@ -39,7 +39,7 @@ pub use mem_port::{MemPacket, MemPort, MemTaken, MemTry};
 pub use mem_shelf::MemShelf;
 pub use mem_sink::MemSink;
 pub use mem_source::MemSource;
-pub use notes::Notes;
+pub use notes::{Notes, Numbered};
 pub use pace::{Pace, PaceCall};
 pub use port::{Arrival, Opening, Port, Sending};
 pub use shelf::{LoadFault, Shelf};
