@@ -17,7 +17,8 @@ group = [
 class = [{name = \"g2www\", group = \"g2\", service = \"www\", demand = 3, pools = [\"B\"], scores = [1]}]
 ";
 
-const CLASSED_MAP: &str = "glb map 2\nplace g1 A 8\nplace g2 A 2\nplace g2 B 2\nplace g2www B 3\nfull g2 A A\nfull g2 B R\nend\n";
+const CLASSED_MAP: &str =
+    "glb map 2\nplace g1 A 8\nplace g2 A 2\nplace g2 B 2\nplace g2www B 3\nfull g2 A A\nfull g2 B R\nend\n";
 
 /// Two classes of one group and one service, whose letter case does not matter.
 const TWICE: &str = "node = [{name = \"A\", capacity = 10, pool = true}]
@@ -59,7 +60,10 @@ const REPLIES: &[(&str, &str)] = &[
 
 #[test]
 fn replies_by_class(rt: HostRuntime) -> Result<(), Fail> {
-    let held = [("t", Topology(CLASSED)), ("m", Bytes(CLASSED_MAP.as_bytes()))];
+    let held = [
+        ("t", Topology(CLASSED)),
+        ("m", Bytes(CLASSED_MAP.as_bytes())),
+    ];
     let query = "123401000001000000000000037777770363646e076578616d706c650000010001";
     for (from, line) in REPLIES {
         let came = came_of(&rt, &["glb", "answer", "t", "m", *from, query], &held)?;

@@ -16,14 +16,17 @@ group = [
 ]
 ";
 
-const LIMITED_MAP: &str = "glb map 2\nplace g1 A 5\nplace g1 B 3\nplace g2 A 5\nplace g2 B 2\nlimit g1 A\nfull g2 A A\nfull g2 B R\nend\n";
+const LIMITED_MAP: &str =
+    "glb map 2\nplace g1 A 5\nplace g1 B 3\nplace g2 A 5\nplace g2 B 2\nlimit g1 A\nfull g2 A A\nfull g2 B R\nend\n";
 
 /// The same with one limit too few, and with a limit of 0.
-const ONE_LIMIT: &str = "node = [{name = \"A\", capacity = 10, pool = true}, {name = \"B\", capacity = 10, pool = true}]
+const ONE_LIMIT: &str =
+    "node = [{name = \"A\", capacity = 10, pool = true}, {name = \"B\", capacity = 10, pool = true}]
 group = [{name = \"g1\", demand = 8, pools = [\"A\", \"B\"], scores = [1, 2], limits = [5], prefixes = [\"0.0.0.0/0\", \"::/0\"]}]
 ";
 
-const LIMIT_OF_NONE: &str = "node = [{name = \"A\", capacity = 10, pool = true}, {name = \"B\", capacity = 10, pool = true}]
+const LIMIT_OF_NONE: &str =
+    "node = [{name = \"A\", capacity = 10, pool = true}, {name = \"B\", capacity = 10, pool = true}]
 group = [{name = \"g1\", demand = 8, pools = [\"A\", \"B\"], scores = [1, 2], limits = [5, 0], prefixes = [\"0.0.0.0/0\", \"::/0\"]}]
 ";
 
@@ -55,7 +58,9 @@ const CHECKED: &[Row] = &[
     ),
     (
         Topology(LIMITED),
-        Bytes(b"glb map 2\nplace g1 A 6\nplace g1 B 2\nplace g2 A 5\nplace g2 B 2\nlimit g1 A\nfull g2 A A\nfull g2 B R\nend\n"),
+        Bytes(
+            b"glb map 2\nplace g1 A 6\nplace g1 B 2\nplace g2 A 5\nplace g2 B 2\nlimit g1 A\nfull g2 A A\nfull g2 B R\nend\n",
+        ),
         Status::NotGood,
         "over limit g1 A 6\n",
         2,
@@ -63,7 +68,9 @@ const CHECKED: &[Row] = &[
     // The limit is named ahead of the full pool, and the older version of the text has no such line.
     (
         Topology(LIMITED),
-        Bytes(b"glb map 2\nplace g1 A 5\nplace g1 B 3\nplace g2 A 5\nplace g2 B 2\nfull g1 A A\nfull g2 A A\nfull g2 B R\nend\n"),
+        Bytes(
+            b"glb map 2\nplace g1 A 5\nplace g1 B 3\nplace g2 A 5\nplace g2 B 2\nfull g1 A A\nfull g2 A A\nfull g2 B R\nend\n",
+        ),
         Status::NotGood,
         "bad name 0\n",
         2,
@@ -88,7 +95,10 @@ const PLACED: &[Row] = &[(
 #[test]
 fn limits(rt: HostRuntime) -> Result<(), Fail> {
     assert_eq!(rt; first_wrong(&rt, &["glb", "map", "t"], MAPPED)?, None);
-    assert_eq!(rt; first_wrong(&rt, &["glb", "check", "t", "m"], CHECKED)?, None);
+    assert_eq!(rt;
+        first_wrong(&rt, &["glb", "check", "t", "m"], CHECKED)?,
+        None
+    );
     assert_eq!(rt; first_wrong(&rt, &["glb", "places", "t"], PLACED)?, None);
     Ok(())
 }
