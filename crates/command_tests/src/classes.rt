@@ -71,3 +71,18 @@ fn replies_by_class(rt: HostRuntime) -> Result<(), Fail> {
     }
     Ok(())
 }
+
+/// A change names a class as it names a group: two units of it go, and the group beside it has two more.
+#[test]
+fn a_change_of_a_class(rt: HostRuntime) -> Result<(), Fail> {
+    let held = [
+        ("t", Topology(CLASSED)),
+        ("m", Bytes(CLASSED_MAP.as_bytes())),
+        ("c", Bytes(b"demand g2www 1\n")),
+    ];
+    let came = came_of(&rt, &["glb", "repair", "t", "m", "c"], &held)?;
+    let text =
+        "glb map 2\nplace g1 A 8\nplace g2 A 2\nplace g2 B 4\nplace g2www B 1\nfull g2 A A\nfull g2 B R\nend\n";
+    assert!(rt; came.is(Status::Ok, text.as_bytes(), 3));
+    Ok(())
+}
