@@ -24,7 +24,7 @@ units_lt m market test a b form_a form_b each h j o t less =
     let size : ℕ = length m.groups * 16 in
     let few = few_places m market h j o in
     let all = sum-lt (λ i. if test (i / 16) (i % 16) then amount_of a i else 0) (λ i. if test (i / 16) (i % 16) then amount_of b i else 0) (h * 16 + j) size 0 (λ i low high. at (i / 16) (i % 16)) (omega arith) (omega (arith, few, o.group))
-        (omega (arith, value few a, value few b, less)) in
+    (omega (arith, value few a, value few b, less)) in
     omega (arith, all, units_of-by_offers test size a (in_range m market a form_a), units_of-by_offers test size b (in_range m market b form_b))
   where
     at : (g k : ℕ) → (if test g k then amount_at a g k else 0) ≤ (if test g k then amount_at b g k else 0)

@@ -1,12 +1,12 @@
 -- An instance to which a batch was applied is determined.
-use Rattle.std.proofs.Common.{◌≡◌, ℕ, ◌<◌, Bool, List, length, Option, slice_index_or, None, false, [], refl, sym, ap, ◌∙◌, arith}
+use Rattle.std.proofs.Common.{◌≡◌, ℕ, ◌<◌, Bool, List, length, Option, None, false, [], sym, ap, ◌∙◌, arith}
 use Rattle.std.proofs.lemmas.List.{ext_get_or}
 use Rattle.map_model.specs.declared.change.Change.{Change}
 use Rattle.map_model.specs.declared.instance.Choice.{Choice}
 use Rattle.map_model.specs.declared.instance.Node.{Node}
 use Rattle.map_model.specs.declared.instance.NodeId.{NodeId}
 use Rattle.map_model.specs.Batch.{IsApplied}
-use Rattle.map_model.specs.Market.{Group, Market, capacity_of, choices_of, demand_of, group_at, is_pool_at, node_at, parent_of}
+use Rattle.map_model.specs.Market.{Group, Market, group_at, node_at}
 
 group_is : (x y : Group) → x.demand ≡ y.demand → x.choices ≡ y.choices → x ≡ y
 group_is x y e f = ap (λ (d : ℕ). record { demand = d; choices = x.choices }) e ∙ ap (λ (cs : List Choice). record { demand = y.demand; choices = cs }) f

@@ -81,7 +81,7 @@ left_le m market all a b form_a form_b x y fits g k o same = elim (cases_lt (amo
       let there = under_there m market n (pool_of m g k) (pool_there m market g k o) t.1 in
       let saturated : capacity_of m n ≤ units_of (under_within m n key) a = t.2 in
       let more = units_lt m market (under_within m n key) a b form_a form_b (λ h j p w. each n less (omega (arith, less, had)) h j p (and_parts (counts_at m n h j) (key_le (key_of m h j) key) w).1) g k o
-          (and_from (counts_at m n g k) (key_le key key) t.1 (key_le_itself key)) less in
+      (and_from (counts_at m n g k) (key_le key key) t.1 (key_le_itself key)) less in
       let within = units_of-le (under_within m n key) (counts_at m n) (λ h j w. (and_parts (counts_at m n h j) (key_le (key_of m h j) key) w).0) b in
       absurd (omega (arith, saturated, more, within, fits n there))
 ]

@@ -1,12 +1,12 @@
 -- What a run ends in is determined by where it begins; the map from scratch by its instance.
-use Rattle.std.proofs.Common.{◌≡◌, ℕ, ◌<◌, ◌≤◌, List, length, slice_index, sym, ap, ◌∙◌, arith}
+use Rattle.std.proofs.Common.{◌≡◌, ℕ, ◌<◌, List, length, slice_index, sym, ap, ◌∙◌, arith}
 use Rattle.map_model.specs.declared.lines.MapLine.{MapLine}
 use Rattle.map_model.specs.declared.lines.NameLine.{NameLine}
 use Rattle.map_model.specs.Market.{Market, IsMarket}
-use Rattle.map_model.specs.Allocation.{IsGood, IsOffer, IsStable, amount_at, names_of, placed_through}
+use Rattle.map_model.specs.Allocation.{IsGood, IsStable, amount_at, names_of}
 use Rattle.map_model.specs.Progress.{IsGroupBest}
 use Rattle.evict.specs.Standing.{IsReady, Standing}
-use Rattle.best_laws.specs.Ahead.{IsRightMap, IsWithin}
+use Rattle.best_laws.specs.Ahead.{IsRightMap}
 use Rattle.best_laws.proofs.Ended.{best_within}
 use Rattle.deferred_accept.specs.Runs.{AreProposals}
 use Rattle.deferred_accept.proofs.Best.{within_many}
@@ -61,5 +61,5 @@ ends_named m n j old a b of_a of_b ready to_a to_b good_a good_b =
 pub group_best_one : (m : Market) → IsMarket m → (a b : List MapLine) (of_a of_b : List NameLine) → IsGood m a of_a → IsGood m b of_b → IsGroupBest m a → IsGroupBest m b → (a ≡ b) × (of_a ≡ of_b)
 group_best_one m market a b of_a of_b good_a good_b best_a best_b =
     let e : a ≡ b = same_lines m market a b good_a.form good_b.form (same_amounts m a b (λ g k o.
-        omega (arith, best_a b good_b.form good_b.feasible good_b.stable g k o, best_b a good_a.form good_a.feasible good_a.stable g k o))) in
+    omega (arith, best_a b good_b.form good_b.feasible good_b.stable g k o, best_b a good_a.form good_a.feasible good_a.stable g k o))) in
     (e, good_a.named ∙ ap (names_of m) e ∙ sym good_b.named)

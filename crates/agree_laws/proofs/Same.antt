@@ -28,11 +28,15 @@ record ByNumber (from : ℕ) (xs : List MapLine) : Type 0 where
 
 rising_from : (from : ℕ) (xs : List MapLine) → ByNumber from xs → AreRising from xs
 rising_from from [] h = tt
-rising_from from (x ∷ xs) h = (h.first (omega arith), h.each 0 (omega arith), rising_from (rank_of x + 1) xs (record {
-  each = λ i l. h.each (suc i) (omega arith);
-  first = λ l. let up : rank_of x < rank_of (get_or xs 0 no_line) = h.next 0 (omega arith) in omega (arith, up);
-  next = λ i l. h.next (suc i) (omega arith);
-}))
+rising_from from (x ∷ xs) h = (
+  h.first (omega arith),
+  h.each 0 (omega arith),
+  rising_from (rank_of x + 1) xs (record {
+    each = λ i l. h.each (suc i) (omega arith);
+    first = λ l. let up : rank_of x < rank_of (get_or xs 0 no_line) = h.next 0 (omega arith) in omega (arith, up);
+    next = λ i l. h.next (suc i) (omega arith);
+  }),
+)
 
 pub rising_lines : (m : Market) → IsMarket m → (lines : List MapLine) → AreLines m lines → AreRising 0 lines
 rising_lines m market lines form = rising_from 0 lines (record {
@@ -92,8 +96,8 @@ same_rising from (x ∷ xs) (y ∷ ys) r s same = elim (cases_order (rank_of x) 
       let heads : x ≡ y = line_is x y group place amount in
       let low : AreRising (rank_of x + 1) ys = subst (λ n. AreRising (n + 1) ys) (sym e) s.2 in
       let rest : xs ≡ ys = same_rising (rank_of x + 1) xs ys r.2 low (λ g k.
-          let head : (if (x.group.0 == g) && (x.place == k) then x.amount else 0) ≡ (if (y.group.0 == g) && (y.place == k) then y.amount else 0) = ap (λ (l : MapLine). if (l.group.0 == g) && (l.place == k) then l.amount else 0) heads in
-          omega (arith, head, same g k, sum_by-cons (λ (l : MapLine). if (l.group.0 == g) && (l.place == k) then l.amount else 0) x xs, sum_by-cons (λ (l : MapLine). if (l.group.0 == g) && (l.place == k) then l.amount else 0) y ys)) in
+      let head : (if (x.group.0 == g) && (x.place == k) then x.amount else 0) ≡ (if (y.group.0 == g) && (y.place == k) then y.amount else 0) = ap (λ (l : MapLine). if (l.group.0 == g) && (l.place == k) then l.amount else 0) heads in
+      omega (arith, head, same g k, sum_by-cons (λ (l : MapLine). if (l.group.0 == g) && (l.place == k) then l.amount else 0) x xs, sum_by-cons (λ (l : MapLine). if (l.group.0 == g) && (l.place == k) then l.amount else 0) y ys)) in
       ap (λ (l : MapLine). l ∷ xs) heads ∙ ap (λ (ls : List MapLine). y ∷ ls) rest
 ]
 

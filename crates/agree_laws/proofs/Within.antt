@@ -53,5 +53,5 @@ later_many m (suc n) old new ready made =
     let p : IsProposal m made.0 made.1 = made.4 in
     later_trans m old made.1 new
     (later_trans m old made.0 made.1 (later_many m n old made.0 ready made.3)
-      (later_put m made.0 made.1 p.group (slice_index made.0.pointers p.group) (offered m made.0 p.group) p.freed (can_propose m made.0 made.1 (ready_many m n old made.0 ready made.3) p) p.put))
+    (later_put m made.0 made.1 p.group (slice_index made.0.pointers p.group) (offered m made.0 p.group) p.freed (can_propose m made.0 made.1 (ready_many m n old made.0 ready made.3) p) p.put))
     (later_skips m made.2 made.1 new p.put.ready made.5)

@@ -1,17 +1,11 @@
 -- The nearest full node of an offer's path, and the worst held offer under a node, are one.
-use Rattle.std.proofs.Common.{◌≡◌, ℕ, ◌<◌, true, not, List, [], length, slice_index, slice_index_or, sym, ap, ◌∙◌, subst, inl, inr, arith}
-use Rattle.std.specs.declared.cmp.Ordering.{Ordering}
-use Rattle.std.specs.declared.cmp.Ordering.TheVariants.{Less, Equal, Greater}
-use Rattle.std.specs.Ordering.{is_le, nat_cmp, ordering_reverse, ordering_then}
-use Rattle.std.proofs.lemmas.Bool.{and_from, and_parts, cases_lt, cases_order, false≢true}
-use Rattle.std.proofs.lemmas.List.{get_or_past}
-use Rattle.std.proofs.lemmas.Map.Lookups.{exact_unsigned}
-use Rattle.map_model.specs.declared.instance.Choice.{Choice}
+use Rattle.std.proofs.Common.{◌≡◌, ℕ, ◌<◌, true, not, List, length, slice_index, sym, ap, ◌∙◌, subst, inl, inr, arith}
+use Rattle.std.proofs.lemmas.Bool.{and_from, and_parts}
 use Rattle.map_model.specs.declared.lines.MapLine.{MapLine}
-use Rattle.map_model.specs.Market.{Group, Market, IsMarket, capacity_of, choices_of, key_of, pool_of}
-use Rattle.map_model.specs.Allocation.{IsOffer, counts_at, is_under, key_cmp, key_le, load}
+use Rattle.map_model.specs.Market.{Market, IsMarket, capacity_of, key_of, pool_of}
+use Rattle.map_model.specs.Allocation.{counts_at, is_under, key_le, load}
 use Rattle.map_model.specs.Holding.{IsWorst, under_worse}
-use Rattle.map_model.proofs.Keys.{key_le_total, key_le_trans, keys_total, then_tie}
+use Rattle.map_model.proofs.Keys.{key_le_total, key_le_trans}
 use Rattle.map_model.proofs.Paths.{pool_there}
 use Rattle.map_model.proofs.Trees.{comparable, under_itself, under_trans}
 use Rattle.map_model.proofs.Units.{units_of-le}

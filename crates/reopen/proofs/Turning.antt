@@ -4,7 +4,7 @@ use Rattle.std.proofs.lemmas.Bool.{and_from, and_parts, cases_Bool, eqb-true}
 use Rattle.map_model.specs.declared.instance.Key.{Key}
 use Rattle.map_model.specs.declared.lines.MapLine.{MapLine}
 use Rattle.map_model.specs.Market.{Market, IsMarket, capacity_of, key_of, pool_of}
-use Rattle.map_model.specs.Allocation.{IsOffer, amount_at, counts_at, is_under, key_le, load, units_of}
+use Rattle.map_model.specs.Allocation.{counts_at, key_le, load, units_of}
 use Rattle.map_model.specs.Holding.{IsSaturated, IsWorst, Takes, under_within, under_worse}
 use Rattle.map_model.proofs.Keys.{key_le_itself, key_le_trans}
 use Rattle.map_model.proofs.Paths.{pool_there}
@@ -17,8 +17,8 @@ use Rattle.reopen.specs.Cutting.{AreTurnedAway, AreTurnedFrom}
 saturated_left : (m : Market) (old new : List MapLine) (c g k held units : ℕ) → IsWorst m old c g k held → Takes old new g k units → capacity_of m c + units ≤ load m old c → (key : Key) → key_le (key_of m g k) key ≡ true → IsSaturated m new c key
 saturated_left m old new c g k held units worst taken room key le =
     let more = units_of-le (under_within m c (key_of m g k)) (under_within m c key) (λ h j t.
-        let p = and_parts (counts_at m c h j) (key_le (key_of m h j) (key_of m g k)) t in
-        and_from (counts_at m c h j) (key_le (key_of m h j) key) p.0 (key_le_trans (key_of m h j) (key_of m g k) key p.1 le)) new in
+    let p = and_parts (counts_at m c h j) (key_le (key_of m h j) (key_of m g k)) t in
+    and_from (counts_at m c h j) (key_le (key_of m h j) key) p.0 (key_le_trans (key_of m h j) (key_of m g k) key p.1 le)) new in
     let all : (if counts_at m c g k then units else 0) ≡ units = rw worst.under refl in
     omega (arith, more, units_of-split m new c (key_of m g k), taken (under_worse m c (key_of m g k)), worst.worst, taken (counts_at m c), all, room)
 

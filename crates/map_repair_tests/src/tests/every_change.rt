@@ -12,8 +12,8 @@ use no_memory::NoMemory;
 use std::alloc::Global;
 use std::test::Fail;
 
-/// How many worlds of each kind are tried, spread over all of them. With `u64::MAX` all are: see bench/README.md.
-const EACH: u64 = 40;
+/// How many worlds of each kind are tried, with limits and without, spread over all of them. With `u64::MAX` all are: see bench/README.md.
+const EACH: u64 = 20;
 
 /// Prime, so that its multiples go through all numbers of a kind.
 const STRIDE: u64 = 1_000_003;
@@ -129,8 +129,9 @@ fn tried(alloc: Global, kind: &Kind, small: &Small) -> Result<Tally, Fail> {
     let instance = kind.instance(alloc, small)?;
     let map = mapped(alloc, &instance)?;
     let numbers = small.numbers;
-    let maps = maps_at_most(kind, &small.places, numbers, &map.lines)
-        .ok_or("another map places more")?;
+    let maps = maps_at_most(kind, &small.places, numbers, &map.lines).ok_or(
+        "another map places more",
+    )?;
     let old = Standing {
         numbers,
         instance,
@@ -147,12 +148,7 @@ fn tried(alloc: Global, kind: &Kind, small: &Small) -> Result<Tally, Fail> {
 }
 
 /// All changes of the world of a number, if there is one, with limits or without.
-fn tried_number(
-    alloc: Global,
-    kind: &Kind,
-    number: u64,
-    is_limited: bool,
-) -> Result<Tally, Fail> {
+fn tried_number(alloc: Global, kind: &Kind, number: u64, is_limited: bool) -> Result<Tally, Fail> {
     match kind.world(alloc, number, is_limited)? {
         Some(small) => tried(alloc, kind, &small),
         None => Ok(Tally::NONE),
@@ -178,7 +174,7 @@ fn repairs_each_change_of_the_smallest_worlds(rt: HostRuntime) -> Result<(), Fai
         tally = tally.and(tried_kind(rt.alloc(), &Kind::of(*kind))?);
     }
     assert!(rt;
-        tally.repairs > 4_800 && tally.outside > 480 && tally.several > 0,
+        tally.repairs > 2_400 && tally.outside > 240 && tally.several > 0,
         "{} repairs, {} places outside, {} worlds with several maps",
         tally.repairs,
         tally.outside,

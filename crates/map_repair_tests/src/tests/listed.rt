@@ -138,23 +138,36 @@ impl<'a> Held<'a> {
         false
     }
 
-    /// Whether a place with so many units is within its limit and its group's demand, and refused where more is wanted.
-    fn is_right_at(&self, place: &Place, amount: u32) -> bool {
-        let through = self.through(place.group, place.place);
-        let demand = self.numbers.demand(place.group);
-        amount <= place.limit
-            && through <= demand
-            && (through == demand || amount == place.limit || self.is_turned_away(place))
-    }
-
-    /// Whether the units are those of a feasible and stable map.
-    fn is_right(&self) -> bool {
+    /// Whether no group has more than its demand, no place more than its limit, and no node more than its capacity.
+    fn is_feasible(&self) -> bool {
         for (place, amount) in self.places.iter().zip(&self.amounts) {
-            if !self.is_right_at(place, *amount) {
+            if *amount > place.limit
+                || self.placed(place.group) > self.numbers.demand(place.group)
+            {
                 return false;
             }
         }
         self.fits()
+    }
+
+    /// Whether a place with so many units is refused by its limit or a node, or its group has all its demand there and before.
+    fn is_content(&self, place: &Place, amount: u32) -> bool {
+        amount == place.limit
+            || self.through(place.group, place.place) >= self.numbers.demand(place.group)
+            || self.is_turned_away(place)
+    }
+
+    /// Whether the units are those of a feasible and stable map.
+    fn is_right(&self) -> bool {
+        if !self.is_feasible() {
+            return false;
+        }
+        for (place, amount) in self.places.iter().zip(&self.amounts) {
+            if !self.is_content(place, *amount) {
+                return false;
+            }
+        }
+        true
     }
 
     /// Whether no group has more at its places up to any than in another map.
@@ -169,7 +182,10 @@ impl<'a> Held<'a> {
 
     /// Whether no place has more than in other units.
     fn is_part(&self, of: &Held<'_>) -> bool {
-        self.amounts.iter().zip(&of.amounts).all(|(ours, theirs)| ours <= theirs)
+        self.amounts
+            .iter()
+            .zip(&of.amounts)
+            .all(|(ours, theirs)| ours <= theirs)
     }
 
     /// Whether a place that has less than before is behind all others of its group, whose demand is still met.
@@ -181,6 +197,9 @@ impl<'a> Held<'a> {
     /// Whether the units are what is left of others where each group has at most its demand, and gave up units at its last
     /// places, no more than it had to.
     fn is_trimmed(&self, of: &Held<'_>) -> bool {
+        if !self.is_part(of) {
+            return false;
+        }
         for ((place, ours), theirs) in self.places.iter().zip(&self.amounts).zip(&of.amounts) {
             if self.placed(place.group) > self.numbers.demand(place.group)
                 || ours < theirs && !self.is_trimmed_at(place)
@@ -188,21 +207,27 @@ impl<'a> Held<'a> {
                 return false;
             }
         }
-        self.is_part(of)
+        true
     }
 
     /// Whether the units are what is left of others where no node is over its capacity, and a node refuses whoever has less.
     fn is_left(&self, of: &Held<'_>) -> bool {
+        if !self.is_part(of) || !self.fits() {
+            return false;
+        }
         for ((place, ours), theirs) in self.places.iter().zip(&self.amounts).zip(&of.amounts) {
             if ours < theirs && !self.is_turned_away(place) {
                 return false;
             }
         }
-        self.is_part(of) && self.fits()
+        true
     }
 
     /// What is left of these units, once they are trimmed.
     fn trimmed(&self) -> Option<Held<'a>> {
+        if self.is_trimmed(self) {
+            return Some(*self);
+        }
         for number in 0..count(self.places) {
             let held = self.with(number);
             if held.is_trimmed(self) {
@@ -214,6 +239,9 @@ impl<'a> Held<'a> {
 
     /// What is left of these units, once no node is over its capacity.
     fn left(&self) -> Option<Held<'a>> {
+        if self.is_left(self) {
+            return Some(*self);
+        }
         for number in 0..count(self.places) {
             let held = self.with(number);
             if held.is_left(self) {
@@ -299,10 +327,7 @@ pub fn is_the_repaired(
     let made = Held { amounts, ..asked };
     for number in 0..count(places) {
         let other = asked.with(number);
-        if other.is_right()
-            && other.is_within(&left, &was, reached)
-            && !other.is_at_most(&made)
-        {
+        if other.is_right() && other.is_within(&left, &was, reached) && !other.is_at_most(&made) {
             return false;
         }
     }

@@ -14,7 +14,7 @@ loop-offer-init c = record {
 }
 
 pub wake_first-requires : goal.wake_first-requires
-wake_first-requires c = subst (λ (es : List Eviction). All (λ (e : Eviction). e.offer.group.0 < length c.add_first.new.work) es) (sym c.evictions-given_up.ensures)
+wake_first-requires c = subst (λ (es : List Eviction). All (λ (e : Eviction). e.offer.group.0 < length c.add_first.new.self) es) (sym c.evictions-given_up.ensures)
     (λ i d l. omega (
       arith,
       groups_step c.args.instance.now c.loop-offer.state c.offer_or_skip.new.state c.in-Some.offer.group.0 c.offer_or_skip.new.freed c.loop-offer.steps c.offer_or_skip.new.steps c.in_ok-offer_or_skip.ensures.stepped i d l,
