@@ -1,7 +1,8 @@
 //! A topology as it was read.
 ghost use Rattle.std.specs.Prelude.{◌≡◌, ◌⊎◌, ◌<◌, length, map, option_map, slice_index_or, []};
-ghost use Rattle.topology_text.specs.Plan.{IsPlan, Plan, addresses_of, number_in};
+ghost use Rattle.topology_text.specs.Plan.{IsPlan, Plan, addresses_of, number_in, unit_of};
 
+use crate::classes::Classes;
 use crate::soa::SoaContent;
 use addr_text::{Addr, Prefix};
 use indexmap::IndexSet;
@@ -123,6 +124,7 @@ pub struct Topology {
     zone: Zone,
     node_names: IndexSet<Vec<u8>>,
     group_names: IndexSet<Vec<u8>>,
+    classes: Classes,
     prefixes: Vec<(Prefix, GroupId)>,
     addresses: Vec<Hosts>,
 }
@@ -146,17 +148,19 @@ impl Topology {
         zone: Zone,
         node_names: IndexSet<Vec<u8>>,
         group_names: IndexSet<Vec<u8>>,
+        classes: Classes,
         prefixes: Vec<(Prefix, GroupId)>,
         addresses: Vec<Hosts>,
     ) -> Topology
-        requires { IsPlan (record { market = instance; zone = zone; node_names = map (λ v. v.items) node_names.keys; group_names = map (λ v. v.items) group_names.keys; prefixes = prefixes.items; addresses = addresses.items }) }
-        ensures { result ≡ record { market = instance; zone = zone; node_names = map (λ v. v.items) node_names.keys; group_names = map (λ v. v.items) group_names.keys; prefixes = prefixes.items; addresses = addresses.items } }
+        requires { IsPlan (record { market = instance; zone = zone; node_names = map (λ v. v.items) node_names.keys; group_names = map (λ v. v.items) group_names.keys; classes = classes; prefixes = prefixes.items; addresses = addresses.items }) }
+        ensures { result ≡ record { market = instance; zone = zone; node_names = map (λ v. v.items) node_names.keys; group_names = map (λ v. v.items) group_names.keys; classes = classes; prefixes = prefixes.items; addresses = addresses.items } }
     {
         Topology {
             instance,
             zone,
             node_names,
             group_names,
+            classes,
             prefixes,
             addresses,
         }
@@ -226,6 +230,16 @@ impl Topology {
             Some(name) => name.as_slice(),
             None => &[],
         }
+    }
+
+    /// The unit of a group for the service of that number: the class of that group and service where there is one, else the group.
+    pub fn unit_of(&self, group: GroupId, service: u8) -> GroupId
+        requires group { group.0 < length self.now.market.groups }
+        ensures unit { result.0 ≡ unit_of self.now group.0 service }
+        ensures there { result.0 < length self.now.market.groups }
+        ensures plan { IsPlan self.now }
+    {
+        self.classes.unit_of(group, service)
     }
 
     /// The addresses of a node for records of type A (`kind` is 1) or AAAA (28), in the file's order.
