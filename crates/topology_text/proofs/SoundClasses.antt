@@ -1,15 +1,15 @@
 -- Groups and classes as units, and what the rules say of classes.
-use Rattle.std.proofs.Common.{◌≡◌, ℕ, ◌+◌, ◌<◌, ◌≤◌, ◌^◌, suc, zero, Bool, true, false, not, ◌==◌, ◌&&◌, nat_lt, List, [], ◌∷◌, ◌++◌, length, get_or, map, take, Option, None, Some, IfSome, is_some, option_and_then, All, AllPairs, refl, ap, sym, ◌∙◌, subst, arith}
+use Rattle.std.proofs.Common.{◌≡◌, ℕ, ◌+◌, ◌<◌, ◌≤◌, ◌^◌, suc, zero, true, false, ◌==◌, ◌&&◌, nat_lt, List, [], ◌∷◌, ◌++◌, length, get_or, take, Option, None, Some, IfSome, is_some, option_and_then, All, refl, ap, sym, ◌∙◌, subst, arith}
 use Rattle.std.proofs.lemmas.Bool.{not-false}
 use Rattle.std.proofs.lemmas.Bool.Decides.{nat_tests}
 use Rattle.std.proofs.lemmas.List.{get_or-map, get_or-take, get_or_append_left, get_or-append-add, get_or_default, length-append, length-map, length-take-le}
 use Rattle.std.proofs.lemmas.List.Folds.{list_any_at}
 use Rattle.std.proofs.lemmas.List.Quantifiers.{position-Some}
 use Rattle.std.specs.List.{cons_option, filter_map, list_any, position}
-use Rattle.toml.specs.Data.{Data, Members, boolean, string, table}
+use Rattle.toml.specs.Data.{Data, Members, boolean}
 use Rattle.map_model.specs.declared.instance.GroupId.{GroupId}
 use Rattle.name_text.specs.Names.{is_same}
-use Rattle.topology_text.specs.Names.{Entries, both, entry_at, is_paired, is_same_pair, is_unknown_name, names_in, number_of, pair_of, repeats_pair, service_number, text_at, text_in, units_of, zone_items}
+use Rattle.topology_text.specs.Names.{Entries, both, entry_at, is_paired, is_same_pair, is_unknown_name, names_in, number_of, pair_of, service_number, text_at, text_in, units_of, zone_items}
 use Rattle.topology_text.specs.Plan.{AreClasses}
 use Rattle.topology_text.specs.Texts.{service_name}
 use Rattle.topology_text.specs.Topology.{AreSoundClasses, classes_of, kept_pair}

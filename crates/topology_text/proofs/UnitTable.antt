@@ -1,5 +1,5 @@
 -- The table of classes by group and service.
-use Rattle.std.proofs.Common.{◌≡◌, ℕ, ◌+◌, ◌*◌, ◌<◌, ◌≤◌, suc, Bool, true, false, ◌==◌, ◌&&◌, cond, List, [], ◌∷◌, ◌++◌, length, get_or, set, take, if◌then◌else◌, Option, None, Some, All, AllPairs, refl, ap, sym, ◌∙◌, subst, arith}
+use Rattle.std.proofs.Common.{◌≡◌, ℕ, ◌+◌, ◌*◌, ◌<◌, ◌≤◌, Bool, true, false, ◌==◌, ◌&&◌, cond, List, [], ◌∷◌, ◌++◌, length, get_or, set, take, if◌then◌else◌, Option, None, Some, All, AllPairs, refl, ap, sym, ◌∙◌, arith}
 use Rattle.std.proofs.lemmas.Bool.Decides.{nat_tests}
 use Rattle.std.proofs.lemmas.Grind.{get_or-set_at}
 use Rattle.std.proofs.lemmas.Iterator.Adapters.{position_from-zero}
@@ -8,7 +8,7 @@ use Rattle.std.proofs.lemmas.List.Quantifiers.{position-Some}
 use Rattle.std.specs.List.{position, position_from}
 use Rattle.std.specs.Option.{option_or}
 use Rattle.map_model.specs.declared.instance.GroupId.{GroupId}
-use Rattle.topology_text.specs.Plan.{is_class_of, number_or, unit_among}
+use Rattle.topology_text.specs.Plan.{is_class_of, number_or}
 use Rattle.topology_text.specs.Units.{AreUnits, HasFewServices, unit_or}
 use Rattle.topology_text.proofs.UnitNumbers.{behind}
 

@@ -1,5 +1,5 @@
 -- The names of a topology's nodes, groups and classes, and what the names in it lead to.
-use Rattle.std.specs.Prelude.{ℕ, zero, suc, ◌+◌, List, [], ◌∷◌, ◌++◌, length, map, take, Bool, false, not, ◌&&◌, ◌||◌, ◌==◌, nat_lt, Option, None, Some, is_some, option_map, option_and_then, slice_index_or, position}
+use Rattle.std.specs.Prelude.{ℕ, zero, suc, ◌+◌, List, [], ◌∷◌, ◌++◌, length, map, take, Bool, false, not, ◌&&◌, ◌||◌, ◌==◌, nat_lt, Option, None, Some, is_some, option_and_then, slice_index_or, position}
 use Rattle.std.specs.List.{filter_map, list_any, position_from}
 use Rattle.std.specs.Str.{bytes_eq, str_to_ascii_lowercase}
 use Rattle.toml.specs.Data.{Data, string, boolean, table, Members, as_str}

@@ -47,7 +47,11 @@ impl Model for Classes {
 
 impl Classes {
     /// These classes behind so many groups.
-    pub(crate) fn new(alloc: Global, groups: usize, pairs: Vec<(GroupId, u8)>) -> Result<Classes, AllocError>
+    pub(crate) fn new(
+        alloc: Global,
+        groups: usize,
+        pairs: Vec<(GroupId, u8)>,
+    ) -> Result<Classes, AllocError>
         requires few { groups + length pairs.items ≤ 65536 }
         requires owned { All (λ e. e.0.0 < groups) pairs.items }
         requires served { All (λ e. e.1 < 64) pairs.items }
@@ -55,7 +59,11 @@ impl Classes {
         ensures { IfOk result (λ c. c ≡ record { groups = groups; pairs = pairs.items }) }
     {
         let units = table(alloc, groups, pairs.as_slice())?;
-        Ok(Classes { groups, pairs, units })
+        Ok(Classes {
+            groups,
+            pairs,
+            units,
+        })
     }
 
     /// The unit of a group for a service: its class for that service where there is one, else the group.

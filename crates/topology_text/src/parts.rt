@@ -209,5 +209,13 @@ pub fn topology(
     let classes = classes(alloc, index)?;
     let owned = owned(alloc, prefixes)?;
     let hosts = all_hosts(alloc, index.nodes())?;
-    Ok(Topology::from_parts(instance, zone, node_names, group_names, classes, owned, hosts))
+    Ok(Topology::from_parts(
+        instance,
+        zone,
+        node_names,
+        group_names,
+        classes,
+        owned,
+        hosts,
+    ))
 }

@@ -42,11 +42,7 @@ fn check_shape(tables: &[TableAt<'_>]) -> Result<(), TopologyFault>
 }
 
 /// The first name, or service of a class, that stands earlier too.
-fn first_repeated(
-    index: &Entries<'_>,
-    repeats: &[bool],
-    tables: &[TableAt<'_>],
-) -> Option<Place>
+fn first_repeated(index: &Entries<'_>, repeats: &[bool], tables: &[TableAt<'_>]) -> Option<Place>
     requires { (i : ℕ) → slice_index_or repeats.now i false ≡ repeats_pair (entries index.now) i }
     ensures { result ≡ first (places_of (duplicate_name (entries index.now)) (map visit tables.now)) }
 {
@@ -186,7 +182,13 @@ pub fn read_topology(alloc: Global, bytes: &[u8]) -> Result<Topology, TopologyFa
     let repeats = repeated_pairs(alloc, &index)?;
     let prefixes = all_prefixes(alloc, tables.as_slice())?;
     let duplicate = first_duplicate(alloc, prefixes.as_slice())?;
-    if let Err(fault) = check(&index, repeats.as_slice(), tables.as_slice(), prefixes.as_slice(), duplicate) {
+    if let Err(fault) = check(
+        &index,
+        repeats.as_slice(),
+        tables.as_slice(),
+        prefixes.as_slice(),
+        duplicate,
+    ) {
         return Err(fault);
     }
     Ok(topology(alloc, &index, prefixes.as_slice())?)

@@ -117,7 +117,7 @@ impl Hosts {
     }
 }
 
-/// All that a topology's file says: the instance, the zone, and the names, addresses and prefixes.
+/// All that a topology's file says: the instance, the zone, and the names, classes, addresses and prefixes. Classes are groups of the instance, with numbers behind those of the groups that the file has.
 #[derive(Drop)]
 pub struct Topology {
     instance: Instance,
@@ -166,7 +166,7 @@ impl Topology {
         }
     }
 
-    /// The groups, the nodes, and their numbers.
+    /// The groups, the classes behind them, the nodes, and their numbers.
     pub fn instance(&self) -> &Instance
         ensures instance { result.now ≡ self.now.market }
         ensures plan { IsPlan self.now }
@@ -190,7 +190,7 @@ impl Topology {
         self.prefixes.as_slice()
     }
 
-    /// The group of that name, whose octets and letter case are compared as they are.
+    /// The group or class of that name, whose octets and letter case are compared as they are.
     pub fn group_named(&self, name: &[u8]) -> Option<GroupId>
         ensures number { option_map (λ g. g.0) result ≡ number_in self.now.group_names name.now }
         ensures plan { IsPlan self.now }
@@ -208,7 +208,7 @@ impl Topology {
         Some(NodeId(number as u32))
     }
 
-    /// The name of a group.
+    /// The name of a group or class.
     pub fn group_name(&self, group: GroupId) -> &[u8]
         requires { group.0 < length self.now.market.groups }
         ensures name { result.now ≡ slice_index_or self.now.group_names group.0 [] }
@@ -232,7 +232,7 @@ impl Topology {
         }
     }
 
-    /// The unit of a group for the service of that number: the class of that group and service where there is one, else the group.
+    /// The unit of a group for the service of that number: the class of that group and service where there is one, else the group itself, also for a number that no service has. It takes one load.
     pub fn unit_of(&self, group: GroupId, service: u8) -> GroupId
         requires group { group.0 < length self.now.market.groups }
         ensures unit { result.0 ≡ unit_of self.now group.0 service }

@@ -1,4 +1,4 @@
-use Rattle.std.proofs.Common.{map, ap, option_map, sym, ◌∙◌, ◌+◌, length}
+use Rattle.std.proofs.Common.{ap, option_map, sym, ◌∙◌, ◌+◌, length}
 use Rattle.std.proofs.lemmas.List.{length-map}
 use Rattle.toml.specs.View.{view}
 use Rattle.topology_text.specs.Code.{entries}

@@ -1,4 +1,4 @@
-use Rattle.std.proofs.Common.{◌≡◌, ◌<◌, ◌^◌, false, IfSome, length, map, subst, sym, arith}
+use Rattle.std.proofs.Common.{◌<◌, ◌^◌, false, IfSome, length, subst, sym, arith}
 use Rattle.std.proofs.lemmas.List.{length-map}
 use Rattle.toml.specs.Data.{boolean}
 use Rattle.toml.specs.View.{view}

@@ -1,7 +1,7 @@
 use Rattle.std.proofs.Common.{◌≡◌, ◌+◌, ◌++◌, [], false, Ok, map, ap, refl, subst, sym, ◌∙◌, slice_index_or}
 use Rattle.std.specs.List.{cons_option, filter_map}
 use Rattle.std.proofs.lemmas.List.{length-map}
-use Rattle.std.proofs.Common.{arith, take, ℕ, length, ◌≤◌}
+use Rattle.std.proofs.Common.{arith, take, ℕ}
 use Rattle.toml.specs.View.{view}
 use Rattle.topology_text.specs.Code.{entries}
 use Rattle.topology_text.specs.Names.{entry_at, is_paired, pair_of}

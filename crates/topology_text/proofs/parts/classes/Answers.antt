@@ -1,10 +1,9 @@
-use Rattle.std.proofs.Common.{◌≡◌, ◌+◌, ◌<◌, ◌≤◌, All, AllPairs, ℕ, ap, arith, length, map, subst, sym, ◌∙◌}
-use Rattle.std.proofs.lemmas.List.{length-append, length-map, get_or_default}
-use Rattle.std.specs.List.{filter_map}
+use Rattle.std.proofs.Common.{◌≡◌, ◌+◌, ◌<◌, ◌≤◌, All, AllPairs, ap, arith, length, subst, sym, ◌∙◌}
+use Rattle.std.proofs.lemmas.List.{length-append, length-map}
 use Rattle.std.proofs.Common.{get_or}
 use Rattle.toml.specs.View.{view}
 use Rattle.topology_text.specs.Code.{entries}
-use Rattle.topology_text.specs.Names.{Entries, names_in, pair_of, units_of, zone_items}
+use Rattle.topology_text.specs.Names.{Entries, names_in, units_of, zone_items}
 use Rattle.topology_text.specs.Plan.{AreClasses}
 use Rattle.topology_text.specs.Topology.{IsSound, classes_of}
 use Rattle.topology_text.specs.declared.schema.Key.TheVariants.{Services}
