@@ -5,9 +5,9 @@ use Rattle.std.specs.Prelude.{ℕ}
 abbrev pub largest_datagram : ℕ
 largest_datagram = 4096
 
--- the most octets of a reply that is sent in one datagram
+-- the most octets of a reply that is sent
 abbrev pub largest_reply : ℕ
-largest_reply = 512
+largest_reply = 1300
 
 -- the most notes that one run tells of
 abbrev pub most_notes : ℕ

@@ -3,10 +3,6 @@ use Rattle.std.specs.Prelude.{ℕ, ◌≤◌, List, map, IsSomeAnd, slice_get}
 use Rattle.outside.specs.Notes.{NotesTold}
 use Rattle.outside.specs.declared.mem_notes.Due.{Due}
 
--- a note, whenever it is due
-abbrev pub note_of : {T : Type 0} → Due T → T
-note_of due = due.note
-
 -- notes in memory: those that are to come, how many None answers came before each that was given, and how many there were
 pub record NotesInMemory (T : Type 0) : Type 0 where
   pub coming : List (Due T)
@@ -14,8 +10,8 @@ pub record NotesInMemory (T : Type 0) : Type 0 where
   pub nones : ℕ
 
 -- what they tell
-abbrev pub noted : {T : Type 0} → NotesInMemory T → NotesTold T
-noted notes = record { coming = map note_of notes.coming; places = notes.places; nones = notes.nones }
+abbrev pub noted : {T : Type 0} → (T → ℕ) → NotesInMemory T → NotesTold
+noted number notes = record { coming = map (λ due. number due.note) notes.coming; nones = notes.nones }
 
 -- the next note is due: enough None answers came
 abbrev pub IsDue : {T : Type 0} → NotesInMemory T → Type 0

@@ -1,5 +1,5 @@
 -- What a port tells, and what its calls do.
-use Rattle.std.specs.Prelude.{◌≡◌, ℕ, ◌<◌, ◌≤◌, Bool, true, false, List, [], ◌∷◌, ◌++◌, length, take, drop, max, Some, IsSomeAnd, slice_get}
+use Rattle.std.specs.Prelude.{◌≡◌, ℕ, ◌<◌, ◌≤◌, Bool, true, false, List, [], ◌∷◌, ◌++◌, length, take, drop, max, Option, Some, IfSome, IsSomeAnd, option_map, slice_get}
 use Rattle.addr_text.specs.declared.address.Listen.{Listen}
 use Rattle.addr_text.specs.declared.address.Peer.{Peer}
 use Rattle.outside.specs.Faults.{raised}
@@ -29,10 +29,10 @@ pub record Try : Type 0 where
   pub serial : ℕ
   pub went : Bool
 
--- What a port tells: where it was opened, the datagrams that wait, those that were taken, and the replies that were tried; how many answers recv gave, how many of them were Failed, whether one was End, and the greatest serial that recv was handed.
+-- What a port tells: where it was opened; the datagrams that wait, where it tells that too; those that were taken, and the replies that were tried; how many answers recv gave, how many of them were Failed, whether one was End, and the greatest serial that recv was handed.
 pub record PortTold : Type 0 where
   pub opens : List Listen
-  pub waiting : List Packet
+  pub waiting : Option (List Packet)
   pub taken : List Taken
   pub tries : List Try
   pub recvs : ℕ
@@ -55,21 +55,21 @@ answered known port = record port { recvs = raised port.recvs 1; greatest = max 
 
 -- a port after the first datagram was taken
 abbrev pub taking : Packet → ℕ → PortTold → PortTold
-taking packet known port = record (answered known port) { waiting = drop 1 port.waiting; taken = port.taken ++ (record { packet = packet; known = known; place = port.recvs }) ∷ [] }
+taking packet known port = record (answered known port) { waiting = option_map (drop 1) port.waiting; taken = port.taken ++ (record { packet = packet; known = known; place = port.recvs }) ∷ [] }
 
 -- What each answer of recv leaves of a port: a datagram that fits and one that is too long go from the queue, and nothing else does.
 abbrev pub received : ℕ → List ℕ → Arrival → PortTold → PortTold
 received known buffer (Arrived len from) port = taking (packet_in buffer len from) known port
 received known buffer Idle port = answered known port
-received known buffer Oversize port = record (answered known port) { waiting = drop 1 port.waiting }
+received known buffer Oversize port = record (answered known port) { waiting = option_map (drop 1) port.waiting }
 received known buffer End port = record (answered known port) { is_ended = true }
 received known buffer Failed port = record (answered known port) { failed = raised port.failed 1 }
 
 -- An answer is due: the first datagram that waits was taken, or is too long; and after End there is only End.
 abbrev pub IsDue : List ℕ → Arrival → PortTold → Type 0
-IsDue buffer (Arrived len from) port = (port.is_ended ≡ false) × (slice_get port.waiting 0 ≡ Some (packet_in buffer len from))
+IsDue buffer (Arrived len from) port = (port.is_ended ≡ false) × IfSome port.waiting (λ packets. slice_get packets 0 ≡ Some (packet_in buffer len from))
 IsDue buffer Idle port = port.is_ended ≡ false
-IsDue buffer Oversize port = (port.is_ended ≡ false) × IsSomeAnd (slice_get port.waiting 0) (λ packet. largest_datagram < length packet.octets)
+IsDue buffer Oversize port = (port.is_ended ≡ false) × IfSome port.waiting (λ packets. IsSomeAnd (slice_get packets 0) (λ packet. largest_datagram < length packet.octets))
 IsDue buffer End port = Unit {0}
 IsDue buffer Failed port = port.is_ended ≡ false
 

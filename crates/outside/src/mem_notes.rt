@@ -1,12 +1,12 @@
 //! Notes in memory, each of which comes after a stated number of answers.
 ghost use Rattle.std.specs.LinkedList.{linked_list_len};
-ghost use Rattle.std.specs.Prelude.{◌≡◌, ◌≤◌, ◌<◌, Some, [], drop, IfOk, IfSome, IfNone, MatchOption};
+ghost use Rattle.std.specs.Prelude.{◌≡◌, ◌≤◌, ◌<◌, ◌++◌, ◌∷◌, Some, [], drop, option_map, IfOk, IfSome, IfNone, MatchOption};
 ghost use Rattle.outside.specs.Faults.{BothTell};
 ghost use Rattle.outside.specs.Notes.{IsNextNote};
 ghost use Rattle.outside.specs.MemNotes.{IsDue, noted};
 ghost use Rattle.outside.specs.declared.limits.TheConstants.{MOST_NOTES};
 
-use crate::Notes;
+use crate::{Notes, Numbered};
 use no_memory::NoMemory;
 use std::alloc::Global;
 use std::collections::LinkedList;
@@ -59,23 +59,25 @@ impl<T: Drop> MemNotes<T> {
     }
 }
 
-impl<T: Drop> Notes for MemNotes<T> {
+impl<T: Drop + Numbered> Notes for MemNotes<T> {
     type Note = T;
 
     ghost use Rattle.std.specs.Prelude.{length};
 
-    ghost told = { λ s. Some (noted s) };
+    ghost told = { λ s. Some (noted T.number s) };
 
     ghost left = { λ s. length s.coming };
 
     fn next(&mut self) -> Option<T>
-        ensures next { BothTell (Some (noted self.old)) (Some (noted self.new)) (IsNextNote result) }
+        ensures next { BothTell (Some (noted T.number self.old)) (Some (noted T.number self.new)) (IsNextNote (option_map T.number result)) }
         ensures few { length self.old.coming ≤ MOST_NOTES }
         ensures some { IfSome result (λ _. length self.new.coming < length self.old.coming) }
         ensures none { IfNone result (length self.new.coming ≡ length self.old.coming) }
         // A note is given exactly where it is due.
         ensures due { MatchOption result (¬ IsDue self.old) (λ _. IsDue self.old) }
         ensures coming { MatchOption result (self.new.coming ≡ self.old.coming) (λ _. self.new.coming ≡ drop 1 self.old.coming) }
+        // It notes how many answers were `None` before.
+        ensures places { MatchOption result (self.new.places ≡ self.old.places) (λ _. self.new.places ≡ self.old.places ++ self.old.nones ∷ []) }
     {
         match self.coming.front() {
             Some(due) if due.nones <= self.nones => {}

@@ -57,7 +57,7 @@ pub struct MemPort {
 
 impl Model for MemPort {
     ghost use Rattle.std.specs.LinkedList.{linked_list_len};
-    ghost use Rattle.std.specs.Prelude.{◌≤◌, ◌+◌, map, vec_len, vec_capacity};
+    ghost use Rattle.std.specs.Prelude.{◌≤◌, ◌+◌, Some, map, vec_len, vec_capacity};
     ghost use Rattle.outside.specs.MemPort.{PortInMemory, packet_of, taken_of, try_of};
 
     ghost Value = { PortInMemory };
@@ -65,7 +65,7 @@ impl Model for MemPort {
     ghost view = { λ p. record {
       told = record {
         opens = p.opens.items;
-        waiting = map packet_of p.waiting;
+        waiting = Some (map packet_of p.waiting);
         taken = map taken_of p.taken.items;
         tries = map try_of p.tries.items;
         recvs = p.recv_calls.made;
@@ -95,7 +95,7 @@ impl MemPort {
         recv_fails: Vec<u64>,
         send_fails: Vec<u64>,
     ) -> Result<MemPort, NoMemory>
-        ensures told { IfOk result (λ p. p.told ≡ record { opens = []; waiting = map packet_of waiting; taken = []; tries = []; recvs = 0; failed = 0; is_ended = false; greatest = 0 }) }
+        ensures told { IfOk result (λ p. p.told ≡ record { opens = []; waiting = Some (map packet_of waiting); taken = []; tries = []; recvs = 0; failed = 0; is_ended = false; greatest = 0 }) }
         ensures opens { IfOk result (λ p. p.opens ≡ record { made = 0; fails = open_fails.items; faults = 0 }) }
         ensures recvs { IfOk result (λ p. p.recvs ≡ record { made = 0; fails = recv_fails.items; faults = 0 }) }
         ensures sends { IfOk result (λ p. p.sends ≡ record { made = 0; fails = send_fails.items; faults = 0 }) }
@@ -192,7 +192,7 @@ impl Port for MemPort {
         ensures stays { result ≢ Arrival.Failed → port_faults self.new ≡ port_faults self.old }
         // It fails only where it is to, and ends only where no datagram waits.
         ensures failed { (result ≡ Arrival.Failed) ↔ RecvFails self.old }
-        ensures end { (result ≡ Arrival.End) ↔ (self.old.told.is_ended ≡ true) ⊎ ((self.old.told.waiting ≡ []) × ¬ RecvFails self.old) }
+        ensures end { (result ≡ Arrival.End) ↔ (self.old.told.is_ended ≡ true) ⊎ ((self.old.told.waiting ≡ Some []) × ¬ RecvFails self.old) }
         ensures busy { result ≢ Arrival.Idle }
         ensures counted { self.new.recvs ≡ counted self.old.recvs (is_failed result) }
         ensures others { (self.new.opens ≡ self.old.opens) × (self.new.sends ≡ self.old.sends) }

@@ -89,7 +89,7 @@ impl MemSource {
 }
 
 /// The shortest of some buffers and one more.
-fn shorter(shortest: Option<usize>, size: usize) -> Option<usize>
+pub(crate) fn shorter(shortest: Option<usize>, size: usize) -> Option<usize>
     ensures { result ≡ shorter shortest size }
 {
     match shortest {

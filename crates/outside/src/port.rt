@@ -9,9 +9,9 @@ use addr_text::{Listen, Peer};
 /// What came of an opening.
 #[derive(Clone, Copy, Debug, PartialEq, Eq)]
 pub enum Opening {
-    /// The port takes datagrams.
+    /// It is open.
     Ready,
-    /// The port failed, which its count of faults shows.
+    /// It failed, which its count of faults shows.
     Failed,
 }
 

@@ -1,0 +1,20 @@
+//! Sources that are opened by a name.
+ghost use Rattle.std.specs.Prelude.{◌≡◌, ◌≢◌, ◌≤◌, ℕ, List, Option};
+ghost use Rattle.outside.specs.Faults.{BothTell, Rose};
+ghost use Rattle.outside.specs.NamedSource.{IsNamed};
+
+use crate::{Opening, Source};
+
+/// A source that is opened by a name.
+pub trait NamedSource: Source {
+    /// The names under which it was opened, in order, where it tells that.
+    ghost opens: { Self → Option (List (List ℕ)) };
+
+    /// Opens it under that name. What it tells as a source stays.
+    fn open(&mut self, name: &str) -> Opening
+        ensures open { BothTell (opens self.old) (opens self.new) (IsNamed name.now result) }
+        ensures told { BothTell (Self.told self.old) (Self.told self.new) (λ before after. after ≡ before) }
+        ensures later { Self.faults self.old ≤ Self.faults self.new }
+        ensures cause { result ≡ Opening.Failed → Rose (Self.faults self.old) (Self.faults self.new) }
+        ensures stays { result ≢ Opening.Failed → Self.faults self.new ≡ Self.faults self.old };
+}
