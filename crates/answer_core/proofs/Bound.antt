@@ -1,5 +1,5 @@
--- No reply is over 512 octets.
-use Rattle.std.proofs.Common.{◌≡◌, ℕ, ◌+◌, ◌*◌, ◌≤◌, false, List, [], ◌∷◌, ◌++◌, length, take, Option, Some, None, refl, arith, length-append, length-take}
+-- No reply is over its limit.
+use Rattle.std.proofs.Common.{◌≡◌, ℕ, ◌+◌, ◌*◌, ◌≤◌, List, [], ◌∷◌, ◌++◌, length, take, Option, Some, None, refl, sym, subst, arith, length-append, length-take}
 use Rattle.std.specs.Prelude.{map, min, All}
 use Rattle.std.specs.List.{flat_map}
 use Rattle.byteorder.specs.Endian.{big_bytes}
@@ -12,28 +12,32 @@ use Rattle.dns_wire.specs.Message.{Extension}
 use Rattle.dns_wire.specs.Spelling.{header, question, u16}
 use Rattle.topology_text.specs.declared.topology.Zone.{Zone}
 use Rattle.topology_text.specs.Plan.{IsZone}
-use Rattle.answer_core.specs.Columns.{is_authoritative, rcode, scope_told}
+use Rattle.answer_core.specs.Columns.{is_authoritative, is_truncated, rcode, scope_told}
 use Rattle.answer_core.specs.Grammar.{Request}
-use Rattle.answer_core.specs.Outcome.{Outcome, Records, BadVers, Error, Negative, Positive, Soa, NameServers, Addresses}
+use Rattle.answer_core.specs.Outcome.{Outcome, Records, BadVers, Error, Negative, Positive, Truncated, Soa, NameServers, Addresses}
 use Rattle.answer_core.specs.Sections.{resource, server, address, soa, numbers_of, apex_name, question_name, resources, answers, authority, additional, repeated, count_of_opt}
-use Rattle.answer_core.specs.Reply.{full}
-use Rattle.answer_core.specs.View.{outcome_view, records_view, AreShort, IsShort}
+use Rattle.answer_core.specs.Reply.{cut_short, full}
+use Rattle.answer_core.specs.Limit.{limit_of, longest_reply}
+use Rattle.answer_core.specs.declared.way.Way.{Way}
+use Rattle.answer_core.specs.declared.way.Way.TheVariants as ways
+use Rattle.answer_core.specs.View.{outcome_view, records_view, AreFew, AreShort, IsFew, IsShort}
 use Rattle.answer_core.specs.declared.outcome.Records as code_records
 use Rattle.answer_core.specs.declared.outcome.Records.TheVariants as records
 use Rattle.answer_core.specs.declared.outcome.Outcome as code
 use Rattle.answer_core.specs.declared.outcome.Outcome.TheVariants as variants
 
--- few addresses, and servers under a short name
+-- few addresses under a name that is not long, and servers under a short one
 abbrev pub FewFit : ℕ → Records → Type 0
 FewFit size Soa = Unit {0}
 FewFit size NameServers = size ≤ 64
-FewFit size (Addresses kind addresses) = length addresses ≤ 6
+FewFit size (Addresses kind addresses) = (size ≤ 128) × (length addresses ≤ 40)
 
 abbrev pub Fits : ℕ → Outcome → Type 0
 Fits size BadVers = Unit {0}
 Fits size (Error code) = Unit {0}
 Fits size (Negative code) = Unit {0}
 Fits size (Positive records scope) = FewFit size records
+Fits size (Truncated scope) = Unit {0}
 
 servers_len : (ttl : ℕ) (ns : List (List ℕ)) → All (λ n. length n ≤ 64) ns → length (flat_map resource (map (server ttl) ns)) ≤ 76 * length ns
 servers_len ttl [] all = omega arith
@@ -74,30 +78,55 @@ additional_len None subnet outcome = omega arith
 additional_len (Some e) subnet outcome = omega (arith, repeated_len subnet (scope_told outcome))
 
 -- a name and the records behind it
-name_and_answers : (z : Zone) (name : List ℕ) (r : Records) → IsZone z → length name ≤ 255 → FewFit (length name) r → length name + length (flat_map resource (resources z r)) ≤ 423
+name_and_answers : (z : Zone) (name : List ℕ) (r : Records) → IsZone z → length name ≤ 255 → FewFit (length name) r → length name + length (flat_map resource (resources z r)) ≤ 1248
 name_and_answers z name Soa zone short fit = let a : length (flat_map resource (resources z Soa)) ≤ 160 = soa_len z question_name z.ttl zone in omega arith
 name_and_answers z name NameServers zone short fit =
     let a : length (flat_map resource (resources z NameServers)) ≤ 76 * length z.ns = servers_len z.ttl z.ns zone.short_ns in omega (arith, zone.few_ns)
 name_and_answers z name (Addresses kind addresses) zone short fit =
-    let some : length (flat_map resource (resources z (Addresses kind addresses))) ≤ 28 * length addresses = addresses_len z.ttl kind addresses in omega arith
+    let some : length (flat_map resource (resources z (Addresses kind addresses))) ≤ 28 * length addresses = addresses_len z.ttl kind addresses in omega (arith, fit.0, fit.1)
 
-name_and_records : (z : Zone) (name : List ℕ) (o : Outcome) → IsZone z → length name ≤ 255 → Fits (length name) o → length name + length (flat_map resource (answers z o)) + length (flat_map resource (authority z name o)) ≤ 423
+name_and_records : (z : Zone) (name : List ℕ) (o : Outcome) → IsZone z → length name ≤ 255 → Fits (length name) o → length name + length (flat_map resource (answers z o)) + length (flat_map resource (authority z name o)) ≤ 1248
 name_and_records z name BadVers zone short fit = omega arith
 name_and_records z name (Error code) zone short fit = omega arith
 name_and_records z name (Negative code) zone short fit = let a : length (flat_map resource (authority z name (Negative code))) ≤ 160 = soa_len z (apex_name z name) (min z.ttl z.minimum) zone in omega arith
-name_and_records z name (Positive records scope) zone short fit = let a : length name + length (flat_map resource (resources z records)) ≤ 423 = name_and_answers z name records zone short fit in omega arith
+name_and_records z name (Positive records scope) zone short fit = let a : length name + length (flat_map resource (resources z records)) ≤ 1248 = name_and_answers z name records zone short fit in omega arith
+name_and_records z name (Truncated scope) zone short fit = omega arith
 
-five : (head name a b c : List ℕ) (n : ℕ) → length head ≡ 12 → length name ≡ n + 4 → n + length a + length b ≤ 423 → length c ≤ 35 → length (head ++ name ++ a ++ b ++ c) ≤ 512
-five head name a b c n h1 h2 h3 h4 = omega (arith, length-append (head ++ name ++ a ++ b) c, length-append (head ++ name ++ a) b, length-append (head ++ name) a, length-append head name)
+-- with no records of an answer
+name_and_rest : (z : Zone) (name : List ℕ) (o : Outcome) → IsZone z → length name ≤ 255 → length name + length (flat_map resource (answers z (cut_short o))) + length (flat_map resource (authority z name (cut_short o))) ≤ 423
+name_and_rest z name BadVers zone short = omega arith
+name_and_rest z name (Error code) zone short = omega arith
+name_and_rest z name (Negative code) zone short = let a : length (flat_map resource (authority z name (Negative code))) ≤ 160 = soa_len z (apex_name z name) (min z.ttl z.minimum) zone in omega arith
+name_and_rest z name (Positive records scope) zone short = omega arith
+name_and_rest z name (Truncated scope) zone short = omega arith
+
+five : (most : ℕ) (head name a b c : List ℕ) (n : ℕ) → length head ≡ 12 → length name ≡ n + 4 → n + length a + length b ≤ most → length c ≤ 35 → length (head ++ name ++ a ++ b ++ c) ≤ most + 51
+five most head name a b c n h1 h2 h3 h4 = omega (arith, length-append (head ++ name ++ a ++ b) c, length-append (head ++ name ++ a) b, length-append (head ++ name) a, length-append head name)
 
 question_len : (name : List ℕ) (kind class : ℕ) → length (question name kind class) ≡ length name + 4
 question_len name kind class = omega (arith, length-append (name ++ u16 kind) (u16 class), length-append name (u16 kind))
 
-pub bound : (z : Zone) (r : Request) (o : Outcome) → IsZone z → length r.asked.name ≤ 255 → Fits (length r.asked.name) o → length (full z r o) ≤ 512
-bound z r o zone short fit =
+length_by : (most : ℕ) (z : Zone) (r : Request) (o : Outcome) → length r.asked.name + length (flat_map resource (answers z o)) + length (flat_map resource (authority z r.asked.name o)) ≤ most → length (full z r o) ≤ most + 51
+length_by most z r o some =
     let q = r.asked in
-    five (header q.head (is_authoritative o) false (rcode o) (1 ∷ length (answers z o) ∷ length (authority z q.name o) ∷ count_of_opt q.opt ∷ [])) (question q.name q.kind q.class) (flat_map resource (answers z o)) (flat_map resource (authority z q.name o)) (additional q.opt r.subnet o) (length q.name)
-    refl (question_len q.name q.kind q.class) (name_and_records z q.name o zone short fit) (additional_len q.opt r.subnet o)
+    five most (header q.head (is_authoritative o) (is_truncated o) (rcode o) (1 ∷ length (answers z o) ∷ length (authority z q.name o) ∷ count_of_opt q.opt ∷ [])) (question q.name q.kind q.class) (flat_map resource (answers z o)) (flat_map resource (authority z q.name o)) (additional q.opt r.subnet o) (length q.name)
+    refl (question_len q.name q.kind q.class) some (additional_len q.opt r.subnet o)
+
+pub bound : (z : Zone) (r : Request) (o : Outcome) → IsZone z → length r.asked.name ≤ 255 → Fits (length r.asked.name) o → length (full z r o) ≤ longest_reply
+bound z r o zone short fit = omega (arith, length_by 1248 z r o (name_and_records z r.asked.name o zone short fit))
+
+pub bound_cut : (z : Zone) (r : Request) (o : Outcome) → IsZone z → length r.asked.name ≤ 255 → length (full z r (cut_short o)) ≤ 512
+bound_cut z r o zone short = omega (arith, length_by 423 z r (cut_short o) (name_and_rest z r.asked.name o zone short))
+
+-- the same, where the outcome that was cut short is told by an equation
+pub bound_cut_as : (z : Zone) (r : Request) (o cut : Outcome) → cut ≡ cut_short o → IsZone z → length r.asked.name ≤ 255 → length (full z r cut) ≤ 512
+bound_cut_as z r o cut is zone short = subst (λ (x : Outcome). length (full z r x) ≤ 512) (sym is) (bound_cut z r o zone short)
+
+-- a limit is at least 512
+pub limit_least : (way : Way) (o : Option Extension) → 512 ≤ limit_of way o
+limit_least ways.Stream o = omega arith
+limit_least ways.Datagram None = omega arith
+limit_least ways.Datagram (Some e) = omega arith
 
 few_fit : (size : ℕ) (r : code_records.Records) → AreShort size r → FewFit size (records_view r)
 few_fit size records.Soa short = tt
@@ -109,15 +138,17 @@ view_fits size variants.BadVers short = tt
 view_fits size (variants.Error rcode) short = tt
 view_fits size (variants.Negative rcode) short = tt
 view_fits size (variants.Positive found scope) short = few_fit size found short
+view_fits size (variants.Truncated scope) short = tt
 
-few_at : (size : ℕ) (r : code_records.Records) → AreShort size r → AreShort 64 r
-few_at size records.Soa short = tt
-few_at size records.NameServers short = omega arith
-few_at size (records.Addresses kind addresses) short = short
+few_of : (size : ℕ) (r : code_records.Records) → AreShort size r → AreFew r
+few_of size records.Soa short = tt
+few_of size records.NameServers short = tt
+few_of size (records.Addresses kind addresses) short = short.1
 
--- what is short under any name
-pub short_at_64 : (size : ℕ) (o : code.Outcome) → IsShort size o → IsShort 64 o
-short_at_64 size variants.BadVers short = tt
-short_at_64 size (variants.Error rcode) short = tt
-short_at_64 size (variants.Negative rcode) short = tt
-short_at_64 size (variants.Positive found scope) short = few_at size found short
+-- what is short under some name is few
+pub few_short : (size : ℕ) (o : code.Outcome) → IsShort size o → IsFew o
+few_short size variants.BadVers short = tt
+few_short size (variants.Error rcode) short = tt
+few_short size (variants.Negative rcode) short = tt
+few_short size (variants.Positive found scope) short = few_of size found short
+few_short size (variants.Truncated scope) short = tt

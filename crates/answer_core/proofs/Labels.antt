@@ -1,10 +1,19 @@
 -- A name that stands under an apex, whatever the case of letters.
-use Rattle.std.proofs.Common.{◌≡◌, ℕ, zero, suc, ◌-◌, ◌≤◌, Bool, true, false, ◌&&◌, ◌||◌, ◌==◌, eqb, List, [], ◌∷◌, ◌++◌, length, take, refl, sym, ap, ◌∙◌, arith, length-append}
+use Rattle.std.proofs.Common.{◌≡◌, ℕ, zero, suc, ◌+◌, ◌<◌, ◌-◌, ◌≤◌, Bool, true, false, ◌&&◌, ◌||◌, ◌==◌, eqb, List, [], ◌∷◌, ◌++◌, length, take, refl, sym, ap, ◌∙◌, arith, length-append}
 use Rattle.std.specs.Char.{to_ascii_lowercase}
 use Rattle.std.specs.List.{list_any}
 use Rattle.std.proofs.Math.Seq.{take-append_seam}
-use Rattle.std.proofs.lemmas.Bool.{and_parts, eq-eqb, false_from_ne_true, ne_eqb}
-use Rattle.name_text.specs.Names.{is_same, is_under, labels_part, rests_after}
+use Rattle.std.proofs.lemmas.Bool.{and_parts, eq-eqb, false≢true, false_from_ne_true, ltb-false, ne_eqb, or_cases}
+use Rattle.std.specs.Prelude.{Option, None, Some, All, not, nat_lt, if◌then◌else◌}
+use Rattle.std.specs.List.{list_all}
+use Rattle.std.proofs.Common.{inl, inr, length-take}
+use Rattle.std.proofs.lemmas.List.Elements.{All-head, All-tail}
+use Rattle.name_text.specs.declared.fault.NameFault.TheVariants.{EmptyLabel, BadByte, LongLabel}
+use Rattle.name_text.specs.Names.{is_label_byte, is_same, is_under, label_fault, labels_part, rests_after}
+use Rattle.name_text.specs.Wire.{wire}
+use Rattle.topology_text.specs.declared.topology.Zone.{Zone}
+use Rattle.topology_text.specs.Plan.{IsService, IsZone}
+use Rattle.answer_core.specs.Outcome.{is_service}
 
 -- some octets, and then those of the apex
 record Ends (name apex : List ℕ) : Type 0 where
@@ -80,3 +89,30 @@ pub by_length : (name apex : List ℕ) → is_under name apex ≡ true → (leng
 by_length name apex h =
     let e = ends name apex h in
     ap (λ (l : List ℕ). length l == length apex) e.parts ∙ alone e.front e.back apex e.same ∙ ap (λ (l : List ℕ). is_same l apex) (sym e.parts)
+
+-- the label of a service has at most 63 octets
+label_len : (label : List ℕ) → label_fault label ≡ None → length label ≤ 63
+label_len label none = by (length label == 0) (list_all is_label_byte label) (nat_lt 63 (length label)) refl none
+  where
+    by : (a b c : Bool) → nat_lt 63 (length label) ≡ c → (if a then Some EmptyLabel else if not b then Some BadByte else if c then Some LongLabel else None) ≡ None → length label ≤ 63
+    by a b false e none = omega (arith, ltb-false 63 (length label) e)
+    by true b true e none = absurd cc
+    by false true true e none = absurd cc
+    by false false true e none = absurd cc
+
+service_short : (z : Zone) (service name : List ℕ) → IsService service → is_same name (labels_part service ++ z.apex) ≡ true → length z.apex ≤ 64 → length name ≤ 128
+service_short z service name s same apex =
+    let size : length service ≡ length (wire (s.0 ∷ [])) = ap length s.2 in
+    let one : length (wire (s.0 ∷ [])) ≡ suc (length s.0 + 1) = ap suc (length-append s.0 (0 ∷ [])) in
+    omega (arith, same_length name (labels_part service ++ z.apex) same, length-append (labels_part service) z.apex, length-take (length service - 1) service, size, one, label_len s.0 s.1, apex)
+
+any_short : (z : Zone) (services : List (List ℕ)) (name : List ℕ) → All IsService services → length z.apex ≤ 64 → list_any (λ service. is_same name (labels_part service ++ z.apex)) services ≡ true → length name ≤ 128
+any_short z [] name all apex h = absurd (false≢true h)
+any_short z (s ∷ services) name all apex h = elim (or_cases (is_same name (labels_part s ++ z.apex)) (list_any (λ service. is_same name (labels_part service ++ z.apex)) services) h) [
+  | inl here ↦ service_short z s name (All-head IsService s services all) here apex
+  | inr later ↦ any_short z services name (All-tail IsService s services all) apex later
+]
+
+-- the name of a service has at most 128 octets
+pub service_len : (z : Zone) (name : List ℕ) → IsZone z → is_service z name ≡ true → length name ≤ 128
+service_len z name zone h = any_short z z.services name zone.services zone.apex h

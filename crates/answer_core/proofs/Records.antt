@@ -27,7 +27,7 @@ no_longer f [] (suc i) = omega arith
 no_longer f (x ∷ xs) (suc i) = let shorter : length (first_records f xs i) ≤ length (flat_map resource (map f xs)) = no_longer f xs i in omega (arith, length-append (resource (f x)) (first_records f xs i), length-append (resource (f x)) (flat_map resource (map f xs)))
 
 -- there is room for one more, where there is for all
-pub has_room : {X : Type 0} (f : X → Resource) (xs : List X) (o now : List ℕ) (i : ℕ) (x d : X) → i < length xs → x ≡ get_or xs i d → now ≡ o ++ first_records f xs i → length o + length (flat_map resource (map f xs)) ≤ 512 → length now + length (resource (f x)) ≤ 512
+pub has_room : {X : Type 0} (f : X → Resource) (xs : List X) (o now : List ℕ) (i : ℕ) (x d : X) → i < length xs → x ≡ get_or xs i d → now ≡ o ++ first_records f xs i → length o + length (flat_map resource (map f xs)) ≤ 1300 → length now + length (resource (f x)) ≤ 1300
 has_room f xs o now i x d lt is so_far room =
     let more : first_records f xs (suc i) ≡ first_records f xs i ++ resource (f x) = subst (λ y. first_records f xs (suc i) ≡ first_records f xs i ++ resource (f y)) (sym is) (one_more f xs i d lt) in
     let fits : length (first_records f xs (suc i)) ≤ length (flat_map resource (map f xs)) = no_longer f xs (suc i) in

@@ -1,5 +1,6 @@
 pub mod Pick
 pub mod Grammar
+pub mod Limit
 pub mod Outcome
 pub mod Columns
 pub mod Sections

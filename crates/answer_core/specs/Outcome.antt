@@ -34,6 +34,8 @@ pub data Outcome : Type 0 where
   Negative : (code : ℕ) → Outcome
   -- records, and the scope that is told where a subnet was given
   Positive : (records : Records) (scope : ℕ) → Outcome
+  -- records for which the reply has no room (RFC 2181 9): none of them, and the scope that is told
+  Truncated : (scope : ℕ) → Outcome
 
 -- RCODE (RFC 1035 4.1.1): a format error, a server failure, no such name, refused, and none of these
 abbrev pub form_err : ℕ

@@ -9,7 +9,7 @@ use Rattle.dns_wire.specs.Message.{Extension}
 use Rattle.dns_wire.specs.Spelling.{record_of, opt, u32}
 use Rattle.topology_text.specs.declared.topology.Zone.{Zone}
 use Rattle.answer_core.specs.Columns.{extended, scope_told}
-use Rattle.answer_core.specs.Outcome.{Outcome, Records, BadVers, Error, Negative, Positive, Soa, NameServers, Addresses}
+use Rattle.answer_core.specs.Outcome.{Outcome, Records, BadVers, Error, Negative, Positive, Truncated, Soa, NameServers, Addresses}
 
 -- a record of class IN whose name is a pointer
 pub record Resource : Type 0 where
@@ -64,6 +64,7 @@ answers z BadVers = []
 answers z (Error code) = []
 answers z (Negative code) = []
 answers z (Positive records scope) = resources z records
+answers z (Truncated scope) = []
 
 -- the authority, where that name was asked for
 abbrev pub authority : Zone → List ℕ → Outcome → List Resource
@@ -71,6 +72,7 @@ authority z name BadVers = []
 authority z name (Error code) = []
 authority z name (Negative code) = negative_soa z name ∷ []
 authority z name (Positive records scope) = []
+authority z name (Truncated scope) = []
 
 -- the subnet as in the query, with the scope that is told
 abbrev pub repeated : Option SubnetOpt → Option ℕ → List ℕ

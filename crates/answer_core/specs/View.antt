@@ -22,15 +22,30 @@ outcome_view variants.BadVers = meaning.BadVers
 outcome_view (variants.Error rcode) = meaning.Error rcode
 outcome_view (variants.Negative rcode) = meaning.Negative rcode
 outcome_view (variants.Positive found scope) = meaning.Positive (records_view found) scope
+outcome_view (variants.Truncated scope) = meaning.Truncated scope
 
--- six addresses at most; name servers under a name of at most 64 octets
+-- at most forty addresses, under a name of at most 128 octets; name servers under one of at most 64
 abbrev pub AreShort : ℕ → code_records.Records → Type 0
 AreShort size records.Soa = Unit {0}
 AreShort size records.NameServers = size ≤ 64
-AreShort size (records.Addresses kind addresses) = length addresses.now ≤ 6
+AreShort size (records.Addresses kind addresses) = (size ≤ 128) × (length addresses.now ≤ 40)
 
 abbrev pub IsShort : ℕ → code.Outcome → Type 0
 IsShort size variants.BadVers = Unit {0}
 IsShort size (variants.Error rcode) = Unit {0}
 IsShort size (variants.Negative rcode) = Unit {0}
 IsShort size (variants.Positive found scope) = AreShort size found
+IsShort size (variants.Truncated scope) = Unit {0}
+
+-- records that a count of 16 bits can tell
+abbrev pub AreFew : code_records.Records → Type 0
+AreFew records.Soa = Unit {0}
+AreFew records.NameServers = Unit {0}
+AreFew (records.Addresses kind addresses) = length addresses.now ≤ 40
+
+abbrev pub IsFew : code.Outcome → Type 0
+IsFew variants.BadVers = Unit {0}
+IsFew (variants.Error rcode) = Unit {0}
+IsFew (variants.Negative rcode) = Unit {0}
+IsFew (variants.Positive found scope) = AreFew found
+IsFew (variants.Truncated scope) = Unit {0}

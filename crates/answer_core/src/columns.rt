@@ -1,6 +1,6 @@
 //! What each outcome puts into a reply, column by column.
 ghost use Rattle.std.specs.Prelude.{◌≡◌};
-ghost use Rattle.answer_core.specs.Columns.{extended, is_authoritative, rcode, scope_told};
+ghost use Rattle.answer_core.specs.Columns.{extended, is_authoritative, is_truncated, rcode, scope_told};
 ghost use Rattle.answer_core.specs.View.{outcome_view};
 
 use crate::outcome::Outcome;
@@ -12,7 +12,18 @@ pub(crate) fn is_authoritative(outcome: &Outcome) -> bool
 {
     match outcome {
         Outcome::BadVers | Outcome::Error(_) => false,
-        Outcome::Negative(_) | Outcome::Positive { .. } => true,
+        Outcome::Negative(_) | Outcome::Positive { .. } | Outcome::Truncated { .. } => true,
+    }
+}
+
+/// The flag TC.
+pub(crate) fn is_truncated(outcome: &Outcome) -> bool
+    ensures { result ≡ is_truncated (outcome_view outcome.now) }
+{
+    match outcome {
+        Outcome::BadVers | Outcome::Error(_) | Outcome::Negative(_) | Outcome::Positive { .. } =>
+            false,
+        Outcome::Truncated { .. } => true,
     }
 }
 
@@ -21,7 +32,7 @@ pub(crate) fn rcode(outcome: &Outcome) -> u8
     ensures { result ≡ rcode (outcome_view outcome.now) }
 {
     match outcome {
-        Outcome::BadVers | Outcome::Positive { .. } => NOERROR,
+        Outcome::BadVers | Outcome::Positive { .. } | Outcome::Truncated { .. } => NOERROR,
         Outcome::Error(code) | Outcome::Negative(code) => *code,
     }
 }
@@ -32,7 +43,10 @@ pub(crate) fn extended(outcome: &Outcome) -> u8
 {
     match outcome {
         Outcome::BadVers => BADVERS_UPPER,
-        Outcome::Error(_) | Outcome::Negative(_) | Outcome::Positive { .. } => 0,
+        Outcome::Error(_)
+        | Outcome::Negative(_)
+        | Outcome::Positive { .. }
+        | Outcome::Truncated { .. } => 0,
     }
 }
 
@@ -43,6 +57,6 @@ pub(crate) fn scope_told(outcome: &Outcome) -> Option<u8>
     match outcome {
         Outcome::BadVers | Outcome::Error(_) => None,
         Outcome::Negative(_) => Some(0),
-        Outcome::Positive { scope, .. } => Some(*scope),
+        Outcome::Positive { scope, .. } | Outcome::Truncated { scope } => Some(*scope),
     }
 }

@@ -2,13 +2,16 @@
 #![tactic(auto)]
 
 mod columns;
+mod limit;
 mod outcome;
 mod picking;
 mod replying;
 mod request;
 mod sections;
 mod services;
+mod way;
 mod writing;
 
 pub use picking::pick;
 pub use replying::{Answer, reply, silent};
+pub use way::Way;

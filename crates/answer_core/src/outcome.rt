@@ -4,6 +4,7 @@ ghost use Rattle.prefix_lookup.specs.Longest.{group_of};
 ghost use Rattle.topology_text.specs.Plan.{addresses_of};
 ghost use Rattle.published_map.specs.Version.{IsVersion};
 ghost use Rattle.answer_core.specs.Outcome.{answered_kind, at_apex, at_service, by_name, client_of, is_address_kind, of_addresses, outcome_of, pool_for_group, told_scope};
+ghost use Rattle.answer_core.specs.Reply.{cut_short};
 ghost use Rattle.answer_core.specs.View.{IsShort, outcome_view, request_view};
 
 use crate::picking::pick;
@@ -38,6 +39,19 @@ pub(crate) enum Outcome<'a> {
     Negative(u8),
     /// Records, and the scope that is told where a subnet was given.
     Positive { records: Records<'a>, scope: u8 },
+    /// Records for which the reply has no room (RFC 2181 section 9): none of them, and the scope that is told.
+    Truncated { scope: u8 },
+}
+
+/// What is replied where an outcome's reply has no room.
+pub(crate) fn cut_short<'a>(outcome: Outcome<'a>) -> Outcome<'a>
+    ensures exact { outcome_view result ≡ cut_short (outcome_view outcome.entry) }
+    ensures short { (size : ℕ) → IsShort size outcome.entry → IsShort size result }
+{
+    match outcome {
+        Outcome::Positive { scope, .. } => Outcome::Truncated { scope },
+        other => other,
+    }
 }
 
 /// The client's address: that of the subnet, where some of its bits are given, else the sender's.
@@ -90,7 +104,7 @@ fn at_pool<'v>(version: &'v MapVersion, pool: NodeId, kind: u16, scope: u8) -> O
     requires pool { pool.0 < length version.now.plan.market.nodes }
     requires kind { (kind ≡ 1) ⊎ (kind ≡ 28) }
     ensures exact { outcome_view result ≡ of_addresses kind (addresses_of version.now.plan pool.0 kind) scope }
-    ensures short { (size : ℕ) → IsShort size result }
+    ensures short { (size : ℕ) → size ≤ 128 → IsShort size result }
 {
     let addresses = version.addresses(pool, kind);
     if addresses.is_empty() {
@@ -104,7 +118,7 @@ fn at_pool<'v>(version: &'v MapVersion, pool: NodeId, kind: u16, scope: u8) -> O
 fn at_service<'v>(version: &'v MapVersion, request: &Request, from: Addr, draw: u64) -> Outcome<'v>
     requires { IsVersion version.now }
     ensures exact { outcome_view result ≡ at_service version.now (request_view request.now) from draw }
-    ensures short { (size : ℕ) → IsShort size result }
+    ensures short { (size : ℕ) → size ≤ 128 → IsShort size result }
 {
     let Some(kind) = answered_kind(request.query.kind) else {
         return Outcome::Negative(NOERROR);

@@ -6,22 +6,22 @@ ghost use Rattle.arrayvec.specs.ArrayVec.{array_vec_len};
 ghost use Rattle.client_subnet.specs.View.{IsSubnet};
 ghost use Rattle.dns_wire.specs.Message as message;
 ghost use Rattle.dns_wire.specs.Room.{HasRoom};
+ghost use Rattle.dns_wire.specs.Spelling.{opt};
 ghost use Rattle.dns_wire.specs.View.{extension};
 ghost use Rattle.name_text.specs.declared.name.TheConstants.{LONGEST_NAME};
 ghost use Rattle.topology_text.specs.Plan.{IsZone};
 ghost use Rattle.answer_core.specs.Columns as columns;
 ghost use Rattle.answer_core.specs.Sections as spec;
-ghost use Rattle.answer_core.specs.View.{AreShort, IsShort, outcome_view, records_view};
+ghost use Rattle.answer_core.specs.View.{AreFew, IsFew, outcome_view, records_view};
 
 use crate::columns::{extended, scope_told};
 use crate::outcome::{Outcome, Records};
 use crate::request::Request;
 use addr_text::Addr;
-use arrayvec::ArrayVec;
-use client_subnet::{SubnetOpt, write_subnet};
+use client_subnet::{SubnetOpt, option_size, write_subnet};
 use dns_wire::numbers::{NS, QUESTION_NAME, SOA};
 use dns_wire::octets::{u32_octets, u128_octets};
-use dns_wire::{ReplyBuffer, write_opt, write_record};
+use dns_wire::{ReplyBuffer, write_opt, write_opt_head, write_record};
 use name_text::Name;
 use topology_text::Zone;
 
@@ -87,7 +87,8 @@ pub(crate) fn write_answers(out: &mut ReplyBuffer, zone: &Zone, outcome: &Outcom
     ensures { out.new.items ≡ out.old.items ++ flat_map spec.resource (spec.answers zone.now (outcome_view outcome.now)) }
 {
     match outcome {
-        Outcome::BadVers | Outcome::Error(_) | Outcome::Negative(_) => {}
+        Outcome::BadVers | Outcome::Error(_) | Outcome::Negative(_) | Outcome::Truncated { .. } =>
+            {}
         Outcome::Positive { records, .. } => write_records(out, zone, records),
     }
 }
@@ -100,7 +101,10 @@ pub(crate) fn write_authority(out: &mut ReplyBuffer, zone: &Zone, name: &[u8], o
     ensures { out.new.items ≡ out.old.items ++ flat_map spec.resource (spec.authority zone.now name.now (outcome_view outcome.now)) }
 {
     match outcome {
-        Outcome::BadVers | Outcome::Error(_) | Outcome::Positive { .. } => {}
+        Outcome::BadVers
+        | Outcome::Error(_)
+        | Outcome::Positive { .. }
+        | Outcome::Truncated { .. } => {}
         Outcome::Negative(_) => {
             let apex = QUESTION_NAME + name.len() as u16 - zone.apex.wire().len() as u16;
             write_soa(out, zone, apex, zone.ttl.min(zone.minimum));
@@ -108,16 +112,25 @@ pub(crate) fn write_authority(out: &mut ReplyBuffer, zone: &Zone, name: &[u8], o
     }
 }
 
-/// Writes the client's subnet as an option, where one was given and a scope is told.
-fn write_repeated(options: &mut ReplyBuffer, subnet: Option<SubnetOpt>, scope: Option<u8>)
+/// Writes an OPT record, with the client's subnet where one was given and a scope is told.
+fn write_extension(
+    out: &mut ReplyBuffer,
+    extended: u8,
+    dnssec_ok: bool,
+    subnet: Option<SubnetOpt>,
+    scope: Option<u8>,
+)
     requires form { IfSome subnet IsSubnet }
-    requires room { HasRoom (array_vec_len options.old) 24 }
-    ensures { options.new.items ≡ options.old.items ++ spec.repeated subnet scope }
+    requires room { HasRoom (array_vec_len out.old) (length (opt extended dnssec_ok (spec.repeated subnet scope))) }
+    ensures { out.new.items ≡ out.old.items ++ opt extended dnssec_ok (spec.repeated subnet scope) }
 {
     if let Some(subnet) = subnet
         && let Some(scope) = scope
     {
-        write_subnet(options, &subnet, scope);
+        write_opt_head(out, extended, dnssec_ok, option_size(&subnet));
+        write_subnet(out, &subnet, scope);
+    } else {
+        write_opt(out, extended, dnssec_ok, &[]);
     }
 }
 
@@ -128,15 +141,19 @@ pub(crate) fn write_additional(out: &mut ReplyBuffer, request: &Request, outcome
     ensures { out.new.items ≡ out.old.items ++ spec.additional (option_map extension request.now.query.opt) request.now.subnet (outcome_view outcome.now) }
 {
     if let Some(opt) = request.query.opt {
-        let mut options = ArrayVec::new();
-        write_repeated(&mut options, request.subnet, scope_told(outcome));
-        write_opt(out, extended(outcome), opt.dnssec_ok, &options);
+        write_extension(
+            out,
+            extended(outcome),
+            opt.dnssec_ok,
+            request.subnet,
+            scope_told(outcome),
+        );
     }
 }
 
 /// How many records a positive answer has.
 fn count_of_records(zone: &Zone, records: &Records) -> u16
-    requires short { AreShort 64 records.now }
+    requires short { AreFew records.now }
     requires zone { IsZone zone.now }
     ensures { result ≡ length (spec.resources zone.now (records_view records.now)) }
 {
@@ -149,12 +166,13 @@ fn count_of_records(zone: &Zone, records: &Records) -> u16
 
 /// How many answers a reply has.
 pub(crate) fn count_of_answers(zone: &Zone, outcome: &Outcome) -> u16
-    requires short { IsShort 64 outcome.now }
+    requires short { IsFew outcome.now }
     requires zone { IsZone zone.now }
     ensures { result ≡ length (spec.answers zone.now (outcome_view outcome.now)) }
 {
     match outcome {
-        Outcome::BadVers | Outcome::Error(_) | Outcome::Negative(_) => 0,
+        Outcome::BadVers | Outcome::Error(_) | Outcome::Negative(_) | Outcome::Truncated { .. } =>
+            0,
         Outcome::Positive { records, .. } => count_of_records(zone, records),
     }
 }
@@ -164,7 +182,10 @@ pub(crate) fn count_of_authority(zone: &Zone, name: &[u8], outcome: &Outcome) ->
     ensures { result ≡ length (spec.authority zone.now name.now (outcome_view outcome.now)) }
 {
     match outcome {
-        Outcome::BadVers | Outcome::Error(_) | Outcome::Positive { .. } => 0,
+        Outcome::BadVers
+        | Outcome::Error(_)
+        | Outcome::Positive { .. }
+        | Outcome::Truncated { .. } => 0,
         Outcome::Negative(_) => 1,
     }
 }

@@ -5,9 +5,9 @@ ghost use Rattle.client_subnet.specs.View.{IsSubnet};
 ghost use Rattle.dns_wire.specs.Room.{reply_size};
 ghost use Rattle.topology_text.specs.Plan.{IsZone};
 ghost use Rattle.answer_core.specs.Reply.{alone, full};
-ghost use Rattle.answer_core.specs.View.{IsShort, outcome_view, request_view};
+ghost use Rattle.answer_core.specs.View.{IsFew, outcome_view, request_view};
 
-use crate::columns::{is_authoritative, rcode};
+use crate::columns::{is_authoritative, is_truncated, rcode};
 use crate::outcome::Outcome;
 use crate::request::Request;
 use crate::sections::{
@@ -30,7 +30,7 @@ pub(crate) fn write_full(out: &mut ReplyBuffer, zone: &Zone, request: &Request, 
     requires zone { IsZone zone.now }
     requires name { IsName request.now.query.name.now }
     requires form { IfSome request.now.subnet IsSubnet }
-    requires short { IsShort 64 outcome.now }
+    requires few { IsFew outcome.now }
     requires room { length (full zone.now (request_view request.now) (outcome_view outcome.now)) ≤ reply_size }
     ensures { out.new.items ≡ full zone.now (request_view request.now) (outcome_view outcome.now) }
 {
@@ -45,7 +45,7 @@ pub(crate) fn write_full(out: &mut ReplyBuffer, zone: &Zone, request: &Request, 
         out,
         &query.head,
         is_authoritative(outcome),
-        false,
+        is_truncated(outcome),
         rcode(outcome),
         counts,
     );

@@ -10,4 +10,4 @@ mod writing;
 
 pub use options::read_options;
 pub use subnet::{ClientSubnet, SubnetOpt};
-pub use writing::write_subnet;
+pub use writing::{option_size, write_subnet};

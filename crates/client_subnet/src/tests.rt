@@ -1,5 +1,5 @@
 //! Client subnet options, read and written.
-use crate::{ClientSubnet, SubnetOpt, read_options, write_subnet};
+use crate::{ClientSubnet, SubnetOpt, option_size, read_options, write_subnet};
 use addr_text::Addr;
 use arrayvec::ArrayVec;
 
@@ -89,6 +89,7 @@ fn writes_subnets(rt: HostRuntime) {
         out.as_slice(),
         b"\0\x08\0\x07\0\x01\x14\x19\xc6\x33\x60".as_slice()
     );
+    assert_eq!(rt; option_size(&subnet), 11);
     let mut wide = ArrayVec::new();
     let subnet = SubnetOpt {
         source: 33,

@@ -5,7 +5,7 @@ use Rattle.dns_wire.specs.declared.numbers.TheConstants.{LARGEST_REPLY}
 
 -- how many octets a reply may have
 abbrev pub reply_size : ℕ
-reply_size = 512
+reply_size = 1300
 
 -- where so many octets are written, there is room for so many more
 abbrev pub HasRoom : ℕ → ℕ → Type 0

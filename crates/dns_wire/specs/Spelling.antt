@@ -27,6 +27,10 @@ question name kind class = name ++ u16 kind ++ u16 class
 abbrev pub record_of : ℕ → ℕ → ℕ → List ℕ → List ℕ
 record_of owner kind ttl octets = u16 owner ++ u16 kind ++ u16 1 ++ u32 ttl ++ u16 (length octets) ++ octets
 
--- the extension record (RFC 6891 6.1.2): the root's name, kind 41, payload size 1232, version 0
+-- the extension record up to its options, which have so many octets (RFC 6891 6.1.2): the root's name, kind 41, payload size 1232, version 0
+abbrev pub opt_head : ℕ → Bool → ℕ → List ℕ
+opt_head extended dnssec_ok size = 0 ∷ u16 41 ++ u16 1232 ++ extended ∷ 0 ∷ u16 (bit dnssec_ok 32768) ++ u16 size
+
+-- the extension record
 abbrev pub opt : ℕ → Bool → List ℕ → List ℕ
-opt extended dnssec_ok options = 0 ∷ u16 41 ++ u16 1232 ++ extended ∷ 0 ∷ u16 (bit dnssec_ok 32768) ++ u16 (length options) ++ options
+opt extended dnssec_ok options = opt_head extended dnssec_ok (length options) ++ options

@@ -18,4 +18,4 @@ pub use edns::{EdnsOption, read_option};
 pub use message::{Head, Message, Opt, Query};
 pub use octets::ReplyBuffer;
 pub use reading::{is_silent, read_query};
-pub use writing::{write_head, write_opt, write_question, write_record};
+pub use writing::{write_head, write_opt, write_opt_head, write_question, write_record};

@@ -6,8 +6,14 @@ pub const HEADER_SIZE: usize = 12;
 /// How many octets a datagram may have that is replied to.
 pub const LARGEST_DATAGRAM: usize = 4_096;
 
-/// How many octets a reply may have (RFC 1035 section 4.2.1).
-pub const LARGEST_REPLY: usize = 512;
+/// How many octets a reply has at most.
+pub const LARGEST_REPLY: usize = 1_300;
+
+/// How many octets a datagram may have that is sent to whoever says nothing of its size (RFC 1035 section 4.2.1).
+pub const SMALLEST_LIMIT: usize = 512;
+
+/// How many octets a message over a stream may have (RFC 1035 section 4.2.2).
+pub const STREAM_LIMIT: usize = 65_535;
 
 /// The size of a datagram that this server takes, as its OPT records tell it. It is a choice of this server.
 pub const PAYLOAD_SIZE: u16 = 1_232;

@@ -82,15 +82,16 @@ fn opt_flags(dnssec_ok: bool) -> u16
     if dnssec_ok { DNSSEC_OK } else { 0 }
 }
 
-/// Writes the OPT record of a reply (RFC 6891 section 6.1.2): the root's name, payload size 1232, version 0, DO as given, and the octets of its options. `extended` is the upper part of the reply's code.
-pub fn write_opt(out: &mut ReplyBuffer, extended: u8, dnssec_ok: bool, options: &[u8])
-    requires { HasRoom (array_vec_len out.old) (11 + length options.now) }
-    ensures { out.new.items ≡ out.old.items ++ spelling.opt extended dnssec_ok options.now }
+/// Writes the OPT record of a reply up to its options, which are to follow and have so many octets (RFC 6891 section 6.1.2): the root's name, payload size 1232, version 0 and DO as given. `extended` is the upper part of the reply's code.
+pub fn write_opt_head(out: &mut ReplyBuffer, extended: u8, dnssec_ok: bool, size: u16)
+    requires { HasRoom (array_vec_len out.old) 11 }
+    ensures items { out.new.items ≡ out.old.items ++ spelling.opt_head extended dnssec_ok size }
+    ensures len { array_vec_len out.new ≡ array_vec_len out.old + 11 }
 {
     let kind = u16_octets(OPT);
     let payload = u16_octets(PAYLOAD_SIZE);
     let flags = u16_octets(opt_flags(dnssec_ok));
-    let size = u16_octets(options.len() as u16);
+    let size = u16_octets(size);
     put(
         out,
         &[
@@ -98,5 +99,13 @@ pub fn write_opt(out: &mut ReplyBuffer, extended: u8, dnssec_ok: bool, options: 
             size[1],
         ],
     );
+}
+
+/// Writes the OPT record of a reply, as `write_opt_head` begins it, and the octets of its options.
+pub fn write_opt(out: &mut ReplyBuffer, extended: u8, dnssec_ok: bool, options: &[u8])
+    requires { HasRoom (array_vec_len out.old) (11 + length options.now) }
+    ensures { out.new.items ≡ out.old.items ++ spelling.opt extended dnssec_ok options.now }
+{
+    write_opt_head(out, extended, dnssec_ok, options.len() as u16);
     put(out, options);
 }

@@ -2,6 +2,7 @@
 use Rattle.std.proofs.Common.{◌≡◌, ℕ, suc, ◌+◌, ◌<◌, ◌≤◌, Bool, true, false, List, [], ◌∷◌, ◌++◌, length, max, MatchBool, refl, sym, ap, subst, ◌∙◌, arith, append_assoc, append-nil, length-append, ⊎_elim}
 use mathlib.Core.List.{IsPrefix}
 use Rattle.outside.specs.Port.{Packet, Try}
+use Rattle.answer_core.specs.declared.way.Way.{Way}
 use Rattle.lane_model.specs.Lanes.{Answers, Entry, IsLaneRun, IsTryOf, following}
 use Rattle.lane_model.specs.Machine.{Event, LaneState, Machine, GoesOn, IsStep, IsTaken, Takes, passed, replied, told, commit, tell, take}
 use Rattle.lane_model.specs.Kept.{AreKeptLanes, IsKept, IsRunTo}
@@ -37,35 +38,35 @@ run_wider a h h' w n floor n' floor' more (e ∷ taken) (s ∷ tries) p le r = (
 )
 
 -- a datagram without a reply
-run_passed : {V : Type 0} (a : Answers V) (h : List V) (w n floor n' floor' s : ℕ) (d : Packet) (taken : List Entry) (tries : List Try) → a.silent d.octets ≡ true → floor' ≤ s → IsRunTo a h w n floor taken tries n' floor'
-    → IsRunTo a h w n floor (taken ++ (record { packet = d; known = floor' }) ∷ []) tries (following n') s
-run_passed a h w n floor n' floor' s d [] [] is le r = (r.1, is, (ap following r.0, le))
-run_passed a h w n floor n' floor' s d [] (t ∷ tries) is le r = absurd r
-run_passed a h w n floor n' floor' s d (e ∷ taken) [] is le r = (r.0, r.1, run_passed a h w (following n) e.known n' floor' s d taken [] is le r.2)
-run_passed a h w n floor n' floor' s d (e ∷ taken) (t ∷ tries) is le r = (
+run_passed : {V : Type 0} (a : Answers V) (h : List V) (w n floor n' floor' s : ℕ) (d : Packet) (way : Way) (taken : List Entry) (tries : List Try) → a.silent d.octets ≡ true → floor' ≤ s → IsRunTo a h w n floor taken tries n' floor'
+    → IsRunTo a h w n floor (taken ++ (record { packet = d; known = floor'; way = way }) ∷ []) tries (following n') s
+run_passed a h w n floor n' floor' s d way [] [] is le r = (r.1, is, (ap following r.0, le))
+run_passed a h w n floor n' floor' s d way [] (t ∷ tries) is le r = absurd r
+run_passed a h w n floor n' floor' s d way (e ∷ taken) [] is le r = (r.0, r.1, run_passed a h w (following n) e.known n' floor' s d way taken [] is le r.2)
+run_passed a h w n floor n' floor' s d way (e ∷ taken) (t ∷ tries) is le r = (
   r.0,
-  both (a.silent e.packet.octets) (λ (q : IsRunTo a h w (following n) e.known taken (t ∷ tries) n' floor'). run_passed a h w (following n) e.known n' floor' s d taken (t ∷ tries) is le q)
-      (λ (q : IsTryOf a h w n e t × IsRunTo a h w (following n) t.serial taken tries n' floor'). (q.0, run_passed a h w (following n) t.serial n' floor' s d taken tries is le q.1)) r.1,
+  both (a.silent e.packet.octets) (λ (q : IsRunTo a h w (following n) e.known taken (t ∷ tries) n' floor'). run_passed a h w (following n) e.known n' floor' s d way taken (t ∷ tries) is le q)
+      (λ (q : IsTryOf a h w n e t × IsRunTo a h w (following n) t.serial taken tries n' floor'). (q.0, run_passed a h w (following n) t.serial n' floor' s d way taken tries is le q.1)) r.1,
 )
 
 -- a datagram with its try
-run_replied : {V : Type 0} (a : Answers V) (h : List V) (w n floor n' floor' : ℕ) (d : Packet) (t : Try) (taken : List Entry) (tries : List Try) → a.silent d.octets ≡ false → IsTryOf a h w n' (record { packet = d; known = floor' }) t → IsRunTo a h w n floor taken tries n' floor'
-    → IsRunTo a h w n floor (taken ++ (record { packet = d; known = floor' }) ∷ []) (tries ++ t ∷ []) (following n') t.serial
-run_replied {V = V} a h w n floor n' floor' d t [] [] is q r = (
+run_replied : {V : Type 0} (a : Answers V) (h : List V) (w n floor n' floor' : ℕ) (d : Packet) (t : Try) (way : Way) (taken : List Entry) (tries : List Try) → a.silent d.octets ≡ false → IsTryOf a h w n' (record { packet = d; known = floor'; way = way }) t → IsRunTo a h w n floor taken tries n' floor'
+    → IsRunTo a h w n floor (taken ++ (record { packet = d; known = floor'; way = way }) ∷ []) (tries ++ t ∷ []) (following n') t.serial
+run_replied {V = V} a h w n floor n' floor' d t way [] [] is q r = (
   r.1,
-  subst (λ (b : Bool). MatchBool b (IsRunTo a h w (following n) floor' [] (t ∷ []) (following n') t.serial) (IsTryOf a h w n (record { packet = d; known = floor' }) t × IsRunTo a h w (following n) t.serial [] [] (following n') t.serial)) (sym is)
-      (subst (λ (k : ℕ). IsTryOf a h w k (record { packet = d; known = floor' }) t) r.0 q, (ap following r.0, omega arith)),
+  subst (λ (b : Bool). MatchBool b (IsRunTo a h w (following n) floor' [] (t ∷ []) (following n') t.serial) (IsTryOf a h w n (record { packet = d; known = floor'; way = way }) t × IsRunTo a h w (following n) t.serial [] [] (following n') t.serial)) (sym is)
+      (subst (λ (k : ℕ). IsTryOf a h w k (record { packet = d; known = floor'; way = way }) t) r.0 q, (ap following r.0, omega arith)),
 )
-run_replied a h w n floor n' floor' d t [] (s ∷ tries) is q r = absurd r
-run_replied a h w n floor n' floor' d t (e ∷ taken) [] is q r = (
+run_replied a h w n floor n' floor' d t way [] (s ∷ tries) is q r = absurd r
+run_replied a h w n floor n' floor' d t way (e ∷ taken) [] is q r = (
   r.0,
-  subst (λ (b : Bool). MatchBool b (IsRunTo a h w (following n) e.known (taken ++ (record { packet = d; known = floor' }) ∷ []) (t ∷ []) (following n') t.serial)
-      (IsTryOf a h w n e t × IsRunTo a h w (following n) t.serial (taken ++ (record { packet = d; known = floor' }) ∷ []) [] (following n') t.serial)) (sym r.1) (run_replied a h w (following n) e.known n' floor' d t taken [] is q r.2),
+  subst (λ (b : Bool). MatchBool b (IsRunTo a h w (following n) e.known (taken ++ (record { packet = d; known = floor'; way = way }) ∷ []) (t ∷ []) (following n') t.serial)
+      (IsTryOf a h w n e t × IsRunTo a h w (following n) t.serial (taken ++ (record { packet = d; known = floor'; way = way }) ∷ []) [] (following n') t.serial)) (sym r.1) (run_replied a h w (following n) e.known n' floor' d t way taken [] is q r.2),
 )
-run_replied a h w n floor n' floor' d t (e ∷ taken) (s ∷ tries) is q r = (
+run_replied a h w n floor n' floor' d t way (e ∷ taken) (s ∷ tries) is q r = (
   r.0,
-  both (a.silent e.packet.octets) (λ (p : IsRunTo a h w (following n) e.known taken (s ∷ tries) n' floor'). run_replied a h w (following n) e.known n' floor' d t taken (s ∷ tries) is q p)
-      (λ (p : IsTryOf a h w n e s × IsRunTo a h w (following n) s.serial taken tries n' floor'). (p.0, run_replied a h w (following n) s.serial n' floor' d t taken tries is q p.1)) r.1,
+  both (a.silent e.packet.octets) (λ (p : IsRunTo a h w (following n) e.known taken (s ∷ tries) n' floor'). run_replied a h w (following n) e.known n' floor' d t way taken (s ∷ tries) is q p)
+      (λ (p : IsTryOf a h w n e s × IsRunTo a h w (following n) s.serial taken tries n' floor'). (p.0, run_replied a h w (following n) s.serial n' floor' d t way taken tries is q p.1)) r.1,
 )
 
 -- lanes over more of the history
@@ -89,11 +90,11 @@ goes_more F before [] v g f = (subst (λ h. F h v) (append-nil before) f, tt)
 goes_more F before (x ∷ rest) v g f = (g.0, goes_more F (before ++ x ∷ []) rest v g.1 (subst (λ h. F h v) (sym (append_assoc before (x ∷ []) rest)) f))
 
 -- what a take does to a lane
-taken_run : {V : Type 0} (a : Answers V) (h : List V) (w : ℕ) (d : Packet) (s : ℕ) (l l' : LaneState) → Takes a h w d s l l' → IsRunTo a h w 0 0 l.taken l.tries l.count l.seen → IsRunTo a h w 0 0 l'.taken l'.tries l'.count l'.seen × (l'.seen < length h)
-taken_run a h w d s l l' t r =
-    ⊎_elim (λ (q : (a.silent d.octets ≡ true) × (l' ≡ passed d s l)). subst (λ (k : LaneState). IsRunTo a h w 0 0 k.taken k.tries k.count k.seen × (k.seen < length h)) (sym q.1) (run_passed a h w 0 0 l.count l.seen s d l.taken l.tries q.0 t.0 r, t.1))
-    (λ (q : (a.silent d.octets ≡ false) × ((y : Try) × (y.serial ≡ s) × IsTryOf a h w l.count (record { packet = d; known = l.seen }) y × (l' ≡ replied d y l))).
-    subst (λ (k : LaneState). IsRunTo a h w 0 0 k.taken k.tries k.count k.seen × (k.seen < length h)) (sym q.1.3) (run_replied a h w 0 0 l.count l.seen d q.1.0 l.taken l.tries q.0 q.1.2 r, subst (λ (k : ℕ). k < length h) (sym q.1.1) t.1)) t.2
+taken_run : {V : Type 0} (a : Answers V) (h : List V) (w : ℕ) (d : Packet) (s : ℕ) (way : Way) (l l' : LaneState) → Takes a h w d s way l l' → IsRunTo a h w 0 0 l.taken l.tries l.count l.seen → IsRunTo a h w 0 0 l'.taken l'.tries l'.count l'.seen × (l'.seen < length h)
+taken_run a h w d s way l l' t r =
+    ⊎_elim (λ (q : (a.silent d.octets ≡ true) × (l' ≡ passed d s way l)). subst (λ (k : LaneState). IsRunTo a h w 0 0 k.taken k.tries k.count k.seen × (k.seen < length h)) (sym q.1) (run_passed a h w 0 0 l.count l.seen s d way l.taken l.tries q.0 t.0 r, t.1))
+    (λ (q : (a.silent d.octets ≡ false) × ((y : Try) × (y.serial ≡ s) × IsTryOf a h w l.count (record { packet = d; known = l.seen; way = way }) y × (l' ≡ replied d y way l))).
+    subst (λ (k : LaneState). IsRunTo a h w 0 0 k.taken k.tries k.count k.seen × (k.seen < length h)) (sym q.1.3) (run_replied a h w 0 0 l.count l.seen d q.1.0 way l.taken l.tries q.0 q.1.2 r, subst (λ (k : ℕ). k < length h) (sym q.1.1) t.1)) t.2
 
 told_run : {V : Type 0} (a : Answers V) (h : List V) (w n : ℕ) (l : LaneState) → n < length h → IsRunTo a h w 0 0 l.taken l.tries l.count l.seen → l.seen < length h → IsRunTo a h w 0 0 l.taken l.tries l.count (max l.seen n) × (max l.seen n < length h)
 told_run a h w n l lt r le = (run_wider a h h w 0 0 l.count l.seen (max l.seen n) l.taken l.tries ([], append-nil h) (omega arith) r, omega (arith, lt, le))
@@ -110,14 +111,14 @@ step_kept {V = V} a F first (tell lane n) m m' s k =
     let old = subst (λ (x : List LaneState). AreKeptLanes a m.history 0 x) mv.old k.lanes in
     let new = kept_moved a m.history 0 mv.before mv.behind l (told n l) old (λ r lt. told_run a m.history (0 + length mv.before) n l s.0 r lt) in
     let all = subst (λ (x : List LaneState). AreKeptLanes a m.history 0 x) (sym mv.new) new in record { rest = k.rest; history = s.1 ∙ k.history; goes_on = k.goes_on; lanes = subst (λ (h : List V). AreKeptLanes a h 0 m'.lanes) (sym s.1) all }
-step_kept {V = V} a F first (take lane d n) m m' s k =
+step_kept {V = V} a F first (take lane d n way) m m' s k =
     let l = s.1.0 in
     let l' = s.1.1 in
     let mv = s.1.3 in
     let here : lane ≡ 0 + length mv.before = omega (arith, mv.number) in
-    let t = subst (λ (w : ℕ). Takes a m.history w d n l l') here s.1.2 in
+    let t = subst (λ (w : ℕ). Takes a m.history w d n way l l') here s.1.2 in
     let old = subst (λ (x : List LaneState). AreKeptLanes a m.history 0 x) mv.old k.lanes in
-    let new = kept_moved a m.history 0 mv.before mv.behind l l' old (λ r lt. taken_run a m.history (0 + length mv.before) d n l l' t r) in
+    let new = kept_moved a m.history 0 mv.before mv.behind l l' old (λ r lt. taken_run a m.history (0 + length mv.before) d n way l l' t r) in
     let all = subst (λ (x : List LaneState). AreKeptLanes a m.history 0 x) (sym mv.new) new in record { rest = k.rest; history = s.0 ∙ k.history; goes_on = k.goes_on; lanes = subst (λ (h : List V). AreKeptLanes a h 0 m'.lanes) (sym s.0) all }
 
 -- Whatever is taken, the machine's history is one, and its lanes are lane runs over it.

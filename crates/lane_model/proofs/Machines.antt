@@ -1,6 +1,7 @@
 -- Lane runs over one history are taken by the machine.
 use Rattle.std.proofs.Common.{◌≡◌, ℕ, zero, suc, ◌+◌, ◌<◌, ◌≤◌, Bool, true, false, List, [], ◌∷◌, ◌++◌, length, max, if◌then◌else◌, All, Some, MatchBool, slice_get, inl, inr, refl, sym, ap, subst, ◌∙◌, arith, append_assoc, append-nil, length-append}
 use Rattle.outside.specs.Port.{Packet, Try}
+use Rattle.answer_core.specs.declared.way.Way.{Way}
 use Rattle.lane_model.specs.Lanes.{Answers, Entry, IsLaneRun, IsTryOf, following}
 use Rattle.lane_model.specs.Machine.{Event, LaneLog, LaneState, Machine, AreRuns, GoesOn, HaveDone, IsMoved, IsTaken, Takes, commits_of, events_of_lane, events_of_lanes, fresh, fresh_lanes, passed, replied, serial_of, told, tries_behind, tell, take}
 
@@ -26,12 +27,12 @@ pub record IsOneMore {V : Type 0} (a : Answers V) (F : List V → V → Type 0) 
   pub taken_is : l'.taken ≡ l.taken ++ e ∷ []
   pub tries_is : l'.tries ++ tries_behind a e tries ≡ l.tries ++ tries
   pub run : IsLaneRun a h lane l'.count l'.seen taken (tries_behind a e tries)
-  pub steps : IsTaken a F (tell lane e.known ∷ take lane e.packet (serial_of a e tries) ∷ []) (record { history = h; lanes = done ++ l ∷ todo }) (record { history = h; lanes = done ++ l' ∷ todo })
+  pub steps : IsTaken a F (tell lane e.known ∷ take lane e.packet (serial_of a e tries) e.way ∷ []) (record { history = h; lanes = done ++ l ∷ todo }) (record { history = h; lanes = done ++ l' ∷ todo })
 
 -- the tell and the take of one datagram
-two_steps : {V : Type 0} (a : Answers V) (F : List V → V → Type 0) (h : List V) (done todo : List LaneState) (lane n : ℕ) (l : LaneState) (d : Packet) (s : ℕ) (l' : LaneState) → length done ≡ lane → n < length h → Takes a h lane d s (told n l) l'
-    → IsTaken a F (tell lane n ∷ take lane d s ∷ []) (record { history = h; lanes = done ++ l ∷ todo }) (record { history = h; lanes = done ++ l' ∷ todo })
-two_steps a F h done todo lane n l d s l' at lt t = (
+two_steps : {V : Type 0} (a : Answers V) (F : List V → V → Type 0) (h : List V) (done todo : List LaneState) (lane n : ℕ) (l : LaneState) (d : Packet) (s : ℕ) (way : Way) (l' : LaneState) → length done ≡ lane → n < length h → Takes a h lane d s way (told n l) l'
+    → IsTaken a F (tell lane n ∷ take lane d s way ∷ []) (record { history = h; lanes = done ++ l ∷ todo }) (record { history = h; lanes = done ++ l' ∷ todo })
+two_steps a F h done todo lane n l d s way l' at lt t = (
   record { history = h; lanes = done ++ told n l ∷ todo },
   (lt, refl, (l, moved done todo lane l (told n l) at)),
   (record { history = h; lanes = done ++ l' ∷ todo }, (refl, (told n l, l', t, moved done todo lane (told n l) l' at)), refl),
@@ -41,21 +42,21 @@ known_is : (l : LaneState) (n : ℕ) → l.seen ≤ n → max l.seen n ≡ n
 known_is l n le = omega (arith, le)
 
 -- a datagram that has no reply
-one_silent : {V : Type 0} (a : Answers V) (F : List V → V → Type 0) (h : List V) (done todo : List LaneState) (lane : ℕ) (l : LaneState) (d : Packet) (n : ℕ) → length done ≡ lane → l.seen ≤ n → n < length h → a.silent d.octets ≡ true
-    → IsTaken a F (tell lane n ∷ take lane d n ∷ []) (record { history = h; lanes = done ++ l ∷ todo }) (record { history = h; lanes = done ++ passed d n (record l { seen = n }) ∷ todo })
-one_silent a F h done todo lane l d n at le lt is =
+one_silent : {V : Type 0} (a : Answers V) (F : List V → V → Type 0) (h : List V) (done todo : List LaneState) (lane : ℕ) (l : LaneState) (d : Packet) (n : ℕ) (way : Way) → length done ≡ lane → l.seen ≤ n → n < length h → a.silent d.octets ≡ true
+    → IsTaken a F (tell lane n ∷ take lane d n way ∷ []) (record { history = h; lanes = done ++ l ∷ todo }) (record { history = h; lanes = done ++ passed d n way (record l { seen = n }) ∷ todo })
+one_silent a F h done todo lane l d n way at le lt is =
     let here : record l { seen = n } ≡ told n l = ap (λ k. record l { seen = k }) (sym (known_is l n le)) in
-    two_steps a F h done todo lane n l d n (passed d n (record l { seen = n })) at lt (omega (arith, known_is l n le), lt, inl (is, ap (λ k. passed d n k) here))
+    two_steps a F h done todo lane n l d n way (passed d n way (record l { seen = n })) at lt (omega (arith, known_is l n le), lt, inl (is, ap (λ k. passed d n way k) here))
 
 -- a datagram that was answered
-one_replied : {V : Type 0} (a : Answers V) (F : List V → V → Type 0) (h : List V) (done todo : List LaneState) (lane : ℕ) (l : LaneState) (d : Packet) (n : ℕ) (t : Try) → length done ≡ lane → l.seen ≤ n → n < length h → t.serial < length h → a.silent d.octets ≡ false
-    → IsTryOf a h lane l.count (record { packet = d; known = n }) t
-    → IsTaken a F (tell lane n ∷ take lane d t.serial ∷ []) (record { history = h; lanes = done ++ l ∷ todo }) (record { history = h; lanes = done ++ replied d t (record l { seen = n }) ∷ todo })
-one_replied a F h done todo lane l d n t at le lt serial is q =
+one_replied : {V : Type 0} (a : Answers V) (F : List V → V → Type 0) (h : List V) (done todo : List LaneState) (lane : ℕ) (l : LaneState) (d : Packet) (n : ℕ) (way : Way) (t : Try) → length done ≡ lane → l.seen ≤ n → n < length h → t.serial < length h → a.silent d.octets ≡ false
+    → IsTryOf a h lane l.count (record { packet = d; known = n; way = way }) t
+    → IsTaken a F (tell lane n ∷ take lane d t.serial way ∷ []) (record { history = h; lanes = done ++ l ∷ todo }) (record { history = h; lanes = done ++ replied d t way (record l { seen = n }) ∷ todo })
+one_replied a F h done todo lane l d n way t at le lt serial is q =
     let here : record l { seen = n } ≡ told n l = ap (λ k. record l { seen = k }) (sym (known_is l n le)) in
     let known : n ≡ max l.seen n = sym (known_is l n le) in
-    two_steps a F h done todo lane n l d t.serial (replied d t (record l { seen = n })) at lt
-    (omega (arith, known_is l n le, q.fresh), serial, inr (is, (t, refl, subst (λ (k : ℕ). IsTryOf a h lane l.count (record { packet = d; known = k }) t) known q, ap (λ k. replied d t k) here)))
+    two_steps a F h done todo lane n l d t.serial way (replied d t way (record l { seen = n })) at lt
+    (omega (arith, known_is l n le, q.fresh), serial, inr (is, (t, refl, subst (λ (k : ℕ). IsTryOf a h lane l.count (record { packet = d; known = k; way = way }) t) known q, ap (λ k. replied d t way k) here)))
 
 got_below : {A : Type 0} (xs : List A) (k : ℕ) (x : A) → slice_get xs k ≡ Some x → k < length xs
 got_below [] k x e = absurd cc
@@ -67,25 +68,25 @@ of_kind : {V : Type 0} (a : Answers V) (F : List V → V → Type 0) (h : List V
     → (b : Bool) → a.silent e.packet.octets ≡ b → MatchBool b (IsLaneRun a h lane (following l.count) e.known taken (s ∷ tries)) (IsTryOf a h lane l.count e s × IsLaneRun a h lane (following l.count) s.serial taken tries)
     → (l' : LaneState) × IsOneMore a F h done todo lane l e taken (s ∷ tries) l'
 of_kind a F h done todo lane l e taken s tries at le lt true is r =
-    let l' = passed e.packet e.known (record l { seen = e.known }) in (
+    let l' = passed e.packet e.known e.way (record l { seen = e.known }) in (
       l',
       record {
         taken_is = refl;
         tries_is = ap (λ b. l.tries ++ (if b then s ∷ tries else tries)) is;
         run = subst (λ (b : Bool). IsLaneRun a h lane (following l.count) e.known taken (if b then s ∷ tries else tries)) (sym is) r;
-        steps = subst (λ (b : Bool). IsTaken a F (tell lane e.known ∷ take lane e.packet (if b then e.known else s.serial) ∷ []) (record { history = h; lanes = done ++ l ∷ todo }) (record { history = h; lanes = done ++ l' ∷ todo })) (sym is)
-            (one_silent a F h done todo lane l e.packet e.known at le lt is);
+        steps = subst (λ (b : Bool). IsTaken a F (tell lane e.known ∷ take lane e.packet (if b then e.known else s.serial) e.way ∷ []) (record { history = h; lanes = done ++ l ∷ todo }) (record { history = h; lanes = done ++ l' ∷ todo })) (sym is)
+            (one_silent a F h done todo lane l e.packet e.known e.way at le lt is);
       },
     )
 of_kind a F h done todo lane l e taken s tries at le lt false is r =
-    let l' = replied e.packet s (record l { seen = e.known }) in (
+    let l' = replied e.packet s e.way (record l { seen = e.known }) in (
       l',
       record {
         taken_is = refl;
         tries_is = ap (λ b. (l.tries ++ s ∷ []) ++ (if b then s ∷ tries else tries)) is ∙ append_assoc l.tries (s ∷ []) tries;
         run = subst (λ (b : Bool). IsLaneRun a h lane (following l.count) s.serial taken (if b then s ∷ tries else tries)) (sym is) r.1;
-        steps = subst (λ (b : Bool). IsTaken a F (tell lane e.known ∷ take lane e.packet (if b then e.known else s.serial) ∷ []) (record { history = h; lanes = done ++ l ∷ todo }) (record { history = h; lanes = done ++ l' ∷ todo })) (sym is)
-            (one_replied a F h done todo lane l e.packet e.known s at le lt (got_below h s.serial r.0.version.0 r.0.version.1) is r.0);
+        steps = subst (λ (b : Bool). IsTaken a F (tell lane e.known ∷ take lane e.packet (if b then e.known else s.serial) e.way ∷ []) (record { history = h; lanes = done ++ l ∷ todo }) (record { history = h; lanes = done ++ l' ∷ todo })) (sym is)
+            (one_replied a F h done todo lane l e.packet e.known e.way s at le lt (got_below h s.serial r.0.version.0 r.0.version.1) is r.0);
       },
     )
 
@@ -93,8 +94,8 @@ of_kind a F h done todo lane l e taken s tries at le lt false is r =
 one_taken : {V : Type 0} (a : Answers V) (F : List V → V → Type 0) (h : List V) (done todo : List LaneState) (lane : ℕ) (l : LaneState) (e : Entry) (taken : List Entry) (tries : List Try) → length done ≡ lane
     → IsLaneRun a h lane l.count l.seen (e ∷ taken) tries → e.known < length h → (l' : LaneState) × IsOneMore a F h done todo lane l e taken tries l'
 one_taken a F h done todo lane l e taken [] at r lt = (
-  passed e.packet e.known (record l { seen = e.known }),
-  record { taken_is = refl; tries_is = refl; run = r.2; steps = one_silent a F h done todo lane l e.packet e.known at r.0 lt r.1 },
+  passed e.packet e.known e.way (record l { seen = e.known }),
+  record { taken_is = refl; tries_is = refl; run = r.2; steps = one_silent a F h done todo lane l e.packet e.known e.way at r.0 lt r.1 },
 )
 one_taken a F h done todo lane l e taken (s ∷ tries) at r lt = of_kind a F h done todo lane l e taken s tries at r.0 lt (a.silent e.packet.octets) refl r.1
 
@@ -113,7 +114,7 @@ lane_taken a F h done todo lane l (e ∷ taken) tries at r lt =
       rest.0,
       rest.1 ∙ (ap (λ t. t ++ taken) q.taken_is ∙ append_assoc l.taken (e ∷ []) taken),
       rest.2 ∙ q.tries_is,
-      taken_append a F (tell lane e.known ∷ take lane e.packet (serial_of a e tries) ∷ []) (events_of_lane a lane taken (tries_behind a e tries)) (record { history = h; lanes = done ++ l ∷ todo }) (record { history = h; lanes = done ++ one.0 ∷ todo })
+      taken_append a F (tell lane e.known ∷ take lane e.packet (serial_of a e tries) e.way ∷ []) (events_of_lane a lane taken (tries_behind a e tries)) (record { history = h; lanes = done ++ l ∷ todo }) (record { history = h; lanes = done ++ one.0 ∷ todo })
           (record { history = h; lanes = done ++ rest.0 ∷ todo }) q.steps rest.3,
     )
 

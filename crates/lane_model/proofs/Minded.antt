@@ -4,6 +4,7 @@ use Rattle.std.specs.List.{flat_map}
 use Rattle.std.proofs.lemmas.Bool.{cases_eq}
 use Rattle.std.proofs.lemmas.List.{length-map, map-append}
 use Rattle.outside.specs.Port.{Packet, Try}
+use Rattle.answer_core.specs.declared.way.Way.{Way}
 use Rattle.lane_model.specs.Lanes.{Answers, Entry, IsTryOf}
 use Rattle.lane_model.specs.Machine.{Event, IsMoved, IsStep, IsTaken, LaneState, Machine, Takes, fresh, passed, replied, told, commit, tell, take}
 use Rattle.lane_model.specs.Minded.{IsMinded, IsMindful, packets_of}
@@ -12,7 +13,7 @@ use Rattle.lane_model.specs.Minded.{IsMinded, IsMindful, packets_of}
 abbrev pub IsHeard : {V : Type 0} → ℕ → Event V → LaneState → LaneState → Type 0
 IsHeard lane (commit v) l l' = l' ≡ l
 IsHeard lane (tell other n) l l' = ((other ≡ lane) × (l' ≡ told n l)) ⊎ ((other ≢ lane) × (l' ≡ l))
-IsHeard lane (take other d s) l l' = ((other ≡ lane) × (l.seen ≤ s) × (l'.seen ≡ s) × (l'.taken ≡ l.taken ++ (record { packet = d; known = l.seen }) ∷ [])) ⊎ ((other ≢ lane) × (l' ≡ l))
+IsHeard lane (take other d s way) l l' = ((other ≡ lane) × (l.seen ≤ s) × (l'.seen ≡ s) × (l'.taken ≡ l.taken ++ (record { packet = d; known = l.seen; way = way }) ∷ [])) ⊎ ((other ≢ lane) × (l' ≡ l))
 
 -- of a step of the machine: the lane of its number
 found : (before behind : List LaneState) (l d : LaneState) → slice_index_or (before ++ l ∷ behind) (length before) d ≡ l
@@ -37,11 +38,11 @@ moved_there at lane l l' lanes lanes' ne mv =
     ap (λ (xs : List LaneState). slice_index_or xs lane fresh) mv.new ∙ (passed_over mv.before mv.behind l l' fresh lane (λ e. ne (sym mv.number ∙ e)) ∙ ap (λ (xs : List LaneState). slice_index_or xs lane fresh) (sym mv.old))
 
 -- a take of the lane itself
-took_one : {V : Type 0} (a : Answers V) (h : List V) (w : ℕ) (d : Packet) (s : ℕ) (l l' : LaneState) → Takes a h w d s l l' → (l.seen ≤ s) × (l'.seen ≡ s) × (l'.taken ≡ l.taken ++ (record { packet = d; known = l.seen }) ∷ [])
-took_one a h w d s l l' t =
-    let entry : Entry = record { packet = d; known = l.seen } in
-    let both : (l'.seen ≡ s) × (l'.taken ≡ l.taken ++ entry ∷ []) = ⊎_elim (λ (q : (a.silent d.octets ≡ true) × (l' ≡ passed d s l)). (ap (λ (k : LaneState). k.seen) q.1, ap (λ (k : LaneState). k.taken) q.1))
-    (λ (q : (a.silent d.octets ≡ false) × ((y : Try) × (y.serial ≡ s) × IsTryOf a h w l.count (record { packet = d; known = l.seen }) y × (l' ≡ replied d y l))). (ap (λ (k : LaneState). k.seen) q.1.3 ∙ q.1.1, ap (λ (k : LaneState). k.taken) q.1.3)) t.2 in
+took_one : {V : Type 0} (a : Answers V) (h : List V) (w : ℕ) (d : Packet) (s : ℕ) (way : Way) (l l' : LaneState) → Takes a h w d s way l l' → (l.seen ≤ s) × (l'.seen ≡ s) × (l'.taken ≡ l.taken ++ (record { packet = d; known = l.seen; way = way }) ∷ [])
+took_one a h w d s way l l' t =
+    let entry : Entry = record { packet = d; known = l.seen; way = way } in
+    let both : (l'.seen ≡ s) × (l'.taken ≡ l.taken ++ entry ∷ []) = ⊎_elim (λ (q : (a.silent d.octets ≡ true) × (l' ≡ passed d s way l)). (ap (λ (k : LaneState). k.seen) q.1, ap (λ (k : LaneState). k.taken) q.1))
+    (λ (q : (a.silent d.octets ≡ false) × ((y : Try) × (y.serial ≡ s) × IsTryOf a h w l.count (record { packet = d; known = l.seen; way = way }) y × (l' ≡ replied d y way l))). (ap (λ (k : LaneState). k.seen) q.1.3 ∙ q.1.1, ap (λ (k : LaneState). k.taken) q.1.3)) t.2 in
     (t.0, both.0, both.1)
 
 -- one step of the machine, as the lane of any number sees it
@@ -52,15 +53,15 @@ step_heard a F lane (tell other n) m m' s =
     let here = moved_here other s.2.0 (told n s.2.0) m.lanes m'.lanes s.2.1 in
     inl (same, subst (λ (k : ℕ). slice_index_or m'.lanes k fresh ≡ told n (slice_index_or m.lanes k fresh)) same (here.1 ∙ ap (told n) (sym here.0))))
     (λ (ne : other ≡ lane → ⊥). inr (ne, moved_there other lane s.2.0 (told n s.2.0) m.lanes m'.lanes ne s.2.1)) (cases_eq other lane)
-step_heard a F lane (take other d n) m m' s =
+step_heard a F lane (take other d n way) m m' s =
     let l = s.1.0 in
     let l' = s.1.1 in
     ⊎_elim (λ (same : other ≡ lane).
     let here = moved_here other l l' m.lanes m'.lanes s.1.3 in
-    let one = took_one a m.history other d n l l' s.1.2 in
-    let at : (k k' : LaneState) → k ≡ l → k' ≡ l' → (k.seen ≤ n) × (k'.seen ≡ n) × (k'.taken ≡ k.taken ++ (record { packet = d; known = k.seen }) ∷ []) = λ k k' is is'.
-    subst (λ (x : LaneState). (x.seen ≤ n) × (k'.seen ≡ n) × (k'.taken ≡ x.taken ++ (record { packet = d; known = x.seen }) ∷ [])) (sym is)
-    (subst (λ (y : LaneState). (l.seen ≤ n) × (y.seen ≡ n) × (y.taken ≡ l.taken ++ (record { packet = d; known = l.seen }) ∷ [])) (sym is') one) in
+    let one = took_one a m.history other d n way l l' s.1.2 in
+    let at : (k k' : LaneState) → k ≡ l → k' ≡ l' → (k.seen ≤ n) × (k'.seen ≡ n) × (k'.taken ≡ k.taken ++ (record { packet = d; known = k.seen; way = way }) ∷ []) = λ k k' is is'.
+    subst (λ (x : LaneState). (x.seen ≤ n) × (k'.seen ≡ n) × (k'.taken ≡ x.taken ++ (record { packet = d; known = x.seen; way = way }) ∷ [])) (sym is)
+    (subst (λ (y : LaneState). (l.seen ≤ n) × (y.seen ≡ n) × (y.taken ≡ l.taken ++ (record { packet = d; known = l.seen; way = way }) ∷ [])) (sym is') one) in
     let all = at (slice_index_or m.lanes lane fresh) (slice_index_or m'.lanes lane fresh) (subst (λ (k : ℕ). slice_index_or m.lanes k fresh ≡ l) same here.0) (subst (λ (k : ℕ). slice_index_or m'.lanes k fresh ≡ l') same here.1) in
     inl (same, all.0, all.1, all.2))
     (λ (ne : other ≡ lane → ⊥). inr (ne, moved_there other lane l l' m.lanes m'.lanes ne s.1.3)) (cases_eq other lane)
@@ -72,63 +73,63 @@ record IsOnce {V : Type 0} (lane : ℕ) (e : Event V) (l l' : LaneState) : Type 
   pub packets : map (λ x. x.packet) new ≡ packets_of lane e
   pub first : l.seen ≤ l'.seen
   pub told : (n : ℕ) → e ≡ tell lane n → n ≤ l'.seen
-  pub used : (d : Packet) (s : ℕ) → e ≡ take lane d s → s ≤ l'.seen
-  pub entry : (d : Packet) (s : ℕ) → e ≡ take lane d s → new ≡ (record { packet = d; known = l.seen }) ∷ []
+  pub used : (d : Packet) (s : ℕ) (way : Way) → e ≡ take lane d s way → s ≤ l'.seen
+  pub entry : (d : Packet) (s : ℕ) (way : Way) → e ≡ take lane d s way → new ≡ (record { packet = d; known = l.seen; way = way }) ∷ []
 
 -- an event that says nothing to the lane
-nothing_heard : {V : Type 0} (lane : ℕ) (e : Event V) (l l' : LaneState) → l' ≡ l → packets_of lane e ≡ [] → ((n : ℕ) → e ≡ tell lane n → ⊥) → ((d : Packet) (s : ℕ) → e ≡ take lane d s → ⊥) → IsOnce lane e l l'
+nothing_heard : {V : Type 0} (lane : ℕ) (e : Event V) (l l' : LaneState) → l' ≡ l → packets_of lane e ≡ [] → ((n : ℕ) → e ≡ tell lane n → ⊥) → ((d : Packet) (s : ℕ) (way : Way) → e ≡ take lane d s way → ⊥) → IsOnce lane e l l'
 nothing_heard lane e l l' same none no_tell no_take = record {
   new = [];
   taken = ap (λ (k : LaneState). k.taken) same ∙ sym (append-nil l.taken);
   packets = sym none;
   first = let is = ap (λ (k : LaneState). k.seen) same in omega (arith, is);
   told = λ n is. absurd (no_tell n is);
-  used = λ d s is. absurd (no_take d s is);
-  entry = λ d s is. absurd (no_take d s is);
+  used = λ d s way is. absurd (no_take d s way is);
+  entry = λ d s way is. absurd (no_take d s way is);
 }
 
 heard_once : {V : Type 0} (lane : ℕ) (e : Event V) (l l' : LaneState) → IsHeard lane e l l' → IsOnce lane e l l'
-heard_once lane (commit v) l l' h = nothing_heard lane (commit v) l l' h refl (λ n is. absurd (cc is)) (λ d s is. absurd (cc is))
+heard_once lane (commit v) l l' h = nothing_heard lane (commit v) l l' h refl (λ n is. absurd (cc is)) (λ d s way is. absurd (cc is))
 heard_once lane (tell other n) l l' (inl h) = record {
   new = [];
   taken = ap (λ (k : LaneState). k.taken) h.1 ∙ sym (append-nil l.taken);
   packets = refl;
   first = let is = ap (λ (k : LaneState). k.seen) h.1 in omega (arith, is);
   told = λ k is. let same : n ≡ k = cc is in let seen = ap (λ (x : LaneState). x.seen) h.1 in omega (arith, same, seen);
-  used = λ d s is. absurd (cc is);
-  entry = λ d s is. absurd (cc is);
+  used = λ d s way is. absurd (cc is);
+  entry = λ d s way is. absurd (cc is);
 }
-heard_once lane (tell other n) l l' (inr h) = nothing_heard lane (tell other n) l l' h.1 refl (λ k is. h.0 (cc is)) (λ d s is. absurd (cc is))
-heard_once lane (take other d n) l l' (inl h) = record {
-  new = (record { packet = d; known = l.seen }) ∷ [];
+heard_once lane (tell other n) l l' (inr h) = nothing_heard lane (tell other n) l l' h.1 refl (λ k is. h.0 (cc is)) (λ d s way is. absurd (cc is))
+heard_once lane (take other d n way) l l' (inl h) = record {
+  new = (record { packet = d; known = l.seen; way = way }) ∷ [];
   taken = h.3;
   packets = ap (λ b. if b then d ∷ [] else []) (sym (eq-eqb other lane h.0));
   first = omega (arith, h.1, h.2);
   told = λ k is. absurd (cc is);
-  used = λ c s is. let same : n ≡ s = cc is in omega (arith, same, h.2);
-  entry = λ c s is. let same : d ≡ c = cc is in ap (λ (x : Packet). (record { packet = x; known = l.seen }) ∷ []) same;
+  used = λ c s by is. let same : n ≡ s = cc is in omega (arith, same, h.2);
+  entry = λ c s by is. let same : d ≡ c = cc is in let way_is : way ≡ by = cc is in ap (λ (x : Packet). (record { packet = x; known = l.seen; way = way }) ∷ []) same ∙ ap (λ (x : Way). (record { packet = c; known = l.seen; way = x }) ∷ []) way_is;
 }
-heard_once lane (take other d n) l l' (inr h) = nothing_heard lane (take other d n) l l' h.1 (ap (λ b. if b then d ∷ [] else []) (ne_eqb other lane h.0)) (λ k is. absurd (cc is)) (λ c s is. h.0 (cc is))
+heard_once lane (take other d n way) l l' (inr h) = nothing_heard lane (take other d n way) l l' h.1 (ap (λ b. if b then d ∷ [] else []) (ne_eqb other lane h.0)) (λ k is. absurd (cc is)) (λ c s by is. h.0 (cc is))
 
 -- what is known minds one event more
-mindful_more : {V : Type 0} (lane first mid : ℕ) (e : Event V) (events : List (Event V)) (known : ℕ) → first ≤ mid → ((n : ℕ) → e ≡ tell lane n → n ≤ mid) → ((d : Packet) (s : ℕ) → e ≡ take lane d s → s ≤ mid) → IsMindful lane mid events known
+mindful_more : {V : Type 0} (lane first mid : ℕ) (e : Event V) (events : List (Event V)) (known : ℕ) → first ≤ mid → ((n : ℕ) → e ≡ tell lane n → n ≤ mid) → ((d : Packet) (s : ℕ) (way : Way) → e ≡ take lane d s way → s ≤ mid) → IsMindful lane mid events known
     → IsMindful lane first (e ∷ events) known
 mindful_more {V = V} lane first mid e events known le by_tell by_take r = record {
   first_known = let up = r.first_known in omega (arith, le, up);
   told = λ n at. one_tell n at.0 at.1 at.2;
-  used = λ d s at. one_take d s at.0 at.1 at.2;
+  used = λ d s way at. one_take d s way at.0 at.1 at.2;
 }
   where
     one_tell : (n k : ℕ) → k < length (e ∷ events) → slice_index_or (e ∷ events) k (tell lane n) ≡ tell lane n → n ≤ known
     one_tell n zero lt is = let below = by_tell n is in let up = r.first_known in omega (arith, below, up)
     one_tell n (suc k) lt is = r.told n (k, omega (arith, lt), is)
 
-    one_take : (d : Packet) (s k : ℕ) → k < length (e ∷ events) → slice_index_or (e ∷ events) k (take lane d s) ≡ take lane d s → s ≤ known
-    one_take d s zero lt is = let below = by_take d s is in let up = r.first_known in omega (arith, below, up)
-    one_take d s (suc k) lt is = r.used d s (k, omega (arith, lt), is)
+    one_take : (d : Packet) (s : ℕ) (way : Way) (k : ℕ) → k < length (e ∷ events) → slice_index_or (e ∷ events) k (take lane d s way) ≡ take lane d s way → s ≤ known
+    one_take d s way zero lt is = let below = by_take d s way is in let up = r.first_known in omega (arith, below, up)
+    one_take d s way (suc k) lt is = r.used d s way (k, omega (arith, lt), is)
 
 mindful_none : {V : Type 0} (lane n : ℕ) → IsMindful {V = V} lane n [] n
-mindful_none lane n = record { first_known = omega arith; told = λ k at. absurd (omega (arith, at.1)); used = λ d s at. absurd (omega (arith, at.1)) }
+mindful_none lane n = record { first_known = omega arith; told = λ k at. absurd (omega (arith, at.1)); used = λ d s way at. absurd (omega (arith, at.1)) }
 
 behind_some : {A : Type 0} (xs ys : List A) (n k : ℕ) (y : A) → k ≡ length xs + n → slice_get ys n ≡ Some y → slice_get (xs ++ ys) k ≡ Some y
 behind_some [] ys n k y at is = let here : k ≡ n = omega (arith, at) in ap (slice_get ys) here ∙ is
@@ -136,21 +137,23 @@ behind_some (x ∷ xs) ys n zero y at is = absurd (omega (arith, at))
 behind_some (x ∷ xs) ys n (suc k) y at is = behind_some xs ys n k y (omega (arith, at)) is
 
 -- the entry of a take, behind one event more
-entry_more : {V : Type 0} (lane : ℕ) (e : Event V) (events : List (Event V)) (l mid l' : LaneState) (once : IsOnce lane e l mid) (rest : IsMinded lane events mid l') (before behind : List (Event V)) (d : Packet) (s : ℕ) → e ∷ events ≡ before ++ take lane d s ∷ behind
-    → (x : Entry) × (slice_get (once.new ++ rest.new) (length (flat_map (packets_of lane) before)) ≡ Some x) × IsMindful lane l.seen before x.known
-entry_more lane e events l mid l' once rest [] behind d s is = (
-  record { packet = d; known = l.seen },
-  ap (λ (xs : List Entry). slice_get (xs ++ rest.new) 0) (once.entry d s (cc is)),
+entry_more : {V : Type 0} (lane : ℕ) (e : Event V) (events : List (Event V)) (l mid l' : LaneState) (once : IsOnce lane e l mid) (rest : IsMinded lane events mid l') (before behind : List (Event V)) (d : Packet) (s : ℕ) (way : Way) → e ∷ events ≡ before ++ take lane d s way ∷ behind
+    → (x : Entry) × (slice_get (once.new ++ rest.new) (length (flat_map (packets_of lane) before)) ≡ Some x) × (x.way ≡ way) × IsMindful lane l.seen before x.known
+entry_more lane e events l mid l' once rest [] behind d s way is = (
+  record { packet = d; known = l.seen; way = way },
+  ap (λ (xs : List Entry). slice_get (xs ++ rest.new) 0) (once.entry d s way (cc is)),
+  refl,
   mindful_none lane l.seen,
 )
-entry_more {V = V} lane e events l mid l' once rest (x ∷ before) behind d s is =
+entry_more {V = V} lane e events l mid l' once rest (x ∷ before) behind d s way is =
     let same : e ≡ x = cc is in
-    let more : events ≡ before ++ take lane d s ∷ behind = cc is in
-    let one = rest.entries before behind d s more in
+    let more : events ≡ before ++ take lane d s way ∷ behind = cc is in
+    let one = rest.entries before behind d s way more in
     let size : length (packets_of lane x) ≡ length once.new = ap (λ (y : Event V). length (packets_of lane y)) (sym same) ∙ (ap length (sym once.packets) ∙ length-map once.new (λ (y : Entry). y.packet)) in (
       one.0,
       behind_some once.new rest.new (length (flat_map (packets_of lane) before)) (length (packets_of lane x ++ flat_map (packets_of lane) before)) one.0 (length-append (packets_of lane x) (flat_map (packets_of lane) before) ∙ ap (λ k. k + length (flat_map (packets_of lane) before)) size) one.1,
-      subst (λ (y : Event V). IsMindful lane l.seen (y ∷ before) one.0.known) same (mindful_more lane l.seen mid.seen e before one.0.known once.first once.told once.used one.2),
+      one.2,
+      subst (λ (y : Event V). IsMindful lane l.seen (y ∷ before) one.0.known) same (mindful_more lane l.seen mid.seen e before one.0.known once.first once.told once.used one.3),
     )
 
 -- one event more
@@ -161,7 +164,7 @@ minded_more lane e events l mid l' h rest =
       new = once.new ++ rest.new;
       taken = rest.taken ∙ (ap (λ xs. xs ++ rest.new) once.taken ∙ append_assoc l.taken once.new rest.new);
       packets = map-append (λ (x : Entry). x.packet) once.new rest.new ∙ (ap (λ xs. xs ++ map (λ (x : Entry). x.packet) rest.new) once.packets ∙ ap (λ xs. packets_of lane e ++ xs) rest.packets);
-      entries = λ before behind d s is. entry_more lane e events l mid l' once rest before behind d s is;
+      entries = λ before behind d s way is. entry_more lane e events l mid l' once rest before behind d s way is;
       after = mindful_more lane l.seen mid.seen e events l'.seen once.first once.told once.used rest.after;
     }
 
@@ -170,7 +173,7 @@ no_event [] behind x is = cc is
 no_event (y ∷ before) behind x is = cc is
 
 pub minded_none : {V : Type 0} (lane : ℕ) (l : LaneState) → IsMinded {V = V} lane [] l l
-minded_none lane l = record { new = []; taken = sym (append-nil l.taken); packets = refl; entries = λ before behind d s is. absurd (no_event before behind (take lane d s) is); after = mindful_none lane l.seen }
+minded_none lane l = record { new = []; taken = sym (append-nil l.taken); packets = refl; entries = λ before behind d s way is. absurd (no_event before behind (take lane d s way) is); after = mindful_none lane l.seen }
 
 -- Whatever the machine takes, each lane minds it.
 pub taken_minded : {V : Type 0} (a : Answers V) (F : List V → V → Type 0) (lane : ℕ) (events : List (Event V)) (m m' : Machine V) → IsTaken a F events m m' → IsMinded lane events (slice_index_or m.lanes lane fresh) (slice_index_or m'.lanes lane fresh)

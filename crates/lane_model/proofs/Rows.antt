@@ -2,6 +2,7 @@
 use Rattle.std.proofs.Common.{◌≡◌, ◌-◌, ◌*◌, ◌/◌, ◌^◌, ℕ, List, [], ◌∷◌, Some, slice_get, inl, inr, refl, ap, ◌∙◌, arith}
 use Rattle.addr_text.specs.declared.address.Addr.TheVariants.{V4}
 use Rattle.outside.specs.Port.{Packet}
+use Rattle.answer_core.specs.declared.way.Way.TheVariants.{Datagram, Stream}
 use Rattle.lane_model.specs.Lanes.{Entry, draw, following}
 use Rattle.lane_model.specs.Machine.{Event, LaneState, fresh, passed, told, take, tell}
 use Rattle.lane_model.specs.Minded.{IsMinded}
@@ -33,18 +34,18 @@ first_packet = record { octets = []; from = record { addr = V4 16909060; port = 
 abbrev second_packet : Packet
 second_packet = record { octets = []; from = record { addr = V4 16909060; port = 1054 } }
 
--- lane 3 takes one by version 0, is told of version 2, as lane 1 is of 9, and takes the other by version 4
+-- lane 3 takes one by version 0, is told of version 2, as lane 1 is of 9, and takes the other, which came over a stream, by version 4
 abbrev lane_events : List (Event ℕ)
-lane_events = take 3 first_packet 0 ∷ tell 3 2 ∷ tell 1 9 ∷ take 3 second_packet 4 ∷ []
+lane_events = take 3 first_packet 0 Datagram ∷ tell 3 2 ∷ tell 1 9 ∷ take 3 second_packet 4 Stream ∷ []
 
 abbrev first_lane : LaneState
-first_lane = passed first_packet 0 fresh
+first_lane = passed first_packet 0 Datagram fresh
 
 abbrev second_lane : LaneState
-second_lane = passed second_packet 4 (told 2 first_lane)
+second_lane = passed second_packet 4 Stream (told 2 first_lane)
 
 -- it knew 0 at the first, and 2 at the second, and knows 4 then
-entries_are : second_lane.taken ≡ (record { packet = first_packet; known = 0 }) ∷ (record { packet = second_packet; known = 2 }) ∷ []
+entries_are : second_lane.taken ≡ (record { packet = first_packet; known = 0; way = Datagram }) ∷ (record { packet = second_packet; known = 2; way = Stream }) ∷ []
 entries_are = refl
 
 seen_is : second_lane.seen ≡ 4
@@ -52,21 +53,21 @@ seen_is = refl
 
 -- that is minded
 second_minded : IsMinded 3 lane_events fresh second_lane
-second_minded = minded_more 3 (take 3 first_packet 0) (tell 3 2 ∷ tell 1 9 ∷ take 3 second_packet 4 ∷ []) fresh first_lane second_lane (inl (refl, omega arith, refl, refl))
-    (minded_more 3 (tell 3 2) (tell 1 9 ∷ take 3 second_packet 4 ∷ []) first_lane (told 2 first_lane) second_lane (inl (refl, refl))
-    (minded_more 3 (tell 1 9) (take 3 second_packet 4 ∷ []) (told 2 first_lane) (told 2 first_lane) second_lane (inr (λ is. absurd (omega (arith, is)), refl))
-    (minded_more 3 (take 3 second_packet 4) [] (told 2 first_lane) second_lane second_lane (inl (refl, omega arith, refl, refl)) (minded_none 3 second_lane))))
+second_minded = minded_more 3 (take 3 first_packet 0 Datagram) (tell 3 2 ∷ tell 1 9 ∷ take 3 second_packet 4 Stream ∷ []) fresh first_lane second_lane (inl (refl, omega arith, refl, refl))
+    (minded_more 3 (tell 3 2) (tell 1 9 ∷ take 3 second_packet 4 Stream ∷ []) first_lane (told 2 first_lane) second_lane (inl (refl, refl))
+    (minded_more 3 (tell 1 9) (take 3 second_packet 4 Stream ∷ []) (told 2 first_lane) (told 2 first_lane) second_lane (inr (λ is. absurd (omega (arith, is)), refl))
+    (minded_more 3 (take 3 second_packet 4 Stream) [] (told 2 first_lane) second_lane second_lane (inl (refl, omega arith, refl, refl)) (minded_none 3 second_lane))))
 
 -- had it known 1 at the second, that would not be minded
 abbrev low_entries : List Entry
-low_entries = (record { packet = first_packet; known = 0 }) ∷ (record { packet = second_packet; known = 1 }) ∷ []
+low_entries = (record { packet = first_packet; known = 0; way = Datagram }) ∷ (record { packet = second_packet; known = 1; way = Stream }) ∷ []
 
 low_known : (new : List Entry) (e : Entry) → low_entries ≡ new → slice_get new 1 ≡ Some e → e.known ≡ 1
-low_known new e is at = let here : Some (record { packet = second_packet; known = 1 }) ≡ Some e = ap (λ (xs : List Entry). slice_get xs 1) is ∙ at in cc here
+low_known new e is at = let here : Some (record { packet = second_packet; known = 1; way = Stream }) ≡ Some e = ap (λ (xs : List Entry). slice_get xs 1) is ∙ at in cc here
 
 low_unminded : IsMinded 3 lane_events fresh (record second_lane { taken = low_entries }) → ⊥
 low_unminded minded =
-    let one = minded.entries (take 3 first_packet 0 ∷ tell 3 2 ∷ tell 1 9 ∷ []) [] second_packet 4 refl in
-    let told_of = one.2.told 2 (1, omega arith, refl) in
+    let one = minded.entries (take 3 first_packet 0 Datagram ∷ tell 3 2 ∷ tell 1 9 ∷ []) [] second_packet 4 Stream refl in
+    let told_of = one.3.told 2 (1, omega arith, refl) in
     let known_is = low_known minded.new one.0 minded.taken one.1 in
     omega (arith, told_of, known_is)

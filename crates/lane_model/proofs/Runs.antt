@@ -3,6 +3,7 @@ use Rattle.std.proofs.Common.{◌≡◌, ℕ, ◌+◌, ◌<◌, ◌≤◌, Bool,
 use mathlib.Core.List.{IsPrefix}
 use Rattle.outside.specs.Faults.{BothTell}
 use Rattle.outside.specs.Port.{Try}
+use Rattle.answer_core.specs.declared.way.Way.{Way}
 use Rattle.lane_model.specs.Lanes.{Answers, Entry, IsLaneRun, IsTryOf, following}
 use Rattle.lane_model.specs.Turns.{Turn, Came, AreGiven, IsCame, IsGiven, IsTold, count_after, entries_of, entries_of_came, floor_after, gate_turn, is_refused, port_turn, tries_of, tries_of_came, idle, oversize, ended, failed, took, silent, refused, tried}
 use Rattle.lane_model.specs.Sessions.{IsRise, IsSession, Moment}
@@ -10,9 +11,9 @@ use Rattle.lane_model.proofs.Prefixes.{prefix_get}
 use Rattle.lane_model.proofs.Going.{rise_none, rise_trans}
 
 -- what is seen and known only grows
-pub session_rises : {V T : Type 0} (a : Answers V) (number : T → ℕ) (w : ℕ) (log : List Turn) (m m' : Moment V T) → IsSession a number w log m m' → IsRise m.eyes m'.eyes
-session_rises a number w [] m m' s = subst (λ k. IsRise m.eyes k.eyes) (sym s) (rise_none m.eyes)
-session_rises a number w (t ∷ log) m m' s = rise_trans m.eyes s.0.eyes m'.eyes s.1.eyes (session_rises a number w log s.0 m' s.2)
+pub session_rises : {V : Type 0} (a : Answers V) (w : ℕ) (log : List Turn) (m m' : Moment V) → IsSession a w log m m' → IsRise m.eyes m'.eyes
+session_rises a w [] m m' s = subst (λ k. IsRise m.eyes k.eyes) (sym s) (rise_none m.eyes)
+session_rises a w (t ∷ log) m m' s = rise_trans m.eyes s.0.eyes m'.eyes s.1.eyes (session_rises a w log s.0 m' s.2)
 
 -- what a datagram came to is so over a longer history
 came_longer : {V : Type 0} (a : Answers V) (h h' : List V) (w n known : ℕ) (came : Came) → IsPrefix h h' → IsCame a h w n known came → IsCame a h' w n known came
@@ -58,18 +59,18 @@ run_silent a h w n floor e taken (s ∷ tries) le is r = (
 -- what came in one turn stands before a run
 run_with : {V : Type 0} (a : Answers V) (h : List V) (w n floor known : ℕ) (came : Came) (taken : List Entry) (tries : List Try) → floor ≤ known → known ≤ floor_after known came → IsCame a h w n known came
     → (is_refused came ≡ true → (taken ≡ []) × (tries ≡ [])) → IsLaneRun a h w (count_after n came) (floor_after known came) taken tries
-    → IsLaneRun a h w n floor (entries_of_came known came ++ taken) (tries_of_came came ++ tries)
+    → IsLaneRun a h w n floor (entries_of_came a.way known came ++ taken) (tries_of_came came ++ tries)
 run_with a h w n floor known idle taken tries le up c last r = run_lower a h w n known floor taken tries le r
 run_with a h w n floor known oversize taken tries le up c last r = run_lower a h w n known floor taken tries le r
 run_with a h w n floor known ended taken tries le up c last r = run_lower a h w n known floor taken tries le r
 run_with a h w n floor known failed taken tries le up c last r = run_lower a h w n known floor taken tries le r
-run_with a h w n floor known (took d silent) taken tries le up c last r = run_silent a h w n floor (record { packet = d; known = known }) taken tries le c r
+run_with a h w n floor known (took d silent) taken tries le up c last r = run_silent a h w n floor (record { packet = d; known = known; way = a.way }) taken tries le c r
 run_with a h w n floor known (took d refused) [] [] le up c last r = tt
 run_with a h w n floor known (took d refused) [] (s ∷ tries) le up c last r = absurd r
 run_with a h w n floor known (took d refused) (e ∷ taken) tries le up c last r = absurd (cc ((last refl).0))
 run_with a h w n floor known (took d (tried serial octets went)) taken tries le up c last r = (
   le,
-  subst (λ (b : Bool). MatchBool b (IsLaneRun a h w (following n) known taken (record { octets = octets; to = d.from; serial = serial; went = went } ∷ tries)) (IsTryOf a h w n (record { packet = d; known = known }) (record { octets = octets; to = d.from; serial = serial; went = went }) × IsLaneRun a h w (following n) serial taken tries)) (sym c.0) (record { to = refl; fresh = c.1; version = c.2 }, r),
+  subst (λ (b : Bool). MatchBool b (IsLaneRun a h w (following n) known taken (record { octets = octets; to = d.from; serial = serial; went = went } ∷ tries)) (IsTryOf a h w n (record { packet = d; known = known; way = a.way }) (record { octets = octets; to = d.from; serial = serial; went = went }) × IsLaneRun a h w (following n) serial taken tries)) (sym c.0) (record { to = refl; fresh = c.1; version = c.2 }, r),
 )
 
 -- a look is refused in the last turn alone
@@ -77,28 +78,28 @@ abbrev pub IsInOrder : List Turn → Type 0
 IsInOrder [] = Unit {0}
 IsInOrder (t ∷ log) = (is_refused t.came ≡ true → log ≡ []) × IsInOrder log
 
-emptied : (log : List Turn) → log ≡ [] → (entries_of log ≡ []) × (tries_of log ≡ [])
-emptied [] e = (refl, refl)
-emptied (t ∷ log) e = absurd (cc e)
+emptied : (way : Way) (log : List Turn) → log ≡ [] → (entries_of way log ≡ []) × (tries_of log ≡ [])
+emptied way [] e = (refl, refl)
+emptied way (t ∷ log) e = absurd (cc e)
 
 -- The datagrams and tries of a session are a lane run over what is seen at its end.
-pub session_run : {V T : Type 0} (a : Answers V) (number : T → ℕ) (w floor : ℕ) (log : List Turn) (m m' : Moment V T) → IsSession a number w log m m' → IsInOrder log → floor < length m.eyes.told
-    → IsLaneRun a m'.eyes.seen w m.count floor (entries_of log) (tries_of log)
-session_run a number w floor [] m m' s o lt = tt
-session_run a number w floor (t ∷ log) m m' s o lt =
+pub session_run : {V : Type 0} (a : Answers V) (w floor : ℕ) (log : List Turn) (m m' : Moment V) → IsSession a w log m m' → IsInOrder log → floor < length m.eyes.told
+    → IsLaneRun a m'.eyes.seen w m.count floor (entries_of a.way log) (tries_of log)
+session_run a w floor [] m m' s o lt = tt
+session_run a w floor (t ∷ log) m m' s o lt =
     let q = s.1 in
-    let rest = session_run a number w (floor_after t.known t.came) log s.0 m' s.2 o.1 q.knows in
-    run_with a m'.eyes.seen w m.count floor t.known t.came (entries_of log) (tries_of log) (omega (arith, lt, q.shown, q.known)) q.floor
-    (came_longer a s.0.eyes.seen m'.eyes.seen w m.count t.known t.came (session_rises a number w log s.0 m' s.2).seen q.came)
-    (λ (r : is_refused t.came ≡ true). emptied log (o.0 r))
-    (subst (λ (n : ℕ). IsLaneRun a m'.eyes.seen w n (floor_after t.known t.came) (entries_of log) (tries_of log)) q.count rest)
+    let rest = session_run a w (floor_after t.known t.came) log s.0 m' s.2 o.1 q.knows in
+    run_with a m'.eyes.seen w m.count floor t.known t.came (entries_of a.way log) (tries_of log) (omega (arith, lt, q.shown, q.known)) q.floor
+    (came_longer a s.0.eyes.seen m'.eyes.seen w m.count t.known t.came (session_rises a w log s.0 m' s.2).seen q.came)
+    (λ (r : is_refused t.came ≡ true). emptied a.way log (o.0 r))
+    (subst (λ (n : ℕ). IsLaneRun a m'.eyes.seen w n (floor_after t.known t.came) (entries_of a.way log) (tries_of log)) q.count rest)
 
 -- What was told is minded.
-pub session_told : {V T : Type 0} (a : Answers V) (number : T → ℕ) (w floor : ℕ) (log : List Turn) (m m' : Moment V T) → IsSession a number w log m m' → floor < length m.eyes.told → IsTold floor log
-session_told a number w floor [] m m' s lt = tt
-session_told a number w floor (t ∷ log) m m' s lt =
+pub session_told : {V : Type 0} (a : Answers V) (w floor : ℕ) (log : List Turn) (m m' : Moment V) → IsSession a w log m m' → floor < length m.eyes.told → IsTold floor log
+session_told a w floor [] m m' s lt = tt
+session_told a w floor (t ∷ log) m m' s lt =
     let q = s.1 in
-    (omega (arith, lt, q.shown), q.known, q.noted, session_told a number w (floor_after t.known t.came) log s.0 m' s.2 q.knows)
+    (omega (arith, lt, q.shown), q.known, q.noted, session_told a w (floor_after t.known t.came) log s.0 m' s.2 q.knows)
 
 -- one after the other, where both tell
 pub tells_on : {A : Type 0} (x y z : Option A) (R S Q : A → A → Type 0) → ((b c d : A) → R b c → S c d → Q b d) → BothTell x y R → BothTell y z S → BothTell x z Q
@@ -114,17 +115,17 @@ tells_same None = tt
 tells_same (Some b) = refl
 
 -- What a port tells is what it told before, after each turn in order.
-pub session_port : {V T : Type 0} (a : Answers V) (number : T → ℕ) (w : ℕ) (log : List Turn) (m m' : Moment V T) → IsSession a number w log m m' → BothTell m.port m'.port (λ b c. c ≡ fold port_turn b log)
-session_port a number w [] m m' s = subst (λ k. BothTell m.port k.port (λ b c. c ≡ b)) (sym s) (tells_same m.port)
-session_port a number w (t ∷ log) m m' s =
-    tells_on m.port s.0.port m'.port (λ b c. c ≡ port_turn b t) (λ b c. c ≡ fold port_turn b log) (λ b c. c ≡ fold port_turn b (t ∷ log)) (λ b c d r q. q ∙ ap (λ k. fold port_turn k log) r) s.1.port (session_port a number w log s.0 m' s.2)
+pub session_port : {V : Type 0} (a : Answers V) (w : ℕ) (log : List Turn) (m m' : Moment V) → IsSession a w log m m' → BothTell m.port m'.port (λ b c. c ≡ fold port_turn b log)
+session_port a w [] m m' s = subst (λ k. BothTell m.port k.port (λ b c. c ≡ b)) (sym s) (tells_same m.port)
+session_port a w (t ∷ log) m m' s =
+    tells_on m.port s.0.port m'.port (λ b c. c ≡ port_turn b t) (λ b c. c ≡ fold port_turn b log) (λ b c. c ≡ fold port_turn b (t ∷ log)) (λ b c d r q. q ∙ ap (λ k. fold port_turn k log) r) s.1.port (session_port a w log s.0 m' s.2)
 
-pub session_gate : {V T : Type 0} (a : Answers V) (number : T → ℕ) (w : ℕ) (log : List Turn) (m m' : Moment V T) → IsSession a number w log m m' → BothTell m.gate m'.gate (λ b c. c ≡ fold gate_turn b log)
-session_gate a number w [] m m' s = subst (λ k. BothTell m.gate k.gate (λ b c. c ≡ b)) (sym s) (tells_same m.gate)
-session_gate a number w (t ∷ log) m m' s =
-    tells_on m.gate s.0.gate m'.gate (λ b c. c ≡ gate_turn b t) (λ b c. c ≡ fold gate_turn b log) (λ b c. c ≡ fold gate_turn b (t ∷ log)) (λ b c d r q. q ∙ ap (λ k. fold gate_turn k log) r) s.1.gate (session_gate a number w log s.0 m' s.2)
+pub session_gate : {V : Type 0} (a : Answers V) (w : ℕ) (log : List Turn) (m m' : Moment V) → IsSession a w log m m' → BothTell m.gate m'.gate (λ b c. c ≡ fold gate_turn b log)
+session_gate a w [] m m' s = subst (λ k. BothTell m.gate k.gate (λ b c. c ≡ b)) (sym s) (tells_same m.gate)
+session_gate a w (t ∷ log) m m' s =
+    tells_on m.gate s.0.gate m'.gate (λ b c. c ≡ gate_turn b t) (λ b c. c ≡ fold gate_turn b log) (λ b c. c ≡ fold gate_turn b (t ∷ log)) (λ b c d r q. q ∙ ap (λ k. fold gate_turn k log) r) s.1.gate (session_gate a w log s.0 m' s.2)
 
-pub session_notes : {V T : Type 0} (a : Answers V) (number : T → ℕ) (w : ℕ) (log : List Turn) (m m' : Moment V T) → IsSession a number w log m m' → BothTell m.notes m'.notes (AreGiven number log)
-session_notes a number w [] m m' s = subst (λ k. BothTell m.notes k.notes (λ b c. c ≡ b)) (sym s) (tells_same m.notes)
-session_notes a number w (t ∷ log) m m' s =
-    tells_on m.notes s.0.notes m'.notes (IsGiven number t.notes) (AreGiven number log) (AreGiven number (t ∷ log)) (λ b c d r q. (c, r, q)) s.1.notes (session_notes a number w log s.0 m' s.2)
+pub session_notes : {V : Type 0} (a : Answers V) (w : ℕ) (log : List Turn) (m m' : Moment V) → IsSession a w log m m' → BothTell m.notes m'.notes (AreGiven log)
+session_notes a w [] m m' s = subst (λ k. BothTell m.notes k.notes (λ b c. c ≡ b)) (sym s) (tells_same m.notes)
+session_notes a w (t ∷ log) m m' s =
+    tells_on m.notes s.0.notes m'.notes (IsGiven t.notes) (AreGiven log) (AreGiven (t ∷ log)) (λ b c d r q. (c, r, q)) s.1.notes (session_notes a w log s.0 m' s.2)

@@ -1,13 +1,14 @@
 -- The machine of commits, tells and takes.
 use Rattle.std.specs.Prelude.{◌≡◌, ◌⊎◌, ℕ, ◌+◌, ◌<◌, ◌≤◌, true, false, All, List, [], ◌∷◌, ◌++◌, length, max, if◌then◌else◌}
 use Rattle.outside.specs.Port.{Packet, Try}
+use Rattle.answer_core.specs.declared.way.Way.{Way}
 use Rattle.lane_model.specs.Lanes.{Answers, Entry, IsLaneRun, IsTryOf, following}
 
--- one atomic step of one actor: a version is published; a lane learns of a serial; a lane takes a datagram and answers it from one version
+-- one atomic step of one actor: a version is published; a lane learns of a serial; a lane takes a datagram and answers it from one version, by a way
 pub data Event (V : Type 0) : Type 0 where
   commit : V → Event V
   tell : ℕ → ℕ → Event V
-  take : ℕ → Packet → ℕ → Event V
+  take : ℕ → Packet → ℕ → Way → Event V
 
 -- a lane: the greatest serial that it used or was told of, the number of its next datagram, what it took and tried
 pub record LaneState : Type 0 where
@@ -38,23 +39,23 @@ abbrev pub told : ℕ → LaneState → LaneState
 told n l = record l { seen = max l.seen n }
 
 -- a lane took a datagram that has no reply
-abbrev pub passed : Packet → ℕ → LaneState → LaneState
-passed d s l = record { seen = s; count = following l.count; taken = l.taken ++ (record { packet = d; known = l.seen }) ∷ []; tries = l.tries }
+abbrev pub passed : Packet → ℕ → Way → LaneState → LaneState
+passed d s way l = record { seen = s; count = following l.count; taken = l.taken ++ (record { packet = d; known = l.seen; way = way }) ∷ []; tries = l.tries }
 
 -- a lane took a datagram, and tried a reply
-abbrev pub replied : Packet → Try → LaneState → LaneState
-replied d t l = record { seen = t.serial; count = following l.count; taken = l.taken ++ (record { packet = d; known = l.seen }) ∷ []; tries = l.tries ++ t ∷ [] }
+abbrev pub replied : Packet → Try → Way → LaneState → LaneState
+replied d t way l = record { seen = t.serial; count = following l.count; taken = l.taken ++ (record { packet = d; known = l.seen; way = way }) ∷ []; tries = l.tries ++ t ∷ [] }
 
 -- A lane takes a datagram from the version of that serial, which is no older than what it knows: the try, where the datagram has a reply, is that version's.
-abbrev pub Takes : {V : Type 0} → Answers V → List V → ℕ → Packet → ℕ → LaneState → LaneState → Type 0
-Takes a h w d s l l' = (l.seen ≤ s) × (s < length h)
-    × (((a.silent d.octets ≡ true) × (l' ≡ passed d s l)) ⊎ ((a.silent d.octets ≡ false) × ((t : Try) × (t.serial ≡ s) × IsTryOf a h w l.count (record { packet = d; known = l.seen }) t × (l' ≡ replied d t l))))
+abbrev pub Takes : {V : Type 0} → Answers V → List V → ℕ → Packet → ℕ → Way → LaneState → LaneState → Type 0
+Takes a h w d s way l l' = (l.seen ≤ s) × (s < length h)
+    × (((a.silent d.octets ≡ true) × (l' ≡ passed d s way l)) ⊎ ((a.silent d.octets ≡ false) × ((t : Try) × (t.serial ≡ s) × IsTryOf a h w l.count (record { packet = d; known = l.seen; way = way }) t × (l' ≡ replied d t way l))))
 
 -- One step of the machine. `Follows` says which versions may come next.
 abbrev pub IsStep : {V : Type 0} → Answers V → (List V → V → Type 0) → Event V → Machine V → Machine V → Type 0
 IsStep a Follows (commit v) m m' = Follows m.history v × (m' ≡ record m { history = m.history ++ v ∷ [] })
 IsStep a Follows (tell lane n) m m' = (n < length m.history) × (m'.history ≡ m.history) × ((l : LaneState) × IsMoved lane l (told n l) m.lanes m'.lanes)
-IsStep a Follows (take lane d s) m m' = (m'.history ≡ m.history) × ((l : LaneState) × (l' : LaneState) × Takes a m.history lane d s l l' × IsMoved lane l l' m.lanes m'.lanes)
+IsStep a Follows (take lane d s way) m m' = (m'.history ≡ m.history) × ((l : LaneState) × (l' : LaneState) × Takes a m.history lane d s way l l' × IsMoved lane l l' m.lanes m'.lanes)
 
 -- some steps
 abbrev pub IsTaken : {V : Type 0} → Answers V → (List V → V → Type 0) → List (Event V) → Machine V → Machine V → Type 0
@@ -83,7 +84,7 @@ tries_behind a e (s ∷ tries) = if a.silent e.packet.octets then s ∷ tries el
 -- each take of a lane in order, with a tell of its known before it
 abbrev pub events_of_lane : {V : Type 0} → Answers V → ℕ → List Entry → List Try → List (Event V)
 events_of_lane a lane [] tries = []
-events_of_lane a lane (e ∷ taken) tries = tell lane e.known ∷ take lane e.packet (serial_of a e tries) ∷ events_of_lane a lane taken (tries_behind a e tries)
+events_of_lane a lane (e ∷ taken) tries = tell lane e.known ∷ take lane e.packet (serial_of a e tries) e.way ∷ events_of_lane a lane taken (tries_behind a e tries)
 
 -- what a lane took and tried
 pub record LaneLog : Type 0 where

@@ -20,10 +20,10 @@ pub record Eyes (V : Type 0) : Type 0 where
   pub faults : ℕ
 
 -- a lane at one moment: what its port, gate and notes tell; its viewer and door; the number of the next datagram; and the counts of faults
-pub record Moment (V T : Type 0) : Type 0 where
+pub record Moment (V : Type 0) : Type 0 where
   pub port : Option PortTold
   pub gate : Option GateTold
-  pub notes : Option (NotesTold T)
+  pub notes : Option NotesTold
   pub eyes : Eyes V
   pub count : ℕ
   pub port_faults : ℕ
@@ -39,9 +39,9 @@ pub record IsRise {V : Type 0} (e f : Eyes V) : Type 0 where
   pub faults : e.faults ≤ f.faults
 
 -- one turn
-pub record IsTurn {V T : Type 0} (a : Answers V) (number : T → ℕ) (w : ℕ) (t : Turn) (m m' : Moment V T) : Type 0 where
+pub record IsTurn {V : Type 0} (a : Answers V) (w : ℕ) (t : Turn) (m m' : Moment V) : Type 0 where
   pub gate : BothTell m.gate m'.gate (λ b c. c ≡ going t.shown b)
-  pub notes : BothTell m.notes m'.notes (IsGiven number t.notes)
+  pub notes : BothTell m.notes m'.notes (IsGiven t.notes)
   pub port : BothTell m.port m'.port (λ b c. c ≡ port_after t.known t.came b)
   pub shown : t.shown + 1 ≡ length m.eyes.told
   pub known : t.shown ≤ t.known
@@ -59,12 +59,12 @@ pub record IsTurn {V T : Type 0} (a : Answers V) (number : T → ℕ) (w : ℕ) 
   pub stays : is_refused t.came ≡ false → m'.eyes.faults ≡ m.eyes.faults
 
 -- some turns, one after the other
-abbrev pub IsSession : {V T : Type 0} → Answers V → (T → ℕ) → ℕ → List Turn → Moment V T → Moment V T → Type 0
-IsSession a number w [] m m' = m' ≡ m
-IsSession {V = V} {T = T} a number w (t ∷ log) m m' = (mid : Moment V T) × IsTurn a number w t m mid × IsSession a number w log mid m'
+abbrev pub IsSession : {V : Type 0} → Answers V → ℕ → List Turn → Moment V → Moment V → Type 0
+IsSession a w [] m m' = m' ≡ m
+IsSession {V = V} a w (t ∷ log) m m' = (mid : Moment V) × IsTurn a w t m mid × IsSession a w log mid m'
 
 -- the gate answered Stop, and nothing else was asked
-pub record IsStop {V T : Type 0} (m m' : Moment V T) : Type 0 where
+pub record IsStop {V : Type 0} (m m' : Moment V) : Type 0 where
   pub shown : ℕ
   pub is_known : shown + 1 ≡ length m.eyes.told
   pub gate : BothTell m.gate m'.gate (IsTurning shown Stop)
@@ -81,7 +81,7 @@ IsEnd turns log (end.Above known newest) = ⊥
 IsEnd turns log end.Spent = AreCalm log × (failures log < 8) × (length log ≡ turns)
 
 -- after the last turn a Stop, or nothing
-abbrev pub IsLast : {V T : Type 0} → Ended → Moment V T → Moment V T → Type 0
+abbrev pub IsLast : {V : Type 0} → Ended → Moment V → Moment V → Type 0
 IsLast end.Stopped m m' = IsStop m m'
 IsLast end.PortEnd m m' = m' ≡ m
 IsLast end.PortFault m m' = m' ≡ m
@@ -95,11 +95,11 @@ IsGateRun shown log end.Stopped before after = IsTurning shown Stop (fold gate_t
 IsGateRun shown log _ before after = after ≡ fold gate_turn before log
 
 -- What a call of a lane promises, over the turns that it made: a lane run over what its viewer has seen by then; that what was told is minded; what port and notes tell by then; one look for each datagram that isn't silent; that nothing that was handed out is past what is known by then; that the port's count rose by at least as many as its calls failed, and stands where none did; that the door's count rose where a look was refused, and stands where none was; that a datagram whose look was refused has a reply, which it missed; and that datagrams are counted on.
-pub record IsLaneLog {V T : Type 0} (a : Answers V) (number : T → ℕ) (w : ℕ) (log : List Turn) (m m' : Moment V T) : Type 0 where
-  pub run : (floor : ℕ) → floor < length m.eyes.told → IsLaneRun a m'.eyes.seen w m.count floor (entries_of log) (tries_of log)
+pub record IsLaneLog {V : Type 0} (a : Answers V) (w : ℕ) (log : List Turn) (m m' : Moment V) : Type 0 where
+  pub run : (floor : ℕ) → floor < length m.eyes.told → IsLaneRun a m'.eyes.seen w m.count floor (entries_of a.way log) (tries_of log)
   pub told : (floor : ℕ) → floor < length m.eyes.told → IsTold floor log
   pub port : BothTell m.port m'.port (λ b c. c ≡ fold port_turn b log)
-  pub notes : BothTell m.notes m'.notes (AreGiven number log)
+  pub notes : BothTell m.notes m'.notes (AreGiven log)
   pub rise : IsRise m.eyes m'.eyes
   pub known : All (λ t. t.known < length m'.eyes.told) log
   pub within : All (λ t. floor_after t.known t.came < length m'.eyes.told) log
@@ -112,10 +112,10 @@ pub record IsLaneLog {V T : Type 0} (a : Answers V) (number : T → ℕ) (w : �
   pub count : m'.count ≡ fold (λ n t. count_after n t.came) m.count log
 
 -- what a call of a lane promises
-pub record IsLaneCall {V T : Type 0} (a : Answers V) (number : T → ℕ) (w turns : ℕ) (m m' : Moment V T) (result : Ended) : Type 0 where
+pub record IsLaneCall {V : Type 0} (a : Answers V) (w turns : ℕ) (m m' : Moment V) (result : Ended) : Type 0 where
   pub log : List Turn
   pub shown : ℕ
   pub shown_is : shown + 1 ≡ length m'.eyes.told
-  pub all : IsLaneLog a number w log m m'
+  pub all : IsLaneLog a w log m m'
   pub gate : BothTell m.gate m'.gate (IsGateRun shown log result)
   pub ending : IsEnd turns log result

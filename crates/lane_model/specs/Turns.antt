@@ -1,10 +1,11 @@
 -- The turns of a lane.
-use Rattle.std.specs.Prelude.{◌≡◌, ℕ, ◌+◌, ◌≤◌, Bool, true, false, List, [], ◌∷◌, ◌++◌, All, length, drop, map, replicate, sum_by, Some, if◌then◌else◌, slice_get}
+use Rattle.std.specs.Prelude.{◌≡◌, ℕ, ◌+◌, ◌≤◌, Bool, true, false, List, [], ◌∷◌, ◌++◌, All, length, drop, sum_by, Some, option_map, if◌then◌else◌, slice_get}
 use Rattle.std.specs.List.{flat_map}
 use Rattle.outside.specs.Faults.{raised}
 use Rattle.outside.specs.Port.{Packet, Try, PortTold, answered, taking, trying}
 use Rattle.outside.specs.Gate.{GateTold, going}
 use Rattle.outside.specs.Notes.{NotesTold}
+use Rattle.answer_core.specs.declared.way.Way.{Way}
 use Rattle.lane_model.specs.Lanes.{Answers, Entry, draw, following}
 
 -- what became of a datagram: it had no reply; the look for it was refused; or the reply of a version was tried, and went or not
@@ -45,21 +46,21 @@ tries_of_came (took d fate) = try_of d fate
 abbrev pub tries_of : List Turn → List Try
 tries_of log = flat_map (λ t. tries_of_came t.came) log
 
--- the datagrams that count: but for one whose look was refused
-abbrev pub entry_of : Packet → ℕ → Fate → List Entry
-entry_of d known silent = (record { packet = d; known = known }) ∷ []
-entry_of d known refused = []
-entry_of d known (tried serial octets went) = (record { packet = d; known = known }) ∷ []
+-- the datagrams that count, of a lane of that way: but for one whose look was refused
+abbrev pub entry_of : Way → Packet → ℕ → Fate → List Entry
+entry_of way d known silent = (record { packet = d; known = known; way = way }) ∷ []
+entry_of way d known refused = []
+entry_of way d known (tried serial octets went) = (record { packet = d; known = known; way = way }) ∷ []
 
-abbrev pub entries_of_came : ℕ → Came → List Entry
-entries_of_came known idle = []
-entries_of_came known oversize = []
-entries_of_came known ended = []
-entries_of_came known failed = []
-entries_of_came known (took d fate) = entry_of d known fate
+abbrev pub entries_of_came : Way → ℕ → Came → List Entry
+entries_of_came way known idle = []
+entries_of_came way known oversize = []
+entries_of_came way known ended = []
+entries_of_came way known failed = []
+entries_of_came way known (took d fate) = entry_of way d known fate
 
-abbrev pub entries_of : List Turn → List Entry
-entries_of log = flat_map (λ t. entries_of_came t.known t.came) log
+abbrev pub entries_of : Way → List Turn → List Entry
+entries_of way log = flat_map (λ t. entries_of_came way t.known t.came) log
 
 -- Told: what a worker knows never falls below what it knew before, what its gate was shown, a note that it was given, or a serial that it used.
 abbrev pub floor_after : ℕ → Came → ℕ
@@ -78,7 +79,7 @@ IsTold floor (t ∷ log) = (floor ≤ t.shown) × (t.shown ≤ t.known) × All (
 -- a port after what came
 abbrev pub port_after : ℕ → Came → PortTold → PortTold
 port_after known idle p = answered known p
-port_after known oversize p = record (answered known p) { waiting = drop 1 p.waiting }
+port_after known oversize p = record (answered known p) { waiting = option_map (drop 1) p.waiting }
 port_after known ended p = record (answered known p) { is_ended = true }
 port_after known failed p = record (answered known p) { failed = raised p.failed 1 }
 port_after known (took d silent) p = taking d known p
@@ -86,9 +87,8 @@ port_after known (took d refused) p = taking d known p
 port_after known (took d (tried serial octets went)) p = trying (record { octets = octets; to = d.from; serial = serial; went = went }) (taking d known p)
 
 -- notes after those with these serials were given, and then a None
-pub record IsGiven {T : Type 0} (number : T → ℕ) (serials : List ℕ) (before after : NotesTold T) : Type 0 where
-  pub coming : map number before.coming ≡ serials ++ map number after.coming
-  pub places : after.places ≡ before.places ++ replicate (length serials) before.nones
+pub record IsGiven (serials : List ℕ) (before after : NotesTold) : Type 0 where
+  pub coming : before.coming ≡ serials ++ after.coming
   pub nones : after.nones ≡ raised before.nones 1
 
 -- a port after a turn
@@ -100,15 +100,15 @@ abbrev pub gate_turn : GateTold → Turn → GateTold
 gate_turn g t = going t.shown g
 
 -- notes after some turns
-abbrev pub AreGiven : {T : Type 0} → (T → ℕ) → List Turn → NotesTold T → NotesTold T → Type 0
-AreGiven number [] before after = after ≡ before
-AreGiven {T = T} number (t ∷ log) before after = (mid : NotesTold T) × IsGiven number t.notes before mid × AreGiven number log mid after
+abbrev pub AreGiven : List Turn → NotesTold → NotesTold → Type 0
+AreGiven [] before after = after ≡ before
+AreGiven (t ∷ log) before after = (mid : NotesTold) × IsGiven t.notes before mid × AreGiven log mid after
 
 -- what became of a datagram, by the history that its worker has seen
 abbrev pub IsFate : {V : Type 0} → Answers V → List V → ℕ → ℕ → ℕ → Packet → Fate → Type 0
 IsFate a h w n known d silent = a.silent d.octets ≡ true
 IsFate a h w n known d refused = a.silent d.octets ≡ false
-IsFate {V = V} a h w n known d (tried serial octets went) = (a.silent d.octets ≡ false) × (known ≤ serial) × ((v : V) × (slice_get h serial ≡ Some v) × (a.reply v d.from.addr d.octets (draw w n) ≡ Some octets))
+IsFate {V = V} a h w n known d (tried serial octets went) = (a.silent d.octets ≡ false) × (known ≤ serial) × ((v : V) × (slice_get h serial ≡ Some v) × (a.reply v d.from.addr d.octets (draw w n) a.way ≡ Some octets))
 
 abbrev pub IsCame : {V : Type 0} → Answers V → List V → ℕ → ℕ → ℕ → Came → Type 0
 IsCame a h w n known idle = Unit {0}
