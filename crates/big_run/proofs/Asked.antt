@@ -14,7 +14,7 @@ use Rattle.dns_wire.specs.Message.{query_in, reading}
 use Rattle.dns_wire.specs.Wire.{name_len, records_in}
 use Rattle.answer_core.specs.Columns.{rcode}
 use Rattle.answer_core.specs.Grammar.{Query, Request, datagram_of}
-use Rattle.answer_core.specs.Outcome.{Outcome, by_name, is_service, of_addresses, of_pool, pool_for}
+use Rattle.answer_core.specs.Outcome.{Outcome, by_name, of_addresses, of_pool, pool_for, service_of}
 use Rattle.answer_core.specs.Reply.{full, reply_to}
 use Rattle.mapper.specs.Words.{reply_by}
 use Rattle.big_run.specs.Replies.{client_of, count_of, has_code, is_code_of, is_reply_of, question}
@@ -47,14 +47,14 @@ apart : is_same name (zone_of (Some zone_data)).apex ≡ false
 unfolding name_of
 apart = refl
 
-served : is_service (zone_of (Some zone_data)) name ≡ true
+served : service_of (zone_of (Some zone_data)) name ≡ Some 0
 unfolding name_of label_name_of
 served = refl
 
 -- so the group's pool decides
-at_name : (v : Version) (from : Addr) → v.plan.zone ≡ zone_of (Some zone_data) → by_name v request from 0 ≡ of_pool v 1 0 (pool_for v from 0)
+at_name : (v : Version) (from : Addr) → v.plan.zone ≡ zone_of (Some zone_data) → by_name v request from 0 ≡ of_pool v 1 0 (pool_for v from 0 0)
 at_name v from zone =
-    rw (ap (λ (z : Zone). is_under name z.apex) zone ∙ under, ap (λ (z : Zone). is_same name z.apex) zone ∙ apart, ap (λ (z : Zone). is_service z name) zone ∙ served) refl
+    rw (ap (λ (z : Zone). is_under name z.apex) zone ∙ under, ap (λ (z : Zone). is_same name z.apex) zone ∙ apart, ap (λ (z : Zone). service_of z name) zone ∙ served) refl
 
 -- its addresses, or none, have the code 0, and a group without a pool has 2
 code_at : (v : Version) (kind scope : ℕ) (pool : Option ℕ) → (rcode (of_pool v kind scope pool) ≡ 0) ⊎ (rcode (of_pool v kind scope pool) ≡ 2)
@@ -69,17 +69,17 @@ code_at v kind scope (Some pool) = go (addresses_of v.plan pool kind)
 code_told : (z : Zone) (outcome : Outcome) (code : ℕ) → is_code_of code (full z request outcome) ≡ (rcode outcome % 16 % 16 == code)
 code_told z outcome code = refl
 
-reply_is : (v : Version) (g code : ℕ) → v.plan.zone ≡ zone_of (Some zone_data) → has_code v code g ≡ (rcode (of_pool v 1 0 (pool_for v (client_of g) 0)) % 16 % 16 == code)
+reply_is : (v : Version) (g code : ℕ) → v.plan.zone ≡ zone_of (Some zone_data) → has_code v code g ≡ (rcode (of_pool v 1 0 (pool_for v (client_of g) 0 0)) % 16 % 16 == code)
 unfolding has_code reply_by
 reply_is v g code zone =
     ap (λ d. is_reply_of code (reply_to v (client_of g) d 0)) asked_is
     ∙ ap (λ o. is_code_of code (full v.plan.zone request o)) (at_name v (client_of g) zone)
-    ∙ code_told v.plan.zone (of_pool v 1 0 (pool_for v (client_of g) 0)) code
+    ∙ code_told v.plan.zone (of_pool v 1 0 (pool_for v (client_of g) 0 0)) code
 
 -- each group's reply has one of the two codes, and not both
 pub one_of_two : (v : Version) (g : ℕ) → v.plan.zone ≡ zone_of (Some zone_data) → ((has_code v 0 g ≡ true) × (has_code v 2 g ≡ false)) ⊎ ((has_code v 0 g ≡ false) × (has_code v 2 g ≡ true))
 one_of_two v g zone =
-    elim (code_at v 1 0 (pool_for v (client_of g) 0)) [
+    elim (code_at v 1 0 (pool_for v (client_of g) 0 0)) [
       | inl answered ↦ inl (reply_is v g 0 zone ∙ ap (λ c. c % 16 % 16 == 0) answered, reply_is v g 2 zone ∙ ap (λ c. c % 16 % 16 == 2) answered)
       | inr failed ↦ inr (reply_is v g 0 zone ∙ ap (λ c. c % 16 % 16 == 0) failed, reply_is v g 2 zone ∙ ap (λ c. c % 16 % 16 == 2) failed)
     ]

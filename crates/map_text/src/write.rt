@@ -120,7 +120,7 @@ fn push_names(text: &mut Vec<u8>, topology: &Topology, names: &[NameLine]) -> Re
     Ok(())
 }
 
-/// The text of a map over a topology. There is one text for each map, and reading it gives the map back.
+/// The text of a map over a topology, in the second version. There is one such text for each map, and reading it gives the map back.
 ///
 /// # Errors
 ///

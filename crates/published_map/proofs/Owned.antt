@@ -11,4 +11,6 @@ use Rattle.published_map.specs.Rows.{with_demands}
 use Rattle.published_map.proofs.Rows.{length-demands}
 
 pub owned : (p : Plan) (rows : List GroupRow) (a : Addr) (g : GroupId) → IsPlan p → HasLongest p.prefixes a g → g.0 < length (with_demands p.market.groups rows)
-owned p rows a g plan has = omega (arith, length-demands p.market.groups rows, All-contains (λ (e : Prefix × GroupId). e.1.0 < length p.market.groups) p.prefixes (has.0, g) plan.prefixes.owned has.1.among)
+owned p rows a g plan has =
+    let own : g.0 < p.classes.groups = All-contains (λ (e : Prefix × GroupId). e.1.0 < p.classes.groups) p.prefixes (has.0, g) plan.prefixes.owned has.1.among in
+    omega (arith, own, plan.classes.whole, length-demands p.market.groups rows)

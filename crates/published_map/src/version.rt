@@ -4,7 +4,7 @@ ghost use Rattle.std.specs.List.{list_all};
 ghost use Rattle.std.specs.Arc.{arc_value};
 ghost use Rattle.map_model.specs.Market.{IsSameShape, capacity_of, choice_at, demand_of};
 ghost use Rattle.map_model.specs.Allocation.{IsGood, IsMapForm, IsOffer, placed};
-ghost use Rattle.topology_text.specs.Plan.{IsPlan, IsZone, addresses_of};
+ghost use Rattle.topology_text.specs.Plan.{IsPlan, IsZone, addresses_of, unit_of};
 ghost use Rattle.topology_text.specs.Hosts.{is_v4, is_v6};
 ghost use Rattle.prefix_lookup.specs.Longest.{HasLongest, group_of};
 ghost use Rattle.prefix_lookup.specs.Scope.{IsScope, scope_of};
@@ -160,7 +160,7 @@ impl MapVersion {
         self.serial
     }
 
-    /// How many groups there are.
+    /// How many groups there are, classes counted among them.
     pub fn groups(&self) -> usize
         ensures { result ≡ length self.now.market.groups }
     {
@@ -230,6 +230,17 @@ impl MapVersion {
         shared.lookup.find(addr)
     }
 
+    /// The unit of a group for the service of that number: the class of that group and service where there is one,
+    /// else the group itself, also for a number that no service has.
+    pub fn unit_of(&self, group: GroupId, service: u8) -> GroupId
+        requires group { group.0 < length self.now.market.groups }
+        ensures unit { result.0 ≡ unit_of self.now.plan group.0 service }
+        ensures there { result.0 < length self.now.market.groups }
+    {
+        let _ = &self.serial;
+        self.topology().unit_of(group, service)
+    }
+
     /// What the map places of a group at each place of its list, the first place first; 0 where it places nothing.
     pub fn amounts(&self, group: GroupId) -> ArrayVec<u32, PLACES>
         requires group { group.0 < length self.now.market.groups }
@@ -253,12 +264,12 @@ impl MapVersion {
     }
 
     /// The addresses of a pool for records of type A (`kind` is 1) or AAAA (28), in the topology's order: at most
-    /// six, all of the family of that type.
+    /// forty, all of the family of that type.
     pub fn addresses(&self, pool: NodeId, kind: u16) -> &[Addr]
         requires pool { pool.0 < length self.now.plan.market.nodes }
         requires kind { (kind ≡ 1) ⊎ (kind ≡ 28) }
         ensures addresses { result.now ≡ addresses_of self.now.plan pool.0 kind }
-        ensures few { length result.now ≤ 6 }
+        ensures few { length result.now ≤ 40 }
         ensures v4 { kind ≡ 1 → All (λ a. IsTrue (is_v4 a)) result.now }
         ensures v6 { kind ≡ 28 → All (λ a. IsTrue (is_v6 a)) result.now }
     {
