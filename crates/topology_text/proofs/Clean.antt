@@ -6,19 +6,20 @@ use Rattle.topology_text.specs.Hosts.{IsHosts}
 use Rattle.topology_text.specs.Texts.{is_name, zone_name}
 use Rattle.topology_text.specs.Walk.{items_at, items_of_value, places_of, table_in, value_at, walk}
 use Rattle.topology_text.specs.Values.{failing, is_bad_name, is_out_of_range, missing, too_many, wrong_in, wrong_kind}
-use Rattle.topology_text.specs.Names.{ascend, count_at, duplicate_name, entries_of, entry_at, flag_in, has_repeat, is_inside, is_pool, is_taken, names_in, repeats_in, zone_items, zone_text, is_unknown_name, list_shape, parent_of, parent_order, text_at, text_in, texts_of, too_deep}
+use Rattle.topology_text.specs.Names.{ascend, count_at, duplicate_name, entries_of, entry_at, flag_in, has_repeat, is_inside, is_pool, is_taken, names_in, repeats_in, zone_items, zone_text, is_unknown_name, list_shape, parent_of, pair_of, parent_order, text_at, text_in, texts_of, too_deep, units_of}
 use Rattle.topology_text.specs.Faults.{failures, faults_of, name_faults, prefix_faults, shape_faults, value_faults}
 use Rattle.topology_text.specs.Prefixes.{all_prefixes, duplicate_prefixes, no_default, passing}
-use Rattle.topology_text.specs.Topology.{AreSoundNames, IsSound, IsSoundGroup, IsSoundZone, hosts_of, number_at, zone_name_at, zone_of}
+use Rattle.topology_text.specs.Topology.{AreSoundClasses, AreSoundNames, IsSound, IsSoundGroup, IsSoundZone, hosts_of, number_at, zone_name_at, zone_of}
 use Rattle.name_text.specs.Names.{is_under}
 use Rattle.topology_text.specs.Plan.{IsZone}
-use Rattle.topology_text.specs.declared.schema.Key.TheVariants.{Zone, Node, Group, Apex, Mname, Rname, Serial, Refresh, Retry, Expire, Minimum, Ttl, Ns, Services, Name, Pool, A, Aaaa, Capacity, Demand, Pools, Scores, Limits}
-use Rattle.topology_text.proofs.Quiet.{empty_first, empty_second, empty_map, not_whole, quiet_top, quiet_zone, quiet_node, quiet_group}
+use Rattle.topology_text.specs.declared.schema.Key.TheVariants.{Zone, Node, Group, Class, Owner, Service, Apex, Mname, Rname, Serial, Refresh, Retry, Expire, Minimum, Ttl, Ns, Services, Name, Pool, A, Aaaa, Capacity, Demand, Pools, Scores, Limits}
+use Rattle.topology_text.proofs.Quiet.{empty_first, empty_second, empty_map, not_whole, quiet_top, quiet_zone, quiet_node, quiet_group, quiet_class}
 use Rattle.topology_text.proofs.SoundHosts.{hosts_good, hosts_none, list_empty}
 use Rattle.topology_text.proofs.SoundNames.{name_good, names_sound}
 use Rattle.topology_text.proofs.ZoneNames.{all_outside, all_services, all_short, apex_of, few_names, names_apart, ns_named, ns_there, some_names, zone_name_short}
 use Rattle.topology_text.proofs.SoundZone.{zone_name_good}
 use Rattle.topology_text.proofs.Sound.{is_table, not_deep, not_over, number_fits, parent_before, parent_inner, table_there}
+use Rattle.topology_text.proofs.SoundClasses.{both_there, few_units, owner_there, service_there, unit_all}
 use Rattle.topology_text.proofs.SoundGroups.{array_passes, demand_low, is_there, kinds_pass, limit_fits, pool_there, score_fits, shape_pools, shape_scores}
 
 -- the rules find nothing on the walk
@@ -79,6 +80,9 @@ node_table top q i l = is_table _ (not-false _ (kinds_pass Node (value_at top No
 group_table : (top : Members) → IsQuiet top → (g : ℕ) → g < length (items_at top Group) → (ms : Members) × (entry_at (items_at top Group) g ≡ table ms)
 group_table top q g l = is_table _ (not-false _ (kinds_pass Group (value_at top Group) (quiet_top wrong_kind top 2 q.kinds (lit< tt)) g (boolean false) l))
 
+class_table : (top : Members) → IsQuiet top → (c : ℕ) → c < length (items_at top Class) → (ms : Members) × (entry_at (items_at top Class) c ≡ table ms)
+class_table top q c l = is_table _ (not-false _ (kinds_pass Class (value_at top Class) (quiet_top wrong_kind top 3 q.kinds (lit< tt)) c (boolean false) l))
+
 capacity_of : (top : Members) → IsQuiet top → (i : ℕ) → i < length (items_at top Node) → number_at (entry_at (items_at top Node) i) Capacity ≤ 2 ^ 48
 capacity_of top q i l =
     let (ms, is) = node_table top q i l in
@@ -121,31 +125,82 @@ table_group top q g l ms is =
       scores = λ j d h. score_fits (get_or (items_of_value (value_at ms Scores)) j d) (array_passes (is_out_of_range Scores) (value_at ms Scores) scores_range j d h);
     }
 
+-- a class that is a table
+table_class : (top : Members) → IsQuiet top → (g : ℕ) → g < length (items_at top Class) → (ms : Members) → get_or (items_at top Class) g (boolean false) ≡ table ms → IsSoundGroup (items_at top Node) (table ms)
+table_class top q g l ms is =
+    let pools_there : is_some (value_at ms Pools) ≡ true = is_there _ (quiet_class missing top g ms 4 q.missed l is (lit< tt)) in
+    let scores_there : is_some (value_at ms Scores) ≡ true = is_there _ (quiet_class missing top g ms 5 q.missed l is (lit< tt)) in
+    let demand_there : is_some (value_at ms Demand) ≡ true = is_there _ (quiet_class missing top g ms 3 q.missed l is (lit< tt)) in
+    let demand_range = quiet_class (λ v k. failing (is_out_of_range k) (value_at v.members k)) top g ms 3 q.ranges l is (lit< tt) in
+    let pools_kind = quiet_class wrong_kind top g ms 4 q.kinds l is (lit< tt) in
+    let pools_known = quiet_class (λ v k. failing (is_unknown_name (entries_of top) k) (value_at v.members k)) top g ms 4 q.named l is (lit< tt) in
+    let scores_range = quiet_class (λ v k. failing (is_out_of_range k) (value_at v.members k)) top g ms 5 q.ranges l is (lit< tt) in
+    let limits_kind = quiet_class wrong_kind top g ms 6 q.kinds l is (lit< tt) in
+    let limits_range = quiet_class (λ v k. failing (is_out_of_range k) (value_at v.members k)) top g ms 6 q.ranges l is (lit< tt) in
+    let pools_shape : (1 ≤ count_at ms Pools) × (count_at ms Pools ≤ 16) × (has_repeat (texts_of (items_at ms Pools)) ≡ false) =
+    shape_pools _ _ _ pools_there (not_whole _ (quiet_class list_shape top g ms 4 q.shapes l is (lit< tt))) in
+    let scores_shape : count_at ms Scores ≡ count_at ms Pools = shape_scores _ _ _ scores_there (not_whole _ (quiet_class list_shape top g ms 5 q.shapes l is (lit< tt))) in
+    record {
+      some = demand_low (value_at ms Demand) demand_there (quiet_class wrong_kind top g ms 3 q.kinds l is (lit< tt)) demand_range;
+      fits = number_fits Demand 1 (2 ^ 32) (lit< tt) (λ z. refl) (value_at ms Demand) demand_range;
+      asks = pools_shape.0;
+      few = pools_shape.1;
+      beside = scores_shape;
+      pools = λ j d h. pool_there (entries_of top) _ (kinds_pass Pools (value_at ms Pools) pools_kind j d h) (array_passes (is_unknown_name (entries_of top) Pools) (value_at ms Pools) pools_known j d h);
+      distinct = pools_shape.2;
+      limits = λ j d h. limit_fits (get_or (items_of_value (value_at ms Limits)) j d) (kinds_pass Limits (value_at ms Limits) limits_kind j d h) (array_passes (is_out_of_range Limits) (value_at ms Limits) limits_range j d h);
+      scores = λ j d h. score_fits (get_or (items_of_value (value_at ms Scores)) j d) (array_passes (is_out_of_range Scores) (value_at ms Scores) scores_range j d h);
+    }
+
 -- the name of an entry that is a table
-has_name : (entries : List Data) (i : ℕ) (ms : Members) → entry_at entries i ≡ table ms → is_some (value_at ms Name) ≡ true → wrong_in Name (value_at ms Name) ≡ [] → failing (is_bad_name Name) (value_at ms Name) ≡ []
-    → is_taken entries i (text_in (value_at ms Name)) ≡ false → (t : List ℕ) × (text_at (entry_at entries i) Name ≡ Some t) × (is_name t ≡ true) × (is_taken entries i (text_at (entry_at entries i) Name) ≡ false)
-has_name entries i ms is there kind good free =
+has_name : (entries : List Data) (i : ℕ) (e : Data) (ms : Members) → e ≡ table ms → is_some (value_at ms Name) ≡ true → wrong_in Name (value_at ms Name) ≡ [] → failing (is_bad_name Name) (value_at ms Name) ≡ []
+    → is_taken entries i (text_in (value_at ms Name)) ≡ false → (t : List ℕ) × (text_at e Name ≡ Some t) × (is_name t ≡ true) × (is_taken entries i (text_at e Name) ≡ false)
+has_name entries i e ms is there kind good free =
     let (t, named, well) = name_good (value_at ms Name) there kind good in
-    let same : text_at (entry_at entries i) Name ≡ text_in (value_at ms Name) = ap (λ (e : Data). text_at e Name) is in
+    let same : text_at e Name ≡ text_in (value_at ms Name) = ap (λ (x : Data). text_at x Name) is in
     (t, same ∙ named, well, ap (is_taken entries i) same ∙ free)
 
 node_names : (top : Members) → IsQuiet top → AreSoundNames (items_at top Node)
 node_names top q = names_sound (items_at top Node) (λ i l.
     let (ms, is) = node_table top q i l in
-    has_name (items_at top Node) i ms is (is_there _ (quiet_node missing top i ms 0 q.missed l is (lit< tt))) (quiet_node wrong_kind top i ms 0 q.kinds l is (lit< tt))
+    has_name (items_at top Node) i (entry_at (items_at top Node) i) ms is (is_there _ (quiet_node missing top i ms 0 q.missed l is (lit< tt))) (quiet_node wrong_kind top i ms 0 q.kinds l is (lit< tt))
     (quiet_node (λ v k. failing (is_bad_name k) (value_at v.members k)) top i ms 0 q.well_named l is (lit< tt)) (not_whole _ (quiet_node (duplicate_name (entries_of top)) top i ms 0 q.once l is (lit< tt))))
 
-group_names : (top : Members) → IsQuiet top → AreSoundNames (items_at top Group)
-group_names top q = names_sound (items_at top Group) (λ i l.
+unit_names : (top : Members) → IsQuiet top → AreSoundNames (units_of (entries_of top))
+unit_names top q =
+    let units = units_of (entries_of top) in
+    names_sound units (unit_all (λ i e. (t : List ℕ) × (text_at e Name ≡ Some t) × (is_name t ≡ true) × (is_taken units i (text_at e Name) ≡ false)) (items_at top Group) (items_at top Class)
+    (λ i l.
     let (ms, is) = group_table top q i l in
-    has_name (items_at top Group) i ms is (is_there _ (quiet_group missing top i ms 0 q.missed l is (lit< tt))) (quiet_group wrong_kind top i ms 0 q.kinds l is (lit< tt))
+    has_name units i (entry_at (items_at top Group) i) ms is (is_there _ (quiet_group missing top i ms 0 q.missed l is (lit< tt))) (quiet_group wrong_kind top i ms 0 q.kinds l is (lit< tt))
     (quiet_group (λ v k. failing (is_bad_name k) (value_at v.members k)) top i ms 0 q.well_named l is (lit< tt)) (not_whole _ (quiet_group (duplicate_name (entries_of top)) top i ms 0 q.once l is (lit< tt))))
+    (λ c l.
+    let (ms, is) = class_table top q c l in
+    has_name units (length (items_at top Group) + c) (entry_at (items_at top Class) c) ms is (is_there _ (quiet_class missing top c ms 0 q.missed l is (lit< tt))) (quiet_class wrong_kind top c ms 0 q.kinds l is (lit< tt))
+    (quiet_class (λ v k. failing (is_bad_name k) (value_at v.members k)) top c ms 0 q.well_named l is (lit< tt)) (not_whole _ (quiet_class (duplicate_name (entries_of top)) top c ms 0 q.once l is (lit< tt)))))
+
+-- each class names a group and a service
+named_class : (top : Members) → IsQuiet top → (c : ℕ) → c < length (items_at top Class) → is_some (pair_of (entries_of top) (entry_at (items_at top Class) c)) ≡ true
+named_class top q c l =
+    let d = entries_of top in
+    let (ms, is) = class_table top q c l in
+    let owner = owner_there d (value_at ms Owner) (is_there _ (quiet_class missing top c ms 1 q.missed l is (lit< tt))) (quiet_class wrong_kind top c ms 1 q.kinds l is (lit< tt))
+    (quiet_class (λ v k. failing (is_unknown_name d k) (value_at v.members k)) top c ms 1 q.named l is (lit< tt)) in
+    let service = service_there d (value_at ms Service) (is_there _ (quiet_class missing top c ms 2 q.missed l is (lit< tt))) (quiet_class wrong_kind top c ms 2 q.kinds l is (lit< tt))
+    (quiet_class (λ v k. failing (is_unknown_name d k) (value_at v.members k)) top c ms 2 q.named l is (lit< tt)) in
+    ap (λ (e : Data). is_some (pair_of d e)) is ∙ both_there _ _ owner service
+
+classes_sound : (top : Members) → IsQuiet top → AreSoundClasses (entries_of top)
+classes_sound top q = record {
+  named = named_class top q;
+  once = λ c l. let (ms, is) = class_table top q c l in not_whole _ (quiet_class (duplicate_name (entries_of top)) top c ms 2 q.once l is (lit< tt));
+}
 
 -- the addresses of a node
 hosts_of_node : (top : Members) → IsQuiet top → (i : ℕ) → i < length (items_at top Node) → IsHosts (hosts_of (entry_at (items_at top Node) i))
 hosts_of_node top q i l =
     let (ms, is) = node_table top q i l in
-    subst (λ (e : Data). IsHosts (hosts_of e)) (sym is) (hosts_good (table ms) (not_over 6 _ (quiet_node too_many top i ms 4 q.many l is (lit< tt))) (not_over 6 _ (quiet_node too_many top i ms 5 q.many l is (lit< tt))))
+    subst (λ (e : Data). IsHosts (hosts_of e)) (sym is) (hosts_good (table ms) (not_over 40 _ (quiet_node too_many top i ms 4 q.many l is (lit< tt))) (not_over 40 _ (quiet_node too_many top i ms 5 q.many l is (lit< tt))))
 
 -- a node that is no pool has none
 hosts_of_other : (top : Members) → IsQuiet top → (i : ℕ) → i < length (items_at top Node) → is_pool (entry_at (items_at top Node) i) ≡ false → hosts_of (entry_at (items_at top Node) i) ≡ record { v4 = []; v6 = [] }
@@ -215,15 +270,18 @@ sound top h =
     let q = quiet top h in
     record {
       few_nodes = not_over 8192 _ (quiet_top too_many top 1 q.many (lit< tt));
-      few_groups = not_over 65536 _ (quiet_top too_many top 2 q.many (lit< tt));
+      few_groups = few_units top (quiet_top too_many top 3 q.many (lit< tt));
       capacities = capacity_of top q;
       parents = parent_of_node top q;
       inner = inner_of_node top q;
       shallow = shallow_node top q;
       node_names = node_names top q;
-      group_names = group_names top q;
+      group_names = unit_names top q;
+      classes = classes_sound top q;
       hosts = hosts_of_node top q;
       pools_only = hosts_of_other top q;
       zone = zone_sound top q;
-      groups = λ g l. let (ms, is) = group_table top q g l in subst (IsSoundGroup (items_at top Node)) (sym is) (table_group top q g l ms is);
+      groups = unit_all (λ g e. IsSoundGroup (items_at top Node) e) (items_at top Group) (items_at top Class)
+          (λ g l. let (ms, is) = group_table top q g l in subst (IsSoundGroup (items_at top Node)) (sym is) (table_group top q g l ms is))
+          (λ c l. let (ms, is) = class_table top q c l in subst (IsSoundGroup (items_at top Node)) (sym is) (table_class top q c l ms is));
     }

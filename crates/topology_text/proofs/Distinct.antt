@@ -12,7 +12,7 @@ use Rattle.map_model.specs.declared.instance.NodeId.{NodeId}
 use Rattle.map_model.specs.declared.instance.Choice.{Choice}
 use Rattle.map_model.specs.declared.instance.Node.{Node}
 use Rattle.map_model.specs.Market.{IsGroup, IsMarket, is_pool_at, node_in}
-use Rattle.topology_text.specs.Names.{Entries, entry_at, has_repeat, is_pool, is_pool_number, number_of, parent_of, texts_of}
+use Rattle.topology_text.specs.Names.{Entries, entry_at, has_repeat, is_pool, is_pool_number, number_of, parent_of, texts_of, units_of}
 use Rattle.topology_text.specs.Topology.{IsSound, IsSoundGroup, choice_in, group_of, items_in, limit_in, market_of, natural, node_of, pool_number}
 use Rattle.topology_text.specs.declared.schema.Key.TheVariants.{Pools, Scores, Limits}
 use Rattle.topology_text.proofs.Markets.{All-map_at, climb_ascend, get_or-map_at, one_text, parent_same, pool_within}
@@ -139,11 +139,11 @@ map_if (Some k) n h = h
 pub market_good : (d : Entries) → IsSound d → IsMarket (market_of d)
 market_good d s =
     let nodes_len : length (map (node_of d.nodes) d.nodes) ≡ length d.nodes = length-map d.nodes (node_of d.nodes) in
-    let groups_len : length (map (group_of d.nodes) d.groups) ≡ length d.groups = length-map d.groups (group_of d.nodes) in
+    let groups_len : length (map (group_of d.nodes) (units_of d)) ≡ length (units_of d) = length-map (units_of d) (group_of d.nodes) in
     record {
       few_groups = let a = s.few_groups in omega arith;
       few_nodes = let a = s.few_nodes in omega arith;
-      groups = All-map_at (group_of d.nodes) (λ g. IsGroup (map (node_of d.nodes) d.nodes) g) d.groups (boolean false) (λ n h. group_good d _ (s.groups n h));
+      groups = All-map_at (group_of d.nodes) (λ g. IsGroup (map (node_of d.nodes) d.nodes) g) (units_of d) (boolean false) (λ n h. group_good d _ (s.groups n h));
       capacities = All-map_at (node_of d.nodes) (λ n. n.capacity ≤ 2 ^ 48) d.nodes (boolean false) (λ n h. s.capacities n h);
       parents = λ n h. let l : n < length d.nodes = omega arith in subst (λ o. IfSome o (λ (p : NodeId). p.0 < n)) (sym (parent_same d n)) (map_if (parent_of d.nodes n) n (s.parents n l));
       inner = λ n h. let l : n < length d.nodes = omega arith in subst (λ o. IfSome o (λ (p : NodeId). IsFalse (is_pool_at (market_of d) p.0))) (sym (parent_same d n)) (inner_if d (parent_of d.nodes n) (s.inner n l));

@@ -7,6 +7,11 @@ pub mod Numbers
 pub mod Depths
 pub mod Quiet
 pub mod Sound
+pub mod Checked
+pub mod RepeatedPairs
+pub mod UnitTable
+pub mod UnitNumbers
+pub mod SoundClasses
 pub mod SoundGroups
 pub mod Clean
 pub mod Markets

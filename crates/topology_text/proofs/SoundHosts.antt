@@ -55,7 +55,7 @@ v6_passed (datetime t) a h = cc
 v6_passed (array ds) a h = cc
 v6_passed (table ms) a h = cc
 
-pub hosts_good : (e : Data) → length (items_in e A) ≤ 6 → length (items_in e Aaaa) ≤ 6 → IsHosts (hosts_of e)
+pub hosts_good : (e : Data) → length (items_in e A) ≤ 40 → length (items_in e Aaaa) ≤ 40 → IsHosts (hosts_of e)
 hosts_good e few more = record {
   few_v4 = omega (arith, length-filter_map (address_in A) (items_in e A));
   few_v6 = omega (arith, length-filter_map (address_in Aaaa) (items_in e Aaaa));

@@ -21,9 +21,9 @@ use Rattle.topology_text.specs.Prefixes.{all_prefixes, count_at, duplicate_prefi
 use Rattle.topology_text.specs.Topology.{owned}
 use Rattle.topology_text.specs.Walk.{Visit, entries_from, items_at, value_at, walk, zone_visits}
 use Rattle.topology_text.specs.declared.prefixes.PrefixAt.{PrefixAt}
-use Rattle.topology_text.specs.declared.schema.Key.TheVariants.{Zone, Node, Group, Prefixes}
+use Rattle.topology_text.specs.declared.schema.Key.TheVariants.{Zone, Node, Group, Class, Prefixes}
 use Rattle.topology_text.specs.declared.schema.Spot.{Spot}
-use Rattle.topology_text.specs.declared.schema.Spot.TheVariants.{Top, ZoneTable, NodeTable, GroupTable, Family}
+use Rattle.topology_text.specs.declared.schema.Spot.TheVariants.{Top, ZoneTable, NodeTable, GroupTable, ClassTable, Family}
 use Rattle.topology_text.proofs.Clean.{quiet}
 use Rattle.topology_text.proofs.Quiet.{empty_first, empty_map, empty_second}
 use Rattle.topology_text.proofs.Repeats.{none_marked}
@@ -106,6 +106,7 @@ few_at Top ds = omega arith
 few_at ZoneTable ds = omega arith
 few_at (NodeTable n) ds = omega arith
 few_at (GroupTable g) ds = few_from g 0 ds
+few_at (ClassTable c) ds = omega arith
 few_at (Family f) ds = omega arith
 
 few_all : (visits : List Visit) → length (all_prefixes visits) ≤ total visits
@@ -165,6 +166,7 @@ at_is Top ds = All-nil (λ e. IsPrefix e.prefix)
 at_is ZoneTable ds = All-nil (λ e. IsPrefix e.prefix)
 at_is (NodeTable n) ds = All-nil (λ e. IsPrefix e.prefix)
 at_is (GroupTable g) ds = from_is g 0 ds
+at_is (ClassTable c) ds = All-nil (λ e. IsPrefix e.prefix)
 at_is (Family f) ds = All-nil (λ e. IsPrefix e.prefix)
 
 all_is : (visits : List Visit) → All (λ e. IsPrefix e.prefix) (all_prefixes visits)
@@ -200,6 +202,16 @@ nodes_below n i (datetime t ∷ es) = nodes_below n (i + 1) es
 nodes_below n i (array ds ∷ es) = nodes_below n (i + 1) es
 nodes_below n i (table ms ∷ es) = nodes_below n (i + 1) es
 
+classes_below : (n i : ℕ) (ds : List Data) → All (λ e. e.group < n) (all_prefixes (entries_from Class i ds))
+classes_below n i [] = All-nil (λ e. e.group < n)
+classes_below n i (string t ∷ es) = classes_below n (i + 1) es
+classes_below n i (integer z ∷ es) = classes_below n (i + 1) es
+classes_below n i (float x ∷ es) = classes_below n (i + 1) es
+classes_below n i (boolean b ∷ es) = classes_below n (i + 1) es
+classes_below n i (datetime t ∷ es) = classes_below n (i + 1) es
+classes_below n i (array ds ∷ es) = classes_below n (i + 1) es
+classes_below n i (table ms ∷ es) = classes_below n (i + 1) es
+
 groups_below : (n i : ℕ) (ds : List Data) → i + length ds ≤ n → All (λ e. e.group < n) (all_prefixes (entries_from Group i ds))
 groups_below n i [] h = All-nil (λ e. e.group < n)
 groups_below n i (table ms ∷ es) h =
@@ -218,9 +230,11 @@ below_append n xs ys a b =
 walk_below : (top : Members) → All (λ e. e.group < length (items_at top Group)) (all_prefixes (walk top))
 walk_below top =
     let n = length (items_at top Group) in
-    below_append n (zone_visits (value_at top Zone) ++ entries_from Node 0 (items_at top Node)) (entries_from Group 0 (items_at top Group))
+    below_append n (zone_visits (value_at top Zone) ++ entries_from Node 0 (items_at top Node) ++ entries_from Group 0 (items_at top Group)) (entries_from Class 0 (items_at top Class))
+    (below_append n (zone_visits (value_at top Zone) ++ entries_from Node 0 (items_at top Node)) (entries_from Group 0 (items_at top Group))
     (below_append n (zone_visits (value_at top Zone)) (entries_from Node 0 (items_at top Node)) (zone_below n (value_at top Zone)) (nodes_below n 0 (items_at top Node)))
-    (groups_below n 0 (items_at top Group) (omega arith))
+    (groups_below n 0 (items_at top Group) (omega arith)))
+    (classes_below n 0 (items_at top Class))
 
 pub prefixes_sound : (top : Members) → faults_of top ≡ [] → ArePrefixes (map owned (all_prefixes (walk top))) (length (entries_of top).groups)
 prefixes_sound top h =

@@ -6,7 +6,7 @@ use Rattle.toml.specs.Data.{Data}
 use Rattle.toml.specs.View.{view}
 use Rattle.toml.specs.declared.value.Value.{Value}
 use Rattle.topology_text.specs.declared.schema.Key.{Key}
-use Rattle.topology_text.specs.declared.schema.Key.TheVariants.{Node, Group}
+use Rattle.topology_text.specs.declared.schema.Key.TheVariants.{Node, Group, Class}
 use Rattle.topology_text.specs.declared.schema.At.TheVariants.{Item}
 use Rattle.topology_text.specs.declared.visited.TableAt.{TableAt}
 use Rattle.topology_text.specs.Code.{visit}
@@ -44,11 +44,11 @@ pub entries_end : (key : Key) (vs : List Value) (i : ℕ) (all : List Visit) (ne
 entries_end key vs i all new h before =
     sym (append-nil (map visit new)) ∙ sym (ap (λ ds. map visit new ++ entries_from key i (map view ds)) (drop_all i vs h)) ∙ before
 
--- the four parts of a walk in a row
-pub walked : (top : Visit) (t z n g : List TableAt) (zone : List Visit) (nodes groups ns gs : List Data) → map visit t ≡ top ∷ []
-    → map visit z ≡ map visit t ++ zone → map visit n ≡ map visit z ++ entries_from Node 0 ns → map visit g ≡ map visit n ++ entries_from Group 0 gs → ns ≡ nodes → gs ≡ groups
-    → map visit g ≡ top ∷ zone ++ entries_from Node 0 nodes ++ entries_from Group 0 groups
-walked top t z n g zone nodes groups ns gs a b c d e f = rw (d, c, b, a, e, f) refl
+-- the five parts of a walk in a row
+pub walked : (top : Visit) (t z n g c : List TableAt) (zone : List Visit) (nodes groups classes ns gs cs : List Data) → map visit t ≡ top ∷ []
+    → map visit z ≡ map visit t ++ zone → map visit n ≡ map visit z ++ entries_from Node 0 ns → map visit g ≡ map visit n ++ entries_from Group 0 gs → map visit c ≡ map visit g ++ entries_from Class 0 cs → ns ≡ nodes → gs ≡ groups → cs ≡ classes
+    → map visit c ≡ top ∷ zone ++ entries_from Node 0 nodes ++ entries_from Group 0 groups ++ entries_from Class 0 classes
+walked top t z n g c zone nodes groups classes ns gs cs h1 h2 h3 h4 h5 e1 e2 e3 = rw (h5, h4, h3, h2, h1, e1, e2, e3) refl
 
 -- the items from one on
 pub items_on : (test : Data → Bool) (vs : List Value) (i : ℕ) (d : Value) → i < length vs → test (view (get_or vs i d)) ≡ false

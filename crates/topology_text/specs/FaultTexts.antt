@@ -9,7 +9,7 @@ use Rattle.topology_text.specs.declared.schema.At.TheVariants.{Whole, Item}
 use Rattle.topology_text.specs.declared.schema.Key.{Key}
 use Rattle.topology_text.specs.declared.schema.Place.{Place}
 use Rattle.topology_text.specs.declared.schema.Spot.{Spot}
-use Rattle.topology_text.specs.declared.schema.Spot.TheVariants.{Top, ZoneTable, NodeTable, GroupTable, Family}
+use Rattle.topology_text.specs.declared.schema.Spot.TheVariants.{Top, ZoneTable, NodeTable, GroupTable, ClassTable, Family}
 
 -- a table, or a family of addresses
 abbrev pub spot_text : Spot → List ℕ
@@ -17,6 +17,7 @@ spot_text Top = codes "top"
 spot_text ZoneTable = codes "zone"
 spot_text (NodeTable n) = codes "node " ++ decimal n
 spot_text (GroupTable n) = codes "group " ++ decimal n
+spot_text (ClassTable n) = codes "class " ++ decimal n
 spot_text (Family n) = codes "family " ++ decimal n
 
 -- a space and the key, where there is one

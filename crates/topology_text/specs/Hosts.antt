@@ -22,9 +22,9 @@ abbrev pub is_v6 : Addr → Bool
 is_v6 (V4 bits) = false
 is_v6 (V6 bits) = true
 
--- at most six addresses of each family, each in the list of its own
+-- at most forty addresses of each family, each in the list of its own
 pub record IsHosts (h : HostLists) : Type 0 where
-  pub few_v4 : length h.v4 ≤ 6
-  pub few_v6 : length h.v6 ≤ 6
+  pub few_v4 : length h.v4 ≤ 40
+  pub few_v6 : length h.v6 ≤ 40
   pub v4 : All (λ a. IsTrue (is_v4 a)) h.v4
   pub v6 : All (λ a. IsTrue (is_v6 a)) h.v6

@@ -10,6 +10,7 @@ plan a = record {
   zone = a.zone;
   node_names = map (λ v. v.items) a.node_names.keys;
   group_names = map (λ v. v.items) a.group_names.keys;
+  classes = a.classes;
   prefixes = a.prefixes.items;
   addresses = a.addresses.items;
 }

@@ -9,6 +9,7 @@ pub mod Prefixes
 pub mod Hosts
 pub mod Soa
 pub mod Plan
+pub mod Units
 pub mod Kept
 pub mod Topology
 pub mod Faults

@@ -1,5 +1,5 @@
--- The names of a topology's nodes and groups, and what the names in it lead to.
-use Rattle.std.specs.Prelude.{ℕ, zero, suc, List, [], ◌∷◌, length, map, take, Bool, false, not, ◌&&◌, ◌||◌, ◌==◌, nat_lt, Option, None, Some, is_some, option_and_then, slice_index_or}
+-- The names of a topology's nodes, groups and classes, and what the names in it lead to.
+use Rattle.std.specs.Prelude.{ℕ, zero, suc, ◌+◌, List, [], ◌∷◌, ◌++◌, length, map, take, Bool, false, not, ◌&&◌, ◌||◌, ◌==◌, nat_lt, Option, None, Some, is_some, option_and_then, slice_index_or, position}
 use Rattle.std.specs.List.{filter_map, list_any, position_from}
 use Rattle.std.specs.Str.{bytes_eq, str_to_ascii_lowercase}
 use Rattle.toml.specs.Data.{Data, string, boolean, table, Members, as_str}
@@ -10,9 +10,9 @@ use Rattle.topology_text.specs.Values.{whole_if}
 use Rattle.topology_text.specs.declared.schema.At.{At}
 use Rattle.topology_text.specs.declared.schema.At.TheVariants.{Item}
 use Rattle.topology_text.specs.declared.schema.Spot.{Spot}
-use Rattle.topology_text.specs.declared.schema.Spot.TheVariants.{NodeTable, GroupTable}
+use Rattle.topology_text.specs.declared.schema.Spot.TheVariants.{NodeTable, GroupTable, ClassTable}
 use Rattle.topology_text.specs.declared.schema.Key.{Key}
-use Rattle.topology_text.specs.declared.schema.Key.TheVariants.{Zone, Node, Group, Apex, Name, Parent, Pool, Pools, Ns, Services, A, Aaaa, Scores, Limits}
+use Rattle.topology_text.specs.declared.schema.Key.TheVariants.{Zone, Node, Group, Class, Apex, Name, Parent, Pool, Pools, Ns, Services, A, Aaaa, Scores, Limits, Owner, Service}
 
 -- a value that is a text
 abbrev pub text_in : Option Data → Option (List ℕ)
@@ -33,15 +33,20 @@ is_called text (Some name) = bytes_eq name text
 abbrev pub number_of : List Data → List ℕ → Option ℕ
 number_of entries text = position_from (λ e. is_called text (text_at e Name)) 0 entries
 
--- the entries of a topology's two arrays, and its zone where that is a table
+-- the entries of a topology's three arrays, and its zone where that is a table
 pub record Entries : Type 0 where
   pub nodes : List Data
   pub groups : List Data
+  pub classes : List Data
   pub zone : Option Members
 
--- the entries of a table's two arrays, and its zone
+-- the entries of a table's three arrays, and its zone
 abbrev pub entries_of : Members → Entries
-entries_of top = record { nodes = items_at top Node; groups = items_at top Group; zone = table_in (value_at top Zone) }
+entries_of top = record { nodes = items_at top Node; groups = items_at top Group; classes = items_at top Class; zone = table_in (value_at top Zone) }
+
+-- the units of demand: the groups, and behind them the classes
+abbrev pub units_of : Entries → List Data
+units_of d = d.groups ++ d.classes
 
 -- the items at a key of the zone
 abbrev pub zone_items : Option Members → Key → List Data
@@ -90,7 +95,8 @@ is_taken entries i (Some text) = is_other (number_of entries text) i
 -- the later of two entries of one name
 abbrev pub repeats_name : Entries → Spot → Option (List ℕ) → Bool
 repeats_name d (NodeTable i) text = is_taken d.nodes i text
-repeats_name d (GroupTable i) text = is_taken d.groups i text
+repeats_name d (GroupTable i) text = is_taken (units_of d) i text
+repeats_name d (ClassTable i) text = is_taken (units_of d) (length d.groups + i) text
 repeats_name d _ text = false
 
 -- the name on the wire that an item of `ns` or `services` stands for
@@ -122,11 +128,43 @@ is_seen folds (Some name) = list_any (bytes_eq (str_to_ascii_lowercase name)) fo
 abbrev pub repeats_in : Key → List Data → List At
 repeats_in k ds = map (λ p. Item p.0) (marked (λ i d. is_among (names_in k (take i ds)) (name_in k d)) ds)
 
--- a name, a name server or a service that stands earlier too
+-- the number of the service whose label a text is, whatever the case of letters
+abbrev pub service_number : Option Members → List ℕ → Option ℕ
+service_number zone text = option_and_then (λ name. position (is_same name) (names_in Services (zone_items zone Services))) (service_name text)
+
+-- two numbers, where both are there
+abbrev pub both : Option ℕ → Option ℕ → Option (ℕ × ℕ)
+both (Some g) (Some s) = Some (g, s)
+both _ _ = None
+
+-- the numbers of the group and the service that a class names
+abbrev pub pair_of : Entries → Data → Option (ℕ × ℕ)
+pair_of d e = both (option_and_then (number_of d.groups) (text_at e Owner)) (option_and_then (service_number d.zone) (text_at e Service))
+
+-- the two are one group and one service
+abbrev pub is_same_pair : ℕ × ℕ → ℕ × ℕ → Bool
+is_same_pair p q = p.0 == q.0 && p.1 == q.1
+
+-- a pair is there among some
+abbrev pub is_paired : List (ℕ × ℕ) → Option (ℕ × ℕ) → Bool
+is_paired pairs None = false
+is_paired pairs (Some p) = list_any (is_same_pair p) pairs
+
+-- class number i is of a group and a service of which an earlier class is
+abbrev pub repeats_pair : Entries → ℕ → Bool
+repeats_pair d i = is_paired (filter_map (pair_of d) (take i d.classes)) (pair_of d (entry_at d.classes i))
+
+-- the class at a place of the walk is so
+abbrev pub repeats_pair_at : Entries → Spot → Bool
+repeats_pair_at d (ClassTable i) = repeats_pair d i
+repeats_pair_at d _ = false
+
+-- a name, a name server or a service that stands earlier too, or the service of a later class of one group and service
 abbrev pub duplicate_name : Entries → Visit → Key → List At
 duplicate_name d v Name = whole_if (repeats_name d v.spot (text_in (value_at v.members Name)))
 duplicate_name d v Ns = repeats_in Ns (zone_items d.zone Ns)
 duplicate_name d v Services = repeats_in Services (zone_items d.zone Services)
+duplicate_name d v Service = whole_if (repeats_pair_at d v.spot)
 duplicate_name d v _ = []
 
 -- a pool has that number
@@ -134,10 +172,12 @@ abbrev pub is_pool_number : List Data → Option ℕ → Bool
 is_pool_number nodes None = false
 is_pool_number nodes (Some n) = is_pool (entry_at nodes n)
 
--- a parent that is no node, or a pool that is none
+-- a parent that is no node, a pool that is none, a class's group that is none, or its service that is none
 abbrev pub is_unknown_name : Entries → Key → Data → Bool
 is_unknown_name d Parent (string t) = not (is_some (number_of d.nodes t))
 is_unknown_name d Pools (string t) = not (is_pool_number d.nodes (number_of d.nodes t))
+is_unknown_name d Owner (string t) = not (is_some (number_of d.groups t))
+is_unknown_name d Service (string t) = not (is_some (service_number d.zone t))
 is_unknown_name d _ _ = false
 
 -- a parent that doesn't stand earlier, or is a pool

@@ -2,17 +2,18 @@
 use Rattle.std.specs.Prelude.{ℕ, codes, List, [], ◌∷◌, Bool, true, false}
 use Rattle.toml.specs.Data.{Data, string, integer, boolean, array, table}
 use Rattle.topology_text.specs.declared.schema.Key.{Key}
-use Rattle.topology_text.specs.declared.schema.Key.TheVariants.{Zone, Node, Group, Apex, Mname, Rname, Serial, Refresh, Retry, Expire, Minimum, Ttl, Ns, Services, Name, Parent, Capacity, Pool, A, Aaaa, Demand, Pools, Scores, Limits, Prefixes}
+use Rattle.topology_text.specs.declared.schema.Key.TheVariants.{Zone, Node, Group, Class, Apex, Mname, Rname, Serial, Refresh, Retry, Expire, Minimum, Ttl, Ns, Services, Name, Parent, Capacity, Pool, A, Aaaa, Demand, Pools, Scores, Limits, Prefixes, Owner, Service}
 use Rattle.topology_text.specs.declared.schema.Kind.{Kind}
 use Rattle.topology_text.specs.declared.schema.Kind.TheVariants.{Text, Integer, Flag, Table, Texts, Integers, Tables}
 use Rattle.topology_text.specs.declared.schema.Spot.{Spot}
-use Rattle.topology_text.specs.declared.schema.Spot.TheVariants.{Top, ZoneTable, NodeTable, GroupTable, Family}
+use Rattle.topology_text.specs.declared.schema.Spot.TheVariants.{Top, ZoneTable, NodeTable, GroupTable, ClassTable, Family}
 
--- a key as it is written
+-- a key as it is written; a class names its group under the text that the top table's groups have
 abbrev pub key_text : Key → List ℕ
 key_text Zone = codes "zone"
 key_text Node = codes "node"
 key_text Group = codes "group"
+key_text Class = codes "class"
 key_text Apex = codes "apex"
 key_text Mname = codes "mname"
 key_text Rname = codes "rname"
@@ -35,12 +36,15 @@ key_text Pools = codes "pools"
 key_text Scores = codes "scores"
 key_text Limits = codes "limits"
 key_text Prefixes = codes "prefixes"
+key_text Owner = codes "group"
+key_text Service = codes "service"
 
 -- the kind of a key's value
 abbrev pub kind_of : Key → Kind
 kind_of Zone = Table
 kind_of Node = Tables
 kind_of Group = Tables
+kind_of Class = Tables
 kind_of Apex = Text
 kind_of Mname = Text
 kind_of Rname = Text
@@ -63,6 +67,8 @@ kind_of Pools = Texts
 kind_of Scores = Integers
 kind_of Limits = Integers
 kind_of Prefixes = Texts
+kind_of Owner = Text
+kind_of Service = Text
 
 -- the keys that a table must have
 abbrev pub is_required : Key → Bool
@@ -71,14 +77,16 @@ is_required Pool = false
 is_required A = false
 is_required Aaaa = false
 is_required Limits = false
+is_required Class = false
 is_required _ = true
 
 -- the keys of a table, in their order
 abbrev pub keys_of : Spot → List Key
-keys_of Top = Zone ∷ Node ∷ Group ∷ []
+keys_of Top = Zone ∷ Node ∷ Group ∷ Class ∷ []
 keys_of ZoneTable = Apex ∷ Mname ∷ Rname ∷ Serial ∷ Refresh ∷ Retry ∷ Expire ∷ Minimum ∷ Ttl ∷ Ns ∷ Services ∷ []
 keys_of (NodeTable n) = Name ∷ Parent ∷ Capacity ∷ Pool ∷ A ∷ Aaaa ∷ []
 keys_of (GroupTable g) = Name ∷ Demand ∷ Pools ∷ Scores ∷ Limits ∷ Prefixes ∷ []
+keys_of (ClassTable c) = Name ∷ Owner ∷ Service ∷ Demand ∷ Pools ∷ Scores ∷ Limits ∷ []
 keys_of (Family f) = []
 
 -- a value is of a kind; the items of an array are looked at apart

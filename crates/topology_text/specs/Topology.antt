@@ -9,13 +9,13 @@ use Rattle.map_model.specs.declared.instance.Node.{Node}
 use Rattle.map_model.specs.declared.instance.GroupId.{GroupId}
 use Rattle.map_model.specs.Market.{Group, Market}
 use Rattle.topology_text.specs.Hosts.{HostLists, IsHosts}
-use Rattle.topology_text.specs.Plan.{IsZone, Plan}
+use Rattle.topology_text.specs.Plan.{Classes, IsZone, Plan}
 use Rattle.topology_text.specs.Soa.{soa_content}
 use Rattle.topology_text.specs.Texts.{is_name, v4_address, v6_address, zone_name}
 use Rattle.topology_text.specs.declared.prefixes.PrefixAt.{PrefixAt}
 use Rattle.topology_text.specs.declared.topology.Zone.{Zone}
 use Rattle.topology_text.specs.Walk.{items_at, value_at}
-use Rattle.topology_text.specs.Names.{Entries, ascend, entry_at, has_repeat, is_pool, is_pool_number, names_in, number_of, parent_of, text_at, texts_of, zone_items, zone_text}
+use Rattle.topology_text.specs.Names.{Entries, units_of, pair_of, repeats_pair, ascend, entry_at, has_repeat, is_pool, is_pool_number, names_in, number_of, parent_of, text_at, texts_of, zone_items, zone_text}
 use Rattle.topology_text.specs.declared.schema.Key.{Key}
 use Rattle.topology_text.specs.declared.schema.Key.TheVariants.{Apex, Mname, Rname, Serial, Refresh, Retry, Expire, Minimum, Ttl, Ns, Services, Name, Parent, Capacity, A, Aaaa, Demand, Pools, Scores, Limits}
 
@@ -62,7 +62,7 @@ group_of nodes e = record { demand = number_at e Demand; choices = map (choice_i
 
 -- the instance
 abbrev pub market_of : Entries → Market
-market_of d = record { groups = map (group_of d.nodes) d.groups; nodes = map (node_of d.nodes) d.nodes }
+market_of d = record { groups = map (group_of d.nodes) (units_of d); nodes = map (node_of d.nodes) d.nodes }
 
 -- the name that stands at a key of the zone
 abbrev pub zone_name_at : Option Members → Key → List ℕ
@@ -108,13 +108,22 @@ hosts_of e = record { v4 = filter_map (address_in A) (items_in e A); v6 = filter
 abbrev pub owned : PrefixAt → Prefix × GroupId
 owned e = (e.prefix, record { 0 = e.group })
 
+-- a class's group and service, as they are kept
+abbrev pub kept_pair : ℕ × ℕ → GroupId × ℕ
+kept_pair p = (record { 0 = p.0 }, p.1)
+
+-- how many units are groups, and the classes
+abbrev pub classes_of : Entries → Classes
+classes_of d = record { groups = length d.groups; pairs = map kept_pair (filter_map (pair_of d) d.classes) }
+
 -- all of it: the instance, the zone, names and addresses by number, and the prefixes that stand on the walk
 abbrev pub plan_of : Entries → List PrefixAt → Plan
 plan_of d prefixes = record {
   market = market_of d;
   zone = zone_of d.zone;
   node_names = map name_of d.nodes;
-  group_names = map name_of d.groups;
+  group_names = map name_of (units_of d);
+  classes = classes_of d;
   prefixes = map owned prefixes;
   addresses = map hosts_of d.nodes;
 }
@@ -149,17 +158,23 @@ pub record IsSoundZone (zone : Option Members) : Type 0 where
   pub ttl : zone_number zone Ttl < 2 ^ 31
   pub whole : IsZone (zone_of zone)
 
+-- classes that can stand in a topology: each names a group and a service, and no two name the same
+pub record AreSoundClasses (d : Entries) : Type 0 where
+  pub named : (i : ℕ) → i < length d.classes → is_some (pair_of d (entry_at d.classes i)) ≡ true
+  pub once : (i : ℕ) → i < length d.classes → repeats_pair d i ≡ false
+
 -- entries that can stand in a topology
 pub record IsSound (d : Entries) : Type 0 where
   pub few_nodes : length d.nodes ≤ 8192
-  pub few_groups : length d.groups ≤ 65536
+  pub few_groups : length (units_of d) ≤ 65536
   pub capacities : (i : ℕ) → i < length d.nodes → number_at (entry_at d.nodes i) Capacity ≤ 2 ^ 48
   pub parents : (i : ℕ) → i < length d.nodes → IfSome (parent_of d.nodes i) (λ p. p < i)
   pub inner : (i : ℕ) → i < length d.nodes → IfSome (parent_of d.nodes i) (λ p. is_pool (entry_at d.nodes p) ≡ false)
   pub shallow : (i : ℕ) → i < length d.nodes → length (ascend 9 d.nodes (Some i)) ≤ 8
-  pub groups : (g : ℕ) → g < length d.groups → IsSoundGroup d.nodes (entry_at d.groups g)
+  pub groups : (g : ℕ) → g < length (units_of d) → IsSoundGroup d.nodes (entry_at (units_of d) g)
   pub node_names : AreSoundNames d.nodes
-  pub group_names : AreSoundNames d.groups
+  pub group_names : AreSoundNames (units_of d)
+  pub classes : AreSoundClasses d
   pub hosts : (i : ℕ) → i < length d.nodes → IsHosts (hosts_of (entry_at d.nodes i))
   pub pools_only : (i : ℕ) → i < length d.nodes → is_pool (entry_at d.nodes i) ≡ false → hosts_of (entry_at d.nodes i) ≡ record { v4 = []; v6 = [] }
   pub zone : IsSoundZone d.zone

@@ -1,16 +1,16 @@
 -- Faults that one value shows by itself: missing, of the wrong kind, against its rule or out of its range.
-use Rattle.std.specs.Prelude.{ℕ, ◌-◌, ◌^◌, ℤ, pos, negsuc, List, [], ◌∷◌, length, Bool, true, false, not, ◌&&◌, nat_le, nat_lt, if◌then◌else◌, Option, None, Some, is_some}
+use Rattle.std.specs.Prelude.{ℕ, ◌+◌, ◌-◌, ◌^◌, ℤ, pos, negsuc, List, [], ◌∷◌, length, Bool, true, false, not, ◌&&◌, nat_le, nat_lt, if◌then◌else◌, Option, None, Some, is_some}
 use Rattle.std.specs.List.{list_any, list_all}
 use Rattle.std.specs.Str.{bytes_eq}
-use Rattle.toml.specs.Data.{Data, string, integer, array}
+use Rattle.toml.specs.Data.{Data, Members, string, integer, array}
 use Rattle.topology_text.specs.Schema.{key_text, kind_of, is_required, keys_of, is_kind, is_item_kind}
 use Rattle.addr_text.specs.Addresses.{prefix_of}
 use Rattle.topology_text.specs.Texts.{is_name, service_name, v4_address, v6_address, zone_name}
-use Rattle.topology_text.specs.Walk.{Visit, items_of_value, items_where, list_of, names_of, value_at}
+use Rattle.topology_text.specs.Walk.{Visit, items_at, items_of_value, items_where, list_of, names_of, value_at}
 use Rattle.topology_text.specs.declared.schema.At.{At}
 use Rattle.topology_text.specs.declared.schema.At.TheVariants.{Whole}
 use Rattle.topology_text.specs.declared.schema.Key.{Key}
-use Rattle.topology_text.specs.declared.schema.Key.TheVariants.{Node, Group, Apex, Mname, Rname, Serial, Refresh, Retry, Expire, Minimum, Ttl, Ns, Services, Name, Capacity, A, Aaaa, Demand, Scores, Limits, Prefixes}
+use Rattle.topology_text.specs.declared.schema.Key.TheVariants.{Node, Group, Class, Apex, Mname, Rname, Serial, Refresh, Retry, Expire, Minimum, Ttl, Ns, Services, Name, Capacity, A, Aaaa, Demand, Scores, Limits, Prefixes}
 use Rattle.topology_text.specs.declared.schema.Place.{Place}
 use Rattle.topology_text.specs.declared.schema.Spot.{Spot}
 
@@ -96,8 +96,8 @@ limit_of Node = Some 8192
 limit_of Group = Some 65536
 limit_of Ns = Some 4
 limit_of Services = Some 64
-limit_of A = Some 6
-limit_of Aaaa = Some 6
+limit_of A = Some 40
+limit_of Aaaa = Some 40
 limit_of _ = None
 
 -- a count past its limit, if there is one
@@ -105,6 +105,11 @@ abbrev pub is_over : Option ℕ → ℕ → Bool
 is_over None n = false
 is_over (Some limit) n = nat_lt limit n
 
--- an array past its limit
+-- groups and classes together are past the groups' limit
+abbrev pub are_many_units : Members → Bool
+are_many_units ms = nat_lt 65536 (length (items_at ms Group) + length (items_at ms Class))
+
+-- an array past its limit; that of classes is over groups and classes together
 abbrev pub too_many : Visit → Key → List At
+too_many v Class = whole_if (are_many_units v.members)
 too_many v k = whole_if (is_over (limit_of k) (length (items_of_value (value_at v.members k))))

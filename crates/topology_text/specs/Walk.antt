@@ -6,9 +6,9 @@ use Rattle.topology_text.specs.Schema.{key_text, keys_of}
 use Rattle.topology_text.specs.declared.schema.At.{At}
 use Rattle.topology_text.specs.declared.schema.At.TheVariants.{Item}
 use Rattle.topology_text.specs.declared.schema.Key.{Key}
-use Rattle.topology_text.specs.declared.schema.Key.TheVariants.{Zone, Node, Group}
+use Rattle.topology_text.specs.declared.schema.Key.TheVariants.{Zone, Node, Group, Class}
 use Rattle.topology_text.specs.declared.schema.Spot.{Spot}
-use Rattle.topology_text.specs.declared.schema.Spot.TheVariants.{Top, ZoneTable, NodeTable, GroupTable}
+use Rattle.topology_text.specs.declared.schema.Spot.TheVariants.{Top, ZoneTable, NodeTable, GroupTable, ClassTable}
 use Rattle.topology_text.specs.declared.schema.Place.{Place}
 
 -- the items of an array
@@ -39,9 +39,10 @@ pub record Visit : Type 0 where
   pub spot : Spot
   pub members : Members
 
--- where an entry of `node` or `group` stands
+-- where an entry of `node`, `group` or `class` stands
 abbrev pub entry_spot : Key → ℕ → Spot
 entry_spot Node i = NodeTable i
+entry_spot Class i = ClassTable i
 entry_spot _ i = GroupTable i
 
 -- a value that is a table
@@ -65,7 +66,7 @@ entries_from key i ds = filter_map (λ p. visit_of (entry_spot key p.0) p.1) (en
 
 -- the tables in the order of the walk
 abbrev pub walk : Members → List Visit
-walk top = record { spot = Top; members = top } ∷ zone_visits (value_at top Zone) ++ entries_from Node 0 (items_at top Node) ++ entries_from Group 0 (items_at top Group)
+walk top = record { spot = Top; members = top } ∷ zone_visits (value_at top Zone) ++ entries_from Node 0 (items_at top Node) ++ entries_from Group 0 (items_at top Group) ++ entries_from Class 0 (items_at top Class)
 
 -- the first of a list
 abbrev pub first : {A : Type 0} → List A → Option A

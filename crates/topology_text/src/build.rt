@@ -1,9 +1,9 @@
 //! The instance that sound entries stand for.
-ghost use Rattle.std.specs.Prelude.{◌≡◌, ◌<◌, ◌≤◌, ◌^◌, All, map, length, option_and_then, unwrap_or, IfOk, IfSome};
+ghost use Rattle.std.specs.Prelude.{◌≡◌, ◌++◌, OnOk, ◌<◌, ◌≤◌, ◌^◌, All, map, length, option_and_then, unwrap_or, IfOk, IfSome};
 ghost use Rattle.std.specs.List.{range_with_len};
 ghost use Rattle.toml.specs.View.{view};
 ghost use Rattle.topology_text.specs.Code.{entries};
-ghost use Rattle.topology_text.specs.Names.{number_of, text_at};
+ghost use Rattle.topology_text.specs.Names.{number_of, text_at, units_of};
 ghost use Rattle.topology_text.specs.Topology.{IsSound, IsSoundGroup, choice_in, group_of, items_in, limit_in, market_of, natural, node_of, number_at, pool_number};
 
 use crate::names::{Entries, is_pool, text_at};
@@ -159,14 +159,31 @@ fn group_row(alloc: Global, index: &Entries<'_>, entry: &Value) -> Result<Client
     Ok(ClientGroup::new(demand as u32, choices))
 }
 
-fn group_rows(alloc: Global, index: &Entries<'_>) -> Result<Vec<ClientGroup>, AllocError>
-    requires { IsSound (entries index.now) }
-    ensures { IfOk result (λ v. v.items ≡ map (group_of (entries index.now).nodes) (entries index.now).groups) }
+/// Adds the rows of groups or classes.
+fn push_rows(
+    alloc: Global,
+    index: &Entries<'_>,
+    rows: &mut Vec<ClientGroup>,
+    units: &[Value],
+) -> Result<(), AllocError>
+    requires sound { IsSound (entries index.now) }
+    requires each { All (λ e. IsSoundGroup (entries index.now).nodes e) (map view units.now) }
+    ensures { OnOk result (rows.new.items ≡ rows.old.items ++ map (group_of (entries index.now).nodes) (map view units.now)) }
 {
-    let mut rows = Vec::new(alloc);
-    for entry in index.groups() {
+    for entry in units {
         rows.push(group_row(alloc, index, entry)?)?;
     }
+    Ok(())
+}
+
+/// The rows of groups and of the classes behind them.
+fn group_rows(alloc: Global, index: &Entries<'_>) -> Result<Vec<ClientGroup>, AllocError>
+    requires { IsSound (entries index.now) }
+    ensures { IfOk result (λ v. v.items ≡ map (group_of (entries index.now).nodes) (units_of (entries index.now))) }
+{
+    let mut rows = Vec::new(alloc);
+    push_rows(alloc, index, &mut rows, index.groups())?;
+    push_rows(alloc, index, &mut rows, index.classes())?;
     Ok(rows)
 }
 

@@ -9,7 +9,7 @@ use std::fmt;
 
 /// The first fault of a topology, or want of memory.
 ///
-/// A fault that comes earlier here comes before the later ones, wherever in the file they stand; of one kind the first in the order of the walk counts: the top table, the zone, the nodes, the groups; in a table its keys in their order, in a list its items in theirs.
+/// A fault that comes earlier here comes before the later ones, wherever in the file they stand; of one kind the first in the order of the walk counts: the top table, the zone, the nodes, the groups, the classes; in a table its keys in their order, in a list its items in theirs.
 #[derive(Clone, Copy, Debug, PartialEq, Eq)]
 pub enum TopologyFault {
     /// The bytes are no TOML document.
@@ -22,9 +22,9 @@ pub enum TopologyFault {
     UnknownKey(Place),
     /// A name or a service against its rule.
     BadName(Place),
-    /// The later of two nodes, groups, name servers or services of one name.
+    /// The later of two nodes, of two among groups and classes, or of two name servers or services of one name, or of two classes of one group and service.
     DuplicateName(Place),
-    /// A parent that is no node, or a pool that is none.
+    /// A parent that is no node, a pool that is none, or a class's group or service that is none.
     UnknownName(Place),
     /// A parent that does not stand earlier, or is a pool.
     ParentOrder(Place),
@@ -40,11 +40,11 @@ pub enum TopologyFault {
     DuplicatePrefix(Place),
     /// No group has the prefix that holds all addresses of the family.
     NoDefault(Place),
-    /// No name servers, addresses on a node that is no pool, no pools or over 16 or one of them twice, or not as many scores as pools.
+    /// No name servers, addresses on a node that is no pool, no pools or over 16 or one of them twice, or not as many scores or limits as pools.
     ListShape(Place),
     /// A name server that is the apex or stands under it.
     NsInside(Place),
-    /// Past a limit: nodes, groups, name servers, services, addresses, or the prefixes of all groups.
+    /// Past a limit: nodes, groups, groups and classes together, name servers, services, addresses, or the prefixes of all groups.
     TooMany(Place),
     /// No memory was to be had.
     NoMemory,

@@ -2,10 +2,12 @@
 #![tactic(auto)]
 
 mod build;
+mod classes;
 mod fault;
 mod limits;
 mod links;
 mod names;
+mod pairs;
 mod parts;
 mod prefixes;
 mod read;
@@ -20,6 +22,7 @@ mod visited;
 mod walk;
 mod zone;
 
+pub use classes::Classes;
 pub use fault::TopologyFault;
 pub use read::read_topology;
 pub use schema::{At, Key, Place, Spot};

@@ -10,7 +10,7 @@ pub const MOST_SERVICES: usize = 64;
 pub const MOST_NAME_SERVERS: usize = 4;
 
 /// How many addresses of one family a pool may have.
-pub const MOST_ADDRESSES: usize = 6;
+pub const MOST_ADDRESSES: usize = 40;
 
 /// How many octets a name of the zone may have on the wire.
 pub const LONGEST_ZONE_NAME: usize = 64;

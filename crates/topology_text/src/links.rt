@@ -1,10 +1,10 @@
 //! Rules that look at names, and at what they lead to.
-ghost use Rattle.std.specs.Prelude.{◌≡◌, ◌≤◌, true, map, length, option_map, Some, IsNone};
+ghost use Rattle.std.specs.Prelude.{◌≡◌, ◌≤◌, ◌+◌, ℕ, true, false, slice_index_or, map, length, option_map, Some, IsNone};
 ghost use Rattle.std.specs.List.{list_any};
 ghost use Rattle.std.specs.Str.{bytes_eq};
 ghost use Rattle.toml.specs.View.{table_view, view};
-ghost use Rattle.topology_text.specs.Code.{entries, visit};
-ghost use Rattle.topology_text.specs.Names.{ascend, count_at, duplicate_name, has_repeat, is_deep, is_deep_at, is_inside, is_misplaced, is_misshapen, is_other, is_pool_number, is_taken, is_under_apex, is_unknown_name, list_shape, misplaced_at, number_of, parent_of, parent_order, repeats_name, text_in, texts_of, too_deep};
+ghost use Rattle.topology_text.specs.Code.{entries, flag_at, visit};
+ghost use Rattle.topology_text.specs.Names.{ascend, count_at, duplicate_name, has_repeat, is_deep, is_deep_at, is_inside, is_misplaced, is_misshapen, is_other, is_pool_number, is_taken, is_under_apex, is_unknown_name, list_shape, misplaced_at, number_of, parent_of, parent_order, repeats_name, repeats_pair, text_in, texts_of, too_deep, units_of};
 ghost use Rattle.topology_text.specs.Values.{whole_if};
 ghost use Rattle.topology_text.specs.Walk.{first, value_at};
 
@@ -35,32 +35,91 @@ fn is_other(found: Option<usize>, number: usize) -> bool
     }
 }
 
+/// The class of that number among classes is another unit than number i.
+fn is_other_class(found: Option<usize>, groups: usize, i: usize) -> bool
+    ensures { result ≡ is_other (option_map (λ n. groups + n) found) i }
+{
+    match found {
+        Some(first) => i < groups || i - groups != first,
+        None => false,
+    }
+}
+
+/// The first of that name is another unit than group number i.
+fn is_taken_group(index: &Entries<'_>, i: usize, name: &str) -> bool
+    ensures { result ≡ is_taken (units_of (entries index.now)) i (Some name.now) }
+{
+    match index.group_number(name) {
+        Some(first) => first != i,
+        None => is_other_class(index.class_number(name), index.groups().len(), i),
+    }
+}
+
+/// The first of that name is another unit than class number i.
+fn is_taken_class(index: &Entries<'_>, i: usize, name: &str) -> bool
+    ensures { result ≡ is_taken (units_of (entries index.now)) (length (entries index.now).groups + i) (Some name.now) }
+{
+    match index.group_number(name) {
+        Some(_) => true,
+        None => is_other(index.class_number(name), i),
+    }
+}
+
 /// The name is that of an earlier entry.
 fn repeats_name(index: &Entries<'_>, spot: Spot, name: &str) -> bool
     ensures { result ≡ repeats_name (entries index.now) spot (Some name.now) }
 {
     match spot {
         Spot::NodeTable(i) => is_other(index.node_number(name), i),
-        Spot::GroupTable(i) => is_other(index.group_number(name), i),
+        Spot::GroupTable(i) => is_taken_group(index, i, name),
+        Spot::ClassTable(i) => is_taken_class(index, i, name),
         _ => false,
     }
 }
 
-/// The later of two entries, name servers or services of one name.
+/// Whether such a class stands at a place of the walk, of the flags of all classes.
+fn is_repeat_at(repeats: &[bool], spot: Spot) -> bool
+    ensures { result ≡ flag_at repeats.now spot }
+{
+    match spot {
+        Spot::ClassTable(i) => match repeats.get(i) {
+            Some(flag) => *flag,
+            None => false,
+        },
+        _ => false,
+    }
+}
+
+/// The later of two entries, name servers or services of one name, and of two classes of one group and service, which are looked for before.
 #[derive(Drop)]
-pub struct DuplicateName<'a>(pub &'a Entries<'a>);
+pub struct DuplicateName<'a> {
+    index: &'a Entries<'a>,
+    repeats: &'a [bool],
+    ghost repeats_are: { (i : ℕ) → slice_index_or repeats.now i false ≡ repeats_pair (entries index.now) i },
+}
+
+impl<'a> DuplicateName<'a> {
+    /// The rule over these entries, with a flag for each class that repeats an earlier one's group and service.
+    pub fn new(index: &'a Entries<'a>, repeats: &'a [bool]) -> DuplicateName<'a>
+        requires { (i : ℕ) → slice_index_or repeats.now i false ≡ repeats_pair (entries index.now) i }
+        ensures { result.index.now ≡ index.now }
+    {
+        DuplicateName { index, repeats }
+    }
+}
 
 impl<'a> Rule for DuplicateName<'a> {
-    ghost finds = { λ r v k. duplicate_name (entries r.0.now) v k };
+    ghost finds = { λ r v k. duplicate_name (entries r.index.now) v k };
 
     fn first(&self, table: &TableAt<'_>, key: Key) -> Option<At> {
         match key {
             Key::Name => {
                 let name = table.text(Key::Name)?;
-                whole_if(repeats_name(self.0, table.spot, name))
+                whole_if(repeats_name(self.index, table.spot, name))
             }
-            Key::Ns => self.0.ns_repeat(),
-            Key::Services => self.0.services_repeat(),
+            Key::Ns => self.index.ns_repeat(),
+            Key::Services => self.index.services_repeat(),
+            Key::Service => whole_if(is_repeat_at(self.repeats, table.spot)),
             _ => None,
         }
     }
@@ -76,7 +135,7 @@ fn is_pool_name(index: &Entries<'_>, name: &str) -> bool
     }
 }
 
-/// A parent that is no node, or a pool that is none.
+/// A parent that is no node, a pool that is none, a class's group that is none, or its service that is none.
 #[derive(Drop)]
 pub struct UnknownName<'a>(pub &'a Entries<'a>);
 
@@ -84,13 +143,15 @@ impl<'a> Test for UnknownName<'a> {
     ghost fails = { λ r k d. is_unknown_name (entries r.0.now) k d };
 
     fn reads(&self, key: Key) -> bool {
-        matches!(key, Key::Parent | Key::Pools)
+        matches!(key, Key::Parent | Key::Pools | Key::Owner | Key::Service)
     }
 
     fn is_bad(&self, key: Key, value: &Value) -> bool {
         match (key, value) {
             (Key::Parent, Value::String(text)) => self.0.node_number(text.as_str()).is_none(),
             (Key::Pools, Value::String(text)) => !is_pool_name(self.0, text.as_str()),
+            (Key::Owner, Value::String(text)) => self.0.group_number(text.as_str()).is_none(),
+            (Key::Service, Value::String(text)) => self.0.service_number(text.as_str()).is_none(),
             _ => false,
         }
     }

@@ -1,19 +1,21 @@
 //! Names of entries.
-ghost use Rattle.std.specs.Prelude.{◌<◌, length, IfSome, ◌≡◌, ℕ, map, List, Option, option_map, option_and_then, IfOk, OnOk, if◌then◌else◌, Some, None};
+ghost use Rattle.std.specs.Prelude.{◌<◌, length, IfSome, ◌≡◌, ℕ, map, List, Option, option_map, option_and_then, IfOk, OnOk, if◌then◌else◌, Some, None, position};
+ghost use Rattle.name_text.specs.Names.{is_same};
 ghost use Rattle.std.specs.HashMap.{get_by};
 ghost use Rattle.std.specs.Option.{option_or};
 ghost use Rattle.std.specs.Str.{bytes_eq};
 ghost use Rattle.toml.specs.View.{table_view, view};
 ghost use Rattle.topology_text.specs.Walk.{first, value_at};
 ghost use Rattle.topology_text.specs.Texts.{zone_name};
-ghost use Rattle.topology_text.specs.Names.{entries_of, entry_at, flag_in, is_pool, number_of, parent_of, repeats_in, text_at, text_in, zone_items, zone_text};
+ghost use Rattle.topology_text.specs.Names.{entries_of, entry_at, flag_in, is_pool, names_in, number_of, pair_of, parent_of, repeats_in, service_number, text_at, text_in, zone_items, zone_text};
 ghost use Rattle.topology_text.specs.declared.schema.Key.TheVariants.{Apex, Ns, Services};
 
 use crate::schema::{At, Key};
-use crate::texts::zone_name;
+use crate::texts::{service_name, zone_name};
+use crate::topology::Names;
 use crate::visited::{items_of, value_of};
-use crate::zone::{first_repeat, zone_items, zone_table, zone_text};
-use name_text::Name;
+use crate::zone::{first_repeat, wire_names, zone_items, zone_table, zone_text};
+use name_text::{Name, same_name};
 use std::alloc::{AllocError, Global};
 use std::collections::HashMap;
 use toml::{Table, Value};
@@ -106,21 +108,33 @@ fn zone_apex(zone: Option<&Table>) -> Option<Name>
     }
 }
 
-/// The entries of a topology's two arrays and its zone, with their names.
+/// The first of some names that one is, whatever the case of letters.
+fn place_among(names: &[Name], name: &[u8]) -> Option<usize>
+    ensures { result ≡ position (is_same name.now) names.now }
+{
+    names.iter().position(|other| same_name(name, other.wire()))
+}
+
+/// The entries of a topology's three arrays and its zone, with their names.
 #[derive(Drop)]
 pub struct Entries<'a> {
     nodes: &'a [Value],
     groups: &'a [Value],
+    classes: &'a [Value],
     zone: Option<&'a Table>,
     pools: Vec<bool>,
     node_numbers: HashMap<&'a str, usize>,
     group_numbers: HashMap<&'a str, usize>,
+    class_numbers: HashMap<&'a str, usize>,
+    services: Names,
     apex: Option<Name>,
     ns_repeat: Option<At>,
     services_repeat: Option<At>,
     ghost pools_are: { pools.items ≡ map is_pool (map view nodes.now) },
     ghost nodes_are: { (q : List ℕ) → get_by (λ k. bytes_eq q k.now) node_numbers ≡ number_of (map view nodes.now) q },
     ghost groups_are: { (q : List ℕ) → get_by (λ k. bytes_eq q k.now) group_numbers ≡ number_of (map view groups.now) q },
+    ghost classes_are: { (q : List ℕ) → get_by (λ k. bytes_eq q k.now) class_numbers ≡ number_of (map view classes.now) q },
+    ghost names_are: { services ≡ names_in Services (zone_items (option_map (λ t. table_view t.now) zone) Services) },
     ghost apex_is: { apex ≡ option_and_then zone_name (zone_text (option_map (λ t. table_view t.now) zone) Apex) },
     ghost ns_are: { ns_repeat ≡ first (repeats_in Ns (zone_items (option_map (λ t. table_view t.now) zone) Ns)) },
     ghost services_are: { services_repeat ≡ first (repeats_in Services (zone_items (option_map (λ t. table_view t.now) zone) Services)) },
@@ -135,19 +149,25 @@ impl<'a> Entries<'a> {
     {
         let nodes = items_of(top, Key::Node);
         let groups = items_of(top, Key::Group);
+        let classes = items_of(top, Key::Class);
         let zone = zone_table(top);
         let pools = pools_of(alloc, nodes)?;
         let node_numbers = numbers_of(alloc, nodes)?;
         let group_numbers = numbers_of(alloc, groups)?;
+        let class_numbers = numbers_of(alloc, classes)?;
+        let services = wire_names(alloc, Key::Services, zone_items(zone, Key::Services))?;
         let ns_repeat = first_repeat(alloc, Key::Ns, zone_items(zone, Key::Ns))?;
         let services_repeat = first_repeat(alloc, Key::Services, zone_items(zone, Key::Services))?;
         Ok(Entries {
             nodes,
             groups,
+            classes,
             zone,
             pools,
             node_numbers,
             group_numbers,
+            class_numbers,
+            services,
             apex: zone_apex(zone),
             ns_repeat,
             services_repeat,
@@ -197,6 +217,34 @@ impl<'a> Entries<'a> {
         self.group_numbers.get(name).copied()
     }
 
+    /// The first class of that name.
+    pub fn class_number(&self, name: &str) -> Option<usize>
+        ensures { result ≡ number_of (entries self.now).classes name.now }
+    {
+        self.class_numbers.get(name).copied()
+    }
+
+    /// The service whose label that is, whatever the case of letters.
+    pub fn service_number(&self, text: &str) -> Option<usize>
+        ensures { result ≡ service_number (entries self.now).zone text.now }
+    {
+        match service_name(text) {
+            Some(name) => place_among(self.services.as_slice(), name.wire()),
+            None => None,
+        }
+    }
+
+    /// The numbers of the group and the service that a class names.
+    pub fn pair_of(&self, entry: &Value) -> Option<(usize, usize)>
+        ensures { result ≡ pair_of (entries self.now) (view entry.now) }
+    {
+        let owner = text_at(entry, Key::Owner)?;
+        let service = text_at(entry, Key::Service)?;
+        let group = self.group_number(owner)?;
+        let service = self.service_number(service)?;
+        Some((group, service))
+    }
+
     /// That node is there, and is a pool.
     pub fn is_pool(&self, node: usize) -> bool
         ensures { result ≡ is_pool (entry_at (entries self.now).nodes node) }
@@ -228,5 +276,12 @@ impl<'a> Entries<'a> {
         ensures { result.now ≡ self.now.groups.now }
     {
         self.groups
+    }
+
+    /// The entries of `class`.
+    pub fn classes(&self) -> &[Value]
+        ensures { result.now ≡ self.now.classes.now }
+    {
+        self.classes
     }
 }

@@ -1,22 +1,24 @@
 //! What a fault-free table says beside the instance.
-ghost use Rattle.std.specs.Prelude.{◌≡◌, ◌<◌, ◌^◌, All, AllPairs, IfOk, IsTrue, is_some, length, map, option_and_then, option_map};
+ghost use Rattle.std.specs.Prelude.{◌≡◌, ◌++◌, OnOk, ◌<◌, ◌^◌, All, AllPairs, IfOk, IsTrue, is_some, length, map, option_and_then, option_map};
 ghost use Rattle.std.specs.List.{filter_map};
 ghost use Rattle.toml.specs.View.{table_view, view};
 ghost use Rattle.topology_text.specs.Code.{entries};
-ghost use Rattle.topology_text.specs.Names.{names_in, zone_text};
+ghost use Rattle.topology_text.specs.Names.{units_of, zone_text};
 ghost use Rattle.topology_text.specs.Plan.{ArePrefixes};
 ghost use Rattle.topology_text.specs.Texts.{zone_name};
-ghost use Rattle.topology_text.specs.Topology.{IsSound, IsSoundZone, address_in, hosts_of, items_in, name_of, owned, plan_of, zone_name_at, zone_number, zone_of};
+ghost use Rattle.topology_text.specs.Topology.{IsSound, IsSoundZone, address_in, classes_of, hosts_of, items_in, name_of, owned, plan_of, zone_name_at, zone_number, zone_of};
 
 use crate::build::{instance, items_in, natural};
+use crate::classes::Classes;
 use crate::names::{Entries, text_at};
+use crate::pairs::pairs;
 use crate::prefixes::PrefixAt;
 use crate::schema::Key;
 use crate::soa::SoaContent;
 use crate::texts::{v4_address, v6_address, zone_name};
 use crate::topology::{Hosts, Names, Topology, Zone};
 use crate::visited::value_of;
-use crate::zone::{name_in, zone_items, zone_text};
+use crate::zone::{wire_names, zone_items, zone_text};
 use addr_text::{Addr, Prefix};
 use indexmap::IndexSet;
 use map_model::GroupId;
@@ -34,17 +36,49 @@ fn name_of(alloc: Global, entry: &Value) -> Result<Vec<u8>, AllocError>
     }
 }
 
+/// Adds the names of entries, which differ from each other and from those before.
+fn push_names(
+    alloc: Global,
+    names: &mut IndexSet<Vec<u8>>,
+    entries: &[Value],
+) -> Result<(), AllocError>
+    requires { AllPairs (λ a b. a ≡ b → ⊥) (map (λ v. v.items) names.old.keys ++ map name_of (map view entries.now)) }
+    ensures { OnOk result (map (λ v. v.items) names.new.keys ≡ map (λ v. v.items) names.old.keys ++ map name_of (map view entries.now)) }
+{
+    for entry in entries {
+        let name = name_of(alloc, entry)?;
+        names.insert_full(name)?;
+    }
+    Ok(())
+}
+
 /// The names of entries, which differ.
 fn names(alloc: Global, entries: &[Value]) -> Result<IndexSet<Vec<u8>>, AllocError>
     requires { AllPairs (λ a b. a ≡ b → ⊥) (map name_of (map view entries.now)) }
     ensures { IfOk result (λ s. map (λ v. v.items) s.keys ≡ map name_of (map view entries.now)) }
 {
     let mut names = IndexSet::new(alloc);
-    for entry in entries {
-        let name = name_of(alloc, entry)?;
-        names.insert_full(name)?;
-    }
+    push_names(alloc, &mut names, entries)?;
     Ok(names)
+}
+
+/// The names of groups and of the classes behind them.
+fn unit_names(alloc: Global, index: &Entries<'_>) -> Result<IndexSet<Vec<u8>>, AllocError>
+    requires { AllPairs (λ a b. a ≡ b → ⊥) (map name_of (units_of (entries index.now))) }
+    ensures { IfOk result (λ s. map (λ v. v.items) s.keys ≡ map name_of (units_of (entries index.now))) }
+{
+    let mut names = names(alloc, index.groups())?;
+    push_names(alloc, &mut names, index.classes())?;
+    Ok(names)
+}
+
+/// The classes, and how many groups stand before them.
+fn classes(alloc: Global, index: &Entries<'_>) -> Result<Classes, AllocError>
+    requires { IsSound (entries index.now) }
+    ensures { IfOk result (λ c. c ≡ classes_of (entries index.now)) }
+{
+    let pairs = pairs(alloc, index)?;
+    Classes::new(alloc, index.groups().len(), pairs)
 }
 
 /// The address that an item of `a` or `aaaa` is.
@@ -101,19 +135,6 @@ fn owned(alloc: Global, prefixes: &[PrefixAt]) -> Result<Vec<(Prefix, GroupId)>,
         owned.push((entry.prefix, GroupId(entry.group as u32)))?;
     }
     Ok(owned)
-}
-
-/// The names in a list of the zone.
-fn wire_names(alloc: Global, key: Key, items: &[Value]) -> Result<Names, AllocError>
-    ensures { IfOk result (λ v. v ≡ names_in key (map view items.now)) }
-{
-    let mut names = Vec::new(alloc);
-    for item in items {
-        if let Some(name) = name_in(key, item) {
-            names.push(name)?;
-        }
-    }
-    Ok(Names::new(names))
 }
 
 /// The name at a key of the zone.
@@ -184,8 +205,17 @@ pub fn topology(
     let instance = instance(alloc, index)?;
     let zone = zone_of(alloc, index.zone())?;
     let node_names = names(alloc, index.nodes())?;
-    let group_names = names(alloc, index.groups())?;
+    let group_names = unit_names(alloc, index)?;
+    let classes = classes(alloc, index)?;
     let owned = owned(alloc, prefixes)?;
     let hosts = all_hosts(alloc, index.nodes())?;
-    Ok(Topology::from_parts(instance, zone, node_names, group_names, owned, hosts))
+    Ok(Topology::from_parts(
+        instance,
+        zone,
+        node_names,
+        group_names,
+        classes,
+        owned,
+        hosts,
+    ))
 }

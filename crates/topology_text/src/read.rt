@@ -1,14 +1,16 @@
 //! Reading a topology: the first of its seventeen faults, by number and then by the order of the walk, or what it says.
-ghost use Rattle.std.specs.Prelude.{◌≡◌, ◌++◌, map, IfOk, IfErr, MatchResult};
+ghost use Rattle.std.specs.Prelude.{◌≡◌, ℕ, false, slice_index_or, ◌++◌, map, IfOk, IfErr, MatchResult};
 ghost use Rattle.toml.specs.View.{table_view};
 ghost use Rattle.topology_text.specs.Code.{entries, visit};
 ghost use Rattle.topology_text.specs.Faults.{HasNoTable, checked, document, faults_on, list_faults, name_faults, reading, shape_faults, value_faults};
 ghost use Rattle.topology_text.specs.Prefixes.{all_prefixes, duplicate_prefixes, no_default};
-ghost use Rattle.topology_text.specs.Walk.{first};
+ghost use Rattle.topology_text.specs.Names.{duplicate_name, repeats_pair};
+ghost use Rattle.topology_text.specs.Walk.{first, places_of};
 
 use crate::fault::TopologyFault;
 use crate::links::{DuplicateName, ListShape, NsInside, ParentOrder, TooDeep, UnknownName};
 use crate::names::Entries;
+use crate::pairs::repeated_pairs;
 use crate::parts::topology;
 use crate::prefixes::{PrefixAt, all_prefixes, first_duplicate, first_lacking, first_passing};
 use crate::rule::first_by;
@@ -39,14 +41,27 @@ fn check_shape(tables: &[TableAt<'_>]) -> Result<(), TopologyFault>
     Ok(())
 }
 
+/// The first name, or service of a class, that stands earlier too.
+fn first_repeated(index: &Entries<'_>, repeats: &[bool], tables: &[TableAt<'_>]) -> Option<Place>
+    requires { (i : ℕ) → slice_index_or repeats.now i false ≡ repeats_pair (entries index.now) i }
+    ensures { result ≡ first (places_of (duplicate_name (entries index.now)) (map visit tables.now)) }
+{
+    first_by(&DuplicateName::new(index, repeats), tables)
+}
+
 /// Names, and what they lead to.
-fn check_names(index: &Entries<'_>, tables: &[TableAt<'_>]) -> Result<(), TopologyFault>
+fn check_names(
+    index: &Entries<'_>,
+    repeats: &[bool],
+    tables: &[TableAt<'_>],
+) -> Result<(), TopologyFault>
+    requires { (i : ℕ) → slice_index_or repeats.now i false ≡ repeats_pair (entries index.now) i }
     ensures { result ≡ checked (name_faults (entries index.now) (map visit tables.now)) }
 {
     if let Some(place) = first_by(&EachValue(BadName), tables) {
         return Err(TopologyFault::BadName(place));
     }
-    if let Some(place) = first_by(&DuplicateName(index), tables) {
+    if let Some(place) = first_repeated(index, repeats, tables) {
         return Err(TopologyFault::DuplicateName(place));
     }
     if let Some(place) = first_by(&EachValue(UnknownName(index)), tables) {
@@ -113,18 +128,22 @@ fn check_lists(index: &Entries<'_>, tables: &[TableAt<'_>]) -> Result<(), Topolo
 /// The first fault.
 fn check(
     index: &Entries<'_>,
+    repeats: &[bool],
     tables: &[TableAt<'_>],
     prefixes: &[PrefixAt],
     duplicate: Option<Place>,
 ) -> Result<(), TopologyFault>
+    requires repeats { (i : ℕ) → slice_index_or repeats.now i false ≡ repeats_pair (entries index.now) i }
     requires prefixes { prefixes.now ≡ all_prefixes (map visit tables.now) }
     requires duplicate { duplicate ≡ first (duplicate_prefixes prefixes.now) }
     ensures { result ≡ checked (faults_on (entries index.now) (map visit tables.now)) }
 {
     check_shape(tables)?;
-    check_names(index, tables)?;
+    check_names(index, repeats, tables)?;
     check_values(tables)?;
-    check_prefixes(prefixes, duplicate)?;
+    if let Err(fault) = check_prefixes(prefixes, duplicate) {
+        return Err(fault);
+    }
     check_lists(index, tables)
 }
 
@@ -160,9 +179,16 @@ pub fn read_topology(alloc: Global, bytes: &[u8]) -> Result<Topology, TopologyFa
     let table = parse(alloc, bytes)?;
     let tables = walk(alloc, &table)?;
     let index = Entries::new(alloc, &table)?;
+    let repeats = repeated_pairs(alloc, &index)?;
     let prefixes = all_prefixes(alloc, tables.as_slice())?;
     let duplicate = first_duplicate(alloc, prefixes.as_slice())?;
-    if let Err(fault) = check(&index, tables.as_slice(), prefixes.as_slice(), duplicate) {
+    if let Err(fault) = check(
+        &index,
+        repeats.as_slice(),
+        tables.as_slice(),
+        prefixes.as_slice(),
+        duplicate,
+    ) {
         return Err(fault);
     }
     Ok(topology(alloc, &index, prefixes.as_slice())?)

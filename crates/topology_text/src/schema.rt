@@ -11,6 +11,7 @@ pub enum Key {
     Zone,
     Node,
     Group,
+    Class,
     Apex,
     Mname,
     Rname,
@@ -33,6 +34,9 @@ pub enum Key {
     Scores,
     Limits,
     Prefixes,
+    /// The group of a class, under the text `group`.
+    Owner,
+    Service,
 }
 
 /// What a key's value is.
@@ -54,6 +58,7 @@ pub enum Spot {
     ZoneTable,
     NodeTable(usize),
     GroupTable(usize),
+    ClassTable(usize),
     /// No table: the prefixes of an address family, 4 or 6.
     Family(u8),
 }
@@ -82,6 +87,7 @@ impl Key {
             Key::Zone => "zone",
             Key::Node => "node",
             Key::Group => "group",
+            Key::Class => "class",
             Key::Apex => "apex",
             Key::Mname => "mname",
             Key::Rname => "rname",
@@ -104,6 +110,8 @@ impl Key {
             Key::Scores => "scores",
             Key::Limits => "limits",
             Key::Prefixes => "prefixes",
+            Key::Owner => "group",
+            Key::Service => "service",
         }
     }
 
@@ -113,8 +121,9 @@ impl Key {
     {
         match self {
             Key::Zone => Kind::Table,
-            Key::Node | Key::Group => Kind::Tables,
+            Key::Node | Key::Group | Key::Class => Kind::Tables,
             Key::Apex | Key::Mname | Key::Rname | Key::Name | Key::Parent => Kind::Text,
+            Key::Owner | Key::Service => Kind::Text,
             Key::Ns | Key::Services | Key::A | Key::Aaaa | Key::Pools | Key::Prefixes =>
                 Kind::Texts,
             Key::Scores | Key::Limits => Kind::Integers,
@@ -127,14 +136,39 @@ impl Key {
     }
 
     /// Where the key stands among those of its table. Were it wrong, the value would be looked up by the key's text.
-    pub(crate) fn place(self) -> usize
+    pub(crate) fn place(self, spot: Spot) -> usize
+        ensures { result < 11 }
+    {
+        match spot {
+            Spot::ClassTable(_) => self.place_in_class(),
+            _ => self.place_beside(),
+        }
+    }
+
+    /// Where it stands in a class.
+    fn place_in_class(self) -> usize
         ensures { result < 11 }
     {
         match self {
-            Key::Zone | Key::Apex | Key::Name => 0,
+            Key::Owner => 1,
+            Key::Service => 2,
+            Key::Demand => 3,
+            Key::Pools => 4,
+            Key::Scores => 5,
+            Key::Limits => 6,
+            _ => 0,
+        }
+    }
+
+    /// Where it stands in each other table.
+    fn place_beside(self) -> usize
+        ensures { result < 11 }
+    {
+        match self {
+            Key::Zone | Key::Apex | Key::Name | Key::Owner | Key::Service => 0,
             Key::Node | Key::Mname | Key::Parent | Key::Demand => 1,
             Key::Group | Key::Rname | Key::Capacity | Key::Pools => 2,
-            Key::Serial | Key::Pool | Key::Scores => 3,
+            Key::Class | Key::Serial | Key::Pool | Key::Scores => 3,
             Key::Refresh | Key::A | Key::Limits => 4,
             Key::Retry | Key::Aaaa | Key::Prefixes => 5,
             Key::Expire => 6,
@@ -151,7 +185,7 @@ impl Key {
     {
         !matches!(
             self,
-            Key::Parent | Key::Pool | Key::A | Key::Aaaa | Key::Limits
+            Key::Class | Key::Parent | Key::Pool | Key::A | Key::Aaaa | Key::Limits
         )
     }
 }
@@ -162,7 +196,7 @@ impl Spot {
         ensures { result.now ≡ keys_of self }
     {
         match self {
-            Spot::Top => &[Key::Zone, Key::Node, Key::Group],
+            Spot::Top => &[Key::Zone, Key::Node, Key::Group, Key::Class],
             Spot::ZoneTable => &[
                 Key::Apex,
                 Key::Mname,
@@ -192,6 +226,15 @@ impl Spot {
                 Key::Limits,
                 Key::Prefixes,
             ],
+            Spot::ClassTable(_) => &[
+                Key::Name,
+                Key::Owner,
+                Key::Service,
+                Key::Demand,
+                Key::Pools,
+                Key::Scores,
+                Key::Limits,
+            ],
             Spot::Family(_) => &[],
         }
     }
@@ -206,6 +249,7 @@ impl fmt::Display for Spot {
             Spot::ZoneTable => f.write_str("zone"),
             Spot::NodeTable(n) => write!(f, "node {n}"),
             Spot::GroupTable(n) => write!(f, "group {n}"),
+            Spot::ClassTable(n) => write!(f, "class {n}"),
             Spot::Family(n) => write!(f, "family {n}"),
         }
     }

@@ -1,7 +1,8 @@
 //! A topology as it was read.
 ghost use Rattle.std.specs.Prelude.{◌≡◌, ◌⊎◌, ◌<◌, length, map, option_map, slice_index_or, []};
-ghost use Rattle.topology_text.specs.Plan.{IsPlan, Plan, addresses_of, number_in};
+ghost use Rattle.topology_text.specs.Plan.{IsPlan, Plan, addresses_of, number_in, unit_of};
 
+use crate::classes::Classes;
 use crate::soa::SoaContent;
 use addr_text::{Addr, Prefix};
 use indexmap::IndexSet;
@@ -116,13 +117,14 @@ impl Hosts {
     }
 }
 
-/// All that a topology's file says: the instance, the zone, and the names, addresses and prefixes.
+/// All that a topology's file says: the instance, the zone, and the names, classes, addresses and prefixes. Classes are groups of the instance, with numbers behind those of the groups that the file has.
 #[derive(Drop)]
 pub struct Topology {
     instance: Instance,
     zone: Zone,
     node_names: IndexSet<Vec<u8>>,
     group_names: IndexSet<Vec<u8>>,
+    classes: Classes,
     prefixes: Vec<(Prefix, GroupId)>,
     addresses: Vec<Hosts>,
 }
@@ -146,23 +148,25 @@ impl Topology {
         zone: Zone,
         node_names: IndexSet<Vec<u8>>,
         group_names: IndexSet<Vec<u8>>,
+        classes: Classes,
         prefixes: Vec<(Prefix, GroupId)>,
         addresses: Vec<Hosts>,
     ) -> Topology
-        requires { IsPlan (record { market = instance; zone = zone; node_names = map (λ v. v.items) node_names.keys; group_names = map (λ v. v.items) group_names.keys; prefixes = prefixes.items; addresses = addresses.items }) }
-        ensures { result ≡ record { market = instance; zone = zone; node_names = map (λ v. v.items) node_names.keys; group_names = map (λ v. v.items) group_names.keys; prefixes = prefixes.items; addresses = addresses.items } }
+        requires { IsPlan (record { market = instance; zone = zone; node_names = map (λ v. v.items) node_names.keys; group_names = map (λ v. v.items) group_names.keys; classes = classes; prefixes = prefixes.items; addresses = addresses.items }) }
+        ensures { result ≡ record { market = instance; zone = zone; node_names = map (λ v. v.items) node_names.keys; group_names = map (λ v. v.items) group_names.keys; classes = classes; prefixes = prefixes.items; addresses = addresses.items } }
     {
         Topology {
             instance,
             zone,
             node_names,
             group_names,
+            classes,
             prefixes,
             addresses,
         }
     }
 
-    /// The groups, the nodes, and their numbers.
+    /// The groups, the classes behind them, the nodes, and their numbers.
     pub fn instance(&self) -> &Instance
         ensures instance { result.now ≡ self.now.market }
         ensures plan { IsPlan self.now }
@@ -186,7 +190,7 @@ impl Topology {
         self.prefixes.as_slice()
     }
 
-    /// The group of that name, whose octets and letter case are compared as they are.
+    /// The group or class of that name, whose octets and letter case are compared as they are.
     pub fn group_named(&self, name: &[u8]) -> Option<GroupId>
         ensures number { option_map (λ g. g.0) result ≡ number_in self.now.group_names name.now }
         ensures plan { IsPlan self.now }
@@ -204,7 +208,7 @@ impl Topology {
         Some(NodeId(number as u32))
     }
 
-    /// The name of a group.
+    /// The name of a group or class.
     pub fn group_name(&self, group: GroupId) -> &[u8]
         requires { group.0 < length self.now.market.groups }
         ensures name { result.now ≡ slice_index_or self.now.group_names group.0 [] }
@@ -226,6 +230,16 @@ impl Topology {
             Some(name) => name.as_slice(),
             None => &[],
         }
+    }
+
+    /// The unit of a group for the service of that number: the class of that group and service where there is one, else the group itself, also for a number that no service has. It takes one load.
+    pub fn unit_of(&self, group: GroupId, service: u8) -> GroupId
+        requires group { group.0 < length self.now.market.groups }
+        ensures unit { result.0 ≡ unit_of self.now group.0 service }
+        ensures there { result.0 < length self.now.market.groups }
+        ensures plan { IsPlan self.now }
+    {
+        self.classes.unit_of(group, service)
     }
 
     /// The addresses of a node for records of type A (`kind` is 1) or AAAA (28), in the file's order.

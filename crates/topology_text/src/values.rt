@@ -1,11 +1,11 @@
 //! Rules that look at one value alone.
 ghost use Rattle.std.specs.Prelude.{◌≡◌, ℕ, map, length, List, Bool, false, not, Option, option_map};
 ghost use Rattle.toml.specs.Data.{Data};
-ghost use Rattle.toml.specs.View.{view};
+ghost use Rattle.toml.specs.View.{table_view, view};
 ghost use Rattle.topology_text.specs.Schema.{is_kind, is_item_kind, kind_of};
-ghost use Rattle.topology_text.specs.Walk.{Visit, first, items_from, items_where, value_at};
+ghost use Rattle.topology_text.specs.Walk.{Visit, first, items_from, items_of_value, items_where, value_at};
 ghost use Rattle.topology_text.specs.Code.{visit};
-ghost use Rattle.topology_text.specs.Values.{failing, is_bad_address, is_bad_name, is_bad_prefix, is_in_range, is_out_of_range, is_over, is_within, limit_of, missing, too_many, wrong_in, wrong_kind};
+ghost use Rattle.topology_text.specs.Values.{are_many_units, failing, is_bad_address, is_bad_name, is_bad_prefix, is_in_range, is_out_of_range, is_over, is_within, limit_of, missing, too_many, whole_if, wrong_in, wrong_kind};
 
 use crate::limits::{MOST_ADDRESSES, MOST_NAME_SERVERS, MOST_SECONDS, MOST_SERVICES};
 use crate::rule::Rule;
@@ -260,7 +260,26 @@ fn limit_of(key: Key) -> Option<usize>
     }
 }
 
-/// An array is past its limit.
+/// Groups and classes together are past the groups' limit.
+fn are_many_units(table: &TableAt<'_>) -> bool
+    ensures { result ≡ are_many_units (table_view table.now.table.now) }
+{
+    let groups = table.items(Key::Group).len();
+    let classes = table.items(Key::Class).len();
+    groups > MOST_GROUPS || classes > MOST_GROUPS - groups
+}
+
+/// The array at a key is past the key's limit.
+fn past_limit(table: &TableAt<'_>, key: Key) -> Option<At>
+    ensures { result ≡ first (whole_if (is_over (limit_of key) (length (items_of_value (value_at (table_view table.now.table.now) key))))) }
+{
+    match limit_of(key) {
+        Some(limit) if table.items(key).len() > limit => Some(At::Whole),
+        _ => None,
+    }
+}
+
+/// An array is past its limit; that of classes is over groups and classes together.
 #[derive(Drop)]
 pub struct TooMany;
 
@@ -268,9 +287,10 @@ impl Rule for TooMany {
     ghost finds = { λ _ v k. too_many v k };
 
     fn first(&self, table: &TableAt<'_>, key: Key) -> Option<At> {
-        match limit_of(key) {
-            Some(limit) if table.items(key).len() > limit => Some(At::Whole),
-            _ => None,
+        match key {
+            Key::Class if are_many_units(table) => Some(At::Whole),
+            Key::Class => None,
+            _ => past_limit(table, key),
         }
     }
 }

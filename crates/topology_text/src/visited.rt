@@ -77,7 +77,7 @@ impl<'a> TableAt<'a> {
     pub fn value(&self, key: Key) -> Option<&'a Value>
         ensures { option_map (λ v. view v.now) result ≡ value_at (table_view self.now.table.now) key }
     {
-        let place = key.place();
+        let place = key.place(self.spot);
         match (self.spot.keys().get(place), self.row.as_slice().get(place)) {
             (Some(other), Some(value)) if *other == key => *value,
             _ => value_of(self.table, key),

@@ -9,12 +9,13 @@ use crate::visited::{TableAt, items_of, value_of};
 use std::alloc::{AllocError, Global};
 use toml::{Table, Value};
 
-/// The place of an entry of `node` or `group`.
+/// The place of an entry of `node`, `group` or `class`.
 fn entry_spot(key: Key, index: usize) -> Spot
     ensures { result ≡ entry_spot key index }
 {
     match key {
         Key::Node => Spot::NodeTable(index),
+        Key::Class => Spot::ClassTable(index),
         _ => Spot::GroupTable(index),
     }
 }
@@ -67,5 +68,6 @@ pub fn walk(alloc: Global, top: &Table) -> Result<Vec<TableAt<'_>>, AllocError>
     push_zone(&mut tables, top)?;
     push_entries(&mut tables, Key::Node, items_of(top, Key::Node))?;
     push_entries(&mut tables, Key::Group, items_of(top, Key::Group))?;
+    push_entries(&mut tables, Key::Class, items_of(top, Key::Class))?;
     Ok(tables)
 }

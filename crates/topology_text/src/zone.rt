@@ -2,12 +2,13 @@
 ghost use Rattle.std.specs.Prelude.{◌≡◌, ◌++◌, map, false, IfOk, Ok, Some, option_map};
 ghost use Rattle.std.specs.Str.{str_to_ascii_lowercase};
 ghost use Rattle.toml.specs.View.{table_view, view};
-ghost use Rattle.topology_text.specs.Names.{folds_of, is_seen, name_in, repeats_in, zone_items, zone_text};
+ghost use Rattle.topology_text.specs.Names.{folds_of, is_seen, name_in, names_in, repeats_in, zone_items, zone_text};
 ghost use Rattle.topology_text.specs.Walk.{first, table_in, value_at};
 
 use crate::names::text_of;
 use crate::schema::{At, Key};
 use crate::texts::{service_name, zone_name};
+use crate::topology::Names;
 use crate::visited::{items_of, value_of};
 use indexmap::IndexSet;
 use name_text::Name;
@@ -91,4 +92,17 @@ pub fn first_repeat(alloc: Global, key: Key, items: &[Value]) -> Result<Option<A
         }
     }
     Ok(None)
+}
+
+/// The names in a list of the zone.
+pub fn wire_names(alloc: Global, key: Key, items: &[Value]) -> Result<Names, AllocError>
+    ensures { IfOk result (λ v. v ≡ names_in key (map view items.now)) }
+{
+    let mut names = Vec::new(alloc);
+    for item in items {
+        if let Some(name) = name_in(key, item) {
+            names.push(name)?;
+        }
+    }
+    Ok(Names::new(names))
 }

@@ -1,15 +1,16 @@
-use Rattle.std.proofs.Common.{subst, ◌<◌, map, length, arith}
-use Rattle.std.proofs.lemmas.List.{length-map}
+use Rattle.std.proofs.Common.{All, map, subst, sym}
 use Rattle.toml.specs.View.{view}
-use Rattle.toml.specs.declared.value.Value.{Value}
+use Rattle.topology_text.specs.Code.{entries}
 use Rattle.topology_text.specs.Topology.{IsSoundGroup}
-use Rattle.topology_text.proofs.Rows.{entry_is}
+use Rattle.topology_text.proofs.SoundClasses.{units_first, units_rest}
 use Rattle.topology_text.proofs.build.group_rows.Goals as goal
 
-pub group_row-requires-clause-group : goal.group_row-requires-clause-group
-group_row-requires-clause-group c =
-    let groups = c.args.index.now.groups.now in
-    let i = c.loop-entry.entry-index in
-    let l : i < length groups = subst (λ vs. i < length {A = Value} vs) c.groups-entry-items.ensures c.loop-entry-test.true in
-    let l2 : i < length (map view groups) = omega (arith, length-map groups view) in
-    subst (λ e. IsSoundGroup (map view c.args.index.now.nodes.now) e) (entry_is groups c.groups-entry-items.result.now i c.entry-item.result c.groups-entry-items.ensures c.entry-item.is l) (c.requires.groups i l2)
+pub push_rows-requires-clause-each : goal.push_rows-requires-clause-each
+push_rows-requires-clause-each c =
+    let d = entries c.args.index.now in
+    subst (λ vs. All (λ e. IsSoundGroup d.nodes e) (map view vs)) (sym c.groups.ensures) (units_first (IsSoundGroup d.nodes) d.groups d.classes c.requires.groups)
+
+pub push_rows-requires-2-clause-each : goal.push_rows-requires-2-clause-each
+push_rows-requires-2-clause-each c =
+    let d = entries c.args.index.now in
+    subst (λ vs. All (λ e. IsSoundGroup d.nodes e) (map view vs)) (sym c.classes.ensures) (units_rest (IsSoundGroup d.nodes) d.groups d.classes c.requires.groups)

@@ -2,7 +2,7 @@ use Rattle.std.proofs.Common.{◌≡◌, ◌++◌, map, drop}
 use Rattle.std.specs.List.{filter_map}
 use Rattle.toml.specs.View.{view}
 use Rattle.topology_text.specs.Names.{name_in}
-use Rattle.topology_text.proofs.parts.wire_names.Given as goal
+use Rattle.topology_text.proofs.zone.wire_names.Given as goal
 
 abbrev pub invariant-loop-item : goal.invariant-loop-item
 invariant-loop-item l =
