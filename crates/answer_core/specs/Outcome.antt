@@ -85,12 +85,12 @@ pub record IsLookedUp (v : Version) (a : Addr) : Type 0 where
   pub group : (g : GroupId) × (group_of v.plan.prefixes a ≡ Some g) × HasLongest v.plan.prefixes a g
   pub scope : IsScope v.plan.prefixes a (scope_of v.plan.prefixes a)
 
--- the pool on which the draw falls for a unit, and for the unit of the group of a client's address for the service of a number; none where nothing is placed for it
-abbrev pub pool_for_group : Version → ℕ → ℕ → Option ℕ
-pool_for_group v draw g = option_map (λ k. pool_of v.market g k) (pick_of v g draw)
+-- the pool on which the draw falls for a unit, and for the unit of the client's group and a service; none where nothing is placed for it
+abbrev pub pool_for_unit : Version → ℕ → ℕ → Option ℕ
+pool_for_unit v draw unit = option_map (λ k. pool_of v.market unit k) (pick_of v unit draw)
 
 abbrev pub pool_for : Version → Addr → ℕ → ℕ → Option ℕ
-pool_for v client service draw = option_and_then (λ g. pool_for_group v draw (unit_of v.plan g.0 service)) (group_of v.plan.prefixes client)
+pool_for v client service draw = option_and_then (λ g. pool_for_unit v draw (unit_of v.plan g.0 service)) (group_of v.plan.prefixes client)
 
 -- all addresses of the pool, in the file's order
 abbrev pub of_addresses : ℕ → List Addr → ℕ → Outcome

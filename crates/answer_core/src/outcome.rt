@@ -3,7 +3,7 @@ ghost use Rattle.std.specs.Prelude.{◌≡◌, ◌⊎◌, ◌<◌, ◌≤◌, �
 ghost use Rattle.prefix_lookup.specs.Longest.{group_of};
 ghost use Rattle.topology_text.specs.Plan.{addresses_of, unit_of};
 ghost use Rattle.published_map.specs.Version.{IsVersion};
-ghost use Rattle.answer_core.specs.Outcome.{answered_kind, at_apex, at_service, by_name, client_of, is_address_kind, of_addresses, outcome_of, pool_for_group, told_scope};
+ghost use Rattle.answer_core.specs.Outcome.{answered_kind, at_apex, at_service, by_name, client_of, is_address_kind, of_addresses, outcome_of, pool_for_unit, told_scope};
 ghost use Rattle.answer_core.specs.Reply.{cut_short};
 ghost use Rattle.answer_core.specs.View.{IsShort, outcome_view, request_view};
 
@@ -78,30 +78,24 @@ fn look_up(version: &MapVersion, subnet: Option<SubnetOpt>, from: Addr) -> (Grou
 }
 
 /// The pool on which a draw falls for a unit; None where nothing is placed for it.
-fn pool_for_group(version: &MapVersion, group: GroupId, draw: u64) -> Option<NodeId>
+fn pool_for_unit(version: &MapVersion, unit: GroupId, draw: u64) -> Option<NodeId>
     requires version { IsVersion version.now }
-    requires group { group.0 < length version.now.market.groups }
-    ensures exact { option_map (λ n. n.0) result ≡ pool_for_group version.now draw group.0 }
+    requires unit { unit.0 < length version.now.market.groups }
+    ensures exact { option_map (λ n. n.0) result ≡ pool_for_unit version.now draw unit.0 }
     ensures there { IfSome result (λ n. n.0 < length version.now.plan.market.nodes) }
 {
-    let place = pick(version, group, draw)?;
-    Some(version.pool_at(Offer { group, place }))
+    let place = pick(version, unit, draw)?;
+    Some(version.pool_at(Offer { group: unit, place }))
 }
 
-/// The pool on which a draw falls for the unit of a group for a service; None where nothing is placed for it.
-fn pool_for_unit(
-    version: &MapVersion,
-    group: GroupId,
-    service: u8,
-    draw: u64,
-) -> Option<NodeId>
+/// The same for a group's unit for the service of that number.
+fn pool_for_service(version: &MapVersion, group: GroupId, service: u8, draw: u64) -> Option<NodeId>
     requires version { IsVersion version.now }
     requires group { group.0 < length version.now.market.groups }
-    requires service { service < length version.now.plan.zone.services }
-    ensures exact { option_map (λ n. n.0) result ≡ pool_for_group version.now draw (unit_of version.now.plan group.0 service) }
+    ensures exact { option_map (λ n. n.0) result ≡ pool_for_unit version.now draw (unit_of version.now.plan group.0 service) }
     ensures there { IfSome result (λ n. n.0 < length version.now.plan.market.nodes) }
 {
-    pool_for_group(version, version.unit_of(group, service), draw)
+    pool_for_unit(version, version.unit_of(group, service), draw)
 }
 
 /// The type of the records that answer for a service; None where it has no such records.
@@ -130,7 +124,7 @@ fn at_pool<'v>(version: &'v MapVersion, pool: NodeId, kind: u16, scope: u8) -> O
     Outcome::Positive { records, scope }
 }
 
-/// The name of the service of a number.
+/// The name of the service of that number.
 fn at_service<'v>(
     version: &'v MapVersion,
     request: &Request,
@@ -138,8 +132,7 @@ fn at_service<'v>(
     draw: u64,
     service: u8,
 ) -> Outcome<'v>
-    requires version { IsVersion version.now }
-    requires service { service < length version.now.plan.zone.services }
+    requires { IsVersion version.now }
     ensures exact { outcome_view result ≡ at_service version.now (request_view request.now) from draw service }
     ensures short { (size : ℕ) → size ≤ 128 → IsShort size result }
 {
@@ -147,7 +140,7 @@ fn at_service<'v>(
         return Outcome::Negative(NOERROR);
     };
     let (group, scope) = look_up(version, request.subnet, from);
-    let Some(pool) = pool_for_unit(version, group, service, draw) else {
+    let Some(pool) = pool_for_service(version, group, service, draw) else {
         return Outcome::Error(SERVFAIL);
     };
     at_pool(version, pool, kind, scope)
