@@ -1,19 +1,17 @@
 -- A name that stands under an apex, whatever the case of letters.
-use Rattle.std.proofs.Common.{◌≡◌, ℕ, zero, suc, ◌+◌, ◌<◌, ◌-◌, ◌≤◌, Bool, true, false, ◌&&◌, ◌||◌, ◌==◌, eqb, List, [], ◌∷◌, ◌++◌, length, take, refl, sym, ap, ◌∙◌, arith, length-append}
+use Rattle.std.proofs.Common.{◌≡◌, ℕ, zero, suc, ◌+◌, ◌<◌, ◌-◌, ◌≤◌, Bool, true, false, not, cond, nat_lt, Option, None, Some, IfSome, ◌&&◌, ◌||◌, ◌==◌, eqb, List, [], ◌∷◌, ◌++◌, length, get_or, take, refl, sym, ap, ◌∙◌, arith, length-append, length-take}
 use Rattle.std.specs.Char.{to_ascii_lowercase}
-use Rattle.std.specs.List.{list_any}
+use Rattle.std.specs.List.{list_all, list_any, position, prefix_len}
+use Rattle.std.proofs.lemmas.List.Quantifiers.{position-Some}
 use Rattle.std.proofs.Math.Seq.{take-append_seam}
-use Rattle.std.proofs.lemmas.Bool.{and_parts, eq-eqb, false≢true, false_from_ne_true, ltb-false, ne_eqb, or_cases}
-use Rattle.std.specs.Prelude.{Option, None, Some, All, not, nat_lt, if◌then◌else◌}
-use Rattle.std.specs.List.{list_all}
-use Rattle.std.proofs.Common.{inl, inr, length-take}
-use Rattle.std.proofs.lemmas.List.Elements.{All-head, All-tail}
+use Rattle.std.proofs.lemmas.Bool.{and_parts, eq-eqb, false_from_ne_true, ltb-false, ne_eqb}
+use Rattle.std.specs.Prelude.{if◌then◌else◌}
 use Rattle.name_text.specs.declared.fault.NameFault.TheVariants.{EmptyLabel, BadByte, LongLabel}
 use Rattle.name_text.specs.Names.{is_label_byte, is_same, is_under, label_fault, labels_part, rests_after}
 use Rattle.name_text.specs.Wire.{wire}
 use Rattle.topology_text.specs.declared.topology.Zone.{Zone}
 use Rattle.topology_text.specs.Plan.{IsService, IsZone}
-use Rattle.answer_core.specs.Outcome.{is_service}
+use Rattle.answer_core.specs.Outcome.{service_of}
 
 -- some octets, and then those of the apex
 record Ends (name apex : List ℕ) : Type 0 where
@@ -54,11 +52,20 @@ before [] back (y ∷ ys) apex h = let e = same_length back apex h in other_leng
 before (x ∷ xs) back [] apex h = let e = same_length back apex h in other_length (x ∷ xs ++ back) apex (λ f. omega (arith, e, f, length-append xs back))
 before (x ∷ xs) back (y ∷ ys) apex h = ap (λ (b : Bool). eqb (to_ascii_lowercase x) (to_ascii_lowercase y) && b) (before xs back ys apex h)
 
-any_before : (front back apex : List ℕ) (services : List (List ℕ)) → is_same back apex ≡ true → list_any (λ s. is_same front (labels_part s)) services ≡ list_any (λ s. is_same (front ++ back) (labels_part s ++ apex)) services
-any_before front back apex [] h = refl
-any_before front back apex (s ∷ services) h =
-    ap (λ (b : Bool). b || list_any (λ s. is_same front (labels_part s)) services) (sym (before front back (labels_part s) apex h))
-    ∙ ap (λ (b : Bool). is_same (front ++ back) (labels_part s ++ apex) || b) (any_before front back apex services h)
+-- the first place of what passes, by tests that agree
+prefix_len_same : {A : Type 0} (p q : A → Bool) → ((x : A) → p x ≡ q x) → (xs : List A) → prefix_len p xs ≡ prefix_len q xs
+prefix_len_same p q each [] = refl
+prefix_len_same p q each (x ∷ xs) = ap (λ b. cond b (1 + prefix_len p xs) 0) (each x) ∙ ap (λ n. cond (q x) (1 + n) 0) (prefix_len_same p q each xs)
+
+position_same : {A : Type 0} (p q : A → Bool) → ((x : A) → p x ≡ q x) → (xs : List A) → position p xs ≡ position q xs
+position_same p q each xs = ap (λ n. cond (nat_lt n (length xs)) (Some n) None) (prefix_len_same (λ x. not (p x)) (λ x. not (q x)) (λ x. ap not (each x)) xs)
+
+pub position_within : (p : List ℕ → Bool) (xs : List (List ℕ)) → IfSome (position p xs) (λ n. n < length xs)
+position_within p xs = go (position p xs) refl
+  where
+    go : (o : Option ℕ) → position p xs ≡ o → IfSome o (λ n. n < length xs)
+    go None is = tt
+    go (Some n) is = (position-Some p xs n [] is).0
 
 pub no_shorter : (name apex : List ℕ) → is_under name apex ≡ true → length apex ≤ length name
 no_shorter name apex h =
@@ -71,12 +78,12 @@ front_is name apex e =
     let n : length name - length apex ≡ length e.front = omega (arith, ap length e.parts, length-append e.front e.back, same_length e.back apex e.same) in
     ap (λ (k : ℕ). take k name) n ∙ ap (take (length e.front)) e.parts ∙ take-append_seam e.front e.back
 
-pub by_labels : (name apex labels : List ℕ) (services : List (List ℕ)) → is_under name apex ≡ true → labels ≡ take (length name - length apex) name → list_any (λ s. is_same labels (labels_part s)) services ≡ list_any (λ s. is_same name (labels_part s ++ apex)) services
+pub by_labels : (name apex labels : List ℕ) (services : List (List ℕ)) → is_under name apex ≡ true → labels ≡ take (length name - length apex) name → position (λ s. is_same labels (labels_part s)) services ≡ position (λ s. is_same name (labels_part s ++ apex)) services
 by_labels name apex labels services h is =
     let e = ends name apex h in
-    ap (λ (l : List ℕ). list_any (λ s. is_same l (labels_part s)) services) (is ∙ front_is name apex e)
-    ∙ any_before e.front e.back apex services e.same
-    ∙ ap (λ (l : List ℕ). list_any (λ s. is_same l (labels_part s ++ apex)) services) (sym e.parts)
+    ap (λ (l : List ℕ). position (λ s. is_same l (labels_part s)) services) (is ∙ front_is name apex e)
+    ∙ position_same (λ s. is_same e.front (labels_part s)) (λ s. is_same (e.front ++ e.back) (labels_part s ++ apex)) (λ s. sym (before e.front e.back (labels_part s) apex e.same)) services
+    ∙ ap (λ (l : List ℕ). position (λ s. is_same l (labels_part s ++ apex)) services) (sym e.parts)
 
 -- it is the apex, where it is no longer
 alone : (front back apex : List ℕ) → is_same back apex ≡ true → (length (front ++ back) == length apex) ≡ is_same (front ++ back) apex
@@ -106,13 +113,7 @@ service_short z service name s same apex =
     let one : length (wire (s.0 ∷ [])) ≡ suc (length s.0 + 1) = ap suc (length-append s.0 (0 ∷ [])) in
     omega (arith, same_length name (labels_part service ++ z.apex) same, length-append (labels_part service) z.apex, length-take (length service - 1) service, size, one, label_len s.0 s.1, apex)
 
-any_short : (z : Zone) (services : List (List ℕ)) (name : List ℕ) → All IsService services → length z.apex ≤ 64 → list_any (λ service. is_same name (labels_part service ++ z.apex)) services ≡ true → length name ≤ 128
-any_short z [] name all apex h = absurd (false≢true h)
-any_short z (s ∷ services) name all apex h = elim (or_cases (is_same name (labels_part s ++ z.apex)) (list_any (λ service. is_same name (labels_part service ++ z.apex)) services) h) [
-  | inl here ↦ service_short z s name (All-head IsService s services all) here apex
-  | inr later ↦ any_short z services name (All-tail IsService s services all) apex later
-]
-
 -- the name of a service has at most 128 octets
-pub service_len : (z : Zone) (name : List ℕ) → IsZone z → is_service z name ≡ true → length name ≤ 128
-service_len z name zone h = any_short z z.services name zone.services zone.apex h
+pub service_len : (z : Zone) (name : List ℕ) (n : ℕ) → IsZone z → service_of z name ≡ Some n → length name ≤ 128
+service_len z name n zone is =
+    let at = position-Some (λ service. is_same name (labels_part service ++ z.apex)) z.services n [] is in service_short z (get_or z.services n []) name (zone.services n [] at.0) at.1 zone.apex

@@ -1,6 +1,6 @@
 -- What is replied to a query that can be read: by the first of these steps that decides.
 use Rattle.std.specs.Prelude.{◌≡◌, ℕ, Bool, ◌||◌, ◌==◌, not, if◌then◌else◌, List, [], ◌∷◌, ◌++◌, Option, None, Some, option_map}
-use Rattle.std.specs.List.{list_any}
+use Rattle.std.specs.List.{position}
 use Rattle.std.specs.Option.{option_and_then}
 use Rattle.addr_text.specs.declared.address.Addr.{Addr}
 use Rattle.client_subnet.specs.declared.subnet.SubnetOpt.{SubnetOpt}
@@ -11,7 +11,7 @@ use Rattle.prefix_lookup.specs.Longest.{HasLongest, group_of}
 use Rattle.prefix_lookup.specs.Scope.{IsScope, scope_of}
 use Rattle.published_map.specs.Version.{Version}
 use Rattle.topology_text.specs.declared.topology.Zone.{Zone}
-use Rattle.topology_text.specs.Plan.{addresses_of}
+use Rattle.topology_text.specs.Plan.{addresses_of, unit_of}
 use Rattle.answer_core.specs.declared.request.QueryFault.{QueryFault}
 use Rattle.answer_core.specs.declared.request.QueryFault.TheVariants as fault
 use Rattle.answer_core.specs.Grammar.{Request}
@@ -53,7 +53,7 @@ refused = 5
 abbrev pub no_error : ℕ
 no_error = 0
 
--- options that break their format; another class than IN, or not a name of the zone; nothing placed for the client's group
+-- options that break their format; another class than IN, or not a name of the zone; nothing placed for the client's unit
 abbrev pub FormErr : Outcome
 FormErr = Error form_err
 
@@ -85,12 +85,12 @@ pub record IsLookedUp (v : Version) (a : Addr) : Type 0 where
   pub group : (g : GroupId) × (group_of v.plan.prefixes a ≡ Some g) × HasLongest v.plan.prefixes a g
   pub scope : IsScope v.plan.prefixes a (scope_of v.plan.prefixes a)
 
--- the pool on which the draw falls for a group, and for the group of a client's address; none where nothing is placed for it
-abbrev pub pool_for_group : Version → ℕ → ℕ → Option ℕ
-pool_for_group v draw g = option_map (λ k. pool_of v.market g k) (pick_of v g draw)
+-- the pool on which the draw falls for a unit, and for the unit of the client's group and a service; none where nothing is placed for it
+abbrev pub pool_for_unit : Version → ℕ → ℕ → Option ℕ
+pool_for_unit v draw unit = option_map (λ k. pool_of v.market unit k) (pick_of v unit draw)
 
-abbrev pub pool_for : Version → Addr → ℕ → Option ℕ
-pool_for v client draw = option_and_then (λ g. pool_for_group v draw g.0) (group_of v.plan.prefixes client)
+abbrev pub pool_for : Version → Addr → ℕ → ℕ → Option ℕ
+pool_for v client service draw = option_and_then (λ g. pool_for_unit v draw (unit_of v.plan g.0 service)) (group_of v.plan.prefixes client)
 
 -- all addresses of the pool, in the file's order
 abbrev pub of_addresses : ℕ → List Addr → ℕ → Outcome
@@ -108,19 +108,24 @@ is_address_kind kind = (kind == 1) || (kind == 28) || (kind == 255)
 abbrev pub answered_kind : ℕ → ℕ
 answered_kind kind = if kind == 28 then 28 else 1
 
--- a service's name
-abbrev pub at_service : Version → Request → Addr → ℕ → Outcome
-at_service v r from draw =
+-- the name of the service of a number
+abbrev pub at_service : Version → Request → Addr → ℕ → ℕ → Outcome
+at_service v r from draw service =
     if not (is_address_kind r.asked.kind) then NoData
-    else of_pool v (answered_kind r.asked.kind) (told_scope v r.subnet) (pool_for v (client_of r.subnet from) draw)
+    else of_pool v (answered_kind r.asked.kind) (told_scope v r.subnet) (pool_for v (client_of r.subnet from) service draw)
 
 -- the apex
 abbrev pub at_apex : ℕ → Outcome
 at_apex kind = if kind == 6 then Positive Soa 0 else if kind == 2 then Positive NameServers 0 else NoData
 
--- the name is that of a service in the zone: its label and the apex
-abbrev pub is_service : Zone → List ℕ → Bool
-is_service z name = list_any (λ service. is_same name (labels_part service ++ z.apex)) z.services
+-- the number of the service whose name it is: its label and the apex
+abbrev pub service_of : Zone → List ℕ → Option ℕ
+service_of z name = position (λ service. is_same name (labels_part service ++ z.apex)) z.services
+
+-- a name under the apex
+abbrev pub of_service : Version → Request → Addr → ℕ → Option ℕ → Outcome
+of_service v r from draw None = NxDomain
+of_service v r from draw (Some service) = at_service v r from draw service
 
 -- class IN is 1
 abbrev pub by_name : Version → Request → Addr → ℕ → Outcome
@@ -129,8 +134,7 @@ by_name v r from draw =
     if not (r.asked.class == 1) then Refused
     else if not (is_under r.asked.name zone.apex) then Refused
     else if is_same r.asked.name zone.apex then at_apex r.asked.kind
-    else if not (is_service zone r.asked.name) then NxDomain
-    else at_service v r from draw
+    else of_service v r from draw (service_of zone r.asked.name)
 
 -- what is at fault comes before class and name
 abbrev pub by_fault : Option QueryFault → Outcome → Outcome

@@ -1,15 +1,15 @@
 //! What is replied to a query that can be read.
 ghost use Rattle.std.specs.Prelude.{◌≡◌, ◌⊎◌, ◌<◌, ◌≤◌, ℕ, if◌then◌else◌, length, option_map, IfSome, Some, None};
 ghost use Rattle.prefix_lookup.specs.Longest.{group_of};
-ghost use Rattle.topology_text.specs.Plan.{addresses_of};
+ghost use Rattle.topology_text.specs.Plan.{addresses_of, unit_of};
 ghost use Rattle.published_map.specs.Version.{IsVersion};
-ghost use Rattle.answer_core.specs.Outcome.{answered_kind, at_apex, at_service, by_name, client_of, is_address_kind, of_addresses, outcome_of, pool_for_group, told_scope};
+ghost use Rattle.answer_core.specs.Outcome.{answered_kind, at_apex, at_service, by_name, client_of, is_address_kind, of_addresses, outcome_of, pool_for_unit, told_scope};
 ghost use Rattle.answer_core.specs.Reply.{cut_short};
 ghost use Rattle.answer_core.specs.View.{IsShort, outcome_view, request_view};
 
 use crate::picking::pick;
 use crate::request::{QueryFault, Request};
-use crate::services::{is_apex, is_service};
+use crate::services::{is_apex, service_of};
 use addr_text::Addr;
 use client_subnet::SubnetOpt;
 use dns_wire::numbers::{A, AAAA, ANY, FORMERR, IN, NOERROR, NS, NXDOMAIN, REFUSED, SERVFAIL, SOA};
@@ -33,7 +33,7 @@ pub(crate) enum Records<'a> {
 pub(crate) enum Outcome<'a> {
     /// An EDNS version that is not spoken here (RFC 6891 section 6.1.3).
     BadVers,
-    /// An error: options that break their format, another class or zone, or nothing placed for the client's group.
+    /// An error: options that break their format, another class or zone, or nothing placed for the client's unit.
     Error(u8),
     /// No such name, or no record of the type (RFC 2308 section 2).
     Negative(u8),
@@ -77,15 +77,25 @@ fn look_up(version: &MapVersion, subnet: Option<SubnetOpt>, from: Addr) -> (Grou
     }
 }
 
-/// The pool on which a draw falls for a group; None where nothing is placed for it.
-fn pool_for_group(version: &MapVersion, group: GroupId, draw: u64) -> Option<NodeId>
+/// The pool on which a draw falls for a unit; None where nothing is placed for it.
+fn pool_for_unit(version: &MapVersion, unit: GroupId, draw: u64) -> Option<NodeId>
     requires version { IsVersion version.now }
-    requires group { group.0 < length version.now.market.groups }
-    ensures exact { option_map (λ n. n.0) result ≡ pool_for_group version.now draw group.0 }
+    requires unit { unit.0 < length version.now.market.groups }
+    ensures exact { option_map (λ n. n.0) result ≡ pool_for_unit version.now draw unit.0 }
     ensures there { IfSome result (λ n. n.0 < length version.now.plan.market.nodes) }
 {
-    let place = pick(version, group, draw)?;
-    Some(version.pool_at(Offer { group, place }))
+    let place = pick(version, unit, draw)?;
+    Some(version.pool_at(Offer { group: unit, place }))
+}
+
+/// The same for a group's unit for the service of that number.
+fn pool_for_service(version: &MapVersion, group: GroupId, service: u8, draw: u64) -> Option<NodeId>
+    requires version { IsVersion version.now }
+    requires group { group.0 < length version.now.market.groups }
+    ensures exact { option_map (λ n. n.0) result ≡ pool_for_unit version.now draw (unit_of version.now.plan group.0 service) }
+    ensures there { IfSome result (λ n. n.0 < length version.now.plan.market.nodes) }
+{
+    pool_for_unit(version, version.unit_of(group, service), draw)
 }
 
 /// The type of the records that answer for a service; None where it has no such records.
@@ -114,17 +124,23 @@ fn at_pool<'v>(version: &'v MapVersion, pool: NodeId, kind: u16, scope: u8) -> O
     Outcome::Positive { records, scope }
 }
 
-/// A service's name.
-fn at_service<'v>(version: &'v MapVersion, request: &Request, from: Addr, draw: u64) -> Outcome<'v>
+/// The name of the service of that number.
+fn at_service<'v>(
+    version: &'v MapVersion,
+    request: &Request,
+    from: Addr,
+    draw: u64,
+    service: u8,
+) -> Outcome<'v>
     requires { IsVersion version.now }
-    ensures exact { outcome_view result ≡ at_service version.now (request_view request.now) from draw }
+    ensures exact { outcome_view result ≡ at_service version.now (request_view request.now) from draw service }
     ensures short { (size : ℕ) → size ≤ 128 → IsShort size result }
 {
     let Some(kind) = answered_kind(request.query.kind) else {
         return Outcome::Negative(NOERROR);
     };
     let (group, scope) = look_up(version, request.subnet, from);
-    let Some(pool) = pool_for_group(version, group, draw) else {
+    let Some(pool) = pool_for_service(version, group, service, draw) else {
         return Outcome::Error(SERVFAIL);
     };
     at_pool(version, pool, kind, scope)
@@ -157,10 +173,10 @@ fn by_name<'v>(version: &'v MapVersion, request: &Request, from: Addr, draw: u64
     if is_apex(zone, query.name) {
         return at_apex(query.kind);
     }
-    if !is_service(zone, query.name) {
+    let Some(service) = service_of(zone, query.name) else {
         return Outcome::Negative(NXDOMAIN);
-    }
-    at_service(version, request, from, draw)
+    };
+    at_service(version, request, from, draw, service as u8)
 }
 
 /// What is replied to a query.

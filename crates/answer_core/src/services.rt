@@ -1,8 +1,7 @@
 //! Whose name is asked for.
-ghost use Rattle.std.specs.Prelude.{◌≡◌, true};
-ghost use Rattle.std.specs.List.{list_any};
+ghost use Rattle.std.specs.Prelude.{◌≡◌, ◌<◌, true, IfSome, length, position};
 ghost use Rattle.name_text.specs.Names.{is_same, is_under, labels_part};
-ghost use Rattle.answer_core.specs.Outcome.{is_service};
+ghost use Rattle.answer_core.specs.Outcome.{service_of};
 
 use name_text::{Name, same_name};
 use topology_text::Zone;
@@ -15,13 +14,13 @@ fn labels_part(name: &Name) -> &[u8]
     &octets[..octets.len() - 1]
 }
 
-/// Whether these are the labels of one of the services.
-fn is_any(services: &[Name], labels: &[u8]) -> bool
-    ensures { result ≡ list_any (λ service. is_same labels.now (labels_part service)) services.now }
+/// The number of the service whose labels these are.
+fn place_of(services: &[Name], labels: &[u8]) -> Option<usize>
+    ensures { result ≡ position (λ service. is_same labels.now (labels_part service)) services.now }
 {
     services
         .iter()
-        .any(|service| same_name(labels, labels_part(service)))
+        .position(|service| same_name(labels, labels_part(service)))
 }
 
 /// Whether a name under the apex is the apex.
@@ -33,12 +32,13 @@ pub(crate) fn is_apex(zone: &Zone, name: &[u8]) -> bool
     name.len() == zone.apex.wire().len()
 }
 
-/// Whether a name under the apex is that of a service in the zone: its label and the apex, which is not compared again.
+/// The number of the service whose name a name under the apex is: its label and the apex, which is not compared again.
 #[tactic(auto, using(crate::proofs::Labels::no_shorter))]
-pub(crate) fn is_service(zone: &Zone, name: &[u8]) -> bool
+pub(crate) fn service_of(zone: &Zone, name: &[u8]) -> Option<usize>
     requires { is_under name.now zone.now.apex ≡ true }
-    ensures { result ≡ is_service zone.now name.now }
+    ensures exact { result ≡ service_of zone.now name.now }
+    ensures there { IfSome result (λ n. n < length zone.now.services) }
 {
     let labels = &name[..name.len() - zone.apex.wire().len()];
-    is_any(zone.services.as_slice(), labels)
+    place_of(zone.services.as_slice(), labels)
 }

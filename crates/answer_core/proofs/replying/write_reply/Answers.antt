@@ -2,7 +2,7 @@ use Rattle.std.proofs.Common.{length, ap, arith}
 use Rattle.std.specs.Option.{option_map}
 use Rattle.dns_wire.specs.View.{extension}
 use Rattle.answer_core.specs.View.{outcome_view, request_view}
-use Rattle.answer_core.proofs.Bound.{bound, bound_cut_as, few_short, limit_least, view_fits}
+use Rattle.answer_core.proofs.Bound.{bound, bound_cut_as, limit_least, view_fits}
 use Rattle.answer_core.proofs.replying.write_reply.Goals as goal
 
 pub write_full-requires-clause-room : goal.write_full-requires-clause-room
