@@ -13,7 +13,8 @@ use Rattle.mapper.specs.Feeding.{AllCame}
 use Rattle.mapper.specs.Mappers.{IsFirst}
 use Rattle.mapper.specs.Scenes.{IsPrinted, scene}
 use Rattle.mapper.specs.Words.{map_text}
-use Rattle.mapper.proofs.Agree.{LackedMemory, all_come_one, first_one}
+use Rattle.mapper.specs.Laws.{LackedMemory}
+use Rattle.mapper.proofs.Agree.{all_come_one, first_one}
 use Rattle.drive.specs.Driven.{Lent}
 use Rattle.glb.specs.Served.{IsWellServed}
 use Rattle.glb.specs.Told.{Surroundings}

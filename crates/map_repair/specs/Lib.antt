@@ -3,3 +3,4 @@ pub mod Asked
 pub mod Repaired
 pub mod Resumed
 pub mod Determined
+pub mod Laws

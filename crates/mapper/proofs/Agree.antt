@@ -15,6 +15,7 @@ use Rattle.demand_feed.specs.Item.{Item, refused, batch, empty, spoiled, query, 
 use Rattle.published_map.specs.Version.{Version}
 use Rattle.map_cell.specs.Ends.{PublisherState}
 use Rattle.mapper.specs.Control.{AllCome, Comes, Course, IsNext, before_commit, start, with_version}
+use Rattle.mapper.specs.Laws.{LackedMemory}
 use Rattle.mapper.specs.Mappers.{IsFirst}
 use Rattle.mapper.specs.Texts as text
 
@@ -36,11 +37,7 @@ next_one old a b changes x y = version_is a b (x.serial ∙ sym y.serial) market
     lines : a.lines ≡ b.lines
     lines = repaired_of_one old.market old.lines b.market a.lines b.lines y.applied.shape.groups (subst (λ (m : Market). IsRepairedOf old.market old.lines m a.lines) market x.repaired) y.repaired
 
--- the line that memory was wanting was put
-abbrev pub LackedMemory : Course → Type 0
-LackedMemory c = Contains c.out text.memory
-
--- it stays
+-- the line that memory was wanting stays
 said_still : (item : Item) (c d : Course) → Comes item c d → LackedMemory c → LackedMemory d
 said_still (refused number why) c d e said = subst (λ (x : Course). LackedMemory x) (sym e) (Contains-append_left c.out (text.refused number why ∷ []) text.memory said)
 said_still (batch changes) c d (inl (version, next, e)) said = subst (λ (x : Course). LackedMemory x) (sym e) (Contains-append_left c.out (text.published version.serial ∷ []) text.memory said)

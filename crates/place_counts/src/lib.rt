@@ -2,6 +2,8 @@
 #![tactic(auto)]
 
 mod counting;
+mod laws;
 mod writing;
 
+pub use laws::places_are_best;
 pub use writing::write_places;
