@@ -1,6 +1,6 @@
 -- How a run ends, by what its lines came to.
-use Rattle.std.proofs.Common.{◌≡◌, ◌≢◌, ◌⊎◌, inl, inr, ℕ, ◌+◌, ◌≤◌, ◌==◌, true, false, cond, List, [], ◌∷◌, ◌++◌, length, take, min, append_assoc, append-nil, refl, ap, sym, ◌∙◌, arith}
-use Rattle.std.specs.Prelude.{Option, None, Some}
+use Rattle.std.proofs.Common.{◌≡◌, ◌≢◌, ◌⊎◌, inl, inr, ℕ, ◌+◌, ◌≤◌, ◌==◌, true, false, cond, List, [], ◌∷◌, ◌++◌, length, take, min, append_assoc, append-nil, refl, ap, sym, subst, ◌∙◌, arith}
+use Rattle.std.specs.Prelude.{Option, None, Some, IfSome}
 use Rattle.std.specs.List.{concat}
 use Rattle.std.proofs.lemmas.Bool.{ne_eqb}
 use Rattle.std.proofs.lemmas.List.{length-take}
@@ -26,7 +26,7 @@ use Rattle.demand_feed.specs.declared.pieces.LineEnd.{LineEnd}
 use Rattle.demand_feed.specs.declared.pieces.LineEnd.TheVariants as lines
 use Rattle.demand_feed.proofs.Fronts.{front_none}
 use Rattle.demand_feed.proofs.Items.{has_stop_at, items_all, items_at, items_stop, no_stop_none}
-use Rattle.demand_feed.proofs.Tellings.{concat_end, one_more, tell_trans}
+use Rattle.demand_feed.proofs.Tellings.{concat_end, one_more, tell_self, tell_trans}
 
 -- where no line says stop all items were taken
 pub all_came : {X : Type 0} (does : Item → X → X → Type 0) (t : Plan) (before : X) (lines : List (List ℕ)) (clerk : Clerking) (now : X) → Stands does t before lines clerk now → AllDo does (items t lines) before now
@@ -83,7 +83,8 @@ is_piece buffer k full within = let size = length-take k buffer in (omega (arith
 -- one piece more was read
 pub read_more : (pieces : List (List ℕ)) (buffer : List ℕ) (k : ℕ) (a b c : Fed) → IsPiece (take k buffer) → HasRead pieces a b → IsRead read_size (read.Got k) buffer b c → HasRead (pieces ++ take k buffer ∷ []) a c
 read_more pieces buffer k a b c p r s = record {
-  left = r.left ∙ ap (λ xs. concat pieces ++ xs) s.gives.0 ∙ sym (append_assoc (concat pieces) (take k buffer) c.left) ∙ ap (λ xs. xs ++ c.left) (sym (concat_end pieces (take k buffer)));
+  left = tell_trans a.left b.left c.left (λ x y. x ≡ concat pieces ++ y) (λ x y. x ≡ take k buffer ++ y) (λ x y. x ≡ concat (pieces ++ take k buffer ∷ []) ++ y) r.left s.gives.0
+    (λ x y z p q. p ∙ ap (λ xs. concat pieces ++ xs) q ∙ sym (append_assoc (concat pieces) (take k buffer) z) ∙ ap (λ xs. xs ++ z) (sym (concat_end pieces (take k buffer))));
   given = s.gives.1 ∙ ap (λ xs. xs ++ take k buffer ∷ []) r.given ∙ append_assoc a.pieces pieces (take k buffer ∷ []);
   shortest = shortest_again a.shortest b.shortest c.shortest r.shortest s.shortest;
   sizes = All-push IsPiece pieces (take k buffer) r.sizes p;
@@ -92,8 +93,8 @@ read_more pieces buffer k a b c p r s = record {
 -- the end was read
 pub read_end : (pieces : List (List ℕ)) (buffer : List ℕ) (a b c : Fed) → HasRead pieces a b → IsRead read_size read.End buffer b c → HasRead pieces a c
 read_end pieces buffer a b c r s = record {
-  left = r.left ∙ ap (λ xs. concat pieces ++ xs) (s.gives.0 ∙ sym s.gives.1);
-  given = s.gives.2 ∙ r.given;
+  left = tell_trans a.left b.left c.left (λ x y. x ≡ concat pieces ++ y) (λ x y. (x ≡ []) × (y ≡ [])) (λ x y. x ≡ concat pieces ++ y) r.left s.gives.0 (λ x y z p q. p ∙ ap (λ xs. concat pieces ++ xs) (q.0 ∙ sym q.1));
+  given = s.gives.1 ∙ r.given;
   shortest = shortest_again a.shortest b.shortest c.shortest r.shortest s.shortest;
   sizes = r.sizes;
 }
@@ -101,15 +102,22 @@ read_end pieces buffer a b c r s = record {
 -- a read failed
 pub read_failed : (pieces : List (List ℕ)) (buffer : List ℕ) (a b c : Fed) → HasRead pieces a b → IsRead read_size read.Failed buffer b c → HasRead pieces a c
 read_failed pieces buffer a b c r s = record {
-  left = r.left ∙ ap (λ xs. concat pieces ++ xs) (sym s.gives.0);
+  left = subst (λ l. BothTell a.left l (λ x y. x ≡ concat pieces ++ y)) (sym s.gives.0) r.left;
   given = s.gives.1 ∙ r.given;
   shortest = shortest_again a.shortest b.shortest c.shortest r.shortest s.shortest;
   sizes = r.sizes;
 }
 
+-- at the end nothing is left
+none_left : (before after : Option (List ℕ)) → BothTell before after (λ x y. (x ≡ []) × (y ≡ [])) → IfSome after (λ bytes. bytes ≡ [])
+none_left None None told = tt
+none_left None (Some bytes) told = absurd told
+none_left (Some bytes) None told = tt
+none_left (Some bytes) (Some others) told = told.1
+
 -- nothing was read
 pub read_none : (a : Fed) → HasRead [] a a
-read_none a = record { left = refl; given = sym (append-nil a.pieces); shortest = inl refl; sizes = λ k d h. absurd (omega (arith, h)) }
+read_none a = record { left = tell_self a.left (λ x y. x ≡ y) (λ x. refl); given = sym (append-nil a.pieces); shortest = inl refl; sizes = λ k d h. absurd (omega (arith, h)) }
 
 -- ahead of all bytes
 pub reads_none : {X : Type 0} (does : Item → X → X → Type 0) (t : Plan) (clerk : Clerking) (s : X) → clerk.desk ≡ fresh → Reads does t s [] [] clerk s
@@ -146,13 +154,13 @@ turn_end does cuts ends.Ended t a b c before pieces buffer held clerk now r s ca
   pieces,
   tell_trans a b c (HasRead pieces) (IsRead read_size read.End buffer) (HasRead pieces) r s (read_end pieces buffer),
   (λ e. cc),
-  λ turns l. inr (record { no_stop = calm; over = tell_trans a b c (HasRead pieces) (IsRead read_size read.End buffer) IsOver r s (λ x y z p q. q.gives.1) }, l, came),
+  λ turns l. inr (record { no_stop = calm; over = tell_trans a b c (HasRead pieces) (IsRead read_size read.End buffer) IsOver r s (λ x y z p q. (q.gives.2, none_left y.left z.left q.gives.0)) }, l, came),
 )
 turn_end does cuts ends.SinkFault t a b c before pieces buffer held clerk now r s calm came = (
   pieces,
   tell_trans a b c (HasRead pieces) (IsRead read_size read.End buffer) (HasRead pieces) r s (read_end pieces buffer),
   (λ e. cc),
-  λ turns l. inr (record { no_stop = calm; over = tell_trans a b c (HasRead pieces) (IsRead read_size read.End buffer) IsOver r s (λ x y z p q. q.gives.1) }, l, came),
+  λ turns l. inr (record { no_stop = calm; over = tell_trans a b c (HasRead pieces) (IsRead read_size read.End buffer) IsOver r s (λ x y z p q. (q.gives.2, none_left y.left z.left q.gives.0)) }, l, came),
 )
 turn_end does cuts ends.SourceFault t a b c before pieces buffer held clerk now r s calm came = absurd came
 turn_end does cuts ends.Spent t a b c before pieces buffer held clerk now r s calm came = absurd came

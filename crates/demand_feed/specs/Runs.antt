@@ -1,5 +1,5 @@
 -- A run over a feed: what was read, what its items did, and how it ended.
-use Rattle.std.specs.Prelude.{◌≡◌, ◌⊎◌, ℕ, ◌<◌, ◌≤◌, true, false, All, List, [], ◌∷◌, ◌++◌, length, Option}
+use Rattle.std.specs.Prelude.{◌≡◌, ◌⊎◌, ℕ, ◌<◌, ◌≤◌, true, false, All, List, [], ◌∷◌, ◌++◌, length, Option, IfSome}
 use Rattle.std.specs.List.{concat}
 use Rattle.text_parts.specs.Parts.{whole_lines}
 use Rattle.outside.specs.Faults.{BothTell}
@@ -18,14 +18,14 @@ IsPiece piece = (1 ≤ length piece) × (length piece ≤ read_size)
 
 -- These pieces were read, each into a buffer of the one size: the shortest buffer of all stays or becomes one of that size, and no piece is longer.
 pub record HasRead (pieces : List (List ℕ)) (before after : Fed) : Type 0 where
-  pub left : before.left ≡ concat pieces ++ after.left
+  pub left : BothTell before.left after.left (λ b a. b ≡ concat pieces ++ a)
   pub given : after.pieces ≡ before.pieces ++ pieces
   pub shortest : (after.shortest ≡ before.shortest) ⊎ (after.shortest ≡ shorter before.shortest read_size)
   pub sizes : All IsPiece pieces
 
--- nothing is left
+-- its end was answered, and nothing is left where it tells that
 abbrev pub IsOver : Fed → Fed → Type 0
-IsOver before after = after.left ≡ []
+IsOver before after = (after.is_ended ≡ true) × IfSome after.left (λ bytes. bytes ≡ [])
 
 -- no `stop` stands in a line that ended in these bytes
 abbrev pub NoStop : List ℕ → Type 0

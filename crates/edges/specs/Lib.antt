@@ -1,3 +1,4 @@
 pub mod Peers
 pub mod Judged
 pub mod Streams
+pub mod Pasts

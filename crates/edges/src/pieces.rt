@@ -76,12 +76,34 @@ pub fn read_piece<T: io::Read>(reader: &mut T, buffer: &mut [u8]) -> Read
     }
 }
 
-/// Puts a whole piece into a writer, and what the writer held back too.
-pub fn put_whole<W: Write>(writer: &mut W, piece: &[u8]) -> Put
-    ensures { result ≡ Put.Done → Appends (W.contents writer.old) (W.contents writer.new) piece.now }
+/// The most tries of one piece. The system breaks a try off now and then.
+const MOST_TRIES: u64 = 1 << 48;
+
+/// Puts a piece into a writer, and then what the writer held back too. It says how many octets at the front of the piece
+/// the writer took, and whether it took all and kept nothing back.
+pub fn put_whole<W: Write>(writer: &mut W, piece: &[u8]) -> (usize, Put)
+    ensures within { result.0 ≤ length piece.now }
+    ensures took { Appends (W.contents writer.old) (W.contents writer.new) (take result.0 piece.now) }
+    ensures done { result.1 ≡ Put.Done → result.0 ≡ length piece.now }
 {
-    if writer.write_all(piece).is_err() || writer.flush().is_err() {
-        return Put::Failed;
+    let mut at = 0;
+    for _ in 0..MOST_TRIES {
+        if at >= piece.len() {
+            let put = match writer.flush() {
+                Ok(()) => Put::Done,
+                Err(_) => Put::Failed,
+            };
+            return (at, put);
+        }
+        match writer.write(&piece[at..]) {
+            Ok(0) => return (at, Put::Failed),
+            Ok(count) => at += count,
+            Err(error) => {
+                if error.kind() != ErrorKind::Interrupted {
+                    return (at, Put::Failed);
+                }
+            }
+        }
     }
-    Put::Done
+    (at, Put::Failed)
 }

@@ -1,7 +1,11 @@
 //! A flag by which the end of a feed ends the lanes.
-ghost use Rattle.std.specs.Prelude.{None};
+ghost use Rattle.std.specs.Prelude.{◌≡◌, Some};
+ghost use Rattle.past_log.specs.Gate.{new_gate};
+ghost use Rattle.past_log.specs.Pace.{new_pace};
 
-use outside::{Gate, Pace, Turning};
+use outside::{Gate, Pace, PaceCall, Turning};
+use past_log::{GateEvent, GatePast, PaceEvent, PacePast};
+use std::marker::Model;
 use std::sync::atomic::AtomicBool;
 use std::sync::atomic::Ordering::SeqCst;
 
@@ -34,27 +38,45 @@ impl StopFlag {
 #[derive(Drop)]
 pub struct FlagGate<'a> {
     flag: &'a StopFlag,
+    past: GatePast,
+}
+
+impl<'a> Model for FlagGate<'a> {
+    ghost use Rattle.outside.specs.Gate.{GateTold};
+
+    ghost Value = { GateTold };
+
+    ghost view = { λ g. g.past.told };
 }
 
 impl<'a> FlagGate<'a> {
-    /// One that looks at this flag.
-    pub fn new(flag: &'a StopFlag) -> FlagGate<'a> {
-        FlagGate { flag }
+    /// One that looks at this flag, and was asked nothing.
+    pub fn new(flag: &'a StopFlag) -> FlagGate<'a>
+        ensures { result ≡ new_gate }
+    {
+        FlagGate {
+            flag,
+            past: GatePast::new(),
+        }
     }
 }
 
 impl Gate for FlagGate<'_> {
-    ghost told = { λ _. None };
+    ghost told = { λ g. Some g };
 
     ghost faults = { λ _. 0 };
 
     fn turn(&mut self, known: u64) -> Turning {
-        let _ = known;
-        if self.flag.is_set() {
+        let turning = if self.flag.is_set() {
             Turning::Stop
         } else {
             Turning::Go
-        }
+        };
+        self.past.note(&GateEvent {
+            known: &known,
+            turning,
+        });
+        turning
     }
 }
 
@@ -62,26 +84,43 @@ impl Gate for FlagGate<'_> {
 #[derive(Drop)]
 pub struct FlagPace<'a> {
     flag: &'a StopFlag,
+    past: PacePast,
+}
+
+impl<'a> Model for FlagPace<'a> {
+    ghost use Rattle.std.specs.Prelude.{List};
+    ghost use Rattle.outside.specs.declared.pace.PaceCall.{PaceCall};
+
+    ghost Value = { List PaceCall };
+
+    ghost view = { λ p. p.past.told };
 }
 
 impl<'a> FlagPace<'a> {
-    /// One that sets this flag.
-    pub fn new(flag: &'a StopFlag) -> FlagPace<'a> {
-        FlagPace { flag }
+    /// One that sets this flag, and had no call.
+    pub fn new(flag: &'a StopFlag) -> FlagPace<'a>
+        ensures { result ≡ new_pace }
+    {
+        FlagPace {
+            flag,
+            past: PacePast::new(),
+        }
     }
 }
 
 impl Pace for FlagPace<'_> {
-    ghost told = { λ _. None };
+    ghost told = { λ p. Some p };
 
     ghost faults = { λ _. 0 };
 
     fn before(&mut self, newest: u64) {
-        let _ = newest;
+        let call = PaceCall::Before(newest);
+        self.past.note(&PaceEvent { call: &call });
     }
 
     fn done(&mut self, newest: u64) {
-        let _ = newest;
         self.flag.set();
+        let call = PaceCall::Done(newest);
+        self.past.note(&PaceEvent { call: &call });
     }
 }

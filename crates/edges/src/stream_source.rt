@@ -1,11 +1,13 @@
 //! A reader of std, as a source.
-ghost use Rattle.std.specs.Prelude.{◌≡◌, ◌≢◌, ◌≤◌, ◌↔◌, ℕ, None, true, false, take, length};
+ghost use Rattle.std.specs.Prelude.{◌≡◌, ◌≢◌, ◌≤◌, ◌↔◌, ℕ, Some, true, false, take, length};
 ghost use Rattle.std.specs.Io.KnownBytes.{Consumes, IsAtEnd, Keeps};
 ghost use Rattle.outside.specs.Faults.{BothTell, Rose};
 ghost use Rattle.outside.specs.Source.{IsRead, IsWithin};
+ghost use Rattle.past_log.specs.Source.{new_source};
 
 use crate::pieces::read_piece;
 use outside::{Read, Source};
+use past_log::{SourceEvent, SourcePast};
 use std::io;
 use std::marker::Model;
 
@@ -15,38 +17,43 @@ pub struct StreamSource<T: io::Read> {
     stream: T,
     is_ended: bool,
     faults: u64,
+    past: SourcePast,
 }
 
 impl<T: io::Read> Model for StreamSource<T> {
+    ghost use Rattle.std.specs.Prelude.{◌≡◌, None};
     ghost use Rattle.edges.specs.Streams.{Reading};
 
     ghost Value = { Reading T };
 
-    ghost view = { λ s. record { stream = s.stream; is_ended = s.is_ended; faults = s.faults } };
+    ghost view = { λ s. record { stream = s.stream; is_ended = s.is_ended; faults = s.faults; fed = s.past.told } };
+
+    ghost invariant = { λ s. (s.past.told.left ≡ None) × (s.past.told.is_ended ≡ s.is_ended) };
 }
 
 impl<T: io::Read> StreamSource<T> {
     /// One over this stream, without a fault so far.
     pub fn new(stream: T) -> StreamSource<T>
-        ensures { result ≡ record { stream = stream; is_ended = false; faults = 0 } }
+        ensures { result ≡ record { stream = stream; is_ended = false; faults = 0; fed = new_source } }
     {
         StreamSource {
             stream,
             is_ended: false,
             faults: 0,
+            past: SourcePast::new(),
         }
     }
 }
 
 impl<T: io::Read> Source for StreamSource<T> {
-    ghost told = { λ _. None };
+    ghost told = { λ s. Some s.fed };
 
     ghost faults = { λ s. s.faults };
 
     fn read(&mut self, buffer: &mut [u8]) -> Read
         requires { 1 ≤ length buffer.old }
         ensures within { IsWithin result (length buffer.old) }
-        ensures read { BothTell None None (IsRead (length buffer.old) result buffer.new) }
+        ensures read { BothTell (Some self.old.fed) (Some self.new.fed) (IsRead (length buffer.old) result buffer.new) }
         ensures later { self.old.faults ≤ self.new.faults }
         ensures cause { result ≡ Read.Failed → Rose self.old.faults self.new.faults }
         ensures stays { result ≢ Read.Failed → self.new.faults ≡ self.old.faults }
@@ -55,21 +62,20 @@ impl<T: io::Read> Source for StreamSource<T> {
         ensures end { result ≡ Read.End → self.old.is_ended ≡ false → IsAtEnd (T.remaining self.new.stream) × Keeps (T.remaining self.old.stream) (T.remaining self.new.stream) }
         ensures failed { result ≡ Read.Failed → Keeps (T.remaining self.old.stream) (T.remaining self.new.stream) }
         ensures ended { (result ≡ Read.End) ↔ (self.new.is_ended ≡ true) }
-        ensures unasked { self.old.is_ended ≡ true → (result ≡ Read.End) × (self.new ≡ self.old) }
+        ensures unasked { self.old.is_ended ≡ true → (result ≡ Read.End) × (self.new.stream ≡ self.old.stream) × (self.new.faults ≡ self.old.faults) }
     {
-        if self.is_ended {
-            return Read::End;
+        let read = if self.is_ended {
+            Read::End
+        } else {
+            read_piece(&mut self.stream, buffer)
+        };
+        if read == Read::End {
+            self.is_ended = true;
         }
-        match read_piece(&mut self.stream, buffer) {
-            Read::Got(count) => Read::Got(count),
-            Read::End => {
-                self.is_ended = true;
-                Read::End
-            }
-            Read::Failed => {
-                self.faults = self.faults.saturating_add(1);
-                Read::Failed
-            }
+        if read == Read::Failed {
+            self.faults = self.faults.saturating_add(1);
         }
+        self.past.note(&SourceEvent { buffer, read });
+        read
     }
 }

@@ -1,12 +1,14 @@
 //! A port of UDP over one socket that lanes share.
-ghost use Rattle.std.specs.Prelude.{◌≡◌, ◌≤◌, ℕ, None, length};
+ghost use Rattle.std.specs.Prelude.{◌≡◌, ◌≢◌, ◌≤◌, ℕ, Some, length};
 ghost use Rattle.outside.specs.Port.{IsShort};
+ghost use Rattle.past_log.specs.Port.{new_port};
 ghost use Rattle.outside.specs.declared.limits.TheConstants.{LARGEST_DATAGRAM};
 
 use crate::judged::{arrival_of, sending_of};
 use crate::peers::socket_addr;
 use addr_text::{Listen, Peer};
 use outside::{Arrival, LARGEST_DATAGRAM, Opening, Port, Sending};
+use past_log::{PortEvent, PortPast};
 use std::marker::Model;
 use std::net::{Net, UdpSocket};
 use std::os::fd::AsRawFd;
@@ -53,7 +55,8 @@ impl SharedUdp {
     }
 }
 
-/// A port of UDP over a shared socket, as a count of the calls that failed. The first one that is opened binds the
+/// A port of UDP over a shared socket, as what it was asked and answered, and a count of the calls that failed. The
+/// first one that is opened binds the
 /// socket, and the others share it. What a datagram brings about is no failure: a reply that the system refuses counts
 /// as lost.
 #[derive(Drop)]
@@ -62,26 +65,30 @@ pub struct UdpPort<'a, N: Net> {
     shared: &'a SharedUdp,
     socket: Option<&'a UdpSocket>,
     faults: u64,
+    past: PortPast,
 }
 
 impl<'a, N: Net> Model for UdpPort<'a, N> {
-    ghost use Rattle.std.specs.Prelude.{ℕ};
+    ghost use Rattle.edges.specs.Pasts.{PortNoted, IsGoing};
 
-    ghost Value = { ℕ };
+    ghost Value = { PortNoted };
 
-    ghost view = { λ p. p.faults };
+    ghost view = { λ p. record { told = p.past.told; faults = p.faults } };
+
+    ghost invariant = { λ p. IsGoing p.past.told };
 }
 
 impl<'a, N: Net> UdpPort<'a, N> {
     /// One over this socket, which is not open, without a fault so far.
     pub fn new(net: &'a N, shared: &'a SharedUdp) -> UdpPort<'a, N>
-        ensures { result ≡ 0 }
+        ensures { result ≡ record { told = new_port; faults = 0 } }
     {
         UdpPort {
             net,
             shared,
             socket: None,
             faults: 0,
+            past: PortPast::new(),
         }
     }
 }
@@ -124,6 +131,7 @@ fn join<'a, N: Net>(net: &N, shared: &'a SharedUdp, listen: Listen) -> Option<&'
 fn take_datagram(socket: &UdpSocket, buffer: &mut [u8]) -> Arrival
     requires { LARGEST_DATAGRAM ≤ length buffer.old }
     ensures short { IsShort result }
+    ensures open { result ≢ Arrival.End }
     ensures buffer { length buffer.new ≡ length buffer.old }
 {
     if buffer.len() > LARGEST_DATAGRAM {
@@ -137,12 +145,26 @@ fn take_datagram(socket: &UdpSocket, buffer: &mut [u8]) -> Arrival
     arrival
 }
 
-impl<N: Net> Port for UdpPort<'_, N> {
-    ghost told = { λ _. None };
+/// Takes the next datagram of a socket, if there is one.
+fn take_next(socket: Option<&UdpSocket>, buffer: &mut [u8]) -> Arrival
+    requires { LARGEST_DATAGRAM ≤ length buffer.old }
+    ensures short { IsShort result }
+    ensures open { result ≢ Arrival.End }
+    ensures buffer { length buffer.new ≡ length buffer.old }
+{
+    match socket {
+        Some(socket) => take_datagram(socket, buffer),
+        None => Arrival::Failed,
+    }
+}
 
-    ghost faults = { λ p. p };
+impl<N: Net> Port for UdpPort<'_, N> {
+    ghost told = { λ p. Some p.told };
+
+    ghost faults = { λ p. p.faults };
 
     fn open(&mut self, listen: &Listen) -> Opening {
+        self.past.note(&PortEvent::Opened(*listen));
         self.socket = join(self.net, self.shared, *listen);
         if self.socket.is_some() {
             Opening::Ready
@@ -153,11 +175,8 @@ impl<N: Net> Port for UdpPort<'_, N> {
     }
 
     fn recv(&mut self, known: u64, buffer: &mut [u8]) -> Arrival {
-        let _ = known;
-        let arrival = match self.socket {
-            Some(socket) => take_datagram(socket, buffer),
-            None => Arrival::Failed,
-        };
+        let arrival = take_next(self.socket, buffer);
+        self.past.note(&PortEvent::Received(known, buffer, arrival));
         if let Arrival::Failed = arrival {
             self.faults = self.faults.saturating_add(1);
         }
@@ -165,13 +184,13 @@ impl<N: Net> Port for UdpPort<'_, N> {
     }
 
     fn send(&mut self, octets: &[u8], peer: Peer, serial: u64) -> Sending {
-        let _ = serial;
         let sending = match self.socket {
             Some(socket) => {
                 sending_of(socket.send_to(octets, socket_addr(peer.addr, peer.port)))
             }
             None => Sending::Failed,
         };
+        self.past.note(&PortEvent::Tried(octets, peer, serial, sending));
         if let Sending::Failed = sending {
             self.faults = self.faults.saturating_add(1);
         }

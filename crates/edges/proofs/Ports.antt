@@ -1,0 +1,15 @@
+-- What each answer of recv leaves of a port that goes on.
+use Rattle.std.proofs.Common.{ℕ, List, ◌∷◌, ◌++◌, ◌≡◌, ◌≢◌, ◌≤◌, ◌+◌, length, ap, refl, arith}
+use Rattle.std.proofs.lemmas.List.{length_push}
+use Rattle.std.specs.Prelude.{option_map, drop, take}
+use Rattle.outside.specs.Port.{PortTold, received}
+use Rattle.outside.specs.declared.port.Arrival.{Arrival}
+use Rattle.outside.specs.declared.port.Arrival.TheVariants.{Arrived, Idle, Oversize, End, Failed}
+use Rattle.edges.specs.Pasts.{IsGoing}
+
+pub received_going : (known : ℕ) (buffer : List ℕ) (arrival : Arrival) (port : PortTold) → arrival ≢ End → IsGoing port → IsGoing (received known buffer arrival port)
+received_going known buffer (Arrived len from) port on going = (ap (option_map (drop 1)) going.0, going.1, omega (arith, going.2, length_push port.taken (record { packet = record { octets = take len buffer; from = from }; known = known; place = port.recvs })))
+received_going known buffer Idle port on going = going
+received_going known buffer Oversize port on going = (ap (option_map (drop 1)) going.0, going.1, going.2)
+received_going known buffer End port on going = absurd (on refl)
+received_going known buffer Failed port on going = going

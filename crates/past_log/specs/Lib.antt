@@ -1,0 +1,6 @@
+pub mod Gate
+pub mod Pace
+pub mod Port
+pub mod Sink
+pub mod Source
+pub mod Streams
