@@ -4,8 +4,9 @@ ghost use Rattle.map_model.specs.Allocation.{IsGood};
 ghost use Rattle.published_map.specs.Version.{IsVersion};
 
 use addr_text::Addr;
-use answer_core::{Answer, pick, reply, silent};
+use answer_core::{Answer, Way, pick, reply, silent};
 use arrayvec::ArrayVec;
+use dns_wire::ReplyBuffer;
 use map_model::GroupId;
 use published_map::MapVersion;
 use std::alloc::Global;
@@ -13,37 +14,8 @@ use topology_text::{Topology, read_topology};
 use world_versions::{GoodMap, first_version, is_good, version_of};
 use worlds::{NameAt, Placed, map_of};
 
-/// Names as long as they may be, and as many servers and addresses.
-const LONG: &str = r#"
-[zone]
-apex = "aaaaaaaaaaaaaaaaaaaaaaaaaaaaaaaaaaaaaaaaaaaaaaaaaaaaaaaaaaaaaa"
-mname = "mmmmmmmmmmmmmmmmmmmmmmmmmmmmmmmmmmmmmmmmmmmmmmmmmmmmmmmmmmmmmm"
-rname = "rrrrrrrrrrrrrrrrrrrrrrrrrrrrrrrrrrrrrrrrrrrrrrrrrrrrrrrrrrrrrr"
-serial = 1
-refresh = 3600
-retry = 600
-expire = 86400
-minimum = 60
-ttl = 20
-ns = [
-  "nnnnnnnnnnnnnnnnnnnnnnnnnnnnnnnnnnnnnnnnnnnnnnnnnnnnnnnnnnnnnn",
-  "oooooooooooooooooooooooooooooooooooooooooooooooooooooooooooooo",
-  "pppppppppppppppppppppppppppppppppppppppppppppppppppppppppppppp",
-  "qqqqqqqqqqqqqqqqqqqqqqqqqqqqqqqqqqqqqqqqqqqqqqqqqqqqqqqqqqqqqq",
-]
-services = ["sssssssssssssssssssssssssssssssssssssssssssssssssssssssssssssss"]
-[[node]]
-name = "P"
-capacity = 1
-pool = true
-aaaa = ["::1", "::2", "::3", "::4", "::5", "::6"]
-[[group]]
-name = "g"
-demand = 1
-pools = ["P"]
-scores = [1]
-prefixes = ["0.0.0.0/0", "::/0"]
-"#;
+mod classes;
+mod long;
 
 /// The map of these rows and a topology's own instance, if the map is good for it.
 fn good_map(
@@ -83,16 +55,20 @@ fn version_with(
     }
 }
 
-/// The same of a text.
+/// The same of a text in pieces.
 fn version_of_text(
     alloc: Global,
-    text: &str,
+    pieces: &[&str],
     lines: &[Placed],
     names: &[NameAt],
 ) -> Option<MapVersion>
     ensures { IfSome result IsVersion }
 {
-    match read_topology(alloc, text.as_bytes()) {
+    let mut text = Vec::new(alloc);
+    for piece in pieces {
+        text.extend_from_slice(piece.as_bytes()).ok()?;
+    }
+    match read_topology(alloc, text.as_slice()) {
         Ok(topology) => version_with(alloc, topology, lines, names),
         Err(_) => None,
     }
@@ -159,17 +135,17 @@ const REPLIES: &[ReplyRow] = &[
     ),
 ];
 
-fn has(out: &ArrayVec<u8, 512>, octets: &[u8]) -> bool {
+fn has(out: &ReplyBuffer, octets: &[u8]) -> bool {
     out.as_slice() == octets
 }
 
 /// Whether a datagram has the reply that its row says.
-fn replies_so(version: &MapVersion, out: &mut ArrayVec<u8, 512>, row: &ReplyRow) -> bool
+fn replies_so(version: &MapVersion, out: &mut ReplyBuffer, row: &ReplyRow) -> bool
     requires { IsVersion version.now }
 {
     let (octets, draw, answer, want) = row;
     silent(*octets) == (*answer == Answer::Silent)
-        && reply(version, FROM, *octets, *draw, out) == *answer
+        && reply(version, FROM, *octets, *draw, Way::Datagram, out) == *answer
         && has(out, *want)
 }
 
@@ -196,13 +172,13 @@ fn code_of(octets: &[u8]) -> u8
     }
 }
 
-/// The code and the size of the reply to a datagram from an address.
-fn replied(version: &MapVersion, from: Addr, octets: &[u8]) -> (u8, usize)
+/// The code and the size of the reply to a datagram.
+fn replied(version: &MapVersion, octets: &[u8]) -> (u8, usize)
     requires { IsVersion version.now }
     ensures { result.0 < 16 }
 {
     let mut out = ArrayVec::new();
-    let _ = reply(version, from, octets, 0, &mut out);
+    let _ = reply(version, FROM, octets, 0, Way::Datagram, &mut out);
     (code_of(out.as_slice()), out.len())
 }
 
@@ -216,7 +192,7 @@ struct Counts {
 fn count_reply(version: &MapVersion, octets: &[u8], counts: &mut Counts)
     requires { IsVersion version.now }
 {
-    let (code, size) = replied(version, FROM, octets);
+    let (code, size) = replied(version, octets);
     let codes = &mut counts.codes[usize::from(code)];
     *codes = codes.wrapping_add(1);
     counts.octets = counts.octets.wrapping_add(size);
@@ -296,72 +272,4 @@ fn wrong_in_example(alloc: Global) -> Option<&'static str> {
 #[test]
 fn replies_of_the_example(rt: HostRuntime) {
     assert_eq!(rt; wrong_in_example(rt.alloc()), None);
-}
-
-fn push_label(octets: &mut ArrayVec<u8, 512>, size: u8, letter: u8) {
-    let _ = octets.try_push(size);
-    for _octet in 0..size {
-        let _ = octets.try_push(letter);
-    }
-}
-
-fn push(octets: &mut ArrayVec<u8, 512>, more: &[u8]) {
-    let _ = octets.try_extend_from_slice(more);
-}
-
-/// Labels of so many times a letter.
-type Labels = &'static [(u8, u8)];
-
-fn push_labels(octets: &mut ArrayVec<u8, 512>, labels: Labels) {
-    for &(size, letter) in labels {
-        push_label(octets, size, letter);
-    }
-}
-
-/// A query for a name in the zone of long names, with a subnet of 128 bits.
-fn long_query(labels: Labels, kind: u8) -> ArrayVec<u8, 512> {
-    let mut octets = ArrayVec::new();
-    push(&mut octets, b"\x12\x34\x01\0\0\x01\0\0\0\0\0\x01");
-    push_labels(&mut octets, labels);
-    push_label(&mut octets, 62, b'a');
-    push(&mut octets, &[0, 0, kind, 0, 1]);
-    push(
-        &mut octets,
-        b"\0\0\x29\x04\xd0\0\0\0\0\0\x18\0\x08\0\x14\0\x02\x80\0                ",
-    );
-    octets
-}
-
-/// Labels before the zone's name and a type, and the code and the size of the reply.
-const LONG_REPLIES: &[(Labels, u8, (u8, usize))] = &[
-    (&[(63, b'x'), (63, b'y'), (62, b'z')], 1, (3, 466)),
-    (&[(63, b's')], 28, (0, 347)),
-    (&[], 2, (0, 419)),
-    // A name of 256 octets is no query.
-    (&[(63, b'x'), (63, b'y'), (63, b'z')], 1, (1, 12)),
-];
-
-fn are_replied(version: &MapVersion, rows: &[(Labels, u8, (u8, usize))]) -> bool
-    requires { IsVersion version.now }
-{
-    for (labels, kind, want) in rows {
-        let query = long_query(*labels, *kind);
-        if replied(version, Addr::V4(0), query.as_slice()) != *want {
-            return false;
-        }
-    }
-    true
-}
-
-fn are_bounded(alloc: Global) -> bool {
-    match version_of_text(alloc, LONG, &[(0, 0, 1)], &[]) {
-        Some(version) => are_replied(&version, LONG_REPLIES),
-        None => false,
-    }
-}
-
-/// The longest replies there are, with their codes and sizes: no such name, addresses, name servers.
-#[test]
-fn bounds_replies(rt: HostRuntime) {
-    assert!(rt; are_bounded(rt.alloc()));
 }

@@ -16,4 +16,4 @@ change_fits m v (Capacity node capacity) groups nodes is = (subst (λ n. node.0 
 pub event_fits : (m v : Market) (e : Event) → length v.groups ≡ length m.groups → length v.nodes ≡ length m.nodes → IsEventFor m e → IsEventFor v e
 event_fits m v (Commit batch map) groups nodes is = λ i d l. change_fits m v _ groups nodes (is i d l)
 event_fits m v (Tell lane serial) groups nodes is = is
-event_fits m v (Take lane octets from serial) groups nodes is = is
+event_fits m v (Take lane octets from serial way) groups nodes is = is

@@ -109,7 +109,7 @@ opened_kept v n = record { rest = []; history = refl; goes_on = tt; lanes = fres
 event_shape : (m m' : Market) → IsSameShape m m' → (e : Event) → IsEventFor m e → IsEventFor m' e
 event_shape m m' s (Commit batch map) h = batch_shape m m' s batch h
 event_shape m m' s (Tell lane serial) h = tt
-event_shape m m' s (Take lane octets from serial) h = tt
+event_shape m m' s (Take lane octets from serial way) h = tt
 
 events_shape : (m m' : Market) → IsSameShape m m' → (es : List Event) → All (IsEventFor m) es → All (IsEventFor m') es
 events_shape m m' s es h = λ k d lt. event_shape m m' s (get_or es k d) (h k d lt)
@@ -124,8 +124,8 @@ still_for (Commit batch map) es m m' t h v is =
     subst (λ (w : Version). All (IsEventFor w.market) es) same (events_shape c.0.market t.1.0.market c.2.applied.shape es (h c.0 c.1))
 still_for (Tell lane serial) es m m' t h v is =
     let step : IsStep replies Follows (machine.tell lane serial) m m' = subst (λ (x : machine.Event Version). IsStep replies Follows x m m') t.1 t.2 in h v (ap newest_of (sym step.1) ∙ is)
-still_for (Take lane octets from serial) es m m' t h v is =
-    let step : IsStep replies Follows (machine.take lane (record { octets = octets; from = from }) serial) m m' = subst (λ (x : machine.Event Version). IsStep replies Follows x m m') t.1 t.2 in h v (ap newest_of (sym step.0) ∙ is)
+still_for (Take lane octets from serial way) es m m' t h v is =
+    let step : IsStep replies Follows (machine.take lane (record { octets = octets; from = from }) serial way) m m' = subst (λ (x : machine.Event Version). IsStep replies Follows x m m') t.1 t.2 in h v (ap newest_of (sym step.0) ∙ is)
 
 pub kept_as : (v : Version) (n : ℕ) (h : List Version) (lanes : List LaneState) → h ≡ v ∷ [] → lanes ≡ replicate n fresh → IsKept replies Follows v (record { history = h; lanes = lanes })
 kept_as v n h lanes a b = subst (λ (g : List Version). IsKept replies Follows v (record { history = g; lanes = lanes })) (sym a) (subst (λ (ls : List LaneState). IsKept replies Follows v (record { history = v ∷ []; lanes = ls })) (sym b) (opened_kept v n))

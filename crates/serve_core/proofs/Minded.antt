@@ -19,9 +19,9 @@ takes_heard lane (Commit batch map) m m' t =
     let step : IsStep replies Follows (machine.commit t.1.0) m m' = subst (λ (x : machine.Event Version). IsStep replies Follows x m m') t.1.1 t.2 in step_heard replies Follows lane (machine.commit t.1.0) m m' step
 takes_heard lane (Tell other serial) m m' t =
     let step : IsStep replies Follows (machine.tell other serial) m m' = subst (λ (x : machine.Event Version). IsStep replies Follows x m m') t.1 t.2 in step_heard replies Follows lane (machine.tell other serial) m m' step
-takes_heard lane (Take other octets from serial) m m' t =
-    let step : IsStep replies Follows (machine.take other (record { octets = octets; from = from }) serial) m m' = subst (λ (x : machine.Event Version). IsStep replies Follows x m m') t.1 t.2 in
-    step_heard replies Follows lane (machine.take other (record { octets = octets; from = from }) serial) m m' step
+takes_heard lane (Take other octets from serial way) m m' t =
+    let step : IsStep replies Follows (machine.take other (record { octets = octets; from = from }) serial way) m m' = subst (λ (x : machine.Event Version). IsStep replies Follows x m m') t.1 t.2 in
+    step_heard replies Follows lane (machine.take other (record { octets = octets; from = from }) serial way) m m' step
 
 -- nothing was taken
 same_minded : (lane : ℕ) (m m' : Machine Version) → m' ≡ m → IsMinded lane (map bare []) (lane_at m lane) (lane_at m' lane)

@@ -5,6 +5,7 @@ use Rattle.map_model.specs.declared.change.Change.{Change}
 use Rattle.map_model.specs.declared.lines.MapLines.{MapLines}
 use Rattle.outside.specs.Port.{Packet}
 use Rattle.published_map.specs.Version.{Version}
+use Rattle.answer_core.specs.declared.way.Way.{Way}
 use Rattle.lane_model.specs.Histories.{Follows}
 use Rattle.lane_model.specs.Kept.{IsKept}
 use Rattle.lane_model.specs.Lanes.{draw}
@@ -32,22 +33,22 @@ pub tell_step : (m : Machine Version) (lane serial : ℕ) → lane < length m.la
     → IsStep replies Follows (machine.tell lane serial) m (record m { lanes = slice_set m.lanes lane (told serial (slice_index_or m.lanes lane fresh)) })
 tell_step m lane serial lt there = (there, refl, (slice_index_or m.lanes lane fresh, moved_set m.lanes lane fresh (told serial (slice_index_or m.lanes lane fresh)) lt))
 
-takes : (h : List Version) (v : Version) (w : ℕ) (d : Packet) (s : ℕ) (old new : LaneState) → IsTakenBy v w d s old new → slice_get h s ≡ Some v → s < length h → old.seen ≤ s → Takes replies h w d s old new
-takes h v w d s old new (inl none) there lt le = (le, lt, inl (none_silent v d.from.addr d.octets (draw w old.count) none.0, none.1))
-takes h v w d s old new (inr some) there lt le = (
+takes : (h : List Version) (v : Version) (w : ℕ) (d : Packet) (s : ℕ) (way : Way) (old new : LaneState) → IsTakenBy v w d s way old new → slice_get h s ≡ Some v → s < length h → old.seen ≤ s → Takes replies h w d s way old new
+takes h v w d s way old new (inl none) there lt le = (le, lt, inl (none_silent v d.from.addr d.octets (draw w old.count) way none.0, none.1))
+takes h v w d s way old new (inr some) there lt le = (
   le,
   lt,
   inr (
-    some_spoken v d.from.addr d.octets (draw w old.count) some.0 some.1,
+    some_spoken v d.from.addr d.octets (draw w old.count) way some.0 some.1,
     (record { octets = some.0; to = d.from; serial = s; went = true }, refl, record { to = refl; fresh = le; version = (v, there, some.1) }, some.2),
   ),
 )
 
 -- a lane takes a datagram, and answers it from one version
-pub take_step : (m : Machine Version) (v : Version) (lane : ℕ) (d : Packet) (s : ℕ) (new : LaneState) → IsTakenBy v lane d s (slice_index_or m.lanes lane fresh) new → lane < length m.lanes → slice_get m.history s ≡ Some v → s < length m.history
-    → (slice_index_or m.lanes lane fresh).seen ≤ s → IsStep replies Follows (machine.take lane d s) m (record m { lanes = slice_set m.lanes lane new })
-take_step m v lane d s new taken lt there within le =
-    (refl, (slice_index_or m.lanes lane fresh, new, takes m.history v lane d s (slice_index_or m.lanes lane fresh) new taken there within le, moved_set m.lanes lane fresh new lt))
+pub take_step : (m : Machine Version) (v : Version) (lane : ℕ) (d : Packet) (s : ℕ) (way : Way) (new : LaneState) → IsTakenBy v lane d s way (slice_index_or m.lanes lane fresh) new → lane < length m.lanes → slice_get m.history s ≡ Some v → s < length m.history
+    → (slice_index_or m.lanes lane fresh).seen ≤ s → IsStep replies Follows (machine.take lane d s way) m (record m { lanes = slice_set m.lanes lane new })
+take_step m v lane d s way new taken lt there within le =
+    (refl, (slice_index_or m.lanes lane fresh, new, takes m.history v lane d s way (slice_index_or m.lanes lane fresh) new taken there within le, moved_set m.lanes lane fresh new lt))
 
 -- the events that a run takes, as those of the machine
 pub run_taken : (es : List Event) (m m' : Machine Version) (fault : Option StepFault) → RunsTo es m m' fault → (taken : List (machine.Event Version)) × IsTaken replies Follows taken m m'
@@ -71,8 +72,8 @@ pub did_tell : (m m' : Machine Version) (lane serial : ℕ) (r : Result (Unit {0
 did_tell m m' lane serial (Ok u) h = (machine.tell lane serial, refl, subst (λ (x : Machine Version). IsStep replies Follows (machine.tell lane serial) m x) (sym h.2) (tell_step m lane serial h.0 h.1))
 did_tell m m' lane serial (Err e) h = tt
 
-pub did_take : (m m' : Machine Version) (lane : ℕ) (octets : List ℕ) (from : Peer) (serial : ℕ) (r : Result (Unit {0}) StepFault) → OnOk r (IsTaking lane (record { octets = octets; from = from }) serial m m') → OnOk r (events.Takes (Take lane octets from serial) m m')
-did_take m m' lane octets from serial (Ok u) h =
+pub did_take : (m m' : Machine Version) (lane : ℕ) (octets : List ℕ) (from : Peer) (serial : ℕ) (way : Way) (r : Result (Unit {0}) StepFault) → OnOk r (IsTaking lane (record { octets = octets; from = from }) serial way m m') → OnOk r (events.Takes (Take lane octets from serial way) m m')
+did_take m m' lane octets from serial way (Ok u) h =
     let d : Packet = record { octets = octets; from = from } in
-    (machine.take lane d serial, refl, subst (λ (x : Machine Version). IsStep replies Follows (machine.take lane d serial) m x) (sym h.7) (take_step m h.0 lane d serial h.1 h.6 h.2 h.4 h.3 h.5))
-did_take m m' lane octets from serial (Err e) h = tt
+    (machine.take lane d serial way, refl, subst (λ (x : Machine Version). IsStep replies Follows (machine.take lane d serial way) m x) (sym h.7) (take_step m h.0 lane d serial way h.1 h.6 h.2 h.4 h.3 h.5))
+did_take m m' lane octets from serial way (Err e) h = tt

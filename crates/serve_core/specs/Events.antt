@@ -29,7 +29,7 @@ IsCommitOf h batch map v = (old : Version) × (newest_of h ≡ Some old) × IsNe
 abbrev pub IsEventOf : List Version → Event → machine.Event Version → Type 0
 IsEventOf h (Commit batch map) x = (v : Version) × (x ≡ machine.commit v) × IsCommitOf h batch map v
 IsEventOf h (Tell lane serial) x = x ≡ machine.tell lane serial
-IsEventOf h (Take lane octets from serial) x = x ≡ machine.take lane (record { octets = octets; from = from }) serial
+IsEventOf h (Take lane octets from serial way) x = x ≡ machine.take lane (record { octets = octets; from = from }) serial way
 
 -- the machine takes an event
 abbrev pub Takes : Event → Machine Version → Machine Version → Type 0
@@ -51,17 +51,17 @@ IsRefused (Commit batch map) m _ = ⊥
 IsRefused (Tell lane serial) m NoLane = length m.lanes ≤ lane
 IsRefused (Tell lane serial) m (Ahead s newest) = (lane < length m.lanes) × (s ≡ serial) × (newest + 1 ≡ length m.history) × (newest < serial)
 IsRefused (Tell lane serial) m _ = ⊥
-IsRefused (Take lane octets from serial) m NoLane = length m.lanes ≤ lane
-IsRefused (Take lane octets from serial) m (Ahead s newest) = (lane < length m.lanes) × (s ≡ serial) × (newest + 1 ≡ length m.history) × (newest < serial)
-IsRefused (Take lane octets from serial) m (Behind s seen) = (lane < length m.lanes) × (serial < length m.history) × (s ≡ serial) × (seen ≡ (lane_at m lane).seen) × (serial < seen)
-IsRefused (Take lane octets from serial) m NoMemory = Unit {0}
-IsRefused (Take lane octets from serial) m _ = ⊥
+IsRefused (Take lane octets from serial way) m NoLane = length m.lanes ≤ lane
+IsRefused (Take lane octets from serial way) m (Ahead s newest) = (lane < length m.lanes) × (s ≡ serial) × (newest + 1 ≡ length m.history) × (newest < serial)
+IsRefused (Take lane octets from serial way) m (Behind s seen) = (lane < length m.lanes) × (serial < length m.history) × (s ≡ serial) × (seen ≡ (lane_at m lane).seen) × (serial < seen)
+IsRefused (Take lane octets from serial way) m NoMemory = Unit {0}
+IsRefused (Take lane octets from serial way) m _ = ⊥
 
 -- the names of a batch are those of an instance
 abbrev pub IsEventFor : Market → Event → Type 0
 IsEventFor m (Commit batch map) = IsBatch m batch
 IsEventFor m (Tell lane serial) = Unit {0}
-IsEventFor m (Take lane octets from serial) = Unit {0}
+IsEventFor m (Take lane octets from serial way) = Unit {0}
 
 -- events are taken in order up to the first that is refused, with its fault
 abbrev pub RunsTo : List Event → Machine Version → Machine Version → Option StepFault → Type 0

@@ -13,7 +13,7 @@ use Rattle.serve_core.specs.Events.{IsRefused, RunsTo, lane_at}
 abbrev pub bare : Event → machine.Event (Unit {0})
 bare (Commit batch map) = machine.commit tt
 bare (Tell lane serial) = machine.tell lane serial
-bare (Take lane octets from serial) = machine.take lane (record { octets = octets; from = from }) serial
+bare (Take lane octets from serial way) = machine.take lane (record { octets = octets; from = from }) serial way
 
 -- no events are left, or the first of them is refused by the fault
 abbrev pub AreLeft : List Event → Machine Version → Option StepFault → Type 0

@@ -3,6 +3,7 @@ ghost use Rattle.std.specs.Prelude.{◌≡◌};
 
 use crate::octets::Octets;
 use addr_text::Peer;
+use answer_core::Way;
 use demand_feed::Batch;
 use map_model::MapLines;
 use no_memory::NoMemory;
@@ -15,8 +16,8 @@ pub enum Event {
     Commit(Batch, MapLines),
     /// The lane of that number learns of a serial.
     Tell(u8, u64),
-    /// The lane of that number takes a datagram from a sender, and answers it from the version of that serial.
-    Take(u8, Octets, Peer, u64),
+    /// The lane of that number takes a datagram from a sender, and answers it from the version of that serial, by that way.
+    Take(u8, Octets, Peer, u64, Way),
 }
 
 /// Why an event was not taken. After it all is as before.

@@ -7,7 +7,7 @@ ghost use Rattle.serve_core.specs.Takings.{IsTakenBy};
 
 use crate::octets::Octets;
 use addr_text::Peer;
-use answer_core::{Answer, reply};
+use answer_core::{Answer, Way, reply};
 use arrayvec::ArrayVec;
 use lane_model::{draw_of, next_number};
 use no_memory::NoMemory;
@@ -22,6 +22,7 @@ pub struct TakenRow {
     pub octets: Octets,
     pub from: Peer,
     pub known: u64,
+    pub way: Way,
 }
 
 /// A reply that a lane tried.
@@ -79,22 +80,29 @@ impl LaneRow {
     }
 
     /// A datagram, with what the lane knows.
-    fn row(&self, octets: Octets, from: Peer) -> TakenRow
-        ensures { entry_of result ≡ record { packet = record { octets = octets; from = from }; known = self.now.seen } }
+    fn row(&self, octets: Octets, from: Peer, way: Way) -> TakenRow
+        ensures { entry_of result ≡ record { packet = record { octets = octets; from = from }; known = self.now.seen; way = way } }
     {
         TakenRow {
             octets,
             from,
             known: self.seen,
+            way,
         }
     }
 
     /// Takes a datagram that has no reply.
-    fn pass(&mut self, octets: Octets, from: Peer, serial: u64) -> Result<(), NoMemory>
-        ensures ok { OnOk result (self.new ≡ passed (record { octets = octets; from = from }) serial self.old) }
+    fn pass(
+        &mut self,
+        octets: Octets,
+        from: Peer,
+        serial: u64,
+        way: Way,
+    ) -> Result<(), NoMemory>
+        ensures ok { OnOk result (self.new ≡ passed (record { octets = octets; from = from }) serial way self.old) }
         ensures err { OnErr result (self.new ≡ self.old) }
     {
-        let row = self.row(octets, from);
+        let row = self.row(octets, from, way);
         self.taken.push(row)?;
         self.seen = serial;
         self.count = next_number(self.count);
@@ -107,13 +115,14 @@ impl LaneRow {
         octets: Octets,
         from: Peer,
         serial: u64,
+        way: Way,
         text: ArrayVec<u8, LARGEST_REPLY>,
     ) -> Result<(), NoMemory>
-        ensures ok { OnOk result (self.new ≡ replied (record { octets = octets; from = from }) (record { octets = text.items; to = from; serial = serial; went = true }) self.old) }
+        ensures ok { OnOk result (self.new ≡ replied (record { octets = octets; from = from }) (record { octets = text.items; to = from; serial = serial; went = true }) way self.old) }
         ensures err { OnErr result (self.new ≡ self.old) }
     {
         self.tries.reserve(1)?;
-        let row = self.row(octets, from);
+        let row = self.row(octets, from, way);
         self.taken.push(row)?;
         self.tries.push_reserved(TryRow {
             octets: text,
@@ -125,7 +134,7 @@ impl LaneRow {
         Ok(())
     }
 
-    /// Takes a datagram, and answers it by that version.
+    /// Takes a datagram, and answers it by that version and that way.
     #[tactic(auto, unfolding(lane_model::specs::Replies::reply_of))]
     pub fn take(
         &mut self,
@@ -134,16 +143,17 @@ impl LaneRow {
         octets: Octets,
         from: Peer,
         serial: u64,
+        way: Way,
     ) -> Result<(), NoMemory>
         requires { IsVersion version.now }
-        ensures ok { OnOk result (IsTakenBy version.now number (record { octets = octets; from = from }) serial self.old self.new) }
+        ensures ok { OnOk result (IsTakenBy version.now number (record { octets = octets; from = from }) serial way self.old self.new) }
         ensures err { OnErr result (self.new ≡ self.old) }
     {
         let draw = draw_of(number, self.count);
         let mut text = ArrayVec::new();
-        match reply(version, from.addr, octets.as_slice(), draw, &mut text) {
-            Answer::Silent => self.pass(octets, from, serial),
-            Answer::Sent => self.respond(octets, from, serial, text),
+        match reply(version, from.addr, octets.as_slice(), draw, way, &mut text) {
+            Answer::Silent => self.pass(octets, from, serial, way),
+            Answer::Sent => self.respond(octets, from, serial, way, text),
         }
     }
 }

@@ -18,6 +18,7 @@ use crate::event::{Event, StepFault};
 use crate::lane::LaneRow;
 use crate::octets::Octets;
 use addr_text::Peer;
+use answer_core::Way;
 use demand_feed::{Batch, apply};
 use map_model::{Instance, MapLines};
 use no_memory::NoMemory;
@@ -173,9 +174,16 @@ impl World {
     }
 
     /// Lets a lane take a datagram.
-    fn take(&mut self, lane: u8, octets: Octets, from: Peer, serial: u64) -> Result<(), StepFault>
-        ensures ok { OnOk result (IsTaking lane (record { octets = octets; from = from }) serial self.old self.new) }
-        ensures refused { IfErr result (IsRefused (Event.Take lane octets from serial) self.old) }
+    fn take(
+        &mut self,
+        lane: u8,
+        octets: Octets,
+        from: Peer,
+        serial: u64,
+        way: Way,
+    ) -> Result<(), StepFault>
+        ensures ok { OnOk result (IsTaking lane (record { octets = octets; from = from }) serial way self.old self.new) }
+        ensures refused { IfErr result (IsRefused (Event.Take lane octets from serial way) self.old) }
         ensures same { OnErr result (self.new ≡ self.old) }
     {
         let newest = self.newest();
@@ -191,7 +199,7 @@ impl World {
         }
         let version = version_at(self.versions.as_slice(), serial);
         let row = &mut self.lanes[lane as usize];
-        row.take(version, lane, octets, from, serial)?;
+        row.take(version, lane, octets, from, serial, way)?;
         Ok(())
     }
 
@@ -210,7 +218,9 @@ impl World {
         match event {
             Event::Commit(batch, map) => self.commit(&batch, &map),
             Event::Tell(lane, serial) => self.tell(lane, serial),
-            Event::Take(lane, octets, from, serial) => self.take(lane, octets, from, serial),
+            Event::Take(lane, octets, from, serial, way) => {
+                self.take(lane, octets, from, serial, way)
+            }
         }
     }
 

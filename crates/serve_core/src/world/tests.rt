@@ -8,6 +8,7 @@ ghost use Rattle.serve_core.specs.Events.{IsEventFor, newest_of};
 use super::World;
 use crate::{Event, Octets, StepFault};
 use addr_text::{Addr, Peer};
+use answer_core::Way;
 use demand_feed::{Batch, Line};
 use map_model::{GroupId, MapLines};
 use stable_check::Verdict;
@@ -91,7 +92,7 @@ fn event_of(alloc: Global, topology: &Topology, tried: Try) -> Option<Event>
             Some(Event::Commit(batch, map))
         }
         Try::Tell(lane, serial) => Some(Event::Tell(lane, serial)),
-        Try::Take(lane, serial) => Some(Event::Take(lane, query(alloc)?, CLIENT, serial)),
+        Try::Take(lane, serial) => Some(Event::Take(lane, query(alloc)?, CLIENT, serial, Way::Datagram)),
     }
 }
 

@@ -24,5 +24,5 @@ returns-clause-ok c =
     let row_is : c.index_mut-row.result.now ≡ lane_at m c.args.lane = c.index_mut-row.ensures.value ∙ any_default c.self.inside.lanes.items c.args.lane _ fresh within ∙ ap (λ (ls : List LaneState). slice_index_or ls c.args.lane fresh) lanes in
     let seen_is : c.index.result.now ≡ lane_at m c.args.lane = c.index.ensures ∙ any_default c.self.inside.lanes.items c.args.lane _ fresh within ∙ ap (λ (ls : List LaneState). slice_index_or ls c.args.lane fresh) lanes in
     let le : (lane_at m c.args.lane).seen ≤ c.args.serial = subst (λ (l : LaneState). l.seen ≤ c.args.serial) seen_is (let s = c.seen-seen.ensures in let f = c.if-serial-seen.false in omega (arith, s, f)) in
-    let taken : IsTakenBy c.version_at-version.result.now c.args.lane d c.args.serial (lane_at m c.args.lane) c.take.new.self = subst (λ (l : LaneState). IsTakenBy c.version_at-version.result.now c.args.lane d c.args.serial l c.take.new.self) row_is c.in_ok-take.ensures.ok in
+    let taken : IsTakenBy c.version_at-version.result.now c.args.lane d c.args.serial c.args.way (lane_at m c.args.lane) c.take.new.self = subst (λ (l : LaneState). IsTakenBy c.version_at-version.result.now c.args.lane d c.args.serial c.args.way l c.take.new.self) row_is c.in_ok-take.ensures.ok in
     (c.version_at-version.result.now, c.take.new.self, lt, there, is, le, taken, search rules)
