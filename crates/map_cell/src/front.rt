@@ -1,5 +1,5 @@
 //! The history of published versions, of which each holder has seen a beginning.
-ghost use Rattle.std.specs.Prelude.{◌≡◌, ◌+◌, ◌==◌, ◌<◌, ◌≤◌, ◌^◌, ◌-◌, ◌++◌, ◌∷◌, ◌⊎◌, [], length, MatchBool, if◌then◌else◌};
+ghost use Rattle.std.specs.Prelude.{◌≡◌, ◌+◌, ◌==◌, ◌<◌, ◌≤◌, ◌^◌, ◌-◌, ◌++◌, ◌∷◌, ◌⊎◌, [], length, MatchBool, if◌then◌else◌, false};
 ghost use mathlib.Core.List.{IsPrefix};
 ghost use Rattle.published_map.specs.Changes.{after};
 ghost use Rattle.map_cell.specs.Histories.{IsHistory, MayFollow};
@@ -205,6 +205,7 @@ impl<J: Naming> Front<J> {
     /// Whether this front begins with the other. It doesn't where it is shorter.
     pub fn covers(&self, other: &Front<J>) -> bool
         ensures begins { MatchBool result (IsPrefix other.now self.now) (length self.now < length other.now) }
+        ensures begun { result ≡ false → IsPrefix self.now other.now }
         ensures history { IsHistory self.now }
         ensures other { IsHistory other.now }
     {

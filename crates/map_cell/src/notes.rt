@@ -1,9 +1,9 @@
 //! Rows of notes, by which one thread tells others of published versions, and what reads them.
-ghost use Rattle.std.specs.Prelude.{◌≡◌, ◌+◌, ◌<◌, ◌^◌, ◌≤◌, ℕ, length, vec_len, IfSome, IfNone, IfOk, IfErr, MatchBool, MatchOption, None, Some, ◌-◌, slice_get};
-ghost use Rattle.outside.specs.Faults.{BothTell};
+ghost use Rattle.std.specs.Prelude.{◌≡◌, ◌+◌, ◌<◌, ◌^◌, ◌≤◌, ℕ, length, vec_len, IfSome, IfNone, IfOk, IfErr, MatchBool, MatchOption, None, Some, ◌-◌, option_map, slice_get};
+ghost use Rattle.outside.specs.Faults.{BothTell, raised};
 ghost use Rattle.outside.specs.Limits.{most_notes};
 ghost use Rattle.outside.specs.Notes.{IsNextNote};
-ghost use Rattle.map_cell.specs.Rows.{Gives};
+ghost use Rattle.map_cell.specs.Rows.{Gives, noted};
 
 use crate::front::Naming;
 use crate::viewer::Note;
@@ -95,27 +95,32 @@ impl<J: Naming> NoteRow<J> {
     {
         let mut rest = note;
         for k in *at..MOST_NOTES as u32 {
-            match self.set(rt, k as usize, rest) {
+            match self.put_at(rt, k as usize, rest) {
                 Ok(kept) => {
                     *at = k + 1;
                     return Some(kept);
                 }
-                Err(back) => rest = back,
+                Err((_held, back)) => rest = back,
             }
         }
         *at = MOST_NOTES as u32;
         None
     }
 
-    /// Sets a cell to the note, or hands it back.
-    fn set<R: Wait>(&self, rt: &R, place: usize, note: Note<J>) -> Result<KeptNote<'_, J>, Note<J>>
+    /// Sets a cell to the note, or hands it back with what shows the note that the cell holds.
+    pub fn put_at<R: Wait>(
+        &self,
+        rt: &R,
+        place: usize,
+        note: Note<J>,
+    ) -> Result<KeptNote<'_, J>, (KeptNote<'_, J>, Note<J>)>
         requires { place < most_notes }
         ensures ok { IfOk result (λ kept. (slice_get self.now place ≡ Some kept.cell) × (kept.history ≡ note.front)) }
-        ensures err { IfErr result (λ back. back.front ≡ note.front) }
+        ensures err { IfErr result (λ e. (slice_get self.now place ≡ Some e.0.cell) × (e.1.front ≡ note.front)) }
     {
-        match self.cells[place].set(rt, note) {
+        match self.cells[place].try_insert(rt, note) {
             Ok(token) => Ok(KeptNote { token }),
-            Err(back) => Err(back),
+            Err((token, back)) => Err((KeptNote { token }, back)),
         }
     }
 }
@@ -125,6 +130,8 @@ impl<J: Naming> NoteRow<J> {
 pub struct RowNotes<'a, J: Naming> {
     row: &'a NoteRow<J>,
     next: usize,
+    /// How many answers were `None`.
+    nones: u64,
     /// What shows the note that was given last.
     last: Option<KeptNote<'a, J>>,
 }
@@ -136,7 +143,7 @@ impl<'a, J: Naming> Model for RowNotes<'a, J> {
 
     ghost Value = { ReaderState };
 
-    ghost view = { λ s. record { row = s.row.now; given = s.next; last = s.last } };
+    ghost view = { λ s. record { row = s.row.now; given = s.next; nones = s.nones; last = s.last } };
 
     ghost invariant = { λ s. s.next ≤ most_notes };
 }
@@ -144,13 +151,21 @@ impl<'a, J: Naming> Model for RowNotes<'a, J> {
 impl<'a, J: Naming> RowNotes<'a, J> {
     /// The notes of a row, from the first on.
     pub fn over(row: &'a NoteRow<J>) -> RowNotes<'a, J>
-        ensures { result ≡ record { row = row.now; given = 0; last = None } }
+        ensures { result ≡ record { row = row.now; given = 0; nones = 0; last = None } }
     {
         RowNotes {
             row,
             next: 0,
+            nones: 0,
             last: None,
         }
+    }
+
+    /// How many notes were given.
+    pub fn given(&self) -> usize
+        ensures { result ≡ self.now.given }
+    {
+        self.next
     }
 
     /// What shows the note that was given last.
@@ -164,23 +179,12 @@ impl<'a, J: Naming> RowNotes<'a, J> {
     }
 }
 
-impl<J: Naming> Notes for RowNotes<'_, J> {
-    type Note = Note<J>;
-
-    ghost use Rattle.std.specs.Prelude.{◌-◌, None};
-    ghost use Rattle.outside.specs.Limits.{most_notes};
-
-    ghost told = { λ s. None };
-
-    ghost left = { λ s. most_notes - s.given };
-
-    fn next(&mut self) -> Option<Note<J>>
-        ensures next { BothTell None None (IsNextNote result) }
-        ensures few { most_notes - self.old.given ≤ most_notes }
-        ensures some { IfSome result (λ _. most_notes - self.new.given < most_notes - self.old.given) }
-        ensures none { IfNone result (most_notes - self.new.given ≡ most_notes - self.old.given) }
-        // Each note that it gives is that of the next cell, and it counts it; else nothing changes.
-        ensures gives { MatchOption result (self.new ≡ self.old) (λ note. Gives self.old note.front self.new) }
+impl<'a, J: Naming> RowNotes<'a, J> {
+    /// The note of the next cell, where that cell shows the note of the serial that is due.
+    fn due(&self) -> Option<(Note<J>, KeptNote<'a, J>)>
+        ensures cell { IfSome result (λ r. slice_get self.now.row self.now.given ≡ Some r.1.cell) }
+        ensures note { IfSome result (λ r. (r.1.history ≡ r.0.front) × (length r.0.front ≡ self.now.given + 1)) }
+        ensures within { IfSome result (λ _. self.now.given < most_notes) }
     {
         if self.next >= MOST_NOTES {
             return None;
@@ -189,8 +193,40 @@ impl<J: Naming> Notes for RowNotes<'_, J> {
         let cell = &row.cells[self.next];
         let token = cell.witness()?;
         let note = cell.value(&token).again();
+        if note.serial() != self.next as u64 {
+            return None;
+        }
+        Some((note, KeptNote { token }))
+    }
+}
+
+impl<J: Naming> Notes for RowNotes<'_, J> {
+    type Note = Note<J>;
+
+    ghost use Rattle.std.specs.Prelude.{◌-◌, Some};
+    ghost use Rattle.outside.specs.Limits.{most_notes};
+    ghost use Rattle.map_cell.specs.Rows.{noted};
+
+    ghost told = { λ s. Some (noted s) };
+
+    ghost left = { λ s. most_notes - s.given };
+
+    fn next(&mut self) -> Option<Note<J>>
+        ensures next { BothTell (Some (noted self.old)) (Some (noted self.new)) (IsNextNote (option_map (λ n. length n.front - 1) result)) }
+        ensures few { most_notes - self.old.given ≤ most_notes }
+        ensures some { IfSome result (λ _. most_notes - self.new.given < most_notes - self.old.given) }
+        ensures none { IfNone result (most_notes - self.new.given ≡ most_notes - self.old.given) }
+        // Each note that it gives is that of the next cell, and it counts it. Else it counts the answer, and nothing else changes.
+        ensures gives { MatchOption result (self.new ≡ record self.old { nones = raised self.old.nones 1 }) (λ note. Gives self.old note.front self.new) }
+        // The first one names the first version, and each later one the version behind: they are given in the order of serials, each once.
+        ensures number { IfSome result (λ note. length note.front ≡ self.old.given + 1) }
+    {
+        let Some((note, kept)) = self.due() else {
+            self.nones = self.nones.saturating_add(1);
+            return None;
+        };
         self.next += 1;
-        self.last = Some(KeptNote { token });
+        self.last = Some(kept);
         Some(note)
     }
 }

@@ -13,6 +13,7 @@ use crate::rule::{Knows, OneCell};
 use crate::sealed::Sealed;
 use crate::tag::Tag;
 use left_right::reader::Reader;
+use outside::Numbered;
 use published_map::MapVersion;
 use std::marker::Model;
 
@@ -28,6 +29,12 @@ pub struct Refused;
 pub struct Note<J: Naming> {
     pub front: Front<J>,
     pub ghost some: { 0 < length front },
+}
+
+impl<J: Naming> Numbered for Note<J> {
+    ghost use Rattle.std.specs.Prelude.{◌-◌, length};
+
+    ghost number = { λ n. length n.front - 1 };
 }
 
 impl<J: Naming> Note<J> {
@@ -102,6 +109,7 @@ impl<J: Naming> Viewer<J> {
     /// Whether all that this viewer has seen begins the note's history.
     pub fn is_within(&self, note: &Note<J>) -> bool
         ensures within { MatchBool result (IsPrefix self.now.seen note.now.front) (length note.now.front < length self.now.seen) }
+        ensures begun { result ≡ false → IsPrefix note.now.front self.now.seen }
         ensures history { IsHistory self.now.seen }
     {
         note.front.covers(&self.seen)

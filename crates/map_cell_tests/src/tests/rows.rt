@@ -205,7 +205,8 @@ fn filled_row<R: Wait>(rt: &R, alloc: Global) -> Option<Filled> {
     opened_row::<Brand, R>(rt, alloc, EmptyHistory::new())
 }
 
-/// Two notes in turns, and then 65,534 more of the second map, after which the row is full.
+/// Two notes in turns, and then 65,534 more of the second map, after which the row is full. Of these none is given: the
+/// note that is due is that of a third map.
 #[test]
 fn rows_are_read_in_order(rt: HostRuntime) -> Result<(), Fail> {
     let turns = Turns {
@@ -220,7 +221,7 @@ fn rows_are_read_in_order(rt: HostRuntime) -> Result<(), Fail> {
     let filled = Filled {
         turns,
         more: (65_534, 65_536),
-        held: (1, 65_535),
+        held: (1, 1),
     };
     assert!(rt; filled_row(&rt, rt.alloc()) == Some(filled));
     Ok(())

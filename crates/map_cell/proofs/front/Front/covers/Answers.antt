@@ -4,6 +4,13 @@ use Rattle.published_map.specs.Version.{Version}
 use Rattle.map_cell.proofs.Fronts.{prefix_shorter}
 use Rattle.map_cell.proofs.front.Front.covers.Goals as goal
 
+pub returns-then-self-other-clause-begun : goal.returns-then-self-other-clause-begun
+returns-then-self-other-clause-begun g c = λ _.
+    let both = c.learn.new.self.log in
+    let this : IsPrefix c.self.inside.seen.log both = subst (λ (l : List Version). IsPrefix l both) (ap (λ s. s.log) c.again-both.ensures) c.learn.ensures.2 in
+    let less : length c.self.inside.seen.log ≤ length c.other.inside.seen.log = omega (arith, c.self.invariant.0, c.other.invariant.0) in
+    rw (← c.self.view_is, ← c.other.view_is) (prefix_shorter c.self.inside.seen.log c.other.inside.seen.log both this c.learn.ensures.3 less)
+
 pub returns-clause-begins : goal.returns-clause-begins
 returns-clause-begins g c =
     let both = c.learn.new.self.log in
