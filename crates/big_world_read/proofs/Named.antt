@@ -1,5 +1,5 @@
 -- Each name of a big world follows its rule and stands once, and leads to what it should.
-use Rattle.std.proofs.Common.{◌≡◌, ℕ, ◌≤◌, not, [], Option, refl, ap, sym, ◌∙◌, arith}
+use Rattle.std.proofs.Common.{append-nil, ◌≡◌, ℕ, ◌≤◌, not, [], Option, refl, ap, sym, ◌∙◌, arith}
 use Rattle.std.specs.Prelude.{is_some}
 use Rattle.name_text.specs.Names.{is_under, label_name_of, name_of}
 use Rattle.toml.specs.Data.{Data, table}
@@ -98,20 +98,20 @@ zone_once n = quiet_by (duplicate_name (world_entries n)) zone_visit refl
 
 pub none_duplicate : (n : ℕ) → n ≤ LARGEST_WORLD → places_of (duplicate_name (world_entries n)) (visits n) ≡ []
 none_duplicate n small =
-    nothing_found (duplicate_name (world_entries n)) n (refl, (refl, (refl, tt))) (zone_once n)
+    nothing_found (duplicate_name (world_entries n)) n (refl, (refl, (refl, (refl, tt)))) (zone_once n)
     (λ p below. (whole _ (ap (is_taken (nodes_data n) p) (name_within (node_entry n p) (node_is_table n p)) ∙ node_name_free n p small below), (refl, (refl, (refl, (refl, (refl, tt)))))))
-    (λ i below. (whole _ (ap (is_taken (groups_data n) i) (name_within (group_entry n i) (group_is_table n i)) ∙ group_name_free n i small below), (refl, (refl, (refl, (refl, tt))))))
+    (λ i below. (whole _ (ap (λ ds. is_taken ds i (text_in (value_at (members_of (group_entry n i)) Name))) (append-nil (groups_data n)) ∙ ap (is_taken (groups_data n) i) (name_within (group_entry n i) (group_is_table n i)) ∙ group_name_free n i small below), (refl, (refl, (refl, (refl, (refl, tt)))))))
 
 -- each parent stands earlier and is no pool
 pub none_misplaced : (n : ℕ) → n ≤ LARGEST_WORLD → places_of (parent_order (world_entries n)) (visits n) ≡ []
 none_misplaced n small =
-    nothing_found (parent_order (world_entries n)) n (refl, (refl, (refl, tt))) (quiet_by (parent_order (world_entries n)) zone_visit refl)
+    nothing_found (parent_order (world_entries n)) n (refl, (refl, (refl, (refl, tt)))) (quiet_by (parent_order (world_entries n)) zone_visit refl)
     (λ p below. (refl, (whole _ (not_misplaced n p small below), (refl, (refl, (refl, (refl, tt)))))))
-    (λ i below. (refl, (refl, (refl, (refl, (refl, tt))))))
+    (λ i below. (refl, (refl, (refl, (refl, (refl, (refl, tt)))))))
 
 -- no path is too long
 pub none_deep : (n : ℕ) → n ≤ LARGEST_WORLD → places_of (too_deep (world_entries n)) (visits n) ≡ []
 none_deep n small =
-    nothing_found (too_deep (world_entries n)) n (refl, (refl, (refl, tt))) (quiet_by (too_deep (world_entries n)) zone_visit refl)
+    nothing_found (too_deep (world_entries n)) n (refl, (refl, (refl, (refl, tt)))) (quiet_by (too_deep (world_entries n)) zone_visit refl)
     (λ p below. (refl, (whole _ (not_deep n p small below), (refl, (refl, (refl, (refl, tt)))))))
-    (λ i below. (refl, (refl, (refl, (refl, (refl, tt))))))
+    (λ i below. (refl, (refl, (refl, (refl, (refl, (refl, tt)))))))

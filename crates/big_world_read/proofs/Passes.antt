@@ -67,7 +67,7 @@ pub whole : (b : Bool) → b ≡ false → whole_if b ≡ []
 whole b p = ap (λ c. whole_if c) p
 
 top_passes : (test : Key → Data → Bool) (n : ℕ) → Passes test n → IsQuiet (failing_at test) (top_visit n)
-top_passes test n h = (whole (test Zone _) (h.whole_zone _), (nodes_pass (test Node) n h.nodes, (groups_pass (test Group) n h.groups, tt)))
+top_passes test n h = (whole (test Zone _) (h.whole_zone _), (nodes_pass (test Node) n h.nodes, (groups_pass (test Group) n h.groups, (refl, tt))))
 
 region_passes : (test : Key → Data → Bool) (n p i c : ℕ) → Passes test n → i < regions_of n → c ≤ 79 → IsQuiet (failing_at test) (record { spot = NodeTable p; members = region_members i c })
 region_passes test n p i c h within small =
@@ -100,7 +100,7 @@ group_passes test n i demand s length x h below drawn = (
       pools_pass (test Pools) n s length (λ t. h.pools s t drawn.start),
       (
         scores_pass (test Scores) x length h.scores,
-        (none_where (test Prefixes) (prefixes_data i) (h.prefixes i below), tt),
+        (refl, (none_where (test Prefixes) (prefixes_data i) (h.prefixes i below), tt)),
       ),
     ),
   ),

@@ -1,5 +1,5 @@
 -- Each table of a big world has its keys and no others, each value is of its kind, and no list is too long or out of shape.
-use Rattle.std.proofs.Common.{◌≡◌, ℕ, ◌==◌, ◌≤◌, Bool, false, not, List, [], length, map, refl, ap, sym, ◌∙◌, arith}
+use Rattle.std.proofs.Common.{◌+◌, ◌≡◌, ℕ, ◌==◌, ◌≤◌, Bool, false, not, List, [], length, map, refl, ap, sym, ◌∙◌, arith}
 use Rattle.std.specs.Prelude.{◌||◌, nat_lt}
 use Rattle.std.specs.List.{flat_map, range_with_len}
 use Rattle.std.proofs.lemmas.Bool.{eq-eqb, le-ltb, ne_eqb}
@@ -39,7 +39,7 @@ none_unknown n =
 pub none_wrong : (n : ℕ) → places_of wrong_kind (visits n) ≡ []
 none_wrong n =
     nothing_found wrong_kind n
-    (refl, (nodes_pass (λ e. not (is_item_kind Tables e)) n (λ ms. refl), (groups_pass (λ e. not (is_item_kind Tables e)) n (λ ms. refl), tt)))
+    (refl, (nodes_pass (λ e. not (is_item_kind Tables e)) n (λ ms. refl), (groups_pass (λ e. not (is_item_kind Tables e)) n (λ ms. refl), (refl, tt))))
     (quiet_by wrong_kind zone_visit refl)
     (λ p below. node_cases (λ ms. IsQuiet wrong_kind (record { spot = NodeTable p; members = ms })) n p below
     (λ i c within small. (refl, (refl, (refl, (refl, (refl, (refl, tt))))))) (λ i j c within fits small. (refl, (refl, (refl, (refl, (refl, (refl, tt))))))))
@@ -51,7 +51,7 @@ none_wrong n =
           pools_pass (λ e. not (is_item_kind Texts e)) n s length (λ t. refl),
           (
             scores_pass (λ e. not (is_item_kind Integers e)) x length (λ y small. refl),
-            (none_where (λ e. not (is_item_kind Texts e)) (prefixes_data i) (prefixes_pass (λ e. not (is_item_kind Texts e)) (λ t. refl) i), tt),
+            (refl, (none_where (λ e. not (is_item_kind Texts e)) (prefixes_data i) (prefixes_pass (λ e. not (is_item_kind Texts e)) (λ t. refl) i), tt)),
           ),
         ),
       ),
@@ -64,19 +64,23 @@ made_again f k = ap (λ (ds : List Data). length ds) (listed_again (map f (range
 within_limit : (limit m k : ℕ) → m ≡ k → k ≤ limit → whole_if (nat_lt limit m) ≡ []
 within_limit limit m k is small = ap (λ b. whole_if b) (le-ltb limit m (omega arith))
 
+-- no class is added
+no_more : (m k : ℕ) → m ≡ k → m + 0 ≡ k
+no_more m k e = omega (arith, e)
+
 pub none_too_many : (n : ℕ) → n ≤ LARGEST_WORLD → places_of too_many (visits n) ≡ []
 none_too_many n small =
     nothing_found too_many n (
       refl,
       (
         within_limit 8192 (length (list_of (array_of (nodes_data n)))) (nodes_of n) (made_again _ (nodes_of n)) (omega arith),
-        (within_limit 65536 (length (list_of (array_of (groups_data n)))) n (made_again _ n) (omega arith), tt),
+        (within_limit 65536 (length (list_of (array_of (groups_data n)))) n (made_again _ n) (omega arith), (within_limit 65536 (length (list_of (array_of (groups_data n))) + 0) n (no_more (length (list_of (array_of (groups_data n)))) n (made_again _ n)) (omega arith), tt)),
       ),
     )
     (quiet_by too_many zone_visit refl)
     (λ p below. node_cases (λ ms. IsQuiet too_many (record { spot = NodeTable p; members = ms })) n p below
     (λ i c within little. (refl, (refl, (refl, (refl, (refl, (refl, tt))))))) (λ i j c within fits little. (refl, (refl, (refl, (refl, (refl, (refl, tt))))))))
-    (λ i below. group_cases (λ ms. IsQuiet too_many (record { spot = GroupTable i; members = ms })) n i (λ demand s length x drawn. (refl, (refl, (refl, (refl, (refl, tt)))))))
+    (λ i below. group_cases (λ ms. IsQuiet too_many (record { spot = GroupTable i; members = ms })) n i (λ demand s length x drawn. (refl, (refl, (refl, (refl, (refl, (refl, tt))))))))
 
 -- one to sixteen pools, none of them twice, and as many scores
 neither : (a b c : Bool) → a ≡ false → b ≡ false → c ≡ false → whole_if ((a || b) || c) ≡ []
@@ -91,7 +95,7 @@ fine_list ds k is some few once = neither (length ds == 0) (nat_lt 16 (length ds
 pub none_misshapen : (n : ℕ) → n ≤ LARGEST_WORLD → places_of list_shape (visits n) ≡ []
 none_misshapen n little =
     nothing_found list_shape n
-    (refl, (refl, (refl, tt)))
+    (refl, (refl, (refl, (refl, tt))))
     (quiet_by list_shape zone_visit refl)
     (λ p below. node_cases (λ ms. IsQuiet list_shape (record { spot = NodeTable p; members = ms })) n p below
     (λ i c within small. (refl, (refl, (refl, (refl, (refl, (refl, tt))))))) (λ i j c within fits small. (refl, (refl, (refl, (refl, (refl, (refl, tt))))))))
@@ -103,7 +107,7 @@ none_misshapen n little =
           fine_list (list_of (array_of (pools_data n s length))) length (made_again _ length) drawn.some (omega arith) (ap (λ (ds : List Data). has_repeat (texts_of ds)) (listed_again (pools_data n s length)) ∙ listed_once n s length little drawn.start (omega arith)),
           (
             alike _ _ (made_again _ length ∙ sym (made_again _ length)),
-            (refl, tt),
+            (refl, (refl, tt)),
           ),
         ),
       ),

@@ -1,5 +1,5 @@
 -- The walk over a big world's topology, and its entries.
-use Rattle.std.proofs.Common.{◌≡◌, ℕ, zero, suc, ◌+◌, Bool, true, false, List, ◌∷◌, ◌++◌, map, Some, if◌then◌else◌, ◌==◌, ◌%◌, refl, ap, ◌∙◌}
+use Rattle.std.proofs.Common.{◌≡◌, ℕ, zero, suc, ◌+◌, append-nil, Bool, true, false, List, [], ◌∷◌, ◌++◌, map, Some, if◌then◌else◌, ◌==◌, ◌%◌, refl, ap, ◌∙◌}
 use Rattle.std.specs.List.{cons_option, range_with_len}
 use Rattle.toml.specs.Data.{Data, table}
 use Rattle.topology_text.specs.Names.{Entries, entries_of}
@@ -47,11 +47,11 @@ group_visits n = ap (λ (ds : List Data). entries_from Group 0 ds) (groups_are n
 
 -- the walk
 pub walked : (n : ℕ) → walk (world_of n) ≡ visits n
-walked n = λ i. top_visit n ∷ (zone_visit ∷ (node_visits n i ++ group_visits n i))
+walked n = (λ i. top_visit n ∷ (zone_visit ∷ ((node_visits n i ++ group_visits n i) ++ []))) ∙ append-nil (visits n)
 
 -- the entries
 abbrev pub world_entries : ℕ → Entries
-world_entries n = record { nodes = nodes_data n; groups = groups_data n; zone = Some zone_data }
+world_entries n = record { nodes = nodes_data n; groups = groups_data n; classes = []; zone = Some zone_data }
 
 pub entries_are : (n : ℕ) → entries_of (world_of n) ≡ world_entries n
-entries_are n = λ i. record { nodes = nodes_are n i; groups = groups_are n i; zone = Some zone_data }
+entries_are n = λ i. record { nodes = nodes_are n i; groups = groups_are n i; classes = []; zone = Some zone_data }

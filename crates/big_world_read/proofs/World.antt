@@ -1,15 +1,16 @@
 -- What the two texts of a world are read as.
-use Rattle.std.proofs.Common.{◌≡◌, ℕ, ◌≤◌, ap, ◌∙◌}
+use Rattle.std.proofs.Common.{append-nil, ◌≡◌, ℕ, ◌≤◌, ap, ◌∙◌}
 use Rattle.std.specs.Prelude.{Ok, map}
 use Rattle.text_parts.specs.Parts.{whole_lines}
 use Rattle.topology_text.specs.Faults.{reading}
-use Rattle.topology_text.specs.Names.{Entries}
+use Rattle.topology_text.specs.Names.{Entries, units_of}
 use Rattle.topology_text.specs.Plan.{number_in}
 use Rattle.topology_text.specs.Topology.{name_of}
 use Rattle.demand_feed.specs.Item.{batch, items}
 use Rattle.big_world.specs.declared.TheConstants.{LARGEST_WORLD}
 use Rattle.big_world.specs.Feed.{feed_of}
 use Rattle.big_world.specs.Topology.{group_name, pool_name, topology_of}
+use Rattle.big_world.specs.World.{groups_data}
 use Rattle.big_world_read.specs.Read.{batches_of, world_plan}
 use Rattle.big_world_read.proofs.Batches.{KnowsGroups, KnowsPools, batches}
 use Rattle.big_world_read.proofs.Names.{group_in_plan, pool_in_plan}
@@ -19,7 +20,7 @@ use Rattle.big_world_read.proofs.Walked.{entries_are}
 -- the plan knows the groups and the pools
 knows_groups : (n : ℕ) → n ≤ LARGEST_WORLD → KnowsGroups (world_plan n) n
 unfolding world_plan
-knows_groups n small i within = ap (λ (d : Entries). number_in (map name_of d.groups) (group_name i)) (entries_are n) ∙ group_in_plan n i small within
+knows_groups n small i within = ap (λ (d : Entries). number_in (map name_of (units_of d)) (group_name i)) (entries_are n) ∙ ap (λ ds. number_in (map name_of ds) (group_name i)) (append-nil (groups_data n)) ∙ group_in_plan n i small within
 
 knows_pools : (n : ℕ) → n ≤ LARGEST_WORLD → KnowsPools (world_plan n) n
 unfolding world_plan
