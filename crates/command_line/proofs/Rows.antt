@@ -1,6 +1,6 @@
 use Rattle.std.proofs.Common.{◌≡◌, [], ◌∷◌, None, Some, codes, refl}
 use Rattle.clap.proofs.OnLiterals.{clap_on_literals}
-use Rattle.command_line.specs.Asked.{asked, answer, check, large, map_of, repair, serve}
+use Rattle.command_line.specs.Asked.{asked, answer, check, large, map_of, places, repair, serve}
 
 -- the declaration on words that are written out
 check_is_taken : asked (codes "glb" ∷ codes "check" ∷ codes "t" ∷ codes "m" ∷ []) ≡ Some (check (codes "t") (codes "m"))
@@ -34,6 +34,10 @@ serve_nowhere_is_not = refl
 large_is_taken : asked (codes "glb" ∷ codes "large" ∷ codes "64" ∷ []) ≡ Some (large (codes "64"))
 unfolding clap_on_literals
 large_is_taken = refl
+
+places_is_taken : asked (codes "glb" ∷ codes "places" ∷ codes "t" ∷ []) ≡ Some (places (codes "t"))
+unfolding clap_on_literals
+places_is_taken = refl
 
 escaped_is_taken : asked (codes "glb" ∷ codes "check" ∷ codes "--" ∷ codes "-t" ∷ codes "-m" ∷ []) ≡ Some (check (codes "-t") (codes "-m"))
 unfolding clap_on_literals

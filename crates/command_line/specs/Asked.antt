@@ -15,6 +15,7 @@ pub data Ask : Type 0 where
   repair : Text → Text → Text → Ask
   serve : Text → Text → Option Text → Ask
   large : Text → Ask
+  places : Text → Ask
 
 -- the words, as texts
 abbrev pub texts : List (String Global) → List Text
@@ -42,6 +43,9 @@ serve_of rows = with_value (codes "TOPOLOGY") rows (λ t. with_value (codes "lis
 abbrev pub large_of : List Row → Option Ask
 large_of rows = with_value (codes "N") rows (λ n. Some (large n))
 
+abbrev pub places_of : List Row → Option Ask
+places_of rows = with_value (codes "TOPOLOGY") rows (λ t. Some (places t))
+
 -- what a command with these values asks for
 abbrev pub asked_by : Text → List Row → Option Ask
 asked_by name rows =
@@ -51,7 +55,8 @@ asked_by name rows =
     else (if bytes_eq name (codes "repair") then repair_of rows
     else (if bytes_eq name (codes "serve") then serve_of rows
     else (if bytes_eq name (codes "large") then large_of rows
-    else None)))))
+    else (if bytes_eq name (codes "places") then places_of rows
+    else None))))))
 
 -- what the words ask for, where the declaration takes them; the first word is the program's name
 abbrev pub asked : List Text → Option Ask

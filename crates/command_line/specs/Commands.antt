@@ -1,8 +1,8 @@
 -- A command of the code, as what its words ask for.
 use Rattle.std.specs.Prelude.{option_map}
-use Rattle.command_line.specs.Asked.{Ask, check, answer, map_of, repair, serve, large}
+use Rattle.command_line.specs.Asked.{Ask, check, answer, map_of, repair, serve, large, places}
 use Rattle.command_line.specs.declared.command.Command.{Command}
-use Rattle.command_line.specs.declared.command.Command.TheVariants.{Check, Answer, Map, Repair, Serve, Large}
+use Rattle.command_line.specs.declared.command.Command.TheVariants.{Check, Answer, Map, Repair, Serve, Large, Places}
 
 -- a command, as what it asks for
 abbrev pub ask_of : Command → Ask
@@ -12,3 +12,4 @@ ask_of (Map topology) = map_of topology.now
 ask_of (Repair topology map changes) = repair topology.now map.now changes.now
 ask_of (Serve topology listen workers) = serve topology.now listen.now (option_map (λ w. w.now) workers)
 ask_of (Large groups) = large groups.now
+ask_of (Places topology) = places topology.now

@@ -29,5 +29,6 @@ declared = record {
       ∷ command (codes "repair") (codes "TOPOLOGY" ∷ codes "MAP" ∷ codes "CHANGES" ∷ [])
       ∷ serve_command
       ∷ command (codes "large") (codes "N" ∷ [])
+      ∷ command (codes "places") (codes "TOPOLOGY" ∷ [])
       ∷ [];
 }

@@ -29,4 +29,7 @@ pub enum Command<'a> {
     Large {
         groups: &'a str,
     },
+    Places {
+        topology: &'a str,
+    },
 }

@@ -55,5 +55,6 @@ pub fn declared<'a>(alloc: Global) -> Result<Command<'a>, AllocError>
         .subcommand(command(alloc, "map", &["TOPOLOGY"])?)?
         .subcommand(command(alloc, "repair", &["TOPOLOGY", "MAP", "CHANGES"])?)?
         .subcommand(serve(alloc)?)?
-        .subcommand(command(alloc, "large", &["N"])?)
+        .subcommand(command(alloc, "large", &["N"])?)?
+        .subcommand(command(alloc, "places", &["TOPOLOGY"])?)
 }

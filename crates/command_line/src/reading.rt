@@ -1,7 +1,7 @@
 //! What the words ask for.
 ghost use Rattle.std.specs.Prelude.{◌≡◌, IfOk, option_map, option_and_then};
 ghost use Rattle.clap.specs.Words.{first_of, found_of, rows_of, subcommand_rows_of};
-ghost use Rattle.command_line.specs.Asked.{answer_of, asked, asked_by, check_of, large_of, map_command_of, repair_of, serve_of, texts};
+ghost use Rattle.command_line.specs.Asked.{answer_of, asked, asked_by, check_of, large_of, map_command_of, places_of, repair_of, serve_of, texts};
 ghost use Rattle.command_line.specs.Commands.{ask_of};
 
 use crate::command::Command;
@@ -80,6 +80,13 @@ fn large<'a>(found: &ArgMatches<'a>) -> Option<Command<'a>>
     Some(Command::Large { groups })
 }
 
+fn places<'a>(found: &ArgMatches<'a>) -> Option<Command<'a>>
+    ensures { option_map ask_of result ≡ places_of (rows_of (found_of found.now)) }
+{
+    let topology = value(found, "TOPOLOGY")?;
+    Some(Command::Places { topology })
+}
+
 fn named<'a>(name: &str, found: &ArgMatches<'a>) -> Option<Command<'a>>
     ensures { option_map ask_of result ≡ asked_by name.now (rows_of (found_of found.now)) }
 {
@@ -90,6 +97,7 @@ fn named<'a>(name: &str, found: &ArgMatches<'a>) -> Option<Command<'a>>
         "repair" => repair(found),
         "serve" => serve(found),
         "large" => large(found),
+        "places" => places(found),
         _ => None,
     }
 }

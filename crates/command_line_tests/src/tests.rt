@@ -22,6 +22,7 @@ fn kind(command: &Command) -> &'static str {
         Command::Serve { workers: None, .. } => "serve",
         Command::Serve { .. } => "serve by",
         Command::Large { .. } => "large",
+        Command::Places { .. } => "places",
     }
 }
 
@@ -42,6 +43,7 @@ const ROWS: &[Row] = &[
     (&["glb", "answer", "t", "m", "a", "h"], "answer"),
     (&["glb", "map", "t"], "map"),
     (&["other", "map", "t"], "map"),
+    (&["glb", "places", "t"], "places"),
     (&["glb"], "usage"),
     (&[], "usage"),
     (&["glb", "--help"], "usage"),

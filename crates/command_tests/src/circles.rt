@@ -18,7 +18,7 @@ group = [
 ";
 
 /// Each of the two stands whole at its last place, but for the unit that the third group has there.
-pub const PAIR_MAP: &str = "glb map 1
+pub const PAIR_MAP: &str = "glb map 2
 place g b 4294967295
 place h a 4294967294
 place t a 1
@@ -55,7 +55,7 @@ group = [
 ";
 
 /// And its map.
-pub const DEEP_PAIR_MAP: &str = "glb map 1
+pub const DEEP_PAIR_MAP: &str = "glb map 2
 place g b7 4294967295
 place h a7 4294967294
 place t a7 1
@@ -95,7 +95,7 @@ group = [
 ";
 
 /// Each of the ten stands whole at its last place, but for the unit of the eleventh group.
-pub const RING_MAP: &str = "glb map 1
+pub const RING_MAP: &str = "glb map 2
 place g0 p9 4294967295
 place g1 p0 4294967294
 place g2 p1 4294967295

@@ -12,7 +12,7 @@ use trial_runs::{
 };
 
 /// The groups of TWO_GOOD, where the third one asks for one unit more.
-const TWO_GOOD_CHANGED: &str = "node = [
+pub const TWO_GOOD_CHANGED: &str = "node = [
 {name = \"P\", capacity = 1, pool = true},
 {name = \"Q\", capacity = 1, pool = true},
 {name = \"Z\", capacity = 5, pool = true},
@@ -54,23 +54,23 @@ const MAPS: &[(Held, &str)] = &[
     (Topology(REGION), REGION_MAP),
     (
         Topology(NO_LONGER_FULL),
-        "glb map 1\nplace a A 2\nplace c B 8\nfull a A R\nfull b A R\nend\n",
+        "glb map 2\nplace a A 2\nplace c B 8\nfull a A R\nfull b A R\nend\n",
     ),
     (
         Topology(FULL_REGION),
-        "glb map 1\nplace a A 8\nplace b B 2\nfull b B R\nend\n",
+        "glb map 2\nplace a A 8\nplace b B 2\nfull b B R\nend\n",
     ),
     (
         Topology(TWO_GOOD_CHANGED),
-        "glb map 1\nplace a P 1\nplace b Q 1\nplace c Z 2\nend\n",
+        "glb map 2\nplace a P 1\nplace b Q 1\nplace c Z 2\nend\n",
     ),
-    (Topology(EMPTY_POOL), "glb map 1\nfull g A A\nend\n"),
-    (Topology(EMPTY_REGION), "glb map 1\nfull g A R\nend\n"),
+    (Topology(EMPTY_POOL), "glb map 2\nfull g A A\nend\n"),
+    (Topology(EMPTY_REGION), "glb map 2\nfull g A R\nend\n"),
     (
         Topology(EIGHT_LEVELS),
-        "glb map 1\nplace g n7 3\nfull g n7 n0\nend\n",
+        "glb map 2\nplace g n7 3\nfull g n7 n0\nend\n",
     ),
-    (Topology(LARGEST), "glb map 1\nplace g A 4294967295\nend\n"),
+    (Topology(LARGEST), "glb map 2\nplace g A 4294967295\nend\n"),
     (Topology(circles::PAIR), circles::PAIR_MAP),
     (Topology(circles::DEEP_PAIR), circles::DEEP_PAIR_MAP),
     (Topology(circles::RING), circles::RING_MAP),

@@ -73,39 +73,39 @@ const REGION_ROWS: &[(&[u8], &str)] = &[
     // One: A has 4 units left, and then all are placed.
     (
         b"demand g1 6\n",
-        "glb map 1\nplace g1 A 6\nplace g2 A 4\nplace g2 B 4\nfull g2 A A\nend\n",
+        "glb map 2\nplace g1 A 6\nplace g2 A 4\nplace g2 B 4\nfull g2 A A\nend\n",
     ),
     // One: the region has 4 units beside those of g1.
     (
         b"capacity R 12",
-        "glb map 1\nplace g1 A 8\nplace g2 A 2\nplace g2 B 2\nfull g2 A A\nfull g2 B R\nend\n",
+        "glb map 2\nplace g1 A 8\nplace g2 A 2\nplace g2 B 2\nfull g2 A A\nfull g2 B R\nend\n",
     ),
     // A pool that may hold nothing, and then a region.
     (
         b"capacity A 0\n",
-        "glb map 1\nplace g1 B 8\nplace g2 B 2\nfull g1 A A\nfull g2 A A\nfull g2 B B\nend\n",
+        "glb map 2\nplace g1 B 8\nplace g2 B 2\nfull g1 A A\nfull g2 A A\nfull g2 B B\nend\n",
     ),
     (
         b"capacity R 0\n",
-        "glb map 1\nfull g1 A R\nfull g1 B R\nfull g2 A R\nfull g2 B R\nend\n",
+        "glb map 2\nfull g1 A R\nfull g1 B R\nfull g2 A R\nfull g2 B R\nend\n",
     ),
     // Several, with more spaces and zeros than it takes.
     (
         b"demand g1 6\ncapacity A 9\n",
-        "glb map 1\nplace g1 A 6\nplace g2 A 3\nplace g2 B 5\nfull g2 A A\nend\n",
+        "glb map 2\nplace g1 A 6\nplace g2 A 3\nplace g2 B 5\nfull g2 A A\nend\n",
     ),
     (
         b" capacity  R 0020 \ndemand g2   009\ncapacity B 6",
-        "glb map 1\nplace g1 A 8\nplace g2 A 2\nplace g2 B 6\nfull g2 A A\nfull g2 B B\nend\n",
+        "glb map 2\nplace g1 A 8\nplace g2 A 2\nplace g2 B 6\nfull g2 A A\nfull g2 B B\nend\n",
     ),
     // The last of one name counts.
     (
         b"demand g1 1\ndemand g1 6\ndemand g1 10\n",
-        "glb map 1\nplace g1 A 10\nplace g2 B 5\nfull g2 A A\nfull g2 B R\nend\n",
+        "glb map 2\nplace g1 A 10\nplace g2 B 5\nfull g2 A A\nfull g2 B R\nend\n",
     ),
     (
         b"capacity R 0\ndemand g1 4294967295\ncapacity R 18\ndemand g1 8\n",
-        "glb map 1\nplace g1 A 8\nplace g2 A 2\nplace g2 B 6\nfull g2 A A\nend\n",
+        "glb map 2\nplace g1 A 8\nplace g2 A 2\nplace g2 B 6\nfull g2 A A\nend\n",
     ),
 ];
 
@@ -140,22 +140,22 @@ const TWO_MAPS: &[TwoMaps] = &[
         TWO_GOOD,
         SWAPPED,
         b"capacity Z 6\n",
-        "glb map 1\nplace a Q 1\nplace b P 1\nplace c Z 1\nfull a P P\nfull b Q Q\nend\n",
-        "glb map 1\nplace a P 1\nplace b Q 1\nplace c Z 1\nend\n",
+        "glb map 2\nplace a Q 1\nplace b P 1\nplace c Z 1\nfull a P P\nfull b Q Q\nend\n",
+        "glb map 2\nplace a P 1\nplace b Q 1\nplace c Z 1\nend\n",
     ),
     (
         TWO_REGIONS,
         SWAPPED_REGIONS,
         b"capacity P 4\ncapacity P 5\ndemand c 3\n",
-        "glb map 1\nplace a Q 2\nplace b P 2\nplace c Z 3\nfull a P E\nfull b Q F\nend\n",
-        "glb map 1\nplace a P 2\nplace b Q 2\nplace c Z 3\nend\n",
+        "glb map 2\nplace a Q 2\nplace b P 2\nplace c Z 3\nfull a P E\nfull b Q F\nend\n",
+        "glb map 2\nplace a P 2\nplace b Q 2\nplace c Z 3\nend\n",
     ),
     (
         RING,
         TURNED,
         b"capacity Z 4\n",
-        "glb map 1\nplace a Q 1\nplace b S 1\nplace c P 1\nplace d Z 4\nfull a P P\nfull b Q Q\nfull c S S\nend\n",
-        "glb map 1\nplace a P 1\nplace b Q 1\nplace c S 1\nplace d Z 4\nend\n",
+        "glb map 2\nplace a Q 1\nplace b S 1\nplace c P 1\nplace d Z 4\nfull a P P\nfull b Q Q\nfull c S S\nend\n",
+        "glb map 2\nplace a P 1\nplace b Q 1\nplace c S 1\nplace d Z 4\nend\n",
     ),
 ];
 
@@ -185,7 +185,7 @@ const MORE: &[RepairRow] = &[
         Bytes(SWAPPED),
         Bytes(b"demand c 2\n"),
         Status::Ok,
-        "glb map 1\nplace a Q 1\nplace b P 1\nplace c Z 2\nfull a P P\nfull b Q Q\nend\n",
+        "glb map 2\nplace a Q 1\nplace b P 1\nplace c Z 2\nfull a P P\nfull b Q Q\nend\n",
         3,
     ),
     (
@@ -193,7 +193,7 @@ const MORE: &[RepairRow] = &[
         Bytes(SWAPPED_REGIONS),
         Bytes(b"capacity Z 2\ndemand c 9\n"),
         Status::Ok,
-        "glb map 1\nplace a Q 2\nplace b P 2\nplace c Z 2\nfull a P E\nfull b Q F\nfull c Z Z\nend\n",
+        "glb map 2\nplace a Q 2\nplace b P 2\nplace c Z 2\nfull a P E\nfull b Q F\nfull c Z Z\nend\n",
         3,
     ),
     (
@@ -201,7 +201,7 @@ const MORE: &[RepairRow] = &[
         Bytes(TURNED),
         Bytes(b"capacity P 2\n"),
         Status::Ok,
-        "glb map 1\nplace a P 1\nplace b Q 1\nplace c S 1\nplace d Z 4\nend\n",
+        "glb map 2\nplace a P 1\nplace b Q 1\nplace c S 1\nplace d Z 4\nend\n",
         3,
     ),
 ];

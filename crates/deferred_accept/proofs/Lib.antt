@@ -1,4 +1,3 @@
-pub mod Sums
 pub mod Worth
 pub mod Turns
 pub mod Proposed
@@ -13,6 +12,7 @@ pub mod Nearest
 pub mod Circles
 pub mod Signs
 pub mod Many
+pub mod Best
 pub mod Shifts
 pub mod Rooms
 pub mod Rounds

@@ -12,7 +12,7 @@ use Rattle.deferred_accept.proofs.Turns.{run_step, worth_less}
 use Rattle.deferred_accept.proofs.Within.{IsSpreading, spread_step}
 
 -- a proposal's units may be offered
-can_propose : (m : Market) (old new : Standing) → IsReady m old → (p : IsProposal m old new) → CanPut m old p.group (slice_index old.pointers p.group) (offered m old p.group)
+pub can_propose : (m : Market) (old new : Standing) → IsReady m old → (p : IsProposal m old new) → CanPut m old p.group (slice_index old.pointers p.group) (offered m old p.group)
 can_propose m old new ready p = can_offer m old p.group ready p.waiting
 
 -- proposals keep a state ready

@@ -1,22 +1,17 @@
 -- The nearest full node of an offer's path, and the worst held offer under a node, are one.
-use Rattle.std.proofs.Common.{◌≡◌, ℕ, ◌<◌, true, not, List, [], length, slice_index, slice_index_or, sym, ap, ◌∙◌, subst, inl, inr, arith}
-use Rattle.std.specs.declared.cmp.Ordering.{Ordering}
-use Rattle.std.specs.declared.cmp.Ordering.TheVariants.{Less, Equal, Greater}
-use Rattle.std.specs.Ordering.{is_le, nat_cmp, ordering_reverse, ordering_then}
-use Rattle.std.proofs.lemmas.Bool.{and_from, and_parts, cases_lt, cases_order, false≢true}
-use Rattle.std.proofs.lemmas.List.{get_or_past}
-use Rattle.std.proofs.lemmas.Map.Lookups.{exact_unsigned}
-use Rattle.map_model.specs.declared.instance.Choice.{Choice}
+use Rattle.std.proofs.Common.{◌≡◌, ℕ, ◌<◌, true, not, List, length, slice_index, sym, ap, ◌∙◌, subst, inl, inr, arith}
+use Rattle.std.proofs.lemmas.Bool.{and_from, and_parts}
 use Rattle.map_model.specs.declared.lines.MapLine.{MapLine}
-use Rattle.map_model.specs.Market.{Group, Market, IsMarket, capacity_of, choices_of, key_of, pool_of}
-use Rattle.map_model.specs.Allocation.{IsOffer, counts_at, is_under, key_cmp, key_le, load}
+use Rattle.map_model.specs.Market.{Market, IsMarket, capacity_of, key_of, pool_of}
+use Rattle.map_model.specs.Allocation.{counts_at, is_under, key_le, load}
 use Rattle.map_model.specs.Holding.{IsWorst, under_worse}
-use Rattle.map_model.proofs.Keys.{key_le_total, key_le_trans, keys_total, then_tie}
+use Rattle.map_model.proofs.Keys.{key_le_total, key_le_trans}
 use Rattle.map_model.proofs.Paths.{pool_there}
 use Rattle.map_model.proofs.Trees.{comparable, under_itself, under_trans}
 use Rattle.map_model.proofs.Units.{units_of-le}
 use Rattle.evict.specs.Standing.{IsNearestFull, Standing}
 use Rattle.evict.proofs.Putting.{no_better}
+use Rattle.best_laws.proofs.Offers.{offer_one, pool_in}
 use Rattle.deferred_accept.specs.declared.circle.Hop.{Hop}
 use Rattle.deferred_accept.specs.Turning.{IsHop, displaced, hopper}
 
@@ -34,48 +29,10 @@ nearest_below m lines g k n f near path full = elim (comparable m (pool_of m g k
   | inr below ↦ let same : f ≡ n = near.nearest f path below full in subst (λ x. is_under m x n ≡ true) (sym same) (under_itself m n)
 ]
 
--- two keys that are each at most the other are a tie
-both_ways : (o p : Ordering) → o ≡ ordering_reverse p → is_le o ≡ true → is_le p ≡ true → o ≡ Equal
-both_ways o Less e h i = absurd (false≢true (sym (ap is_le e) ∙ h))
-both_ways o Equal e h i = e
-both_ways o Greater e h i = absurd (false≢true i)
-
--- each group has a pool at one place alone
-place_one : (m : Market) → IsMarket m → (g k j : ℕ) → IsOffer m g k → IsOffer m g j → pool_of m g k ≡ pool_of m g j → k ≡ j
-place_one m market g k j o p same = elim (cases_order k j) [
-  | inl e ↦ e
-  | inr (inl l) ↦ absurd ((market.groups g _ o.group).distinct k j _ l p.place same)
-  | inr (inr l) ↦ absurd ((market.groups g _ o.group).distinct j k _ l o.place (sym same))
-]
-
--- offers with keys that are each at most the other are one
-offer_one : (m : Market) → IsMarket m → (g k h j : ℕ) → IsOffer m g k → IsOffer m h j → key_le (key_of m g k) (key_of m h j) ≡ true → key_le (key_of m h j) (key_of m g k) ≡ true → (g ≡ h) × (k ≡ j)
-offer_one m market g k h j o p le ge =
-    let tie : key_cmp (key_of m g k) (key_of m h j) ≡ Equal = both_ways _ _ (keys_total.antisymm (key_of m g k) (key_of m h j)) le ge in
-    let by_group = then_tie (nat_cmp (key_of m g k).score (key_of m h j).score) (ordering_then (nat_cmp g h) (nat_cmp (pool_of m g k) (pool_of m h j))) tie in
-    let by_pool = then_tie (nat_cmp g h) (nat_cmp (pool_of m g k) (pool_of m h j)) by_group.1 in
-    let same : g ≡ h = exact_unsigned g h by_pool.0 in
-    let pools : pool_of m g k ≡ pool_of m h j = exact_unsigned (pool_of m g k) (pool_of m h j) by_pool.1 in
-    (same, place_one m market h k j (subst (λ x. IsOffer m x k) same o) p (subst (λ x. pool_of m x k ≡ pool_of m h j) same pools))
-
 -- a node has one worst held offer
 pub worst_one : (m : Market) → IsMarket m → (lines : List MapLine) (n g k units h j more : ℕ) → IsWorst m lines n g k units → IsWorst m lines n h j more → (g ≡ h) × (k ≡ j)
 worst_one m market lines n g k units h j more w v =
     offer_one m market g k h j w.offer v.offer (no_better m lines n g k h j v.worst w.under (omega (arith, w.held, w.some))) (no_better m lines n h j g k w.worst v.under (omega (arith, v.held, v.some)))
-
--- where there are nodes, the pool at each number is one of them
-pool_in : (m : Market) → IsMarket m → (f g k : ℕ) → f < length m.nodes → pool_of m g k < length m.nodes
-pool_in m market f g k there = elim (cases_lt g (length m.groups)) [
-  | inr past ↦
-      let none : pool_of m g k ≡ 0 = ap (λ (x : Group). (slice_index_or x.choices k (record { pool = record { 0 = 0 }; score = 0; limit = 0 })).pool.0) (get_or_past m.groups g (record { demand = 0; choices = [] }) past) in
-      omega arith
-  | inl l ↦ elim (cases_lt k (length (choices_of m g))) [
-    | inr past ↦
-        let none : pool_of m g k ≡ 0 = ap (λ (c : Choice). c.pool.0) (get_or_past (choices_of m g) k (record { pool = record { 0 = 0 }; score = 0; limit = 0 }) past) in
-        omega arith
-    | inl l' ↦ pool_there m market g k (record { group = l; place = l' })
-  ]
-]
 
 -- the worst held offer under a node that stands under another one below it is the worst there too
 pub worst_below : (m : Market) → IsMarket m → (lines : List MapLine) (n f g k units : ℕ) → f < length m.nodes → is_under m n f ≡ true → IsWorst m lines n g k units → counts_at m f g k ≡ true → IsWorst m lines f g k units

@@ -13,7 +13,7 @@ use Rattle.evict.specs.Standing.{CanPut, IsReady, Standing}
 use Rattle.deferred_accept.specs.Runs.{AreSkips, HasRun, IsSkip, IsWaiting, WantsBefore, offered}
 use Rattle.deferred_accept.specs.Spreading.{is_inside}
 use Rattle.deferred_accept.specs.Work.{worth, worth_of}
-use Rattle.deferred_accept.proofs.Sums.{sum-le, sum-lt}
+use Rattle.best_laws.proofs.Sums.{sum-le, sum-lt}
 use Rattle.deferred_accept.proofs.Within.{IsSpreading, worth_inside}
 use Rattle.deferred_accept.proofs.Worth.{moved_on}
 

@@ -14,7 +14,7 @@ use Rattle.evict.specs.Evictions.{freed_units, gave_up}
 use Rattle.evict.specs.Standing.{CanPut, IsPut, IsReady, Standing}
 use Rattle.deferred_accept.specs.Runs.{HasRun, most_proposals, proposals_of, IsWaiting}
 use Rattle.deferred_accept.specs.Work.{CoversRest, CoversWork, gave_any, is_on, worth, worth_of}
-use Rattle.deferred_accept.proofs.Sums.{sum-le, sum-lt}
+use Rattle.best_laws.proofs.Sums.{sum-le, sum-lt}
 use Rattle.deferred_accept.proofs.Worth.{worth_falls}
 
 -- a proposal lowers the worth of a state

@@ -19,7 +19,7 @@ use Rattle.deferred_accept.specs.Runs.{proposals_of, IsWaiting}
 use Rattle.deferred_accept.specs.Spreading.{HoldsWork, IsSameFor, StaysInside, is_inside}
 use Rattle.deferred_accept.specs.Work.{gave_any, worth_of}
 use Rattle.map_model.proofs.Roots.{root-under}
-use Rattle.deferred_accept.proofs.Sums.{sum-le, sum-lt}
+use Rattle.best_laws.proofs.Sums.{sum-le, sum-lt}
 use Rattle.deferred_accept.proofs.Turns.{counted_step, none_at, none_freed, waited}
 use Rattle.evict.proofs.Done.{freed_none}
 use Rattle.deferred_accept.proofs.Worth.{worth_falls}

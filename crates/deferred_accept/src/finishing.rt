@@ -2,7 +2,8 @@
 
 ghost use Rattle.std.specs.Prelude.{◌≡◌, ◌++◌, ◌<◌, IfOk, OnOk, length};
 ghost use Rattle.map_model.specs.Allocation.{IsGood, placed_through, name_of, names_of};
-ghost use Rattle.map_model.specs.Progress.{IsEnded};
+ghost use Rattle.map_model.specs.Progress.{IsEnded, IsGroupBest};
+ghost use Rattle.best_laws.specs.Ahead.{IsAhead};
 ghost use Rattle.stable_check.specs.Due.{due};
 ghost use Rattle.evict.specs.Standing.{CanAsk, IsReady};
 
@@ -75,6 +76,7 @@ pub fn ended_map(alloc: Global, instance: &Instance, state: &State) -> Result<Ma
     ensures lines { IfOk result (λ map. map.lines.items ≡ state.now.lines) }
     ensures names { IfOk result (λ map. map.names.items ≡ names_of instance.now state.now.lines) }
     ensures good { IfOk result (λ map. IsGood instance.now map.lines.items map.names.items) }
+    ensures best { IfOk result (λ map. IsAhead instance.now state.now.lines state.now.pointers → IsGroupBest instance.now map.lines.items) }
 {
     let names = all_names(alloc, instance, state)?;
     let lines = state.lines(alloc)?;
@@ -92,6 +94,7 @@ pub fn finish(alloc: Global, instance: &Instance, state: State) -> Result<MapLin
     ensures lines { IfOk result (λ map. map.lines.items ≡ state.lines) }
     ensures names { IfOk result (λ map. map.names.items ≡ names_of instance.now state.lines) }
     ensures good { IfOk result (λ map. IsGood instance.now map.lines.items map.names.items) }
+    ensures best { IfOk result (λ map. IsAhead instance.now state.lines state.pointers → IsGroupBest instance.now map.lines.items) }
 {
     ended_map(alloc, instance, &state)
 }

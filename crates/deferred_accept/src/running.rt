@@ -3,6 +3,7 @@
 ghost use Rattle.std.specs.Prelude.{◌≡◌, ◌+◌, ◌<◌, ◌≤◌, ℕ, Bool, OnOk, length, slice_index};
 ghost use Rattle.map_model.specs.Progress.{IsEnded};
 ghost use Rattle.evict.specs.Standing.{IsReady};
+ghost use Rattle.best_laws.specs.Ahead.{IsAhead};
 ghost use Rattle.deferred_accept.specs.Runs.{HasProposed, HasRun, WantsBefore, most_proposals};
 ghost use Rattle.deferred_accept.specs.Spreading.{HoldsWork, StaysInside};
 ghost use Rattle.deferred_accept.specs.Turning.{HasTurned};
@@ -63,6 +64,7 @@ pub fn run<L>(
     ensures counted { OnOk result (HasProposed instance.now state.old state.new steps.old steps.new) }
     ensures later { steps.old ≤ steps.new }
     ensures wanted { OnOk result (WantsBefore instance.now state.old → WantsBefore instance.now state.new) }
+    ensures ahead { OnOk result (IsAhead instance.now state.old.lines state.old.pointers → IsAhead instance.now state.new.lines state.new.pointers) }
     ensures inside { OnOk result ((trees : ℕ → Bool) → HoldsWork instance.now trees state.old → StaysInside instance.now trees state.old state.new steps.old steps.new) }
 {
     let mut freed = Freed::new(alloc);

@@ -1,14 +1,15 @@
 //! Small worlds, whose maps were found by trying every one, and worlds in which groups displace each
 //! other round a circle.
 
-ghost use Rattle.std.specs.Prelude.{OnOk};
+ghost use Rattle.std.specs.Prelude.{◌≡◌, ℕ, ◌<◌, ◌||◌, All, OnOk, length};
 ghost use Rattle.map_model.specs.Progress.{IsEnded};
 ghost use Rattle.evict.specs.Standing.{IsReady};
+ghost use Rattle.deferred_accept.specs.Work.{gave_any, is_on};
 
-use crate::work::{add_again, next_offer, offer_or_skip, wake};
+use crate::work::{next_offer, offer_or_skip};
 use crate::work_list::WorkList;
 use crate::{finish, run};
-use evict::{Freed, State};
+use evict::{Eviction, Freed, State};
 use map_model::{
     By, Choice, ClientGroup, Instance, MapLine, MapLines, NO_LIMIT, NameLine, Node, NodeId,
     Proposals, Steps,
@@ -166,7 +167,19 @@ fn maps_small_worlds(rt: HostRuntime) {
     assert_eq!(rt; wrong_world(rt.alloc(), WORLDS), None);
 }
 
-/// A run that only makes proposals, one after another.
+/// Puts the groups that gave up units in front of all others.
+fn wake_first(work: &mut WorkList, freed: &[Eviction]) -> Result<(), NoMemory>
+    requires { All (λ e. e.offer.group.0 < length work.old) freed.now }
+    ensures count { OnOk result (length work.new ≡ length work.old) }
+    ensures each { OnOk result ((h : ℕ) → h < length work.old → is_on work.new h ≡ (is_on work.old h || gave_any freed.now h)) }
+{
+    for eviction in freed {
+        work.add_first(eviction.offer.group)?;
+    }
+    Ok(())
+}
+
+/// A run that only makes proposals, one after another, in another order: whoever was woken last goes first.
 fn plain_run(
     alloc: Global,
     instance: &Instance,
@@ -182,8 +195,8 @@ fn plain_run(
     while let Some(offer) = next_offer(instance, state, &mut work) {
         offer_or_skip(instance, state, offer, &mut freed, steps)?;
         let given_up = freed.evictions();
-        add_again(&mut work, offer.group, given_up)?;
-        wake(&mut work, given_up)?;
+        work.add_first(offer.group)?;
+        wake_first(&mut work, given_up)?;
     }
     Ok(())
 }

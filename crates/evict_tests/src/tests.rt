@@ -6,7 +6,7 @@ ghost use Rattle.evict.specs.Standing.{IsReady};
 use evict::{Eviction, Freed, State};
 use map_model::{By, GroupId, Instance, MapLine, NodeId, Offer, Proposals, Steps, Units};
 use std::alloc::Global;
-use worlds::{GroupAt, INNER, LIMIT, NodeAt, POOL, Placed, instance_of};
+use worlds::{GroupAt, INNER, LIMIT, LimitAt, NodeAt, POOL, Placed, limited_instance_of};
 
 /// A group offers all its free units at its pointer, and what is so afterwards.
 struct Turn {
@@ -20,7 +20,7 @@ struct Turn {
     /// Of each group.
     pointers: &'static [u8],
     free: &'static [u64],
-    /// Group, place and the node that refuses it, if any.
+    /// Group, place and what refuses it, if anything: a node, or the limit.
     refusers: &'static [(u32, u8, Option<u32>)],
     /// Group, place and whom it would displace, if anybody: the node, and the group, place and units.
     rivals: &'static [(u32, u8, Option<(u32, u32, u8, u64)>)],
@@ -31,6 +31,7 @@ struct Play {
     name: &'static str,
     nodes: &'static [NodeAt],
     groups: &'static [GroupAt],
+    limits: &'static [LimitAt],
     turns: &'static [Turn],
     /// What is held at the end.
     lines: &'static [Placed],
@@ -42,6 +43,7 @@ const PLAYS: &[Play] = &[
         name: "two-level eviction",
         nodes: &[(15, None, INNER), (10, Some(0), POOL), (10, Some(0), POOL)],
         groups: &[(8, &[(1, 1), (2, 2)]), (8, &[(1, 3), (2, 4)])],
+        limits: &[],
         turns: &[
             Turn {
                 group: 1,
@@ -82,6 +84,7 @@ const PLAYS: &[Play] = &[
         name: "refuser no longer full",
         nodes: &[(10, None, INNER), (6, Some(0), POOL), (10, Some(0), POOL)],
         groups: &[(6, &[(1, 5)]), (4, &[(1, 6)]), (8, &[(2, 1)])],
+        limits: &[],
         turns: &[
             Turn {
                 group: 0,
@@ -121,6 +124,7 @@ const PLAYS: &[Play] = &[
         name: "three levels",
         nodes: &[(5, None, INNER), (7, Some(0), INNER), (9, Some(1), POOL)],
         groups: &[(12, &[(2, 1)])],
+        limits: &[],
         turns: &[Turn {
             group: 0,
             offered: (0, 12),
@@ -132,6 +136,36 @@ const PLAYS: &[Play] = &[
             rivals: &[(0, 0, Some((0, 0, 0, 5)))],
         }],
         lines: &[(0, 0, 5)],
+    },
+    // The limit refuses the first group while it is full. Then the group loses units, and the pool refuses it.
+    Play {
+        name: "limit, and then pool",
+        nodes: &[(5, None, POOL)],
+        groups: &[(3, &[(0, 2)]), (4, &[(0, 1)])],
+        limits: &[(0, 0, 3)],
+        turns: &[
+            Turn {
+                group: 0,
+                offered: (0, 3),
+                freed: &[],
+                loads: &[3],
+                pointers: &[0, 0],
+                free: &[0, 4],
+                refusers: &[(0, 0, Some(LIMIT)), (1, 0, None)],
+                rivals: &[(1, 0, None)],
+            },
+            Turn {
+                group: 1,
+                offered: (0, 4),
+                freed: &[(0, 0, 2)],
+                loads: &[5],
+                pointers: &[1, 0],
+                free: &[2, 0],
+                refusers: &[(0, 0, Some(0)), (1, 0, None)],
+                rivals: &[(1, 0, Some((0, 0, 0, 1)))],
+            },
+        ],
+        lines: &[(0, 0, 1), (1, 0, 4)],
     },
 ];
 
@@ -373,7 +407,7 @@ fn wrong_over(alloc: Global, instance: &Instance, play: &Play) -> Option<&'stati
 
 /// What is wrong in a play, if anything is.
 fn wrong_in(alloc: Global, play: &Play) -> Option<&'static str> {
-    match instance_of(alloc, play.nodes, play.groups) {
+    match limited_instance_of(alloc, play.nodes, play.groups, play.limits) {
         Ok(Some(instance)) => wrong_over(alloc, &instance, play),
         _ => Some("no instance"),
     }

@@ -9,14 +9,15 @@ use Rattle.outside.specs.Faults.{Rose}
 use Rattle.outside.specs.Shelf.{Shelved}
 use Rattle.stable_check.specs.Judgement.{Judges}
 use Rattle.stable_check.specs.declared.verdict.Verdict.{Verdict}
-use Rattle.stable_check.specs.declared.verdict.Verdict.TheVariants.{Good, BadLine, OverDemand, OverCapacity, Blocking, BadName}
+use Rattle.stable_check.specs.declared.verdict.Verdict.TheVariants.{Good, BadLine, OverDemand, OverLimit, OverCapacity, Blocking, BadName}
 use Rattle.glb.specs.declared.status.Status.{Status}
 use Rattle.glb.specs.declared.status.Status.TheVariants as status
-use Rattle.glb.specs.Words.{Ask, check, map_from, answer, repair}
+use Rattle.glb.specs.Words.{Ask, check, map_from, places, answer, repair}
 use Rattle.glb.specs.Outcome.{Faults, HasCauses, Outcome, Outside, RunsBy}
 use Rattle.glb.specs.Files.{Kind, Reads, Says, said, changes_file, map_file, topology_file}
 use Rattle.glb.specs.Check.{HoldsGoodMap, IsCheckDue, IsJudged, status_of}
 use Rattle.glb.specs.Map.{HoldsTopology, IsMapDue, IsMapped}
+use Rattle.glb.specs.Places.{IsPlacesDue, IsSpreadOut}
 use Rattle.glb.specs.Answer.{IsAnswerDue, IsAnswered}
 use Rattle.glb.specs.Repair.{HoldsChanges, IsRepairDue, IsRepairOf}
 use Rattle.glb.specs.Datagram.{Datagram}
@@ -27,7 +28,8 @@ only_good : (m : Market) (lines : List MapLine) (names : List NameLine) (v : Ver
 only_good m lines names Good judged good = refl
 only_good m lines names (BadLine i) judged good = let holds = good.form i judged.within in let fails = judged.bad in cc
 only_good m lines names (OverDemand g units) judged good = absurd (omega (arith, judged.1.over, good.feasible.demands g.0 judged.1.within))
-only_good m lines names (OverCapacity n units) judged good = absurd (omega (arith, judged.2.over, good.feasible.capacities n.0 judged.2.within))
+only_good m lines names (OverLimit g k units) judged good = absurd (omega (arith, judged.2.over, good.feasible.limits g.0 k judged.2.offer))
+only_good m lines names (OverCapacity n units) judged good = absurd (omega (arith, judged.3.over, good.feasible.capacities n.0 judged.3.within))
 only_good m lines names (Blocking g k) judged good = let some = good.stable g.0 k judged.2.offer judged.2.wanted in let none = judged.2.unrefused in absurd (cc)
 only_good m lines names (BadName i) judged good = absurd (judged.3.here (ap (λ ns. slice_get ns i) good.named))
 
@@ -103,6 +105,12 @@ complete_run (Some (map_from topology)) before after counts later result run cau
     well : (files : Option Shelved) → IsSome files → HoldsTopology topology files → (due : Outcome) → IsMapDue topology files due → due.status ≡ status.Ok
     well None told held due h = absurd (cc)
     well (Some shelf) told held due h = (reads_on topology_file shelf topology IsMapped due held.0 held.1 h).status
+complete_run (Some (places topology)) before after counts later result run causes told sound files out =
+    ends_well (IsPlacesDue topology before.files) before after counts later result run (well before.files told sound) causes files out
+  where
+    well : (files : Option Shelved) → IsSome files → HoldsTopology topology files → (due : Outcome) → IsPlacesDue topology files due → due.status ≡ status.Ok
+    well None told held due h = absurd (cc)
+    well (Some shelf) told held due h = (reads_on topology_file shelf topology IsSpreadOut due held.0 held.1 h).status
 complete_run (Some (answer topology map datagram)) before after counts later result run causes told sound files out =
     ends_well (IsAnswerDue topology map datagram before.files) before after counts later result run (well before.files told sound) causes files out
   where

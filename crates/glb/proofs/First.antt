@@ -68,6 +68,6 @@ begun turns listen workers t m fed out maps pace lanes lanes' ff of mf after res
   stage fed out maps pace lanes' ff of mf,
   m.newest,
   record { asked = placed; lent = refl; rest = refl },
-  (record { history = refl; serial = first.serial; plan = first.plan; market = first.market; good = first.good }, scratch),
+  (record { history = refl; serial = first.serial; plan = first.plan; market = first.market; good = first.good; best = first.best }, scratch),
   session,
 )

@@ -6,17 +6,18 @@ use Rattle.outside.specs.Shelf.{Shelved}
 use Rattle.outside.specs.Sink.{Written}
 use Rattle.stable_check.specs.Judgement.{Judges}
 use Rattle.stable_check.specs.declared.verdict.Verdict.{Verdict}
-use Rattle.stable_check.specs.declared.verdict.Verdict.TheVariants.{Good, BadLine, OverDemand, OverCapacity, Blocking, BadName}
+use Rattle.stable_check.specs.declared.verdict.Verdict.TheVariants.{Good, BadLine, OverDemand, OverLimit, OverCapacity, Blocking, BadName}
 use Rattle.topology_text.specs.Plan.{Plan}
 use Rattle.map_text.specs.Reading.{Mapped}
 use Rattle.glb.specs.declared.status.Status.{Status}
 use Rattle.glb.specs.declared.status.Status.TheVariants as status
-use Rattle.glb.specs.Words.{Ask, check, map_from, answer, repair}
+use Rattle.glb.specs.Words.{Ask, check, map_from, places, answer, repair}
 use Rattle.mapper.specs.Scenes.{IsPrinted}
 use Rattle.glb.specs.Outcome.{Outcome, Outside, RunsBy}
 use Rattle.glb.specs.Files.{Kind, Reads, Says, changes_file, map_file, topology_file}
 use Rattle.glb.specs.Check.{IsCheckDue, IsCheckedRun, IsJudged, status_of}
 use Rattle.glb.specs.Map.{IsMapDue, IsMapped, IsMappedRun}
+use Rattle.glb.specs.Places.{IsPlacesDue, IsPlacesRun, IsSpreadOut}
 use Rattle.glb.specs.Answer.{AreReply, IsAnswerDue, IsAnswered, IsAnsweredRun}
 use Rattle.glb.specs.Repair.{AreRepaired, IsRepairDue, IsRepairOf, IsRepairedRun}
 use Rattle.glb.specs.Datagram.{Datagram}
@@ -38,6 +39,7 @@ well_judged t m due j ok = go j.0 j.1 j.2 (sym (ap (λ (o : Outcome). o.status) 
     go Good judged is ok = (judged, ap (λ (o : Outcome). o.pieces) is)
     go (BadLine i) judged is ok = cc
     go (OverDemand g u) judged is ok = cc
+    go (OverLimit g k u) judged is ok = cc
     go (OverCapacity n u) judged is ok = cc
     go (Blocking g k) judged is ok = cc
     go (BadName i) judged is ok = cc
@@ -58,6 +60,11 @@ well_checked topology map before after due h ok puts =
 well_mapped : (topology : List ℕ) (before after : Outside) (due : Outcome) → IsMapDue topology before.files due → due.status ≡ status.Ok → BothTell before.out after.out (IsPrinted due.pieces) → IsMappedRun topology before after
 well_mapped topology before after due h ok puts =
     let read = well_read topology_file before.files topology IsMapped due h ok in
+    (read.0, due.pieces, is_plan before.files topology read.0 read.1, read.1, read.2.text, puts)
+
+well_spread : (topology : List ℕ) (before after : Outside) (due : Outcome) → IsPlacesDue topology before.files due → due.status ≡ status.Ok → BothTell before.out after.out (IsPrinted due.pieces) → IsPlacesRun topology before after
+well_spread topology before after due h ok puts =
+    let read = well_read topology_file before.files topology IsSpreadOut due h ok in
     (read.0, due.pieces, is_plan before.files topology read.0 read.1, read.1, read.2.text, puts)
 
 well_answered : (topology map : List ℕ) (d : Datagram) (before after : Outside) (due : Outcome) → IsAnswerDue topology map d before.files due → due.status ≡ status.Ok → BothTell before.out after.out (IsPrinted due.pieces)
@@ -97,6 +104,8 @@ good_run (Some (check topology map)) before after result run ok =
     whole_run (IsCheckDue topology map before.files) (IsCheckedRun topology map before after) before.out after.out result run ok (well_checked topology map before after)
 good_run (Some (map_from topology)) before after result run ok =
     whole_run (IsMapDue topology before.files) (IsMappedRun topology before after) before.out after.out result run ok (well_mapped topology before after)
+good_run (Some (places topology)) before after result run ok =
+    whole_run (IsPlacesDue topology before.files) (IsPlacesRun topology before after) before.out after.out result run ok (well_spread topology before after)
 good_run (Some (answer topology map d)) before after result run ok =
     whole_run (IsAnswerDue topology map d before.files) (IsAnsweredRun topology map d before after) before.out after.out result run ok (well_answered topology map d before after)
 good_run (Some (repair topology map changes)) before after result run ok =

@@ -18,3 +18,4 @@ mod Sessions
 mod WellServed
 mod Places
 mod Complete
+pub mod Agree

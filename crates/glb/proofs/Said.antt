@@ -2,16 +2,17 @@
 use Rattle.std.proofs.Common.{◌≡◌, ℕ, List, [], ◌∷◌, length, Option, ap, sym, subst, inl, inr}
 use Rattle.outside.specs.Shelf.{Shelved}
 use Rattle.stable_check.specs.declared.verdict.Verdict.{Verdict}
-use Rattle.stable_check.specs.declared.verdict.Verdict.TheVariants.{Good, BadLine, OverDemand, OverCapacity, Blocking, BadName}
+use Rattle.stable_check.specs.declared.verdict.Verdict.TheVariants.{Good, BadLine, OverDemand, OverLimit, OverCapacity, Blocking, BadName}
 use Rattle.topology_text.specs.Plan.{Plan}
 use Rattle.map_text.specs.Reading.{Mapped}
 use Rattle.glb.specs.declared.status.Status.{Status}
-use Rattle.glb.specs.Words.{Ask, check, map_from, answer, repair}
+use Rattle.glb.specs.Words.{Ask, check, map_from, places, answer, repair}
 use Rattle.glb.specs.Outcome.{IsSaid, IsSaidStatus, Outcome}
 use Rattle.glb.specs.Datagram.{Datagram}
 use Rattle.glb.specs.Files.{Kind, Reads, changes_file, map_file, topology_file}
 use Rattle.glb.specs.Check.{IsJudged, status_of}
 use Rattle.glb.specs.Map.{IsMapped}
+use Rattle.glb.specs.Places.{IsSpreadOut}
 use Rattle.glb.specs.Answer.{IsAnswered}
 use Rattle.glb.specs.Repair.{IsRepairOf}
 use Rattle.map_model.specs.declared.change.Change.{Change}
@@ -30,6 +31,7 @@ has_text : (v : Verdict) → IsSaidStatus (status_of v)
 has_text Good = tt
 has_text (BadLine i) = tt
 has_text (OverDemand g units) = tt
+has_text (OverLimit g k units) = tt
 has_text (OverCapacity n units) = tt
 has_text (Blocking g k) = tt
 has_text (BadName i) = tt
@@ -39,6 +41,9 @@ judged_said t m due judged = one_text due (status_of judged.0) _ (has_text judge
 
 mapped_said : (t : Plan) (due : Outcome) → IsMapped t due → IsSaid due
 mapped_said t due mapped = record { status = subst IsSaidStatus (sym mapped.status) tt; one = ap (λ (ps : List (List ℕ)). length ps) mapped.text.3 }
+
+spread_said : (t : Plan) (due : Outcome) → IsSpreadOut t due → IsSaid due
+spread_said t due spread = record { status = subst IsSaidStatus (sym spread.status) tt; one = ap (λ (ps : List (List ℕ)). length ps) spread.text.3 }
 
 answered_said : (d : Datagram) (t : Plan) (m : Mapped) (due : Outcome) → IsAnswered d t m due → IsSaid due
 answered_said d t m due (inl replied) = record { status = subst IsSaidStatus (sym replied.status) tt; one = ap (λ (ps : List (List ℕ)). length ps) replied.reply.text }
@@ -52,6 +57,7 @@ pub due_said : (ask : Ask) (files : Option Shelved) (due : Outcome) → IsDue as
 due_said (check topology map) files due =
     reads_said topology_file files topology (λ t. Reads (map_file t) files map (IsJudged t)) due (λ t. reads_said (map_file t) files map (IsJudged t) due (λ m. judged_said t m due))
 due_said (map_from topology) files due = reads_said topology_file files topology IsMapped due (λ t. mapped_said t due)
+due_said (places topology) files due = reads_said topology_file files topology IsSpreadOut due (λ t. spread_said t due)
 due_said (answer topology map d) files due =
     reads_said topology_file files topology (λ t. Reads (map_file t) files map (IsAnswered d t)) due (λ t. reads_said (map_file t) files map (IsAnswered d t) due (λ m. answered_said d t m due))
 due_said (repair topology map changes) files due =

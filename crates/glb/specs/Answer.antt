@@ -10,6 +10,7 @@ use Rattle.topology_text.specs.Plan.{IsPlan, Plan}
 use Rattle.map_text.specs.Reading.{Mapped}
 use Rattle.published_map.specs.Version.{Version}
 use Rattle.answer_core.specs.Reply.{reply_of}
+use Rattle.answer_core.specs.declared.way.Way.TheVariants as way
 use Rattle.glb.specs.declared.status.Status.TheVariants as status
 use Rattle.glb.specs.Datagram.{Datagram}
 use Rattle.mapper.specs.Scenes.{IsPrinted}
@@ -23,7 +24,7 @@ version_of t m = record { serial = 0; market = t.market; lines = m.lines; names 
 
 -- a version's reply to a datagram, with draw 0
 unfoldable pub answer_of : Version → Datagram → Option (List ℕ)
-answer_of v d = reply_of v d.from d.octets 0
+answer_of v d = reply_of v d.from d.octets 0 way.Datagram
 
 -- the texts are those of a good map's reply
 pub record AreReply (t : Plan) (m : Mapped) (d : Datagram) (pieces : List (List ℕ)) : Type 0 where

@@ -1,16 +1,17 @@
 -- Inside this crate alone: a command of the code, as what its words ask for.
 use Rattle.std.specs.Prelude.{◌≤◌, Option, None, Some}
 use Rattle.big_world.specs.declared.TheConstants.{LARGEST_WORLD}
-use Rattle.glb.specs.Words.{Ask, Task, check, map_from, answer, repair, say, serve, large}
+use Rattle.glb.specs.Words.{Ask, Task, check, map_from, places, answer, repair, say, serve, large}
 use Rattle.glb.specs.declared.words.Command.{Command}
 use Rattle.glb.specs.declared.words.Order.{Order}
 use Rattle.glb.specs.declared.words.Order.TheVariants.{Say, Serve, Large}
-use Rattle.glb.specs.declared.words.Command.TheVariants.{Check, Map, Answer, Repair}
+use Rattle.glb.specs.declared.words.Command.TheVariants.{Check, Map, Places, Answer, Repair}
 
 -- a command, as what it asks for
 abbrev pub ask_of : Command → Ask
 ask_of (Check topology map) = check topology.now map.now
 ask_of (Map topology) = map_from topology.now
+ask_of (Places topology) = places topology.now
 ask_of (Repair topology map changes) = repair topology.now map.now changes.now
 ask_of (Answer topology map from octets) = answer topology.now map.now (record { from = from; octets = octets.items })
 

@@ -5,7 +5,7 @@ use Rattle.map_model.specs.Allocation.{IsOffer}
 use Rattle.outside.specs.Faults.{BothTell, Rose}
 use Rattle.outside.specs.Shelf.{Load, Shelved}
 use Rattle.stable_check.specs.declared.verdict.Verdict.{Verdict}
-use Rattle.stable_check.specs.declared.verdict.Verdict.TheVariants.{Blocking, OverCapacity, OverDemand}
+use Rattle.stable_check.specs.declared.verdict.Verdict.TheVariants.{Blocking, OverCapacity, OverDemand, OverLimit}
 use Rattle.glb.specs.declared.ending.Report.{Report}
 use Rattle.glb.specs.declared.ending.Stop.{Stop}
 use Rattle.glb.specs.declared.ending.Stop.TheVariants as stop
@@ -71,6 +71,7 @@ IsRefusedBy said due = (text : List ℕ) × (said ≡ Err text) × (due ≡ refu
 -- what a verdict names is there
 abbrev pub IsNameable : Market → Verdict → Type 0
 IsNameable m (OverDemand g units) = g.0 < length m.groups
+IsNameable m (OverLimit g k units) = IsOffer m g.0 k
 IsNameable m (OverCapacity n units) = n.0 < length m.nodes
 IsNameable m (Blocking g k) = IsOffer m g.0 k
 IsNameable m _ = Unit {0}

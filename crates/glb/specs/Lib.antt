@@ -7,6 +7,7 @@ pub mod Told
 pub mod Files
 pub mod Check
 pub mod Map
+pub mod Places
 pub mod Answer
 pub mod Repair
 pub mod Run

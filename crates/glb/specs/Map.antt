@@ -12,7 +12,7 @@ use Rattle.mapper.specs.Scenes.{IsPrinted}
 use Rattle.glb.specs.Outcome.{Outcome, Outside}
 use Rattle.glb.specs.Files.{Reads, Says, only, topology_file}
 
--- these texts are the one text of a map that is good for the instance of a topology, mapped from scratch
+-- these texts are the one text of a map that is good for the instance of a topology, mapped from scratch, and so group-best
 abbrev pub AreGoodMap : Plan → List (List ℕ) → Type 0
 AreGoodMap t pieces = (m : Mapped) × IsGood t.market m.lines m.names × IsFromScratch t.market m.lines × (pieces ≡ text_of_map t m ∷ [])
 

@@ -5,10 +5,11 @@ use Rattle.outside.specs.Shelf.{Load, Shelved}
 use Rattle.outside.specs.Sink.{Written}
 use Rattle.glb.specs.declared.status.Status.{Status}
 use Rattle.glb.specs.declared.status.Status.TheVariants.{Usage, NoMemory}
-use Rattle.glb.specs.Words.{Ask, check, map_from, answer, repair}
+use Rattle.glb.specs.Words.{Ask, check, map_from, places, answer, repair}
 use Rattle.glb.specs.Outcome.{Outcome, Outside, RunsBy, Speaks}
 use Rattle.glb.specs.Check.{HoldsGoodMap, IsCheckDue, IsCheckedRun, loads_of_check}
 use Rattle.glb.specs.Map.{HoldsTopology, IsMapDue, IsMappedRun, loads_of_map}
+use Rattle.glb.specs.Places.{IsPlacesDue, IsPlacesRun, loads_of_places}
 use Rattle.glb.specs.Answer.{IsAnswerDue, IsAnsweredRun}
 use Rattle.glb.specs.Repair.{HoldsChanges, IsRepairDue, IsRepairedRun, loads_of_repair}
 use Rattle.glb.specs.Texts as text
@@ -21,6 +22,7 @@ IsUsage due = due ≡ record { status = Usage; pieces = text.usage ∷ [] }
 abbrev pub IsDue : Ask → Option Shelved → Outcome → Type 0
 IsDue (check topology map) files = IsCheckDue topology map files
 IsDue (map_from topology) files = IsMapDue topology files
+IsDue (places topology) files = IsPlacesDue topology files
 IsDue (answer topology map datagram) files = IsAnswerDue topology map datagram files
 IsDue (repair topology map changes) files = IsRepairDue topology map changes files
 
@@ -38,6 +40,7 @@ IsRun (Some ask) before after result = RunsBy (IsDue ask before.files) before.ou
 abbrev pub loads_of_ask : Ask → (List ℕ → Option (List ℕ)) → List Load
 loads_of_ask (check topology map) = loads_of_check topology map
 loads_of_ask (map_from topology) = loads_of_map topology
+loads_of_ask (places topology) = loads_of_places topology
 loads_of_ask (answer topology map datagram) = loads_of_check topology map
 loads_of_ask (repair topology map changes) = loads_of_repair topology map changes
 
@@ -51,6 +54,7 @@ abbrev pub IsSound : Option Ask → Option Shelved → Type 0
 IsSound None files = ⊥
 IsSound (Some (check topology map)) files = HoldsGoodMap topology map files
 IsSound (Some (map_from topology)) files = HoldsTopology topology files
+IsSound (Some (places topology)) files = HoldsTopology topology files
 IsSound (Some (answer topology map datagram)) files = HoldsGoodMap topology map files
 IsSound (Some (repair topology map changes)) files = HoldsChanges topology map changes files
 
@@ -59,5 +63,6 @@ abbrev pub IsGoodRun : Option Ask → Outside → Outside → Type 0
 IsGoodRun None before after = ⊥
 IsGoodRun (Some (check topology map)) before after = IsCheckedRun topology map before after
 IsGoodRun (Some (map_from topology)) before after = IsMappedRun topology before after
+IsGoodRun (Some (places topology)) before after = IsPlacesRun topology before after
 IsGoodRun (Some (answer topology map datagram)) before after = IsAnsweredRun topology map datagram before after
 IsGoodRun (Some (repair topology map changes)) before after = IsRepairedRun topology map changes before after

@@ -4,7 +4,7 @@ use Rattle.std.specs.Fmt.{decimal}
 use Rattle.hex.specs.Hex.{encode_lower}
 use Rattle.map_model.specs.Market.{pool_of}
 use Rattle.stable_check.specs.declared.verdict.Verdict.{Verdict}
-use Rattle.stable_check.specs.declared.verdict.Verdict.TheVariants.{Good, BadLine, OverDemand, OverCapacity, Blocking, BadName}
+use Rattle.stable_check.specs.declared.verdict.Verdict.TheVariants.{Good, BadLine, OverDemand, OverLimit, OverCapacity, Blocking, BadName}
 use Rattle.topology_text.specs.Plan.{Plan}
 use Rattle.topology_text.specs.declared.fault.TopologyFault.{TopologyFault}
 use Rattle.topology_text.specs.FaultTexts.{fault_text as topology_words}
@@ -56,6 +56,7 @@ abbrev pub verdict : Plan → Verdict → List ℕ
 verdict t Good = good
 verdict t (BadLine i) = line (codes "bad line " ++ decimal i)
 verdict t (OverDemand g units) = line (codes "over demand " ++ group_name t g.0 ++ 32 ∷ [] ++ decimal units)
+verdict t (OverLimit g k units) = line (codes "over limit " ++ group_name t g.0 ++ 32 ∷ [] ++ node_name t (pool_of t.market g.0 k) ++ 32 ∷ [] ++ decimal units)
 verdict t (OverCapacity n units) = line (codes "over capacity " ++ node_name t n.0 ++ 32 ∷ [] ++ decimal units)
 verdict t (Blocking g k) = line (codes "blocking " ++ group_name t g.0 ++ 32 ∷ [] ++ node_name t (pool_of t.market g.0 k))
 verdict t (BadName i) = line (codes "bad name " ++ decimal i)

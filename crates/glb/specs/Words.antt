@@ -11,6 +11,7 @@ use Rattle.text_parts.specs.Counts.{count_of}
 pub data Ask : Type 0 where
   check : List ℕ → List ℕ → Ask
   map_from : List ℕ → Ask
+  places : List ℕ → Ask
   answer : List ℕ → List ℕ → Datagram → Ask
   repair : List ℕ → List ℕ → List ℕ → Ask
 
@@ -43,6 +44,7 @@ service_of topology listen workers = option_and_then (λ at. option_map (service
 abbrev pub asked_by : line.Ask → Option Task
 asked_by (line.check topology map) = Some (say (check topology map))
 asked_by (line.map_of topology) = Some (say (map_from topology))
+asked_by (line.places topology) = Some (say (places topology))
 asked_by (line.answer topology map addr digits) = option_map say (option_map (answer topology map) (datagram_of addr digits))
 asked_by (line.repair topology map changes) = Some (say (repair topology map changes))
 asked_by (line.serve topology listen workers) = option_map serve (service_of topology listen workers)

@@ -14,7 +14,7 @@ use crate::files::{load_map, load_topology};
 use crate::status::Status;
 use crate::text::{answer_text, line};
 use addr_text::Addr;
-use answer_core::{Answer, reply};
+use answer_core::{Answer, Way, reply};
 use arrayvec::ArrayVec;
 use map_model::MapLines;
 use no_memory::NoMemory;
@@ -50,7 +50,7 @@ fn reply_text(
     ensures { IfOk result (λ t. t.items ≡ text.answer (answer_of version.now (record { from = from; octets = octets.now }))) }
 {
     let mut out = ArrayVec::new();
-    match reply(version, from, octets, DRAW, &mut out) {
+    match reply(version, from, octets, DRAW, Way::Datagram, &mut out) {
         Answer::Sent => answer_text(alloc, out.as_slice()),
         Answer::Silent => line(alloc, b"answer -"),
     }

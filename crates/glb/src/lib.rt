@@ -7,6 +7,7 @@ mod ending;
 mod files;
 mod large;
 mod map;
+mod placing;
 mod repair;
 mod saying;
 mod serve;

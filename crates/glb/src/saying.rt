@@ -10,6 +10,7 @@ use crate::answer::answer_files;
 use crate::check::check_files;
 use crate::ending::{Report, Stop, finish, say};
 use crate::map::map_files;
+use crate::placing::places_files;
 use crate::repair::repair_files;
 use crate::status::Status;
 use crate::words::Command;
@@ -26,6 +27,7 @@ fn run_command<F: Shelf>(alloc: Global, files: &mut F, command: Command<'_>) -> 
     match command {
         Command::Check { topology, map } => check_files(alloc, files, topology, map),
         Command::Map { topology } => map_files(alloc, files, topology),
+        Command::Places { topology } => places_files(alloc, files, topology),
         Command::Answer {
             topology,
             map,

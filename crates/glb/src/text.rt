@@ -79,6 +79,16 @@ pub fn verdict_text(
             let words = named(alloc, b"over demand ", topology.group_name(group))?;
             numbered(alloc, words.as_slice(), placed)?
         }
+        Verdict::OverLimit {
+            group,
+            place,
+            amount,
+        } => {
+            let pool = pool_name(topology, Offer { group, place });
+            let words = named(alloc, b"over limit ", topology.group_name(group))?;
+            let words = named(alloc, words.as_slice(), pool)?;
+            numbered(alloc, words.as_slice(), amount)?
+        }
         Verdict::OverCapacity { node, load } => {
             let words = named(alloc, b"over capacity ", topology.node_name(node))?;
             numbered(alloc, words.as_slice(), load)?

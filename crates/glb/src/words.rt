@@ -29,6 +29,9 @@ pub enum Command<'a> {
     Map {
         topology: &'a str,
     },
+    Places {
+        topology: &'a str,
+    },
     Answer {
         topology: &'a str,
         map: &'a str,
@@ -142,6 +145,7 @@ fn read_command(alloc: Global, line: Line<'_>) -> Result<Option<Order<'_>>, NoMe
     match line {
         Line::Check { topology, map } => Ok(Some(Order::Say(Command::Check { topology, map }))),
         Line::Map { topology } => Ok(Some(Order::Say(Command::Map { topology }))),
+        Line::Places { topology } => Ok(Some(Order::Say(Command::Places { topology }))),
         Line::Answer {
             topology,
             map,

@@ -20,7 +20,7 @@ use Rattle.reopen.proofs.Sameness.{refuser-same}
 use Rattle.deferred_accept.specs.Runs.{HasRun, WantsBefore, proposals_of}
 use Rattle.deferred_accept.specs.Spreading.{HoldsWork, StaysInside, is_inside}
 use Rattle.deferred_accept.proofs.Past.{past_of_ended}
-use Rattle.deferred_accept.proofs.Sums.{sum-le}
+use Rattle.best_laws.proofs.Sums.{sum-le}
 use Rattle.map_repair.specs.Marks.{AreReached, IsClosedFor, IsWithin, is_on}
 use Rattle.map_repair.specs.Repaired.{IsKept, IsStateOf, most_inside}
 

@@ -14,7 +14,7 @@ use Rattle.evict.specs.Standing.{Standing}
 use Rattle.reopen.specs.Rolling.{IsRolledBack}
 use Rattle.deferred_accept.specs.Runs.{HasRun}
 use Rattle.deferred_accept.specs.Spreading.{HoldsWork, StaysInside}
-use Rattle.deferred_accept.proofs.Sums.{sum-le}
+use Rattle.best_laws.proofs.Sums.{sum-le}
 use Rattle.map_repair.specs.Repaired.{IsLocal, IsWithinSpread, most_inside}
 use Rattle.map_repair.proofs.Middle.{IsLocalOutside, IsMiddle, bounded, holds_work, local}
 use Rattle.map_repair.proofs.Marking.{on_from_set, on_set}

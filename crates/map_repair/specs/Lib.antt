@@ -2,3 +2,5 @@ pub mod Marks
 pub mod Asked
 pub mod Repaired
 pub mod Resumed
+pub mod Determined
+pub mod Laws

@@ -2,9 +2,11 @@
 #![tactic(auto)]
 
 mod asked;
+mod laws;
 mod marks;
 mod reaching;
 mod repairing;
 
 pub use asked::Asked;
+pub use laws::repairs_agree;
 pub use repairing::{repair, resume};

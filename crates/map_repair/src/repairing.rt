@@ -5,6 +5,7 @@ ghost use Rattle.map_model.specs.Market.{IsSameShape};
 ghost use Rattle.map_model.specs.Allocation.{IsGood};
 ghost use Rattle.map_model.specs.Progress.{IsEnded};
 ghost use Rattle.map_repair.specs.Asked.{AreAllListed};
+ghost use Rattle.map_repair.specs.Determined.{IsRepairedOf};
 ghost use Rattle.map_repair.specs.Repaired.{IsKept, IsLocal, IsStateOf, IsWithinSpread};
 ghost use Rattle.map_repair.specs.Resumed.{HasRepaired, HasResumed};
 
@@ -39,6 +40,7 @@ pub fn resume<L>(
     ensures ended { OnOk result (IsEnded new.now state.new.pointers state.new.free) }
     ensures kept { OnOk result (IsKept old.now state.old.lines new.now state.new.lines) }
     ensures local { OnOk result (IsLocal old.now state.old.lines new.now state.new.lines) }
+    ensures determined { OnOk result (IsRepairedOf old.now state.old.lines new.now state.new.lines) }
     ensures counted { OnOk result (HasResumed old.now state.old new.now state.new steps.old steps.new) }
     ensures steps { OnOk result (IsWithinSpread old.now state.old.lines new.now steps.old steps.new) }
     ensures later { steps.old ≤ steps.new }
@@ -55,6 +57,7 @@ pub fn resume<L>(
 ///
 /// A group with no old wanted place in a reached tree is not moved up. A group with no pool in a spread
 /// tree keeps its lines and names, and the proposals are within those that the other groups may make.
+/// There is one such map: it is determined by the old instance, the old map and the new instance.
 ///
 /// # Errors
 ///
@@ -71,6 +74,7 @@ pub fn repair<L>(
     ensures good { IfOk result (λ made. IsGood new.now made.lines.items made.names.items) }
     ensures kept { IfOk result (λ made. IsKept old.now map.now.lines.items new.now made.lines.items) }
     ensures local { IfOk result (λ made. IsLocal old.now map.now.lines.items new.now made.lines.items) }
+    ensures determined { IfOk result (λ made. IsRepairedOf old.now map.now.lines.items new.now made.lines.items) }
     ensures counted { IfOk result (λ made. HasRepaired old.now map.now.lines.items new.now made.lines.items steps.old steps.new) }
     ensures steps { OnOk result (IsWithinSpread old.now map.now.lines.items new.now steps.old steps.new) }
     ensures later { steps.old ≤ steps.new }

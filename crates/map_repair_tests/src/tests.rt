@@ -5,6 +5,7 @@ ghost use Rattle.map_model.specs.Allocation.{IsGood};
 
 mod definitions;
 mod every_change;
+mod listed;
 mod smallest;
 
 use map_model::Change::{Capacity, Demand};

@@ -3,9 +3,12 @@ use Rattle.std.proofs.Common.{◌≡◌, ◌+◌, ◌*◌, ◌-◌, ◌≤◌, l
 use Rattle.map_model.specs.Market.{Market, choices_of, demand_of}
 use Rattle.evict.specs.Standing.{IsFresh, Standing}
 use Rattle.deferred_accept.specs.Runs.{HasRun, WantsBefore, most_proposals, proposals_of}
+use Rattle.best_laws.specs.Ahead.{IsAhead}
+use Rattle.best_laws.proofs.Step.{ahead_fresh}
+use Rattle.best_laws.proofs.Sums.{sum-le}
+use Rattle.deferred_accept.proofs.Best.{best_of_ended}
 use Rattle.deferred_accept.proofs.Past.{past_of_ended}
-use Rattle.deferred_accept.proofs.Sums.{sum-le}
-use Rattle.map_model.specs.Progress.{IsEnded}
+use Rattle.map_model.specs.Progress.{IsEnded, IsGroupBest}
 use Rattle.map_repair.specs.Repaired.{IsStateOf}
 use Rattle.mapper.specs.Mappers.{most_offers}
 
@@ -21,3 +24,7 @@ ended_state m old new fresh run ended wanted = record {
   ready = run.ready;
   pointers = past_of_ended m new run.ready ended (wanted (λ g k o lt. absurd (omega (arith, fresh.pointers g o.group, lt))));
 }
+
+-- and its lines are group-best
+pub ended_best : (m : Market) (old new : Standing) → IsFresh m old → HasRun m old new → IsEnded m new.pointers new.free → (IsAhead m old.lines old.pointers → IsAhead m new.lines new.pointers) → IsGroupBest m new.lines
+ended_best m old new fresh run ended ahead = best_of_ended m new run.ready ended (ahead (ahead_fresh m old fresh))

@@ -7,3 +7,4 @@ pub mod Counted
 pub mod Fresh
 pub mod Nexts
 pub mod Opened
+pub mod Agree

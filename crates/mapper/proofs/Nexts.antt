@@ -5,6 +5,7 @@ use Rattle.map_model.specs.declared.change.Change.TheVariants.{Capacity, Demand}
 use Rattle.map_model.specs.Market.{IsMarket, IsSameShape, Market}
 use Rattle.map_model.specs.Allocation.{IsGood}
 use Rattle.map_model.specs.Batch.{IsApplied, IsBatch, IsChange}
+use Rattle.map_repair.specs.Determined.{IsRepairedOf}
 use Rattle.map_repair.specs.Repaired.{IsKept, IsLocal}
 use Rattle.map_model.proofs.Shapes.{shape_trans}
 use Rattle.topology_text.specs.Plan.{Plan}
@@ -63,10 +64,10 @@ sealed_next h v w sealed next = record {
 
 -- what a batch makes, by its parts
 pub makes : (t : Plan) (old new : Current) (changes : List Change) → IsApplied old.instance changes new.instance → IsGood new.instance new.map.lines.items new.map.names.items
-    → IsKept old.instance old.map.lines.items new.instance new.map.lines.items → IsLocal old.instance old.map.lines.items new.instance new.map.lines.items
+    → IsKept old.instance old.map.lines.items new.instance new.map.lines.items → IsLocal old.instance old.map.lines.items new.instance new.map.lines.items → IsRepairedOf old.instance old.map.lines.items new.instance new.map.lines.items
     → ((serial : ℕ) → IsCurrent (version_of serial t new) new) → Makes t old changes new
-makes t old new changes applied good kept local current = record {
-  next = λ serial. record { serial = refl; plan = refl; applied = applied; good = good; kept = kept; local = local };
+makes t old new changes applied good kept local repaired current = record {
+  next = λ serial. record { serial = refl; plan = refl; applied = applied; good = good; kept = kept; local = local; repaired = repaired };
   current = current;
 }
 

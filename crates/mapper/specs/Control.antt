@@ -7,6 +7,7 @@ use Rattle.map_model.specs.Batch.{IsApplied}
 use Rattle.map_model.specs.Allocation.{IsGood}
 use Rattle.demand_feed.specs.Item.{Item, refused, batch, empty, spoiled, query, totals}
 use Rattle.demand_feed.specs.Taking.{AllDo}
+use Rattle.map_repair.specs.Determined.{IsRepairedOf}
 use Rattle.map_repair.specs.Repaired.{IsKept, IsLocal}
 use Rattle.published_map.specs.Version.{Version}
 use Rattle.mapper.specs.Words.{map_text, reply_by, totals_of}
@@ -42,7 +43,7 @@ with_version c version = record {
   calls = c.calls;
 }
 
--- the version that a batch leads to: the next serial, the batch applied, and a good map that keeps what repair keeps of the old one
+-- the version that a batch leads to: the next serial, the batch applied, and the repaired map of the old one, which is good and keeps what repair keeps of it
 pub record IsNext (old : Version) (changes : List Change) (new : Version) : Type 0 where
   pub serial : new.serial ≡ old.serial + 1
   pub plan : new.plan ≡ old.plan
@@ -50,6 +51,7 @@ pub record IsNext (old : Version) (changes : List Change) (new : Version) : Type
   pub good : IsGood new.market new.lines new.names
   pub kept : IsKept old.market old.lines new.market new.lines
   pub local : IsLocal old.market old.lines new.market new.lines
+  pub repaired : IsRepairedOf old.market old.lines new.market new.lines
 
 -- a batch is published: the version behind the newest one is its map
 abbrev pub IsCommit : Course → List Change → Course → Type 0

@@ -8,3 +8,4 @@ pub mod Scenes
 pub mod Feeding
 pub mod Coming
 pub mod Sessions
+pub mod Laws

@@ -7,6 +7,7 @@ use Rattle.map_model.specs.Allocation.{load, placed}
 use Rattle.published_map.specs.Version.{Version}
 use Rattle.map_text.specs.Writing.{text_of_map}
 use Rattle.answer_core.specs.Reply.{reply_of}
+use Rattle.answer_core.specs.declared.way.Way.TheVariants as way
 use Rattle.mapper.specs.declared.saying.Totals.{Totals}
 
 -- the text of its map
@@ -15,7 +16,7 @@ map_text v = text_of_map v.plan (record { lines = v.lines; names = v.names })
 
 -- its reply to octets from an address, with draw 0
 unfoldable pub reply_by : Version → Addr → List ℕ → Option (List ℕ)
-reply_by v from octets = reply_of v from octets 0
+reply_by v from octets = reply_of v from octets 0 way.Datagram
 
 -- units that are placed and units of demand that are not, over all groups, and the number of nodes with as many units as their capacity
 unfoldable pub totals_of : Version → Totals

@@ -9,6 +9,7 @@ ghost use Rattle.published_map.specs.Version.{IsVersion};
 ghost use Rattle.map_cell.specs.declared.door.OpenFault.TheVariants.{CellFault as Shut};
 ghost use Rattle.std.specs.Arc.{arc_value};
 ghost use Rattle.map_model.specs.Allocation.{IsGood};
+ghost use Rattle.map_model.specs.Progress.{IsGroupBest};
 ghost use Rattle.published_map.specs.Shared.{LooksUp, plan_of};
 ghost use Rattle.map_cell.specs.Histories.{IsSealed};
 ghost use Rattle.answer_core.specs.Reply.{Replies};
@@ -88,6 +89,7 @@ fn prepare_first(
 ) -> Result<Prepared, NoMemory>
     requires instance { first.current.instance ≡ topology.market }
     requires good { IsGood topology.market first.current.map.lines.items first.current.map.names.items }
+    requires best { IsGroupBest topology.market first.current.map.lines.items }
     requires current { (serial : ℕ) → IsCurrent (version_of serial topology first.current) first.current }
     requires kept { IsKeptFor topology.market first.current.map.lines.items first.kept }
     ensures plan { IfOk result (λ p. (arc_value p.topology ≡ topology) × (p.version.plan ≡ topology)) }

@@ -12,7 +12,7 @@ ghost use Rattle.mapper.specs.Words.{reply_by};
 
 use crate::current::{Current, First, Kept, kept_of, next_of, unworn};
 use addr_text::Addr;
-use answer_core::{Answer, reply};
+use answer_core::{Answer, Way, reply};
 use arrayvec::ArrayVec;
 use demand_feed::Batch;
 use map_cell::{Naming, Note, Publisher};
@@ -107,7 +107,7 @@ impl<J: Naming> Maps<J> {
     pub fn ask(&self, from: Addr, octets: &[u8], out: &mut ArrayVec<u8, LARGEST_REPLY>) -> Answer
         ensures { Replies result out.new.items (reply_by self.now.newest from octets.now) }
     {
-        reply(self.publisher.newest(), from, octets, 0, out)
+        reply(self.publisher.newest(), from, octets, 0, Way::Datagram, out)
     }
 
     /// Takes out the kept state, or makes one of the newest map.

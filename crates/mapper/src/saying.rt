@@ -12,8 +12,8 @@ use demand_feed::Refusal;
 use itoa::Buffer;
 use outside::LARGEST_REPLY;
 
-/// Room for any line of control text. The longest is that of a reply: 6 + 1 + 20 + 1 + 1,024 octets, and its LF.
-pub const LINE_ROOM: usize = 1_056;
+/// Room for any line of control text. The longest is that of a reply: 6 + 1 + 20 + 1 + 2,600 octets, and its LF.
+pub const LINE_ROOM: usize = 2_640;
 
 /// Sums over all groups, and the number of nodes that are full.
 #[derive(Clone, Copy, Debug, PartialEq, Eq)]
@@ -66,10 +66,10 @@ fn push_number(line: &mut Spoken, number: u64)
 
 /// Appends the hexadecimal digits of octets.
 fn push_digits(line: &mut Spoken, octets: &[u8])
-    requires room { length line.old.items + 1024 ≤ LINE_ROOM }
+    requires room { length line.old.items + 2600 ≤ LINE_ROOM }
     requires few { length octets.now ≤ LARGEST_REPLY }
     ensures digits { line.new.items ≡ line.old.items ++ encode_lower octets.now }
-    ensures short { length line.new.items ≤ length line.old.items + 1024 }
+    ensures short { length line.new.items ≤ length line.old.items + 2600 }
 {
     let mut digits = [0u8; 2 * LARGEST_REPLY];
     let size = 2 * octets.len();
@@ -79,9 +79,9 @@ fn push_digits(line: &mut Spoken, octets: &[u8])
 
 /// Appends the digits of a reply, or a dash where there is none.
 fn push_reply(line: &mut Spoken, reply: &Option<ArrayVec<u8, LARGEST_REPLY>>)
-    requires { length line.old.items + 1024 ≤ LINE_ROOM }
+    requires { length line.old.items + 2600 ≤ LINE_ROOM }
     ensures digits { line.new.items ≡ line.old.items ++ digits_of (option_map (λ r. r.items) reply.now) }
-    ensures short { length line.new.items ≤ length line.old.items + 1024 }
+    ensures short { length line.new.items ≤ length line.old.items + 2600 }
 {
     match reply {
         Some(octets) => push_digits(line, octets.as_slice()),

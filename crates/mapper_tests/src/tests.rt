@@ -97,7 +97,7 @@ show 1 placed 12 unplaced 0 full 1
 published 1
 ";
 
-const SECOND_MAP: &str = "glb map 1
+const SECOND_MAP: &str = "glb map 2
 place g1 A 8
 place g2 A 2
 place g2 B 2

@@ -32,8 +32,8 @@ key_tie a b h =
 pub place_from_pool : (m : Market) → IsMarket m → (g k j : ℕ) → IsOffer m g k → IsOffer m g j → (choice_at m g k).pool.0 ≡ (choice_at m g j).pool.0 → k ≡ j
 place_from_pool m market g k j a b same =
     let distinct = (market.groups g (record { demand = 0; choices = [] }) a.group).distinct in
-    let below : k < j → ⊥ = λ l. distinct k j (record { pool = record { 0 = 0 }; score = 0 }) l b.place same in
-    let above : j < k → ⊥ = λ l. distinct j k (record { pool = record { 0 = 0 }; score = 0 }) l a.place (sym same) in
+    let below : k < j → ⊥ = λ l. distinct k j (record { pool = record { 0 = 0 }; score = 0; limit = 0 }) l b.place same in
+    let above : j < k → ⊥ = λ l. distinct j k (record { pool = record { 0 = 0 }; score = 0; limit = 0 }) l a.place (sym same) in
     elim (cases_eq k j) [
       | inl e ↦ e
       | inr ne ↦ absurd (apart k j ne below above)

@@ -1,3 +1,4 @@
 pub mod Lessening
 pub mod Sameness
 pub mod Removing
+pub mod Turning

@@ -1,8 +1,9 @@
 -- Giving up what is over demands and capacities.
 use Rattle.std.specs.Prelude.{◌≡◌, ℕ, ◌+◌, ◌<◌, ◌≤◌, Bool, true, List, length, IsTrue, slice_index}
 use Rattle.map_model.specs.declared.lines.MapLine.{MapLine}
-use Rattle.map_model.specs.Market.{Market, IsMarket, IsSameShape, capacity_of, demand_of}
-use Rattle.map_model.specs.Allocation.{AreLines, IsOffer, amount_at, load, placed, units_of}
+use Rattle.map_model.specs.Market.{Market, IsMarket, IsSameShape, capacity_of, demand_of, key_of}
+use Rattle.map_model.specs.Allocation.{AreLines, IsOffer, amount_at, counts_at, load, placed, units_of}
+use Rattle.map_model.specs.Holding.{IsSaturated}
 use Rattle.map_model.specs.Progress.{HoldsIn, root_of, tree_of}
 use Rattle.evict.specs.Standing.{Standing}
 
@@ -35,6 +36,7 @@ pub record CanCut (m : Market) (state : Standing) : Type 0 where
 
 -- Units that go from the last places of each group that holds more than it asks for, as many as it has to give up and no more: each group then holds at most what it asks for, and where a place has fewer than before no later place has any, and the group still holds what it asks for.
 pub record IsTrimmed (m : Market) (old new : List MapLine) : Type 0 where
+  pub form : AreLines m new
   pub fewer : (test : ℕ → ℕ → Bool) → units_of test new ≤ units_of test old
   pub fits : (g : ℕ) → g < length m.groups → placed new g ≤ demand_of m g
   pub last : (g j k : ℕ) → IsOffer m g k → j < k → amount_at new g j < amount_at old g j → amount_at new g k ≡ 0
@@ -45,10 +47,19 @@ pub record IsGroupTrimmed (m : Market) (g : ℕ) (old new : List MapLine) : Type
   pub last : (j k : ℕ) → IsOffer m g k → j < k → amount_at new g j < amount_at old g j → amount_at new g k ≡ 0
   pub enough : (k : ℕ) → IsOffer m g k → amount_at new g k < amount_at old g k → demand_of m g ≤ placed new g
 
--- units that are left of others: no more at any offer, and all of them in the trees in which none has to go
+-- where an offer has fewer units than before, some node of its path is full of units ranked at least as high
+abbrev pub AreTurnedAway : Market → List MapLine → List MapLine → Type 0
+AreTurnedAway m all left = (g k : ℕ) → IsOffer m g k → amount_at left g k < amount_at all g k → (n : ℕ) × (counts_at m n g k ≡ true) × IsSaturated m left n (key_of m g k)
+
+-- inside this crate alone: and that node has a number from c on
+abbrev pub AreTurnedFrom : Market → ℕ → List MapLine → List MapLine → Type 0
+AreTurnedFrom m c all left = (g k : ℕ) → IsOffer m g k → amount_at left g k < amount_at all g k → (n : ℕ) × (counts_at m n g k ≡ true) × (c ≤ n) × IsSaturated m left n (key_of m g k)
+
+-- Units that are left of others: no more at any offer, and all of them in the trees in which none has to go. An offer that has fewer is turned away by units ranked at least as high.
 pub record IsLeft (m : Market) (all left : List MapLine) : Type 0 where
   pub fewer : (test : ℕ → ℕ → Bool) → units_of test left ≤ units_of test all
   pub still : (test : ℕ → ℕ → Bool) → ((g k : ℕ) → IsOffer m g k → test g k ≡ true → IsFitting m all (tree_of m g k)) → units_of test left ≡ units_of test all
+  pub turned : AreTurnedAway m all left
 
 -- A state cut for an instance: no offer holds more than before, no node is over its capacity, what each group holds and has free adds up to its demand, and in the trees in which no unit has to go all offers hold what they held. What is held is left of what the groups hold once they are trimmed.
 pub record IsCut (m : Market) (old new : Standing) : Type 0 where

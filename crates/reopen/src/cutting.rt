@@ -1,9 +1,10 @@
 //! Giving up what is over demands and capacities.
 
-ghost use Rattle.std.specs.Prelude.{Bool, false, ◌≡◌, ◌≢◌, ℕ, ◌+◌, ◌<◌, ◌≤◌, ◌⊎◌, length, slice_index};
+ghost use Rattle.std.specs.Prelude.{Bool, List, false, ◌≡◌, ◌≢◌, ℕ, ◌+◌, ◌<◌, ◌≤◌, ◌⊎◌, length, slice_index};
+ghost use Rattle.map_model.specs.declared.lines.MapLine.{MapLine};
 ghost use Rattle.map_model.specs.Market.{capacity_of, demand_of};
 ghost use Rattle.map_model.specs.Allocation.{IsOffer, amount_at, load, placed, units_of};
-ghost use Rattle.reopen.specs.Cutting.{CanCut, IsCut, IsGroupTrimmed, IsLess, IsTrimmed, KeepsSums};
+ghost use Rattle.reopen.specs.Cutting.{AreTurnedAway, AreTurnedFrom, CanCut, IsCut, IsGroupTrimmed, IsLess, IsTrimmed, KeepsSums};
 
 use evict::State;
 use map_model::{GroupId, Instance, NodeId, Offer};
@@ -77,6 +78,7 @@ fn cut_node(instance: &Instance, state: &mut State, node: NodeId)
     ensures less { IsLess instance.now state.old state.new }
     ensures sums { KeepsSums state.old state.new }
     ensures fits { load instance.now state.new.lines node.0 ≤ capacity_of instance.now node.0 }
+    ensures turned { (all : List MapLine) → AreTurnedFrom instance.now node.0 all state.old.lines → AreTurnedFrom instance.now node.0 all state.new.lines }
 {
     let capacity = instance.capacity(node);
     while state.load(node) > capacity {
@@ -94,6 +96,7 @@ fn cut(instance: &Instance, state: &mut State)
     ensures less { IsLess instance.now state.old state.new }
     ensures sums { KeepsSums state.old state.new }
     ensures fits { (n : ℕ) → n < length instance.now.nodes → load instance.now state.new.lines n ≤ capacity_of instance.now n }
+    ensures turned { AreTurnedAway instance.now state.old.lines state.new.lines }
 {
     let nodes = instance.nodes();
     for step in 0..nodes {

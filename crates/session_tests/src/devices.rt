@@ -50,7 +50,7 @@ const COMMANDS: &[Command] = &[
             ("m", Bytes(GOOD_REGION)),
             ("c", Bytes(CHANGES)),
         ],
-        pieces: &["glb map 1\nplace g1 A 6\nplace g2 A 3\nplace g2 B 5\nfull g2 A A\nend\n"],
+        pieces: &["glb map 2\nplace g1 A 6\nplace g2 A 3\nplace g2 B 5\nfull g2 A A\nend\n"],
     },
     Command {
         words: &["glb", "large", "1"],

@@ -68,7 +68,7 @@ const LINES: &[&str] = &[
 /// The texts of both maps.
 const MAPS: &[&str] = &[
     REGION_MAP,
-    "glb map 1\nplace g1 A 8\nplace g2 A 2\nplace g2 B 2\nfull g2 A A\nend\n",
+    "glb map 2\nplace g1 A 8\nplace g2 A 2\nplace g2 B 2\nfull g2 A A\nend\n",
 ];
 
 /// What was done at a lane: openings that went, turns of its gate, datagrams that it took, replies that went.

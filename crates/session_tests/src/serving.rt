@@ -54,7 +54,7 @@ struct Row {
 
 /// The first map, and that where the second group asks for four units.
 const BOTH: &str =
-    "glb map 1\nplace g1 A 8\nplace g2 A 2\nplace g2 B 5\nfull g2 A A\nfull g2 B R\nend\nglb map 1\nplace g1 A 8\nplace g2 A 2\nplace g2 B 2\nfull g2 A A\nend\n";
+    "glb map 2\nplace g1 A 8\nplace g2 A 2\nplace g2 B 5\nfull g2 A A\nfull g2 B R\nend\nglb map 2\nplace g1 A 8\nplace g2 A 2\nplace g2 B 2\nfull g2 A A\nend\n";
 
 /// One worker, who is not named.
 const PLAIN: Row = Row {

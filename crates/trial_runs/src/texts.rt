@@ -169,7 +169,7 @@ pub const GOOD_REGION: &[u8] =
     b"glb map 1\nplace g1 A 8\nplace g2 A 2\nplace g2 B 5\nfull g2 A A\nfull g2 B R\nend\n";
 
 pub const REGION_MAP: &str =
-    "glb map 1\nplace g1 A 8\nplace g2 A 2\nplace g2 B 5\nfull g2 A A\nfull g2 B R\nend\n";
+    "glb map 2\nplace g1 A 8\nplace g2 A 2\nplace g2 B 5\nfull g2 A A\nfull g2 B R\nend\n";
 
 /// Words of a command line.
 pub fn words_of(alloc: Global, words: &[&str]) -> Result<Vec<String>, NoMemory> {

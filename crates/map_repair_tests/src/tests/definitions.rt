@@ -29,12 +29,12 @@ pub struct Row {
     made: u32,
     made_through: u32,
     demand: u32,
-    /// Whether the same node refuses the place, or none does.
+    /// Whether the same limit or node refuses the place, or none does.
     is_named_alike: bool,
 }
 
 /// The units of a group at some places.
-fn units(lines: &[MapLine], group: u32, from: u8, to: u8) -> u32 {
+pub fn units(lines: &[MapLine], group: u32, from: u8, to: u8) -> u32 {
     let mut units: u32 = 0;
     for line in lines {
         if line.group.0 == group && from <= line.place && line.place <= to {
@@ -44,7 +44,7 @@ fn units(lines: &[MapLine], group: u32, from: u8, to: u8) -> u32 {
     units
 }
 
-/// The node that refuses a place.
+/// What refuses a place: its limit, or a node.
 fn name_at(names: &[NameLine], group: u32, place: u8) -> Option<u32> {
     for name in names {
         if name.group.0 == group && name.place == place {
@@ -97,7 +97,7 @@ pub fn rows_of(
 }
 
 /// Whether a tree is in a set, which has a bit for each root.
-fn has(trees: u8, root: u32) -> bool {
+pub fn has(trees: u8, root: u32) -> bool {
     trees.checked_shr(root).unwrap_or(0) % 2 == 1
 }
 

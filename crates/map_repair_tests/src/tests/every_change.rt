@@ -1,8 +1,9 @@
-//! Each single change of each smallest world, there and back, against the definitions.
+//! Each smallest world, mapped, and each single change of it, there and back, against the definitions.
 use super::{changed, is_good, repaired};
 use crate::tests::definitions::{
     Row, Side, is_kept, is_local, most_inside, moved, outside, reached, rows_of, spread,
 };
+use crate::tests::listed::{is_the_repaired, maps_at_most};
 use crate::tests::smallest::{KINDS, Kind, Numbers, Small, back};
 use deferred_accept::{finish, run};
 use evict::State;
@@ -11,8 +12,8 @@ use no_memory::NoMemory;
 use std::alloc::Global;
 use std::test::Fail;
 
-/// How many worlds of each kind are tried, spread over all of them. With `u64::MAX` all are: see bench/README.md.
-const EACH: u64 = 40;
+/// How many worlds of each kind are tried, with limits and without, spread over all of them. With `u64::MAX` all are: see bench/README.md.
+const EACH: u64 = 20;
 
 /// Prime, so that its multiples go through all numbers of a kind.
 const STRIDE: u64 = 1_000_003;
@@ -25,18 +26,27 @@ struct Standing {
     map: MapLines,
 }
 
-/// How many repairs there were, and how many places of them stood outside the spread trees.
+/// How many repairs there were, how many places of them stood outside the spread trees, and how many worlds had more than
+/// one feasible and stable map.
 #[derive(Clone, Copy)]
 struct Tally {
     repairs: u64,
     outside: u64,
+    several: u64,
 }
 
 impl Tally {
+    const NONE: Tally = Tally {
+        repairs: 0,
+        outside: 0,
+        several: 0,
+    };
+
     fn and(self, more: Tally) -> Tally {
         Tally {
             repairs: self.repairs.saturating_add(more.repairs),
             outside: self.outside.saturating_add(more.outside),
+            several: self.several.saturating_add(more.several),
         }
     }
 }
@@ -50,8 +60,7 @@ fn mapped(alloc: Global, instance: &Instance) -> Result<MapLines, NoMemory> {
 }
 
 /// Whether a repair keeps what the definitions say, in that many proposals; how many places are outside its trees.
-fn judged(rows: &[Row], moved: u8, proposals: u64) -> Option<u64> {
-    let reached = reached(rows, moved);
+fn judged(rows: &[Row], reached: u8, proposals: u64) -> Option<u64> {
     let spread = spread(rows, reached);
     let kept = rows.iter().all(|row| is_kept(rows, reached, row));
     let local = rows.iter().all(|row| is_local(spread, row));
@@ -83,8 +92,11 @@ fn stepped(
     };
     let after = Side { numbers, map: &map };
     let rows = rows_of(alloc, &small.places, before, after)?;
-    let moved = moved(kind, &old.numbers, &numbers);
-    let outside = judged(&rows, moved, steps.count()).ok_or("the repaired map moves too much")?;
+    let reached = reached(&rows, moved(kind, &old.numbers, &numbers));
+    if !is_the_repaired(kind, &small.places, before, after, reached) {
+        return Err(Fail::from("another map is the repaired one"));
+    }
+    let outside = judged(&rows, reached, steps.count()).ok_or("the repaired map moves too much")?;
     Ok((
         Standing {
             numbers,
@@ -108,22 +120,26 @@ fn there_and_back(
     Ok(Tally {
         repairs: 2,
         outside: there.saturating_add(again),
+        several: 0,
     })
 }
 
-/// All changes of one world.
+/// The map of a world from scratch, and all changes.
 fn tried(alloc: Global, kind: &Kind, small: &Small) -> Result<Tally, Fail> {
     let instance = kind.instance(alloc, small)?;
     let map = mapped(alloc, &instance)?;
     let numbers = small.numbers;
+    let maps = maps_at_most(kind, &small.places, numbers, &map.lines).ok_or(
+        "another map places more",
+    )?;
     let old = Standing {
         numbers,
         instance,
         map,
     };
     let mut tally = Tally {
-        repairs: 0,
-        outside: 0,
+        several: u64::from(maps > 1),
+        ..Tally::NONE
     };
     for change in kind.changes(alloc, &numbers)?.as_slice() {
         tally = tally.and(there_and_back(alloc, kind, small, &old, *change)?);
@@ -131,36 +147,38 @@ fn tried(alloc: Global, kind: &Kind, small: &Small) -> Result<Tally, Fail> {
     Ok(tally)
 }
 
+/// All changes of the world of a number, if there is one, with limits or without.
+fn tried_number(alloc: Global, kind: &Kind, number: u64, is_limited: bool) -> Result<Tally, Fail> {
+    match kind.world(alloc, number, is_limited)? {
+        Some(small) => tried(alloc, kind, &small),
+        None => Ok(Tally::NONE),
+    }
+}
+
 /// All changes of the worlds of a kind.
 fn tried_kind(alloc: Global, kind: &Kind) -> Result<Tally, Fail> {
-    let mut tally = Tally {
-        repairs: 0,
-        outside: 0,
-    };
+    let mut tally = Tally::NONE;
     let worlds = kind.worlds().max(1);
     for i in 0..worlds.min(EACH) {
         let number = i.wrapping_mul(STRIDE) % worlds;
-        if let Some(small) = kind.world(alloc, number)? {
-            tally = tally.and(tried(alloc, kind, &small)?);
-        }
+        tally = tally.and(tried_number(alloc, kind, number, false)?);
+        tally = tally.and(tried_number(alloc, kind, number, true)?);
     }
     Ok(tally)
 }
 
 #[test]
 fn repairs_each_change_of_the_smallest_worlds(rt: HostRuntime) -> Result<(), Fail> {
-    let mut tally = Tally {
-        repairs: 0,
-        outside: 0,
-    };
+    let mut tally = Tally::NONE;
     for kind in KINDS {
         tally = tally.and(tried_kind(rt.alloc(), &Kind::of(*kind))?);
     }
     assert!(rt;
-        tally.repairs > 2_400 && tally.outside > 240,
-        "{} repairs, {} places outside",
+        tally.repairs > 2_400 && tally.outside > 240 && tally.several > 0,
+        "{} repairs, {} places outside, {} worlds with several maps",
         tally.repairs,
-        tally.outside
+        tally.outside,
+        tally.several
     );
     Ok(())
 }

@@ -1,4 +1,5 @@
-//! The smallest worlds by number: forests of up to three nodes, and up to three groups over their pools.
+//! The smallest worlds by number: forests of up to three nodes, and up to three groups over their pools, without limits
+//! and with limits of one to three units.
 ghost use Rattle.std.specs.Prelude.{◌<◌};
 
 use map_model::Change::{Capacity, Demand};
@@ -59,6 +60,9 @@ const LISTS: &[&[usize]] = &[
     &[2, 1, 0],
 ];
 
+/// An odd number: its multiples tell limits by their upper halves.
+const MIXED: u64 = 0x9E37_79B9_7F4A_7C15;
+
 /// Capacities and demands, those beyond the nodes and groups of no account.
 #[derive(Clone, Copy)]
 pub struct Numbers {
@@ -71,8 +75,9 @@ pub struct Numbers {
 pub struct Place {
     pub group: u32,
     pub place: u8,
-    pool: u32,
+    pub pool: u32,
     score: u32,
+    pub limit: u32,
     /// The root of the pool's tree.
     pub tree: u32,
 }
@@ -82,6 +87,13 @@ pub struct Place {
 pub struct Small {
     pub places: Vec<Place>,
     pub numbers: Numbers,
+}
+
+impl Place {
+    /// What offers are ranked by: the least is the best.
+    pub fn key(&self) -> (u32, u32, u32) {
+        (self.score, self.group, self.pool)
+    }
 }
 
 impl Numbers {
@@ -114,13 +126,17 @@ impl Numbers {
 
 /// The digits of a number.
 #[derive(Drop)]
-struct Digits {
+pub struct Digits {
     rest: u64,
 }
 
 impl Digits {
+    pub fn of(rest: u64) -> Digits {
+        Digits { rest }
+    }
+
     /// The next digit, from the lowest on.
-    fn take(&mut self, base: u64) -> u64
+    pub fn take(&mut self, base: u64) -> u64
         requires { 0 < base }
         ensures { result < base }
     {
@@ -136,6 +152,21 @@ impl Digits {
     {
         if is_there { self.take(base) } else { 0 }
     }
+}
+
+/// A digit for the limit of each place of a world: 0 says that it has none of its own.
+fn limits_of(number: u64, is_limited: bool) -> Digits {
+    Digits::of(if is_limited {
+        number.wrapping_mul(MIXED) / (1 << 32)
+    } else {
+        0
+    })
+}
+
+fn limit_of(digit: u64) -> u32
+    requires { digit < 4 }
+{
+    if digit == 0 { NO_LIMIT } else { digit as u32 }
 }
 
 impl Kind {
@@ -186,7 +217,7 @@ impl Kind {
     }
 
     /// How many nodes there are.
-    fn size(&self) -> u32 {
+    pub fn size(&self) -> u32 {
         match self.parents.len() {
             1 => 1,
             2 => 2,
@@ -194,7 +225,7 @@ impl Kind {
         }
     }
 
-    fn parent(&self, node: u32) -> Option<u32> {
+    pub fn parent(&self, node: u32) -> Option<u32> {
         self.parents.get(node as usize).copied().unwrap_or(None)
     }
 
@@ -224,11 +255,13 @@ impl Kind {
         }
     }
 
-    /// Gives a group a list, by two digits. Not where the scores go beyond the list, as those of another number.
+    /// Gives a group a list, by two digits, and each place a limit, by one of others. Not where the scores go beyond the
+    /// list, as those of another number.
     fn ask(
         &self,
         group: u32,
         digits: &mut Digits,
+        limits: &mut Digits,
         places: &mut Vec<Place>,
     ) -> Result<bool, NoMemory> {
         let list = digits.take(self.lists());
@@ -238,11 +271,13 @@ impl Kind {
             let pool = self.pools.get(*which).copied().unwrap_or(0);
             let tree = self.root(pool);
             let score = (scores % 2) as u32;
+            let limit = limit_of(limits.take(4));
             places.push(Place {
                 group,
                 place,
                 pool,
                 score,
+                limit,
                 tree,
             })?;
             place = place.saturating_add(1);
@@ -251,13 +286,19 @@ impl Kind {
         Ok(scores == 0)
     }
 
-    /// The world of that number; none where another number has the same.
-    pub fn world(&self, alloc: Global, number: u64) -> Result<Option<Small>, NoMemory> {
-        let mut digits = Digits { rest: number };
+    /// The world of that number, with limits or without; none where another number has the same.
+    pub fn world(
+        &self,
+        alloc: Global,
+        number: u64,
+        is_limited: bool,
+    ) -> Result<Option<Small>, NoMemory> {
+        let mut digits = Digits::of(number);
+        let mut limits = limits_of(number, is_limited);
         let numbers = self.numbers(&mut digits);
         let mut places = Vec::new(alloc);
         for group in 0..self.groups {
-            if !self.ask(group, &mut digits, &mut places)? {
+            if !self.ask(group, &mut digits, &mut limits, &mut places)? {
                 return Ok(None);
             }
         }
@@ -316,7 +357,7 @@ fn choices_of(alloc: Global, places: &[Place], group: u32) -> Result<Vec<Choice>
             choices.push(Choice {
                 pool: NodeId(place.pool),
                 score: place.score,
-                limit: NO_LIMIT,
+                limit: place.limit,
             })?;
         }
     }

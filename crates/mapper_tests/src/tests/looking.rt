@@ -53,7 +53,7 @@ impl<J: Naming> Sink for Looking<'_, J> {
     ghost faults = { λ _. 0 };
 
     fn put(&mut self, piece: &[u8]) -> Put {
-        if piece.starts_with(b"glb map 1\n") || piece.starts_with(b"published ") {
+        if piece.starts_with(b"glb map 2\n") || piece.starts_with(b"published ") {
             self.look();
             if self.seen != self.told {
                 self.is_wrong = true;

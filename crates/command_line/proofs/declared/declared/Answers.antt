@@ -31,6 +31,7 @@ returns c =
     let three = c.in_ok-subcommand-3.ensures.shape c.in_ok-command-3.ensures.local ∙ ap₂ with_subcommand two (ap top c.in_ok-command-3.ensures.app) in
     let four = c.in_ok-subcommand-4.ensures.shape c.in_ok-command-4.ensures.local ∙ ap₂ with_subcommand three (ap top c.in_ok-command-4.ensures.app) in
     let five = c.in_ok-subcommand-5.ensures.shape c.in_ok-serve.ensures.local ∙ ap₂ with_subcommand four (ap top c.in_ok-serve.ensures.app) in
+    let six = c.in_ok-subcommand-6.ensures.shape c.in_ok-command-5.ensures.local ∙ ap₂ with_subcommand five (ap top c.in_ok-command-5.ensures.app) in
     record {
-      app = IfOk-weaker c.subcommand-6.result _ _ (λ m h. h.shape c.in_ok-command-5.ensures.local ∙ ap₂ with_subcommand five (ap top c.in_ok-command-5.ensures.app)) c.subcommand-6.ensures;
+      app = IfOk-weaker c.subcommand-7.result _ _ (λ m h. h.shape c.in_ok-command-6.ensures.local ∙ ap₂ with_subcommand six (ap top c.in_ok-command-6.ensures.app)) c.subcommand-7.ensures;
     }

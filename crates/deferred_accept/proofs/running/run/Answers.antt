@@ -3,6 +3,7 @@ use Rattle.std.proofs.lemmas.List.{length-set}
 use Rattle.evict.specs.declared.freed.Eviction.{Eviction}
 use Rattle.map_model.specs.Market.{Market}
 use Rattle.deferred_accept.specs.Work.{gave_any, is_on}
+use Rattle.deferred_accept.proofs.Best.{ahead_many}
 use Rattle.deferred_accept.proofs.Courses.{course_start, course_step, course_turned, due_turned, groups_step, rest_turned, waited_step, worth_step, worth_turned}
 use Rattle.deferred_accept.proofs.Turns.{covers_step, worth-le}
 use Rattle.deferred_accept.proofs.Within.{spread_end}
@@ -68,6 +69,11 @@ loop-offer-preserved g c =
 
 pub returns-clause-steps : goal.returns-clause-steps
 returns-clause-steps g c = omega (arith, c.loop-offer.invariant.course.counted, worth-le c.args.instance.now c.args.state.now)
+
+pub returns-clause-ahead : goal.returns-clause-ahead
+returns-clause-ahead g c =
+    let made = c.loop-offer.invariant.course.proposed in
+    ahead_many c.args.instance.now made.count c.args.state.now c.loop-offer.state c.requires made.proposals
 
 pub returns-clause-inside : goal.returns-clause-inside
 returns-clause-inside g c = λ trees work. spread_end c.args.instance.now trees c.args.state.now c.loop-offer.state c.args.steps.now c.loop-offer.steps (c.loop-offer.invariant.course.spread trees work)

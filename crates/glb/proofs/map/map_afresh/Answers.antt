@@ -7,6 +7,7 @@ use Rattle.map_model.specs.Allocation.{IsGood, IsMapForm}
 use Rattle.map_model.proofs.NameForm.{IsMapForm-IsGood}
 use Rattle.no_memory.specs.declared.NoMemory.{NoMemory}
 use Rattle.mapper.specs.Mappers.{IsFromScratch}
+use Rattle.mapper.proofs.Fresh.{ended_best}
 use Rattle.glb.proofs.Scratch.{scratch_of}
 use Rattle.glb.proofs.map.map_afresh.Goals as goal
 
@@ -21,5 +22,6 @@ returns-clause-form c = in_form c.args.instance.now c.in_ok-state.ensures.fresh.
 pub returns-clause-scratch : goal.returns-clause-scratch
 returns-clause-scratch c =
     let run = c.in_ok-run.ensures in
-    let made = scratch_of c.args.instance.now c.in_ok-state.state c.run.new.state c.new-steps.result c.run.new.steps c.in_ok-state.ensures.fresh c.new-steps.ensures run.counted run.steps in
+    let made = scratch_of c.args.instance.now c.in_ok-state.state c.run.new.state c.new-steps.result c.run.new.steps c.in_ok-state.ensures.fresh c.new-steps.ensures run.counted run.steps
+    (ended_best c.args.instance.now c.in_ok-state.state c.run.new.state c.in_ok-state.ensures.fresh run.run run.ended run.ahead) in
     IfOk-weaker c.finish.result _ _ (λ map lines. subst (λ (ls : List MapLine). IsFromScratch c.args.instance.now ls) (sym lines) made) c.finish.ensures.lines

@@ -1,6 +1,6 @@
 use Rattle.glb.specs.Outcome.{IsSaid}
 use Rattle.glb.specs.Run.{IsDue}
-use Rattle.glb.specs.Words.{check, map_from, answer}
+use Rattle.glb.specs.Words.{check, map_from, places, answer}
 use Rattle.glb.proofs.Loads.{ends_weaker}
 use Rattle.glb.proofs.Said.{due_said}
 use Rattle.glb.proofs.saying.run_command.Goals as goal
@@ -16,6 +16,12 @@ returns-in-Map-clause-said g c =
     let ask = map_from c.in-Map.topology.now in
     let told = g.F.Shelf.told c.args.files.now in
     ends_weaker (IsDue ask told) IsSaid c.map_files.result (due_said ask told) c.map_files.ensures.due
+
+pub returns-in-Places-clause-said : goal.returns-in-Places-clause-said
+returns-in-Places-clause-said g c =
+    let ask = places c.in-Places.topology.now in
+    let told = g.F.Shelf.told c.args.files.now in
+    ends_weaker (IsDue ask told) IsSaid c.places_files.result (due_said ask told) c.places_files.ensures.due
 
 pub returns-in-Answer-clause-said : goal.returns-in-Answer-clause-said
 returns-in-Answer-clause-said g c =

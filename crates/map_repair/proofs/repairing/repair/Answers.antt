@@ -2,6 +2,7 @@ use Rattle.std.proofs.Common.{List, OnOk, Result, Ok, Err, slice_index, sym, sub
 use Rattle.std.proofs.lemmas.Result.{IfOk-weaker}
 use Rattle.map_model.specs.declared.lines.MapLine.{MapLine}
 use Rattle.evict.specs.Standing.{IsOfMap, IsPastWanted, Standing}
+use Rattle.map_repair.specs.Determined.{IsRepairedOf}
 use Rattle.map_repair.specs.Repaired.{IsKept, IsWithinSpread}
 use Rattle.map_repair.proofs.repairing.repair.Goals as goal
 
@@ -31,3 +32,8 @@ returns-clause-counted g c =
 
 pub returns-clause-steps : goal.returns-clause-steps
 returns-clause-steps g c = whenever c.finish.result (subst (λ (ls : List MapLine). IsWithinSpread c.args.old.now ls c.args.new.now c.args.steps.now c.resume.new.steps) c.in_ok-state.ensures.lines c.in_ok-resume.ensures.steps)
+
+pub returns-clause-determined : goal.returns-clause-determined
+returns-clause-determined g c =
+    let of = subst (λ (ls : List MapLine). IsRepairedOf c.args.old.now ls c.args.new.now c.resume.new.state.lines) c.in_ok-state.ensures.lines c.in_ok-resume.ensures.determined in
+    IfOk-weaker c.finish.result _ _ (λ m e. subst (λ (ls : List MapLine). IsRepairedOf c.args.old.now c.args.map.now.lines.items c.args.new.now ls) (sym e) of) c.finish.ensures.lines

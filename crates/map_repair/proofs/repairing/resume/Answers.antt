@@ -1,9 +1,12 @@
-use Rattle.std.proofs.Common.{Bool, List, OnOk, Result, Ok, Err, sym, subst, ◌∙◌}
+use Rattle.std.proofs.Common.{Bool, List, OnOk, Result, Ok, Err, refl, sym, subst, ◌∙◌}
 use Rattle.std.proofs.lemmas.Result.{on_ok_weaker}
+use Rattle.map_model.specs.Allocation.{names_of}
 use Rattle.map_model.proofs.Shapes.{shape_trans}
 use Rattle.evict.proofs.Shaped.{AreLines-shape}
+use Rattle.deferred_accept.proofs.Finished.{finished}
 use Rattle.reopen.specs.Rolling.{CanRollBack, IsRolledBack}
 use Rattle.map_repair.specs.Marks.{is_on}
+use Rattle.map_repair.proofs.Agree.{resumed_is}
 use Rattle.map_repair.proofs.Listing.{listing_shape}
 use Rattle.map_repair.proofs.Middle.{IsMiddle, can_roll_back, kept, state_of}
 use Rattle.map_repair.proofs.Spread.{stays_local, stays_within}
@@ -82,3 +85,19 @@ returns-in_err-marks-clause-asked g c = listing_shape c.args.old.now c.args.new.
 
 pub returns-clause-asked : goal.returns-clause-asked
 returns-clause-asked g c = listing_shape c.args.old.now c.args.new.now c.requires.shape c.args.asked.now c.requires.asked
+
+pub returns-clause-determined : goal.returns-clause-determined
+returns-clause-determined g c =
+    let at = goal.at.returns-clause-determined g c in
+    on_two c.run.result
+    (λ stable proposed. resumed_is c.args.old.now c.args.state.now c.args.new.now c.run.new.state c.args.steps.now c.run.new.steps c.requires.of_map (record {
+      marks = c.in_ok-marks.marks.items;
+      reached = λ root on. c.in_ok-marks.ensures.least root on;
+      all_reached = λ root is. is (λ n. is_on c.in_ok-marks.marks.items n) c.in_ok-marks.ensures.closed;
+      cut = c.cut_and_trim.new.state;
+      is_cut = c.cut_and_trim.ensures;
+      back = c.roll_back.new.state;
+      rolled_back = rolled g at.After-roll_back;
+      proposed = proposed;
+    }) stable)
+    (on_two c.run.result (λ run ended. (finished c.args.new.now c.run.new.state (names_of c.args.new.now c.run.new.state.lines) run.ready ended refl).stable) c.run.ensures.run c.run.ensures.ended) c.run.ensures.counted

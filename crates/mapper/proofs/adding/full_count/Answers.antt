@@ -1,7 +1,8 @@
 use Rattle.std.proofs.Common.{◌==◌, cond, arith}
 use Rattle.map_model.specs.Market.{capacity_of}
 use Rattle.map_model.specs.Allocation.{load}
-use Rattle.mapper.proofs.Counted.{at_most_one, sum_more}
+use Rattle.best_laws.proofs.Sums.{sum_more}
+use Rattle.mapper.proofs.Counted.{at_most_one}
 use Rattle.mapper.proofs.adding.full_count.Goals as goal
 
 pub loop-n-preserved : goal.loop-n-preserved

@@ -2,7 +2,7 @@ use Rattle.std.proofs.Common.{◌<◌, length, arith}
 use Rattle.map_model.specs.Market.{Market}
 use Rattle.map_model.specs.Allocation.{placed}
 use Rattle.evict.proofs.Settled.{small_demand}
-use Rattle.mapper.proofs.Counted.{sum_more}
+use Rattle.best_laws.proofs.Sums.{sum_more}
 use Rattle.mapper.proofs.adding.placed_sum.Goals as goal
 
 pub overflow_add-sum : goal.overflow_add-sum

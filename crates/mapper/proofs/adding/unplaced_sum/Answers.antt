@@ -2,7 +2,7 @@ use Rattle.std.proofs.Common.{◌≡◌, ◌-◌, ◌<◌, length, arith}
 use Rattle.map_model.specs.Market.{demand_of, Market}
 use Rattle.map_model.specs.Allocation.{placed}
 use Rattle.evict.proofs.Settled.{small_demand}
-use Rattle.mapper.proofs.Counted.{sum_more}
+use Rattle.best_laws.proofs.Sums.{sum_more}
 use Rattle.mapper.proofs.adding.unplaced_sum.Goals as goal
 
 pub loop-g-preserved : goal.loop-g-preserved

@@ -4,6 +4,7 @@ use Rattle.map_model.specs.Market.{Market}
 use Rattle.map_model.specs.Batch.{IsApplied}
 use Rattle.map_model.proofs.Shapes.{shape_trans}
 use Rattle.map_repair.specs.Repaired.{IsWithinSpread}
+use Rattle.map_repair.proofs.Agree.{repaired_is}
 use Rattle.mapper.proofs.Nexts.{both, makes}
 use Rattle.mapper.proofs.current.next_of.Goals as goal
 
@@ -14,7 +15,8 @@ pub returns-clause-makes : goal.returns-clause-makes
 returns-clause-makes g c = both c.dressed.result c.dressed.ensures.parts c.dressed.ensures.current (λ new parts current.
     makes c.args.topology.now c.args.old.now new c.args.batch.now
     (subst (λ (m : Market). IsApplied c.args.old.now.instance c.args.batch.now m) (sym parts.0) c.in_ok-instance.ensures)
-    (rw (parts.0, parts.1) c.in_ok-map.ensures.good) (rw (parts.0, parts.1) c.in_ok-map.ensures.kept) (rw (parts.0, parts.1) c.in_ok-map.ensures.local) current)
+    (rw (parts.0, parts.1) c.in_ok-map.ensures.good) (rw (parts.0, parts.1) c.in_ok-map.ensures.kept) (rw (parts.0, parts.1) c.in_ok-map.ensures.local)
+    (rw (parts.0, parts.1) (repaired_is c.args.old.now.instance c.args.old.now.map.lines.items c.in_ok-instance.instance c.in_ok-map.map.lines.items c.args.steps.now c.repaired.new.steps c.in_ok-map.ensures.counted c.in_ok-map.ensures.good.stable)) current)
 
 pub returns-clause-counted : goal.returns-clause-counted
 returns-clause-counted g c = IfOk-weaker c.dressed.result _ _ (λ new parts. rw (parts.0, parts.1) c.in_ok-map.ensures.counted) c.dressed.ensures.parts

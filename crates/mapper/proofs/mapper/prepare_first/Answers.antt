@@ -1,4 +1,6 @@
-use Rattle.std.proofs.Common.{◌≡◌, rules}
+use Rattle.std.proofs.Common.{◌≡◌, List, rules, subst, sym}
+use Rattle.map_model.specs.declared.lines.MapLine.{MapLine}
+use Rattle.map_model.specs.Progress.{IsGroupBest}
 use Rattle.published_map.specs.Version.{IsVersion}
 use Rattle.mapper.proofs.Opened.{first_is}
 use Rattle.mapper.proofs.mapper.prepare_first.Goals as goal
@@ -7,4 +9,5 @@ pub returns-in-Ok-make-clause-first : goal.returns-in-Ok-make-clause-first
 returns-in-Ok-make-clause-first g =
     let version : IsVersion g.in-Ok-make.version × (g.in-Ok-make.version.serial ≡ 0) × (g.in-Ok-make.version.market ≡ g.args.topology.market) = search rules in
     let plan : g.in-Ok-make.version.plan ≡ g.args.topology = search rules in
-    first_is g.args.topology g.in-Ok-make.version version plan
+    let lines : g.in-Ok-make.version.lines ≡ g.args.first.current.map.lines.items = search rules in
+    first_is g.args.topology g.in-Ok-make.version version plan (subst (λ (ls : List MapLine). IsGroupBest g.args.topology.market ls) (sym lines) g.requires.best)

@@ -30,6 +30,7 @@ loop-g-preserved c =
 
 pub returns-clause-trimmed : goal.returns-clause-trimmed
 returns-clause-trimmed c = record {
+  form = c.loop-g.invariant.less.form;
   fewer = c.loop-g.invariant.less.fewer;
   fits = λ g l. let total = c.loop-g.invariant.totals g (omega (arith, l, c.loop-g-test.false, c.groups-g-end.ensures.count)) in omega (arith, total);
   last = λ g j k o. (c.loop-g.invariant.trimmed g (omega (arith, o.group, c.loop-g-test.false, c.groups-g-end.ensures.count))).last j k o;

@@ -1,0 +1,2 @@
+//! What maps and states are determined by: laws over definitions. Nothing runs here.
+#![tactic(auto)]

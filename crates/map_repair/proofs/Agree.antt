@@ -1,0 +1,82 @@
+-- A repaired map is determined by the old instance, the old map and the new instance.
+use Rattle.std.proofs.Common.{◌≡◌, ℕ, ◌<◌, Bool, true, false, List, length, refl, slice_index, slice_index_or, sym, ap, ◌∙◌, subst, inl, inr}
+use Rattle.std.proofs.lemmas.Bool.{cases_Bool}
+use Rattle.map_model.specs.declared.lines.MapLine.{MapLine}
+use Rattle.map_model.specs.declared.lines.NameLine.{NameLine}
+use Rattle.map_model.specs.Market.{Market}
+use Rattle.map_model.specs.Allocation.{IsGood, IsStable, names_of}
+use Rattle.map_model.specs.Progress.{IsReached, tree_of}
+use Rattle.evict.specs.Standing.{IsPastWanted, Standing}
+use Rattle.agree_laws.specs.Below.{IsBestBelow}
+use Rattle.agree_laws.proofs.Backs.{MarkSame, back_lines_one, backs_one, past_one}
+use Rattle.agree_laws.proofs.Cuts.{cut_one}
+use Rattle.agree_laws.proofs.Ends.{best_below, best_below_from, best_below_one}
+use Rattle.map_repair.specs.Determined.{IsRepairedOf}
+use Rattle.map_repair.specs.Repaired.{IsStateOf}
+use Rattle.map_repair.specs.Resumed.{HasRepaired, HasResumed}
+
+both_true : (b c : Bool) → (b ≡ true → c ≡ true) → (c ≡ true → b ≡ true) → b ≡ c
+both_true b c there back = elim (cases_Bool b) [
+  | inl e ↦ e ∙ sym (there e)
+  | inr e ↦ elim (cases_Bool c) [ inl f ↦ back f ∙ sym f | inr f ↦ e ∙ sym f ]
+]
+
+-- two lists that mark the reached trees mark the same
+marks_one : (old : Market) (lines : List MapLine) (new m : Market) (marks others : List Bool) → ((root : ℕ) → slice_index_or marks root false ≡ true → IsReached old lines new root) → ((root : ℕ) → IsReached old lines new root → slice_index_or marks root false ≡ true)
+    → ((root : ℕ) → slice_index_or others root false ≡ true → IsReached old lines new root) → ((root : ℕ) → IsReached old lines new root → slice_index_or others root false ≡ true) → MarkSame m marks others
+marks_one old lines new m marks others reached all also also_all g k =
+    both_true (slice_index_or marks (tree_of m g k) false) (slice_index_or others (tree_of m g k) false) (λ e. also_all (tree_of m g k) (reached (tree_of m g k) e)) (λ e. all (tree_of m g k) (also (tree_of m g k) e))
+
+-- the repaired map is one
+pub repaired_of_one : (old : Market) (lines : List MapLine) (new : Market) (a b : List MapLine) → length new.groups ≡ length old.groups → IsRepairedOf old lines new a → IsRepairedOf old lines new b → a ≡ b
+repaired_of_one old lines new a b groups x y = best_below_one new y.rolled_back.ready.market y.back.lines y.back.pointers a b moved y.best
+  where
+    held : x.from.lines ≡ y.from.lines
+    held = x.holds ∙ sym y.holds
+
+    places : (g : ℕ) → g < length new.groups → slice_index x.cut.pointers g ≡ slice_index y.cut.pointers g
+    places g l =
+        let there : g < length old.groups = subst (λ n. g < n) groups l in
+        let was : IsPastWanted old y.from.lines g (slice_index x.from.pointers g) = subst (λ (ls : List MapLine). IsPastWanted old ls g (slice_index x.from.pointers g)) held (x.of_map.pointers g there) in
+        ap (λ ps. slice_index ps g) x.is_cut.less.pointers
+        ∙ past_one old y.from.lines g (slice_index x.from.pointers g) (slice_index y.from.pointers g) there was (y.of_map.pointers g there)
+        ∙ sym (ap (λ ps. slice_index ps g) y.is_cut.less.pointers)
+
+    marks : MarkSame new x.marks y.marks
+    marks = marks_one old lines new new x.marks y.marks x.reached x.all_reached y.reached y.all_reached
+
+    cut : x.cut.lines ≡ y.cut.lines
+    cut = cut_one new y.rolled_back.ready.market x.from y.from x.cut y.cut held x.is_cut y.is_cut
+
+    moved : IsBestBelow new y.back.lines y.back.pointers a
+    moved = best_below_from new x.back.lines y.back.lines x.back.pointers y.back.pointers a (back_lines_one new x.marks y.marks x.cut y.cut x.back y.back marks cut places x.rolled_back y.rolled_back) (backs_one new x.marks y.marks x.cut y.cut x.back y.back marks places x.rolled_back y.rolled_back) x.best
+
+-- what a resumed state holds is that map
+pub resumed_is : (old : Market) (from : Standing) (new : Market) (to : Standing) (before after : ℕ) → IsStateOf old from → HasResumed old from new to before after → IsStable new to.lines → IsRepairedOf old from.lines new to.lines
+resumed_is old from new to before after of_map r stable = record {
+  from = from;
+  of_map = of_map;
+  holds = refl;
+  marks = r.marks;
+  reached = r.reached;
+  all_reached = r.all_reached;
+  cut = r.cut;
+  is_cut = r.is_cut;
+  back = r.back;
+  rolled_back = r.rolled_back;
+  best = best_below new r.proposed.count r.back to r.rolled_back.ready r.proposed.proposals stable;
+}
+
+-- what a repair comes to is that map
+pub repaired_is : (old : Market) (lines : List MapLine) (new : Market) (repaired : List MapLine) (before after : ℕ) → HasRepaired old lines new repaired before after → IsStable new repaired → IsRepairedOf old lines new repaired
+repaired_is old lines new repaired before after x stable =
+    let to : IsStable new x.to.lines = subst (λ (ls : List MapLine). IsStable new ls) (sym x.makes) stable in
+    let held : IsRepairedOf old x.from.lines new x.to.lines = resumed_is old x.from new x.to before after x.of_map x.resumed to in
+    subst (λ (ls : List MapLine). IsRepairedOf old ls new repaired) x.holds (subst (λ (ls : List MapLine). IsRepairedOf old x.from.lines new ls) x.makes held)
+
+-- so two repairs of one map for the same numbers, in whatever order offers were made, come to the same lines and names
+pub repaired_one : (old : Market) (lines : List MapLine) (new : Market) (a b : List MapLine) (of_a of_b : List NameLine) (before after was now : ℕ) → length new.groups ≡ length old.groups → HasRepaired old lines new a before after → HasRepaired old lines new b was now
+    → IsGood new a of_a → IsGood new b of_b → (a ≡ b) × (of_a ≡ of_b)
+repaired_one old lines new a b of_a of_b before after was now groups x y good_a good_b =
+    let e : a ≡ b = repaired_of_one old lines new a b groups (repaired_is old lines new a before after x good_a.stable) (repaired_is old lines new b was now y good_b.stable) in
+    (e, good_a.named ∙ ap (names_of new) e ∙ sym good_b.named)

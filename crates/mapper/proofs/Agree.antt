@@ -1,0 +1,81 @@
+-- What a feed comes to is determined by the topology and its items, but for want of memory.
+use Rattle.std.proofs.Common.{◌≡◌, ℕ, List, [], ◌∷◌, Contains, refl, sym, ap, ◌∙◌, subst, inl, inr, arith}
+use Rattle.std.proofs.lemmas.List.Elements.{Contains-append_left, Contains-append_right}
+use Rattle.map_model.specs.declared.change.Change.{Change}
+use Rattle.map_model.specs.declared.lines.MapLine.{MapLine}
+use Rattle.map_model.specs.declared.lines.NameLine.{NameLine}
+use Rattle.map_model.specs.Market.{Market, IsMarket}
+use Rattle.map_model.specs.Allocation.{names_of}
+use Rattle.agree_laws.proofs.Applied.{applied_one}
+use Rattle.agree_laws.proofs.Ends.{group_best_one}
+use Rattle.map_repair.specs.Determined.{IsRepairedOf}
+use Rattle.map_repair.proofs.Agree.{repaired_of_one}
+use Rattle.topology_text.specs.Plan.{Plan}
+use Rattle.demand_feed.specs.Item.{Item, refused, batch, empty, spoiled, query, totals}
+use Rattle.published_map.specs.Version.{Version}
+use Rattle.map_cell.specs.Ends.{PublisherState}
+use Rattle.mapper.specs.Control.{AllCome, Comes, Course, IsNext, before_commit, start, with_version}
+use Rattle.mapper.specs.Laws.{LackedMemory}
+use Rattle.mapper.specs.Mappers.{IsFirst}
+use Rattle.mapper.specs.Texts as text
+
+version_is : (x y : Version) → x.serial ≡ y.serial → x.market ≡ y.market → x.lines ≡ y.lines → x.names ≡ y.names → x.plan ≡ y.plan → x ≡ y
+version_is x y a b c d e =
+    ap (λ (s : ℕ). record { serial = s; market = x.market; lines = x.lines; names = x.names; plan = x.plan }) a
+    ∙ ap (λ (m : Market). record { serial = y.serial; market = m; lines = x.lines; names = x.names; plan = x.plan }) b
+    ∙ ap (λ (ls : List MapLine). record { serial = y.serial; market = y.market; lines = ls; names = x.names; plan = x.plan }) c
+    ∙ ap (λ (ns : List NameLine). record { serial = y.serial; market = y.market; lines = y.lines; names = ns; plan = x.plan }) d
+    ∙ ap (λ (p : Plan). record { serial = y.serial; market = y.market; lines = y.lines; names = y.names; plan = p }) e
+
+-- the version that a batch leads to is one
+pub next_one : (old a b : Version) (changes : List Change) → IsNext old changes a → IsNext old changes b → a ≡ b
+next_one old a b changes x y = version_is a b (x.serial ∙ sym y.serial) market lines (x.good.named ∙ ap (λ (m : Market). names_of m a.lines) market ∙ ap (names_of b.market) lines ∙ sym y.good.named) (x.plan ∙ sym y.plan)
+  where
+    market : a.market ≡ b.market
+    market = applied_one old.market a.market b.market changes x.applied y.applied
+
+    lines : a.lines ≡ b.lines
+    lines = repaired_of_one old.market old.lines b.market a.lines b.lines y.applied.shape.groups (subst (λ (m : Market). IsRepairedOf old.market old.lines m a.lines) market x.repaired) y.repaired
+
+-- the line that memory was wanting stays
+said_still : (item : Item) (c d : Course) → Comes item c d → LackedMemory c → LackedMemory d
+said_still (refused number why) c d e said = subst (λ (x : Course). LackedMemory x) (sym e) (Contains-append_left c.out (text.refused number why ∷ []) text.memory said)
+said_still (batch changes) c d (inl (version, next, e)) said = subst (λ (x : Course). LackedMemory x) (sym e) (Contains-append_left c.out (text.published version.serial ∷ []) text.memory said)
+said_still (batch changes) c d (inr e) said = subst (λ (x : Course). LackedMemory x) (sym e) (Contains-append_left c.out (text.memory ∷ []) text.memory said)
+said_still empty c d e said = subst (λ (x : Course). LackedMemory x) (sym e) (Contains-append_left c.out (text.published c.newest.serial ∷ []) text.memory said)
+said_still (spoiled lines) c d e said = subst (λ (x : Course). LackedMemory x) (sym e) (Contains-append_left c.out (text.spoiled lines ∷ []) text.memory said)
+said_still (query addr octets) c d e said = subst (λ (x : Course). LackedMemory x) (sym e) (Contains-append_left c.out (_ ∷ []) text.memory said)
+said_still totals c d e said = subst (λ (x : Course). LackedMemory x) (sym e) (Contains-append_left c.out (_ ∷ []) text.memory said)
+
+all_still : (items : List Item) (c d : Course) → AllCome items c d → LackedMemory c → LackedMemory d
+all_still [] c d e said = subst (λ (x : Course). LackedMemory x) (sym e) said
+all_still (item ∷ items) c d (mid, first, rest) said = all_still items mid d rest (said_still item c mid first said)
+
+-- one item comes to one course
+pub comes_one : (item : Item) (c d e : Course) → Comes item c d → Comes item c e → (LackedMemory d → ⊥) → (LackedMemory e → ⊥) → d ≡ e
+comes_one (refused number why) c d e x y quiet also_quiet = x ∙ sym y
+comes_one (batch changes) c d e (inl (v, next, x)) (inl (w, also, y)) quiet also_quiet = x ∙ ap (λ (u : Version). with_version (before_commit c) u) (next_one c.newest v w changes next also) ∙ sym y
+comes_one (batch changes) c d e (inr x) y quiet also_quiet = absurd (quiet (subst (λ (z : Course). LackedMemory z) (sym x) (Contains-append_right c.out (text.memory ∷ []) text.memory (0, omega arith, refl))))
+comes_one (batch changes) c d e (inl x) (inr y) quiet also_quiet = absurd (also_quiet (subst (λ (z : Course). LackedMemory z) (sym y) (Contains-append_right c.out (text.memory ∷ []) text.memory (0, omega arith, refl))))
+comes_one empty c d e x y quiet also_quiet = x ∙ sym y
+comes_one (spoiled lines) c d e x y quiet also_quiet = x ∙ sym y
+comes_one (query addr octets) c d e x y quiet also_quiet = x ∙ sym y
+comes_one totals c d e x y quiet also_quiet = x ∙ sym y
+
+-- so do items, one after another
+pub all_come_one : (items : List Item) (c d e : Course) → AllCome items c d → AllCome items c e → (LackedMemory d → ⊥) → (LackedMemory e → ⊥) → d ≡ e
+all_come_one [] c d e x y quiet also_quiet = x ∙ sym y
+all_come_one (item ∷ items) c d e (a, first, rest) (b, also, more) quiet also_quiet =
+    let mid : a ≡ b = comes_one item c a b first also (λ said. quiet (all_still items a d rest said)) (λ said. also_quiet (all_still items b e more said)) in
+    all_come_one items b d e (subst (λ (x : Course). AllCome items x d) mid rest) more quiet also_quiet
+
+-- two mappers that were opened for one topology have the same first version
+pub first_one : (t : Plan) → IsMarket t.market → (a b : PublisherState) → IsFirst t a → IsFirst t b → a.newest ≡ b.newest
+first_one t market a b x y =
+    let e = group_best_one t.market market a.newest.lines b.newest.lines a.newest.names b.newest.names x.good y.good x.best y.best in
+    version_is a.newest b.newest (x.serial ∙ sym y.serial) (x.market ∙ sym y.market) e.0 e.1 (x.plan ∙ sym y.plan)
+
+-- So over the same items they come to the same courses, where neither said that memory was wanting: the same versions, the same texts of maps, the same lines and the same calls of the pace.
+pub courses_one : (t : Plan) → IsMarket t.market → (a b : PublisherState) (items : List Item) (c d : Course) → IsFirst t a → IsFirst t b → AllCome items (start a.newest) c → AllCome items (start b.newest) d → (LackedMemory c → ⊥) → (LackedMemory d → ⊥) → c ≡ d
+courses_one t market a b items c d x y all also quiet also_quiet =
+    all_come_one items (start b.newest) c d (subst (λ (v : Version). AllCome items (start v) c) (first_one t market a b x y) all) also quiet also_quiet
