@@ -8,14 +8,15 @@ use Rattle.lane_model.specs.declared.ended.Ended.TheVariants as end
 use Rattle.lane_model.specs.Turns.{AreCalm, Came, Turn, fails_of, failures, is_calm, is_refused, idle, oversize, ended, failed, took, silent, refused, tried}
 use Rattle.lane_model.specs.Sessions.{IsEnd, IsLast, IsTurn, Moment}
 use Rattle.lane_model.proofs.Going.{one_more}
-use Rattle.name_workers.specs.declared.serve.Step.{Step}
-use Rattle.name_workers.specs.declared.serve.Step.TheVariants as step
+use Rattle.name_workers.specs.declared.ending.Step.{Step}
+use Rattle.name_workers.specs.declared.ending.Step.TheVariants as step
 use Rattle.lane_model.specs.Replies.{replies}
-use Rattle.name_workers.specs.Steps.{IsNextEnd, IsServed, IsTurned, step_of}
+use Rattle.name_workers.specs.Ending.{IsNextEnd}
+use Rattle.name_workers.specs.Steps.{IsServed, IsTurned, step_of}
 use Rattle.name_workers.specs.Invariant.{IsSoFar}
 
-pub start : {T : Type 0} (number : T → ℕ) (w : ℕ) (m : Moment Version T) → IsSoFar number w 0 0 m m
-start number w m = record { log = []; session = refl; calm = λ k d lt. absurd (omega (arith, lt)); failures_are = refl; few = omega arith; turns_are = refl }
+pub start : (w : ℕ) (m : Moment Version) → IsSoFar w 0 0 m m
+start w m = record { log = []; session = refl; calm = λ k d lt. absurd (omega (arith, lt)); failures_are = refl; few = omega arith; turns_are = refl }
 
 -- what a calm turn adds
 calm_more : (log : List Turn) (t : Turn) → AreCalm log → is_calm t.came ≡ true → AreCalm (log ++ t ∷ [])
@@ -86,10 +87,10 @@ eighth : (k k' : ℕ) (e : Ended) → k' ≡ k + 1 → Some e ≡ (if k' == 8 th
 eighth k k' e n is = eighth_by (k' == 8) k' e refl is
 
 -- a turn more that is calm
-goes_with : {T : Type 0} (number : T → ℕ) (w i k k' : ℕ) (m mid m' : Moment Version T) → IsSoFar number w i k m mid → (t : Turn) → IsTurn replies number w t mid m' → is_calm t.came ≡ true → k' ≡ k + fails_of t.came → k' < 8 → IsSoFar number w (i + 1) k' m m'
-goes_with number w i k k' m mid m' so t turn calm fails few = record {
+goes_with : (w i k k' : ℕ) (m mid m' : Moment Version) → IsSoFar w i k m mid → (t : Turn) → IsTurn replies w t mid m' → is_calm t.came ≡ true → k' ≡ k + fails_of t.came → k' < 8 → IsSoFar w (i + 1) k' m m'
+goes_with w i k k' m mid m' so t turn calm fails few = record {
   log = so.log ++ t ∷ [];
-  session = one_more replies number w so.log t m mid m' so.session turn;
+  session = one_more replies w so.log t m mid m' so.session turn;
   calm = calm_more so.log t so.calm calm;
   failures_are = failures_more so.log t ∙ omega (arith, so.failures_are, fails);
   few = few;
@@ -97,53 +98,53 @@ goes_with number w i k k' m mid m' so t turn calm fails few = record {
 }
 
 -- the lane goes on
-goes_on : {T : Type 0} (number : T → ℕ) (w i k k' : ℕ) (s : Step) (m mid m' : Moment Version T) → IsSoFar number w i k m mid → IsTurned number w s mid m' → IsNextEnd s k k' None → IsSoFar number w (i + 1) k' m m'
-goes_on number w i k k' step.Stopped m mid m' so t n = absurd (cc (n.0))
-goes_on number w i k k' step.PortEnd m mid m' so t n = absurd (cc (n.0))
-goes_on number w i k k' step.Refused m mid m' so t n = absurd (cc (n.0))
-goes_on number w i k k' step.On m mid m' so t n =
+goes_on : (w i k k' : ℕ) (s : Step) (m mid m' : Moment Version) → IsSoFar w i k m mid → IsTurned w s mid m' → IsNextEnd s k k' None → IsSoFar w (i + 1) k' m m'
+goes_on w i k k' step.Stopped m mid m' so t n = absurd (cc (n.0))
+goes_on w i k k' step.PortEnd m mid m' so t n = absurd (cc (n.0))
+goes_on w i k k' step.Refused m mid m' so t n = absurd (cc (n.0))
+goes_on w i k k' step.On m mid m' so t n =
     let is = on_is t.0.came t.2 in
-    goes_with number w i k k' m mid m' so t.0 t.1 is.0 (omega (arith, is.1, n.1)) (omega (arith, so.few, n.1))
-goes_on number w i k k' step.PortFailed m mid m' so t n =
+    goes_with w i k k' m mid m' so t.0 t.1 is.0 (omega (arith, is.1, n.1)) (omega (arith, so.few, n.1))
+goes_on w i k k' step.PortFailed m mid m' so t n =
     let is = failed_is t.0.came t.2 in
-    goes_with number w i k k' m mid m' so t.0 t.1 is.0 (omega (arith, is.1, n.0)) (not_eighth k k' n.0 n.1 so.few)
+    goes_with w i k k' m mid m' so t.0 t.1 is.0 (omega (arith, is.1, n.0)) (not_eighth k k' n.0 n.1 so.few)
 
 -- the lane ends with a turn
-ends_with : {T : Type 0} (number : T → ℕ) (w i k turns : ℕ) (e x : Ended) (m mid m' : Moment Version T) (so : IsSoFar number w i k m mid) (t : Turn) → IsTurn replies number w t mid m' → i < turns → e ≡ x → IsLast x m' m'
-    → (length (so.log ++ t ∷ []) ≤ turns → IsEnd turns (so.log ++ t ∷ []) x) → IsServed number w turns m m' e
-ends_with number w i k turns e x m mid m' so t turn lt is last ending =
+ends_with : (w i k turns : ℕ) (e x : Ended) (m mid m' : Moment Version) (so : IsSoFar w i k m mid) (t : Turn) → IsTurn replies w t mid m' → i < turns → e ≡ x → IsLast x m' m'
+    → (length (so.log ++ t ∷ []) ≤ turns → IsEnd turns (so.log ++ t ∷ []) x) → IsServed w turns m m' e
+ends_with w i k turns e x m mid m' so t turn lt is last ending =
     let more = length-append so.log (t ∷ []) in
-    subst (λ (y : Ended). IsServed number w turns m m' y) (sym is)
+    subst (λ (y : Ended). IsServed w turns m m' y) (sym is)
     (record {
       log = so.log ++ t ∷ [];
       mid = m';
-      session = one_more replies number w so.log t m mid m' so.session turn;
+      session = one_more replies w so.log t m mid m' so.session turn;
       last = last;
       ending = ending (omega (arith, more, so.turns_are, lt));
     })
 
 -- the lane ends
-ends : {T : Type 0} (number : T → ℕ) (w i k k' turns : ℕ) (s : Step) (e : Ended) (m mid m' : Moment Version T) → i < turns → IsSoFar number w i k m mid → IsTurned number w s mid m' → IsNextEnd s k k' (Some e) → IsServed number w turns m m' e
-ends number w i k k' turns step.On e m mid m' lt so t n = absurd (cc (n.0))
-ends number w i k k' turns step.Stopped e m mid m' lt so t n =
+ends : (w i k k' turns : ℕ) (s : Step) (e : Ended) (m mid m' : Moment Version) → i < turns → IsSoFar w i k m mid → IsTurned w s mid m' → IsNextEnd s k k' (Some e) → IsServed w turns m m' e
+ends w i k k' turns step.On e m mid m' lt so t n = absurd (cc (n.0))
+ends w i k k' turns step.Stopped e m mid m' lt so t n =
     let is : e ≡ end.Stopped = cc (n.0) in
-    subst (λ (x : Ended). IsServed number w turns m m' x) (sym is) (record { log = so.log; mid = mid; session = so.session; last = t; ending = (so.calm, omega (arith, so.failures_are, so.few), omega (arith, so.turns_are, lt)) })
-ends number w i k k' turns step.PortEnd e m mid m' lt so t n =
-    ends_with number w i k turns e end.PortEnd m mid m' so t.0 t.1 lt (cc (n.0)) refl (λ short. (so.log, t.0, refl, so.calm, omega (arith, so.failures_are, so.few), end_is t.0.came t.2, short))
-ends number w i k k' turns step.Refused e m mid m' lt so t n =
-    ends_with number w i k turns e end.CellFault m mid m' so t.0 t.1 lt (cc (n.0)) refl (λ short. (so.log, t.0, refl, so.calm, omega (arith, so.failures_are, so.few), refused_is t.0.came t.2, short))
-ends number w i k k' turns step.PortFailed e m mid m' lt so t n =
+    subst (λ (x : Ended). IsServed w turns m m' x) (sym is) (record { log = so.log; mid = mid; session = so.session; last = t; ending = (so.calm, omega (arith, so.failures_are, so.few), omega (arith, so.turns_are, lt)) })
+ends w i k k' turns step.PortEnd e m mid m' lt so t n =
+    ends_with w i k turns e end.PortEnd m mid m' so t.0 t.1 lt (cc (n.0)) refl (λ short. (so.log, t.0, refl, so.calm, omega (arith, so.failures_are, so.few), end_is t.0.came t.2, short))
+ends w i k k' turns step.Refused e m mid m' lt so t n =
+    ends_with w i k turns e end.CellFault m mid m' so t.0 t.1 lt (cc (n.0)) refl (λ short. (so.log, t.0, refl, so.calm, omega (arith, so.failures_are, so.few), refused_is t.0.came t.2, short))
+ends w i k k' turns step.PortFailed e m mid m' lt so t n =
     let is = failed_is t.0.came t.2 in
     let here = eighth k k' e n.0 n.1 in
-    ends_with number w i k turns e end.PortFault m mid m' so t.0 t.1 lt here.0 refl (λ short. (so.log, t.0, refl, calm_more so.log t.0 so.calm is.0, omega (arith, so.failures_are, n.0, here.1), is.1, short))
+    ends_with w i k turns e end.PortFault m mid m' so t.0 t.1 lt here.0 refl (λ short. (so.log, t.0, refl, calm_more so.log t.0 so.calm is.0, omega (arith, so.failures_are, n.0, here.1), is.1, short))
 
 -- all turns were made
-pub all_spent : {T : Type 0} (number : T → ℕ) (w i k turns : ℕ) (m m' : Moment Version T) → i ≡ turns → IsSoFar number w i k m m' → IsServed number w turns m m' end.Spent
-all_spent number w i k turns m m' is so = record { log = so.log; mid = m'; session = so.session; last = refl; ending = (so.calm, omega (arith, so.failures_are, so.few), so.turns_are ∙ is) }
+pub all_spent : (w i k turns : ℕ) (m m' : Moment Version) → i ≡ turns → IsSoFar w i k m m' → IsServed w turns m m' end.Spent
+all_spent w i k turns m m' is so = record { log = so.log; mid = m'; session = so.session; last = refl; ending = (so.calm, omega (arith, so.failures_are, so.few), so.turns_are ∙ is) }
 
 -- the same, where the worker's number is told by an equation
-pub goes_on_by : {T : Type 0} (number : T → ℕ) (w w' i k k' : ℕ) (s : Step) (m mid m' : Moment Version T) → w' ≡ w → IsSoFar number w i k m mid → IsTurned number w' s mid m' → IsNextEnd s k k' None → IsSoFar number w (i + 1) k' m m'
-goes_on_by number w w' i k k' s m mid m' same so t n = goes_on number w i k k' s m mid m' so (subst (λ x. IsTurned number x s mid m') same t) n
+pub goes_on_by : (w w' i k k' : ℕ) (s : Step) (m mid m' : Moment Version) → w' ≡ w → IsSoFar w i k m mid → IsTurned w' s mid m' → IsNextEnd s k k' None → IsSoFar w (i + 1) k' m m'
+goes_on_by w w' i k k' s m mid m' same so t n = goes_on w i k k' s m mid m' so (subst (λ x. IsTurned x s mid m') same t) n
 
-pub ends_by : {T : Type 0} (number : T → ℕ) (w w' i k k' turns : ℕ) (s : Step) (e : Ended) (m mid m' : Moment Version T) → w' ≡ w → i < turns → IsSoFar number w i k m mid → IsTurned number w' s mid m' → IsNextEnd s k k' (Some e) → IsServed number w turns m m' e
-ends_by number w w' i k k' turns s e m mid m' same lt so t n = ends number w i k k' turns s e m mid m' lt so (subst (λ x. IsTurned number x s mid m') same t) n
+pub ends_by : (w w' i k k' turns : ℕ) (s : Step) (e : Ended) (m mid m' : Moment Version) → w' ≡ w → i < turns → IsSoFar w i k m mid → IsTurned w' s mid m' → IsNextEnd s k k' (Some e) → IsServed w turns m m' e
+ends_by w w' i k k' turns s e m mid m' same lt so t n = ends w i k k' turns s e m mid m' lt so (subst (λ x. IsTurned x s mid m') same t) n

@@ -15,8 +15,8 @@ use Rattle.lane_model.proofs.Prefixes.{prefix_length}
 use Rattle.lane_model.proofs.Runs.{tells_on}
 use Rattle.name_workers.specs.declared.serve.Fared.{Fared}
 use Rattle.name_workers.specs.declared.serve.Fared.TheVariants as fared
-use Rattle.name_workers.specs.declared.serve.Step.{Step}
-use Rattle.name_workers.specs.declared.serve.Step.TheVariants as step
+use Rattle.name_workers.specs.declared.ending.Step.{Step}
+use Rattle.name_workers.specs.declared.ending.Step.TheVariants as step
 use Rattle.lane_model.specs.Replies.{replies}
 use Rattle.name_workers.proofs.Eyes.{rise_refused}
 use Rattle.name_workers.specs.Steps.{IsFared, IsTaken, IsTried, IsTurned, Wire, step_of, step_of_fared}
@@ -44,20 +44,20 @@ never_stopped (took d refused) e = absurd (cc e)
 never_stopped (took d (tried serial octets true)) e = absurd (cc e)
 never_stopped (took d (tried serial octets false)) e = absurd (cc e)
 
-turned : {T : Type 0} (number : T → ℕ) (w : ℕ) (s : Step) (m m' : Moment Version T) (t : Turn) → IsTurn replies number w t m m' → s ≡ step_of t.came → IsTurned number w s m m'
-turned number w step.Stopped m m' t q e = never_stopped t.came e
-turned number w step.On m m' t q e = (t, q, e)
-turned number w step.PortEnd m m' t q e = (t, q, e)
-turned number w step.PortFailed m m' t q e = (t, q, e)
-turned number w step.Refused m m' t q e = (t, q, e)
+turned : (w : ℕ) (s : Step) (m m' : Moment Version) (t : Turn) → IsTurn replies w t m m' → s ≡ step_of t.came → IsTurned w s m m'
+turned w step.Stopped m m' t q e = never_stopped t.came e
+turned w step.On m m' t q e = (t, q, e)
+turned w step.PortEnd m m' t q e = (t, q, e)
+turned w step.PortFailed m m' t q e = (t, q, e)
+turned w step.Refused m m' t q e = (t, q, e)
 
-pub turn_of : {T : Type 0} (number : T → ℕ) (w w1 n1 shown : ℕ) (s : Step) (e1 : Eyes Version) (m m' : Moment Version T) → shown + 1 ≡ length m.eyes.told → BothTell m.gate m'.gate (IsTurning shown Go) → m.gate_faults ≤ m'.gate_faults
-    → ((serials : List ℕ) × BothTell m.notes m'.notes (IsGiven number serials) × All (λ x. x < length e1.told) serials) → IsRise m.eyes e1 → e1.looks ≡ m.eyes.looks → e1.faults ≡ m.eyes.faults → w1 ≡ w → n1 ≡ m.count
-    → IsTaken w1 n1 m'.count s e1 m'.eyes (record { told = m.port; faults = m.port_faults }) (record { told = m'.port; faults = m'.port_faults }) → IsTurned number w s m m'
-turn_of number w w1 n1 shown s e1 m m' is gate gl given rise looks faults same count q =
+pub turn_of : (w w1 n1 shown : ℕ) (s : Step) (e1 : Eyes Version) (m m' : Moment Version) → shown + 1 ≡ length m.eyes.told → BothTell m.gate m'.gate (IsTurning shown Go) → m.gate_faults ≤ m'.gate_faults
+    → ((serials : List ℕ) × BothTell m.notes m'.notes (IsGiven serials) × All (λ x. x < length e1.told) serials) → IsRise m.eyes e1 → e1.looks ≡ m.eyes.looks → e1.faults ≡ m.eyes.faults → w1 ≡ w → n1 ≡ m.count
+    → IsTaken w1 n1 m'.count s e1 m'.eyes (record { told = m.port; faults = m.port_faults }) (record { told = m'.port; faults = m'.port_faults }) → IsTurned w s m m'
+turn_of w w1 n1 shown s e1 m m' is gate gl given rise looks faults same count q =
     let r = q.received in
     let longer = prefix_length m.eyes.told e1.told rise.told in
-    turned number w s m m' (record { shown = shown; notes = given.0; known = q.known; came = q.came }) (record {
+    turned w s m m' (record { shown = shown; notes = given.0; known = q.known; came = q.came }) (record {
       gate = gate;
       notes = given.1;
       port = r.port;

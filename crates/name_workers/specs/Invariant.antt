@@ -6,9 +6,9 @@ use Rattle.lane_model.specs.Sessions.{IsSession, Moment}
 use Rattle.lane_model.specs.Replies.{replies}
 
 -- so many turns were made from one moment to another, and so many calls of the port failed
-pub record IsSoFar {T : Type 0} (number : T → ℕ) (w turns fails : ℕ) (m mid : Moment Version T) : Type 0 where
+pub record IsSoFar (w turns fails : ℕ) (m mid : Moment Version) : Type 0 where
   pub log : List Turn
-  pub session : IsSession replies number w log m mid
+  pub session : IsSession replies w log m mid
   pub calm : AreCalm log
   pub failures_are : failures log ≡ fails
   pub few : fails < 8

@@ -1,16 +1,16 @@
 -- Inside this crate alone: the steps of a lane's turn.
-use Rattle.std.specs.Prelude.{◌≡◌, ℕ, ◌+◌, ◌<◌, ◌≤◌, ◌==◌, true, false, List, length, Option, None, Some, if◌then◌else◌}
+use Rattle.std.specs.Prelude.{◌≡◌, ℕ, ◌+◌, ◌<◌, ◌≤◌, true, false, List, length, Option}
 use Rattle.outside.specs.Faults.{BothTell, Rose, raised}
 use Rattle.outside.specs.Port.{Packet, Try, PortTold, trying}
 use Rattle.published_map.specs.Version.{Version}
+use Rattle.answer_core.specs.declared.way.Way.TheVariants.{Datagram}
 use Rattle.lane_model.specs.declared.ended.Ended.{Ended}
-use Rattle.lane_model.specs.declared.ended.Ended.TheVariants as end
 use Rattle.lane_model.specs.Turns.{Came, Fate, Turn, IsCame, count_after, fails_of, floor_after, is_refused, looks_of, port_after, idle, oversize, ended, failed, took, silent, refused, tried}
 use Rattle.lane_model.specs.Sessions.{Eyes, IsRise, IsTurn, IsStop, Moment, IsSession, IsEnd, IsLast}
 use Rattle.name_workers.specs.declared.serve.Fared.{Fared}
 use Rattle.name_workers.specs.declared.serve.Fared.TheVariants as fared
-use Rattle.name_workers.specs.declared.serve.Step.{Step}
-use Rattle.name_workers.specs.declared.serve.Step.TheVariants as step
+use Rattle.name_workers.specs.declared.ending.Step.{Step}
+use Rattle.name_workers.specs.declared.ending.Step.TheVariants as step
 use Rattle.lane_model.specs.Replies.{is_silent, replies}
 use Rattle.name_workers.specs.Worker.{IsLookRefused, IsReplied}
 
@@ -21,7 +21,7 @@ pub record Wire : Type 0 where
 
 -- the reply was tried
 pub record IsTried (w n : ℕ) (d : Packet) (e f : Eyes Version) (p q : Wire) (serial : ℕ) (octets : List ℕ) (t : Try) : Type 0 where
-  pub replied : IsReplied w n d.from.addr d.octets serial e f octets
+  pub replied : IsReplied w n d.from.addr d.octets Datagram serial e f octets
   pub looks : f.looks ≡ raised e.looks 1
   pub try_is : (t.octets ≡ octets) × (t.to ≡ d.from) × (t.serial ≡ serial)
   pub port : BothTell p.told q.told (λ b c. c ≡ trying t b)
@@ -75,22 +75,14 @@ pub record IsTaken (w n n' : ℕ) (s : Step) (e f : Eyes Version) (p q : Wire) :
   pub step : s ≡ step_of came
 
 -- what one turn does: the gate answered Stop, or a turn was made
-abbrev pub IsTurned : {T : Type 0} → (T → ℕ) → ℕ → Step → Moment Version T → Moment Version T → Type 0
-IsTurned number w step.Stopped m m' = IsStop m m'
-IsTurned number w s m m' = (t : Turn) × IsTurn replies number w t m m' × (s ≡ step_of t.came)
-
--- whether that ends the lane, and how many calls of the port failed
-abbrev pub IsNextEnd : Step → ℕ → ℕ → Option Ended → Type 0
-IsNextEnd step.Stopped k k' next = (next ≡ Some end.Stopped) × (k' ≡ k)
-IsNextEnd step.On k k' next = (next ≡ None) × (k' ≡ k)
-IsNextEnd step.PortEnd k k' next = (next ≡ Some end.PortEnd) × (k' ≡ k)
-IsNextEnd step.PortFailed k k' next = (k' ≡ k + 1) × (next ≡ (if k' == 8 then Some end.PortFault else None))
-IsNextEnd step.Refused k k' next = (next ≡ Some end.CellFault) × (k' ≡ k)
+abbrev pub IsTurned : ℕ → Step → Moment Version → Moment Version → Type 0
+IsTurned w step.Stopped m m' = IsStop m m'
+IsTurned w s m m' = (t : Turn) × IsTurn replies w t m m' × (s ≡ step_of t.came)
 
 -- What a call does: some turns, and then its end.
-pub record IsServed {T : Type 0} (number : T → ℕ) (w turns : ℕ) (m m' : Moment Version T) (result : Ended) : Type 0 where
+pub record IsServed (w turns : ℕ) (m m' : Moment Version) (result : Ended) : Type 0 where
   pub log : List Turn
-  pub mid : Moment Version T
-  pub session : IsSession replies number w log m mid
+  pub mid : Moment Version
+  pub session : IsSession replies w log m mid
   pub last : IsLast result mid m'
   pub ending : IsEnd turns log result

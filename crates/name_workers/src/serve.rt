@@ -1,28 +1,25 @@
 //! A lane's turns: the gate is asked, notes are learned, and a datagram is taken and answered.
-ghost use Rattle.std.specs.Prelude.{◌≡◌, ◌≤◌, ◌<◌, ◌+◌, ◌-◌, ℕ, length, List, All, IfSome, Option};
-ghost use Rattle.outside.specs.Faults.{BothTell, Rose, raised};
-ghost use Rattle.addr_text.specs.declared.address.Addr.{Addr};
-ghost use Rattle.outside.specs.Port.{PortTold, HasDue, Packet};
-ghost use Rattle.outside.specs.Notes.{NotesTold};
+ghost use Rattle.std.specs.Prelude.{◌≡◌, ◌-◌, IfSome, length};
+ghost use Rattle.outside.specs.Port.{HasDue};
 ghost use Rattle.lane_model.specs.Lanes.{following};
-ghost use Rattle.lane_model.specs.Sessions.{Eyes, IsLaneCall, IsRise, IsLast, IsEnd, IsSession, Moment};
-ghost use Rattle.lane_model.specs.Turns.{Turn, Fate, IsGiven, Came};
+ghost use Rattle.lane_model.specs.Sessions.{IsLaneCall};
 ghost use Rattle.lane_model.specs.Replies.{replies};
-ghost use Rattle.name_workers.specs.Steps.{IsFared, IsNextEnd, IsServed, IsTaken, IsTurned, step_of_fared};
+ghost use Rattle.name_workers.specs.Moments.{eyes_of, moment_of};
+ghost use Rattle.name_workers.specs.Steps.{IsFared, IsServed, IsTaken, IsTurned, step_of_fared};
 
+use crate::ending::{Step, next_end};
+use crate::learning::learn_all;
 use crate::worker::Worker;
 use addr_text::Peer;
+use answer_core::Way;
 use arrayvec::ArrayVec;
 use lane_model::Ended;
 use map_cell::{CellFault, Door, Naming, Note};
-use outside::{Arrival, Gate, LARGEST_DATAGRAM, Notes, Port, Sending, Turning};
+use outside::{Arrival, Gate, LARGEST_DATAGRAM, Notes, Numbered, Port, Sending, Turning};
 
 /// The room for a datagram: one octet more than the longest that is answered, so that a port sees a longer one without a
 /// copy of its own.
 const BUFFER: usize = LARGEST_DATAGRAM + 1;
-
-/// How many failed calls of a port end a lane.
-const MOST_FAILURES: u8 = 8;
 
 /// What became of a datagram.
 #[derive(Clone, Copy)]
@@ -31,16 +28,6 @@ pub(crate) enum Fared {
     Refused,
     Sent,
     Failed,
-}
-
-/// What became of a turn.
-#[derive(Clone, Copy)]
-pub(crate) enum Step {
-    Stopped,
-    On,
-    PortEnd,
-    PortFailed,
-    Refused,
 }
 
 /// Answers the datagram that was taken last.
@@ -53,40 +40,20 @@ fn answer_one<J: Naming, P: Port, D: Door>(
 ) -> Fared
     requires due { IfSome (P.told port.old) HasDue }
     ensures fared { IsFared worker.old.number worker.old.count (record { octets = octets.now; from = from }) result
-        (record { seen = worker.old.viewer.seen; told = worker.old.viewer.told; looks = D.looks door.old; greatest = D.greatest door.old; faults = D.faults door.old })
-        (record { seen = worker.new.viewer.seen; told = worker.new.viewer.told; looks = D.looks door.new; greatest = D.greatest door.new; faults = D.faults door.new })
+        (eyes_of D.looks D.greatest D.faults worker.old.viewer door.old)
+        (eyes_of D.looks D.greatest D.faults worker.new.viewer door.new)
         (record { told = P.told port.old; faults = P.faults port.old }) (record { told = P.told port.new; faults = P.faults port.new }) }
     ensures count { (worker.new.count ≡ following worker.old.count) × (worker.new.number ≡ worker.old.number) }
     ensures asked { D.asked door.new ≡ D.asked door.old }
 {
     let mut out = ArrayVec::new();
-    match worker.answer(door, from.addr, octets, &mut out) {
+    match worker.answer(door, from.addr, octets, Way::Datagram, &mut out) {
         Err(CellFault) => Fared::Refused,
         Ok(None) => Fared::Silent,
         Ok(Some(serial)) => match port.send(out.as_slice(), from, serial) {
             Sending::Sent => Fared::Sent,
             Sending::Failed => Fared::Failed,
         },
-    }
-}
-
-/// Learns all notes that are there.
-fn learn_all<J: Naming, D: Door, N: Notes<Note = Note<J>>>(
-    worker: &mut Worker<J>,
-    door: &mut D,
-    notes: &mut N,
-)
-    ensures given { (serials : List ℕ) × BothTell (N.told notes.old) (N.told notes.new) (IsGiven (λ n. length n.front - 1) serials) × All (λ s. s < length worker.new.viewer.told) serials }
-    ensures rise { IsRise
-        (record { seen = worker.old.viewer.seen; told = worker.old.viewer.told; looks = D.looks door.old; greatest = D.greatest door.old; faults = D.faults door.old })
-        (record { seen = worker.new.viewer.seen; told = worker.new.viewer.told; looks = D.looks door.new; greatest = D.greatest door.new; faults = D.faults door.new }) }
-    ensures looks { D.looks door.new ≡ D.looks door.old }
-    ensures faults { D.faults door.new ≡ D.faults door.old }
-    ensures same { (worker.new.viewer.seen ≡ worker.old.viewer.seen) × (worker.new.count ≡ worker.old.count) × (worker.new.number ≡ worker.old.number) }
-    ensures asked { D.asked door.new ≡ D.asked door.old }
-{
-    while let Some(note) = notes.next() {
-        worker.learn(door, &note);
     }
 }
 
@@ -110,8 +77,8 @@ fn take_one<J: Naming, P: Port, D: Door>(
     buffer: &mut [u8; BUFFER],
 ) -> Step
     ensures taken { IsTaken worker.old.number worker.old.count worker.new.count result
-        (record { seen = worker.old.viewer.seen; told = worker.old.viewer.told; looks = D.looks door.old; greatest = D.greatest door.old; faults = D.faults door.old })
-        (record { seen = worker.new.viewer.seen; told = worker.new.viewer.told; looks = D.looks door.new; greatest = D.greatest door.new; faults = D.faults door.new })
+        (eyes_of D.looks D.greatest D.faults worker.old.viewer door.old)
+        (eyes_of D.looks D.greatest D.faults worker.new.viewer door.new)
         (record { told = P.told port.old; faults = P.faults port.old }) (record { told = P.told port.new; faults = P.faults port.new }) }
     ensures number { worker.new.number ≡ worker.old.number }
     ensures asked { D.asked door.new ≡ D.asked door.old }
@@ -135,9 +102,10 @@ fn one_turn<J: Naming, P: Port, G: Gate, D: Door, N: Notes<Note = Note<J>>>(
     notes: &mut N,
     buffer: &mut [u8; BUFFER],
 ) -> Step
-    ensures turned { IsTurned (λ n. length n.front - 1) worker.old.number result
-        (record { port = P.told port.old; gate = G.told gate.old; notes = N.told notes.old; eyes = record { seen = worker.old.viewer.seen; told = worker.old.viewer.told; looks = D.looks door.old; greatest = D.greatest door.old; faults = D.faults door.old }; count = worker.old.count; port_faults = P.faults port.old; gate_faults = G.faults gate.old })
-        (record { port = P.told port.new; gate = G.told gate.new; notes = N.told notes.new; eyes = record { seen = worker.new.viewer.seen; told = worker.new.viewer.told; looks = D.looks door.new; greatest = D.greatest door.new; faults = D.faults door.new }; count = worker.new.count; port_faults = P.faults port.new; gate_faults = G.faults gate.new }) }
+    requires numbered { (note : _) → ⟦<Note<J> as Numbered>⟧.number note ≡ length note.front - 1 }
+    ensures turned { IsTurned worker.old.number result
+        (moment_of P.told P.faults G.told G.faults N.told port.old gate.old notes.old (eyes_of D.looks D.greatest D.faults worker.old.viewer door.old) worker.old.count)
+        (moment_of P.told P.faults G.told G.faults N.told port.new gate.new notes.new (eyes_of D.looks D.greatest D.faults worker.new.viewer door.new) worker.new.count) }
     ensures number { worker.new.number ≡ worker.old.number }
     ensures asked { D.asked door.new ≡ D.asked door.old }
 {
@@ -146,27 +114,6 @@ fn one_turn<J: Naming, P: Port, G: Gate, D: Door, N: Notes<Note = Note<J>>>(
     }
     learn_all(worker, door, notes);
     take_one(worker, port, door, buffer)
-}
-
-/// Whether a lane ends.
-fn next_end(step: Step, failed: &mut u8) -> Option<Ended>
-    requires { failed.old < 8 }
-    ensures { IsNextEnd step failed.old failed.new result }
-{
-    match step {
-        Step::On => None,
-        Step::Stopped => Some(Ended::Stopped),
-        Step::PortEnd => Some(Ended::PortEnd),
-        Step::Refused => Some(Ended::CellFault),
-        Step::PortFailed => {
-            *failed += 1;
-            if *failed == MOST_FAILURES {
-                Some(Ended::PortFault)
-            } else {
-                None
-            }
-        }
-    }
 }
 
 /// The turns of a lane.
@@ -178,9 +125,10 @@ fn serve_turns<J: Naming, P: Port, G: Gate, D: Door, N: Notes<Note = Note<J>>>(
     notes: &mut N,
     turns: u64,
 ) -> Ended
-    ensures served { IsServed (λ n. length n.front - 1) worker.old.number turns
-        (record { port = P.told port.old; gate = G.told gate.old; notes = N.told notes.old; eyes = record { seen = worker.old.viewer.seen; told = worker.old.viewer.told; looks = D.looks door.old; greatest = D.greatest door.old; faults = D.faults door.old }; count = worker.old.count; port_faults = P.faults port.old; gate_faults = G.faults gate.old })
-        (record { port = P.told port.new; gate = G.told gate.new; notes = N.told notes.new; eyes = record { seen = worker.new.viewer.seen; told = worker.new.viewer.told; looks = D.looks door.new; greatest = D.greatest door.new; faults = D.faults door.new }; count = worker.new.count; port_faults = P.faults port.new; gate_faults = G.faults gate.new }) result }
+    requires numbered { (note : _) → ⟦<Note<J> as Numbered>⟧.number note ≡ length note.front - 1 }
+    ensures served { IsServed worker.old.number turns
+        (moment_of P.told P.faults G.told G.faults N.told port.old gate.old notes.old (eyes_of D.looks D.greatest D.faults worker.old.viewer door.old) worker.old.count)
+        (moment_of P.told P.faults G.told G.faults N.told port.new gate.new notes.new (eyes_of D.looks D.greatest D.faults worker.new.viewer door.new) worker.new.count) result }
     ensures number { worker.new.number ≡ worker.old.number }
     ensures asked { D.asked door.new ≡ D.asked door.old }
 {
@@ -204,9 +152,11 @@ pub fn serve_port<J: Naming, P: Port, G: Gate, D: Door, N: Notes<Note = Note<J>>
     notes: &mut N,
     turns: u64,
 ) -> Ended
-    ensures call { IsLaneCall replies (λ n. length n.front - 1) worker.old.number turns
-        (record { port = P.told port.old; gate = G.told gate.old; notes = N.told notes.old; eyes = record { seen = worker.old.viewer.seen; told = worker.old.viewer.told; looks = D.looks door.old; greatest = D.greatest door.old; faults = D.faults door.old }; count = worker.old.count; port_faults = P.faults port.old; gate_faults = G.faults gate.old })
-        (record { port = P.told port.new; gate = G.told gate.new; notes = N.told notes.new; eyes = record { seen = worker.new.viewer.seen; told = worker.new.viewer.told; looks = D.looks door.new; greatest = D.greatest door.new; faults = D.faults door.new }; count = worker.new.count; port_faults = P.faults port.new; gate_faults = G.faults gate.new }) result }
+    // What notes tell of themselves are the serials of the maps that they name.
+    requires numbered { (note : _) → ⟦<Note<J> as Numbered>⟧.number note ≡ length note.front - 1 }
+    ensures call { IsLaneCall replies worker.old.number turns
+        (moment_of P.told P.faults G.told G.faults N.told port.old gate.old notes.old (eyes_of D.looks D.greatest D.faults worker.old.viewer door.old) worker.old.count)
+        (moment_of P.told P.faults G.told G.faults N.told port.new gate.new notes.new (eyes_of D.looks D.greatest D.faults worker.new.viewer door.new) worker.new.count) result }
     ensures number { worker.new.number ≡ worker.old.number }
     // No place is asked for.
     ensures asked { D.asked door.new ≡ D.asked door.old }

@@ -7,10 +7,11 @@ ghost use Rattle.published_map.specs.Version.{IsVersion};
 ghost use Rattle.lane_model.specs.Lanes.{draw, following};
 ghost use Rattle.lane_model.specs.Replies.{is_silent, reply_of};
 ghost use Rattle.name_workers.specs.Looked.{looked_by};
+ghost use Rattle.name_workers.specs.Moments.{eyes_of};
 ghost use Rattle.name_workers.specs.Worker.{IsAnswer};
 
 use addr_text::Addr;
-use answer_core::{reply, silent};
+use answer_core::{Way, reply, silent};
 use arrayvec::ArrayVec;
 use lane_model::{draw_of, next_number};
 use map_cell::{CellFault, Door, Naming, Note, Viewer};
@@ -25,28 +26,21 @@ pub struct Worker<J: Naming> {
     pub count: u64,
 }
 
-/// Whether octets have no reply.
-#[tactic(auto, unfolding(lane_model::specs::Replies::is_silent))]
-fn has_none(octets: &[u8]) -> bool
-    ensures { result ≡ is_silent octets.now }
-{
-    silent(octets)
-}
-
-/// The reply of a version to octets that have one.
+/// The reply of a version to octets that have one, by a way.
 fn reply_by(
     version: &MapVersion,
     from: Addr,
     octets: &[u8],
     draw: u64,
+    way: Way,
 ) -> ArrayVec<u8, LARGEST_REPLY>
     requires version { IsVersion version.now }
     requires spoken { is_silent octets.now ≡ false }
-    ensures reply { reply_of version.now from octets.now draw ≡ Some result.items }
+    ensures reply { reply_of version.now from octets.now draw way ≡ Some result.items }
     ensures short { length result.items ≤ LARGEST_REPLY }
 {
     let mut out = ArrayVec::new();
-    let _ = reply(version, from, octets, draw, &mut out);
+    let _ = reply(version, from, octets, draw, way, &mut out);
     out
 }
 
@@ -90,20 +84,22 @@ impl<J: Naming> Worker<J> {
         door.learn(&mut self.viewer, note);
     }
 
-    /// Answers a datagram by one map that is no older than what is known, and gives that map's serial; None where the
-    /// octets have no reply, and no look is made then. The buffer is cleared first.
+    /// Answers a datagram, or a message of a stream, by one map that is no older than what is known, and gives that map's
+    /// serial; None where the octets have no reply, and no look is made then. The buffer is cleared first.
     ///
     /// # Errors
     ///
     /// `CellFault` where the look was refused; what was seen and told stays.
+    #[tactic(auto, unfolding(lane_model::specs::Replies::is_silent))]
     pub fn answer<D: Door>(
         &mut self,
         door: &mut D,
         from: Addr,
         octets: &[u8],
+        way: Way,
         out: &mut ArrayVec<u8, LARGEST_REPLY>,
     ) -> Result<Option<u64>, CellFault>
-        ensures answer { IsAnswer self.old.number self.old.count from octets.now (record { seen = self.old.viewer.seen; told = self.old.viewer.told; looks = D.looks door.old; greatest = D.greatest door.old; faults = D.faults door.old }) (record { seen = self.new.viewer.seen; told = self.new.viewer.told; looks = D.looks door.new; greatest = D.greatest door.new; faults = D.faults door.new }) out.new.items result }
+        ensures answer { IsAnswer self.old.number self.old.count from octets.now way (eyes_of D.looks D.greatest D.faults self.old.viewer door.old) (eyes_of D.looks D.greatest D.faults self.new.viewer door.new) out.new.items result }
         ensures looks { D.looks door.new ≡ raised (D.looks door.old) (looked_by octets.now) }
         ensures count { (self.new.count ≡ following self.old.count) × (self.new.number ≡ self.old.number) }
         ensures short { length out.new.items ≤ LARGEST_REPLY }
@@ -112,15 +108,15 @@ impl<J: Naming> Worker<J> {
         let draw = draw_of(self.number, self.count);
         self.count = next_number(self.count);
         out.clear();
-        if has_none(octets) {
+        if silent(octets) {
             return Ok(None);
         }
         let (text, serial) = door.look(
             &mut self.viewer,
             |m: &MapVersion| -> (ArrayVec<u8, LARGEST_REPLY>, u64)
                 requires { IsVersion m.now × (is_silent octets.now ≡ false) }
-                ensures { (reply_of m.now from octets.entry.now draw ≡ Some result.0.items) × (length result.0.items ≤ LARGEST_REPLY) × (result.1 ≡ m.now.serial) }
-            { (reply_by(m, from, octets, draw), m.serial()) },
+                ensures { (reply_of m.now from octets.entry.now draw way ≡ Some result.0.items) × (length result.0.items ≤ LARGEST_REPLY) × (result.1 ≡ m.now.serial) }
+            { (reply_by(m, from, octets, draw, way), m.serial()) },
         )?;
         *out = text;
         Ok(Some(serial))

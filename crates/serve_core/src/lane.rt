@@ -92,13 +92,7 @@ impl LaneRow {
     }
 
     /// Takes a datagram that has no reply.
-    fn pass(
-        &mut self,
-        octets: Octets,
-        from: Peer,
-        serial: u64,
-        way: Way,
-    ) -> Result<(), NoMemory>
+    fn pass(&mut self, octets: Octets, from: Peer, serial: u64, way: Way) -> Result<(), NoMemory>
         ensures ok { OnOk result (self.new ≡ passed (record { octets = octets; from = from }) serial way self.old) }
         ensures err { OnErr result (self.new ≡ self.old) }
     {

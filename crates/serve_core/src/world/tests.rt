@@ -92,7 +92,13 @@ fn event_of(alloc: Global, topology: &Topology, tried: Try) -> Option<Event>
             Some(Event::Commit(batch, map))
         }
         Try::Tell(lane, serial) => Some(Event::Tell(lane, serial)),
-        Try::Take(lane, serial) => Some(Event::Take(lane, query(alloc)?, CLIENT, serial, Way::Datagram)),
+        Try::Take(lane, serial) => Some(Event::Take(
+            lane,
+            query(alloc)?,
+            CLIENT,
+            serial,
+            Way::Datagram,
+        )),
     }
 }
 

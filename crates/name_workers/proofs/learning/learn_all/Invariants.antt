@@ -1,12 +1,12 @@
-use Rattle.std.proofs.Common.{◌≡◌, ◌-◌, length}
+use Rattle.std.proofs.Common.{◌≡◌, length}
 use Rattle.lane_model.specs.Sessions.{IsRise}
 use Rattle.name_workers.specs.Given.{AreGivenSoFar}
-use Rattle.name_workers.proofs.serve.learn_all.Given as goal
+use Rattle.name_workers.specs.Moments.{eyes_of}
+use Rattle.name_workers.proofs.learning.learn_all.Given as goal
 
 abbrev pub invariant-loop-note : goal.invariant-loop-note
-invariant-loop-note g l = AreGivenSoFar (λ n. length n.front - 1) (g.N.Notes.told l.fn.notes) (g.N.Notes.told l.notes) (length l.worker.viewer.told)
-    × IsRise (record { seen = l.fn.worker.viewer.seen; told = l.fn.worker.viewer.told; looks = g.D.Door.looks l.fn.door; greatest = g.D.Door.greatest l.fn.door; faults = g.D.Door.faults l.fn.door })
-    (record { seen = l.worker.viewer.seen; told = l.worker.viewer.told; looks = g.D.Door.looks l.door; greatest = g.D.Door.greatest l.door; faults = g.D.Door.faults l.door })
+invariant-loop-note g l = AreGivenSoFar (g.N.Notes.told l.fn.notes) (g.N.Notes.told l.notes) (length l.worker.viewer.told)
+    × IsRise (eyes_of g.D.Door.looks g.D.Door.greatest g.D.Door.faults l.fn.worker.viewer l.fn.door) (eyes_of g.D.Door.looks g.D.Door.greatest g.D.Door.faults l.worker.viewer l.door)
     × (g.D.Door.looks l.door ≡ g.D.Door.looks l.fn.door) × (l.worker.viewer.seen ≡ l.fn.worker.viewer.seen) × (l.worker.count ≡ l.fn.worker.count) × (l.worker.number ≡ l.fn.worker.number) × (g.D.Door.asked l.door ≡ g.D.Door.asked l.fn.door) × (g.D.Door.faults l.door ≡ g.D.Door.faults l.fn.door)
 
 abbrev pub decreases-loop-note : goal.decreases-loop-note
