@@ -8,4 +8,5 @@ pub mod Scenes
 pub mod Feeding
 pub mod Coming
 pub mod Sessions
+pub mod Notes
 pub mod Laws

@@ -55,7 +55,7 @@ fn announce<R: Wait, X: Mapping, K: Sink>(
     }
     match say(line, out, &Saying::Published(serial)) {
         Put::Done => {
-            mapper.tell(rt);
+            let _told = mapper.tell(rt);
             Put::Done
         }
         Put::Failed => Put::Failed,

@@ -1,5 +1,6 @@
 //! A mapper that a feed works, with the row of notes beside it.
-ghost use Rattle.std.specs.Prelude.{◌≡◌, option_map};
+ghost use Rattle.std.specs.Prelude.{◌≡◌, ◌<◌, option_map, Some, slice_get};
+ghost use Rattle.outside.specs.Limits.{most_notes};
 ghost use Rattle.mapper.specs.Words.{map_text, reply_by, totals_of};
 
 use crate::maps::Maps;
@@ -8,45 +9,71 @@ use addr_text::Addr;
 use answer_core::Answer;
 use arrayvec::ArrayVec;
 use demand_feed::Batch;
-use map_cell::{Naming, NoteRow};
+use map_cell::{KeptNote, Naming, Note, NoteRow};
 use map_model::{Proposals, Steps};
 use no_memory::NoMemory;
-use outside::LARGEST_REPLY;
+use outside::{LARGEST_REPLY, MOST_NOTES};
 use std::sync::Wait;
 
-/// The published maps, and the row into which their notes go, from a cell on.
+/// The published maps, and the row into which their notes go, each into the cell of its serial.
 #[derive(Drop)]
 pub(crate) struct Feeding<'m, 'n, J: Naming> {
     maps: &'m mut Maps<J>,
     row: &'n NoteRow<J>,
-    at: u32,
 }
 
 impl<'m, 'n, J: Naming> Feeding<'m, 'n, J> {
-    /// From the row's first cell on.
+    /// Those maps, with that row.
     pub fn new(maps: &'m mut Maps<J>, row: &'n NoteRow<J>) -> Feeding<'m, 'n, J>
         ensures same { result.maps.ghost_name ≡ maps.entry.ghost_name }
         ensures now { result.maps.now ≡ maps.entry.now }
     {
-        Feeding { maps, row, at: 0 }
+        Feeding { maps, row }
     }
 }
 
-impl<J: Naming> Mapping for Feeding<'_, '_, J> {
+/// Puts a note into a cell, if it holds none, and shows what it holds then.
+fn put<'n, J: Naming, R: Wait>(
+    rt: &R,
+    row: &'n NoteRow<J>,
+    place: usize,
+    note: Note<J>,
+) -> KeptNote<'n, J>
+    requires { place < most_notes }
+    ensures { slice_get row.now place ≡ Some result.cell }
+{
+    match row.put_at(rt, place, note) {
+        Ok(kept) => kept,
+        Err((held, _note)) => held,
+    }
+}
+
+impl<'n, J: Naming> Mapping for Feeding<'_, 'n, J> {
+    type Kept = KeptNote<'n, J>;
+
+    ghost kept = { λ k. k };
+
     ghost newest = { λ f. f.maps.now.newest };
 
     ghost history = { λ f. f.maps.now.history };
 
     ghost lent = { λ f. f.maps.ghost_name };
 
+    ghost cells = { λ f. f.row.now };
+
     fn commit<R: Wait>(&mut self, rt: &R, batch: &Batch) -> Result<u64, NoMemory> {
         let mut steps = Steps::<Proposals>::new();
         self.maps.commit(rt, batch, &mut steps)
     }
 
-    fn tell<R: Wait>(&mut self, rt: &R) {
-        let note = self.maps.note();
-        let _ = self.row.put_shown(rt, &mut self.at, note);
+    fn tell<R: Wait>(&mut self, rt: &R) -> Option<KeptNote<'n, J>> {
+        let serial = self.maps.serial();
+        if serial < MOST_NOTES as u64 {
+            let note = self.maps.note();
+            Some(put(rt, self.row, serial as usize, note))
+        } else {
+            None
+        }
     }
 
     fn serial(&self) -> u64 {

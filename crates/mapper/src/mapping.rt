@@ -3,6 +3,7 @@ ghost use Rattle.std.specs.Prelude.{◌≡◌, ◌≢◌, ◌<◌, ◌-◌, ◌^
 ghost use Rattle.map_model.specs.Batch.{IsBatch};
 ghost use Rattle.published_map.specs.Version.{Version};
 ghost use Rattle.mapper.specs.Control.{IsNext};
+ghost use Rattle.mapper.specs.Notes.{IsToldOf};
 ghost use Rattle.mapper.specs.Words.{map_text, reply_by, totals_of};
 
 use crate::Totals;
@@ -17,6 +18,13 @@ use std::sync::Wait;
 pub trait Mapping {
     ghost use Rattle.std.specs.Prelude.{List, ℕ};
     ghost use Rattle.published_map.specs.Version.{Version};
+    ghost use Rattle.map_cell.specs.Rows.{KeptState};
+
+    /// What shows that a cell holds a note.
+    type Kept: Drop;
+
+    /// Which cell that is, and what its note names.
+    ghost kept: { Self.Kept → KeptState };
 
     /// The newest version.
     ghost newest: { Self → Version };
@@ -26,6 +34,9 @@ pub trait Mapping {
 
     /// Which mapper it works on, where that is lent to it.
     ghost lent: { Self → ℕ };
+
+    /// The cells by which it tells others of versions, one for each serial, by their names.
+    ghost cells: { Self → List ℕ };
 
     /// Publishes the version that a batch leads to, and answers its serial.
     fn commit<R: Wait>(&mut self, rt: &R, batch: &Batch) -> Result<u64, NoMemory>
@@ -37,11 +48,13 @@ pub trait Mapping {
         ensures same { OnErr result ((newest self.new ≡ newest self.old) × (history self.new ≡ history self.old)) }
         ensures lent { lent self.new ≡ lent self.old };
 
-    /// Tells those who look at maps of the newest one.
-    fn tell<R: Wait>(&mut self, rt: &R)
+    /// Tells those who look at maps of the newest one, and shows that the cell of its serial holds a note, where there is
+    /// such a cell.
+    fn tell<R: Wait>(&mut self, rt: &R) -> Option<Self::Kept>
         ensures newest { newest self.new ≡ newest self.old }
         ensures history { history self.new ≡ history self.old }
-        ensures lent { lent self.new ≡ lent self.old };
+        ensures lent { lent self.new ≡ lent self.old }
+        ensures told { IsToldOf (newest self.old).serial (cells self.old) (option_map kept result) };
 
     /// The newest serial.
     fn serial(&self) -> u64
