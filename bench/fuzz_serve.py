@@ -256,7 +256,7 @@ def receive(client, sent, records, kinds, counts, silent, wrong, flying):
         number = int.from_bytes(reply[:2])
         index = sent.what[number]
         sent.what[number] = -1
-        if index < 0 or silent[index] or len(reply) > 512:
+        if index < 0 or silent[index] or len(reply) > 1232:
             wrong.append(("a reply that is not due", index, reply.hex()))
         else:
             for column, value in zip(records, (index, sent.at[number], now, kinds.setdefault(reply[2:], len(kinds)))):

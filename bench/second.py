@@ -723,8 +723,8 @@ def replies(topology, found, client, octets):
         return None
     opcode, rd = octets[2] >> 3 & 15, octets[2] & 1
 
-    def header(aa, rcode, counts):
-        return octets[:2] + bytes([0x80 | opcode << 3 | aa << 2 | rd, rcode]) + b"".join(count.to_bytes(2) for count in counts)
+    def header(aa, rcode, counts, tc=0):
+        return octets[:2] + bytes([0x80 | opcode << 3 | aa << 2 | tc << 1 | rd, rcode]) + b"".join(count.to_bytes(2) for count in counts)
 
     def alone(rcode):
         return only(header(0, rcode, [0, 0, 0, 0]))
@@ -751,8 +751,8 @@ def answer(topology, found, client, header, question, name, kind, klass, opt):
     do = opt[3][2] & 0x80 if opt else 0
     subnet = None
 
-    def whole(aa, rcode, answers=(), authority=(), scope=None, extended=0):
-        reply = header(aa, rcode, [1, len(answers), len(authority), 1 if opt else 0]) + question + b"".join(answers) + b"".join(authority)
+    def whole(aa, rcode, answers=(), authority=(), scope=None, extended=0, tc=0):
+        reply = header(aa, rcode, [1, len(answers), len(authority), 1 if opt else 0], tc) + question + b"".join(answers) + b"".join(authority)
         if opt:
             option = b""
             if scope is not None and subnet is not None:
@@ -760,6 +760,12 @@ def answer(topology, found, client, header, question, name, kind, klass, opt):
                 option = b"\0\x08" + (4 + len(address)).to_bytes(2) + b"\0" + bytes([1 if family == 4 else 2, source, scope]) + address
             reply += b"\0\0\x29\x04\xd0" + bytes([extended, 0, do, 0]) + len(option).to_bytes(2) + option
         return reply
+
+    def fitting(records, scope):
+        """The reply with these records, or with none and TC, where it would be too long for a datagram."""
+        reply = whole(1, 0, records, scope=scope)
+        most = min(max(512, opt[2]), 1232) if opt else 512
+        return reply if len(reply) <= most else whole(1, 0, scope=scope, tc=1)
 
     if opt and opt[3][1] != 0:
         return only(whole(0, 0, extended=1))
@@ -794,16 +800,16 @@ def answer(topology, found, client, header, question, name, kind, klass, opt):
     if not choices:
         return only(whole(0, 2))
     kind = 28 if kind == 28 else 1
-    return Replies([(amount, service_reply(topology, whole, pool, kind, scope, nothing)) for amount, pool in choices])
+    return Replies([(amount, service_reply(topology, fitting, pool, kind, scope, nothing)) for amount, pool in choices])
 
 
-def service_reply(topology, whole, pool, kind, scope, nothing):
+def service_reply(topology, fitting, pool, kind, scope, nothing):
     """The reply where a pool is picked."""
     addresses = topology.addresses[pool][kind]
     if not addresses:
         return nothing
     records = [record(b"\xc0\x0c", kind, topology.zone["ttl"], number.to_bytes(bits_of(family) // 8)) for family, number in addresses]
-    return whole(1, 0, records, scope=scope)
+    return fitting(records, scope)
 
 
 def address_of(text):
