@@ -16,8 +16,12 @@ group = [
 ]
 ";
 
+/// Its map, as a text and as octets.
 const LIMITED_MAP: &str =
     "glb map 2\nplace g1 A 5\nplace g1 B 3\nplace g2 A 5\nplace g2 B 2\nlimit g1 A\nfull g2 A A\nfull g2 B R\nend\n";
+
+const LIMITED_OCTETS: &[u8] =
+    b"glb map 2\nplace g1 A 5\nplace g1 B 3\nplace g2 A 5\nplace g2 B 2\nlimit g1 A\nfull g2 A A\nfull g2 B R\nend\n";
 
 /// The same with one limit too few, and with a limit of 0.
 const ONE_LIMIT: &str =
@@ -51,7 +55,7 @@ const MAPPED: &[Row] = &[
 const CHECKED: &[Row] = &[
     (
         Topology(LIMITED),
-        Bytes(LIMITED_MAP.as_bytes()),
+        Bytes(LIMITED_OCTETS),
         Status::Ok,
         "good\n",
         2,
@@ -108,7 +112,7 @@ fn limits(rt: HostRuntime) -> Result<(), Fail> {
 fn repairs_within_limits(rt: HostRuntime) -> Result<(), Fail> {
     let held = [
         ("t", Topology(LIMITED)),
-        ("m", Bytes(LIMITED_MAP.as_bytes())),
+        ("m", Bytes(LIMITED_OCTETS)),
         ("c", Bytes(b"demand g1 4\n")),
     ];
     let came = came_of(&rt, &["glb", "repair", "t", "m", "c"], &held)?;

@@ -21,7 +21,7 @@ const MAP_FAULTS: &[(&[u8], &str)] = &[
     ),
     (b"\n", "bad line at line 1"),
     (b"end\n", "bad line at line 1"),
-    (b"glb map 2\nend\n", "bad line at line 1"),
+    (b"glb map 3\nend\n", "bad line at line 1"),
     (b"place g9 A 1\n", "bad line at line 1"),
     (b"glb map 1\nglb map 1\nend\n", "bad line at line 2"),
     (b"glb map 1\nend\n\n", "bad line at line 3"),
