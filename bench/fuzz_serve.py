@@ -9,7 +9,8 @@
 
 A reply may be of map S where the commit that led to S was written before the reply came, and neither a later map was
 said to be published, nor a later one shown by a reply, before the query was sent. It has to be octet for octet what
-the second reading makes of such a map and the datagram, for one of the pools that hold units of the client's group.
+the second reading makes of such a map and the datagram, for one of the pools that hold units of the client's group or
+of its class for the service.
 A datagram that is due no reply must get none, and each other one must get one. The control text of the whole feed is
 compared too, and each map has to be good.
 
@@ -75,6 +76,7 @@ name = "g1"
 demand = 8
 pools = ["A", "B"]
 scores = [1, 2]
+limits = [6, 10]
 prefixes = ["0.0.0.0/0", "::/0"]
 [[group]]
 name = "g2"
@@ -88,8 +90,16 @@ demand = 4
 pools = ["C"]
 scores = [6]
 prefixes = ["198.51.100.128/25", "203.0.113.0/24", "2001:db8:1:8000::/49"]
+[[class]]
+name = "g2img"
+group = "g2"
+service = "IMG"
+demand = 3
+pools = ["B", "C"]
+scores = [1, 2]
+limits = [2, 3]
 """
-STATES = [("capacity", "A", [0, 10]), ("capacity", "R", [4, 15]), ("capacity", "C", [0, 6]), ("demand", "g2", [4, 8]), ("demand", "g3", [1, 4])]
+STATES = [("capacity", "A", [0, 10]), ("capacity", "R", [4, 15]), ("capacity", "C", [0, 6]), ("demand", "g2", [4, 8]), ("demand", "g3", [1, 4]), ("demand", "g2img", [1, 3])]
 
 
 # Datagrams.
@@ -246,7 +256,7 @@ def receive(client, sent, records, kinds, counts, silent, wrong, flying):
         number = int.from_bytes(reply[:2])
         index = sent.what[number]
         sent.what[number] = -1
-        if index < 0 or silent[index] or len(reply) > 512:
+        if index < 0 or silent[index] or len(reply) > 1232:
             wrong.append(("a reply that is not due", index, reply.hex()))
         else:
             for column, value in zip(records, (index, sent.at[number], now, kinds.setdefault(reply[2:], len(kinds)))):

@@ -1,11 +1,12 @@
 #!/usr/bin/env python3
 """Writes a topology and a good map of it, for benchmarks.
 
-    generate.py GROUPS POOLS LEVELS PERCENT TOPOLOGY [MAP]
+    generate.py [--limits] GROUPS POOLS LEVELS PERCENT TOPOLOGY [MAP]
 
 GROUPS groups each rank sixteen of POOLS pools. With LEVELS 1 every pool is a
 root; with more, each node of a level has two children on the level below, and
 the pools are the lowest level. The pools together hold PERCENT of the demand.
+With --limits every third group has limits, each from 1 to its demand.
 The map is computed here by deferred acceptance with a heap for each node, apart
 from glb's own code, so that `glb check` has something to judge. The same
 arguments give the same files.
@@ -16,6 +17,7 @@ import random
 import sys
 
 LIST = 16
+NO_LIMIT = (1 << 32) - 1
 ZONE = """[zone]
 apex = "cdn.example"
 mname = "ns1.ops.example"
@@ -55,7 +57,7 @@ def prefixes_of(group, count):
 
 
 class World:
-    def __init__(self, groups, pools, levels, percent):
+    def __init__(self, groups, pools, levels, percent, has_limits):
         draw = random.Random(20151)
         self.parents, self.first_pool = make_nodes(pools, levels)
         nodes = len(self.parents)
@@ -81,6 +83,14 @@ class World:
             for _ in range(groups)
         ]
         self.scores = [[draw.randrange(1 << 32) for _ in l] for l in self.lists]
+        self.limits = [
+            [draw.randint(1, demand) for _ in l] if has_limits and g % 3 == 0 else None
+            for g, (l, demand) in enumerate(zip(self.lists, self.demand))
+        ]
+
+    def limit(self, group, place):
+        limits = self.limits[group]
+        return NO_LIMIT if limits is None else limits[place]
 
     def accept(self):
         """Deferred acceptance: amounts by (group, place), and loads."""
@@ -98,8 +108,13 @@ class World:
             k = pointer[g]
             if free[g] == 0 or k == len(self.lists[g]):
                 continue
+            units = min(free[g], self.limit(g, k) - self.amount[g][k])
+            if units == 0:
+                pointer[g] += 1
+                work.append(g)
+                continue
             proposals += 1
-            units, free[g] = free[g], 0
+            free[g] -= units
             pool = self.lists[g][k]
             if self.amount[g][k] == 0:
                 seat = (-self.scores[g][k], -g, -pool, k)
@@ -151,6 +166,8 @@ class World:
                 out.write('[[group]]\nname = "g%d"\ndemand = %d\n' % (g, self.demand[g]))
                 out.write("pools = [%s]\n" % ", ".join('"n%d"' % p for p in pools))
                 out.write("scores = [%s]\n" % ", ".join(str(s) for s in self.scores[g]))
+                if self.limits[g] is not None:
+                    out.write("limits = [%s]\n" % ", ".join(str(s) for s in self.limits[g]))
                 prefixes = ", ".join('"%s"' % p for p in prefixes_of(g, count))
                 out.write("prefixes = [%s]\n" % prefixes)
 
@@ -158,7 +175,7 @@ class World:
         full = [self.load[n] == self.capacity[n] for n in range(len(self.parents))]
         worst = [self.worst_key(n) for n in range(len(self.parents))]
         with open(path, "w") as out:
-            out.write("glb map 1\n")
+            out.write("glb map 2\n")
             for g, amounts in enumerate(self.amount):
                 for k, amount in enumerate(amounts):
                     if amount:
@@ -170,6 +187,9 @@ class World:
                     if placed >= self.demand[g]:
                         break
                     pool = self.lists[g][k]
+                    if amount == self.limit(g, k):
+                        out.write("limit g%d n%d\n" % (g, pool))
+                        continue
                     key = (self.scores[g][k], g, pool)
                     for n in self.paths[pool]:
                         if full[n] and (worst[n] is None or worst[n] <= key):
@@ -181,13 +201,14 @@ class World:
 
 
 def main():
-    groups, pools, levels, percent = map(int, sys.argv[1:5])
-    world = World(groups, pools, levels, percent)
-    world.write_topology(sys.argv[5])
-    if len(sys.argv) == 6:
+    has_limits = "--limits" in sys.argv
+    words = [word for word in sys.argv[1:] if word != "--limits"]
+    world = World(*map(int, words[:4]), has_limits)
+    world.write_topology(words[4])
+    if len(words) == 5:
         return
     proposals = world.accept()
-    world.write_map(sys.argv[6])
+    world.write_map(words[5])
     unplaced = sum(world.demand) - sum(map(sum, world.amount))
     print("%d proposals, %d units unplaced" % (proposals, unplaced))
 

@@ -60,6 +60,7 @@ name = "g"
 demand = 8
 pools = ["A", "B"]
 scores = [1, 2]
+limits = [5, 10]
 prefixes = ["0.0.0.0/0", "::/0"]
 [[group]]
 name = "h"
@@ -67,8 +68,16 @@ demand = 8
 pools = ["A", "B"]
 scores = [3, 4]
 prefixes = ["198.51.100.0/24"]
+[[class]]
+name = "hw"
+group = "h"
+service = "w"
+demand = 2
+pools = ["B"]
+scores = [1]
+limits = [3]
 """
-MAP = b"glb map 1\nplace g A 8\nplace h A 2\nplace h B 5\nfull h A A\nfull h B R\nend\n"
+MAP = b"glb map 2\nplace g A 5\nplace g B 3\nplace h A 5\nplace hw B 2\nlimit g A\nfull h A A\nfull h B R\nend\n"
 CHANGES = b"demand g 6\ncapacity A 9\n"
 FEED = b"demand h 4\ncommit\nask 198.51.100.7 123401000001000000000000017701630265780000010001\nshow\ncapacity A 3\ncommit\nstop\n"
 
@@ -197,19 +206,19 @@ def words(_):
     for number in range(len(lines)):
         for j in range(number):
             yield case(f"lines {j} and {number} gone", lines[:j] + lines[j + 1 : number] + lines[number + 1 :])
-    for more in [b"nodes = 1\n", b"[other]\n", b"[zone.more]\n", b"node = 1\n", b"[[zone]]\n", b"[[group]]\n", b"[[node]]\n", b"[node]\n"]:
+    for more in [b"nodes = 1\n", b"[other]\n", b"[zone.more]\n", b"node = 1\n", b"[[zone]]\n", b"[[group]]\n", b"[[node]]\n", b"[node]\n", b"[[class]]\n", b"[class]\n"]:
         yield case(f"{more} in front", [more] + lines)
         yield case(f"{more} behind", lines + [more])
 
 
 def world(zone=(), nodes=(), groups=()):
-    """The topology with these lines in place of the zone's, the nodes and the groups where there are any."""
-    parts = re.split(rb"(?=\[\[node\]\]|\[\[group\]\])", TOPOLOGY)
+    """The topology with these lines in place of the zone's, the nodes, and the groups and classes where there are any."""
+    parts = re.split(rb"(?=\[\[node\]\]|\[\[group\]\]|\[\[class\]\])", TOPOLOGY)
     head = parts[0]
     for key, value in dict(zone).items():
         head = re.sub(rb"(?m)^" + key.encode() + rb" = .*$", f"{key} = {value}".encode(), head)
     old_nodes = b"".join(p for p in parts if p.startswith(b"[[node]]"))
-    old_groups = b"".join(p for p in parts if p.startswith(b"[[group]]"))
+    old_groups = b"".join(p for p in parts if p.startswith((b"[[group]]", b"[[class]]")))
     return head + (b"".join(nodes) or old_nodes) + (b"".join(groups) or old_groups)
 
 
@@ -217,21 +226,26 @@ def node(name, capacity=1, parent=None, pool=False, more=""):
     return f'[[node]]\nname = "{name}"\ncapacity = {capacity}\n{f"parent = {chr(34)}{parent}{chr(34)}{chr(10)}" if parent else ""}{"pool = true" if pool else ""}\n{more}\n'.encode()
 
 
-def group(name, demand=1, pools=("A",), scores=None, prefixes=()):
-    def texts(items):
-        return "[" + ", ".join(f'"{item}"' for item in items) + "]"
+def quoted(items):
+    return "[" + ", ".join(f'"{item}"' for item in items) + "]"
 
+
+def asking(demand, pools, scores, limits):
     scores = [1] * len(pools) if scores is None else scores
-    return f'[[group]]\nname = "{name}"\ndemand = {demand}\npools = {texts(pools)}\nscores = {scores}\nprefixes = {texts(prefixes)}\n'.encode()
+    return f"demand = {demand}\npools = {quoted(pools)}\nscores = {scores}\n" + (f"limits = {limits}\n" if limits is not None else "")
+
+
+def group(name, demand=1, pools=("A",), scores=None, prefixes=(), limits=None):
+    return f'[[group]]\nname = "{name}"\n{asking(demand, pools, scores, limits)}prefixes = {quoted(prefixes)}\n'.encode()
+
+
+def traffic_class(name, owner, service, demand=1, pools=("A",), scores=None, limits=None):
+    return f'[[class]]\nname = "{name}"\ngroup = "{owner}"\nservice = "{service}"\n{asking(demand, pools, scores, limits)}'.encode()
 
 
 DEFAULTS = ["0.0.0.0/0", "::/0"]
 A = node("A", 5, pool=True)
 FIRST = group("g", prefixes=DEFAULTS)
-
-
-def quoted(items):
-    return "[" + ", ".join(f'"{item}"' for item in items) + "]"
 
 
 def long_name(octets):
@@ -262,7 +276,7 @@ def small_limits():
     for count in [0, 1, 16, 17]:
         names = [f"p{i}" for i in range(count)]
         yield "topology", f"{count} pools", world(nodes=[node(f"p{i}", 1, pool=True) for i in range(max(count, 1))], groups=[group("g", 20, names, prefixes=DEFAULTS)])
-    for count in [0, 6, 7]:
+    for count in [0, 40, 41]:
         a, aaaa = quoted(f"192.0.2.{i}" for i in range(count)), quoted(f"2001:db8::{i}" for i in range(count))
         yield "topology", f"{count} addresses", world(nodes=[node("A", 5, pool=True, more=f"a = {a}\naaaa = {aaaa}")], groups=[FIRST])
     for demand in [0, 1, 2**32 - 1, 2**32, 2**48]:
@@ -271,11 +285,24 @@ def small_limits():
         yield "topology", f"capacity {capacity}", world(nodes=[node("A", capacity, pool=True)], groups=[FIRST])
     for score in [-1, 0, 2**32 - 1, 2**32]:
         yield "topology", f"score {score}", world(nodes=[A], groups=[group("g", scores=[score], prefixes=DEFAULTS)])
+    for limit in [-1, 0, 1, 2**32 - 1, 2**32]:
+        yield "topology", f"limit {limit}", world(nodes=[A], groups=[group("g", 9, limits=[limit], prefixes=DEFAULTS)])
+        yield "topology", f"limit {limit} of a class", world(nodes=[A], groups=[FIRST, traffic_class("c", "g", "w", 9, limits=[limit])])
+    for count in [0, 1, 2, 3]:
+        yield "topology", f"{count} limits", world(nodes=[A, node("B", pool=True)], groups=[group("g", 9, ["A", "B"], limits=[1] * count, prefixes=DEFAULTS)])
+    for length in [0, 1, 32, 33]:
+        yield "topology", f"a class's name of {length} octets", world(nodes=[A], groups=[FIRST, traffic_class("n" * length, "g", "v")])
+    for name, owner, service in itertools.product(["c", "d", "g", "h"], ["g", "h", "c", "G"], ["w", "W", "v", "x", ""]):
+        classes = [traffic_class("c", "g", "w"), traffic_class(name, owner, service)]
+        yield "topology", f"a class {name} of {owner} and {service}", world(nodes=[A], groups=[FIRST, group("h"), *classes])
     for key, end in second.ZONE_RANGES.items():
         for value in [-1, 0, end - 1, end]:
             yield "topology", f"{key} {value}", world(zone={key: value})
     for amount in ["0", "1", "08", str(2**32 - 1), str(2**32), "1" * 20]:
-        yield "map", f"amount {amount}", MAP.replace(b"A 8", b"A " + amount.encode())
+        yield "map", f"amount {amount}", MAP.replace(b"A 5", b"A " + amount.encode(), 1)
+    # in the first version limits have no line
+    older = MAP.replace(b"map 2", b"map 1")
+    yield from (("map", "the first version", text) for text in [older, older.replace(b"limit g A\n", b""), older.replace(b"limit g A\n", b"limit i A\n")])
 
 
 def feed_limits():
@@ -306,6 +333,8 @@ def large(_):
         yield "topology", f"{count} nodes", world(nodes=[A] + [node(f"n{i}") for i in range(count - 1)], groups=[FIRST])
     for count in [65535, 65536, 65537]:
         yield "topology", f"{count} groups", world(nodes=[A], groups=[FIRST] + [group(f"g{i}") for i in range(count - 1)])
+        units = [group(f"g{i}") for i in range(count - 3)] + [traffic_class(f"c{i}", "g", s) for i, s in enumerate("wv")]
+        yield "topology", f"{count} groups and classes", world(nodes=[A], groups=[FIRST] + units)
     for count in [262143, 262144, 262145]:
         rest = [f"{10 + i // 65536}.{i // 256 % 256}.{i % 256}.0/24" for i in range(count - 2)]
         yield "topology", f"{count} prefixes", world(nodes=[A], groups=[group("g", prefixes=DEFAULTS + rest[:1000]), group("h", prefixes=rest[1000:])])

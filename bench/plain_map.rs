@@ -3,14 +3,15 @@
 //!     plain_map TOPOLOGY [MAP]      mapping's seconds of processor on standard error, and the map into MAP
 //!
 //! TOPOLOGY is one that generate.py wrote: each key stands on a line of its own. Groups offer their free units in
-//! turn, at the first place of their list that has not turned them away; a node that holds too much gives up units of
-//! the worst offer under it. Build it by `rustc -O`.
+//! turn, at the first place of their list that has not turned them away, and no more than the place's limit; a node that
+//! holds too much gives up units of the worst offer under it. Build it by `rustc -O`.
 
 use std::collections::{BinaryHeap, VecDeque};
 use std::fmt::Write;
 use std::{env, fs};
 
 const PLACES: usize = 16;
+const NO_LIMIT: u64 = u32::MAX as u64;
 
 /// Score, group, pool and place: the greatest is the worst.
 type Seat = (u32, u32, u32, u8);
@@ -27,6 +28,7 @@ struct World {
     lens: Vec<u8>,
     pools: Vec<u32>,
     scores: Vec<u32>,
+    limits: Vec<u64>,
 }
 
 impl World {
@@ -82,6 +84,13 @@ fn read(text: &str) -> World {
                 let at = world.scores.len();
                 world.scores.extend(items(value).map(|score| score.parse::<u32>().unwrap()));
                 world.scores.resize(at + PLACES, 0);
+                world.limits.resize(at + PLACES, NO_LIMIT);
+            }
+            "limits" => {
+                let at = world.limits.len() - PLACES;
+                for (place, limit) in items(value).enumerate() {
+                    world.limits[at + place] = limit.parse().unwrap();
+                }
             }
             _ => {}
         }
@@ -142,11 +151,12 @@ impl Held {
         let place = self.pointers[group];
         let at = group * PLACES + place as usize;
         let seat = world.seat(group, place);
-        if self.is_refused(world, seat) {
+        let units = self.free[group].min(world.limits[at] - self.amounts[at]);
+        if units == 0 || self.is_refused(world, seat) {
             self.pointers[group] += 1;
             return;
         }
-        let units = std::mem::take(&mut self.free[group]);
+        self.free[group] -= units;
         if self.amounts[at] == 0 {
             for &node in world.path(seat.2) {
                 self.heaps[node as usize].push(seat);
@@ -183,9 +193,10 @@ fn map(world: &World) -> Held {
     held
 }
 
-/// The names: each wanted place with the first node of its path that is full of offers ranked at least as high.
+/// The names: each wanted place with the first node of its path that is full of offers ranked at least as high, or with
+/// none where its limit is full.
 #[inline(never)]
-fn names(world: &World, held: &mut Held) -> Vec<(u32, u8, u32)> {
+fn names(world: &World, held: &mut Held) -> Vec<(u32, u8, Option<u32>)> {
     let worst: Vec<_> = (0..world.capacities.len()).map(|node| held.worst(node)).collect();
     let mut names = Vec::new();
     for group in 0..world.demands.len() {
@@ -200,15 +211,20 @@ fn names(world: &World, held: &mut Held) -> Vec<(u32, u8, u32)> {
                 let n = node as usize;
                 held.loads[n] == world.capacities[n] && worst[n].is_none_or(|worst| worst <= seat)
             };
+            let at = group * PLACES + place as usize;
+            if held.amounts[at] == world.limits[at] {
+                names.push((group as u32, place, None));
+                continue;
+            }
             let node = world.path(seat.2).iter().copied().find(|&node| refuses(node));
-            names.push((group as u32, place, node.expect("some node refuses")));
+            names.push((group as u32, place, Some(node.expect("some node refuses"))));
         }
     }
     names
 }
 
-fn write(world: &World, held: &Held, names: &[(u32, u8, u32)]) -> String {
-    let mut text = String::from("glb map 1\n");
+fn write(world: &World, held: &Held, names: &[(u32, u8, Option<u32>)]) -> String {
+    let mut text = String::from("glb map 2\n");
     let pool = |group: usize, place: usize| &world.node_names[world.pools[group * PLACES + place] as usize];
     for (group, name) in world.group_names.iter().enumerate() {
         for place in 0..world.lens[group] as usize {
@@ -219,8 +235,11 @@ fn write(world: &World, held: &Held, names: &[(u32, u8, u32)]) -> String {
         }
     }
     for &(group, place, node) in names {
-        let group = group as usize;
-        writeln!(text, "full {} {} {}", world.group_names[group], pool(group, place as usize), world.node_names[node as usize]).unwrap();
+        let (name, pool) = (&world.group_names[group as usize], pool(group as usize, place as usize));
+        match node {
+            Some(node) => writeln!(text, "full {name} {pool} {}", world.node_names[node as usize]).unwrap(),
+            None => writeln!(text, "limit {name} {pool}").unwrap(),
+        }
     }
     text + "end\n"
 }

@@ -19,8 +19,9 @@ ghost use Rattle.published_map.specs.Version.{IsVersion};
 ghost use Rattle.std.specs.Prelude.{◌≡◌, IfSome};
 
 use addr_text::Addr;
-use answer_core::{Answer, reply};
+use answer_core::{Answer, Way, reply};
 use arrayvec::ArrayVec;
+use dns_wire::ReplyBuffer;
 use map_model::Instance;
 use map_text::read_map;
 use published_map::MapVersion;
@@ -37,7 +38,7 @@ use world_versions::{is_good, version_of};
 const ROW: usize = 128;
 
 /// The length of the reply to one row.
-fn reply_to(version: &MapVersion, row: &[u8], draw: u64, out: &mut ArrayVec<u8, 512>) -> usize
+fn reply_to(version: &MapVersion, row: &[u8], draw: u64, out: &mut ReplyBuffer) -> usize
     requires { IsVersion version.now }
 {
     if row.len() != ROW {
@@ -48,14 +49,14 @@ fn reply_to(version: &MapVersion, row: &[u8], draw: u64, out: &mut ArrayVec<u8, 
     if size > ROW - 5 {
         return 0;
     }
-    match reply(version, from, &row[5..5 + size], draw, out) {
+    match reply(version, from, &row[5..5 + size], draw, Way::Datagram, out) {
         Answer::Sent => out.len(),
         Answer::Silent => 0,
     }
 }
 
 /// How many octets the replies to all rows have.
-fn round(version: &MapVersion, rows: &[u8], draw: u64, out: &mut ArrayVec<u8, 512>) -> usize
+fn round(version: &MapVersion, rows: &[u8], draw: u64, out: &mut ReplyBuffer) -> usize
     requires { IsVersion version.now }
 {
     let mut sum = 0usize;
@@ -146,7 +147,7 @@ fn main(rt: HostRuntime) -> ExitCode {
     }
 }
 PROGRAM
-{ cat "$top/crates.txt"; echo 'replies: map_model addr_text topology_text map_text published_map world_versions answer_core arrayvec'; } >"$work/repository/crates.txt"
+{ cat "$top/crates.txt"; echo 'replies: map_model addr_text topology_text map_text published_map world_versions dns_wire answer_core arrayvec'; } >"$work/repository/crates.txt"
 cp "$top/HANDLES" "$work/repository/"
 git -C "$work/repository" init -q
 touch "$work/nothing"

@@ -145,7 +145,8 @@ ZONE_KEYS = {
     "services": (TEXTS, True),
 }
 NODE_KEYS = {"name": (TEXT, True), "parent": (TEXT, False), "capacity": (INTEGER, True), "pool": (BOOLEAN, False), "a": (TEXTS, False), "aaaa": (TEXTS, False)}
-GROUP_KEYS = {"name": (TEXT, True), "demand": (INTEGER, True), "pools": (TEXTS, True), "scores": (INTEGERS, True), "prefixes": (TEXTS, True)}
+GROUP_KEYS = {"name": (TEXT, True), "demand": (INTEGER, True), "pools": (TEXTS, True), "scores": (INTEGERS, True), "limits": (INTEGERS, False), "prefixes": (TEXTS, True)}
+CLASS_KEYS = {"name": (TEXT, True), "group": (TEXT, True), "service": (TEXT, True), "demand": (INTEGER, True), "pools": (TEXTS, True), "scores": (INTEGERS, True), "limits": (INTEGERS, False)}
 ZONE_RANGES = {"serial": 2**32, "refresh": 2**32, "retry": 2**32, "expire": 2**32, "minimum": 2**31, "ttl": 2**31}
 
 
@@ -176,6 +177,7 @@ class Topology:
             self.top = None
         if self.top is None or not are_short(self.top):
             raise Refused("topology 1 not toml")
+        self.numbers = None
         for number, rule in [(2, self.missing), (3, self.wrong), (4, self.unknown), (5, self.bad_names), (6, self.doubled), (7, self.nameless), (8, self.disordered), (9, self.deep), (10, self.out_of_range), (11, self.bad_addresses), (12, self.bad_prefixes), (13, self.doubled_prefixes), (14, self.defaults), (15, self.shapes), (16, self.inside), (17, self.many)]:
             for place in rule():
                 raise Refused(f"topology {number} {WORDS[number]} at {place}")
@@ -185,7 +187,7 @@ class Topology:
         """Each table that is one, with its place and its keys, in order."""
         if isinstance(self.top.get("zone"), dict):
             yield "zone", self.top["zone"], ZONE_KEYS
-        for key, keys in [("node", NODE_KEYS), ("group", GROUP_KEYS)]:
+        for key, keys in [("node", NODE_KEYS), ("group", GROUP_KEYS), ("class", CLASS_KEYS)]:
             entries = self.top.get(key)
             for number, entry in enumerate(entries if isinstance(entries, list) else []):
                 if isinstance(entry, dict):
@@ -201,11 +203,12 @@ class Topology:
     def wrong(self):
         if not isinstance(self.top["zone"], dict):
             yield "top zone"
-        for key in ["node", "group"]:
-            if not isinstance(self.top[key], list):
+        for key in ["node", "group", "class"]:
+            entries = self.top.get(key, [])
+            if not isinstance(entries, list):
                 yield f"top {key}"
             else:
-                yield from (f"top {key} {number}" for number, entry in enumerate(self.top[key]) if not isinstance(entry, dict))
+                yield from (f"top {key} {number}" for number, entry in enumerate(entries) if not isinstance(entry, dict))
         for place, table, keys in self.tables():
             for key, (kind, _) in keys.items():
                 if key not in table:
@@ -216,7 +219,7 @@ class Topology:
                     yield from (f"{place} {key} {i}" for i, item in enumerate(table[key]) if not IS_ITEM[kind](item))
 
     def unknown(self):
-        if set(self.top) - {"zone", "node", "group"}:
+        if set(self.top) - {"zone", "node", "group", "class"}:
             yield "top"
         yield from (place for place, table, keys in self.tables() if set(table) - set(keys))
 
@@ -225,6 +228,13 @@ class Topology:
 
     def groups(self):
         return list(enumerate(self.top["group"]))
+
+    def classes(self):
+        return list(enumerate(self.top.get("class", [])))
+
+    def units(self):
+        """Groups and classes, each with its place."""
+        return [(f"group {i}", group) for i, group in self.groups()] + [(f"class {i}", entry) for i, entry in self.classes()]
 
     def bad_names(self):
         zone = self.top["zone"]
@@ -238,10 +248,9 @@ class Topology:
         for i, text in enumerate(zone["services"]):
             if not 1 <= len(text.encode()) <= 63 or not set(text.encode()) <= LABEL_OCTETS:
                 yield f"zone services {i}"
-        for kind, entries in [("node", self.nodes()), ("group", self.groups())]:
-            for i, entry in entries:
-                if not 1 <= len(entry["name"].encode()) <= 32 or not set(entry["name"].encode()) <= NAME_OCTETS:
-                    yield f"{kind} {i} name"
+        for place, entry in [(f"node {i}", node) for i, node in self.nodes()] + self.units():
+            if not 1 <= len(entry["name"].encode()) <= 32 or not set(entry["name"].encode()) <= NAME_OCTETS:
+                yield f"{place} name"
 
     def doubled(self):
         zone = self.top["zone"]
@@ -249,20 +258,42 @@ class Topology:
             ("zone ns {}", [tuple(labels_of(read_name(text))) for text in zone["ns"]]),
             ("zone services {}", [text.lower() for text in zone["services"]]),
             ("node {} name", [node["name"] for _, node in self.nodes()]),
-            ("group {} name", [group["name"] for _, group in self.groups()]),
         ]:
             seen = set()
             for i, name in enumerate(names):
                 if name in seen:
                     yield place.format(i)
                 seen.add(name)
+        seen = set()
+        for place, unit in self.units():
+            if unit["name"] in seen:
+                yield f"{place} name"
+            seen.add(unit["name"])
+            # what names no group, or no service, is told under the next number alone
+            pair = self.pair(unit) if place.startswith("class") else (None, None)
+            if None not in pair:
+                if pair in seen:
+                    yield f"{place} service"
+                seen.add(pair)
+
+    def pair(self, entry):
+        """The number of the group that a class names, and of the service, whose letters may differ in case."""
+        if not self.numbers:
+            self.numbers = [{}, {}]
+            for i, group in self.groups():
+                self.numbers[0].setdefault(group["name"], i)
+            for i, service in enumerate(self.top["zone"]["services"]):
+                self.numbers[1].setdefault(service.lower(), i)
+        return self.numbers[0].get(entry["group"]), self.numbers[1].get(entry["service"].lower())
 
     def nameless(self):
         names = {node["name"] for _, node in self.nodes()}
         pools = {node["name"] for _, node in self.nodes() if node.get("pool", False)}
         yield from (f"node {i} parent" for i, node in self.nodes() if "parent" in node and node["parent"] not in names)
-        for i, group in self.groups():
-            yield from (f"group {i} pools {j}" for j, pool in enumerate(group["pools"]) if pool not in pools)
+        for place, unit in self.units():
+            if place.startswith("class"):
+                yield from (f"{place} {key}" for key, number in zip(["group", "service"], self.pair(unit)) if number is None)
+            yield from (f"{place} pools {j}" for j, pool in enumerate(unit["pools"]) if pool not in pools)
 
     def disordered(self):
         place = {node["name"]: i for i, node in self.nodes()}
@@ -283,10 +314,11 @@ class Topology:
         zone = self.top["zone"]
         yield from (f"zone {key}" for key, end in ZONE_RANGES.items() if not 0 <= zone[key] < end)
         yield from (f"node {i} capacity" for i, node in self.nodes() if not 0 <= node["capacity"] <= 2**48)
-        for i, group in self.groups():
-            if not 1 <= group["demand"] < 2**32:
-                yield f"group {i} demand"
-            yield from (f"group {i} scores {j}" for j, score in enumerate(group["scores"]) if not 0 <= score < 2**32)
+        for place, unit in self.units():
+            if not 1 <= unit["demand"] < 2**32:
+                yield f"{place} demand"
+            yield from (f"{place} scores {j}" for j, score in enumerate(unit["scores"]) if not 0 <= score < 2**32)
+            yield from (f"{place} limits {j}" for j, limit in enumerate(unit.get("limits", [])) if not 1 <= limit < 2**32)
 
     def bad_addresses(self):
         for i, node in self.nodes():
@@ -318,11 +350,10 @@ class Topology:
             yield "zone ns"
         for i, node in self.nodes():
             yield from (f"node {i} {key}" for key in ["a", "aaaa"] if node.get(key) and not node.get("pool", False))
-        for i, group in self.groups():
-            if not 1 <= len(group["pools"]) <= 16 or len(set(group["pools"])) < len(group["pools"]):
-                yield f"group {i} pools"
-            if len(group["scores"]) != len(group["pools"]):
-                yield f"group {i} scores"
+        for place, unit in self.units():
+            if not 1 <= len(unit["pools"]) <= 16 or len(set(unit["pools"])) < len(unit["pools"]):
+                yield f"{place} pools"
+            yield from (f"{place} {key}" for key in ["scores", "limits"] if key in unit and len(unit[key]) != len(unit["pools"]))
 
     def inside(self):
         zone = self.top["zone"]
@@ -334,12 +365,14 @@ class Topology:
             yield "top node"
         if len(self.top["group"]) > 65536:
             yield "top group"
+        if len(self.units()) > 65536:
+            yield "top class"
         if len(self.top["zone"]["ns"]) > 4:
             yield "zone ns"
         if len(self.top["zone"]["services"]) > 64:
             yield "zone services"
         for i, node in self.nodes():
-            yield from (f"node {i} {key}" for key in ["a", "aaaa"] if len(node.get(key, [])) > 6)
+            yield from (f"node {i} {key}" for key in ["a", "aaaa"] if len(node.get(key, [])) > 40)
         total = 0
         for i, group in self.groups():
             total += len(group["prefixes"])
@@ -348,16 +381,18 @@ class Topology:
                 return
 
     def finish(self):
-        nodes, groups = self.top["node"], self.top["group"]
+        nodes, units = self.top["node"], [unit for _, unit in self.units()]
         self.zone = self.top["zone"]
         self.node_names = [node["name"] for node in nodes]
-        self.group_names = [group["name"] for group in groups]
+        self.group_names = [unit["name"] for unit in units]
         self.node_at = {name: i for i, name in enumerate(self.node_names)}
         self.group_at = {name: i for i, name in enumerate(self.group_names)}
         self.capacity = [node["capacity"] for node in nodes]
-        self.demand = [group["demand"] for group in groups]
-        self.lists = [[self.node_at[pool] for pool in group["pools"]] for group in groups]
-        self.scores = [group["scores"] for group in groups]
+        self.demand = [unit["demand"] for unit in units]
+        self.lists = [[self.node_at[pool] for pool in unit["pools"]] for unit in units]
+        self.scores = [unit["scores"] for unit in units]
+        self.limits = [unit.get("limits", [2**32 - 1] * len(unit["pools"])) for unit in units]
+        self.class_of = {self.pair(entry): len(self.groups()) + i for i, entry in self.classes()}
         self.paths = []
         for node in nodes:
             self.paths.append([len(self.paths)] + (self.paths[self.node_at[node["parent"]]] if "parent" in node else []))
@@ -365,7 +400,15 @@ class Topology:
         self.prefixes = [(prefix, i) for i, _, prefix in self.each_prefix()]
 
 
+    def unit(self, group, service):
+        """The class of a group and a service, by their numbers, or the group."""
+        return self.class_of.get((group, service), group)
+
+
 # Maps.
+
+
+LIMIT = "limit"
 
 
 def is_amount(word):
@@ -373,18 +416,19 @@ def is_amount(word):
 
 
 class Map:
-    """Lines (group, place, amount) and names (group, place, node)."""
+    """Lines (group, place, amount) and names (group, place, node), LIMIT in the place of a node where the offer's limit refuses."""
 
     def __init__(self, topology, octets):
-        self.lines, self.names = [], []
+        self.lines, self.names, self.takes_limits = [], [], False
         if len(octets) > 256 << 20:
             raise Refused("map too long")
         *whole, rest = octets.split(b"\n")
         ended = False
         for number, line in enumerate(whole, 1):
             if number == 1:
-                if line != b"glb map 1":
+                if line not in (b"glb map 1", b"glb map 2"):
                     raise Refused("map bad line at line 1")
+                self.takes_limits = line == b"glb map 2"
             elif ended:
                 raise Refused(f"map bad line at line {number}")
             elif line == b"end":
@@ -396,17 +440,20 @@ class Map:
 
     def take(self, topology, line, number):
         words = line.split(b" ")
-        if len(words) != 4 or words[0] not in (b"place", b"full") or b"" in words or (words[0] == b"place" and is_amount(words[3]) is None):
+        is_limit = self.takes_limits and words[0] == b"limit"
+        is_place = words[0] == b"place"
+        counts = 3 if is_limit else 4
+        if len(words) != counts or b"" in words or not (is_limit or is_place or words[0] == b"full") or (is_place and is_amount(words[3]) is None):
             raise Refused(f"map bad line at line {number}")
-        _, group, pool, last = [word.decode("latin-1") for word in words]
+        group, pool, *last = [word.decode("latin-1") for word in words[1:]]
         group, pool = topology.group_at.get(group), topology.node_at.get(pool)
-        if group is None or pool not in topology.lists[group] or (words[0] == b"full" and last not in topology.node_at):
+        if group is None or pool not in topology.lists[group] or (words[0] == b"full" and last[0] not in topology.node_at):
             raise Refused(f"map unknown name at line {number}")
         rank = (group, topology.lists[group].index(pool))
-        entries = self.lines if words[0] == b"place" else self.names
-        if (entries and entries[-1][:2] >= rank) or (words[0] == b"place" and self.names):
+        entries = self.lines if is_place else self.names
+        if (entries and entries[-1][:2] >= rank) or (is_place and self.names):
             raise Refused(f"map order at line {number}")
-        entries.append((*rank, int(last) if words[0] == b"place" else topology.node_at[last]))
+        entries.append((*rank, LIMIT if is_limit else int(last[0]) if is_place else topology.node_at[last[0]]))
 
 
 class Sums:
@@ -426,6 +473,9 @@ def verdict(topology, demand, capacity, found):
     for g, placed in enumerate(sums.placed):
         if placed > demand[g]:
             return f"over demand {topology.group_names[g]} {placed}"
+    for g, k, amount in found.lines:
+        if amount > topology.limits[g][k]:
+            return f"over limit {topology.group_names[g]} {topology.node_names[topology.lists[g][k]]} {amount}"
     for n, load in enumerate(sums.load):
         if load > capacity[n]:
             return f"over capacity {topology.node_names[n]} {load}"
@@ -442,6 +492,9 @@ def verdict(topology, demand, capacity, found):
             if first >= demand[g]:
                 break
             key = (topology.scores[g][k], g, pool)
+            if sums.amount.get((g, k), 0) == topology.limits[g][k]:
+                names.append((g, k, LIMIT))
+                continue
             refusing = [n for n in topology.paths[pool] if sums.load[n] == capacity[n] and worst.get(n, key) <= key]
             if not refusing:
                 return f"blocking {topology.group_names[g]} {topology.node_names[pool]}"
@@ -563,7 +616,7 @@ def control_text(topology, octets, maps):
 
 
 class Replies:
-    """The replies of a map to a datagram: one for each pool that holds units of the client's group, with how many."""
+    """The replies of a map to a datagram: one for each pool that holds units of the client's group, or of its class for the service, with how many."""
 
     def __init__(self, choices):
         self.choices = choices
@@ -670,8 +723,8 @@ def replies(topology, found, client, octets):
         return None
     opcode, rd = octets[2] >> 3 & 15, octets[2] & 1
 
-    def header(aa, rcode, counts):
-        return octets[:2] + bytes([0x80 | opcode << 3 | aa << 2 | rd, rcode]) + b"".join(count.to_bytes(2) for count in counts)
+    def header(aa, rcode, counts, tc=0):
+        return octets[:2] + bytes([0x80 | opcode << 3 | aa << 2 | tc << 1 | rd, rcode]) + b"".join(count.to_bytes(2) for count in counts)
 
     def alone(rcode):
         return only(header(0, rcode, [0, 0, 0, 0]))
@@ -698,8 +751,8 @@ def answer(topology, found, client, header, question, name, kind, klass, opt):
     do = opt[3][2] & 0x80 if opt else 0
     subnet = None
 
-    def whole(aa, rcode, answers=(), authority=(), scope=None, extended=0):
-        reply = header(aa, rcode, [1, len(answers), len(authority), 1 if opt else 0]) + question + b"".join(answers) + b"".join(authority)
+    def whole(aa, rcode, answers=(), authority=(), scope=None, extended=0, tc=0):
+        reply = header(aa, rcode, [1, len(answers), len(authority), 1 if opt else 0], tc) + question + b"".join(answers) + b"".join(authority)
         if opt:
             option = b""
             if scope is not None and subnet is not None:
@@ -707,6 +760,12 @@ def answer(topology, found, client, header, question, name, kind, klass, opt):
                 option = b"\0\x08" + (4 + len(address)).to_bytes(2) + b"\0" + bytes([1 if family == 4 else 2, source, scope]) + address
             reply += b"\0\0\x29\x04\xd0" + bytes([extended, 0, do, 0]) + len(option).to_bytes(2) + option
         return reply
+
+    def fitting(records, scope):
+        """The reply with these records, or with none and TC, where it would be too long for a datagram."""
+        reply = whole(1, 0, records, scope=scope)
+        most = min(max(512, opt[2]), 1232) if opt else 512
+        return reply if len(reply) <= most else whole(1, 0, scope=scope, tc=1)
 
     if opt and opt[3][1] != 0:
         return only(whole(0, 0, extended=1))
@@ -736,20 +795,21 @@ def answer(topology, found, client, header, question, name, kind, klass, opt):
         group, scope = look_up(topology, subnet[0], subnet[3])
     else:
         group, scope = look_up(topology, *client)[0], 0
-    choices = [(amount, topology.lists[g][k]) for g, k, amount in found.lines if g == group]
+    unit = topology.unit(group, [service.encode().lower() for service in zone["services"]].index(labels[0]))
+    choices = [(amount, topology.lists[g][k]) for g, k, amount in found.lines if g == unit]
     if not choices:
         return only(whole(0, 2))
     kind = 28 if kind == 28 else 1
-    return Replies([(amount, service_reply(topology, whole, pool, kind, scope, nothing)) for amount, pool in choices])
+    return Replies([(amount, service_reply(topology, fitting, pool, kind, scope, nothing)) for amount, pool in choices])
 
 
-def service_reply(topology, whole, pool, kind, scope, nothing):
+def service_reply(topology, fitting, pool, kind, scope, nothing):
     """The reply where a pool is picked."""
     addresses = topology.addresses[pool][kind]
     if not addresses:
         return nothing
     records = [record(b"\xc0\x0c", kind, topology.zone["ttl"], number.to_bytes(bits_of(family) // 8)) for family, number in addresses]
-    return whole(1, 0, records, scope=scope)
+    return fitting(records, scope)
 
 
 def address_of(text):

@@ -33,6 +33,24 @@ usage='usage: glb check, answer, map, repair, serve or large'
 expect 0 'good' check flat.toml flat.map
 expect 0 'good' check tree.toml tree.map
 expect 0 "$(cat tree.map)" map tree.toml
+# limits: at most five units of g1 at A. In the first version of a map's text, as in flat.map, they have no line
+expect 0 "$(cat limits.map)" map limits.toml
+expect 0 'good' check limits.toml limits.map
+expect 7 'over limit g1 A 6' check limits.toml limits-bad.map
+changed=$(mktemp)
+sed 's/map 2/map 1/' limits.map >"$changed"
+expect 2 'refused map bad line at line 6' check limits.toml "$changed"
+sed 's/\[5, 10\]/[5]/' limits.toml >"$changed"
+expect 2 'refused topology 15 list shape at group 0 limits' map "$changed"
+# a class of g2 for www: its clients go to B, those of g1 to A; a second one of the service in other letters is refused
+www=123401000001000000000000037777770363646e076578616d706c650000010001
+records=123485000001000100000000037777770363646e076578616d706c650000010001c00c00010001000000140004
+expect 0 "$(cat classes.map)" map classes.toml
+expect 0 "answer ${records}c0000202" answer classes.toml classes.map 198.51.100.7 $www
+expect 0 "answer ${records}c0000201" answer classes.toml classes.map 203.0.113.9 $www
+{ cat classes.toml && sed -n '/^\[\[class/,$p' classes.toml | sed 's/g2www/other/; s/"www"/"WWW"/'; } >"$changed"
+expect 2 'refused topology 6 duplicate name at class 1 service' map "$changed"
+rm "$changed"
 while read -r sender octets reply; do
     expect 0 "answer $reply" answer tree.toml tree.map "$sender" "$octets"
 done < <(grep -v '^#' queries.txt)

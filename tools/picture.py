@@ -4,10 +4,11 @@
     picture.py TOPOLOGY MAP [--trees N] [--nodes N] [--groups N] > PICTURE.svg
 
 Each tree has a row for each node: a frame as wide as its capacity, filled as far as it is loaded, and beside a full
-node what it refuses, that is the groups which would rather use the pool in brackets. Below stand the groups with
-units that are placed nowhere. A frame that is drawn shorter than its capacity has » behind its numbers. The fullest
-trees come first, and a tree's fullest nodes where not all have room: N trees (12 if it is not given), N nodes of each
-(16), N groups (16). In a world of at most eight groups each has a colour of its own.
+node what it refuses, that is the groups which would rather use the pool in brackets. Beside a pool stand the groups
+that have as much there as their limits let them. Below stand the groups with units that are placed nowhere. Traffic
+classes are groups here. A frame that is drawn shorter than its capacity has » behind its numbers. The fullest trees
+come first, and a tree's fullest nodes where not all have room: N trees (12 if it is not given), N nodes of each (16),
+N groups (16). In a world of at most eight groups each has a colour of its own.
 
 It reads the texts that `glb` reads and writes, takes a map as it is, and needs Python 3.11 alone. It is no part of the
 proved program.
@@ -32,12 +33,13 @@ class World:
 
     def __init__(self, topology, text):
         self.nodes = {node["name"]: node for node in topology["node"]}
-        self.groups = {group["name"]: group for group in topology["group"]}
+        self.groups = {group["name"]: group for group in topology["group"] + topology.get("class", [])}
         self.children = defaultdict(list)
         for node in topology["node"]:
             self.children[node.get("parent")].append(node["name"])
         self.loads = {name: defaultdict(int) for name in self.nodes}
         self.refused = defaultdict(list)
+        self.limited = defaultdict(list)
         self.left = {name: group["demand"] for name, group in self.groups.items()}
         for line in text.splitlines():
             self.take(line.split())
@@ -53,6 +55,9 @@ class World:
         elif words[0] == "full":
             _, group, pool, node = words
             self.refused[node].append((group, pool))
+        elif words[0] == "limit":
+            _, group, pool = words
+            self.limited[pool].append((group, pool))
 
     def load(self, name):
         return sum(self.loads[name].values())
@@ -118,13 +123,13 @@ def shortened(text, most):
 
 
 def refusals(pairs, own):
-    """What a full node refuses, in few words. A pool is named where it isn't the node itself."""
+    """The groups that a full node refuses, or that their limits stop, in few words. A pool is named where it isn't the node itself."""
     words = [group if pool == own else f"{group} ({pool})" for group, pool in pairs]
     named = 1
     while named < len(words) and len(", ".join(words[: named + 1])) <= MOST_WORDS:
         named += 1
     more = f", and {len(words) - named:,} more" if named < len(words) else ""
-    return "refuses " + ", ".join(words[:named]) + more
+    return ", ".join(words[:named]) + more
 
 
 def colours(world):
@@ -179,8 +184,13 @@ def draw_node(canvas, world, name, depth, limit):
     is_long = capacity > limit
     canvas.box(BARS, min(capacity, limit) * scale, "none", FULL if world.is_full(name) else GREY)
     canvas.text(NUMBERS, f"{short(load)} / {short(capacity)}" + (" »" if is_long else ""), ink)
+    beside = []
     if world.refused[name]:
-        canvas.text(WORDS, shortened(refusals(world.refused[name], name), 56), FULL)
+        beside.append("refuses " + refusals(world.refused[name], name))
+    if world.limited[name]:
+        beside.append("limit of " + refusals(world.limited[name], name))
+    if beside:
+        canvas.text(WORDS, shortened("; ".join(beside), 56), FULL)
     canvas.down()
 
 

@@ -1,6 +1,6 @@
 -- The reply to the query of a group, by every version whose zone is that of a large world, is an answer or a server failure.
 use Rattle.std.proofs.Common.{◌≡◌, ◌⊎◌, ℕ, zero, suc, ◌+◌, Bool, true, false, cond, List, [], ◌∷◌, inl, inr, refl, ap, ◌∙◌, arith}
-use Rattle.std.specs.Prelude.{Option, None, Some, ◌%◌, ◌==◌, count_by}
+use Rattle.std.specs.Prelude.{Option, None, Some, ◌%◌, ◌==◌, count_by, if◌then◌else◌, length, nat_le}
 use Rattle.std.specs.List.{range_with_len}
 use Rattle.std.proofs.lemmas.List.Sums.{sum_by-cons}
 use Rattle.addr_text.specs.declared.address.Addr.{Addr}
@@ -14,8 +14,9 @@ use Rattle.dns_wire.specs.Message.{query_in, reading}
 use Rattle.dns_wire.specs.Wire.{name_len, records_in}
 use Rattle.answer_core.specs.Columns.{rcode}
 use Rattle.answer_core.specs.Grammar.{Query, Request, datagram_of}
-use Rattle.answer_core.specs.Outcome.{Outcome, by_name, of_addresses, of_pool, pool_for, service_of}
-use Rattle.answer_core.specs.Reply.{full, reply_to}
+use Rattle.answer_core.specs.Outcome.{Outcome, BadVers, Error, Negative, Positive, Truncated, by_name, of_addresses, of_pool, pool_for, service_of}
+use Rattle.answer_core.specs.Reply.{cut_short, fitted, full, reply_to}
+use Rattle.answer_core.specs.declared.way.Way.TheVariants as way
 use Rattle.mapper.specs.Words.{reply_by}
 use Rattle.big_run.specs.Replies.{client_of, count_of, has_code, is_code_of, is_reply_of, question}
 
@@ -69,12 +70,26 @@ code_at v kind scope (Some pool) = go (addresses_of v.plan pool kind)
 code_told : (z : Zone) (outcome : Outcome) (code : ℕ) → is_code_of code (full z request outcome) ≡ (rcode outcome % 16 % 16 == code)
 code_told z outcome code = refl
 
+-- what is cut short has the same code
+code_kept : (o : Outcome) → rcode (cut_short o) ≡ rcode o
+code_kept BadVers = refl
+code_kept (Error code) = refl
+code_kept (Negative code) = refl
+code_kept (Positive records scope) = refl
+code_kept (Truncated scope) = refl
+
+code_fitted : (fits : Bool) (o : Outcome) → rcode (if fits then o else cut_short o) ≡ rcode o
+code_fitted true o = refl
+code_fitted false o = code_kept o
+
 reply_is : (v : Version) (g code : ℕ) → v.plan.zone ≡ zone_of (Some zone_data) → has_code v code g ≡ (rcode (of_pool v 1 0 (pool_for v (client_of g) 0 0)) % 16 % 16 == code)
 unfolding has_code reply_by
 reply_is v g code zone =
-    ap (λ d. is_reply_of code (reply_to v (client_of g) d 0)) asked_is
-    ∙ ap (λ o. is_code_of code (full v.plan.zone request o)) (at_name v (client_of g) zone)
-    ∙ code_told v.plan.zone (of_pool v 1 0 (pool_for v (client_of g) 0 0)) code
+    let stated = of_pool v 1 0 (pool_for v (client_of g) 0 0) in
+    ap (λ d. is_reply_of code (reply_to v (client_of g) d 0 way.Datagram)) asked_is
+    ∙ ap (λ o. is_code_of code (full v.plan.zone request (fitted 512 v.plan.zone request o))) (at_name v (client_of g) zone)
+    ∙ code_told v.plan.zone (fitted 512 v.plan.zone request stated) code
+    ∙ ap (λ c. c % 16 % 16 == code) (code_fitted (nat_le (length (full v.plan.zone request stated)) 512) stated)
 
 -- each group's reply has one of the two codes, and not both
 pub one_of_two : (v : Version) (g : ℕ) → v.plan.zone ≡ zone_of (Some zone_data) → ((has_code v 0 g ≡ true) × (has_code v 2 g ≡ false)) ⊎ ((has_code v 0 g ≡ false) × (has_code v 2 g ≡ true))

@@ -189,7 +189,8 @@ fn offer_all(
     }
     let units = state.free(group);
     let offer = Offer { group, place };
-    if state.units(offer) + units > Units::from(instance.limit(offer.group, offer.place)) {
+    let limit = Units::from(instance.limit(group, place));
+    if units > limit || state.units(offer) > limit - units {
         return None;
     }
     match state.put(instance, offer, units, freed, steps) {

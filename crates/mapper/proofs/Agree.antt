@@ -1,5 +1,5 @@
 -- What a feed comes to is determined by the topology and its items, but for want of memory.
-use Rattle.std.proofs.Common.{◌≡◌, ℕ, List, [], ◌∷◌, Contains, refl, sym, ap, ◌∙◌, subst, inl, inr, arith}
+use Rattle.std.proofs.Common.{◌≡◌, ℕ, List, [], ◌∷◌, refl, sym, ap, ◌∙◌, subst, inl, inr, arith}
 use Rattle.std.proofs.lemmas.List.Elements.{Contains-append_left, Contains-append_right}
 use Rattle.map_model.specs.declared.change.Change.{Change}
 use Rattle.map_model.specs.declared.lines.MapLine.{MapLine}

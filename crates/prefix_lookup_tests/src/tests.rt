@@ -6,7 +6,7 @@ mod agree;
 mod drawn;
 mod plain;
 
-use self::drawn::{Draws, drawn};
+use self::drawn::{Draws, drawn, drawn_of};
 use self::plain::{longest, scope};
 use addr_text::{Addr, Prefix};
 use map_model::{GroupId, Steps};
@@ -218,5 +218,27 @@ fn drawn_tables_are_looked_up_as_plainly(rt: HostRuntime) -> Result<(), NoMemory
         prefixes = prefixes.saturating_add(more.unwrap_or(0));
     }
     assert!(rt; prefixes > 30000, "{prefixes}");
+    Ok(())
+}
+
+/// Whether the lookup finds at the first address of each prefix what the search over all finds.
+fn is_plain_at_first(lookup: &Lookup, table: &[(Prefix, GroupId)]) -> bool
+    requires { All (λ e. IsPrefix e.0) table.now }
+{
+    for (prefix, _) in table {
+        let group = lookup.group(prefix.addr);
+        if !longest(table, prefix.addr).is_some_and(|entry| entry.1 == group) {
+            return false;
+        }
+    }
+    true
+}
+
+#[test]
+fn two_thousand_prefixes_are_looked_up_as_plainly(rt: HostRuntime) -> Result<(), NoMemory> {
+    let mut draws = Draws::from(3);
+    let table = drawn_of(rt.alloc(), &mut draws, 3000)?;
+    let lookup = Lookup::build(rt.alloc(), &table)?;
+    assert!(rt; table.len() > 2000 && is_plain_at_first(&lookup, &table));
     Ok(())
 }

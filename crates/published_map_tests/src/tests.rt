@@ -5,13 +5,13 @@ ghost use Rattle.map_model.specs.Allocation.{IsGood};
 ghost use Rattle.published_map.specs.Version.{IsVersion};
 
 use addr_text::Addr;
-use map_model::{GroupId, NodeId};
+use map_model::{By, GroupId, NodeId};
 use published_map::{Delta, MapVersion};
 use std::alloc::Global;
 use std::test::Fail;
 use topology_text::{Topology, read_topology};
-use world_versions::{GoodMap, example, example_of_four, version_at};
-use worlds::EXAMPLE_TREE;
+use world_versions::{GoodMap, example, example_of_four, version_at, version_of_text};
+use worlds::{EXAMPLE_TREE, LIMIT, map_of};
 
 const G1: GroupId = GroupId(0);
 
@@ -167,7 +167,7 @@ fn has_one_row(delta: &Delta) -> bool {
             *group == G2
                 && row.demand == 4
                 && row.amounts.as_slice() == [(0, 2), (1, 2)].as_slice()
-                && row.names.as_slice() == [(0, A)].as_slice()
+                && row.names.as_slice() == [(0, By::Node(A))].as_slice()
         }
         _ => false,
     }
@@ -217,5 +217,45 @@ fn takes_in_what_differs(rt: HostRuntime) -> Result<(), Fail> {
             Ok(())
         }
         _ => Err("no version".into()),
+    }
+}
+
+/// What the second group asks of the one service, with a list of its own.
+const CLASS: &str =
+    "[[class]]\nname = \"g2www\"\ngroup = \"g2\"\nservice = \"www\"\ndemand = 3\npools = [\"B\"]\nscores = [1]\nlimits = [2]\n";
+
+/// The version of the example with that class, whose limit stops it at two units.
+fn version_with_class(alloc: Global) -> Option<MapVersion>
+    ensures { IfSome result IsVersion }
+{
+    let text = format!(in alloc; "{EXAMPLE_TREE}{CLASS}").ok()?;
+    let lines = [(0, 0, 8), (1, 0, 2), (1, 1, 3), (2, 0, 2)];
+    let names = [(1, 0, 1), (1, 1, 0), (2, 0, LIMIT)];
+    let map = map_of(alloc, &lines, &names).ok()?;
+    version_of_text(alloc, 5, text.as_str(), map)
+}
+
+/// Whether the class is the unit of the second group for the service of number 0, and each group its own for another.
+fn has_units(version: &MapVersion) -> bool
+    requires { IsVersion version.now }
+{
+    if version.groups() != 3 {
+        return false;
+    }
+    let class = GroupId(2);
+    version.unit_of(G1, 0) == G1
+        && version.unit_of(G2, 0) == class
+        && version.unit_of(G2, 1) == G2
+        && has_amounts(version, class, &[2])
+}
+
+#[test]
+fn tells_classes(rt: HostRuntime) -> Result<(), Fail> {
+    match version_with_class(rt.alloc()) {
+        None => Err("no version".into()),
+        Some(version) => {
+            assert!(rt; has_units(&version));
+            Ok(())
+        }
     }
 }

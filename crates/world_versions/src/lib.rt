@@ -116,6 +116,29 @@ pub fn example_of_four(alloc: Global, topology: &Topology) -> Option<GoodMap>
     }
 }
 
+/// The version of a serial of a topology, with that map; none where it is not good.
+fn version_with(alloc: Global, serial: u64, topology: Topology, map: MapLines) -> Option<MapVersion>
+    ensures { IfSome result (λ v. IsVersion v × (v.serial ≡ serial) × (v.market ≡ v.plan.market)) }
+{
+    let Some(instance) = copy_of(topology.instance()) else {
+        return None;
+    };
+    match good_map(alloc, instance, map) {
+        None => None,
+        Some(good) => version_of(alloc, serial, topology, &good.instance, &good.map),
+    }
+}
+
+/// The version of a serial of a topology's text, with that map; none where the text is refused or the map is not good.
+pub fn version_of_text(alloc: Global, serial: u64, text: &str, map: MapLines) -> Option<MapVersion>
+    ensures { IfSome result (λ v. IsVersion v × (v.serial ≡ serial) × (v.market ≡ v.plan.market)) }
+{
+    match read_topology(alloc, text.as_bytes()) {
+        Err(_) => None,
+        Ok(topology) => version_with(alloc, serial, topology, map),
+    }
+}
+
 /// The version of a serial of a topology, with the example's map.
 fn example_version(alloc: Global, serial: u64, topology: Topology) -> Option<MapVersion>
     ensures { IfSome result (λ v. IsVersion v × (v.serial ≡ serial) × (v.market ≡ v.plan.market)) }

@@ -181,7 +181,7 @@ impl<'a> Held<'a> {
     }
 
     /// Whether no place has more than in other units.
-    fn is_part(&self, of: &Held<'_>) -> bool {
+    fn is_part(&self, of: &Held<'a>) -> bool {
         self.amounts
             .iter()
             .zip(&of.amounts)
@@ -196,7 +196,7 @@ impl<'a> Held<'a> {
 
     /// Whether the units are what is left of others where each group has at most its demand, and gave up units at its last
     /// places, no more than it had to.
-    fn is_trimmed(&self, of: &Held<'_>) -> bool {
+    fn is_trimmed(&self, of: &Held<'a>) -> bool {
         if !self.is_part(of) {
             return false;
         }
@@ -211,7 +211,7 @@ impl<'a> Held<'a> {
     }
 
     /// Whether the units are what is left of others where no node is over its capacity, and a node refuses whoever has less.
-    fn is_left(&self, of: &Held<'_>) -> bool {
+    fn is_left(&self, of: &Held<'a>) -> bool {
         if !self.is_part(of) || !self.fits() {
             return false;
         }

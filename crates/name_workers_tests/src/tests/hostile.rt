@@ -3,7 +3,7 @@ ghost use Rattle.published_map.specs.Version.{IsVersion};
 
 use super::{CLIENT, ends};
 use addr_text::Peer;
-use answer_core::{Answer, reply};
+use answer_core::{Answer, Way, reply};
 use arrayvec::ArrayVec;
 use lane_model::{Ended, draw_of, next_number};
 use no_memory::NoMemory;
@@ -107,7 +107,8 @@ fn is_reply(version: &MapVersion, taken: &MemTaken, tried: &MemTry, number: u64)
     let octets = taken.packet.octets.as_slice();
     let mut due = ArrayVec::new();
     let draw = draw_of(WORKER, number);
-    if reply(version, addr, octets, draw, &mut due) != Answer::Sent || !is_sent_back(taken, tried) {
+    let answer = reply(version, addr, octets, draw, Way::Datagram, &mut due);
+    if answer != Answer::Sent || !is_sent_back(taken, tried) {
         return false;
     }
     tried.octets.as_slice() == due.as_slice() && has_number(due.as_slice(), octets)

@@ -151,8 +151,20 @@ fn next(draws: &mut Draws, table: &[(Prefix, GroupId)]) -> (Prefix, GroupId) {
 pub fn drawn(alloc: Global, draws: &mut Draws) -> Result<Vec<(Prefix, GroupId)>, NoMemory>
     ensures { IfOk result (λ table. IsTable table.items) }
 {
+    let most = draws.below(40);
+    drawn_of(alloc, draws, most)
+}
+
+/// A table of both defaults and up to so many more prefixes.
+pub fn drawn_of(
+    alloc: Global,
+    draws: &mut Draws,
+    most: u64,
+) -> Result<Vec<(Prefix, GroupId)>, NoMemory>
+    ensures { IfOk result (λ table. IsTable table.items) }
+{
     let mut table = Vec::from_slice(alloc, &DEFAULTS)?;
-    for _ in 0..draws.below(40) {
+    for _ in 0..most {
         let entry = next(draws, &table);
         add(&mut table, entry)?;
     }

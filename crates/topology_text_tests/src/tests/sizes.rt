@@ -101,10 +101,11 @@ const LISTS: &[ListRow] = &[
         "\",",
         "17 too many at zone services",
     ),
+    ("[\"2001:db8::1\"]", "\"::", 40, "\",", "good"),
     (
         "[\"2001:db8::1\"]",
         "\"::",
-        7,
+        41,
         "\",",
         "17 too many at node 1 aaaa",
     ),
@@ -139,6 +140,46 @@ fn lengths_of_lists(rt: HostRuntime) {
     assert!(rt; lists_are_read(&rt, rt.alloc(), LISTS));
 }
 
+/// So many of something, and what is read then.
+type CountRow = (usize, &'static str);
+
+/// A topology of one pool, which has so many addresses.
+fn with_hosts(alloc: Global, count: usize) -> Option<String> {
+    let addresses = listed(alloc, "\"192.0.2.", count, "\",")?;
+    joined(alloc, &[ZONE, POOL, addresses.as_str(), ITS_GROUP])
+}
+
+/// A pool up to the list of its addresses.
+const POOL: &str = "[[node]]\nname = \"A\"\ncapacity = 10\npool = true\na = ";
+
+/// A group that asks that pool.
+const ITS_GROUP: &str =
+    "\n[[group]]\nname = \"g\"\ndemand = 4\npools = [\"A\"]\nscores = [1]\nprefixes = [\"0.0.0.0/0\", \"::/0\"]\n";
+
+const HOSTS: &[CountRow] = &[(40, "good"), (41, "17 too many at node 0 a")];
+
+fn host_is_read(rt: &impl Abort, alloc: Global, row: &CountRow) -> bool {
+    let (count, expected) = row;
+    match with_hosts(alloc, *count) {
+        Some(text) => is_read_as(rt, alloc, text.as_bytes(), *expected),
+        None => false,
+    }
+}
+
+fn hosts_are_read(rt: &impl Abort, alloc: Global, rows: &[CountRow]) -> bool {
+    for row in rows {
+        if !host_is_read(rt, alloc, row) {
+            return false;
+        }
+    }
+    true
+}
+
+#[test]
+fn addresses_of_a_pool(rt: HostRuntime) {
+    assert!(rt; hosts_are_read(&rt, rt.alloc(), HOSTS));
+}
+
 /// A node under the one of the number before.
 fn below(alloc: Global, number: usize) -> Option<String> {
     let above = number.saturating_sub(1);
@@ -160,9 +201,6 @@ fn with_path(alloc: Global, length: usize) -> Option<String> {
     let path = path(alloc, length.saturating_sub(1))?;
     joined(alloc, &[ZONE, path.as_str(), NODES, GROUPS])
 }
-
-/// So many of something, and what is read then.
-type CountRow = (usize, &'static str);
 
 const PATHS: &[CountRow] = &[
     (8, "good"),
@@ -245,30 +283,42 @@ fn pools_in_a_list(rt: HostRuntime) {
     assert!(rt; pools_are_read(&rt, rt.alloc(), POOLS));
 }
 
-/// The example with so many more nodes and groups.
-fn with_many(alloc: Global, nodes: usize, groups: usize) -> Option<String> {
+/// The example with so many more nodes and groups, and classes.
+fn with_many(alloc: Global, nodes: usize, groups: usize, classes: &str) -> Option<String> {
     let node_back = "\"\ncapacity = 1\n";
     let nodes = numbered(alloc, "[[node]]\nname = \"n", nodes, node_back)?;
     let group_back = "\"\ndemand = 1\npools = [\"A\"]\nscores = [1]\nprefixes = []\n";
     let groups = numbered(alloc, "[[group]]\nname = \"x", groups, group_back)?;
     joined(
         alloc,
-        &[ZONE, NODES, nodes.as_str(), GROUPS, groups.as_str()],
+        &[
+            ZONE,
+            NODES,
+            nodes.as_str(),
+            GROUPS,
+            groups.as_str(),
+            classes,
+        ],
     )
 }
 
-/// So many more nodes and groups, and what is read then.
-type ManyRow = (usize, usize, &'static str);
+/// A class of g1.
+const CLASS: &str =
+    "[[class]]\nname = \"c\"\ngroup = \"g1\"\nservice = \"www\"\ndemand = 1\npools = [\"A\"]\nscores = [1]\n";
+
+/// So many more nodes and groups, the classes, and what is read then.
+type ManyRow = (usize, usize, &'static str, &'static str);
 
 const MANY: &[ManyRow] = &[
-    (8_189, 0, "good"),
-    (8_190, 0, "17 too many at top node"),
-    (0, 65_535, "17 too many at top group"),
+    (8_189, 0, "", "good"),
+    (8_190, 0, "", "17 too many at top node"),
+    (0, 65_535, "", "17 too many at top group"),
+    (0, 65_534, CLASS, "17 too many at top class"),
 ];
 
 fn is_read_with(rt: &impl Abort, alloc: Global, row: &ManyRow) -> bool {
-    let (nodes, groups, expected) = row;
-    match with_many(alloc, *nodes, *groups) {
+    let (nodes, groups, classes, expected) = row;
+    match with_many(alloc, *nodes, *groups, *classes) {
         Some(text) => is_read_as(rt, alloc, text.as_bytes(), *expected),
         None => false,
     }
