@@ -1,5 +1,5 @@
 -- The ends of lanes, place by place, and the history of a mapper that published nothing yet.
-use Rattle.std.proofs.Common.{◌≡◌, ℕ, zero, suc, ◌+◌, List, [], ◌∷◌, ◌++◌, map, take, replicate, slice_get, slice_set, Some, None, ap, subst, arith}
+use Rattle.std.proofs.Common.{◌≡◌, ℕ, zero, suc, List, [], ◌∷◌, ◌++◌, map, take, replicate, slice_get, slice_set, Some, None, ap, subst, arith}
 use Rattle.published_map.specs.Version.{Version}
 use Rattle.map_cell.specs.Histories.{IsSealed}
 

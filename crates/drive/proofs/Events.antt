@@ -15,26 +15,26 @@ all_cons P x xs p q zero d lt = p
 all_cons P x xs p q (suc k) d lt = q k d (omega (arith, lt))
 
 -- what is known of turns is known of their datagrams
-entry_known : (n known : ℕ) (came : Came) (es : List Entry) → known < n → All (λ e. e.known < n) es → All (λ e. e.known < n) (entries_of_came known came ++ es)
+entry_known : (n known : ℕ) (came : Came) (es : List Entry) → known < n → All (λ e. e.known < n) es → All (λ e. e.known < n) (entries_of_came replies.way known came ++ es)
 entry_known n known idle es lt p = p
 entry_known n known oversize es lt p = p
 entry_known n known ended es lt p = p
 entry_known n known failed es lt p = p
-entry_known n known (took d silent) es lt p = all_cons (λ e. e.known < n) (record { packet = d; known = known }) es lt p
+entry_known n known (took d silent) es lt p = all_cons (λ e. e.known < n) (record { packet = d; known = known; way = replies.way }) es lt p
 entry_known n known (took d refused) es lt p = p
-entry_known n known (took d (tried serial octets went)) es lt p = all_cons (λ e. e.known < n) (record { packet = d; known = known }) es lt p
+entry_known n known (took d (tried serial octets went)) es lt p = all_cons (λ e. e.known < n) (record { packet = d; known = known; way = replies.way }) es lt p
 
-entries_known : (n : ℕ) (log : List Turn) → All (λ t. t.known < n) log → All (λ e. e.known < n) (entries_of log)
+entries_known : (n : ℕ) (log : List Turn) → All (λ t. t.known < n) log → All (λ e. e.known < n) (entries_of replies.way log)
 entries_known n [] p = λ k d lt. absurd (omega (arith, lt))
-entries_known n (t ∷ log) p = entry_known n t.known t.came (entries_of log) (p 0 t (omega arith)) (entries_known n log (λ k d lt. p (suc k) d (omega (arith, lt))))
+entries_known n (t ∷ log) p = entry_known n t.known t.came (entries_of replies.way log) (p 0 t (omega arith)) (entries_known n log (λ k d lt. p (suc k) d (omega (arith, lt))))
 
 -- what a lane's turns took and tried, as a run over the history
 abbrev pub IsOne : List Version → ℕ → LaneLog → Type 0
 IsOne h w l = IsLaneRun replies h w 0 0 l.taken l.tries × All (λ e. e.known < length h) l.taken
 
-one_run : (first : Version) (rest : List Version) (w : ℕ) (log : List Turn) (over : List Version) (served e : Ended) (before after : LaneTold) → IsLaneRun replies over w 0 0 (entries_of log) (tries_of log)
-    → (which : IsOverNewest (first ∷ rest) over log served e before after ⊎ IsOverSeen first over served e before after ⊎ IsOverPast (first ∷ rest) over log e before after) → IsOne (first ∷ rest) w (log_over log which)
-one_run first rest w log over served e before after run (inl newest) = (subst (λ h. IsLaneRun replies h w 0 0 (entries_of log) (tries_of log)) newest.same run, entries_known (length (first ∷ rest)) log newest.known)
+one_run : (first : Version) (rest : List Version) (w : ℕ) (log : List Turn) (over : List Version) (served e : Ended) (before after : LaneTold) → IsLaneRun replies over w 0 0 (entries_of replies.way log) (tries_of log)
+    → (which : IsOverNewest (first ∷ rest) over log served e before after ⊎ IsOverSeen first (first ∷ rest) over served e before after ⊎ IsOverPast (first ∷ rest) over log e before after) → IsOne (first ∷ rest) w (log_over log which)
+one_run first rest w log over served e before after run (inl newest) = (subst (λ h. IsLaneRun replies h w 0 0 (entries_of replies.way log) (tries_of log)) newest.same run, entries_known (length (first ∷ rest)) log newest.known)
 one_run first rest w log over served e before after run (inr other) = (tt, λ k d lt. absurd (omega (arith, lt)))
 
 pub are_runs : (turns : ℕ) (first : Version) (rest : List Version) (w : ℕ) (ends : List Ended) (before after : List LaneTold) (d : AreDone turns first rest w ends before after) → AreRuns replies (first ∷ rest) w (logs_of turns first rest w ends before after d)

@@ -1,22 +1,25 @@
 -- A lane's call and its closing look make a lane that is done.
-use Rattle.std.proofs.Common.{◌≡◌, ◌⊎◌, ℕ, ◌+◌, ◌<◌, ◌≤◌, List, [], ◌∷◌, length, max, Option, inl, inr, refl, sym, ap, subst, ◌∙◌, arith, ⊎_elim}
+use Rattle.std.proofs.Common.{◌≡◌, ◌⊎◌, ℕ, ◌+◌, ◌-◌, ◌<◌, ◌≤◌, List, [], ◌∷◌, length, max, Option, Some, inl, inr, refl, sym, ap, subst, ◌∙◌, arith, ⊎_elim}
+use Rattle.std.specs.List.{flat_map, range_with_len}
 use mathlib.Core.List.{IsPrefix}
 use Rattle.std.proofs.Math.Nat.{eq-or-lt_of_le}
-use Rattle.outside.specs.Faults.{Rose, raised}
+use Rattle.outside.specs.Faults.{BothTell, Rose, raised}
 use Rattle.outside.specs.Gate.{GateTold}
+use Rattle.outside.specs.Limits.{most_notes}
 use Rattle.outside.specs.Port.{PortTold}
 use Rattle.published_map.specs.Version.{Version}
 use Rattle.map_cell.specs.Histories.{IsHistory}
 use Rattle.lane_model.specs.declared.ended.Ended.{Ended}
 use Rattle.lane_model.specs.Lanes.{IsLaneRun}
 use Rattle.lane_model.specs.Replies.{replies}
-use Rattle.lane_model.specs.Turns.{entries_of, tries_of}
+use Rattle.lane_model.specs.Turns.{AreGiven, entries_of, tries_of}
 use Rattle.lane_model.specs.Sessions.{Eyes, IsEnd, IsLaneCall, Moment}
 use Rattle.lane_model.proofs.Calls.{refused_last}
 use Rattle.lane_model.proofs.Prefixes.{prefix_length}
 use Rattle.lane_model.proofs.Going.{rise_trans}
 use Rattle.lane_model.proofs.Runs.{run_longer}
 use Rattle.drive.specs.Closing.{IsClosing, IsPast, IsShut, IsWithin}
+use Rattle.drive.proofs.Noted.{behind_within, noted_within, notes_are}
 use Rattle.drive.specs.Done.{IsDone, IsOverNewest, IsOverPast, IsOverSeen, LaneTold}
 
 rose_later : (x y z : ℕ) → x ≤ y → Rose y z → Rose x z
@@ -28,16 +31,16 @@ later_rose x y z r le = omega (arith, le, r)
 rose_twice : (x y z : ℕ) → Rose x y → Rose y z → raised x 2 ≤ z
 rose_twice x y z r q = omega (arith, r, q)
 
--- a moment of a lane, as it tells it, whose door was asked for so many places
-abbrev pub told_of : {T : Type 0} → Moment Version T → Eyes Version → ℕ → LaneTold
-told_of m e n = record { port = m.port; port_faults = m.port_faults; gate = m.gate; asked = n; looks = e.looks; greatest = e.greatest; door_faults = e.faults }
+-- a moment of a lane, as it tells it, whose door was asked for so many places and whose worker was given so many notes
+abbrev pub told_of : Moment Version → Eyes Version → ℕ → ℕ → LaneTold
+told_of m e n noted = record { port = m.port; port_faults = m.port_faults; gate = m.gate; asked = n; looks = e.looks; greatest = e.greatest; door_faults = e.faults; noted = noted }
 
 -- the same of a lane over one history or another
-done_over : {T : Type 0} (number : T → ℕ) (turns : ℕ) (first : Version) (rest : List Version) (w : ℕ) (m m' : Moment Version T) (f : Eyes Version) (served e : Ended) (n n' : ℕ) → n' ≡ n → length m.eyes.told ≡ 1
-    → (c : IsLaneCall replies number w turns m m' served) → IsClosing (first ∷ rest) m'.eyes f served e → (over : List Version) → IsLaneRun replies over w 0 0 (entries_of c.log) (tries_of c.log)
-    → (IsOverNewest (first ∷ rest) over c.log served e (told_of m m.eyes n) (told_of m' f n') ⊎ IsOverSeen first over served e (told_of m m.eyes n) (told_of m' f n') ⊎ IsOverPast (first ∷ rest) over c.log e (told_of m m.eyes n) (told_of m' f n'))
-    → IsDone turns first rest w (told_of m m.eyes n) (told_of m' f n') e
-done_over number turns first rest w m m' f served e n n' asked one c q over run which =
+done_over : (turns : ℕ) (first : Version) (rest : List Version) (w : ℕ) (m m' : Moment Version) (f : Eyes Version) (served e : Ended) (n n' j k : ℕ) → n' ≡ n → length m.eyes.told ≡ 1
+    → (c : IsLaneCall replies w turns m m' served) → flat_map (λ t. t.notes) c.log ≡ range_with_len 0 k → IsClosing (first ∷ rest) m'.eyes f served e → (over : List Version) → IsLaneRun replies over w 0 0 (entries_of replies.way c.log) (tries_of c.log)
+    → (IsOverNewest (first ∷ rest) over c.log served e (told_of m m.eyes n j) (told_of m' f n' k) ⊎ IsOverSeen first (first ∷ rest) over served e (told_of m m.eyes n j) (told_of m' f n' k) ⊎ IsOverPast (first ∷ rest) over c.log e (told_of m m.eyes n j) (told_of m' f n' k))
+    → IsDone turns first rest w (told_of m m.eyes n j) (told_of m' f n' k) e
+done_over turns first rest w m m' f served e n n' j k asked one c are q over run which =
     let some : 0 < length m.eyes.told = omega (arith, one) in
     let rise = rise_trans m.eyes m'.eyes f c.all.rise q.rise in
     record {
@@ -47,8 +50,13 @@ done_over number turns first rest w m m' f served e n n' asked one c q over run 
       shown = c.shown;
       run = run;
       told = c.all.told 0 some;
+      notes = are;
+      noted = let few = noted_within c.log k (length m'.eyes.told) are (c.all.told 0 some) c.all.known in omega (arith, one, few, c.all.rise.above, q.rise.rising);
       within = λ k d lt. let known = c.all.within k d lt in omega (arith, one, known, c.all.rise.above, q.rise.rising);
-      last = omega (arith, one, c.shown_is, c.all.rise.above, q.rise.rising);
+      last = (
+        (let behind = behind_within c.log 0 (length m'.eyes.told) (omega (arith, c.shown_is)) c.all.within in omega (arith, c.shown_is, behind)),
+        omega (arith, one, c.shown_is, c.all.rise.above, q.rise.rising),
+      );
       port = c.all.port;
       gate = c.gate;
       ending = c.ending;
@@ -67,36 +75,39 @@ done_over number turns first rest w m m' f served e n n' asked one c q over run 
 shown_past : (known before after : ℕ) → known ≤ after + 1 → after + 1 ≤ max (before + 1) known → (after + 1 ≡ known) ⊎ (known ≤ before)
 shown_past known before after le most = ⊎_elim (λ (is : known ≡ after + 1). inl (sym is)) (λ (lt : known < after + 1). inr (omega (arith, lt, most))) (eq-or-lt_of_le le)
 
-pub done_of : {T : Type 0} (number : T → ℕ) (turns : ℕ) (first : Version) (rest : List Version) (w : ℕ) (m m' : Moment Version T) (f : Eyes Version) (served e : Ended) (n n' : ℕ) → n' ≡ n → m.eyes.seen ≡ first ∷ [] → m.eyes.told ≡ first ∷ [] → m.count ≡ 0
-    → IsLaneCall replies number w turns m m' served → IsClosing (first ∷ rest) m'.eyes f served e → IsDone turns first rest w (told_of m m.eyes n) (told_of m' f n') e
-done_of number turns first rest w m m' f served e n n' asked seen told count c q =
+pub done_of : (turns : ℕ) (first : Version) (rest : List Version) (w : ℕ) (m m' : Moment Version) (f : Eyes Version) (served e : Ended) (n n' j k : ℕ) → n' ≡ n → m.eyes.seen ≡ first ∷ [] → m.eyes.told ≡ first ∷ [] → m.count ≡ 0
+    → (c : IsLaneCall replies w turns m m' served) → flat_map (λ t. t.notes) c.log ≡ range_with_len 0 k → IsClosing (first ∷ rest) m'.eyes f served e → IsDone turns first rest w (told_of m m.eyes n j) (told_of m' f n' k) e
+done_of turns first rest w m m' f served e n n' j k asked seen told count c are q =
     let one : length m.eyes.told ≡ 1 = ap length told in
     let some : 0 < length m.eyes.told = omega (arith, one) in
-    let run : IsLaneRun replies m'.eyes.seen w 0 0 (entries_of c.log) (tries_of c.log) = subst (λ (n : ℕ). IsLaneRun replies m'.eyes.seen w n 0 (entries_of c.log) (tries_of c.log)) count (c.all.run 0 some) in
+    let run : IsLaneRun replies m'.eyes.seen w 0 0 (entries_of replies.way c.log) (tries_of c.log) = subst (λ (n : ℕ). IsLaneRun replies m'.eyes.seen w n 0 (entries_of replies.way c.log) (tries_of c.log)) count (c.all.run 0 some) in
     let begins : IsPrefix (first ∷ []) m'.eyes.seen = subst (λ (l : List Version). IsPrefix l m'.eyes.seen) seen c.all.rise.seen in
     let rise = rise_trans m.eyes m'.eyes f c.all.rise q.rise in
-    let by = done_over number turns first rest w m m' f served e n n' asked one c q in
+    let by = done_over turns first rest w m m' f served e n n' j k asked one c are q in
     ⊎_elim
-    (λ (s : IsShut m'.eyes f served e).
-    by m'.eyes.seen run (inr (inl (record { first_is = begins; history = subst IsHistory s.seen s.history; rose = rose_later m.eyes.faults m'.eyes.faults f.faults c.all.rise.faults s.rose; twice = λ is. rose_twice m.eyes.faults m'.eyes.faults f.faults (c.all.refusal (refused_last turns c.log (subst (IsEnd turns c.log) is c.ending))) s.rose; ended_is = s.ended_is }))))
+    (λ (s : IsShut (first ∷ rest) m'.eyes f served e).
+    by m'.eyes.seen run (inr (inl (record { first_is = begins; beside = subst (λ l. IsPrefix l (first ∷ rest) ⊎ IsPrefix (first ∷ rest) l) s.seen s.beside; history = subst IsHistory s.seen s.history; rose = rose_later m.eyes.faults m'.eyes.faults f.faults c.all.rise.faults s.rose; twice = λ is. rose_twice m.eyes.faults m'.eyes.faults f.faults (c.all.refusal (refused_last turns c.log (subst (IsEnd turns c.log) is c.ending))) s.rose; ended_is = s.ended_is }))))
     (λ (t : IsWithin (first ∷ rest) m'.eyes f served e ⊎ IsPast (first ∷ rest) m'.eyes f e).
     ⊎_elim
     (λ (s : IsWithin (first ∷ rest) m'.eyes f served e).
     let told_le = prefix_length m'.eyes.told f.told q.rise.told in
     let le = prefix_length f.told (first ∷ rest) s.told in
-    by (first ∷ rest) (run_longer replies m'.eyes.seen (first ∷ rest) w 0 0 (entries_of c.log) (tries_of c.log) s.seen run)
-    (inl (record { same = refl; known = λ k d lt. let r = c.all.known k d lt in omega (arith, r, told_le, le); shown = omega (arith, rise.greatest, le); stays = λ none. s.stays ∙ c.all.stays none; ended_is = s.ended_is })))
+    by (first ∷ rest) (run_longer replies m'.eyes.seen (first ∷ rest) w 0 0 (entries_of replies.way c.log) (tries_of c.log) s.seen run)
+    (inl (record { same = refl; known = λ k d lt. let r = c.all.known k d lt in omega (arith, r, told_le, le); noted = let few = noted_within c.log k (length m'.eyes.told) are (c.all.told 0 some) c.all.known in omega (arith, few, told_le, le); shown = omega (arith, rise.greatest, le); stays = λ none. s.stays ∙ c.all.stays none; ended_is = s.ended_is })))
     (λ (s : IsPast (first ∷ rest) m'.eyes f e).
     let is : length f.told ≡ length f.seen = ap length s.told in
-    by f.seen (run_longer replies m'.eyes.seen f.seen w 0 0 (entries_of c.log) (tries_of c.log) s.seen run)
+    by f.seen (run_longer replies m'.eyes.seen f.seen w 0 0 (entries_of replies.way c.log) (tries_of c.log) s.seen run)
     (inr (inr (record { begins = s.begins; longer = s.longer; history = s.history; shown = shown_past (length f.seen) m.eyes.greatest f.greatest (omega (arith, one, is, rise.above, s.longer)) (omega (arith, is, rise.greatest)); stays = λ none. s.stays ∙ c.all.stays none; last = s.known; newest = s.newest; last_is = s.known_is; newest_is = s.newest_is; ended_is = s.ended_is }))))
     t)
     q.case
 
 -- the same, where some things are told by equations
-pub done_by : {T : Type 0} (number : T → ℕ) (turns : ℕ) (first : Version) (rest : List Version) (i w : ℕ) (m m' : Moment Version T) (f : Eyes Version) (served e : Ended) (h0 h : List Version) (port : Option PortTold) (faults : ℕ) (gate : Option GateTold) (n n' n'' : ℕ) → w ≡ i → h ≡ first ∷ rest → h0 ≡ first ∷ []
-    → m.eyes.seen ≡ h0 → m.eyes.told ≡ h0 → m.count ≡ 0 → IsLaneCall replies number w turns m m' served → IsClosing h m'.eyes f served e → port ≡ m'.port → faults ≡ m'.port_faults → gate ≡ m'.gate → n' ≡ n → n'' ≡ n'
-    → IsDone turns first rest i (told_of m m.eyes n) (record { port = port; port_faults = faults; gate = gate; asked = n''; looks = f.looks; greatest = f.greatest; door_faults = f.faults }) e
-done_by number turns first rest i w m m' f served e h0 h port faults gate n n' n'' same is opened seen told count c q p1 p2 p3 p4 p5 =
-    let done = done_of number turns first rest i m m' f served e n n' p4 (seen ∙ opened) (told ∙ opened) count (subst (λ (x : ℕ). IsLaneCall replies number x turns m m' served) same c) (subst (λ (x : List Version). IsClosing x m'.eyes f served e) is q) in
-    subst (λ (x : LaneTold). IsDone turns first rest i (told_of m m.eyes n) x e) (cc (p1, p2, p3, p5)) done
+pub done_by : (turns : ℕ) (first : Version) (rest : List Version) (i w : ℕ) (m m' : Moment Version) (f : Eyes Version) (served e : Ended) (h0 h : List Version) (port : Option PortTold) (faults : ℕ) (gate : Option GateTold) (n n' n'' j k l nones : ℕ) → w ≡ i → h ≡ first ∷ rest → h0 ≡ first ∷ []
+    → m.eyes.seen ≡ h0 → m.eyes.told ≡ h0 → m.count ≡ 0 → m.notes ≡ Some (record { coming = range_with_len 0 most_notes; nones = 0 }) → m'.notes ≡ Some (record { coming = range_with_len k (most_notes - k); nones = nones }) → k ≤ most_notes
+    → IsLaneCall replies w turns m m' served → IsClosing h m'.eyes f served e → port ≡ m'.port → faults ≡ m'.port_faults → gate ≡ m'.gate → n' ≡ n → n'' ≡ n' → l ≡ k
+    → IsDone turns first rest i (told_of m m.eyes n j) (record { port = port; port_faults = faults; gate = gate; asked = n''; looks = f.looks; greatest = f.greatest; door_faults = f.faults; noted = l }) e
+done_by turns first rest i w m m' f served e h0 h port faults gate n n' n'' j k l nones same is opened seen told count b a le c q p1 p2 p3 p4 p5 p6 =
+    let call = subst (λ (x : ℕ). IsLaneCall replies x turns m m' served) same c in
+    let given = subst (λ x. BothTell x (Some (record { coming = range_with_len k (most_notes - k); nones = nones })) (AreGiven call.log)) b (subst (λ x. BothTell m.notes x (AreGiven call.log)) a call.all.notes) in
+    let done = done_of turns first rest i m m' f served e n n' j k p4 (seen ∙ opened) (told ∙ opened) count call (notes_are call.log k nones 0 le given) (subst (λ (x : List Version). IsClosing x m'.eyes f served e) is q) in
+    subst (λ (x : LaneTold). IsDone turns first rest i (told_of m m.eyes n j) x e) (cc (p1, p2, p3, p5, p6)) done

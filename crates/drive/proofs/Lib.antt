@@ -1,6 +1,7 @@
 pub mod Joined
 pub mod Together
 pub mod Holding
+pub mod Noted
 pub mod Finished
 pub mod Growing
 pub mod Events

@@ -17,9 +17,10 @@ shut CellFault = CellFault
 shut (Above known newest) = Above known newest
 shut Spent = Spent
 
--- the look was refused: what was seen stays, which is a history
-pub record IsShut (before after : Eyes Version) (served ended : Ended) : Type 0 where
+-- the look was refused: what was seen stays, which is a history, and of it and the mapper's history one begins the other
+pub record IsShut (h : List Version) (before after : Eyes Version) (served ended : Ended) : Type 0 where
   pub seen : after.seen ≡ before.seen
+  pub beside : IsPrefix after.seen h ⊎ IsPrefix h after.seen
   pub history : IsHistory after.seen
   pub rose : Rose before.faults after.faults
   pub ended_is : ended ≡ shut served
@@ -50,4 +51,4 @@ pub record IsClosing (h : List Version) (before after : Eyes Version) (served en
   pub rise : IsRise before after
   pub learned : IsPrefix h after.told
   pub looks : after.looks ≡ raised before.looks 1
-  pub case : IsShut before after served ended ⊎ IsWithin h before after served ended ⊎ IsPast h before after ended
+  pub case : IsShut h before after served ended ⊎ IsWithin h before after served ended ⊎ IsPast h before after ended

@@ -1,5 +1,6 @@
 -- A lane after a drive.
 use Rattle.std.specs.Prelude.{◌≡◌, ◌⊎◌, ℕ, ◌+◌, ◌<◌, ◌≤◌, false, All, List, [], ◌∷◌, length, fold, max, sum_by, Option}
+use Rattle.std.specs.List.{flat_map, range_with_len}
 use mathlib.Core.List.{IsPrefix}
 use Rattle.outside.specs.Faults.{BothTell, Rose, raised}
 use Rattle.outside.specs.Port.{Packet, PortTold}
@@ -14,7 +15,7 @@ use Rattle.lane_model.specs.Turns.{Turn, IsTold, entries_of, failures, floor_aft
 use Rattle.lane_model.specs.Sessions.{IsEnd, IsGateRun}
 use Rattle.drive.specs.Closing.{shut}
 
--- what a lane tells at one moment: its port and gate, where they tell, the port's count of faults, and its door's numbers: the places and the looks that it was asked for, the greatest serial, and its faults
+-- what a lane tells at one moment: its port and gate, where they tell, the port's count of faults, its door's numbers, which are the places and the looks that it was asked for, the greatest serial, and its faults, and how many notes its worker was given
 pub record LaneTold : Type 0 where
   pub port : Option PortTold
   pub port_faults : ℕ
@@ -23,18 +24,26 @@ pub record LaneTold : Type 0 where
   pub looks : ℕ
   pub greatest : ℕ
   pub door_faults : ℕ
+  pub noted : ℕ
+
+-- the serial below which nothing may be that a worker knows behind some turns
+abbrev pub floor_behind : ℕ → List Turn → ℕ
+floor_behind floor [] = floor
+floor_behind floor (t ∷ log) = floor_behind (floor_after t.known t.came) log
 
 -- A lane stands over the mapper's history, in which all that it knew has its place;
 pub record IsOverNewest (h over : List Version) (log : List Turn) (served ended : Ended) (before after : LaneTold) : Type 0 where
   pub same : over ≡ h
   pub known : All (λ t. t.known < length h) log
+  pub noted : after.noted ≤ length h
   pub shown : after.greatest + 1 ≤ max (before.greatest + 1) (length h)
   pub stays : sum_by (λ t. refused_of t.came) log ≡ 0 → after.door_faults ≡ before.door_faults
   pub ended_is : ended ≡ served
 
--- or, where its closing look was refused, over what it had seen, which is a history from the same first version on, and then, if a look at a datagram was refused too, its door counted both;
-pub record IsOverSeen (first : Version) (over : List Version) (served ended : Ended) (before after : LaneTold) : Type 0 where
+-- or, where its closing look was refused, over what it had seen, which is a history from the same first version on, of which and the mapper's history one begins the other, and then, if a look at a datagram was refused too, its door counted both;
+pub record IsOverSeen (first : Version) (h over : List Version) (served ended : Ended) (before after : LaneTold) : Type 0 where
   pub first_is : IsPrefix (first ∷ []) over
+  pub beside : IsPrefix over h ⊎ IsPrefix h over
   pub history : IsHistory over
   pub rose : Rose before.door_faults after.door_faults
   pub twice : served ≡ CellFault → raised before.door_faults 2 ≤ after.door_faults
@@ -53,16 +62,18 @@ pub record IsOverPast (h over : List Version) (log : List Turn) (ended : Ended) 
   pub newest_is : newest + 1 ≡ length h
   pub ended_is : ended ≡ Above last newest
 
--- Lane w after a drive, whose worker knew the first version alone: the turns that it made, as a lane run; what was told; what port, gate and door tell, which was asked for no place; why it ended; that its port's count rose by at least as many as its calls failed, and stands where none did; that a datagram whose look was refused has a reply, which it missed; that the whole history was learned ahead of the closing look; and over which history it stands.
+-- Lane w after a drive, whose worker knew the first version alone: the turns that it made, as a lane run; what was told; what port, gate and door tell, which was asked for no place; why it ended; that its port's count rose by at least as many as its calls failed, and stands where none did; that a datagram whose look was refused has a reply, which it missed; that the notes that its worker was given are those of the first versions, as many as it tells, in their order, each once; that what its gate was shown last is no less than what was known by then; that the whole history was learned ahead of the closing look; and over which history it stands.
 pub record IsDone (turns : ℕ) (first : Version) (rest : List Version) (w : ℕ) (before after : LaneTold) (ended : Ended) : Type 0 where
   pub log : List Turn
   pub over : List Version
   pub served : Ended
   pub shown : ℕ
-  pub run : IsLaneRun replies over w 0 0 (entries_of log) (tries_of log)
+  pub run : IsLaneRun replies over w 0 0 (entries_of replies.way log) (tries_of log)
   pub told : IsTold 0 log
+  pub notes : flat_map (λ t. t.notes) log ≡ range_with_len 0 after.noted
+  pub noted : after.noted ≤ after.greatest + 1
   pub within : All (λ t. floor_after t.known t.came ≤ after.greatest) log
-  pub last : shown ≤ after.greatest
+  pub last : (floor_behind 0 log ≤ shown) × (shown ≤ after.greatest)
   pub port : BothTell before.port after.port (λ b c. c ≡ fold port_turn b log)
   pub gate : BothTell before.gate after.gate (IsGateRun shown log served)
   pub ending : IsEnd turns log served
@@ -74,4 +85,4 @@ pub record IsDone (turns : ℕ) (first : Version) (rest : List Version) (w : ℕ
   pub missed : All (λ t. (d : Packet) → t.came ≡ took d refused → is_silent d.octets ≡ false) log
   pub learned : length (first ∷ rest) ≤ after.greatest + 1
   pub rising : (before.greatest ≤ after.greatest) × (before.door_faults ≤ after.door_faults)
-  pub which : IsOverNewest (first ∷ rest) over log served ended before after ⊎ IsOverSeen first over served ended before after ⊎ IsOverPast (first ∷ rest) over log ended before after
+  pub which : IsOverNewest (first ∷ rest) over log served ended before after ⊎ IsOverSeen first (first ∷ rest) over served ended before after ⊎ IsOverPast (first ∷ rest) over log ended before after

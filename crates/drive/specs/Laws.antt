@@ -14,7 +14,7 @@ use Rattle.drive.specs.Driven.{AreDone, IsDriven, Lent}
 
 -- what the turns of a lane took and tried, if it stands over the mapper's history; else nothing
 abbrev pub log_over : {A B : Type 0} → List Turn → A ⊎ B → LaneLog
-log_over log (inl newest) = record { taken = entries_of log; tries = tries_of log }
+log_over log (inl newest) = record { taken = entries_of replies.way log; tries = tries_of log }
 log_over log (inr other) = record { taken = []; tries = [] }
 
 -- lane by lane

@@ -17,6 +17,22 @@ pub struct Lane<P, G, D> {
     pub gate: G,
     /// The worker's way to the maps.
     pub door: D,
+    /// How many notes the worker was given that served it last.
+    pub noted: u64,
+}
+
+impl<P, G, D> Lane<P, G, D> {
+    /// One that served nobody so far.
+    pub fn new(port: P, gate: G, door: D) -> Lane<P, G, D>
+        ensures { result ≡ record { port = port; gate = gate; door = door; noted = 0 } }
+    {
+        Lane {
+            port,
+            gate,
+            door,
+            noted: 0,
+        }
+    }
 }
 
 /// A worker, and how its lane ended.
@@ -93,15 +109,16 @@ pub(crate) trait Closes<N, H> {
 }
 
 impl<J: Naming, P: Port, G: Gate, D: Door> Runs<NoteRow<J>, Held<J>> for Lane<P, G, D> {
-    ghost use Rattle.std.specs.Prelude.{◌≡◌, None, ◌-◌, length};
+    ghost use Rattle.std.specs.Prelude.{◌≡◌, ◌≤◌, ◌-◌, ℕ, Some};
+    ghost use Rattle.std.specs.List.{range_with_len};
+    ghost use Rattle.outside.specs.Limits.{most_notes};
     ghost use Rattle.lane_model.specs.Sessions.{IsLaneCall};
     ghost use Rattle.lane_model.specs.Replies.{replies};
-    ghost use Rattle.map_cell.specs.declared.viewer.Note.{Note};
 
-    ghost ran = { λ turns a b v w. IsLaneCall replies (λ (n : Note J J.Naming). length n.front - 1) v.worker.number turns
-        (record { port = P.told a.port; gate = G.told a.gate; notes = None; eyes = record { seen = v.worker.viewer.seen; told = v.worker.viewer.told; looks = D.looks a.door; greatest = D.greatest a.door; faults = D.faults a.door }; count = v.worker.count; port_faults = P.faults a.port; gate_faults = G.faults a.gate })
-        (record { port = P.told b.port; gate = G.told b.gate; notes = None; eyes = record { seen = w.worker.viewer.seen; told = w.worker.viewer.told; looks = D.looks b.door; greatest = D.greatest b.door; faults = D.faults b.door }; count = w.worker.count; port_faults = P.faults b.port; gate_faults = G.faults b.gate })
-        w.ended × (D.asked b.door ≡ D.asked a.door) };
+    ghost ran = { λ turns a b v w. (nones : ℕ) × IsLaneCall replies v.worker.number turns
+        (record { port = P.told a.port; gate = G.told a.gate; notes = Some (record { coming = range_with_len 0 most_notes; nones = 0 }); eyes = record { seen = v.worker.viewer.seen; told = v.worker.viewer.told; looks = D.looks a.door; greatest = D.greatest a.door; faults = D.faults a.door }; count = v.worker.count; port_faults = P.faults a.port; gate_faults = G.faults a.gate })
+        (record { port = P.told b.port; gate = G.told b.gate; notes = Some (record { coming = range_with_len b.noted (most_notes - b.noted); nones = nones }); eyes = record { seen = w.worker.viewer.seen; told = w.worker.viewer.told; looks = D.looks b.door; greatest = D.greatest b.door; faults = D.faults b.door }; count = w.worker.count; port_faults = P.faults b.port; gate_faults = G.faults b.gate })
+        w.ended × (b.noted ≤ most_notes) × (D.asked b.door ≡ D.asked a.door) };
 
     fn run(&mut self, row: &NoteRow<J>, turns: u64, held: &mut Held<J>) {
         let mut notes = RowNotes::over(row);
@@ -113,6 +130,7 @@ impl<J: Naming, P: Port, G: Gate, D: Door> Runs<NoteRow<J>, Held<J>> for Lane<P,
             &mut notes,
             turns,
         );
+        self.noted = notes.given() as u64;
     }
 }
 
@@ -123,7 +141,7 @@ impl<J: Naming, P: Port, G: Gate, D: Door> Closes<Note<J>, Held<J>> for Lane<P, 
     ghost closed = { λ note a b v w. IsClosing note.front
         (record { seen = v.worker.viewer.seen; told = v.worker.viewer.told; looks = D.looks a.door; greatest = D.greatest a.door; faults = D.faults a.door })
         (record { seen = w.worker.viewer.seen; told = w.worker.viewer.told; looks = D.looks b.door; greatest = D.greatest b.door; faults = D.faults b.door })
-        v.ended w.ended × (P.told b.port ≡ P.told a.port) × (P.faults b.port ≡ P.faults a.port) × (G.told b.gate ≡ G.told a.gate) × (D.asked b.door ≡ D.asked a.door) };
+        v.ended w.ended × (P.told b.port ≡ P.told a.port) × (P.faults b.port ≡ P.faults a.port) × (G.told b.gate ≡ G.told a.gate) × (D.asked b.door ≡ D.asked a.door) × (b.noted ≡ a.noted) };
 
     fn close(&mut self, note: &Note<J>, held: &mut Held<J>) {
         held.ended = close_lane(&mut held.worker, &mut self.door, note, held.ended);

@@ -94,8 +94,8 @@ fn run_and_close<
     ensures history { IsHistory mapper.new.history }
     ensures len { vec_len works.new ≡ vec_len works.old }
     ensures done { (rest : List Version) × (mapper.new.history ≡ mapper.old.newest ∷ rest) × AllDone (λ i l k h. IsDone turns mapper.old.newest rest i
-        (record { port = P.told l.port; port_faults = P.faults l.port; gate = G.told l.gate; asked = D.asked l.door; looks = D.looks l.door; greatest = D.greatest l.door; door_faults = D.faults l.door })
-        (record { port = P.told k.port; port_faults = P.faults k.port; gate = G.told k.gate; asked = D.asked k.door; looks = D.looks k.door; greatest = D.greatest k.door; door_faults = D.faults k.door })
+        (record { port = P.told l.port; port_faults = P.faults l.port; gate = G.told l.gate; asked = D.asked l.door; looks = D.looks l.door; greatest = D.greatest l.door; door_faults = D.faults l.door; noted = l.noted })
+        (record { port = P.told k.port; port_faults = P.faults k.port; gate = G.told k.gate; asked = D.asked k.door; looks = D.looks k.door; greatest = D.greatest k.door; door_faults = D.faults k.door; noted = k.noted })
         h.ended) 0 lanes.old lanes.new works.new.items }
 {
     run_beside(rt, row, turns, works, lanes, mapper, desk);
@@ -140,12 +140,11 @@ fn serve_all<
     ensures history { IsHistory mapper.new.history }
     ensures len { vec_len works.new ≡ vec_len works.old }
     ensures done { (rest : List Version) × (mapper.new.history ≡ mapper.old.newest ∷ rest) × AllDone (λ i l k h. IsDone turns mapper.old.newest rest i
-        (record { port = P.told l.port; port_faults = P.faults l.port; gate = G.told l.gate; asked = D.asked l.door; looks = D.looks l.door; greatest = D.greatest l.door; door_faults = D.faults l.door })
-        (record { port = P.told k.port; port_faults = P.faults k.port; gate = G.told k.gate; asked = D.asked k.door; looks = D.looks k.door; greatest = D.greatest k.door; door_faults = D.faults k.door })
+        (record { port = P.told l.port; port_faults = P.faults l.port; gate = G.told l.gate; asked = D.asked l.door; looks = D.looks l.door; greatest = D.greatest l.door; door_faults = D.faults l.door; noted = l.noted })
+        (record { port = P.told k.port; port_faults = P.faults k.port; gate = G.told k.gate; asked = D.asked k.door; looks = D.looks k.door; greatest = D.greatest k.door; door_faults = D.faults k.door; noted = k.noted })
         h.ended) 0 lanes.old lanes.new works.new.items }
 {
-    let mut at = 0u32;
-    let _ = row.put_shown(rt, &mut at, mapper.note());
+    let _ = row.put_at(rt, 0, mapper.note());
     let mut desk = Desk {
         feed,
         out,
@@ -195,8 +194,8 @@ pub fn drive<
     requires viewers { All (λ v. (v.seen ≡ mapper.history) × (v.told ≡ mapper.history)) viewers.items }
     requires few { (vec_len viewers ≤ 16) × (vec_len viewers ≤ length lanes.old) }
     ensures driven { IfOk result (λ r. (ends : List Ended) × (length ends ≡ vec_len viewers) × AreEnds ends r.lanes × IsDriven turns mapper.newest r.feed ends
-        (record { feed = S.told feed.old; out = K.told out.old; maps = K.told maps.old; pace = M.told pace.old; lanes = map (λ l. record { port = P.told l.port; port_faults = P.faults l.port; gate = G.told l.gate; asked = D.asked l.door; looks = D.looks l.door; greatest = D.greatest l.door; door_faults = D.faults l.door }) lanes.old })
-        (record { feed = S.told feed.new; out = K.told out.new; maps = K.told maps.new; pace = M.told pace.new; lanes = map (λ l. record { port = P.told l.port; port_faults = P.faults l.port; gate = G.told l.gate; asked = D.asked l.door; looks = D.looks l.door; greatest = D.greatest l.door; door_faults = D.faults l.door }) lanes.new })) }
+        (record { feed = S.told feed.old; out = K.told out.old; maps = K.told maps.old; pace = M.told pace.old; lanes = map (λ l. record { port = P.told l.port; port_faults = P.faults l.port; gate = G.told l.gate; asked = D.asked l.door; looks = D.looks l.door; greatest = D.greatest l.door; door_faults = D.faults l.door; noted = l.noted }) lanes.old })
+        (record { feed = S.told feed.new; out = K.told out.new; maps = K.told maps.new; pace = M.told pace.new; lanes = map (λ l. record { port = P.told l.port; port_faults = P.faults l.port; gate = G.told l.gate; asked = D.asked l.door; looks = D.looks l.door; greatest = D.greatest l.door; door_faults = D.faults l.door; noted = l.noted }) lanes.new })) }
     ensures untouched { drop (vec_len viewers) lanes.new ≡ drop (vec_len viewers) lanes.old }
     ensures no_memory { OnErr result ((feed.new ≡ feed.old) × (out.new ≡ out.old) × (maps.new ≡ maps.old) × (lanes.new ≡ lanes.old) × (pace.new ≡ pace.old)) }
     ensures later { (K.faults out.old ≤ K.faults out.new) × (K.faults maps.old ≤ K.faults maps.new) × (S.faults feed.old ≤ S.faults feed.new) }

@@ -93,7 +93,7 @@ fn lane_of(alloc: Global, queries: u8, refused: &[u64]) -> Option<Lane<MemPort, 
     let door = door_of(alloc, refused)?;
     match MemGate::new(alloc, 100) {
         Err(_) => None,
-        Ok(gate) => Some(Lane { port, gate, door }),
+        Ok(gate) => Some(Lane::new(port, gate, door)),
     }
 }
 
@@ -437,11 +437,7 @@ fn held_lane<'a>(
     let port = port_of(alloc, queries)?;
     match held_gate(alloc, marks, lane, waits) {
         None => None,
-        Some(gate) => Some(Lane {
-            port,
-            gate,
-            door: PlainDoor::new(),
-        }),
+        Some(gate) => Some(Lane::new(port, gate, PlainDoor::new())),
     }
 }
 

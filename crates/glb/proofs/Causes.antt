@@ -49,7 +49,7 @@ shut_is e lane.PortEnd other h = let clash : is_cell_fault lane.CellFault ≡ fa
 served_is : (turns : ℕ) (first : Version) (rest : List Version) (w : ℕ) (b c : LaneTold) (e : Ended) → is_cell_fault e ≡ false → (d : IsDone turns first rest w b c e) → d.served ≡ e
 served_is turns first rest w b c e other d = go d.which
   where
-    go : IsOverNewest (first ∷ rest) d.over d.log d.served e b c ⊎ IsOverSeen first d.over d.served e b c ⊎ IsOverPast (first ∷ rest) d.over d.log e b c → d.served ≡ e
+    go : IsOverNewest (first ∷ rest) d.over d.log d.served e b c ⊎ IsOverSeen first (first ∷ rest) d.over d.served e b c ⊎ IsOverPast (first ∷ rest) d.over d.log e b c → d.served ≡ e
     go (inl newest) = sym newest.ended_is
     go (inr (inl seen)) = shut_is e d.served other seen.ended_is
     go (inr (inr past)) = let clash : is_cell_fault (lane.Above past.last past.newest) ≡ false = subst (λ (x : Ended). is_cell_fault x ≡ false) past.ended_is other in absurd (cc)
@@ -104,7 +104,7 @@ served_cell turns first rest w b c e fault d = go d.which
     refused lane.PortFault is ending = let no : is_cell_fault lane.PortFault ≡ true = subst (λ (x : Ended). is_cell_fault x ≡ true) is fault in absurd (cc)
     refused lane.Spent is ending = let no : is_cell_fault lane.Spent ≡ true = subst (λ (x : Ended). is_cell_fault x ≡ true) is fault in absurd (cc)
 
-    go : IsOverNewest (first ∷ rest) d.over d.log d.served e b c ⊎ IsOverSeen first d.over d.served e b c ⊎ IsOverPast (first ∷ rest) d.over d.log e b c → HasCellFault (length (first ∷ rest)) b c
+    go : IsOverNewest (first ∷ rest) d.over d.log d.served e b c ⊎ IsOverSeen first (first ∷ rest) d.over d.served e b c ⊎ IsOverPast (first ∷ rest) d.over d.log e b c → HasCellFault (length (first ∷ rest)) b c
     go (inl newest) = inl (refused d.served newest.ended_is d.ending)
     go (inr (inl seen)) = inl seen.rose
     go (inr (inr past)) = inr (above past.shown)

@@ -1,5 +1,6 @@
 -- What status 0 of `serve` says.
-use Rattle.std.specs.Prelude.{◌≡◌, ◌⊎◌, ℕ, zero, suc, ◌+◌, ◌≤◌, List, [], ◌∷◌, fold, map}
+use Rattle.std.specs.Prelude.{◌≡◌, ◌⊎◌, ℕ, zero, suc, ◌+◌, ◌≤◌, List, [], ◌∷◌, fold, length, map}
+use Rattle.std.specs.List.{flat_map, range_with_len}
 use Rattle.outside.specs.Faults.{BothTell, raised}
 use Rattle.topology_text.specs.Plan.{IsPlan, Plan}
 use Rattle.published_map.specs.Version.{Version}
@@ -14,20 +15,23 @@ use Rattle.demand_feed.specs.declared.run.FeedEnd.TheVariants as feed
 use Rattle.mapper.specs.Feeding.{IsFeed}
 use Rattle.mapper.specs.Scenes.{IsPrinted, scene}
 use Rattle.mapper.specs.Words.{map_text}
-use Rattle.drive.specs.Done.{LaneTold}
+use Rattle.drive.specs.Done.{LaneTold, floor_behind}
 use Rattle.drive.specs.Driven.{Succeeds}
 use Rattle.glb.specs.Words.{Service}
 use Rattle.glb.specs.Told.{Stage, Surroundings}
 use Rattle.glb.specs.Files.{Says, topology_file}
 use Rattle.glb.specs.Serve.{IsFirstOf, IsPlaced, IsStarted}
 
--- A lane that ended well: in each turn its gate was asked and its port after that, whose count of faults rose by at least as many as its calls failed, and stands where none did; each datagram with a reply was answered from a version of the history that is no older than what the lane had used or was told of; and it went on until its port's end or its gate's stop.
+-- A lane that ended well: in each turn its gate was asked and its port after that, whose count of faults rose by at least as many as its calls failed, and stands where none did; each datagram with a reply was answered from a version of the history that is no older than what the lane had used or was told of; it was given the notes of the first versions, as many as the lane tells, in their order, each once; what its gate was shown last is no less than what was known by then; and it went on until its port's end or its gate's stop.
 pub record IsWellDone (turns : ℕ) (history : List Version) (w : ℕ) (before after : LaneTold) : Type 0 where
   pub log : List Turn
   pub ended : Ended
   pub shown : ℕ
-  pub run : IsLaneRun replies history w 0 0 (entries_of log) (tries_of log)
+  pub run : IsLaneRun replies history w 0 0 (entries_of replies.way log) (tries_of log)
   pub told : IsTold 0 log
+  pub notes : flat_map (λ t. t.notes) log ≡ range_with_len 0 after.noted
+  pub noted : after.noted ≤ length history
+  pub last : floor_behind 0 log ≤ shown
   pub port : BothTell before.port after.port (λ b c. c ≡ fold port_turn b log)
   pub gate : BothTell before.gate after.gate (IsGateRun shown log ended)
   pub port_faults : raised before.port_faults (failures log) ≤ after.port_faults

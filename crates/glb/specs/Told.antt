@@ -24,7 +24,7 @@ pub record Surroundings : Type 0 where
   pub files_faults : ℕ
   pub stage : Stage
 
--- a lane, by what its port, gate and door tell
+-- a lane, by what its port, gate and door tell, and how many notes its worker was given
 abbrev pub lane_told : {P G D : Type 0} → (P → Option PortTold) → (P → ℕ) → (G → Option GateTold) → (D → ℕ) → (D → ℕ) → (D → ℕ) → (D → ℕ) → Lane P G D → LaneTold
 lane_told port port_faults gate asked looks greatest door_faults lane = record {
   port = port lane.port;
@@ -34,6 +34,7 @@ lane_told port port_faults gate asked looks greatest door_faults lane = record {
   looks = looks lane.door;
   greatest = greatest lane.door;
   door_faults = door_faults lane.door;
+  noted = lane.noted;
 }
 
 abbrev pub stage : Option Fed → Option Written → Option Written → Option (List PaceCall) → List LaneTold → ℕ → ℕ → ℕ → Stage

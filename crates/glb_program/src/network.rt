@@ -14,11 +14,11 @@ pub type UdpLane<'a, N> = Lane<UdpPort<'a, N>, FlagGate<'a>, PlainDoor>;
 
 /// A lane that is not opened.
 fn udp_lane<'a, N: Net>(net: &'a N, shared: &'a SharedUdp, flag: &'a StopFlag) -> UdpLane<'a, N> {
-    Lane {
-        port: UdpPort::new(net, shared),
-        gate: FlagGate::new(flag),
-        door: PlainDoor::new(),
-    }
+    Lane::new(
+        UdpPort::new(net, shared),
+        FlagGate::new(flag),
+        PlainDoor::new(),
+    )
 }
 
 /// As many of them as there are lanes, over one socket and with one flag.

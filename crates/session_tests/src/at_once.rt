@@ -80,17 +80,15 @@ type HoldLane<'a> = Lane<MemPort, HoldGate<'a>, PlainDoor>;
 fn held_lane(alloc: Global, marks: &Marks, held: Held) -> Result<HoldLane<'_>, NoMemory> {
     let waiting = queries(alloc, held.queries)?;
     let points = Vec::from_slice(alloc, held.points)?;
-    Ok(Lane {
-        port: MemPort::new(
-            alloc,
-            waiting,
-            Vec::new(alloc),
-            Vec::new(alloc),
-            Vec::new(alloc),
-        )?,
-        gate: HoldGate::new(alloc, marks, held.lane, points, 8)?,
-        door: PlainDoor::new(),
-    })
+    let port = MemPort::new(
+        alloc,
+        waiting,
+        Vec::new(alloc),
+        Vec::new(alloc),
+        Vec::new(alloc),
+    )?;
+    let gate = HoldGate::new(alloc, marks, held.lane, points, 8)?;
+    Ok(Lane::new(port, gate, PlainDoor::new()))
 }
 
 fn held_lanes<'a>(
@@ -142,10 +140,12 @@ fn serves(lane: &HoldLane<'_>, serials: &[u64]) -> bool {
     are_known(lane.port.taken(), serials) && are_tried(lane.port.tries(), serials)
 }
 
-/// Whether the first two lanes served these serials.
+/// Whether the first two lanes served these serials. The first was given the note of each map.
 fn serve_both(lanes: &[HoldLane<'_>], first: &[u64], second: &[u64]) -> bool {
     match lanes {
-        [one, two, ..] => serves(one, first) && serves(two, second),
+        [one, two, ..] => {
+            serves(one, first) && one.noted == first.len() as u64 && serves(two, second)
+        }
         _ => false,
     }
 }

@@ -76,11 +76,9 @@ fn lane_of(alloc: Global, script: Script) -> Result<MemLane, NoMemory> {
     let sends = script.sends.numbers(alloc)?;
     let places = script.places.numbers(alloc)?;
     let looks = script.looks.numbers(alloc)?;
-    Ok(Lane {
-        port: MemPort::new(alloc, waiting, opens, receives, sends)?,
-        gate: MemGate::new(alloc, script.goes)?,
-        door: MemDoor::new(places, looks),
-    })
+    let port = MemPort::new(alloc, waiting, opens, receives, sends)?;
+    let gate = MemGate::new(alloc, script.goes)?;
+    Ok(Lane::new(port, gate, MemDoor::new(places, looks)))
 }
 
 /// 16 lanes: the first ones as the scripts say, and quiet ones.

@@ -24,6 +24,6 @@ returns-clause-driven g c =
         newest = c.serve_all-end.new.mapper.newest;
         feed = feed_over _ _ _ _ _ _ _ _ _ _ _ _ _ _ _ _ _ opened s.done.1 s.run;
         goes_on = feed_goes_on _ _ _ _ _ _ _ c.args.mapper.newest s.done.0 s.run refl opened s.done.1 s.history;
-        lanes = are_done_in (λ l. record { port = g.P.Port.told l.port; port_faults = g.P.Port.faults l.port; gate = g.G.Gate.told l.gate; asked = g.D.Door.asked l.door; looks = g.D.Door.looks l.door; greatest = g.D.Door.greatest l.door; door_faults = g.D.Door.faults l.door }) (λ h. h.ended) _ _ _ _ _ _ _ _ c.split_at_mut-served.ensures.value s.done.2;
+        lanes = are_done_in (λ l. record { port = g.P.Port.told l.port; port_faults = g.P.Port.faults l.port; gate = g.G.Gate.told l.gate; asked = g.D.Door.asked l.door; looks = g.D.Door.looks l.door; greatest = g.D.Door.greatest l.door; door_faults = g.D.Door.faults l.door; noted = l.noted }) (λ h. h.ended) _ _ _ _ _ _ _ _ c.split_at_mut-served.ensures.value s.done.2;
       },
     )
