@@ -190,7 +190,8 @@ impl<N: Net> Port for UdpPort<'_, N> {
             }
             None => Sending::Failed,
         };
-        self.past.note(&PortEvent::Tried(octets, peer, serial, sending));
+        self.past
+            .note(&PortEvent::Tried(octets, peer, serial, sending));
         if let Sending::Failed = sending {
             self.faults = self.faults.saturating_add(1);
         }

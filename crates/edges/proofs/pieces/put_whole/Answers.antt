@@ -13,16 +13,16 @@ loop-preserved g c =
     let whole = rest_whole c.loop.at piece in
     elim c.match-write.branch [
       | in-Ok-write w ↦
-        let bound = subst (λ r. WritesAtMost r rest) w.in-Ok-write.is (subst (λ xs. WritesAtMost c.write.result xs) whole c.write.ensures.bound) in
-        let bytes = subst (λ r. WriteAppends (g.W.Write.contents c.loop.writer) (g.W.Write.contents c.write.new.self) r rest) w.in-Ok-write.is (subst (λ xs. WriteAppends (g.W.Write.contents c.loop.writer) (g.W.Write.contents c.write.new.self) c.write.result xs) whole c.write.ensures.bytes) in
-        subst (λ n. (n ≤ length piece) × Appends (g.W.Write.contents c.args.writer.now) (g.W.Write.contents c.write.new.self) (take n piece)) (sym w.at-is) (
-          omega (arith, bound, length-drop c.loop.at piece, c.loop.invariant.0),
-          appends_more _ _ _ c.loop.at w.in-Ok-write.count piece c.loop.invariant.1 bytes,
-        )
+          let bound = subst (λ r. WritesAtMost r rest) w.in-Ok-write.is (subst (λ xs. WritesAtMost c.write.result xs) whole c.write.ensures.bound) in
+          let bytes = subst (λ r. WriteAppends (g.W.Write.contents c.loop.writer) (g.W.Write.contents c.write.new.self) r rest) w.in-Ok-write.is (subst (λ xs. WriteAppends (g.W.Write.contents c.loop.writer) (g.W.Write.contents c.write.new.self) c.write.result xs) whole c.write.ensures.bytes) in
+          subst (λ n. (n ≤ length piece) × Appends (g.W.Write.contents c.args.writer.now) (g.W.Write.contents c.write.new.self) (take n piece)) (sym w.at-is) (
+            omega (arith, bound, length-drop c.loop.at piece, c.loop.invariant.0),
+            appends_more _ _ _ c.loop.at w.in-Ok-write.count piece c.loop.invariant.1 bytes,
+          )
       | in-Err-write+else-ne w ↦
-        let kept = subst (λ r. WriteAppends (g.W.Write.contents c.loop.writer) (g.W.Write.contents c.write.new.self) r rest) w.in-Err-write.is (subst (λ xs. WriteAppends (g.W.Write.contents c.loop.writer) (g.W.Write.contents c.write.new.self) c.write.result xs) whole c.write.ensures.bytes) in
-        subst (λ n. (n ≤ length piece) × Appends (g.W.Write.contents c.args.writer.now) (g.W.Write.contents c.write.new.self) (take n piece)) (sym w.at-is) (
-          c.loop.invariant.0,
-          appends_kept _ _ _ (take c.loop.at piece) c.loop.invariant.1 kept,
-        )
+          let kept = subst (λ r. WriteAppends (g.W.Write.contents c.loop.writer) (g.W.Write.contents c.write.new.self) r rest) w.in-Err-write.is (subst (λ xs. WriteAppends (g.W.Write.contents c.loop.writer) (g.W.Write.contents c.write.new.self) c.write.result xs) whole c.write.ensures.bytes) in
+          subst (λ n. (n ≤ length piece) × Appends (g.W.Write.contents c.args.writer.now) (g.W.Write.contents c.write.new.self) (take n piece)) (sym w.at-is) (
+            c.loop.invariant.0,
+            appends_kept _ _ _ (take c.loop.at piece) c.loop.invariant.1 kept,
+          )
     ]
