@@ -31,12 +31,12 @@ GLB = os.environ.get("GLB", str(TOP / "crates/glb_program/out/glb_program"))
 FILES = TOP / "examples"
 PATIENCE = 8
 QUERY = bytes.fromhex("123401000001000000000000037777770363646e076578616d706c650000010001")
-FIRST = b"glb map 1\nplace g1 A 8\nplace g2 A 2\nplace g2 B 5\nfull g2 A A\nfull g2 B R\nend\n"
+FIRST = b"glb map 2\nplace g1 A 8\nplace g2 A 2\nplace g2 B 5\nfull g2 A A\nfull g2 B R\nend\n"
 GOOD = {
     "check": b"good\n",
     "map": FIRST,
     "answer": b"answer 123485000001000100000000037777770363646e076578616d706c650000010001c00c00010001000000140004c0000201\n",
-    "repair": b"glb map 1\nplace g1 A 6\nplace g2 A 3\nplace g2 B 5\nfull g2 A A\nend\n",
+    "repair": b"glb map 2\nplace g1 A 6\nplace g2 A 3\nplace g2 B 5\nfull g2 A A\nend\n",
     "large": None,
 }
 WORDS = {
@@ -48,9 +48,9 @@ WORDS = {
 }
 # g2 asks for 4, and then g1 for 7: which of the two maps are published, and the numbers of each
 FEED = b"demand g2 4\ncommit\ndemand g1 7\ncommit\nshow\nstop\n"
-SECOND = b"glb map 1\nplace g1 A 8\nplace g2 A 2\nplace g2 B 2\nfull g2 A A\nend\n"
-THIRD = b"glb map 1\nplace g1 A 7\nplace g2 A 3\nplace g2 B 1\nfull g2 A A\nend\n"
-OTHER = b"glb map 1\nplace g1 A 7\nplace g2 A 3\nplace g2 B 5\nfull g2 A A\nend\n"
+SECOND = b"glb map 2\nplace g1 A 8\nplace g2 A 2\nplace g2 B 2\nfull g2 A A\nend\n"
+THIRD = b"glb map 2\nplace g1 A 7\nplace g2 A 3\nplace g2 B 1\nfull g2 A A\nend\n"
+OTHER = b"glb map 2\nplace g1 A 7\nplace g2 A 3\nplace g2 B 5\nfull g2 A A\nend\n"
 REFUSED = b"refused commit memory\n"
 SESSIONS = [
     (b"published 1\npublished 2\nshow 2 placed 11 unplaced 0 full 1\n", FIRST + SECOND + THIRD),

@@ -257,7 +257,7 @@ def follow_demand(host, server):
     expect("demand g1 12", [server.line() for _ in range(4)], ["published 41", "show 41 placed 15 unplaced 5 full 2", "refused 85 unknown name", "refused commit lines 1"])
     seen = [addresses(ask(host, server.port, head() + QUESTION)) for _ in range(600)]
     expect(f"shares after a change of demand @{host}", (all(s in ({A}, {B}) for s in seen), 50 < seen.count({B}) < 150), (True, True))
-    expect("maps", b"".join(server.maps).count(b"glb map 1\n"), 42)
+    expect("maps", b"".join(server.maps).count(b"glb map 2\n"), 42)
 
 
 class Between(threading.Thread):
