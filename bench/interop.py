@@ -20,6 +20,7 @@ import shutil
 import socket
 import subprocess
 import sys
+import tempfile
 import threading
 from pathlib import Path
 
@@ -33,6 +34,7 @@ MOST_DATAGRAMS = 400
 
 SOA = "ns1.ops.example. admin.ops.example. 1 3600 600 86400 60"
 A, AAAA = "192.0.2.1", "2001:db8::1"
+MANY = {f"2001:db8::{number:x}" for number in range(1, 21)}
 NS = {"ns1.ops.example.", "ns2.ops.example."}
 
 # what is asked: name, type, words for dig and kdig, and what the reply has to be: RCODE, the data of its
@@ -170,6 +172,26 @@ def ask_empty(port, host="127.0.0.1"):
     expect("dig where nothing is placed", parse_dig(text), ("SERVFAIL", set(), False, False))
 
 
+def long_files(folder):
+    """The example's zone over one pool with twenty IPv6 addresses, and its map."""
+    zone = (TOP / "examples/tree.toml").read_text().split("[[node]]")[0]
+    addresses = ", ".join(f'"{address}"' for address in sorted(MANY))
+    topology, text = Path(folder) / "topology", Path(folder) / "map"
+    topology.write_text(f'{zone}[[node]]\nname = "P"\ncapacity = 1\npool = true\naaaa = [{addresses}]\n[[group]]\nname = "g"\ndemand = 1\npools = ["P"]\nscores = [1]\nprefixes = ["0.0.0.0/0", "::/0"]\n')
+    text.write_text("glb map 1\nplace g P 1\nend\n")
+    return [str(topology), str(text)]
+
+
+def ask_long(port, host="127.0.0.1"):
+    """An answer of 593 octets, and of 604 with an OPT record, is left out where the client takes fewer, and TC says so."""
+    for words, is_whole in [(["+noedns"], False), (["+bufsize=603"], False), (["+bufsize=604"], True), (["+bufsize=100"], False), (["+bufsize=4096"], True)]:
+        text = run_tool("dig", f"@{host}", "-p", str(port), "+tries=1", "+nocookie", "+ignore", *words, "www.cdn.example", "AAAA")
+        flags = re.search(r"flags: ([a-z ]*);", text)
+        expect(f"dig {words}", parse_dig(text), ("NOERROR", MANY if is_whole else set(), True, False))
+        expect(f"dig {words} TC", flags is not None and "tc" in flags.group(1).split(), not is_whole)
+        expect(f"dig {words} complains", complaints(text), [])
+
+
 def open_port():
     port = socket.socket(socket.AF_INET, socket.SOCK_DGRAM)
     port.bind(("127.0.0.1", 0))
@@ -213,6 +235,8 @@ def main():
         subprocess.run(["rt", "run", "--", "check", *FILES], cwd=TOP / "crates/glb_program", capture_output=True)
     while_served(FILES, ask_all)
     while_served(EMPTY, ask_empty)
+    with tempfile.TemporaryDirectory() as folder:
+        while_served(long_files(folder), ask_long)
     tell()
 
 
