@@ -66,7 +66,7 @@ struct Row {
     end: FeedEnd,
     out: &'static str,
     maps: &'static str,
-    /// The calls of the pace, and how many notes went into the row.
+    /// The calls of the pace, and how many notes went into the row behind that of the first map.
     calls: &'static [PaceCall],
     notes: usize,
 }
@@ -270,6 +270,17 @@ fn is_as(row: &Row, end: FeedEnd, out: &[u8], maps: &[u8]) -> bool {
     end == row.end
 }
 
+/// A row that tells of the newest map alone.
+fn row_of<J: Naming, R: Wait>(
+    rt: &R,
+    alloc: Global,
+    mapper: &Mapper<J>,
+) -> Result<NoteRow<J>, NoMemory> {
+    let row = NoteRow::new(alloc)?;
+    let _ = row.put_at(rt, 0, mapper.note());
+    Ok(row)
+}
+
 /// How many notes there are in a row.
 fn count_notes<J: Naming>(row: &NoteRow<J>) -> usize {
     let mut notes = RowNotes::over(row);
@@ -305,7 +316,7 @@ fn feeds<J: Naming, R: Wait>(
     let mut said = said;
     let mut texts = texts;
     let mut calls = calls;
-    let Ok(notes) = NoteRow::new(alloc) else {
+    let Ok(notes) = row_of(rt, alloc, mapper) else {
         return false;
     };
     let end = mapper.run_feed(
@@ -323,7 +334,7 @@ fn feeds<J: Naming, R: Wait>(
     if calls.calls() != row.calls {
         return false;
     }
-    count_notes(&notes) == row.notes && source.shortest() == Some(32_768)
+    count_notes(&notes) == row.notes.saturating_add(1) && source.shortest() == Some(32_768)
 }
 
 /// A mapper of the example.

@@ -1,7 +1,7 @@
 //! Each note goes into the row behind its map's text and the line that it is published.
 ghost use Rattle.std.specs.Prelude.{◌≡◌, ◌<◌, ◌^◌, None};
 
-use super::{count_notes, opened};
+use super::{count_notes, opened, row_of};
 use demand_feed::FeedEnd;
 use map_cell::{EmptyHistory, Naming, NoteRow, RowNotes};
 use mapper::Mapper;
@@ -16,7 +16,7 @@ use std::test::Fail;
 const FEED: &[u8] =
     b"demand g2 4\ncommit\ndemand g2 5\ncommit\ndemand g1 3\ndemand g2 2\ncommit\nshow\nstop\n";
 
-/// A sink that looks at a row at each put of a map's text or of a line `published`: the notes of the publications before must be there, and no other.
+/// A sink that looks at a row at each put of a map's text or of a line `published`: the notes of the first map and of the publications before must be there, and no other.
 #[derive(Drop)]
 struct Looking<'a, J: Naming> {
     notes: RowNotes<'a, J>,
@@ -55,7 +55,7 @@ impl<J: Naming> Sink for Looking<'_, J> {
     fn put(&mut self, piece: &[u8]) -> Put {
         if piece.starts_with(b"glb map 2\n") || piece.starts_with(b"published ") {
             self.look();
-            if self.seen != self.told {
+            if self.seen != self.told.saturating_add(1) {
                 self.is_wrong = true;
             }
             self.told = self.told.saturating_add(1);
@@ -85,14 +85,14 @@ fn is_in_order<J: Naming, R: Wait>(
 {
     let mut feed = feed_of(alloc)?;
     let mut pace = MemPace::new(alloc, 64)?;
-    let row = NoteRow::new(alloc)?;
+    let row = row_of(rt, alloc, mapper)?;
     let mut out = Looking::over(&row);
     let mut maps = Looking::over(&row);
     let end = mapper.run_feed(
         rt, &mut feed, &mut out, &mut maps, &mut pace, &row, 1_000_000,
     );
     let came = (end, saw(&out, 3), saw(&maps, 3), count_notes(&row));
-    Ok(came == (FeedEnd::Ended, true, true, 3))
+    Ok(came == (FeedEnd::Ended, true, true, 4))
 }
 
 /// The same, of a mapper of the example.
