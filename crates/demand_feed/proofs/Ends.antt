@@ -84,7 +84,7 @@ is_piece buffer k full within = let size = length-take k buffer in (omega (arith
 pub read_more : (pieces : List (List ℕ)) (buffer : List ℕ) (k : ℕ) (a b c : Fed) → IsPiece (take k buffer) → HasRead pieces a b → IsRead read_size (read.Got k) buffer b c → HasRead (pieces ++ take k buffer ∷ []) a c
 read_more pieces buffer k a b c p r s = record {
   left = tell_trans a.left b.left c.left (λ x y. x ≡ concat pieces ++ y) (λ x y. x ≡ take k buffer ++ y) (λ x y. x ≡ concat (pieces ++ take k buffer ∷ []) ++ y) r.left s.gives.0
-    (λ x y z p q. p ∙ ap (λ xs. concat pieces ++ xs) q ∙ sym (append_assoc (concat pieces) (take k buffer) z) ∙ ap (λ xs. xs ++ z) (sym (concat_end pieces (take k buffer))));
+      (λ x y z p q. p ∙ ap (λ xs. concat pieces ++ xs) q ∙ sym (append_assoc (concat pieces) (take k buffer) z) ∙ ap (λ xs. xs ++ z) (sym (concat_end pieces (take k buffer))));
   given = s.gives.1 ∙ ap (λ xs. xs ++ take k buffer ∷ []) r.given ∙ append_assoc a.pieces pieces (take k buffer ∷ []);
   shortest = shortest_again a.shortest b.shortest c.shortest r.shortest s.shortest;
   sizes = All-push IsPiece pieces (take k buffer) r.sizes p;

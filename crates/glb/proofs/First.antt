@@ -8,6 +8,8 @@ use Rattle.outside.specs.Source.{Fed}
 use Rattle.outside.specs.declared.pace.PaceCall.{PaceCall}
 use Rattle.topology_text.specs.Plan.{Plan}
 use Rattle.map_cell.specs.Ends.{PublisherState}
+use Rattle.map_cell.specs.declared.door.OpenFault.{OpenFault}
+use Rattle.map_cell.specs.declared.door.OpenFault.TheVariants as open_fault
 use Rattle.lane_model.specs.declared.ended.Ended.{Ended}
 use Rattle.demand_feed.specs.declared.run.FeedEnd.{FeedEnd}
 use Rattle.demand_feed.specs.declared.run.FeedEnd.TheVariants as feed
@@ -20,7 +22,7 @@ use Rattle.glb.specs.declared.starting.Start.TheVariants as start
 use Rattle.glb.specs.declared.status.Status.{Status}
 use Rattle.glb.specs.declared.status.Status.TheVariants as status
 use Rattle.glb.specs.Serve.{IsFirstSession, IsSession, IsStarted, PlacedFirst}
-use Rattle.glb.specs.Starting.{IsStart, status_at}
+use Rattle.glb.specs.Starting.{IsAskedSome, IsStart, status_at}
 use Rattle.glb.specs.Told.{Stage, stage}
 use Rattle.glb.proofs.Served.{is_served}
 
@@ -71,3 +73,22 @@ begun turns listen workers t m fed out maps pace lanes lanes' ff of mf after res
   (record { history = refl; serial = first.serial; plan = first.plan; market = first.market; good = first.good; best = first.best }, scratch),
   session,
 )
+
+-- a session whose map cell was not opened
+pub unopened : (turns : ℕ) (listen : Listen) (workers : ℕ) (t : Plan) (fault : OpenFault) (fed : Option Fed) (out maps : Option Written) (pace : Option (List PaceCall)) (lanes lanes' : List LaneTold) (ff of mf : ℕ) (result : Status)
+    → IsAskedSome workers fault lanes lanes' → (fault ≡ open_fault.NoMemory → result ≡ status.NoMemory) → (fault ≡ open_fault.CellFault → result ≡ status.CellFault)
+    → IsSession turns listen workers t (stage fed out maps pace lanes ff of mf) (stage fed out maps pace lanes' ff of mf) result
+unopened turns listen workers t open_fault.NoMemory fed out maps pace lanes lanes' ff of mf result asked memory refused = inl (record {
+  why = inl (memory refl);
+  stays = λ _. asked.2 (λ same. cc);
+  asked = asked.0;
+  lent = refl;
+  rest = refl;
+})
+unopened turns listen workers t open_fault.CellFault fed out maps pace lanes lanes' ff of mf result asked memory refused = inl (record {
+  why = inr (refused refl, asked.1 refl);
+  stays = λ other. absurd (other (refused refl));
+  asked = asked.0;
+  lent = refl;
+  rest = refl;
+})
