@@ -211,7 +211,10 @@ const CUT_REPLIES: &[CutRow] = &[
 
 /// A header with so many answers, the question for the addresses, and so many OPT records.
 fn push_front(octets: &mut ReplyBuffer, flags: u8, answers: u8, opts: u8) {
-    push(octets, &[0x12, 0x34, flags, 0, 0, 1, 0, answers, 0, 0, 0, opts]);
+    push(
+        octets,
+        &[0x12, 0x34, flags, 0, 0, 1, 0, answers, 0, 0, 0, opts],
+    );
     push(octets, b"\x03www\x03cdn\x07example\0\0\x1c\0\x01");
 }
 
