@@ -15,7 +15,9 @@ net=10.77.7
 passed=0
 failed=0
 
+# a command on a host; and in the place of the shell that runs it, so that its number is the command's own
 on() { local host=$1; shift; ip netns exec "glbfleet$host" "$@"; }
+be_on() { local host=$1; shift; exec ip netns exec "glbfleet$host" "$@"; }
 ok() { if "${@:2}"; then passed=$((passed + 1)); else failed=$((failed + 1)) && echo "not so: $1"; fi; }
 now() { date +%s%N; }
 # how many milliseconds since a time of `now`
@@ -46,13 +48,14 @@ done
 # A member of etcd on each; each program of a host asks its own member first.
 members=m1=http://$net.1:2380,m2=http://$net.2:2380,m3=http://$net.3:2380
 member() {
-    on "$1" etcd --name "m$1" --data-dir "$work/etcd$1" --listen-peer-urls "http://$net.$1:2380" --initial-advertise-peer-urls "http://$net.$1:2380" \
+    be_on "$1" etcd --name "m$1" --data-dir "$work/etcd$1" --listen-peer-urls "http://$net.$1:2380" --initial-advertise-peer-urls "http://$net.$1:2380" \
         --listen-client-urls "http://$net.$1:2379" --advertise-client-urls "http://$net.$1:2379" --initial-cluster "$members" >>"$work/etcd$1.log" 2>&1 &
     echo $! >"$work/etcd$1.pid"
 }
 for host in $hosts; do member "$host"; done
 etcd_of() { local order; case $1 in 1) order="1 2 3" ;; 2) order="2 3 1" ;; 3) order="3 1 2" ;; esac; for host in $order; do printf 'http://%s.%s:2379,' "$net" "$host"; done | sed 's/,$//'; }
 tool() { local host=$1; shift; on "$host" env GLB_ETCD="$(etcd_of "$host")" "$here/tools/$@"; }
+be_tool() { local host=$1; shift; be_on "$host" env GLB_ETCD="$(etcd_of "$host")" "$here/tools/$@"; }
 for _ in $(seq 100); do tool 1 glb-fleet >/dev/null 2>&1; [ $? != 1 ] && break; tool 1 glb-fleet 2>/dev/null | grep -q 'log ends' && break; sleep 0.1; done
 
 # A server and its follower on each, begun again where they end, as systemd does (examples/glb-fleet@.service).
@@ -63,11 +66,11 @@ serve() {
         rm -rf "$place"
         mkdir "$place"
         mkfifo "$place/feed" "$place/said" "$place/maps"
-        on "$host" "$glb" serve "$work/topology.toml" --listen "$net.$host:53" --workers 2 0<>"$place/feed" 1<>"$place/said" 2<>"$place/maps" &
+        be_on "$host" "$glb" serve "$work/topology.toml" --listen "$net.$host:53" --workers 2 0<>"$place/feed" 1<>"$place/said" 2<>"$place/maps" &
         echo $! >"$place/server"
         local server=$!
         while kill -0 "$server" 2>/dev/null && [ ! -e "$work/over" ]; do
-            tool "$host" glb-follow --name "host$host" --topology "$work/topology.toml" --feed "$place/feed" --said "$place/said" --maps "$place/maps" --state "$place/state" >>"$work/follow$host.log" 2>&1 &
+            be_tool "$host" glb-follow --name "host$host" --topology "$work/topology.toml" --feed "$place/feed" --said "$place/said" --maps "$place/maps" --state "$place/state" >>"$work/follow$host.log" 2>&1 &
             echo $! >"$place/follower"
             wait -n "$server" $! 2>/dev/null
             sleep 0.2
@@ -122,7 +125,7 @@ ok 'all agree with the next follower' agreed
 rm -f "$work/written" "$work/lost"
 writer 2 1 20 & one=$!
 sleep 0.5
-kill -9 "$(pgrep -f -- "--name m1 " | head -n 1)"
+kill -9 "$(cat "$work/etcd1.pid")"
 wait $one
 ok 'no append is lost with one member of three' [ ! -e "$work/lost" ]
 ok 'none has two numbers' [ "$(sort -n "$work/written" | uniq | wc -l)" = 20 ]
