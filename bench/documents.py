@@ -26,10 +26,10 @@ CRATES = [folder.name for folder in (TOP / "crates").iterdir()]
 # docs/PROOFS.md is not among them: its pitfalls name what is not there
 DOCUMENTS = sorted(str(path.relative_to(TOP)) for folder in (".", "bench", "docs") for path in (TOP / folder).glob("*.md") if path.name != "PROOFS.md")
 # other programs, of whose words only the paths are looked up, and words of the system
-PROGRAMS = {"dig", "echo", "ldd", "ls", "man", "mkfifo", "nstat", "python3", "rt", "ss", "systemctl", "systemd-analyze", "tail", "usermod"}
-ELSEWHERE = {"PIPE_BUF", "net", "core", "rmem_default"}
+PROGRAMS = {"dig", "dnscap", "dnstop", "echo", "ldd", "ls", "man", "mkfifo", "nstat", "python3", "rt", "ss", "systemctl", "systemd-analyze", "tail", "ulimit", "usermod"}
+ELSEWHERE = {"PIPE_BUF", "net", "core", "rmem_default", "write_all"}
 # places that are made when they are used
-MADE = re.compile(r"/(run|var|etc|proc|dev)/|.*/out/")
+MADE = re.compile(r"/(run|var|etc|proc|dev|usr/local)/|.*/out/")
 # words in capitals stand for others
 STANDS_FOR_OTHERS = re.compile(r"[A-Z]+")
 
