@@ -1,5 +1,5 @@
 -- All that is told outside at one moment.
-use Rattle.std.specs.Prelude.{◌≡◌, ℕ, List, Option}
+use Rattle.std.specs.Prelude.{◌≡◌, ℕ, List, Option, map}
 use Rattle.outside.specs.Gate.{GateTold}
 use Rattle.outside.specs.Port.{PortTold}
 use Rattle.outside.specs.Shelf.{Shelved}
@@ -7,13 +7,14 @@ use Rattle.outside.specs.Sink.{Written}
 use Rattle.outside.specs.Source.{Fed}
 use Rattle.outside.specs.declared.pace.PaceCall.{PaceCall}
 use Rattle.drive.specs.Done.{LaneTold}
-use Rattle.drive.specs.Driven.{Lent}
+use Rattle.drive.specs.Driven.{Lent as LentTold}
 use Rattle.drive.specs.declared.lane.Lane.{Lane}
 use Rattle.glb.specs.Outcome.{Faults, Outside}
+use Rattle.glb.specs.declared.lent.Lent.{Lent}
 
 -- What all but the files tells at one moment: what a drive is lent, and the counts of faults of the feed and of both outputs.
 pub record Stage : Type 0 where
-  pub lent : Lent
+  pub lent : LentTold
   pub feed_faults : ℕ
   pub out_faults : ℕ
   pub maps_faults : ℕ
@@ -44,6 +45,15 @@ stage feed out maps pace lanes feed_faults out_faults maps_faults = record {
   out_faults = out_faults;
   maps_faults = maps_faults;
 }
+
+-- what all that is lent to a session tells
+abbrev pub stage_of : {S K P G D M : Type 0} → (S → Option Fed) → (S → ℕ) → (K → Option Written) → (K → ℕ) → (P → Option PortTold) → (P → ℕ) → (G → Option GateTold) → (D → ℕ) → (D → ℕ) → (D → ℕ) → (D → ℕ) → (M → Option (List PaceCall)) → Lent S K P G D M → Stage
+stage_of fed feed_faults written faults port port_faults gate asked looks greatest door_faults paced l =
+    stage (fed l.feed.now) (written l.out.now) (written l.maps.now) (paced l.pace.now) (map (lane_told port port_faults gate asked looks greatest door_faults) l.lanes.now) (feed_faults l.feed.now) (faults l.out.now) (faults l.maps.now)
+
+-- the same things are lent
+abbrev pub IsSame : {S K P G D M : Type 0} → Lent S K P G D M → Lent S K P G D M → Type 0
+IsSame a b = (b.feed.ghost_name ≡ a.feed.ghost_name) × (b.out.ghost_name ≡ a.out.ghost_name) × (b.maps.ghost_name ≡ a.maps.ghost_name) × (b.lanes.ghost_name ≡ a.lanes.ghost_name) × (b.pace.ghost_name ≡ a.pace.ghost_name)
 
 abbrev pub surroundings : Option Shelved → ℕ → Stage → Surroundings
 surroundings files files_faults stage = record { files = files; files_faults = files_faults; stage = stage }

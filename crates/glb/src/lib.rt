@@ -6,6 +6,7 @@ mod check;
 mod ending;
 mod files;
 mod large;
+mod lent;
 mod map;
 mod placing;
 mod repair;

@@ -6,14 +6,16 @@ ghost use Rattle.mapper.specs.Mappers.{IsFirst, IsFromScratch};
 ghost use Rattle.glb.specs.Program.{IsPromised};
 ghost use Rattle.glb.specs.Serve.{IsFirstSession, IsSession, PlacedFirst, is_cell_fault, is_port_fault, is_spent, status_by};
 ghost use Rattle.glb.specs.Starting.{IsAskedSome, at_place, status_at};
-ghost use Rattle.glb.specs.Told.{lane_told, stage, surroundings};
-ghost use Rattle.glb.specs.Words.{serve as task, service};
+ghost use Rattle.glb.specs.Commands.{service_asked};
+ghost use Rattle.glb.specs.Told.{IsSame, lane_told, stage_of, surroundings};
+ghost use Rattle.glb.specs.Words.{serve as task};
 
 use crate::ending::finish;
 use crate::files::load_topology;
+use crate::lent::Lent;
 use crate::starting::{Start, start_lanes};
 use crate::status::Status;
-use addr_text::Listen;
+use crate::words::Service;
 use demand_feed::FeedEnd;
 use drive::{Lane, drive};
 use lane_model::Ended;
@@ -182,22 +184,23 @@ fn serve_first<
     alloc: Global,
     mapper: Mapper<J>,
     viewers: Vec<Viewer<J>>,
-    listen: Listen,
-    workers: u8,
-    feed: &mut S,
-    out: &mut K,
-    maps: &mut K,
-    lanes: &mut [Lane<P, G, D>],
-    pace: &mut M,
-    turns: u64,
+    service: &Service<'_>,
+    lent: &mut Lent<'_, '_, '_, '_, '_, S, K, P, G, D, M>,
 ) -> Status
     requires serial { mapper.newest.serial ≡ 0 }
-    requires viewers { (vec_len viewers ≡ workers) × All (λ v. (v.seen ≡ mapper.history) × (v.told ≡ mapper.history)) viewers.items }
-    requires workers { (workers ≤ 16) × (workers ≤ length lanes.old) }
-    requires turns { turns ≤ MOST_TURNS }
-    ensures { IsFirstSession turns listen workers mapper.newest (stage (S.told feed.old) (K.told out.old) (K.told maps.old) (M.told pace.old) (map (lane_told P.told P.faults G.told D.asked D.looks D.greatest D.faults) lanes.old) (S.faults feed.old) (K.faults out.old) (K.faults maps.old)) (stage (S.told feed.new) (K.told out.new) (K.told maps.new) (M.told pace.new) (map (lane_told P.told P.faults G.told D.asked D.looks D.greatest D.faults) lanes.new) (S.faults feed.new) (K.faults out.new) (K.faults maps.new)) result }
+    requires viewers { (vec_len viewers ≡ service.now.workers) × All (λ v. (v.seen ≡ mapper.history) × (v.told ≡ mapper.history)) viewers.items }
+    requires workers { (service.now.workers ≤ 16) × (service.now.workers ≤ length lent.old.lanes.now) }
+    requires turns { lent.old.turns ≤ MOST_TURNS }
+    ensures keeps { IsSame lent.old lent.new }
+    ensures served { IsFirstSession lent.old.turns service.now.listen service.now.workers mapper.newest (stage_of S.told S.faults K.told K.faults P.told P.faults G.told D.asked D.looks D.greatest D.faults M.told lent.old) (stage_of S.told S.faults K.told K.faults P.told P.faults G.told D.asked D.looks D.greatest D.faults M.told lent.new) result }
 {
-    match start_lanes(mapper.text(), &listen, workers, maps, lanes) {
+    match start_lanes(
+        mapper.text(),
+        &service.listen,
+        service.workers,
+        lent.maps,
+        lent.lanes,
+    ) {
         Start::NoPort => {
             mapper.close(rt);
             Status::PortFault
@@ -207,7 +210,8 @@ fn serve_first<
             Status::SinkFault
         }
         Start::Ready => match drive(
-            rt, alloc, mapper, viewers, feed, out, maps, lanes, pace, turns,
+            rt, alloc, mapper, viewers, lent.feed, lent.out, lent.maps, lent.lanes, lent.pace,
+            lent.turns,
         ) {
             Ok(end) => status_of(end.feed, &end.lanes),
             Err(NoMemory) => Status::NoMemory,
@@ -230,24 +234,17 @@ fn serve_topology<
     alloc: Global,
     history: EmptyHistory,
     topology: Topology,
-    listen: Listen,
-    workers: u8,
-    feed: &mut S,
-    out: &mut K,
-    maps: &mut K,
-    lanes: &mut [Lane<P, G, D>],
-    pace: &mut M,
-    turns: u64,
+    service: &Service<'_>,
+    lent: &mut Lent<'_, '_, '_, '_, '_, S, K, P, G, D, M>,
 ) -> Status
     requires book { history ≡ J.book }
-    requires workers { (workers ≤ 16) × (workers ≤ length lanes.old) × (1 ≤ length lanes.old) }
-    requires turns { turns ≤ MOST_TURNS }
-    ensures { IsSession turns listen workers topology (stage (S.told feed.old) (K.told out.old) (K.told maps.old) (M.told pace.old) (map (lane_told P.told P.faults G.told D.asked D.looks D.greatest D.faults) lanes.old) (S.faults feed.old) (K.faults out.old) (K.faults maps.old)) (stage (S.told feed.new) (K.told out.new) (K.told maps.new) (M.told pace.new) (map (lane_told P.told P.faults G.told D.asked D.looks D.greatest D.faults) lanes.new) (S.faults feed.new) (K.faults out.new) (K.faults maps.new)) result }
+    requires workers { (service.now.workers ≤ 16) × (service.now.workers ≤ length lent.old.lanes.now) × (1 ≤ length lent.old.lanes.now) }
+    requires turns { lent.old.turns ≤ MOST_TURNS }
+    ensures keeps { IsSame lent.old lent.new }
+    ensures session { IsSession lent.old.turns service.now.listen service.now.workers topology (stage_of S.told S.faults K.told K.faults P.told P.faults G.told D.asked D.looks D.greatest D.faults M.told lent.old) (stage_of S.told S.faults K.told K.faults P.told P.faults G.told D.asked D.looks D.greatest D.faults M.told lent.new) result }
 {
-    match open_mapper::<J, R, P, G, D>(rt, alloc, history, topology, workers, lanes) {
-        Ok((mapper, viewers)) => serve_first(
-            rt, alloc, mapper, viewers, listen, workers, feed, out, maps, lanes, pace, turns,
-        ),
+    match open_mapper::<J, R, P, G, D>(rt, alloc, history, topology, service.workers, lent.lanes) {
+        Ok((mapper, viewers)) => serve_first(rt, alloc, mapper, viewers, service, lent),
         Err(fault) => status_of_opening(fault),
     }
 }
@@ -265,37 +262,25 @@ pub fn serve<
 >(
     rt: &R,
     alloc: Global,
-    topology: &str,
-    listen: Listen,
-    workers: u8,
+    service: &Service<'_>,
     files: &mut F,
-    feed: &mut S,
-    out: &mut K,
-    maps: &mut K,
-    lanes: &mut [Lane<P, G, D>],
-    pace: &mut M,
-    turns: u64,
+    lent: &mut Lent<'_, '_, '_, '_, '_, S, K, P, G, D, M>,
 ) -> Status
-    requires workers { (1 ≤ workers) × (workers ≤ 16) }
-    requires lanes { length lanes.old ≡ 16 }
-    requires turns { turns ≤ MOST_TURNS }
-    ensures { IsPromised turns (Some (task (service topology.now listen workers))) (surroundings (F.told files.old) (F.faults files.old) (stage (S.told feed.old) (K.told out.old) (K.told maps.old) (M.told pace.old) (map (lane_told P.told P.faults G.told D.asked D.looks D.greatest D.faults) lanes.old) (S.faults feed.old) (K.faults out.old) (K.faults maps.old))) (surroundings (F.told files.new) (F.faults files.new) (stage (S.told feed.new) (K.told out.new) (K.told maps.new) (M.told pace.new) (map (lane_told P.told P.faults G.told D.asked D.looks D.greatest D.faults) lanes.new) (S.faults feed.new) (K.faults out.new) (K.faults maps.new))) result }
+    requires workers { (1 ≤ service.now.workers) × (service.now.workers ≤ 16) }
+    requires lanes { length lent.old.lanes.now ≡ 16 }
+    requires turns { lent.old.turns ≤ MOST_TURNS }
+    ensures keeps { IsSame lent.old lent.new }
+    ensures promised { IsPromised lent.old.turns (Some (task (service_asked service.now))) (surroundings (F.told files.old) (F.faults files.old) (stage_of S.told S.faults K.told K.faults P.told P.faults G.told D.asked D.looks D.greatest D.faults M.told lent.old)) (surroundings (F.told files.new) (F.faults files.new) (stage_of S.told S.faults K.told K.faults P.told P.faults G.told D.asked D.looks D.greatest D.faults M.told lent.new)) result }
 {
-    match load_topology(alloc, files, topology) {
+    match load_topology(alloc, files, service.topology) {
         Ok(topology) => serve_topology::<Brand, R, S, K, P, G, D, M>(
             rt,
             alloc,
             EmptyHistory::new(),
             topology,
-            listen,
-            workers,
-            feed,
-            out,
-            maps,
-            lanes,
-            pace,
-            turns,
+            service,
+            lent,
         ),
-        Err(stop) => finish(out, Err(stop)),
+        Err(stop) => finish(lent.out, Err(stop)),
     }
 }

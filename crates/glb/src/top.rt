@@ -4,10 +4,11 @@ ghost use Rattle.demand_feed.specs.declared.limits.TheConstants.{MOST_TURNS};
 ghost use Rattle.command_line.specs.Asked.{texts};
 ghost use Rattle.glb.specs.Program.{IsPromised};
 ghost use Rattle.glb.specs.Commands.{IsManned, task_of};
-ghost use Rattle.glb.specs.Told.{lane_told, stage, surroundings};
+ghost use Rattle.glb.specs.Told.{IsSame, lane_told, stage, stage_of, surroundings};
 ghost use Rattle.glb.specs.Words.{asked};
 
 use crate::large::large;
+use crate::lent::Lent;
 use crate::saying::run_files;
 use crate::serve::serve;
 use crate::status::Status;
@@ -35,31 +36,19 @@ fn run_order<
     alloc: Global,
     order: Option<Order<'_>>,
     files: &mut F,
-    feed: &mut S,
-    out: &mut K,
-    maps: &mut K,
-    lanes: &mut [Lane<P, G, D>],
-    pace: &mut M,
-    turns: u64,
+    lent: &mut Lent<'_, '_, '_, '_, '_, S, K, P, G, D, M>,
 ) -> Status
     requires manned { IsManned order }
-    requires lanes { length lanes.old ≡ 16 }
-    requires turns { (1 ≤ turns) × (turns ≤ 2 ^ 48) }
-    ensures { IsPromised turns (option_map task_of order.entry) (surroundings (F.told files.old) (F.faults files.old) (stage (S.told feed.old) (K.told out.old) (K.told maps.old) (M.told pace.old) (map (lane_told P.told P.faults G.told D.asked D.looks D.greatest D.faults) lanes.old) (S.faults feed.old) (K.faults out.old) (K.faults maps.old))) (surroundings (F.told files.new) (F.faults files.new) (stage (S.told feed.new) (K.told out.new) (K.told maps.new) (M.told pace.new) (map (lane_told P.told P.faults G.told D.asked D.looks D.greatest D.faults) lanes.new) (S.faults feed.new) (K.faults out.new) (K.faults maps.new))) result }
+    requires lanes { length lent.old.lanes.now ≡ 16 }
+    requires turns { (1 ≤ lent.old.turns) × (lent.old.turns ≤ 2 ^ 48) }
+    ensures keeps { IsSame lent.old lent.new }
+    ensures promised { IsPromised lent.old.turns (option_map task_of order.entry) (surroundings (F.told files.old) (F.faults files.old) (stage_of S.told S.faults K.told K.faults P.told P.faults G.told D.asked D.looks D.greatest D.faults M.told lent.old)) (surroundings (F.told files.new) (F.faults files.new) (stage_of S.told S.faults K.told K.faults P.told P.faults G.told D.asked D.looks D.greatest D.faults M.told lent.new)) result }
 {
     match order {
-        Some(Order::Say(command)) => run_files(alloc, Some(command), files, out),
-        Some(
-            Order::Serve {
-                topology,
-                listen,
-                workers,
-            },
-        ) => serve(
-            rt, alloc, topology, listen, workers, files, feed, out, maps, lanes, pace, turns,
-        ),
-        Some(Order::Large { groups }) => large(rt, alloc, groups, out),
-        None => run_files(alloc, None, files, out),
+        Some(Order::Say(command)) => run_files(alloc, Some(command), files, lent.out),
+        Some(Order::Serve(service)) => serve(rt, alloc, &service, files, lent),
+        Some(Order::Large { groups }) => large(rt, alloc, groups, lent.out),
+        None => run_files(alloc, None, files, lent.out),
     }
 }
 
@@ -92,7 +81,17 @@ pub fn glb<
     ensures { IsPromised turns (asked (texts words.now)) (surroundings (F.told files.old) (F.faults files.old) (stage (S.told feed.old) (K.told out.old) (K.told maps.old) (M.told pace.old) (map (lane_told P.told P.faults G.told D.asked D.looks D.greatest D.faults) lanes.old) (S.faults feed.old) (K.faults out.old) (K.faults maps.old))) (surroundings (F.told files.new) (F.faults files.new) (stage (S.told feed.new) (K.told out.new) (K.told maps.new) (M.told pace.new) (map (lane_told P.told P.faults G.told D.asked D.looks D.greatest D.faults) lanes.new) (S.faults feed.new) (K.faults out.new) (K.faults maps.new))) result }
 {
     match read_words(alloc, words) {
-        Ok(order) => run_order(rt, alloc, order, files, feed, out, maps, lanes, pace, turns),
+        Ok(order) => {
+            let mut lent = Lent {
+                feed,
+                out,
+                maps,
+                lanes,
+                pace,
+                turns,
+            };
+            run_order(rt, alloc, order, files, &mut lent)
+        }
         Err(NoMemory) => Status::NoMemory,
     }
 }

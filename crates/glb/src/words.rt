@@ -45,18 +45,20 @@ pub enum Command<'a> {
     },
 }
 
+/// A service: the file of its topology, where it listens, and how many workers it has.
+#[derive(Clone, Copy)]
+pub struct Service<'a> {
+    pub topology: &'a str,
+    pub listen: Listen,
+    pub workers: u8,
+}
+
 /// A command line that is taken.
 #[derive(Drop)]
 pub enum Order<'a> {
     Say(Command<'a>),
-    Serve {
-        topology: &'a str,
-        listen: Listen,
-        workers: u8,
-    },
-    Large {
-        groups: u32,
-    },
+    Serve(Service<'a>),
+    Large { groups: u32 },
 }
 
 /// How many workers there are to be.
@@ -80,11 +82,11 @@ fn read_serve<'a>(topology: &'a str, listen: &str, workers: Option<&str>) -> Opt
 {
     let listen = read_listen(listen.as_bytes())?;
     let workers = read_workers(workers)?;
-    Some(Order::Serve {
+    Some(Order::Serve(Service {
         topology,
         listen,
         workers,
-    })
+    }))
 }
 
 /// What `large` with this word asks for.

@@ -1,6 +1,8 @@
 //! Lanes that serve a network: ports of UDP over one socket, gates that one flag stops, and plain doors.
-ghost use Rattle.std.specs.Prelude.{◌≡◌, IfOk, vec_len};
-ghost use Rattle.map_cell.specs.declared.opening.TheConstants.{MOST_VIEWERS};
+ghost use Rattle.std.specs.Prelude.{◌≡◌, IfOk, replicate};
+ghost use Rattle.map_cell.specs.Doors.{unused};
+ghost use Rattle.past_log.specs.Gate.{new_gate};
+ghost use Rattle.past_log.specs.Port.{new_port};
 
 use edges::{FlagGate, SharedUdp, StopFlag, UdpPort};
 use glb::Lane;
@@ -13,7 +15,9 @@ use std::net::Net;
 pub type UdpLane<'a, N> = Lane<UdpPort<'a, N>, FlagGate<'a>, PlainDoor>;
 
 /// A lane that is not opened.
-fn udp_lane<'a, N: Net>(net: &'a N, shared: &'a SharedUdp, flag: &'a StopFlag) -> UdpLane<'a, N> {
+fn udp_lane<'a, N: Net>(net: &'a N, shared: &'a SharedUdp, flag: &'a StopFlag) -> UdpLane<'a, N>
+    ensures { result ≡ record { port = record { told = new_port; faults = 0 }; gate = new_gate; door = unused; noted = 0 } }
+{
     Lane::new(
         UdpPort::new(net, shared),
         FlagGate::new(flag),
@@ -28,7 +32,7 @@ pub fn udp_lanes<'a, N: Net>(
     shared: &'a SharedUdp,
     flag: &'a StopFlag,
 ) -> Result<Vec<UdpLane<'a, N>>, NoMemory>
-    ensures { IfOk result (λ v. vec_len v ≡ MOST_VIEWERS) }
+    ensures { IfOk result (λ v. v.items ≡ replicate 16 (record { port = record { told = new_port; faults = 0 }; gate = new_gate; door = unused; noted = 0 })) }
 {
     let mut lanes = Vec::with_capacity(alloc, MOST_VIEWERS)?;
     for _ in 0..MOST_VIEWERS {

@@ -5,9 +5,9 @@ use Rattle.glb.proofs.Sessions.{session_later}
 use Rattle.glb.proofs.Tasks.{promised}
 use Rattle.glb.proofs.serve.serve.Goals as goal
 
-pub returns-in-Ok : goal.returns-in-Ok
-returns-in-Ok g c =
-    let later = session_later _ _ _ _ _ _ _ c.serve_topology.ensures in
+pub returns-in-Ok-clause-promised : goal.returns-in-Ok-clause-promised
+returns-in-Ok-clause-promised g c =
+    let later = session_later _ _ _ _ _ _ _ c.serve_topology.ensures.session in
     promised _ _ _ _ _ (search rules) (search rules) (search rules)
     (record {
       files_later = c.load_topology.ensures.later;
@@ -20,11 +20,11 @@ returns-in-Ok g c =
       feed_stays = later.feed_stays;
       out_stays = later.out_stays;
       maps_stay = later.maps_stay;
-      lanes = session_causes _ _ _ _ _ _ _ c.requires.workers.0 c.serve_topology.ensures;
+      lanes = session_causes _ _ _ _ _ _ _ c.requires.workers.0 c.serve_topology.ensures.session;
     })
 
-pub returns-in-Err : goal.returns-in-Err
-returns-in-Err g c = promised _ _ _ _ _
+pub returns-in-Err-clause-promised : goal.returns-in-Err-clause-promised
+returns-in-Err-clause-promised g c = promised _ _ _ _ _
     (inl (record { run = stopped_run _ _ _ _ _ c.in-Err.ensures.said c.finish.ensures.run; rest = record { lent = refl; rest = refl } }))
     (search rules)
     (search rules)

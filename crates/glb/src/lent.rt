@@ -1,0 +1,14 @@
+//! All that a session is lent.
+use drive::Lane;
+
+/// What a session is lent: its feed, both outputs, its lanes, and the pace that is told of commits. The feed and each lane
+/// take at most so many turns.
+#[derive(Drop)]
+pub struct Lent<'f, 'o, 'm, 'l, 'p, S, K, P, G, D, M> {
+    pub feed: &'f mut S,
+    pub out: &'o mut K,
+    pub maps: &'m mut K,
+    pub lanes: &'l mut [Lane<P, G, D>],
+    pub pace: &'p mut M,
+    pub turns: u64,
+}
