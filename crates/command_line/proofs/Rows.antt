@@ -19,13 +19,17 @@ repair_is_taken : asked (codes "glb" ∷ codes "repair" ∷ codes "t" ∷ codes 
 unfolding clap_on_literals
 repair_is_taken = refl
 
-serve_is_taken : asked (codes "glb" ∷ codes "serve" ∷ codes "t" ∷ codes "--listen" ∷ codes "x" ∷ codes "--workers" ∷ codes "2" ∷ []) ≡ Some (serve (codes "t") (codes "x") (Some (codes "2")))
+serve_is_taken : asked (codes "glb" ∷ codes "serve" ∷ codes "t" ∷ codes "--listen" ∷ codes "x" ∷ codes "--workers" ∷ codes "2" ∷ []) ≡ Some (serve (codes "t") (codes "x") (Some (codes "2")) None)
 unfolding clap_on_literals
 serve_is_taken = refl
 
-serve_alone_is_taken : asked (codes "glb" ∷ codes "serve" ∷ codes "--listen" ∷ codes "x" ∷ codes "t" ∷ []) ≡ Some (serve (codes "t") (codes "x") None)
+serve_alone_is_taken : asked (codes "glb" ∷ codes "serve" ∷ codes "--listen" ∷ codes "x" ∷ codes "t" ∷ []) ≡ Some (serve (codes "t") (codes "x") None None)
 unfolding clap_on_literals
 serve_alone_is_taken = refl
+
+serve_over_tcp_is_taken : asked (codes "glb" ∷ codes "serve" ∷ codes "t" ∷ codes "--tcp" ∷ codes "y" ∷ codes "--listen" ∷ codes "x" ∷ []) ≡ Some (serve (codes "t") (codes "x") None (Some (codes "y")))
+unfolding clap_on_literals
+serve_over_tcp_is_taken = refl
 
 serve_nowhere_is_not : asked (codes "glb" ∷ codes "serve" ∷ codes "t" ∷ []) ≡ None
 unfolding clap_on_literals

@@ -15,9 +15,9 @@ command name ids = record (new_shape name) { rules = map positional ids }
 abbrev pub option_named : Text → Bool → Rule
 option_named name is_required = record (new_rule name) { long = Some name; required = is_required }
 
--- a server's command: where it listens has to be said
+-- a server's command: where it listens for datagrams has to be said
 abbrev pub serve_command : Shape
-serve_command = record (new_shape (codes "serve")) { rules = positional (codes "TOPOLOGY") ∷ option_named (codes "listen") true ∷ option_named (codes "workers") false ∷ [] }
+serve_command = record (new_shape (codes "serve")) { rules = positional (codes "TOPOLOGY") ∷ option_named (codes "listen") true ∷ option_named (codes "workers") false ∷ option_named (codes "tcp") false ∷ [] }
 
 -- the command line: no command stands without one of these behind it, and there is nothing else, nor any help
 abbrev pub declared : App

@@ -25,6 +25,7 @@ pub enum Command<'a> {
         topology: &'a str,
         listen: &'a str,
         workers: Option<&'a str>,
+        tcp: Option<&'a str>,
     },
     Large {
         groups: &'a str,

@@ -39,7 +39,8 @@ fn serve<'a>(alloc: Global) -> Result<Command<'a>, AllocError>
     Command::new(alloc, "serve")
         .arg(positional(alloc, "TOPOLOGY"))?
         .arg(option(alloc, "listen", true))?
-        .arg(option(alloc, "workers", false))
+        .arg(option(alloc, "workers", false))?
+        .arg(option(alloc, "tcp", false))
 }
 
 /// The command line, as it is declared.

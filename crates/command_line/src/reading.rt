@@ -66,10 +66,12 @@ fn serve<'a>(found: &ArgMatches<'a>) -> Option<Command<'a>>
     let topology = value(found, "TOPOLOGY")?;
     let listen = value(found, "listen")?;
     let workers = value(found, "workers");
+    let tcp = value(found, "tcp");
     Some(Command::Serve {
         topology,
         listen,
         workers,
+        tcp,
     })
 }
 

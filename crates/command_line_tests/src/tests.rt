@@ -19,6 +19,7 @@ fn kind(command: &Command) -> &'static str {
         Command::Answer { .. } => "answer",
         Command::Map { .. } => "map",
         Command::Repair { .. } => "repair",
+        Command::Serve { tcp: Some(_), .. } => "serve over",
         Command::Serve { workers: None, .. } => "serve",
         Command::Serve { .. } => "serve by",
         Command::Large { .. } => "large",
@@ -72,7 +73,33 @@ const ROWS: &[Row] = &[
         &["glb", "serve", "--workers", "2", "--listen=x", "t"],
         "serve by",
     ),
+    (
+        &["glb", "serve", "t", "--tcp", "y", "--listen", "x"],
+        "serve over",
+    ),
+    (
+        &[
+            "glb",
+            "serve",
+            "t",
+            "--listen",
+            "x",
+            "--tcp=y",
+            "--workers",
+            "2",
+        ],
+        "serve over",
+    ),
     (&["glb", "serve", "t", "--workers", "2"], "usage"),
+    (&["glb", "serve", "t", "--tcp", "y"], "usage"),
+    (&["glb", "serve", "t", "--listen", "x", "--tcp"], "usage"),
+    (
+        &[
+            "glb", "serve", "t", "--listen", "x", "--tcp", "y", "--tcp", "z",
+        ],
+        "usage",
+    ),
+    (&["glb", "map", "t", "--tcp", "y"], "usage"),
     (&["glb", "serve", "t", "--listen"], "usage"),
     (
         &["glb", "serve", "t", "--listen", "x", "--listen", "y"],
