@@ -1,7 +1,7 @@
 -- Inside this crate alone: a command of the code, as what its words ask for.
 use Rattle.std.specs.Prelude.{◌≤◌, Option, None, Some}
 use Rattle.big_world.specs.declared.TheConstants.{LARGEST_WORLD}
-use Rattle.glb.specs.Words.{Ask, Service, Task, check, map_from, places, answer, repair, say, serve, large}
+use Rattle.glb.specs.Words.{Ask, Service, Task, most_workers, check, map_from, places, answer, repair, say, serve, large}
 use Rattle.glb.specs.declared.words.Command.{Command}
 use Rattle.glb.specs.declared.words.Order.{Order}
 use Rattle.glb.specs.declared.words.Service.{Service as Ordered}
@@ -18,7 +18,7 @@ ask_of (Answer topology map from octets) = answer topology.now map.now (record {
 
 -- a service, as what is asked for
 abbrev pub service_asked : Ordered → Service
-service_asked s = record { topology = s.topology.now; listen = s.listen; workers = s.workers }
+service_asked s = record { topology = s.topology.now; listen = s.listen; workers = s.workers; tcp = s.tcp }
 
 -- an order, as what it asks for
 abbrev pub task_of : Order → Task
@@ -26,9 +26,9 @@ task_of (Say command) = say (ask_of command)
 task_of (Serve service) = serve (service_asked service)
 task_of (Large groups) = large groups
 
--- a service has 1 to 16 workers, and a large world 1 to 16,384 groups
+-- a service has 1 to 16 workers, or 15 where conversations are taken too, and a large world 1 to 16,384 groups
 abbrev pub IsManned : Option Order → Type 0
 IsManned None = Unit {0}
 IsManned (Some (Say command)) = Unit {0}
-IsManned (Some (Serve service)) = (1 ≤ service.workers) × (service.workers ≤ 16)
+IsManned (Some (Serve service)) = (1 ≤ service.workers) × (service.workers ≤ most_workers service.tcp)
 IsManned (Some (Large groups)) = (1 ≤ groups) × (groups ≤ LARGEST_WORLD)

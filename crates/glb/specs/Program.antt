@@ -4,11 +4,11 @@ use Rattle.outside.specs.Faults.{BothTell, Rose}
 use Rattle.outside.specs.Shelf.{Load, Shelved}
 use Rattle.glb.specs.declared.status.Status.{Status}
 use Rattle.glb.specs.declared.status.Status.TheVariants as status
-use Rattle.glb.specs.Words.{Ask, Task, say, serve, large}
+use Rattle.glb.specs.Words.{Ask, Service, Task, say, serve, large}
 use Rattle.glb.specs.Outcome.{AreLoaded, AreLoadsOf, HasExactCauses}
 use Rattle.glb.specs.Run as short
 use Rattle.glb.specs.Serve.{IsServeRun, loads_of_serve}
-use Rattle.glb.specs.Causes.{AnyLane, AreSpent, HasDoorFault, HasLaneCauses, HasPortFault, IsPastMaps}
+use Rattle.glb.specs.Causes.{AnyServer, AreSpent, HasDoorFault, HasLaneCauses, HasPortFault, IsPastMaps}
 use Rattle.glb.specs.Map.{HoldsTopology}
 use Rattle.glb.specs.Large.{IsLargeRun, IsSummedRun}
 use Rattle.glb.specs.Served.{IsWellServed}
@@ -34,7 +34,7 @@ loads_of (Some (serve ask)) = loads_of_serve ask
 loads_of (Some (large groups)) = λ _. []
 
 -- no count of `serve` falls, a fault of the files, the feed or an output is answered only where its count rose, and their counts stand where it is not answered; and a fault of the lanes is answered only with its cause
-pub record HasServeCauses (turns workers : ℕ) (before after : Surroundings) (result : Status) : Type 0 where
+pub record HasServeCauses (turns : ℕ) (ask : Service) (before after : Surroundings) (result : Status) : Type 0 where
   pub files_later : before.files_faults ≤ after.files_faults
   pub feed_later : before.stage.feed_faults ≤ after.stage.feed_faults
   pub out_later : before.stage.out_faults ≤ after.stage.out_faults
@@ -45,13 +45,13 @@ pub record HasServeCauses (turns workers : ℕ) (before after : Surroundings) (r
   pub feed_stays : result ≢ status.SourceFault → after.stage.feed_faults ≡ before.stage.feed_faults
   pub out_stays : result ≢ status.SinkFault → after.stage.out_faults ≡ before.stage.out_faults
   pub maps_stay : result ≢ status.SinkFault → after.stage.maps_faults ≡ before.stage.maps_faults
-  pub lanes : HasLaneCauses turns workers before.stage.lent after.stage.lent result
+  pub lanes : HasLaneCauses turns ask before.stage.lent after.stage.lent result
 
 -- what the counts of faults say of an answer
 abbrev pub AreCauses : ℕ → Option Task → Surroundings → Surroundings → Status → Type 0
 AreCauses turns None before after result = HasExactCauses (faults_of before) (faults_of after) result
 AreCauses turns (Some (say ask)) before after result = HasExactCauses (faults_of before) (faults_of after) result
-AreCauses turns (Some (serve ask)) before after result = HasServeCauses turns ask.workers before after result
+AreCauses turns (Some (serve ask)) before after result = HasServeCauses turns ask before after result
 AreCauses turns (Some (large groups)) before after result = HasExactCauses (faults_of before) (faults_of after) result
 
 -- The files are such that all is well: they are told, and hold what the task asks for. Of `large` nothing is asked of them.
@@ -61,20 +61,20 @@ IsSound (Some (say ask)) files = IsSome files × short.IsSound (Some ask) files
 IsSound (Some (serve ask)) files = IsSome files × HoldsTopology ask.topology files
 IsSound (Some (large groups)) files = Unit {0}
 
--- no count of faults rose: of the files, the feed and both outputs, of a port or a door of the first lanes
-pub record IsServeQuiet (workers : ℕ) (before after : Surroundings) : Type 0 where
+-- no count of faults rose: of the files, the feed and both outputs, of a port, the streams or a door of the lanes
+pub record IsServeQuiet (ask : Service) (before after : Surroundings) : Type 0 where
   pub files : Rose before.files_faults after.files_faults → ⊥
   pub feed : Rose before.stage.feed_faults after.stage.feed_faults → ⊥
   pub out : Rose before.stage.out_faults after.stage.out_faults → ⊥
   pub maps : Rose before.stage.maps_faults after.stage.maps_faults → ⊥
-  pub ports : AnyLane workers HasPortFault before.stage.lent.lanes after.stage.lent.lanes → ⊥
-  pub doors : AnyLane workers HasDoorFault before.stage.lent.lanes after.stage.lent.lanes → ⊥
+  pub ports : AnyServer ask HasPortFault HasPortFault before.stage.lent after.stage.lent → ⊥
+  pub doors : AnyServer ask HasDoorFault HasDoorFault before.stage.lent after.stage.lent → ⊥
 
 -- no count of faults rose of what the task asks
 abbrev pub AreQuiet : Option Task → Surroundings → Surroundings → Type 0
 AreQuiet None before after = Unit {0}
 AreQuiet (Some (say ask)) before after = (Rose before.files_faults after.files_faults → ⊥) × (Rose before.stage.out_faults after.stage.out_faults → ⊥)
-AreQuiet (Some (serve ask)) before after = IsServeQuiet ask.workers before after
+AreQuiet (Some (serve ask)) before after = IsServeQuiet ask before after
 AreQuiet (Some (large groups)) before after = Rose before.stage.out_faults after.stage.out_faults → ⊥
 
 -- The answers that are left then: status 0 or want of memory; of `serve` also that turns were spent, where they were, and that a door showed a serial that was not published, where one did.
@@ -82,8 +82,8 @@ abbrev pub IsLeft : ℕ → Option Task → Surroundings → Surroundings → St
 IsLeft turns None before after result = ⊥
 IsLeft turns (Some (say ask)) before after result = (result ≡ status.Ok) ⊎ (result ≡ status.NoMemory)
 IsLeft turns (Some (serve ask)) before after result = (result ≡ status.Ok) ⊎ (result ≡ status.NoMemory)
-    ⊎ ((result ≡ status.Spent) × AreSpent turns ask.workers before.stage.lent after.stage.lent)
-    ⊎ ((result ≡ status.CellFault) × IsPastMaps ask.workers before.stage.lent after.stage.lent)
+    ⊎ ((result ≡ status.Spent) × AreSpent turns ask before.stage.lent after.stage.lent)
+    ⊎ ((result ≡ status.CellFault) × IsPastMaps ask before.stage.lent after.stage.lent)
 IsLeft turns (Some (large groups)) before after result = (result ≡ status.Ok) ⊎ (result ≡ status.NoMemory)
 
 -- what status 0 says
@@ -101,9 +101,9 @@ pub record IsPromised (turns : ℕ) (task : Option Task) (before after : Surroun
   pub noted : BothTell before.files after.files (AreLoadsOf (loads_of task))
   -- and all of these, unless the answer is a fault or want of memory.
   pub loaded : result ≢ status.SourceFault → result ≢ status.NoMemory → BothTell before.files after.files (AreLoaded (loads_of task))
-  -- A fault of the files, of the feed or of an output is answered only where its count rose, and their counts stand where it is not answered. Of `serve` also: a fault of a port is answered only where the count of the port of one of the first lanes rose, turns were spent only where the feed or one of the first lanes took all of them, and a fault of the cell is answered only where the count of the door of one of the first lanes rose, or that door showed a serial past those whose texts the maps got.
+  -- A fault of the files, of the feed or of an output is answered only where its count rose, and their counts stand where it is not answered. Of `serve` also: a fault of a port is answered only where the count of the port of one of the first lanes rose, or that of the streams, turns were spent only where the feed or one of the lanes took all of them, and a fault of the cell is answered only where the count of the door of one of the lanes rose, or that door showed a serial past those whose texts the maps got.
   pub causes : AreCauses turns task before after result
-  -- Status 0 says that the files hold a topology; of `check`, `answer` and `repair` also that they hold a map that is good for it, and of `repair` changes; and that the output got, in one put, `good`, or of `map` the text of a map that is good for the topology and group-best, mapped from scratch, or of `places` how many units stand at each place by such a map, or of `answer` the reply of the map, or of `repair` the text of a map that is good for the changed numbers and keeps the rest. Of `serve` it says that the maps hold the texts of a history of good maps, the first one mapped from scratch, and nothing else, and that each of the first lanes answered from that history until its port's end or its gate's stop. Of `large` it says that the output got the ten lines of the summary of a run.
+  -- Status 0 says that the files hold a topology; of `check`, `answer` and `repair` also that they hold a map that is good for it, and of `repair` changes; and that the output got, in one put, `good`, or of `map` the text of a map that is good for the topology and group-best, mapped from scratch, or of `places` how many units stand at each place by such a map, or of `answer` the reply of the map, or of `repair` the text of a map that is good for the changed numbers and keeps the rest. Of `serve` it says that the maps hold the texts of a history of good maps, the first one mapped from scratch, and nothing else, and that each of the first lanes, and that for conversations where it is asked for, answered from that history until its port's or its streams' end or its gate's stop. Of `large` it says that the output got the ten lines of the summary of a run.
   pub good : result ≡ status.Ok → IsGoodRun turns task before after
   -- Where the files are told to hold a topology, for `check`, `answer` and `repair` a map that is good, and for `repair` changes, and no count of faults rises, there is no other answer but status 0 and want of memory; of `serve` also that turns were spent, where they were, and that a door showed a serial that was not published, where one did. For `large` nothing is asked of the files.
   pub complete : IsSound task before.files → AreQuiet task before after → IsLeft turns task before after result

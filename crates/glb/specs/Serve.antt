@@ -1,9 +1,11 @@
 -- What a run of `serve` does.
 use Rattle.std.specs.Prelude.{◌≡◌, ◌≢◌, ◌⊎◌, ℕ, ◌<◌, ◌≤◌, Bool, true, false, List, [], ◌∷◌, ◌++◌, length, replicate, if◌then◌else◌, Option}
 use Rattle.std.specs.List.{list_any}
+use Rattle.std.specs.Option.{option_to_list}
 use Rattle.addr_text.specs.declared.address.Listen.{Listen}
 use Rattle.outside.specs.Faults.{BothTell, Rose, raised}
 use Rattle.outside.specs.Port.{IsOpen}
+use Rattle.outside.specs.Streams.{IsOpening as AreStreamsOpened}
 use Rattle.outside.specs.Shelf.{Load}
 use Rattle.outside.specs.declared.port.Opening.{Opening}
 use Rattle.outside.specs.declared.port.Opening.TheVariants as opening
@@ -16,12 +18,12 @@ use Rattle.demand_feed.specs.declared.run.FeedEnd.TheVariants as feed
 use Rattle.mapper.specs.Scenes.{IsCut, IsPrinted}
 use Rattle.mapper.specs.Words.{map_text}
 use Rattle.mapper.specs.Mappers.{IsFirst, IsFromScratch}
-use Rattle.drive.specs.Done.{LaneTold}
+use Rattle.drive.specs.Done.{LaneTold, StreamLaneTold}
 use Rattle.drive.specs.Driven.{IsDriven}
 use Rattle.glb.specs.declared.status.Status.{Status}
 use Rattle.glb.specs.declared.status.Status.TheVariants as status
-use Rattle.glb.specs.Words.{Service}
-use Rattle.glb.specs.Causes.{AnyLane, HasCellFault, HasEightPortFaults, HasTaken}
+use Rattle.glb.specs.Words.{Service, lanes_of, streams_of}
+use Rattle.glb.specs.Causes.{AnyServer, HasCellFault, HasEightPortFaults, HasHeard, HasTaken}
 use Rattle.glb.specs.Outcome.{RunsBy}
 use Rattle.glb.specs.Told.{IsOutAlone, Stage, Surroundings}
 use Rattle.glb.specs.Files.{IsRefused, Says, only, topology_file}
@@ -49,6 +51,10 @@ is_cell_fault _ = false
 -- a port's fault comes first, then what was spent, then the cell's fault
 abbrev pub status_by : Bool → Bool → Bool → Status
 status_by port spent cell = if port then status.PortFault else (if spent then status.Spent else (if cell then status.CellFault else status.Ok))
+
+-- the ends of all lanes that were served
+abbrev pub all_ends : List Ended → Option Ended → List Ended
+all_ends ends stream_end = ends ++ option_to_list stream_end
 
 -- the status of a session: the feed's own fault comes first, then what the ends of the lanes make, and whether the feed was spent
 abbrev pub status_of : FeedEnd → Bool → Bool → Bool → Status
@@ -94,6 +100,24 @@ AreOpened listen [] before after = after ≡ before
 AreOpened listen (r ∷ results) (b ∷ before) (c ∷ after) = IsOpening listen r b c × AreOpened listen results before after
 AreOpened listen (r ∷ results) _ _ = ⊥
 
+-- The streams of a lane were opened there, whose count of faults rose where that failed, and else stands. Nothing else was asked of the lane.
+pub record IsStreamOpening (listen : Listen) (result : Opening) (before after : StreamLaneTold) : Type 0 where
+  pub port : BothTell before.port after.port (AreStreamsOpened listen result)
+  pub later : before.port_faults ≤ after.port_faults
+  pub cause : result ≡ opening.Failed → Rose before.port_faults after.port_faults
+  pub stays : result ≢ opening.Failed → after.port_faults ≡ before.port_faults
+  pub rest : after ≡ record before { port = after.port; port_faults = after.port_faults }
+
+-- the streams were opened there where that is asked for, and the lane is untouched where it isn't
+abbrev pub IsStreamReady : Option Listen → StreamLaneTold → StreamLaneTold → Type 0
+IsStreamReady None before after = after ≡ before
+IsStreamReady (Some at) before after = IsStreamOpening at opening.Ready before after
+
+-- they were to be opened, and that failed
+abbrev pub IsStreamShut : Option Listen → StreamLaneTold → StreamLaneTold → Type 0
+IsStreamShut None before after = ⊥
+IsStreamShut (Some at) before after = IsStreamOpening at opening.Failed before after
+
 -- so many ports were opened
 abbrev pub all_ready : ℕ → List Opening
 all_ready n = replicate n opening.Ready
@@ -103,73 +127,78 @@ abbrev pub then_failed : ℕ → List Opening
 then_failed n = all_ready n ++ opening.Failed ∷ []
 
 -- The map cell was not opened: a place in it was refused, which the door counted once, or memory was wanting, and it counted nothing.
-pub record IsUnopened (workers : ℕ) (before after : Stage) (result : Status) : Type 0 where
+pub record IsUnopened (ask : Service) (before after : Stage) (result : Status) : Type 0 where
   pub why : (result ≡ status.NoMemory) ⊎ ((result ≡ status.CellFault) × FirstDoorRose before.lent.lanes after.lent.lanes)
   pub stays : result ≢ status.CellFault → FirstDoorStands before.lent.lanes after.lent.lanes
-  pub asked : (k : ℕ) × (k ≤ workers) × AskedFirst k before.lent.lanes after.lent.lanes
+  pub asked : (k : ℕ) × (k ≤ lanes_of ask) × AskedFirst k before.lent.lanes after.lent.lanes
   pub lent : after.lent ≡ record before.lent { lanes = after.lent.lanes }
   pub rest : after ≡ record before { lent = after.lent }
 
--- The map cell was opened, with a place for each worker, and none was refused.
-pub record IsPlaced (workers : ℕ) (before after : Stage) : Type 0 where
-  pub asked : PlacedFirst workers before.lent.lanes after.lent.lanes
+-- The map cell was opened, with a place for each lane, and none was refused.
+pub record IsPlaced (ask : Service) (before after : Stage) : Type 0 where
+  pub asked : PlacedFirst (lanes_of ask) before.lent.lanes after.lent.lanes
   pub lent : after.lent ≡ record before.lent { lanes = after.lent.lanes }
   pub rest : after ≡ record before { lent = after.lent }
 
--- A port did not open, and none behind it was opened.
-pub record IsPortUnopened (listen : Listen) (workers : ℕ) (before after : Stage) (result : Status) : Type 0 where
+-- A port did not open, and none behind it was opened, nor the streams; or all ports were opened, and the streams did not open.
+pub record IsPortUnopened (ask : Service) (before after : Stage) (result : Status) : Type 0 where
   pub why : result ≡ status.PortFault
-  pub opened : (k : ℕ) × (k < workers) × AreOpened listen (then_failed k) before.lent.lanes after.lent.lanes
-  pub lent : after.lent ≡ record before.lent { lanes = after.lent.lanes }
+  pub opened : ((k : ℕ) × (k < ask.workers) × AreOpened ask.listen (then_failed k) before.lent.lanes after.lent.lanes × (after.lent.stream ≡ before.lent.stream))
+      ⊎ (AreOpened ask.listen (all_ready ask.workers) before.lent.lanes after.lent.lanes × IsStreamShut ask.tcp before.lent.stream after.lent.stream)
+  pub lent : after.lent ≡ record before.lent { lanes = after.lent.lanes; stream = after.lent.stream }
   pub rest : after ≡ record before { lent = after.lent }
 
--- The ports were opened, but the put of the first map's text failed.
-pub record IsUnput (listen : Listen) (workers : ℕ) (first : Version) (before after : Stage) (result : Status) : Type 0 where
+-- The ports and the streams were opened, but the put of the first map's text failed.
+pub record IsUnput (ask : Service) (first : Version) (before after : Stage) (result : Status) : Type 0 where
   pub why : result ≡ status.SinkFault
-  pub opened : AreOpened listen (all_ready workers) before.lent.lanes after.lent.lanes
+  pub opened : AreOpened ask.listen (all_ready ask.workers) before.lent.lanes after.lent.lanes
+  pub stream : IsStreamReady ask.tcp before.lent.stream after.lent.stream
   pub cut : BothTell before.lent.maps after.lent.maps (IsCut [] (map_text first))
   pub rose : Rose before.maps_faults after.maps_faults
-  pub lent : after.lent ≡ record before.lent { lanes = after.lent.lanes; maps = after.lent.maps }
+  pub lent : after.lent ≡ record before.lent { lanes = after.lent.lanes; stream = after.lent.stream; maps = after.lent.maps }
   pub rest : after ≡ record before { lent = after.lent; maps_faults = after.maps_faults }
 
--- The ports were opened, and the first map's text was put.
-pub record IsStarted (listen : Listen) (workers : ℕ) (first : Version) (before after : Stage) : Type 0 where
-  pub opened : AreOpened listen (all_ready workers) before.lent.lanes after.lent.lanes
+-- The ports and the streams were opened, and the first map's text was put.
+pub record IsStarted (ask : Service) (first : Version) (before after : Stage) : Type 0 where
+  pub opened : AreOpened ask.listen (all_ready ask.workers) before.lent.lanes after.lent.lanes
+  pub stream : IsStreamReady ask.tcp before.lent.stream after.lent.stream
   pub put : BothTell before.lent.maps after.lent.maps (IsPrinted (map_text first ∷ []))
-  pub lent : after.lent ≡ record before.lent { lanes = after.lent.lanes; maps = after.lent.maps }
+  pub lent : after.lent ≡ record before.lent { lanes = after.lent.lanes; stream = after.lent.stream; maps = after.lent.maps }
   pub rest : after ≡ record before { lent = after.lent }
 
--- The feed was worked and the first lanes were served, over one history of published maps that goes on from the first one. The status is that of their ends, and each fault came with what it is a fault of: the count of the feed, of an output or of a door, eight more on that of a port, as many turns as there may be, or a serial that was not published. The feed's count stood where the feed did not end by its source's fault, and those of both outputs where it did not end by an output's.
-pub record IsServed (turns workers : ℕ) (first : Version) (before after : Stage) (result : Status) : Type 0 where
+-- The feed was worked and the first lanes were served, and that for conversations where it is asked for, over one history of published maps that goes on from the first one. The status is that of their ends, and each fault came with what it is a fault of: the count of the feed, of an output or of a door, eight more on that of a port or of the streams, as many turns as there may be, or a serial that was not published. The feed's count stood where the feed did not end by its source's fault, and those of both outputs where it did not end by an output's.
+pub record IsServed (turns : ℕ) (ask : Service) (first : Version) (before after : Stage) (result : Status) : Type 0 where
   pub end : FeedEnd
   pub ends : List Ended
-  pub as_many : length ends ≡ workers
-  pub driven : IsDriven turns first end ends before.lent after.lent
-  pub result_is : result ≡ status_of end (list_any is_port_fault ends) (list_any is_spent ends) (list_any is_cell_fault ends)
+  pub stream_end : Option Ended
+  pub as_many : length ends ≡ ask.workers
+  pub as_asked : length (option_to_list stream_end) ≡ streams_of ask.tcp
+  pub driven : IsDriven turns first end ends stream_end before.lent after.lent
+  pub result_is : result ≡ status_of end (list_any is_port_fault (all_ends ends stream_end)) (list_any is_spent (all_ends ends stream_end)) (list_any is_cell_fault (all_ends ends stream_end))
   pub source : end ≡ feed.SourceFault → Rose before.feed_faults after.feed_faults
   pub source_stays : end ≢ feed.SourceFault → after.feed_faults ≡ before.feed_faults
   pub sink : end ≡ feed.SinkFault → Rose before.out_faults after.out_faults ⊎ Rose before.maps_faults after.maps_faults
   pub sink_stays : end ≢ feed.SinkFault → (after.out_faults ≡ before.out_faults) × (after.maps_faults ≡ before.maps_faults)
-  pub port : result ≡ status.PortFault → AnyLane workers HasEightPortFaults before.lent.lanes after.lent.lanes
-  pub spent : result ≡ status.Spent → (end ≡ feed.Spent) ⊎ AnyLane workers (HasTaken turns) before.lent.lanes after.lent.lanes
-  pub cell : result ≡ status.CellFault → AnyLane workers (HasCellFault (length (first ∷ driven.rest))) before.lent.lanes after.lent.lanes
+  pub port : result ≡ status.PortFault → AnyServer ask HasEightPortFaults HasEightPortFaults before.lent after.lent
+  pub spent : result ≡ status.Spent → (end ≡ feed.Spent) ⊎ AnyServer ask (HasTaken turns) (HasHeard turns) before.lent after.lent
+  pub cell : result ≡ status.CellFault → AnyServer ask (HasCellFault (length (first ∷ driven.rest))) (HasCellFault (length (first ∷ driven.rest))) before.lent after.lent
   pub later : (before.feed_faults ≤ after.feed_faults) × (before.out_faults ≤ after.out_faults) × (before.maps_faults ≤ after.maps_faults)
 
 -- what follows where the map cell was opened with a first version
-abbrev pub IsFirstSession : ℕ → Listen → ℕ → Version → Stage → Stage → Status → Type 0
-IsFirstSession turns listen workers first before after result = IsPortUnopened listen workers before after result
-    ⊎ IsUnput listen workers first before after result
-    ⊎ ((result ≡ status.NoMemory) × IsStarted listen workers first before after)
-    ⊎ ((started : Stage) × IsStarted listen workers first before started × IsServed turns workers first started after result)
+abbrev pub IsFirstSession : ℕ → Service → Version → Stage → Stage → Status → Type 0
+IsFirstSession turns ask first before after result = IsPortUnopened ask before after result
+    ⊎ IsUnput ask first before after result
+    ⊎ ((result ≡ status.NoMemory) × IsStarted ask first before after)
+    ⊎ ((started : Stage) × IsStarted ask first before started × IsServed turns ask first started after result)
 
 -- the first version of a topology: serial 0, its own numbers, and a good map, mapped from scratch
 abbrev pub IsFirstOf : Plan → Version → Type 0
 IsFirstOf t first = IsFirst t (record { history = first ∷ []; newest = first }) × IsFromScratch t.market first.lines
 
 -- what follows where a topology was read
-abbrev pub IsSession : ℕ → Listen → ℕ → Plan → Stage → Stage → Status → Type 0
-IsSession turns listen workers topology before after result = IsUnopened workers before after result
-    ⊎ ((placed : Stage) × (first : Version) × IsPlaced workers before placed × IsFirstOf topology first × IsFirstSession turns listen workers first placed after result)
+abbrev pub IsSession : ℕ → Service → Plan → Stage → Stage → Status → Type 0
+IsSession turns ask topology before after result = IsUnopened ask before after result
+    ⊎ ((placed : Stage) × (first : Version) × IsPlaced ask before placed × IsFirstOf topology first × IsFirstSession turns ask first placed after result)
 
 -- The topology was refused, with its text on the output or a beginning of it; or it could not be loaded, or memory was wanting.
 pub record IsUnread (ask : Service) (before after : Surroundings) (result : Status) : Type 0 where
@@ -179,4 +208,4 @@ pub record IsUnread (ask : Service) (before after : Surroundings) (result : Stat
 -- what a run of `serve` does
 abbrev pub IsServeRun : ℕ → Service → Surroundings → Surroundings → Status → Type 0
 IsServeRun turns ask before after result = IsUnread ask before after result
-    ⊎ ((topology : Plan) × IsPlan topology × Says topology_file before.files ask.topology topology × IsSession turns ask.listen ask.workers topology before.stage after.stage result)
+    ⊎ ((topology : Plan) × IsPlan topology × Says topology_file before.files ask.topology topology × IsSession turns ask topology before.stage after.stage result)

@@ -1,5 +1,5 @@
 -- What status 0 of `serve` says.
-use Rattle.std.specs.Prelude.{◌≡◌, ◌⊎◌, ℕ, zero, suc, ◌+◌, ◌≤◌, List, [], ◌∷◌, fold, length, map}
+use Rattle.std.specs.Prelude.{◌≡◌, ◌⊎◌, ℕ, zero, suc, ◌+◌, ◌≤◌, Bool, List, [], ◌∷◌, ◌++◌, Option, None, Some, fold, length, map}
 use Rattle.std.specs.List.{flat_map, range_with_len}
 use Rattle.outside.specs.Faults.{BothTell, raised}
 use Rattle.topology_text.specs.Plan.{IsPlan, Plan}
@@ -8,16 +8,22 @@ use Rattle.lane_model.specs.declared.ended.Ended.{Ended}
 use Rattle.lane_model.specs.declared.ended.Ended.TheVariants.{PortEnd, Stopped}
 use Rattle.lane_model.specs.Lanes.{IsLaneRun}
 use Rattle.lane_model.specs.Machine.{GoesOn}
-use Rattle.lane_model.specs.Replies.{replies}
+use Rattle.lane_model.specs.Replies.{replies, replies_by}
+use Rattle.answer_core.specs.declared.way.Way.TheVariants.{Stream}
 use Rattle.lane_model.specs.Sessions.{IsEnd, IsGateRun}
 use Rattle.lane_model.specs.Turns.{IsTold, Turn, entries_of, failures, port_turn, tries_of}
 use Rattle.demand_feed.specs.declared.run.FeedEnd.TheVariants as feed
 use Rattle.mapper.specs.Feeding.{IsFeed}
 use Rattle.mapper.specs.Scenes.{IsPrinted, scene}
 use Rattle.mapper.specs.Words.{map_text}
-use Rattle.drive.specs.Done.{LaneTold, floor_behind}
+use Rattle.drive.specs.Done.{LaneTold, StreamLaneTold, floor_behind}
 use Rattle.drive.specs.Driven.{Succeeds}
 use Rattle.glb.specs.Words.{Service}
+use Rattle.addr_text.specs.declared.address.Listen.{Listen}
+use Rattle.outside.specs.Streams.{StreamsTold, Talk}
+use Rattle.tcp_lane.specs.Calls.{IsStreamEnd}
+use Rattle.tcp_lane.specs.Stream.{IsStreamRun}
+use Rattle.tcp_lane.specs.Turns.{StreamTurn, closing_if, lane_of, lead_of, stream_turn}
 use Rattle.glb.specs.Told.{Stage, Surroundings}
 use Rattle.glb.specs.Files.{Says, topology_file}
 use Rattle.glb.specs.Serve.{IsFirstOf, IsPlaced, IsStarted}
@@ -45,7 +51,31 @@ AreWellDone turns history w zero before after = after ≡ before
 AreWellDone turns history w (suc n) (b ∷ before) (c ∷ after) = IsWellDone turns history w b c × AreWellDone turns history (w + 1) n before after
 AreWellDone turns history w (suc n) _ _ = ⊥
 
--- The file holds a topology; a history of good maps begins with the topology's own numbers, mapped from scratch, and goes on by the feed's batches; the maps got the texts of that history and nothing else; the output got what the feed's lines come to; and each of the first lanes was opened and answered from that history until it ended.
+-- A lane for conversations that ended well: in each turn its gate was asked and then its streams, whose count of faults rose by at least as many as their calls failed, and stands where none did; whatever the streams told before, the conversations that they tell of by then are a stream run over the history, from versions no older than what the lane had used or was told of; it was given the notes of the first versions, as many as the lane tells, in their order, each once; what its gate was shown last is no less than what was known by then; and it went on until its streams' end or its gate's stop.
+pub record IsStreamWellDone (turns : ℕ) (history : List Version) (w : ℕ) (before after : StreamLaneTold) : Type 0 where
+  pub log : List StreamTurn
+  pub closes : Bool
+  pub ended : Ended
+  pub shown : ℕ
+  pub runs : (b : StreamsTold) → b.current ≡ None
+      → (talks : List Talk) × ((closing_if closes (fold stream_turn b log)).closed ≡ b.closed ++ talks) × ((closing_if closes (fold stream_turn b log)).current ≡ None) × IsStreamRun (replies_by Stream) history w 0 0 talks (entries_of Stream (lane_of log)) (tries_of (lane_of log))
+  pub told : IsTold 0 (lane_of log)
+  pub notes : flat_map (λ t. t.notes) (lane_of log) ≡ range_with_len 0 after.noted
+  pub noted : after.noted ≤ length history
+  pub last : floor_behind 0 (lane_of log) ≤ shown
+  pub streams : BothTell before.port after.port (λ b c. c ≡ closing_if closes (fold stream_turn b log))
+  pub gate : BothTell before.gate after.gate (IsGateRun shown (map lead_of log) ended)
+  pub port_faults : raised before.port_faults (failures (lane_of log)) ≤ after.port_faults
+  pub port_stays : failures (lane_of log) ≡ 0 → after.port_faults ≡ before.port_faults
+  pub ending : IsStreamEnd turns log ended
+  pub well : (ended ≡ Stopped) ⊎ (ended ≡ PortEnd)
+
+-- the lane for conversations ended well where it is asked for, and is untouched where it isn't
+abbrev pub IsStreamWell : Option Listen → ℕ → List Version → ℕ → StreamLaneTold → StreamLaneTold → Type 0
+IsStreamWell None turns history w before after = after ≡ before
+IsStreamWell (Some at) turns history w before after = IsStreamWellDone turns history w before after
+
+-- The file holds a topology; a history of good maps begins with the topology's own numbers, mapped from scratch, and goes on by the feed's batches; the maps got the texts of that history and nothing else; the output got what the feed's lines come to; and each of the first lanes, and that for conversations where it is asked for, was opened and answered from that history until it ended.
 pub record IsWellServed (turns : ℕ) (ask : Service) (before after : Surroundings) : Type 0 where
   pub topology : Plan
   pub is_plan : IsPlan topology
@@ -58,7 +88,8 @@ pub record IsWellServed (turns : ℕ) (ask : Service) (before after : Surroundin
   pub texts : BothTell before.stage.lent.maps after.stage.lent.maps (IsPrinted (map map_text (first ∷ rest)))
   pub placed : Stage
   pub started : Stage
-  pub place : IsPlaced ask.workers before.stage placed
-  pub start : IsStarted ask.listen ask.workers first placed started
+  pub place : IsPlaced ask before.stage placed
+  pub start : IsStarted ask first placed started
   pub fed : IsFeed topology turns feed.Ended started.lent.feed after.stage.lent.feed (scene first (first ∷ []) started.lent.out started.lent.maps started.lent.pace) (scene newest (first ∷ rest) after.stage.lent.out after.stage.lent.maps after.stage.lent.pace)
   pub lanes : AreWellDone turns (first ∷ rest) 0 ask.workers started.lent.lanes after.stage.lent.lanes
+  pub stream : IsStreamWell ask.tcp turns (first ∷ rest) ask.workers started.lent.stream after.stage.lent.stream

@@ -1,5 +1,5 @@
 -- Inside this crate alone: how ports were opened, and a session was started.
-use Rattle.std.specs.Prelude.{◌≡◌, ◌≢◌, ◌⊎◌, ℕ, ◌<◌, ◌≤◌, Bool, false, List, [], ◌∷◌, Option, None, Some}
+use Rattle.std.specs.Prelude.{◌≡◌, ◌≢◌, ◌⊎◌, ℕ, ◌<◌, ◌≤◌, Bool, false, List, [], ◌∷◌, ◌++◌, ◌||◌, Option, None, Some}
 use Rattle.std.specs.List.{list_any}
 use Rattle.lane_model.specs.declared.ended.Ended.{Ended}
 use Rattle.demand_feed.specs.declared.run.FeedEnd.{FeedEnd}
@@ -12,12 +12,13 @@ use Rattle.outside.specs.Sink.{Written}
 use Rattle.outside.specs.declared.port.Opening.{Opening}
 use Rattle.outside.specs.declared.port.Opening.TheVariants as opening
 use Rattle.mapper.specs.Scenes.{IsCut, IsPrinted}
-use Rattle.drive.specs.Done.{LaneTold}
+use Rattle.drive.specs.Done.{LaneTold, StreamLaneTold}
+use Rattle.glb.specs.Words.{Service}
 use Rattle.glb.specs.declared.starting.Start.{Start}
 use Rattle.glb.specs.declared.starting.Start.TheVariants as start
 use Rattle.map_cell.specs.declared.door.OpenFault.{OpenFault}
 use Rattle.map_cell.specs.declared.door.OpenFault.TheVariants.{CellFault as Shut}
-use Rattle.glb.specs.Serve.{AreOpened, AskedFirst, FirstDoorRose, FirstDoorStands, all_ready, is_cell_fault, is_port_fault, is_spent, status_of, then_failed}
+use Rattle.glb.specs.Serve.{AreOpened, AskedFirst, FirstDoorRose, FirstDoorStands, IsStreamReady, IsStreamShut, all_ready, is_cell_fault, is_port_fault, is_spent, status_of, then_failed}
 
 -- the ports of the first n lanes were opened, or those up to one that failed
 abbrev pub HasOpened : Listen → ℕ → Opening → List LaneTold → List LaneTold → Type 0
@@ -29,15 +30,23 @@ pub record Staged : Type 0 where
   pub maps : Option Written
   pub maps_faults : ℕ
   pub lanes : List LaneTold
+  pub stream : StreamLaneTold
 
--- The ports of the first n lanes were opened and a text was put; or a port failed to open; or the put failed.
-abbrev pub IsStart : Listen → ℕ → List ℕ → Start → Staged → Staged → Type 0
-IsStart listen n text start.Ready before after =
-    AreOpened listen (all_ready n) before.lanes after.lanes × BothTell before.maps after.maps (IsPrinted (text ∷ [])) × (after.maps_faults ≡ before.maps_faults)
-IsStart listen n text start.NoPort before after =
-    ((k : ℕ) × (k < n) × AreOpened listen (then_failed k) before.lanes after.lanes) × (after.maps ≡ before.maps) × (after.maps_faults ≡ before.maps_faults)
-IsStart listen n text start.NoSink before after =
-    AreOpened listen (all_ready n) before.lanes after.lanes × BothTell before.maps after.maps (IsCut [] text) × Rose before.maps_faults after.maps_faults
+-- The ports of the first lanes were opened, and the streams where that is asked for, and a text was put; or one of them failed to open; or the put failed.
+abbrev pub IsStart : Service → List ℕ → Start → Staged → Staged → Type 0
+IsStart ask text start.Ready before after =
+    AreOpened ask.listen (all_ready ask.workers) before.lanes after.lanes × IsStreamReady ask.tcp before.stream after.stream × BothTell before.maps after.maps (IsPrinted (text ∷ [])) × (after.maps_faults ≡ before.maps_faults)
+IsStart ask text start.NoPort before after =
+    (((k : ℕ) × (k < ask.workers) × AreOpened ask.listen (then_failed k) before.lanes after.lanes × (after.stream ≡ before.stream))
+    ⊎ (AreOpened ask.listen (all_ready ask.workers) before.lanes after.lanes × IsStreamShut ask.tcp before.stream after.stream))
+    × (after.maps ≡ before.maps) × (after.maps_faults ≡ before.maps_faults)
+IsStart ask text start.NoSink before after =
+    AreOpened ask.listen (all_ready ask.workers) before.lanes after.lanes × IsStreamReady ask.tcp before.stream after.stream × BothTell before.maps after.maps (IsCut [] text) × Rose before.maps_faults after.maps_faults
+
+-- the streams were opened where that is asked for, and that came out so
+abbrev pub IsStreamStart : Option Listen → Opening → StreamLaneTold → StreamLaneTold → Type 0
+IsStreamStart tcp opening.Ready before after = IsStreamReady tcp before after
+IsStreamStart tcp opening.Failed before after = IsStreamShut tcp before after
 
 -- Where the first door was not to give a place or memory was wanting, it was asked for no more than n, and its count rose by one where it was the door, and else stands.
 abbrev pub IsAskedSome : ℕ → OpenFault → List LaneTold → List LaneTold → Type 0
@@ -48,9 +57,13 @@ abbrev pub at_place : (Ended → Bool) → Option Ended → Bool
 at_place test None = false
 at_place test (Some end) = test end
 
--- the status of a session, by the ends at the places of its lanes
-abbrev pub status_at : FeedEnd → List (Option Ended) → Status
-status_at end places = status_of end (list_any (at_place is_port_fault) places) (list_any (at_place is_spent) places) (list_any (at_place is_cell_fault) places)
+-- a test of the ends at the places, and of one more
+abbrev pub has_any : (Ended → Bool) → List (Option Ended) → Option Ended → Bool
+has_any test places stream = list_any (at_place test) places || list_any (at_place test) (stream ∷ [])
+
+-- the status of a session, by the ends at the places of its lanes, and that of the lane for conversations
+abbrev pub status_at : FeedEnd → List (Option Ended) → Option Ended → Status
+status_at end places stream = status_of end (has_any is_port_fault places stream) (has_any is_spent places stream) (has_any is_cell_fault places stream)
 
 -- no count of a session fell, a fault of the feed or of an output came with its count, and these counts stand where their fault is not answered
 pub record IsSessionLater (before after : Stage) (result : Status) : Type 0 where

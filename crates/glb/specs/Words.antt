@@ -1,5 +1,5 @@
 -- What the words of a command line ask for.
-use Rattle.std.specs.Prelude.{ℕ, List, Option, None, Some, option_and_then, option_map}
+use Rattle.std.specs.Prelude.{ℕ, ◌+◌, List, Option, None, Some, option_and_then, option_map}
 use Rattle.addr_text.specs.declared.address.Listen.{Listen}
 use Rattle.addr_text.specs.Addresses.{listen_of}
 use Rattle.big_world.specs.declared.TheConstants.{LARGEST_WORLD}
@@ -15,11 +15,12 @@ pub data Ask : Type 0 where
   answer : List ℕ → List ℕ → Datagram → Ask
   repair : List ℕ → List ℕ → List ℕ → Ask
 
--- what `serve` is asked for: the name of its topology, where to listen, and how many workers
+-- what `serve` is asked for: the name of its topology, where to listen, how many workers, and where to take conversations, if anywhere
 pub record Service : Type 0 where
   pub topology : List ℕ
   pub listen : Listen
   pub workers : ℕ
+  pub tcp : Option Listen
 
 -- what a command line asks for: a command that says one text on what files say, to serve, or to run a large world of so many groups
 pub data Task : Type 0 where
@@ -27,18 +28,37 @@ pub data Task : Type 0 where
   serve : Service → Task
   large : ℕ → Task
 
--- how many workers there are to be: 1 to 16, and 1 where that is not said
-abbrev pub workers_of : Option (List ℕ) → Option ℕ
-workers_of None = Some 1
-workers_of (Some text) = count_of 16 text
+-- where conversations are taken, if that is said: none where it is no address
+abbrev pub tcp_of : Option (List ℕ) → Option (Option Listen)
+tcp_of None = Some None
+tcp_of (Some text) = option_map Some (listen_of text)
+
+-- how many workers there may be at most: one less where another takes conversations
+abbrev pub most_workers : Option Listen → ℕ
+most_workers None = 16
+most_workers (Some at) = 15
+
+-- how many workers there are to be: 1 to so many, and 1 where that is not said
+abbrev pub workers_of : ℕ → Option (List ℕ) → Option ℕ
+workers_of most None = Some 1
+workers_of most (Some text) = count_of most text
 
 -- a service at an address with so many workers
-abbrev pub service : List ℕ → Listen → ℕ → Service
-service topology listen workers = record { topology = topology; listen = listen; workers = workers }
+abbrev pub service : List ℕ → Listen → Option Listen → ℕ → Service
+service topology listen tcp workers = record { topology = topology; listen = listen; workers = workers; tcp = tcp }
 
 -- what `serve` with these words asks for
-abbrev pub service_of : List ℕ → List ℕ → Option (List ℕ) → Option Service
-service_of topology listen workers = option_and_then (λ at. option_map (service topology at) (workers_of workers)) (listen_of listen)
+abbrev pub service_of : List ℕ → List ℕ → Option (List ℕ) → Option (List ℕ) → Option Service
+service_of topology listen workers tcp = option_and_then (λ at. option_and_then (λ over. option_map (service topology at over) (workers_of (most_workers over) workers)) (tcp_of tcp)) (listen_of listen)
+
+-- how many lanes take conversations
+abbrev pub streams_of : Option Listen → ℕ
+streams_of None = 0
+streams_of (Some at) = 1
+
+-- how many lanes there are in all
+abbrev pub lanes_of : Service → ℕ
+lanes_of ask = ask.workers + streams_of ask.tcp
 
 -- a command line, as what it asks for: an address, digits and numbers have to be in their grammars
 abbrev pub asked_by : line.Ask → Option Task
@@ -47,7 +67,7 @@ asked_by (line.map_of topology) = Some (say (map_from topology))
 asked_by (line.places topology) = Some (say (places topology))
 asked_by (line.answer topology map addr digits) = option_map say (option_map (answer topology map) (datagram_of addr digits))
 asked_by (line.repair topology map changes) = Some (say (repair topology map changes))
-asked_by (line.serve topology listen workers) = option_map serve (service_of topology listen workers)
+asked_by (line.serve topology listen workers tcp) = option_map serve (service_of topology listen workers tcp)
 asked_by (line.large groups) = option_map large (count_of LARGEST_WORLD groups)
 
 -- What the words ask for, if they are taken: the declaration of the command line takes them, and they are in their grammars. The first is the program's name.

@@ -1,14 +1,15 @@
 //! All that a session is lent.
-use drive::Lane;
+use drive::{Lane, StreamLane};
 
-/// What a session is lent: its feed, both outputs, its lanes, and the pace that is told of commits. The feed and each lane
-/// take at most so many turns.
+/// What a session is lent: its feed, both outputs, its lanes, one of them for conversations, and the pace that is told of
+/// commits. The feed and each lane take at most so many turns.
 #[derive(Drop)]
-pub struct Lent<'f, 'o, 'm, 'l, 'p, S, K, P, G, D, M> {
+pub struct Lent<'f, 'o, 'm, 'l, 's, 'p, S, K, P, Q, G, D, M> {
     pub feed: &'f mut S,
     pub out: &'o mut K,
     pub maps: &'m mut K,
     pub lanes: &'l mut [Lane<P, G, D>],
+    pub stream: &'s mut StreamLane<Q, G, D>,
     pub pace: &'p mut M,
     pub turns: u64,
 }

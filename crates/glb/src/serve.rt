@@ -1,6 +1,8 @@
 //! `glb serve`: a history of maps that a feed leads on, from which lanes answer.
-ghost use Rattle.std.specs.Prelude.{◌≡◌, ◌≤◌, ◌∷◌, [], All, IfErr, IfOk, Some, length, map, vec_len};
+ghost use Rattle.std.specs.Prelude.{◌≡◌, ◌+◌, ◌≤◌, ◌∷◌, [], All, IfErr, IfOk, IfSome, List, Some, length, map, vec_len};
 ghost use Rattle.std.specs.List.{list_any};
+ghost use Rattle.std.specs.Option.{option_to_list};
+ghost use Rattle.published_map.specs.Version.{Version};
 ghost use Rattle.demand_feed.specs.declared.limits.TheConstants.{MOST_TURNS};
 ghost use Rattle.mapper.specs.Mappers.{IsFirst, IsFromScratch};
 ghost use Rattle.glb.specs.Program.{IsPromised};
@@ -8,7 +10,7 @@ ghost use Rattle.glb.specs.Serve.{IsFirstSession, IsSession, PlacedFirst, is_cel
 ghost use Rattle.glb.specs.Starting.{IsAskedSome, at_place, status_at};
 ghost use Rattle.glb.specs.Commands.{service_asked};
 ghost use Rattle.glb.specs.Told.{IsSame, lane_told, stage_of, surroundings};
-ghost use Rattle.glb.specs.Words.{serve as task};
+ghost use Rattle.glb.specs.Words.{lanes_of, most_workers, serve as task, streams_of};
 
 use crate::ending::finish;
 use crate::files::load_topology;
@@ -16,6 +18,7 @@ use crate::lent::Lent;
 use crate::starting::{Start, start_lanes};
 use crate::status::Status;
 use crate::words::Service;
+use addr_text::Listen;
 use demand_feed::FeedEnd;
 use drive::{Lane, drive};
 use lane_model::Ended;
@@ -23,7 +26,7 @@ use map_cell::{Door, EmptyHistory, Naming, OpenFault, Viewer};
 use map_model::{Proposals, Steps};
 use mapper::Mapper;
 use no_memory::NoMemory;
-use outside::{Gate, Pace, Port, Shelf, Sink, Source};
+use outside::{Gate, Pace, Port, Shelf, Sink, Source, Streams};
 use std::alloc::Global;
 use std::marker::Brand;
 use std::sync::Wait;
@@ -70,12 +73,13 @@ fn status_by(port: bool, spent: bool, cell: bool) -> Status
 }
 
 /// The status of a session.
-fn status_of(end: FeedEnd, places: &[Option<Ended>]) -> Status
-    ensures { result ≡ status_at end places.now }
+fn status_of(end: FeedEnd, places: &[Option<Ended>], stream: Option<Ended>) -> Status
+    ensures { result ≡ status_at end places.now stream }
 {
-    let port = has_port_fault(places);
-    let spent = has_spent(places);
-    let cell = has_cell_fault(places);
+    let streams = [stream];
+    let port = has_port_fault(places) || has_port_fault(&streams);
+    let spent = has_spent(places) || has_spent(&streams);
+    let cell = has_cell_fault(places) || has_cell_fault(&streams);
     match end {
         FeedEnd::SourceFault => Status::SourceFault,
         FeedEnd::SinkFault => Status::SinkFault,
@@ -108,7 +112,7 @@ fn open_by<J: Naming, R: Wait, P: Port, G: Gate, D: Door>(
     requires workers { workers ≤ 16 }
     ensures mapper { IfOk result (λ r. IsFirst topology r.0) }
     ensures scratch { IfOk result (λ r. IsFromScratch topology.market r.0.newest.lines) }
-    ensures viewers { IfOk result (λ r. (vec_len r.1 ≡ workers) × All (λ v. (v.seen ≡ r.0.history) × (v.told ≡ r.0.history)) r.1.items) }
+    ensures viewers { IfOk result (λ r. (vec_len r.1 ≡ workers) × All (λ v. (v.seen ≡ r.0.history) × (v.heard ≡ r.0.history)) r.1.items) }
     ensures asked { IfOk result (λ _. PlacedFirst workers (lane_told P.told P.faults G.told D.asked D.looks D.greatest D.faults lane.old ∷ []) (lane_told P.told P.faults G.told D.asked D.looks D.greatest D.faults lane.new ∷ [])) }
     ensures refused { IfErr result (λ e. IsAskedSome workers e (lane_told P.told P.faults G.told D.asked D.looks D.greatest D.faults lane.old ∷ []) (lane_told P.told P.faults G.told D.asked D.looks D.greatest D.faults lane.new ∷ [])) }
 {
@@ -138,7 +142,7 @@ fn open_first<J: Naming, R: Wait, P: Port, G: Gate, D: Door>(
     requires lanes { length lanes.old ≡ 1 }
     ensures mapper { IfOk result (λ r. IsFirst topology r.0) }
     ensures scratch { IfOk result (λ r. IsFromScratch topology.market r.0.newest.lines) }
-    ensures viewers { IfOk result (λ r. (vec_len r.1 ≡ workers) × All (λ v. (v.seen ≡ r.0.history) × (v.told ≡ r.0.history)) r.1.items) }
+    ensures viewers { IfOk result (λ r. (vec_len r.1 ≡ workers) × All (λ v. (v.seen ≡ r.0.history) × (v.heard ≡ r.0.history)) r.1.items) }
     ensures length { length lanes.new ≡ length lanes.old }
     ensures asked { IfOk result (λ _. PlacedFirst workers (map (lane_told P.told P.faults G.told D.asked D.looks D.greatest D.faults) lanes.old) (map (lane_told P.told P.faults G.told D.asked D.looks D.greatest D.faults) lanes.new)) }
     ensures refused { IfErr result (λ e. IsAskedSome workers e (map (lane_told P.told P.faults G.told D.asked D.looks D.greatest D.faults) lanes.old) (map (lane_told P.told P.faults G.told D.asked D.looks D.greatest D.faults) lanes.new)) }
@@ -160,7 +164,7 @@ fn open_mapper<J: Naming, R: Wait, P: Port, G: Gate, D: Door>(
     requires lanes { 1 ≤ length lanes.old }
     ensures mapper { IfOk result (λ r. IsFirst topology r.0) }
     ensures scratch { IfOk result (λ r. IsFromScratch topology.market r.0.newest.lines) }
-    ensures viewers { IfOk result (λ r. (vec_len r.1 ≡ workers) × All (λ v. (v.seen ≡ r.0.history) × (v.told ≡ r.0.history)) r.1.items) }
+    ensures viewers { IfOk result (λ r. (vec_len r.1 ≡ workers) × All (λ v. (v.seen ≡ r.0.history) × (v.heard ≡ r.0.history)) r.1.items) }
     ensures length { length lanes.new ≡ length lanes.old }
     ensures asked { IfOk result (λ _. PlacedFirst workers (map (lane_told P.told P.faults G.told D.asked D.looks D.greatest D.faults) lanes.old) (map (lane_told P.told P.faults G.told D.asked D.looks D.greatest D.faults) lanes.new)) }
     ensures refused { IfErr result (λ e. IsAskedSome workers e (map (lane_told P.told P.faults G.told D.asked D.looks D.greatest D.faults) lanes.old) (map (lane_told P.told P.faults G.told D.asked D.looks D.greatest D.faults) lanes.new)) }
@@ -169,13 +173,43 @@ fn open_mapper<J: Naming, R: Wait, P: Port, G: Gate, D: Door>(
     open_first::<J, R, P, G, D>(rt, alloc, history, topology, workers, first)
 }
 
-/// Opens the ports, puts the first map's text, and drives. It closes the mapper.
+/// How many lanes there are in all.
+fn lanes_of(service: &Service<'_>) -> u8
+    requires { service.now.workers ≤ most_workers service.now.tcp }
+    ensures { result ≡ lanes_of (service_asked service.now) }
+{
+    match service.tcp {
+        Some(_) => service.workers + 1,
+        None => service.workers,
+    }
+}
+
+/// The viewers of the lanes for datagrams, and that of the lane for conversations, where there is one.
+fn split_viewers<J: Naming>(
+    viewers: Vec<Viewer<J>>,
+    tcp: &Option<Listen>,
+) -> (Vec<Viewer<J>>, Option<Viewer<J>>)
+    requires { streams_of tcp.now ≤ vec_len viewers }
+    ensures count { vec_len result.0 + streams_of tcp.now ≡ vec_len viewers }
+    ensures asked { length (option_to_list result.1) ≡ streams_of tcp.now }
+    ensures same { (h : List Version) → All (λ v. (v.seen ≡ h) × (v.heard ≡ h)) viewers.items → All (λ v. (v.seen ≡ h) × (v.heard ≡ h)) result.0.items × IfSome result.1 (λ v. (v.seen ≡ h) × (v.heard ≡ h)) }
+{
+    let mut viewers = viewers;
+    let listener = match tcp {
+        Some(_) => viewers.pop(),
+        None => None,
+    };
+    (viewers, listener)
+}
+
+/// Opens the ports and the streams, puts the first map's text, and drives. It closes the mapper.
 fn serve_first<
     J: Naming + Send + Sync,
     R: Threads + Wait + Sync,
     S: Source,
     K: Sink,
     P: Port + Send,
+    Q: Streams + Send,
     G: Gate + Send,
     D: Door + Send,
     M: Pace,
@@ -185,22 +219,16 @@ fn serve_first<
     mapper: Mapper<J>,
     viewers: Vec<Viewer<J>>,
     service: &Service<'_>,
-    lent: &mut Lent<'_, '_, '_, '_, '_, S, K, P, G, D, M>,
+    lent: &mut Lent<'_, '_, '_, '_, '_, '_, S, K, P, Q, G, D, M>,
 ) -> Status
     requires serial { mapper.newest.serial ≡ 0 }
-    requires viewers { (vec_len viewers ≡ service.now.workers) × All (λ v. (v.seen ≡ mapper.history) × (v.told ≡ mapper.history)) viewers.items }
-    requires workers { (service.now.workers ≤ 16) × (service.now.workers ≤ length lent.old.lanes.now) }
+    requires viewers { (vec_len viewers ≡ lanes_of (service_asked service.now)) × All (λ v. (v.seen ≡ mapper.history) × (v.heard ≡ mapper.history)) viewers.items }
+    requires workers { (service.now.workers ≤ most_workers service.now.tcp) × (service.now.workers ≤ length lent.old.lanes.now) }
     requires turns { lent.old.turns ≤ MOST_TURNS }
     ensures keeps { IsSame lent.old lent.new }
-    ensures served { IsFirstSession lent.old.turns service.now.listen service.now.workers mapper.newest (stage_of S.told S.faults K.told K.faults P.told P.faults G.told D.asked D.looks D.greatest D.faults M.told lent.old) (stage_of S.told S.faults K.told K.faults P.told P.faults G.told D.asked D.looks D.greatest D.faults M.told lent.new) result }
+    ensures served { IsFirstSession lent.old.turns (service_asked service.now) mapper.newest (stage_of S.told S.faults K.told K.faults P.told P.faults Q.told Q.faults G.told D.asked D.looks D.greatest D.faults M.told lent.old) (stage_of S.told S.faults K.told K.faults P.told P.faults Q.told Q.faults G.told D.asked D.looks D.greatest D.faults M.told lent.new) result }
 {
-    match start_lanes(
-        mapper.text(),
-        &service.listen,
-        service.workers,
-        lent.maps,
-        lent.lanes,
-    ) {
+    match start_lanes(mapper.text(), service, lent.maps, lent.lanes, lent.stream) {
         Start::NoPort => {
             mapper.close(rt);
             Status::PortFault
@@ -209,13 +237,26 @@ fn serve_first<
             mapper.close(rt);
             Status::SinkFault
         }
-        Start::Ready => match drive(
-            rt, alloc, mapper, viewers, lent.feed, lent.out, lent.maps, lent.lanes, lent.pace,
-            lent.turns,
-        ) {
-            Ok(end) => status_of(end.feed, &end.lanes),
-            Err(NoMemory) => Status::NoMemory,
-        },
+        Start::Ready => {
+            let (viewers, listener) = split_viewers(viewers, &service.tcp);
+            match drive(
+                rt,
+                alloc,
+                mapper,
+                viewers,
+                listener,
+                lent.feed,
+                lent.out,
+                lent.maps,
+                lent.lanes,
+                lent.stream,
+                lent.pace,
+                lent.turns,
+            ) {
+                Ok(end) => status_of(end.feed, &end.lanes, end.stream),
+                Err(NoMemory) => Status::NoMemory,
+            }
+        }
     }
 }
 
@@ -226,6 +267,7 @@ fn serve_topology<
     S: Source,
     K: Sink,
     P: Port + Send,
+    Q: Streams + Send,
     G: Gate + Send,
     D: Door + Send,
     M: Pace,
@@ -235,15 +277,22 @@ fn serve_topology<
     history: EmptyHistory,
     topology: Topology,
     service: &Service<'_>,
-    lent: &mut Lent<'_, '_, '_, '_, '_, S, K, P, G, D, M>,
+    lent: &mut Lent<'_, '_, '_, '_, '_, '_, S, K, P, Q, G, D, M>,
 ) -> Status
     requires book { history ≡ J.book }
-    requires workers { (service.now.workers ≤ 16) × (service.now.workers ≤ length lent.old.lanes.now) × (1 ≤ length lent.old.lanes.now) }
+    requires workers { (service.now.workers ≤ most_workers service.now.tcp) × (service.now.workers ≤ length lent.old.lanes.now) × (1 ≤ length lent.old.lanes.now) }
     requires turns { lent.old.turns ≤ MOST_TURNS }
     ensures keeps { IsSame lent.old lent.new }
-    ensures session { IsSession lent.old.turns service.now.listen service.now.workers topology (stage_of S.told S.faults K.told K.faults P.told P.faults G.told D.asked D.looks D.greatest D.faults M.told lent.old) (stage_of S.told S.faults K.told K.faults P.told P.faults G.told D.asked D.looks D.greatest D.faults M.told lent.new) result }
+    ensures session { IsSession lent.old.turns (service_asked service.now) topology (stage_of S.told S.faults K.told K.faults P.told P.faults Q.told Q.faults G.told D.asked D.looks D.greatest D.faults M.told lent.old) (stage_of S.told S.faults K.told K.faults P.told P.faults Q.told Q.faults G.told D.asked D.looks D.greatest D.faults M.told lent.new) result }
 {
-    match open_mapper::<J, R, P, G, D>(rt, alloc, history, topology, service.workers, lent.lanes) {
+    match open_mapper::<J, R, P, G, D>(
+        rt,
+        alloc,
+        history,
+        topology,
+        lanes_of(service),
+        lent.lanes,
+    ) {
         Ok((mapper, viewers)) => serve_first(rt, alloc, mapper, viewers, service, lent),
         Err(fault) => status_of_opening(fault),
     }
@@ -256,6 +305,7 @@ pub fn serve<
     S: Source,
     K: Sink,
     P: Port + Send,
+    Q: Streams + Send,
     G: Gate + Send,
     D: Door + Send,
     M: Pace,
@@ -264,13 +314,13 @@ pub fn serve<
     alloc: Global,
     service: &Service<'_>,
     files: &mut F,
-    lent: &mut Lent<'_, '_, '_, '_, '_, S, K, P, G, D, M>,
+    lent: &mut Lent<'_, '_, '_, '_, '_, '_, S, K, P, Q, G, D, M>,
 ) -> Status
-    requires workers { (1 ≤ service.now.workers) × (service.now.workers ≤ 16) }
+    requires workers { (1 ≤ service.now.workers) × (service.now.workers ≤ most_workers service.now.tcp) }
     requires lanes { length lent.old.lanes.now ≡ 16 }
     requires turns { lent.old.turns ≤ MOST_TURNS }
     ensures keeps { IsSame lent.old lent.new }
-    ensures promised { IsPromised lent.old.turns (Some (task (service_asked service.now))) (surroundings (F.told files.old) (F.faults files.old) (stage_of S.told S.faults K.told K.faults P.told P.faults G.told D.asked D.looks D.greatest D.faults M.told lent.old)) (surroundings (F.told files.new) (F.faults files.new) (stage_of S.told S.faults K.told K.faults P.told P.faults G.told D.asked D.looks D.greatest D.faults M.told lent.new)) result }
+    ensures promised { IsPromised lent.old.turns (Some (task (service_asked service.now))) (surroundings (F.told files.old) (F.faults files.old) (stage_of S.told S.faults K.told K.faults P.told P.faults Q.told Q.faults G.told D.asked D.looks D.greatest D.faults M.told lent.old)) (surroundings (F.told files.new) (F.faults files.new) (stage_of S.told S.faults K.told K.faults P.told P.faults Q.told Q.faults G.told D.asked D.looks D.greatest D.faults M.told lent.new)) result }
 {
     match load_topology(alloc, files, service.topology) {
         Ok(topology) => serve_topology::<Brand, R, S, K, P, G, D, M>(

@@ -1,21 +1,23 @@
 //! The start of a session: the ports are opened, and the first map's text is put.
 ghost use Rattle.std.specs.Prelude.{◌≡◌, ◌≤◌, length, map};
-ghost use Rattle.glb.specs.Starting.{HasOpened, IsStart};
-ghost use Rattle.glb.specs.Told.{lane_told};
+ghost use Rattle.glb.specs.Commands.{service_asked};
+ghost use Rattle.glb.specs.Starting.{HasOpened, IsStart, IsStreamStart};
+ghost use Rattle.glb.specs.Told.{lane_told, stream_told};
 
+use crate::words::Service;
 use addr_text::Listen;
-use drive::Lane;
+use drive::{Lane, StreamLane};
 use map_cell::Door;
-use outside::{Gate, Opening, Port, Put, Sink};
+use outside::{Gate, Opening, Port, Put, Sink, Streams};
 
 /// What came of a start.
 #[derive(Clone, Copy, Debug, PartialEq, Eq)]
 pub enum Start {
-    /// All ports are open, and the text was put.
+    /// All that was to be opened is open, and the text was put.
     Ready,
-    /// A port failed to open. None behind it was opened, and no text put.
+    /// A port or the streams failed to open. Nothing behind that was opened, and no text put.
     NoPort,
-    /// All ports are open, but the put of the text failed.
+    /// All that was to be opened is open, but the put of the text failed.
     NoSink,
 }
 
@@ -48,25 +50,41 @@ fn open_ports<P: Port, G: Gate, D: Door>(
     }
 }
 
-/// Opens the ports of the first lanes, and puts the first map's text.
-pub fn start_lanes<K: Sink, P: Port, G: Gate, D: Door>(
+/// Opens the streams of a lane, where that is asked for.
+fn open_streams<Q: Streams, G: Gate, D: Door>(
+    stream: &mut StreamLane<Q, G, D>,
+    tcp: &Option<Listen>,
+) -> Opening
+    ensures { IsStreamStart tcp.now result (stream_told Q.told Q.faults G.told D.asked D.looks D.greatest D.faults stream.old) (stream_told Q.told Q.faults G.told D.asked D.looks D.greatest D.faults stream.new) }
+{
+    match tcp {
+        Some(listen) => stream.streams.open(listen),
+        None => Opening::Ready,
+    }
+}
+
+/// Opens the ports of the first lanes, then the streams where that is asked for, and puts the first map's text.
+pub fn start_lanes<K: Sink, P: Port, Q: Streams, G: Gate, D: Door>(
     text: &[u8],
-    listen: &Listen,
-    workers: u8,
+    service: &Service<'_>,
     maps: &mut K,
     lanes: &mut [Lane<P, G, D>],
+    stream: &mut StreamLane<Q, G, D>,
 ) -> Start
-    requires { workers ≤ length lanes.old }
+    requires { service.now.workers ≤ length lanes.old }
     ensures same { length lanes.new ≡ length lanes.old }
-    ensures start { IsStart listen.now workers text.now result
-        (record { maps = K.told maps.old; maps_faults = K.faults maps.old; lanes = map (lane_told P.told P.faults G.told D.asked D.looks D.greatest D.faults) lanes.old })
-        (record { maps = K.told maps.new; maps_faults = K.faults maps.new; lanes = map (lane_told P.told P.faults G.told D.asked D.looks D.greatest D.faults) lanes.new }) }
+    ensures start { IsStart (service_asked service.now) text.now result
+        (record { maps = K.told maps.old; maps_faults = K.faults maps.old; lanes = map (lane_told P.told P.faults G.told D.asked D.looks D.greatest D.faults) lanes.old; stream = stream_told Q.told Q.faults G.told D.asked D.looks D.greatest D.faults stream.old })
+        (record { maps = K.told maps.new; maps_faults = K.faults maps.new; lanes = map (lane_told P.told P.faults G.told D.asked D.looks D.greatest D.faults) lanes.new; stream = stream_told Q.told Q.faults G.told D.asked D.looks D.greatest D.faults stream.new }) }
 {
-    match open_ports(lanes, workers, listen) {
-        Opening::Failed => Start::NoPort,
-        Opening::Ready => match maps.put(text) {
-            Put::Done => Start::Ready,
-            Put::Failed => Start::NoSink,
-        },
+    if let Opening::Failed = open_ports(lanes, service.workers, &service.listen) {
+        return Start::NoPort;
+    }
+    if let Opening::Failed = open_streams(stream, &service.tcp) {
+        return Start::NoPort;
+    }
+    match maps.put(text) {
+        Put::Done => Start::Ready,
+        Put::Failed => Start::NoSink,
     }
 }

@@ -4,7 +4,7 @@ ghost use Rattle.demand_feed.specs.declared.limits.TheConstants.{MOST_TURNS};
 ghost use Rattle.command_line.specs.Asked.{texts};
 ghost use Rattle.glb.specs.Program.{IsPromised};
 ghost use Rattle.glb.specs.Commands.{IsManned, task_of};
-ghost use Rattle.glb.specs.Told.{IsSame, lane_told, stage, stage_of, surroundings};
+ghost use Rattle.glb.specs.Told.{IsSame, lane_told, stage, stage_of, stream_told, surroundings};
 ghost use Rattle.glb.specs.Words.{asked};
 
 use crate::large::large;
@@ -13,10 +13,10 @@ use crate::saying::run_files;
 use crate::serve::serve;
 use crate::status::Status;
 use crate::words::{Order, read_words};
-use drive::Lane;
+use drive::{Lane, StreamLane};
 use map_cell::Door;
 use no_memory::NoMemory;
-use outside::{Gate, Pace, Port, Shelf, Sink, Source};
+use outside::{Gate, Pace, Port, Shelf, Sink, Source, Streams};
 use std::alloc::Global;
 use std::sync::Wait;
 use std::thread::Threads;
@@ -28,6 +28,7 @@ fn run_order<
     S: Source,
     K: Sink,
     P: Port + Send,
+    Q: Streams + Send,
     G: Gate + Send,
     D: Door + Send,
     M: Pace,
@@ -36,13 +37,13 @@ fn run_order<
     alloc: Global,
     order: Option<Order<'_>>,
     files: &mut F,
-    lent: &mut Lent<'_, '_, '_, '_, '_, S, K, P, G, D, M>,
+    lent: &mut Lent<'_, '_, '_, '_, '_, '_, S, K, P, Q, G, D, M>,
 ) -> Status
     requires manned { IsManned order }
     requires lanes { length lent.old.lanes.now ≡ 16 }
     requires turns { (1 ≤ lent.old.turns) × (lent.old.turns ≤ 2 ^ 48) }
     ensures keeps { IsSame lent.old lent.new }
-    ensures promised { IsPromised lent.old.turns (option_map task_of order.entry) (surroundings (F.told files.old) (F.faults files.old) (stage_of S.told S.faults K.told K.faults P.told P.faults G.told D.asked D.looks D.greatest D.faults M.told lent.old)) (surroundings (F.told files.new) (F.faults files.new) (stage_of S.told S.faults K.told K.faults P.told P.faults G.told D.asked D.looks D.greatest D.faults M.told lent.new)) result }
+    ensures promised { IsPromised lent.old.turns (option_map task_of order.entry) (surroundings (F.told files.old) (F.faults files.old) (stage_of S.told S.faults K.told K.faults P.told P.faults Q.told Q.faults G.told D.asked D.looks D.greatest D.faults M.told lent.old)) (surroundings (F.told files.new) (F.faults files.new) (stage_of S.told S.faults K.told K.faults P.told P.faults Q.told Q.faults G.told D.asked D.looks D.greatest D.faults M.told lent.new)) result }
 {
     match order {
         Some(Order::Say(command)) => run_files(alloc, Some(command), files, lent.out),
@@ -52,7 +53,7 @@ fn run_order<
     }
 }
 
-/// The whole program: does what the words ask for, over these files, this feed, these outputs and these 16 lanes, and answers the status.
+/// The whole program: does what the words ask for, over these files, this feed, these outputs, these 16 lanes and this lane for conversations, and answers the status.
 ///
 /// The first word is the program's name. Each lane and the feed take at most so many turns, 1 to 2^48.
 pub fn glb<
@@ -61,6 +62,7 @@ pub fn glb<
     S: Source,
     K: Sink,
     P: Port + Send,
+    Q: Streams + Send,
     G: Gate + Send,
     D: Door + Send,
     M: Pace,
@@ -73,12 +75,13 @@ pub fn glb<
     out: &mut K,
     maps: &mut K,
     lanes: &mut [Lane<P, G, D>],
+    stream: &mut StreamLane<Q, G, D>,
     pace: &mut M,
     turns: u64,
 ) -> Status
     requires lanes { length lanes.old ≡ 16 }
     requires turns { (1 ≤ turns) × (turns ≤ 2 ^ 48) }
-    ensures { IsPromised turns (asked (texts words.now)) (surroundings (F.told files.old) (F.faults files.old) (stage (S.told feed.old) (K.told out.old) (K.told maps.old) (M.told pace.old) (map (lane_told P.told P.faults G.told D.asked D.looks D.greatest D.faults) lanes.old) (S.faults feed.old) (K.faults out.old) (K.faults maps.old))) (surroundings (F.told files.new) (F.faults files.new) (stage (S.told feed.new) (K.told out.new) (K.told maps.new) (M.told pace.new) (map (lane_told P.told P.faults G.told D.asked D.looks D.greatest D.faults) lanes.new) (S.faults feed.new) (K.faults out.new) (K.faults maps.new))) result }
+    ensures { IsPromised turns (asked (texts words.now)) (surroundings (F.told files.old) (F.faults files.old) (stage (S.told feed.old) (K.told out.old) (K.told maps.old) (M.told pace.old) (map (lane_told P.told P.faults G.told D.asked D.looks D.greatest D.faults) lanes.old) (stream_told Q.told Q.faults G.told D.asked D.looks D.greatest D.faults stream.old) (S.faults feed.old) (K.faults out.old) (K.faults maps.old))) (surroundings (F.told files.new) (F.faults files.new) (stage (S.told feed.new) (K.told out.new) (K.told maps.new) (M.told pace.new) (map (lane_told P.told P.faults G.told D.asked D.looks D.greatest D.faults) lanes.new) (stream_told Q.told Q.faults G.told D.asked D.looks D.greatest D.faults stream.new) (S.faults feed.new) (K.faults out.new) (K.faults maps.new))) result }
 {
     match read_words(alloc, words) {
         Ok(order) => {
@@ -87,6 +90,7 @@ pub fn glb<
                 out,
                 maps,
                 lanes,
+                stream,
                 pace,
                 turns,
             };

@@ -6,7 +6,7 @@ ghost use Rattle.command_line.specs.Asked.{texts};
 ghost use Rattle.command_line.specs.Commands.{ask_of as line_of};
 ghost use Rattle.text_parts.specs.Counts.{count_of};
 ghost use Rattle.big_world.specs.declared.TheConstants.{LARGEST_WORLD};
-ghost use Rattle.glb.specs.Words.{answer, asked, asked_by, large, say, serve, service_of, workers_of};
+ghost use Rattle.glb.specs.Words.{answer, asked, asked_by, large, most_workers, say, serve, service_of, tcp_of, workers_of};
 ghost use Rattle.glb.specs.Commands.{IsManned, ask_of, task_of};
 ghost use Rattle.glb.specs.Datagram.{datagram_of};
 
@@ -45,12 +45,13 @@ pub enum Command<'a> {
     },
 }
 
-/// A service: the file of its topology, where it listens, and how many workers it has.
+/// A service: the file of its topology, where it listens, how many workers it has, and where it takes conversations.
 #[derive(Clone, Copy)]
 pub struct Service<'a> {
     pub topology: &'a str,
     pub listen: Listen,
     pub workers: u8,
+    pub tcp: Option<Listen>,
 }
 
 /// A command line that is taken.
@@ -61,13 +62,34 @@ pub enum Order<'a> {
     Large { groups: u32 },
 }
 
-/// How many workers there are to be.
-fn read_workers(text: Option<&str>) -> Option<u8>
-    ensures workers { result ≡ workers_of (option_map (λ t. t.now) text.entry) }
-    ensures within { IfSome result (λ n. (1 ≤ n) × (n ≤ 16)) }
+/// Where conversations are taken, if there is a word for that. There is no answer where it is no address.
+fn read_tcp(text: Option<&str>) -> Option<Option<Listen>>
+    ensures { result ≡ tcp_of (option_map (λ t. t.now) text.entry) }
 {
     match text {
-        Some(text) => match read_count(text.as_bytes(), MOST_VIEWERS as u64) {
+        Some(text) => Some(Some(read_listen(text.as_bytes())?)),
+        None => Some(None),
+    }
+}
+
+/// How many workers there may be: one less than lanes where one lane takes conversations.
+fn most_workers(tcp: &Option<Listen>) -> usize
+    ensures { result ≡ most_workers tcp.now }
+{
+    match tcp {
+        Some(_) => MOST_VIEWERS - 1,
+        None => MOST_VIEWERS,
+    }
+}
+
+/// How many workers there are to be.
+fn read_workers(text: Option<&str>, most: usize) -> Option<u8>
+    requires most { (1 ≤ most) × (most ≤ 16) }
+    ensures workers { result ≡ workers_of most (option_map (λ t. t.now) text.entry) }
+    ensures within { IfSome result (λ n. (1 ≤ n) × (n ≤ most)) }
+{
+    match text {
+        Some(text) => match read_count(text.as_bytes(), most as u64) {
             Some(count) => Some(count as u8),
             None => None,
         },
@@ -76,16 +98,23 @@ fn read_workers(text: Option<&str>) -> Option<u8>
 }
 
 /// What `serve` with these words asks for.
-fn read_serve<'a>(topology: &'a str, listen: &str, workers: Option<&str>) -> Option<Order<'a>>
-    ensures asked { option_map task_of result ≡ option_map serve (service_of topology.entry.now listen.now (option_map (λ t. t.now) workers.entry)) }
+fn read_serve<'a>(
+    topology: &'a str,
+    listen: &str,
+    workers: Option<&str>,
+    tcp: Option<&str>,
+) -> Option<Order<'a>>
+    ensures asked { option_map task_of result ≡ option_map serve (service_of topology.entry.now listen.now (option_map (λ t. t.now) workers.entry) (option_map (λ t. t.now) tcp.entry)) }
     ensures manned { IsManned result }
 {
     let listen = read_listen(listen.as_bytes())?;
-    let workers = read_workers(workers)?;
+    let tcp = read_tcp(tcp)?;
+    let workers = read_workers(workers, most_workers(&tcp))?;
     Some(Order::Serve(Service {
         topology,
         listen,
         workers,
+        tcp,
     }))
 }
 
@@ -170,7 +199,8 @@ fn read_command(alloc: Global, line: Line<'_>) -> Result<Option<Order<'_>>, NoMe
             topology,
             listen,
             workers,
-        } => Ok(read_serve(topology, listen, workers)),
+            tcp,
+        } => Ok(read_serve(topology, listen, workers, tcp)),
         Line::Large { groups } => Ok(read_large(groups)),
     }
 }
