@@ -2,7 +2,7 @@
 ghost use Rattle.std.specs.Prelude.{◌≡◌, IfSome};
 ghost use Rattle.outside.specs.Port.{HasDue};
 ghost use Rattle.lane_model.specs.Lanes.{following};
-ghost use Rattle.lane_model.specs.Sessions.{IsLaneCall};
+ghost use Rattle.lane_model.specs.Calls.{IsLaneCall};
 ghost use Rattle.lane_model.specs.Replies.{replies};
 ghost use Rattle.name_workers.specs.Moments.{eyes_of, moment_of};
 ghost use Rattle.name_workers.specs.Steps.{IsFared, IsServed, IsTaken, IsTurned, step_of_fared};
