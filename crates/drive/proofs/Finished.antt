@@ -13,7 +13,7 @@ use Rattle.lane_model.specs.declared.ended.Ended.{Ended}
 use Rattle.lane_model.specs.Lanes.{IsLaneRun}
 use Rattle.lane_model.specs.Replies.{replies}
 use Rattle.lane_model.specs.Turns.{AreGiven, entries_of, tries_of}
-use Rattle.lane_model.specs.Sessions.{Eyes, IsEnd, IsLaneCall, Moment}
+use Rattle.lane_model.specs.Calls.{Eyes, IsEnd, IsLaneCall, Moment}
 use Rattle.lane_model.proofs.Calls.{refused_last}
 use Rattle.lane_model.proofs.Prefixes.{prefix_length}
 use Rattle.lane_model.proofs.Going.{rise_trans}
@@ -36,12 +36,12 @@ abbrev pub told_of : Moment Version → Eyes Version → ℕ → ℕ → LaneTol
 told_of m e n noted = record { port = m.port; port_faults = m.port_faults; gate = m.gate; asked = n; looks = e.looks; greatest = e.greatest; door_faults = e.faults; noted = noted }
 
 -- the same of a lane over one history or another
-done_over : (turns : ℕ) (first : Version) (rest : List Version) (w : ℕ) (m m' : Moment Version) (f : Eyes Version) (served e : Ended) (n n' j k : ℕ) → n' ≡ n → length m.eyes.told ≡ 1
+done_over : (turns : ℕ) (first : Version) (rest : List Version) (w : ℕ) (m m' : Moment Version) (f : Eyes Version) (served e : Ended) (n n' j k : ℕ) → n' ≡ n → length m.eyes.heard ≡ 1
     → (c : IsLaneCall replies w turns m m' served) → flat_map (λ t. t.notes) c.log ≡ range_with_len 0 k → IsClosing (first ∷ rest) m'.eyes f served e → (over : List Version) → IsLaneRun replies over w 0 0 (entries_of replies.way c.log) (tries_of c.log)
     → (IsOverNewest (first ∷ rest) over c.log served e (told_of m m.eyes n j) (told_of m' f n' k) ⊎ IsOverSeen first (first ∷ rest) over served e (told_of m m.eyes n j) (told_of m' f n' k) ⊎ IsOverPast (first ∷ rest) over c.log e (told_of m m.eyes n j) (told_of m' f n' k))
     → IsDone turns first rest w (told_of m m.eyes n j) (told_of m' f n' k) e
 done_over turns first rest w m m' f served e n n' j k asked one c are q over run which =
-    let some : 0 < length m.eyes.told = omega (arith, one) in
+    let some : 0 < length m.eyes.heard = omega (arith, one) in
     let rise = rise_trans m.eyes m'.eyes f c.all.rise q.rise in
     record {
       log = c.log;
@@ -51,10 +51,10 @@ done_over turns first rest w m m' f served e n n' j k asked one c are q over run
       run = run;
       told = c.all.told 0 some;
       notes = are;
-      noted = let few = noted_within c.log k (length m'.eyes.told) are (c.all.told 0 some) c.all.known in omega (arith, one, few, c.all.rise.above, q.rise.rising);
+      noted = let few = noted_within c.log k (length m'.eyes.heard) are (c.all.told 0 some) c.all.known in omega (arith, one, few, c.all.rise.above, q.rise.rising);
       within = λ k d lt. let known = c.all.within k d lt in omega (arith, one, known, c.all.rise.above, q.rise.rising);
       last = (
-        (let behind = behind_within c.log 0 (length m'.eyes.told) (omega (arith, c.shown_is)) c.all.within in omega (arith, c.shown_is, behind)),
+        (let behind = behind_within c.log 0 (length m'.eyes.heard) (omega (arith, c.shown_is)) c.all.within in omega (arith, c.shown_is, behind)),
         omega (arith, one, c.shown_is, c.all.rise.above, q.rise.rising),
       );
       port = c.all.port;
@@ -66,7 +66,7 @@ done_over turns first rest w m m' f served e n n' j k asked one c are q over run
       port_stays = c.all.port_stays;
       refusal = λ x. later_rose m.eyes.faults m'.eyes.faults f.faults (c.all.refusal x) q.rise.faults;
       missed = c.all.missed;
-      learned = let known = prefix_length (first ∷ rest) f.told q.learned in omega (arith, one, known, rise.above);
+      learned = let known = prefix_length (first ∷ rest) f.heard q.learned in omega (arith, one, known, rise.above);
       rising = (rise.rising, rise.faults);
       which = which;
     }
@@ -75,11 +75,11 @@ done_over turns first rest w m m' f served e n n' j k asked one c are q over run
 shown_past : (known before after : ℕ) → known ≤ after + 1 → after + 1 ≤ max (before + 1) known → (after + 1 ≡ known) ⊎ (known ≤ before)
 shown_past known before after le most = ⊎_elim (λ (is : known ≡ after + 1). inl (sym is)) (λ (lt : known < after + 1). inr (omega (arith, lt, most))) (eq-or-lt_of_le le)
 
-pub done_of : (turns : ℕ) (first : Version) (rest : List Version) (w : ℕ) (m m' : Moment Version) (f : Eyes Version) (served e : Ended) (n n' j k : ℕ) → n' ≡ n → m.eyes.seen ≡ first ∷ [] → m.eyes.told ≡ first ∷ [] → m.count ≡ 0
+pub done_of : (turns : ℕ) (first : Version) (rest : List Version) (w : ℕ) (m m' : Moment Version) (f : Eyes Version) (served e : Ended) (n n' j k : ℕ) → n' ≡ n → m.eyes.seen ≡ first ∷ [] → m.eyes.heard ≡ first ∷ [] → m.count ≡ 0
     → (c : IsLaneCall replies w turns m m' served) → flat_map (λ t. t.notes) c.log ≡ range_with_len 0 k → IsClosing (first ∷ rest) m'.eyes f served e → IsDone turns first rest w (told_of m m.eyes n j) (told_of m' f n' k) e
-done_of turns first rest w m m' f served e n n' j k asked seen told count c are q =
-    let one : length m.eyes.told ≡ 1 = ap length told in
-    let some : 0 < length m.eyes.told = omega (arith, one) in
+done_of turns first rest w m m' f served e n n' j k asked seen heard count c are q =
+    let one : length m.eyes.heard ≡ 1 = ap length heard in
+    let some : 0 < length m.eyes.heard = omega (arith, one) in
     let run : IsLaneRun replies m'.eyes.seen w 0 0 (entries_of replies.way c.log) (tries_of c.log) = subst (λ (n : ℕ). IsLaneRun replies m'.eyes.seen w n 0 (entries_of replies.way c.log) (tries_of c.log)) count (c.all.run 0 some) in
     let begins : IsPrefix (first ∷ []) m'.eyes.seen = subst (λ (l : List Version). IsPrefix l m'.eyes.seen) seen c.all.rise.seen in
     let rise = rise_trans m.eyes m'.eyes f c.all.rise q.rise in
@@ -90,12 +90,12 @@ done_of turns first rest w m m' f served e n n' j k asked seen told count c are 
     (λ (t : IsWithin (first ∷ rest) m'.eyes f served e ⊎ IsPast (first ∷ rest) m'.eyes f e).
     ⊎_elim
     (λ (s : IsWithin (first ∷ rest) m'.eyes f served e).
-    let told_le = prefix_length m'.eyes.told f.told q.rise.told in
-    let le = prefix_length f.told (first ∷ rest) s.told in
+    let heard_le = prefix_length m'.eyes.heard f.heard q.rise.heard in
+    let le = prefix_length f.heard (first ∷ rest) s.heard in
     by (first ∷ rest) (run_longer replies m'.eyes.seen (first ∷ rest) w 0 0 (entries_of replies.way c.log) (tries_of c.log) s.seen run)
-    (inl (record { same = refl; known = λ k d lt. let r = c.all.known k d lt in omega (arith, r, told_le, le); noted = let few = noted_within c.log k (length m'.eyes.told) are (c.all.told 0 some) c.all.known in omega (arith, few, told_le, le); shown = omega (arith, rise.greatest, le); stays = λ none. s.stays ∙ c.all.stays none; ended_is = s.ended_is })))
+    (inl (record { same = refl; known = λ k d lt. let r = c.all.known k d lt in omega (arith, r, heard_le, le); noted = let few = noted_within c.log k (length m'.eyes.heard) are (c.all.told 0 some) c.all.known in omega (arith, few, heard_le, le); shown = omega (arith, rise.greatest, le); stays = λ none. s.stays ∙ c.all.stays none; ended_is = s.ended_is })))
     (λ (s : IsPast (first ∷ rest) m'.eyes f e).
-    let is : length f.told ≡ length f.seen = ap length s.told in
+    let is : length f.heard ≡ length f.seen = ap length s.heard in
     by f.seen (run_longer replies m'.eyes.seen f.seen w 0 0 (entries_of replies.way c.log) (tries_of c.log) s.seen run)
     (inr (inr (record { begins = s.begins; longer = s.longer; history = s.history; shown = shown_past (length f.seen) m.eyes.greatest f.greatest (omega (arith, one, is, rise.above, s.longer)) (omega (arith, is, rise.greatest)); stays = λ none. s.stays ∙ c.all.stays none; last = s.known; newest = s.newest; last_is = s.known_is; newest_is = s.newest_is; ended_is = s.ended_is }))))
     t)
@@ -103,11 +103,11 @@ done_of turns first rest w m m' f served e n n' j k asked seen told count c are 
 
 -- the same, where some things are told by equations
 pub done_by : (turns : ℕ) (first : Version) (rest : List Version) (i w : ℕ) (m m' : Moment Version) (f : Eyes Version) (served e : Ended) (h0 h : List Version) (port : Option PortTold) (faults : ℕ) (gate : Option GateTold) (n n' n'' j k l nones : ℕ) → w ≡ i → h ≡ first ∷ rest → h0 ≡ first ∷ []
-    → m.eyes.seen ≡ h0 → m.eyes.told ≡ h0 → m.count ≡ 0 → m.notes ≡ Some (record { coming = range_with_len 0 most_notes; nones = 0 }) → m'.notes ≡ Some (record { coming = range_with_len k (most_notes - k); nones = nones }) → k ≤ most_notes
+    → m.eyes.seen ≡ h0 → m.eyes.heard ≡ h0 → m.count ≡ 0 → m.notes ≡ Some (record { coming = range_with_len 0 most_notes; nones = 0 }) → m'.notes ≡ Some (record { coming = range_with_len k (most_notes - k); nones = nones }) → k ≤ most_notes
     → IsLaneCall replies w turns m m' served → IsClosing h m'.eyes f served e → port ≡ m'.port → faults ≡ m'.port_faults → gate ≡ m'.gate → n' ≡ n → n'' ≡ n' → l ≡ k
     → IsDone turns first rest i (told_of m m.eyes n j) (record { port = port; port_faults = faults; gate = gate; asked = n''; looks = f.looks; greatest = f.greatest; door_faults = f.faults; noted = l }) e
-done_by turns first rest i w m m' f served e h0 h port faults gate n n' n'' j k l nones same is opened seen told count b a le c q p1 p2 p3 p4 p5 p6 =
+done_by turns first rest i w m m' f served e h0 h port faults gate n n' n'' j k l nones same is opened seen heard count b a le c q p1 p2 p3 p4 p5 p6 =
     let call = subst (λ (x : ℕ). IsLaneCall replies x turns m m' served) same c in
     let given = subst (λ x. BothTell x (Some (record { coming = range_with_len k (most_notes - k); nones = nones })) (AreGiven call.log)) b (subst (λ x. BothTell m.notes x (AreGiven call.log)) a call.all.notes) in
-    let done = done_of turns first rest i m m' f served e n n' j k p4 (seen ∙ opened) (told ∙ opened) count call (notes_are call.log k nones 0 le given) (subst (λ (x : List Version). IsClosing x m'.eyes f served e) is q) in
+    let done = done_of turns first rest i m m' f served e n n' j k p4 (seen ∙ opened) (heard ∙ opened) count call (notes_are call.log k nones 0 le given) (subst (λ (x : List Version). IsClosing x m'.eyes f served e) is q) in
     subst (λ (x : LaneTold). IsDone turns first rest i (told_of m m.eyes n j) x e) (cc (p1, p2, p3, p5, p6)) done

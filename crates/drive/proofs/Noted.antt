@@ -10,7 +10,7 @@ use Rattle.outside.specs.Notes.{NotesTold}
 use Rattle.published_map.specs.Version.{Version}
 use Rattle.lane_model.specs.declared.ended.Ended.{Ended}
 use Rattle.lane_model.specs.Replies.{replies}
-use Rattle.lane_model.specs.Sessions.{IsLaneCall, Moment}
+use Rattle.lane_model.specs.Calls.{IsLaneCall, Moment}
 use Rattle.lane_model.specs.Turns.{Turn, AreGiven, IsTold, floor_after}
 use Rattle.drive.specs.Done.{floor_behind}
 

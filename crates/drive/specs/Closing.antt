@@ -6,7 +6,7 @@ use Rattle.published_map.specs.Version.{Version}
 use Rattle.map_cell.specs.Histories.{IsHistory}
 use Rattle.lane_model.specs.declared.ended.Ended.{Ended}
 use Rattle.lane_model.specs.declared.ended.Ended.TheVariants.{Stopped, PortEnd, PortFault, CellFault, Above, Spent}
-use Rattle.lane_model.specs.Sessions.{Eyes, IsRise}
+use Rattle.lane_model.specs.Calls.{Eyes, IsRise}
 
 -- how a lane ended, where its closing look was refused
 abbrev pub shut : Ended → Ended
@@ -28,7 +28,7 @@ pub record IsShut (h : List Version) (before after : Eyes Version) (served ended
 -- the look was at the newest map: what was seen before, and all that is known behind it, begins the history
 pub record IsWithin (h : List Version) (before after : Eyes Version) (served ended : Ended) : Type 0 where
   pub seen : IsPrefix before.seen h
-  pub told : IsPrefix after.told h
+  pub heard : IsPrefix after.heard h
   pub stays : after.faults ≡ before.faults
   pub ended_is : ended ≡ served
 
@@ -37,7 +37,7 @@ pub record IsPast (h : List Version) (before after : Eyes Version) (ended : Ende
   pub seen : IsPrefix before.seen after.seen
   pub begins : IsPrefix h after.seen
   pub longer : length h < length after.seen
-  pub told : after.told ≡ after.seen
+  pub heard : after.heard ≡ after.seen
   pub stays : after.faults ≡ before.faults
   pub history : IsHistory after.seen
   pub known : ℕ
@@ -49,6 +49,6 @@ pub record IsPast (h : List Version) (before after : Eyes Version) (ended : Ende
 -- One look, by what it came to. The whole history was learned ahead of it.
 pub record IsClosing (h : List Version) (before after : Eyes Version) (served ended : Ended) : Type 0 where
   pub rise : IsRise before after
-  pub learned : IsPrefix h after.told
+  pub learned : IsPrefix h after.heard
   pub looks : after.looks ≡ raised before.looks 1
   pub case : IsShut h before after served ended ⊎ IsWithin h before after served ended ⊎ IsPast h before after ended

@@ -12,7 +12,7 @@ use Rattle.lane_model.specs.declared.ended.Ended.TheVariants.{Above, CellFault}
 use Rattle.lane_model.specs.Lanes.{IsLaneRun}
 use Rattle.lane_model.specs.Replies.{is_silent, replies}
 use Rattle.lane_model.specs.Turns.{Turn, IsTold, entries_of, failures, floor_after, looks_of, port_turn, refused, refused_of, took, tries_of}
-use Rattle.lane_model.specs.Sessions.{IsEnd, IsGateRun}
+use Rattle.lane_model.specs.Calls.{IsEnd, IsGateRun}
 use Rattle.drive.specs.Closing.{shut}
 
 -- what a lane tells at one moment: its port and gate, where they tell, the port's count of faults, its door's numbers, which are the places and the looks that it was asked for, the greatest serial, and its faults, and how many notes its worker was given

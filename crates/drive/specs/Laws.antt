@@ -5,7 +5,7 @@ use Rattle.demand_feed.specs.declared.run.FeedEnd.{FeedEnd}
 use Rattle.published_map.specs.Version.{Version}
 use Rattle.lane_model.specs.declared.ended.Ended.{Ended}
 use Rattle.lane_model.specs.Histories.{Follows}
-use Rattle.lane_model.specs.Kept.{IsKept}
+use Rattle.lane_model.specs.Lawful.{IsLawful}
 use Rattle.lane_model.specs.Machine.{Event, HaveDone, IsTaken, LaneLog, LaneState, Machine, commits_of, events_of_lanes, fresh_lanes}
 use Rattle.lane_model.specs.Replies.{replies}
 use Rattle.lane_model.specs.Turns.{Turn, entries_of, tries_of}
@@ -34,4 +34,4 @@ DrivesAreTaken = (turns : ℕ) (first : Version) (end : FeedEnd) (ends : List En
 
 -- Whatever the machine takes, its versions go on one from the other, and each of its lanes is a lane run over them.
 abbrev pub MachinesAreKept : Type 0
-MachinesAreKept = (first : Version) (events : List (Event Version)) (m m' : Machine Version) → IsTaken replies Follows events m m' → IsKept replies Follows first m → IsKept replies Follows first m'
+MachinesAreKept = (first : Version) (events : List (Event Version)) (m m' : Machine Version) → IsTaken replies Follows events m m' → IsLawful replies Follows first m → IsLawful replies Follows first m'

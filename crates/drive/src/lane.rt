@@ -64,8 +64,8 @@ fn close_lane<J: Naming, D: Door>(
     served: Ended,
 ) -> Ended
     ensures closing { IsClosing note.now.front
-        (record { seen = worker.old.viewer.seen; told = worker.old.viewer.told; looks = D.looks door.old; greatest = D.greatest door.old; faults = D.faults door.old })
-        (record { seen = worker.new.viewer.seen; told = worker.new.viewer.told; looks = D.looks door.new; greatest = D.greatest door.new; faults = D.faults door.new })
+        (record { seen = worker.old.viewer.seen; heard = worker.old.viewer.heard; looks = D.looks door.old; greatest = D.greatest door.old; faults = D.faults door.old })
+        (record { seen = worker.new.viewer.seen; heard = worker.new.viewer.heard; looks = D.looks door.new; greatest = D.greatest door.new; faults = D.faults door.new })
         served result }
     ensures asked { D.asked door.new ≡ D.asked door.old }
 {
@@ -112,12 +112,12 @@ impl<J: Naming, P: Port, G: Gate, D: Door> Runs<NoteRow<J>, Held<J>> for Lane<P,
     ghost use Rattle.std.specs.Prelude.{◌≡◌, ◌≤◌, ◌-◌, ℕ, Some};
     ghost use Rattle.std.specs.List.{range_with_len};
     ghost use Rattle.outside.specs.Limits.{most_notes};
-    ghost use Rattle.lane_model.specs.Sessions.{IsLaneCall};
+    ghost use Rattle.lane_model.specs.Calls.{IsLaneCall};
     ghost use Rattle.lane_model.specs.Replies.{replies};
 
     ghost ran = { λ turns a b v w. (nones : ℕ) × IsLaneCall replies v.worker.number turns
-        (record { port = P.told a.port; gate = G.told a.gate; notes = Some (record { coming = range_with_len 0 most_notes; nones = 0 }); eyes = record { seen = v.worker.viewer.seen; told = v.worker.viewer.told; looks = D.looks a.door; greatest = D.greatest a.door; faults = D.faults a.door }; count = v.worker.count; port_faults = P.faults a.port; gate_faults = G.faults a.gate })
-        (record { port = P.told b.port; gate = G.told b.gate; notes = Some (record { coming = range_with_len b.noted (most_notes - b.noted); nones = nones }); eyes = record { seen = w.worker.viewer.seen; told = w.worker.viewer.told; looks = D.looks b.door; greatest = D.greatest b.door; faults = D.faults b.door }; count = w.worker.count; port_faults = P.faults b.port; gate_faults = G.faults b.gate })
+        (record { port = P.told a.port; gate = G.told a.gate; notes = Some (record { coming = range_with_len 0 most_notes; nones = 0 }); eyes = record { seen = v.worker.viewer.seen; heard = v.worker.viewer.heard; looks = D.looks a.door; greatest = D.greatest a.door; faults = D.faults a.door }; count = v.worker.count; port_faults = P.faults a.port; gate_faults = G.faults a.gate })
+        (record { port = P.told b.port; gate = G.told b.gate; notes = Some (record { coming = range_with_len b.noted (most_notes - b.noted); nones = nones }); eyes = record { seen = w.worker.viewer.seen; heard = w.worker.viewer.heard; looks = D.looks b.door; greatest = D.greatest b.door; faults = D.faults b.door }; count = w.worker.count; port_faults = P.faults b.port; gate_faults = G.faults b.gate })
         w.ended × (b.noted ≤ most_notes) × (D.asked b.door ≡ D.asked a.door) };
 
     fn run(&mut self, row: &NoteRow<J>, turns: u64, held: &mut Held<J>) {
@@ -139,8 +139,8 @@ impl<J: Naming, P: Port, G: Gate, D: Door> Closes<Note<J>, Held<J>> for Lane<P, 
     ghost use Rattle.drive.specs.Closing.{IsClosing};
 
     ghost closed = { λ note a b v w. IsClosing note.front
-        (record { seen = v.worker.viewer.seen; told = v.worker.viewer.told; looks = D.looks a.door; greatest = D.greatest a.door; faults = D.faults a.door })
-        (record { seen = w.worker.viewer.seen; told = w.worker.viewer.told; looks = D.looks b.door; greatest = D.greatest b.door; faults = D.faults b.door })
+        (record { seen = v.worker.viewer.seen; heard = v.worker.viewer.heard; looks = D.looks a.door; greatest = D.greatest a.door; faults = D.faults a.door })
+        (record { seen = w.worker.viewer.seen; heard = w.worker.viewer.heard; looks = D.looks b.door; greatest = D.greatest b.door; faults = D.faults b.door })
         v.ended w.ended × (P.told b.port ≡ P.told a.port) × (P.faults b.port ≡ P.faults a.port) × (G.told b.gate ≡ G.told a.gate) × (D.asked b.door ≡ D.asked a.door) × (b.noted ≡ a.noted) };
 
     fn close(&mut self, note: &Note<J>, held: &mut Held<J>) {

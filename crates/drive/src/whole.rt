@@ -41,7 +41,7 @@ pub struct DriveEnd {
 fn hold_all<J: Naming>(alloc: Global, viewers: Vec<Viewer<J>>) -> Result<Vec<Held<J>>, NoMemory>
     requires { vec_len viewers ≤ 16 }
     ensures len { IfOk result (λ w. vec_len w ≡ vec_len viewers) }
-    ensures held { (h : List Version) → All (λ e. (e.seen ≡ h) × (e.told ≡ h)) viewers.items → IfOk result (λ w. AllHeld (λ i h'. (h'.worker.number ≡ i) × (h'.worker.count ≡ 0) × (h'.worker.viewer.seen ≡ h) × (h'.worker.viewer.told ≡ h)) 0 w.items) }
+    ensures held { (h : List Version) → All (λ e. (e.seen ≡ h) × (e.heard ≡ h)) viewers.items → IfOk result (λ w. AllHeld (λ i h'. (h'.worker.number ≡ i) × (h'.worker.count ≡ 0) × (h'.worker.viewer.seen ≡ h) × (h'.worker.viewer.heard ≡ h)) 0 w.items) }
 {
     let mut left = viewers;
     let mut works = Vec::with_capacity(alloc, left.len())?;
@@ -88,7 +88,7 @@ fn run_and_close<
 )
     requires turns { (desk.old.turns ≡ turns) × (turns ≤ MOST_TURNS) }
     requires first { (mapper.old.history ≡ mapper.old.newest ∷ []) × (mapper.old.newest.serial ≡ 0) }
-    requires fresh { AllHeld (λ i h. (h.worker.number ≡ i) × (h.worker.count ≡ 0) × (h.worker.viewer.seen ≡ mapper.old.history) × (h.worker.viewer.told ≡ mapper.old.history)) 0 works.old.items }
+    requires fresh { AllHeld (λ i h. (h.worker.number ≡ i) × (h.worker.count ≡ 0) × (h.worker.viewer.seen ≡ mapper.old.history) × (h.worker.viewer.heard ≡ mapper.old.history)) 0 works.old.items }
     requires lanes { length lanes.old ≡ vec_len works.old }
     ensures fed { IsFedBy S.told S.faults K.told K.faults M.told desk.old desk.new mapper.old mapper.new }
     ensures history { IsHistory mapper.new.history }
@@ -129,7 +129,7 @@ fn serve_all<
 ) -> FeedEnd
     requires turns { turns ≤ MOST_TURNS }
     requires first { (mapper.old.history ≡ mapper.old.newest ∷ []) × (mapper.old.newest.serial ≡ 0) }
-    requires fresh { AllHeld (λ i h. (h.worker.number ≡ i) × (h.worker.count ≡ 0) × (h.worker.viewer.seen ≡ mapper.old.history) × (h.worker.viewer.told ≡ mapper.old.history)) 0 works.old.items }
+    requires fresh { AllHeld (λ i h. (h.worker.number ≡ i) × (h.worker.count ≡ 0) × (h.worker.viewer.seen ≡ mapper.old.history) × (h.worker.viewer.heard ≡ mapper.old.history)) 0 works.old.items }
     requires lanes { length lanes.old ≡ vec_len works.old }
     ensures run { IsFeed mapper.old.newest.plan turns result (S.told feed.old) (S.told feed.new) (scene mapper.old.newest mapper.old.history (K.told out.old) (K.told maps.old) (M.told pace.old)) (scene mapper.new.newest mapper.new.history (K.told out.new) (K.told maps.new) (M.told pace.new)) }
     ensures later { (K.faults out.old ≤ K.faults out.new) × (K.faults maps.old ≤ K.faults maps.new) × (S.faults feed.old ≤ S.faults feed.new) }
@@ -191,7 +191,7 @@ pub fn drive<
 ) -> Result<DriveEnd, NoMemory>
     requires serial { mapper.newest.serial ≡ 0 }
     requires turns { turns ≤ MOST_TURNS }
-    requires viewers { All (λ v. (v.seen ≡ mapper.history) × (v.told ≡ mapper.history)) viewers.items }
+    requires viewers { All (λ v. (v.seen ≡ mapper.history) × (v.heard ≡ mapper.history)) viewers.items }
     requires few { (vec_len viewers ≤ 16) × (vec_len viewers ≤ length lanes.old) }
     ensures driven { IfOk result (λ r. (ends : List Ended) × (length ends ≡ vec_len viewers) × AreEnds ends r.lanes × IsDriven turns mapper.newest r.feed ends
         (record { feed = S.told feed.old; out = K.told out.old; maps = K.told maps.old; pace = M.told pace.old; lanes = map (λ l. record { port = P.told l.port; port_faults = P.faults l.port; gate = G.told l.gate; asked = D.asked l.door; looks = D.looks l.door; greatest = D.greatest l.door; door_faults = D.faults l.door; noted = l.noted }) lanes.old })

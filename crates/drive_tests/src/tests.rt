@@ -9,8 +9,8 @@ use map_cell::{Door, EmptyHistory, MemDoor, Naming, PlainDoor};
 use map_model::{Proposals, Steps};
 use mapper::Mapper;
 use outside::{
-    Gate, HeldLane, HoldGate, HoldPace, Marks, MemGate, MemPace, MemPacket, MemPort, MemSink,
-    MemSource, Pace, Point, Port, Wanted,
+    Gate, HeldLane, HoldGate, HoldPace, MemGate, MemPace, MemPacket, MemPort, MemSink, MemSource,
+    Milestones, Pace, Point, Port, Wanted,
 };
 use std::alloc::Global;
 use std::collections::LinkedList;
@@ -416,26 +416,26 @@ const FEED_WAITS: &[Point] = &[
 /// A gate of a lane that waits there.
 fn held_gate<'a>(
     alloc: Global,
-    marks: &'a Marks,
+    milestones: &'a Milestones,
     lane: HeldLane,
     waits: &[Point],
 ) -> Option<HoldGate<'a>> {
     match Vec::from_slice(alloc, waits) {
         Err(_) => None,
-        Ok(points) => HoldGate::new(alloc, marks, lane, points, 8).ok(),
+        Ok(points) => HoldGate::new(alloc, milestones, lane, points, 8).ok(),
     }
 }
 
 /// A lane of so many queries that waits there for the feed.
 fn held_lane<'a>(
     alloc: Global,
-    marks: &'a Marks,
+    milestones: &'a Milestones,
     lane: HeldLane,
     queries: u8,
     waits: &[Point],
 ) -> Option<Lane<MemPort, HoldGate<'a>, PlainDoor>> {
     let port = port_of(alloc, queries)?;
-    match held_gate(alloc, marks, lane, waits) {
+    match held_gate(alloc, milestones, lane, waits) {
         None => None,
         Some(gate) => Some(Lane::new(port, gate, PlainDoor::new())),
     }
@@ -444,11 +444,11 @@ fn held_lane<'a>(
 /// Two lanes that wait for the feed.
 fn held_lanes<'a>(
     alloc: Global,
-    marks: &'a Marks,
+    milestones: &'a Milestones,
 ) -> Option<[Lane<MemPort, HoldGate<'a>, PlainDoor>; 2]> {
-    match held_lane(alloc, marks, HeldLane::First, 3, FIRST_WAITS) {
+    match held_lane(alloc, milestones, HeldLane::First, 3, FIRST_WAITS) {
         None => None,
-        Some(first) => match held_lane(alloc, marks, HeldLane::Second, 1, SECOND_WAITS) {
+        Some(first) => match held_lane(alloc, milestones, HeldLane::Second, 1, SECOND_WAITS) {
             None => None,
             Some(second) => Some([first, second]),
         },
@@ -456,10 +456,10 @@ fn held_lanes<'a>(
 }
 
 /// The commits wait for the lanes.
-fn held_pace<'a>(alloc: Global, marks: &'a Marks) -> Option<HoldPace<'a>> {
+fn held_pace<'a>(alloc: Global, milestones: &'a Milestones) -> Option<HoldPace<'a>> {
     match Vec::from_slice(alloc, FEED_WAITS) {
         Err(_) => None,
-        Ok(points) => HoldPace::new(alloc, marks, points, 10).ok(),
+        Ok(points) => HoldPace::new(alloc, milestones, points, 10).ok(),
     }
 }
 
@@ -497,10 +497,10 @@ fn drive_both<'a, R: Threads + Wait + Sync>(
 fn run_at_once<R: Threads + Wait + Sync>(
     rt: &R,
     alloc: Global,
-    marks: &Marks,
+    milestones: &Milestones,
 ) -> Option<(DriveEnd, Serials, Serials)> {
-    let lanes = held_lanes(alloc, marks)?;
-    match held_pace(alloc, marks) {
+    let lanes = held_lanes(alloc, milestones)?;
+    match held_pace(alloc, milestones) {
         None => None,
         Some(pace) => drive_both(rt, alloc, lanes, pace),
     }
@@ -514,10 +514,10 @@ const SECOND_SERIALS: Serials = [Some((1, 1)), None, None, None];
 /// Lanes and feed wait for each other, and nobody waits in vain. What is known rises by notes alone.
 #[test]
 fn lanes_run_at_once(rt: HostRuntime) -> Result<(), Fail> {
-    let marks = Marks::new();
-    let served = run_at_once(&rt, rt.alloc(), &marks);
+    let milestones = Milestones::new();
+    let served = run_at_once(&rt, rt.alloc(), &milestones);
     let due = (ended_by(Ended::PortEnd, 2), FIRST_SERIALS, SECOND_SERIALS);
     assert!(rt; served == Some(due));
-    assert!(rt; !marks.is_late());
+    assert!(rt; !milestones.is_late());
     Ok(())
 }

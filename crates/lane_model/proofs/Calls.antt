@@ -9,9 +9,9 @@ use Rattle.lane_model.specs.declared.ended.Ended.{Ended}
 use Rattle.lane_model.specs.declared.ended.Ended.TheVariants as end
 use Rattle.lane_model.specs.Lanes.{Answers}
 use Rattle.lane_model.specs.Turns.{Turn, Came, AreCalm, IsCame, count_after, fails_of, failures, floor_after, gate_turn, is_calm, is_refused, looks_of, refused_of, idle, oversize, ended, failed, took, silent, refused, tried}
-use Rattle.lane_model.specs.Sessions.{IsEnd, IsGateRun, IsLaneCall, IsLaneLog, IsLast, IsSession, Moment}
+use Rattle.lane_model.specs.Calls.{IsEnd, IsGateRun, IsLaneCall, IsLaneLog, IsLast, AreTurns, Moment}
 use Rattle.lane_model.proofs.Prefixes.{prefix_length}
-use Rattle.lane_model.proofs.Runs.{IsInOrder, session_gate, session_notes, session_port, session_rises, session_run, session_told, tells_on}
+use Rattle.lane_model.proofs.Runs.{IsInOrder, turns_gate, turns_notes, turns_port, turns_rises, turns_run, turns_told, tells_on}
 
 pub calm_not_refused : (came : Came) → is_calm came ≡ true → is_refused came ≡ false
 calm_not_refused idle c = refl
@@ -45,19 +45,19 @@ all_cons : {A : Type 0} (P : A → Type 0) (x : A) (xs : List A) → P x → All
 all_cons P x xs p q zero d lt = p
 all_cons P x xs p q (suc k) d lt = q k d (omega (arith, lt))
 
-session_within : {V : Type 0} (a : Answers V) (w : ℕ) (log : List Turn) (m m' : Moment V) → IsSession a w log m m' → All (λ t. floor_after t.known t.came < length m'.eyes.told) log
-session_within a w [] m m' s = λ k d lt. absurd (omega (arith, lt))
-session_within a w (t ∷ log) m m' s =
-    let r = session_rises a w log s.0 m' s.2 in
-    let l = prefix_length s.0.eyes.told m'.eyes.told r.told in
-    all_cons (λ x. floor_after x.known x.came < length m'.eyes.told) t log (omega (arith, s.1.knows, l)) (session_within a w log s.0 m' s.2)
+turns_within : {V : Type 0} (a : Answers V) (w : ℕ) (log : List Turn) (m m' : Moment V) → AreTurns a w log m m' → All (λ t. floor_after t.known t.came < length m'.eyes.heard) log
+turns_within a w [] m m' s = λ k d lt. absurd (omega (arith, lt))
+turns_within a w (t ∷ log) m m' s =
+    let r = turns_rises a w log s.0 m' s.2 in
+    let l = prefix_length s.0.eyes.heard m'.eyes.heard r.heard in
+    all_cons (λ x. floor_after x.known x.came < length m'.eyes.heard) t log (omega (arith, s.1.knows, l)) (turns_within a w log s.0 m' s.2)
 
-session_known : {V : Type 0} (a : Answers V) (w : ℕ) (log : List Turn) (m m' : Moment V) → IsSession a w log m m' → All (λ t. t.known < length m'.eyes.told) log
-session_known a w [] m m' s = λ k d lt. absurd (omega (arith, lt))
-session_known a w (t ∷ log) m m' s =
-    let r = session_rises a w log s.0 m' s.2 in
-    let l = prefix_length s.0.eyes.told m'.eyes.told r.told in
-    all_cons (λ x. x.known < length m'.eyes.told) t log (omega (arith, s.1.floor, s.1.knows, l)) (session_known a w log s.0 m' s.2)
+turns_known : {V : Type 0} (a : Answers V) (w : ℕ) (log : List Turn) (m m' : Moment V) → AreTurns a w log m m' → All (λ t. t.known < length m'.eyes.heard) log
+turns_known a w [] m m' s = λ k d lt. absurd (omega (arith, lt))
+turns_known a w (t ∷ log) m m' s =
+    let r = turns_rises a w log s.0 m' s.2 in
+    let l = prefix_length s.0.eyes.heard m'.eyes.heard r.heard in
+    all_cons (λ x. x.known < length m'.eyes.heard) t log (omega (arith, s.1.floor, s.1.knows, l)) (turns_known a w log s.0 m' s.2)
 
 raised_none : (n : ℕ) → n ≡ raised n 0
 raised_none n = omega arith
@@ -65,27 +65,27 @@ raised_none n = omega arith
 raised_more : (n j k : ℕ) → raised (raised n j) k ≡ raised n (j + k)
 raised_more n j k = omega arith
 
-session_looks : {V : Type 0} (a : Answers V) (w : ℕ) (log : List Turn) (m m' : Moment V) → IsSession a w log m m' → m'.eyes.looks ≡ raised m.eyes.looks (sum_by (λ t. looks_of t.came) log)
-session_looks a w [] m m' s = ap (λ k. k.eyes.looks) s ∙ raised_none m.eyes.looks
-session_looks a w (t ∷ log) m m' s =
-    session_looks a w log s.0 m' s.2 ∙ (ap (λ k. raised k (sum_by (λ x. looks_of x.came) log)) s.1.looks ∙ (raised_more m.eyes.looks (looks_of t.came) (sum_by (λ x. looks_of x.came) log) ∙ ap (λ k. raised m.eyes.looks k) (sym (sum_by-cons (λ x. looks_of x.came) t log))))
+turns_looks : {V : Type 0} (a : Answers V) (w : ℕ) (log : List Turn) (m m' : Moment V) → AreTurns a w log m m' → m'.eyes.looks ≡ raised m.eyes.looks (sum_by (λ t. looks_of t.came) log)
+turns_looks a w [] m m' s = ap (λ k. k.eyes.looks) s ∙ raised_none m.eyes.looks
+turns_looks a w (t ∷ log) m m' s =
+    turns_looks a w log s.0 m' s.2 ∙ (ap (λ k. raised k (sum_by (λ x. looks_of x.came) log)) s.1.looks ∙ (raised_more m.eyes.looks (looks_of t.came) (sum_by (λ x. looks_of x.came) log) ∙ ap (λ k. raised m.eyes.looks k) (sym (sum_by-cons (λ x. looks_of x.came) t log))))
 
 raised_through : (x y z j k : ℕ) → raised x j ≤ y → raised y k ≤ z → raised x (j + k) ≤ z
 raised_through x y z j k p q = omega (arith, p, q)
 
 -- the port's count rises by at least as many as its calls fail
-session_failures : {V : Type 0} (a : Answers V) (w : ℕ) (log : List Turn) (m m' : Moment V) → IsSession a w log m m' → raised m.port_faults (failures log) ≤ m'.port_faults
-session_failures a w [] m m' s = subst (λ k. raised m.port_faults 0 ≤ k.port_faults) (sym s) (omega arith)
-session_failures a w (t ∷ log) m m' s =
-    let through = raised_through m.port_faults s.0.port_faults m'.port_faults (fails_of t.came) (failures log) s.1.port_faults (session_failures a w log s.0 m' s.2) in
+turns_failures : {V : Type 0} (a : Answers V) (w : ℕ) (log : List Turn) (m m' : Moment V) → AreTurns a w log m m' → raised m.port_faults (failures log) ≤ m'.port_faults
+turns_failures a w [] m m' s = subst (λ k. raised m.port_faults 0 ≤ k.port_faults) (sym s) (omega arith)
+turns_failures a w (t ∷ log) m m' s =
+    let through = raised_through m.port_faults s.0.port_faults m'.port_faults (fails_of t.came) (failures log) s.1.port_faults (turns_failures a w log s.0 m' s.2) in
     subst (λ (k : ℕ). raised m.port_faults k ≤ m'.port_faults) (sym (sum_by-cons (λ x. fails_of x.came) t log)) through
 
 -- where none failed, it stays
-session_port_stays : {V : Type 0} (a : Answers V) (w : ℕ) (log : List Turn) (m m' : Moment V) → IsSession a w log m m' → failures log ≡ 0 → m'.port_faults ≡ m.port_faults
-session_port_stays a w [] m m' s none = ap (λ k. k.port_faults) s
-session_port_stays a w (t ∷ log) m m' s none =
+turns_port_stays : {V : Type 0} (a : Answers V) (w : ℕ) (log : List Turn) (m m' : Moment V) → AreTurns a w log m m' → failures log ≡ 0 → m'.port_faults ≡ m.port_faults
+turns_port_stays a w [] m m' s none = ap (λ k. k.port_faults) s
+turns_port_stays a w (t ∷ log) m m' s none =
     let sum = sum_by-cons (λ x. fails_of x.came) t log in
-    session_port_stays a w log s.0 m' s.2 (omega (arith, sum, none)) ∙ s.1.port_stays (omega (arith, sum, none))
+    turns_port_stays a w log s.0 m' s.2 (omega (arith, sum, none)) ∙ s.1.port_stays (omega (arith, sum, none))
 
 rose_later : (x y z : ℕ) → x ≤ y → Rose y z → Rose x z
 rose_later x y z le r = omega (arith, le, r)
@@ -102,32 +102,32 @@ refused_by : (b : Bool) → 0 < (if b then 1 else 0) → b ≡ true
 refused_by true lt = refl
 refused_by false lt = absurd (omega (arith, lt))
 
-session_refusal : {V : Type 0} (a : Answers V) (w : ℕ) (log : List Turn) (m m' : Moment V) → IsSession a w log m m' → 0 < sum_by (λ t. refused_of t.came) log → Rose m.eyes.faults m'.eyes.faults
-session_refusal a w [] m m' s lt = absurd (omega (arith, lt))
-session_refusal a w (t ∷ log) m m' s lt =
-    rises_by (refused_of t.came) (sum_by (λ x. refused_of x.came) log) m.eyes.faults s.0.eyes.faults m'.eyes.faults s.1.eyes.faults (session_rises a w log s.0 m' s.2).faults (λ l. s.1.refusal (refused_by (is_refused t.came) l)) (session_refusal a w log s.0 m' s.2) (subst (λ (k : ℕ). 0 < k) (sum_by-cons (λ x. refused_of x.came) t log) lt)
+turns_refusal : {V : Type 0} (a : Answers V) (w : ℕ) (log : List Turn) (m m' : Moment V) → AreTurns a w log m m' → 0 < sum_by (λ t. refused_of t.came) log → Rose m.eyes.faults m'.eyes.faults
+turns_refusal a w [] m m' s lt = absurd (omega (arith, lt))
+turns_refusal a w (t ∷ log) m m' s lt =
+    rises_by (refused_of t.came) (sum_by (λ x. refused_of x.came) log) m.eyes.faults s.0.eyes.faults m'.eyes.faults s.1.eyes.faults (turns_rises a w log s.0 m' s.2).faults (λ l. s.1.refusal (refused_by (is_refused t.came) l)) (turns_refusal a w log s.0 m' s.2) (subst (λ (k : ℕ). 0 < k) (sum_by-cons (λ x. refused_of x.came) t log) lt)
 
 -- where no look was refused, the door's count stays
 calm_by : (b : Bool) (n : ℕ) → n ≡ (if b then 1 else 0) → n ≡ 0 → b ≡ false
 calm_by true n is none = absurd (omega (arith, is, none))
 calm_by false n is none = refl
 
-session_stays : {V : Type 0} (a : Answers V) (w : ℕ) (log : List Turn) (m m' : Moment V) → IsSession a w log m m' → sum_by (λ t. refused_of t.came) log ≡ 0 → m'.eyes.faults ≡ m.eyes.faults
-session_stays a w [] m m' s none = ap (λ k. k.eyes.faults) s
-session_stays a w (t ∷ log) m m' s none =
+turns_stays : {V : Type 0} (a : Answers V) (w : ℕ) (log : List Turn) (m m' : Moment V) → AreTurns a w log m m' → sum_by (λ t. refused_of t.came) log ≡ 0 → m'.eyes.faults ≡ m.eyes.faults
+turns_stays a w [] m m' s none = ap (λ k. k.eyes.faults) s
+turns_stays a w (t ∷ log) m m' s none =
     let sum = sum_by-cons (λ x. refused_of x.came) t log in
-    session_stays a w log s.0 m' s.2 (omega (arith, sum, none)) ∙ s.1.stays (calm_by (is_refused t.came) (refused_of t.came) refl (omega (arith, sum, none)))
+    turns_stays a w log s.0 m' s.2 (omega (arith, sum, none)) ∙ s.1.stays (calm_by (is_refused t.came) (refused_of t.came) refl (omega (arith, sum, none)))
 
 -- a datagram whose look was refused isn't silent
-session_missed : {V : Type 0} (a : Answers V) (w : ℕ) (log : List Turn) (m m' : Moment V) → IsSession a w log m m' → All (λ t. (d : Packet) → t.came ≡ took d refused → a.silent d.octets ≡ false) log
-session_missed a w [] m m' s = λ k d lt. absurd (omega (arith, lt))
-session_missed a w (t ∷ log) m m' s =
-    all_cons (λ x. (d : Packet) → x.came ≡ took d refused → a.silent d.octets ≡ false) t log (λ d is. subst (λ (c : Came). IsCame a s.0.eyes.seen w m.count t.known c) is s.1.came) (session_missed a w log s.0 m' s.2)
+turns_missed : {V : Type 0} (a : Answers V) (w : ℕ) (log : List Turn) (m m' : Moment V) → AreTurns a w log m m' → All (λ t. (d : Packet) → t.came ≡ took d refused → a.silent d.octets ≡ false) log
+turns_missed a w [] m m' s = λ k d lt. absurd (omega (arith, lt))
+turns_missed a w (t ∷ log) m m' s =
+    all_cons (λ x. (d : Packet) → x.came ≡ took d refused → a.silent d.octets ≡ false) t log (λ d is. subst (λ (c : Came). IsCame a s.0.eyes.seen w m.count t.known c) is s.1.came) (turns_missed a w log s.0 m' s.2)
 
 -- datagrams are counted on
-session_count : {V : Type 0} (a : Answers V) (w : ℕ) (log : List Turn) (m m' : Moment V) → IsSession a w log m m' → m'.count ≡ fold (λ n t. count_after n t.came) m.count log
-session_count a w [] m m' s = ap (λ k. k.count) s
-session_count a w (t ∷ log) m m' s = session_count a w log s.0 m' s.2 ∙ ap (λ n. fold (λ k x. count_after k x.came) n log) s.1.count
+turns_count : {V : Type 0} (a : Answers V) (w : ℕ) (log : List Turn) (m m' : Moment V) → AreTurns a w log m m' → m'.count ≡ fold (λ n t. count_after n t.came) m.count log
+turns_count a w [] m m' s = ap (λ k. k.count) s
+turns_count a w (t ∷ log) m m' s = turns_count a w log s.0 m' s.2 ∙ ap (λ n. fold (λ k x. count_after k x.came) n log) s.1.count
 
 -- a lane that a refused look ended met one
 pub refused_last : (turns : ℕ) (log : List Turn) → IsEnd turns log end.CellFault → 0 < sum_by (λ t. refused_of t.came) log
@@ -142,44 +142,44 @@ failed_last turns log is =
     let count : failures log ≡ failures is.0 + fails_of is.1.came = ap failures is.2 ∙ sum_by_push (λ (t : Turn). fails_of t.came) is.0 is.1 in
     omega (arith, count, is.4, is.5)
 
-pub log_of : {V : Type 0} (a : Answers V) (w : ℕ) (log : List Turn) (m m' : Moment V) → IsSession a w log m m' → IsInOrder log → IsLaneLog a w log m m'
+pub log_of : {V : Type 0} (a : Answers V) (w : ℕ) (log : List Turn) (m m' : Moment V) → AreTurns a w log m m' → IsInOrder log → IsLaneLog a w log m m'
 log_of a w log m m' s o = record {
-  run = λ floor lt. session_run a w floor log m m' s o lt;
-  told = λ floor lt. session_told a w floor log m m' s lt;
-  port = session_port a w log m m' s;
-  notes = session_notes a w log m m' s;
-  rise = session_rises a w log m m' s;
-  known = session_known a w log m m' s;
-  within = session_within a w log m m' s;
-  looks = session_looks a w log m m' s;
-  port_faults = session_failures a w log m m' s;
-  port_stays = session_port_stays a w log m m' s;
-  refusal = session_refusal a w log m m' s;
-  stays = session_stays a w log m m' s;
-  missed = session_missed a w log m m' s;
-  count = session_count a w log m m' s;
+  run = λ floor lt. turns_run a w floor log m m' s o lt;
+  told = λ floor lt. turns_told a w floor log m m' s lt;
+  port = turns_port a w log m m' s;
+  notes = turns_notes a w log m m' s;
+  rise = turns_rises a w log m m' s;
+  known = turns_known a w log m m' s;
+  within = turns_within a w log m m' s;
+  looks = turns_looks a w log m m' s;
+  port_faults = turns_failures a w log m m' s;
+  port_stays = turns_port_stays a w log m m' s;
+  refusal = turns_refusal a w log m m' s;
+  stays = turns_stays a w log m m' s;
+  missed = turns_missed a w log m m' s;
+  count = turns_count a w log m m' s;
 }
 
 -- a gate alone was asked
 log_gate : {V : Type 0} (a : Answers V) (w : ℕ) (log : List Turn) (m mid : Moment V) (gate : Option GateTold) (faults : ℕ) → IsLaneLog a w log m mid → IsLaneLog a w log m (record mid { gate = gate; gate_faults = faults })
 log_gate a w log m mid gate faults c = record { run = c.run; told = c.told; port = c.port; notes = c.notes; rise = c.rise; known = c.known; within = c.within; looks = c.looks; port_faults = c.port_faults; port_stays = c.port_stays; refusal = c.refusal; stays = c.stays; missed = c.missed; count = c.count }
 
-call_same : {V : Type 0} (a : Answers V) (w turns : ℕ) (log : List Turn) (m mid m' : Moment V) (e : Ended) → 0 < length m.eyes.told → IsSession a w log m mid → IsEnd turns log e
+call_same : {V : Type 0} (a : Answers V) (w turns : ℕ) (log : List Turn) (m mid m' : Moment V) (e : Ended) → 0 < length m.eyes.heard → AreTurns a w log m mid → IsEnd turns log e
     → ((shown : ℕ) → BothTell m.gate mid.gate (λ b c. c ≡ fold gate_turn b log) → BothTell m.gate mid.gate (IsGateRun shown log e)) → m' ≡ mid → IsLaneCall a w turns m m' e
 call_same {V = V} a w turns log m mid m' e some s is gate same =
     let all = log_of a w log m mid s (in_order turns log e is) in
-    let le = prefix_length m.eyes.told mid.eyes.told all.rise.told in
+    let le = prefix_length m.eyes.heard mid.eyes.heard all.rise.heard in
     subst (λ (k : Moment V). IsLaneCall a w turns m k e) (sym same) (record {
       log = log;
-      shown = length mid.eyes.told - 1;
+      shown = length mid.eyes.heard - 1;
       shown_is = omega (arith, le, some);
       all = all;
-      gate = gate (length mid.eyes.told - 1) (session_gate a w log m mid s);
+      gate = gate (length mid.eyes.heard - 1) (turns_gate a w log m mid s);
       ending = is;
     })
 
 -- Some turns and then its end are what a call promises.
-pub call_of : {V : Type 0} (a : Answers V) (w turns : ℕ) (log : List Turn) (m mid m' : Moment V) (e : Ended) → 0 < length m.eyes.told → IsSession a w log m mid → IsLast e mid m' → IsEnd turns log e → IsLaneCall a w turns m m' e
+pub call_of : {V : Type 0} (a : Answers V) (w turns : ℕ) (log : List Turn) (m mid m' : Moment V) (e : Ended) → 0 < length m.eyes.heard → AreTurns a w log m mid → IsLast e mid m' → IsEnd turns log e → IsLaneCall a w turns m m' e
 call_of {V = V} a w turns log m mid m' end.Stopped some s last is =
     let all = log_of a w log m mid s (in_order turns log end.Stopped is) in
     subst (λ (k : Moment V). IsLaneCall a w turns m k end.Stopped) (sym last.rest) (record {
@@ -187,7 +187,7 @@ call_of {V = V} a w turns log m mid m' end.Stopped some s last is =
       shown = last.shown;
       shown_is = last.is_known;
       all = log_gate a w log m mid m'.gate m'.gate_faults all;
-      gate = tells_on m.gate mid.gate m'.gate (λ b c. c ≡ fold gate_turn b log) (IsTurning last.shown Stop) (IsGateRun last.shown log end.Stopped) (λ b c d r q. subst (λ (k : GateTold). IsTurning last.shown Stop k d) r q) (session_gate a w log m mid s) last.gate;
+      gate = tells_on m.gate mid.gate m'.gate (λ b c. c ≡ fold gate_turn b log) (IsTurning last.shown Stop) (IsGateRun last.shown log end.Stopped) (λ b c d r q. subst (λ (k : GateTold). IsTurning last.shown Stop k d) r q) (turns_gate a w log m mid s) last.gate;
       ending = is;
     })
 call_of a w turns log m mid m' end.PortEnd some s last is = call_same a w turns log m mid m' end.PortEnd some s is (λ shown g. g) last

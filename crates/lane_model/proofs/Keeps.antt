@@ -4,8 +4,8 @@ use mathlib.Core.List.{IsPrefix}
 use Rattle.outside.specs.Port.{Packet, Try}
 use Rattle.answer_core.specs.declared.way.Way.{Way}
 use Rattle.lane_model.specs.Lanes.{Answers, Entry, IsLaneRun, IsTryOf, following}
-use Rattle.lane_model.specs.Machine.{Event, LaneState, Machine, GoesOn, IsStep, IsTaken, Takes, passed, replied, told, commit, tell, take}
-use Rattle.lane_model.specs.Kept.{AreKeptLanes, IsKept, IsRunTo}
+use Rattle.lane_model.specs.Machine.{Event, LaneState, Machine, GoesOn, IsStep, IsTaken, Takes, passed, replied, heard, commit, tell, take}
+use Rattle.lane_model.specs.Lawful.{AreKeptLanes, IsLawful, IsRunTo}
 use Rattle.lane_model.proofs.Prefixes.{prefix_get}
 
 both : {P Q P' Q' : Type 0} (b : Bool) → (P → P') → (Q → Q') → MatchBool b P Q → MatchBool b P' Q'
@@ -96,20 +96,20 @@ taken_run a h w d s way l l' t r =
     (λ (q : (a.silent d.octets ≡ false) × ((y : Try) × (y.serial ≡ s) × IsTryOf a h w l.count (record { packet = d; known = l.seen; way = way }) y × (l' ≡ replied d y way l))).
     subst (λ (k : LaneState). IsRunTo a h w 0 0 k.taken k.tries k.count k.seen × (k.seen < length h)) (sym q.1.3) (run_replied a h w 0 0 l.count l.seen d q.1.0 way l.taken l.tries q.0 q.1.2 r, subst (λ (k : ℕ). k < length h) (sym q.1.1) t.1)) t.2
 
-told_run : {V : Type 0} (a : Answers V) (h : List V) (w n : ℕ) (l : LaneState) → n < length h → IsRunTo a h w 0 0 l.taken l.tries l.count l.seen → l.seen < length h → IsRunTo a h w 0 0 l.taken l.tries l.count (max l.seen n) × (max l.seen n < length h)
-told_run a h w n l lt r le = (run_wider a h h w 0 0 l.count l.seen (max l.seen n) l.taken l.tries ([], append-nil h) (omega arith) r, omega (arith, lt, le))
+heard_run : {V : Type 0} (a : Answers V) (h : List V) (w n : ℕ) (l : LaneState) → n < length h → IsRunTo a h w 0 0 l.taken l.tries l.count l.seen → l.seen < length h → IsRunTo a h w 0 0 l.taken l.tries l.count (max l.seen n) × (max l.seen n < length h)
+heard_run a h w n l lt r le = (run_wider a h h w 0 0 l.count l.seen (max l.seen n) l.taken l.tries ([], append-nil h) (omega arith) r, omega (arith, lt, le))
 
 -- one step keeps it
-step_kept : {V : Type 0} (a : Answers V) (F : List V → V → Type 0) (first : V) (e : Event V) (m m' : Machine V) → IsStep a F e m m' → IsKept a F first m → IsKept a F first m'
+step_kept : {V : Type 0} (a : Answers V) (F : List V → V → Type 0) (first : V) (e : Event V) (m m' : Machine V) → IsStep a F e m m' → IsLawful a F first m → IsLawful a F first m'
 step_kept {V = V} a F first (commit v) m m' s k =
     let is : m.history ++ v ∷ [] ≡ first ∷ (k.rest ++ v ∷ []) = ap (λ h. h ++ v ∷ []) k.history in
     let lanes = kept_longer a m.history (m.history ++ v ∷ []) 0 m.lanes (v ∷ [], refl) (omega (arith, length-append m.history (v ∷ []))) k.lanes in
-    subst (λ (x : Machine V). IsKept a F first x) (sym s.1) (record { rest = k.rest ++ v ∷ []; history = is; goes_on = goes_more F (first ∷ []) k.rest v k.goes_on (subst (λ h. F h v) k.history s.0); lanes = lanes })
+    subst (λ (x : Machine V). IsLawful a F first x) (sym s.1) (record { rest = k.rest ++ v ∷ []; history = is; goes_on = goes_more F (first ∷ []) k.rest v k.goes_on (subst (λ h. F h v) k.history s.0); lanes = lanes })
 step_kept {V = V} a F first (tell lane n) m m' s k =
     let mv = s.2.1 in
     let l = s.2.0 in
     let old = subst (λ (x : List LaneState). AreKeptLanes a m.history 0 x) mv.old k.lanes in
-    let new = kept_moved a m.history 0 mv.before mv.behind l (told n l) old (λ r lt. told_run a m.history (0 + length mv.before) n l s.0 r lt) in
+    let new = kept_moved a m.history 0 mv.before mv.behind l (heard n l) old (λ r lt. heard_run a m.history (0 + length mv.before) n l s.0 r lt) in
     let all = subst (λ (x : List LaneState). AreKeptLanes a m.history 0 x) (sym mv.new) new in record { rest = k.rest; history = s.1 ∙ k.history; goes_on = k.goes_on; lanes = subst (λ (h : List V). AreKeptLanes a h 0 m'.lanes) (sym s.1) all }
 step_kept {V = V} a F first (take lane d n way) m m' s k =
     let l = s.1.0 in
@@ -122,8 +122,8 @@ step_kept {V = V} a F first (take lane d n way) m m' s k =
     let all = subst (λ (x : List LaneState). AreKeptLanes a m.history 0 x) (sym mv.new) new in record { rest = k.rest; history = s.0 ∙ k.history; goes_on = k.goes_on; lanes = subst (λ (h : List V). AreKeptLanes a h 0 m'.lanes) (sym s.0) all }
 
 -- Whatever is taken, the machine's history is one, and its lanes are lane runs over it.
-pub all_kept : {V : Type 0} (a : Answers V) (F : List V → V → Type 0) (first : V) (events : List (Event V)) (m m' : Machine V) → IsTaken a F events m m' → IsKept a F first m → IsKept a F first m'
-all_kept {V = V} a F first [] m m' t k = subst (λ (x : Machine V). IsKept a F first x) (sym t) k
+pub all_kept : {V : Type 0} (a : Answers V) (F : List V → V → Type 0) (first : V) (events : List (Event V)) (m m' : Machine V) → IsTaken a F events m m' → IsLawful a F first m → IsLawful a F first m'
+all_kept {V = V} a F first [] m m' t k = subst (λ (x : Machine V). IsLawful a F first x) (sym t) k
 all_kept a F first (e ∷ events) m m' t k = all_kept a F first events t.0 m' t.2 (step_kept a F first e m t.0 t.1 k)
 
 -- the lanes of a machine that keeps this are lane runs

@@ -3,7 +3,7 @@ use Rattle.std.proofs.Common.{◌≡◌, ℕ, zero, suc, ◌+◌, ◌<◌, ◌�
 use Rattle.outside.specs.Port.{Packet, Try}
 use Rattle.answer_core.specs.declared.way.Way.{Way}
 use Rattle.lane_model.specs.Lanes.{Answers, Entry, IsLaneRun, IsTryOf, following}
-use Rattle.lane_model.specs.Machine.{Event, LaneLog, LaneState, Machine, AreRuns, GoesOn, HaveDone, IsMoved, IsTaken, Takes, commits_of, events_of_lane, events_of_lanes, fresh, fresh_lanes, passed, replied, serial_of, told, tries_behind, tell, take}
+use Rattle.lane_model.specs.Machine.{Event, LaneLog, LaneState, Machine, AreRuns, GoesOn, HaveDone, IsMoved, IsTaken, Takes, commits_of, events_of_lane, events_of_lanes, fresh, fresh_lanes, passed, replied, serial_of, heard, tries_behind, tell, take}
 
 taken_append : {V : Type 0} (a : Answers V) (F : List V → V → Type 0) (xs ys : List (Event V)) (m mid m' : Machine V) → IsTaken a F xs m mid → IsTaken a F ys mid m' → IsTaken a F (xs ++ ys) m m'
 taken_append a F [] ys m mid m' p q = subst (λ k. IsTaken a F ys k m') p q
@@ -30,12 +30,12 @@ pub record IsOneMore {V : Type 0} (a : Answers V) (F : List V → V → Type 0) 
   pub steps : IsTaken a F (tell lane e.known ∷ take lane e.packet (serial_of a e tries) e.way ∷ []) (record { history = h; lanes = done ++ l ∷ todo }) (record { history = h; lanes = done ++ l' ∷ todo })
 
 -- the tell and the take of one datagram
-two_steps : {V : Type 0} (a : Answers V) (F : List V → V → Type 0) (h : List V) (done todo : List LaneState) (lane n : ℕ) (l : LaneState) (d : Packet) (s : ℕ) (way : Way) (l' : LaneState) → length done ≡ lane → n < length h → Takes a h lane d s way (told n l) l'
+two_steps : {V : Type 0} (a : Answers V) (F : List V → V → Type 0) (h : List V) (done todo : List LaneState) (lane n : ℕ) (l : LaneState) (d : Packet) (s : ℕ) (way : Way) (l' : LaneState) → length done ≡ lane → n < length h → Takes a h lane d s way (heard n l) l'
     → IsTaken a F (tell lane n ∷ take lane d s way ∷ []) (record { history = h; lanes = done ++ l ∷ todo }) (record { history = h; lanes = done ++ l' ∷ todo })
 two_steps a F h done todo lane n l d s way l' at lt t = (
-  record { history = h; lanes = done ++ told n l ∷ todo },
-  (lt, refl, (l, moved done todo lane l (told n l) at)),
-  (record { history = h; lanes = done ++ l' ∷ todo }, (refl, (told n l, l', t, moved done todo lane (told n l) l' at)), refl),
+  record { history = h; lanes = done ++ heard n l ∷ todo },
+  (lt, refl, (l, moved done todo lane l (heard n l) at)),
+  (record { history = h; lanes = done ++ l' ∷ todo }, (refl, (heard n l, l', t, moved done todo lane (heard n l) l' at)), refl),
 )
 
 known_is : (l : LaneState) (n : ℕ) → l.seen ≤ n → max l.seen n ≡ n
@@ -45,7 +45,7 @@ known_is l n le = omega (arith, le)
 one_silent : {V : Type 0} (a : Answers V) (F : List V → V → Type 0) (h : List V) (done todo : List LaneState) (lane : ℕ) (l : LaneState) (d : Packet) (n : ℕ) (way : Way) → length done ≡ lane → l.seen ≤ n → n < length h → a.silent d.octets ≡ true
     → IsTaken a F (tell lane n ∷ take lane d n way ∷ []) (record { history = h; lanes = done ++ l ∷ todo }) (record { history = h; lanes = done ++ passed d n way (record l { seen = n }) ∷ todo })
 one_silent a F h done todo lane l d n way at le lt is =
-    let here : record l { seen = n } ≡ told n l = ap (λ k. record l { seen = k }) (sym (known_is l n le)) in
+    let here : record l { seen = n } ≡ heard n l = ap (λ k. record l { seen = k }) (sym (known_is l n le)) in
     two_steps a F h done todo lane n l d n way (passed d n way (record l { seen = n })) at lt (omega (arith, known_is l n le), lt, inl (is, ap (λ k. passed d n way k) here))
 
 -- a datagram that was answered
@@ -53,7 +53,7 @@ one_replied : {V : Type 0} (a : Answers V) (F : List V → V → Type 0) (h : Li
     → IsTryOf a h lane l.count (record { packet = d; known = n; way = way }) t
     → IsTaken a F (tell lane n ∷ take lane d t.serial way ∷ []) (record { history = h; lanes = done ++ l ∷ todo }) (record { history = h; lanes = done ++ replied d t way (record l { seen = n }) ∷ todo })
 one_replied a F h done todo lane l d n way t at le lt serial is q =
-    let here : record l { seen = n } ≡ told n l = ap (λ k. record l { seen = k }) (sym (known_is l n le)) in
+    let here : record l { seen = n } ≡ heard n l = ap (λ k. record l { seen = k }) (sym (known_is l n le)) in
     let known : n ≡ max l.seen n = sym (known_is l n le) in
     two_steps a F h done todo lane n l d t.serial way (replied d t way (record l { seen = n })) at lt
     (omega (arith, known_is l n le, q.fresh), serial, inr (is, (t, refl, subst (λ (k : ℕ). IsTryOf a h lane l.count (record { packet = d; known = k; way = way }) t) known q, ap (λ k. replied d t way k) here)))

@@ -6,13 +6,13 @@ use Rattle.std.proofs.lemmas.List.{length-map, map-append}
 use Rattle.outside.specs.Port.{Packet, Try}
 use Rattle.answer_core.specs.declared.way.Way.{Way}
 use Rattle.lane_model.specs.Lanes.{Answers, Entry, IsTryOf}
-use Rattle.lane_model.specs.Machine.{Event, IsMoved, IsStep, IsTaken, LaneState, Machine, Takes, fresh, passed, replied, told, commit, tell, take}
+use Rattle.lane_model.specs.Machine.{Event, IsMoved, IsStep, IsTaken, LaneState, Machine, Takes, fresh, passed, replied, heard, commit, tell, take}
 use Rattle.lane_model.specs.Minded.{IsMinded, IsMindful, packets_of}
 
 -- what one event makes of a lane
 abbrev pub IsHeard : {V : Type 0} → ℕ → Event V → LaneState → LaneState → Type 0
 IsHeard lane (commit v) l l' = l' ≡ l
-IsHeard lane (tell other n) l l' = ((other ≡ lane) × (l' ≡ told n l)) ⊎ ((other ≢ lane) × (l' ≡ l))
+IsHeard lane (tell other n) l l' = ((other ≡ lane) × (l' ≡ heard n l)) ⊎ ((other ≢ lane) × (l' ≡ l))
 IsHeard lane (take other d s way) l l' = ((other ≡ lane) × (l.seen ≤ s) × (l'.seen ≡ s) × (l'.taken ≡ l.taken ++ (record { packet = d; known = l.seen; way = way }) ∷ [])) ⊎ ((other ≢ lane) × (l' ≡ l))
 
 -- of a step of the machine: the lane of its number
@@ -50,9 +50,9 @@ pub step_heard : {V : Type 0} (a : Answers V) (F : List V → V → Type 0) (lan
 step_heard {V = V} a F lane (commit v) m m' s = ap (λ (k : Machine V). slice_index_or k.lanes lane fresh) s.1
 step_heard a F lane (tell other n) m m' s =
     ⊎_elim (λ (same : other ≡ lane).
-    let here = moved_here other s.2.0 (told n s.2.0) m.lanes m'.lanes s.2.1 in
-    inl (same, subst (λ (k : ℕ). slice_index_or m'.lanes k fresh ≡ told n (slice_index_or m.lanes k fresh)) same (here.1 ∙ ap (told n) (sym here.0))))
-    (λ (ne : other ≡ lane → ⊥). inr (ne, moved_there other lane s.2.0 (told n s.2.0) m.lanes m'.lanes ne s.2.1)) (cases_eq other lane)
+    let here = moved_here other s.2.0 (heard n s.2.0) m.lanes m'.lanes s.2.1 in
+    inl (same, subst (λ (k : ℕ). slice_index_or m'.lanes k fresh ≡ heard n (slice_index_or m.lanes k fresh)) same (here.1 ∙ ap (heard n) (sym here.0))))
+    (λ (ne : other ≡ lane → ⊥). inr (ne, moved_there other lane s.2.0 (heard n s.2.0) m.lanes m'.lanes ne s.2.1)) (cases_eq other lane)
 step_heard a F lane (take other d n way) m m' s =
     let l = s.1.0 in
     let l' = s.1.1 in
@@ -72,7 +72,7 @@ record IsOnce {V : Type 0} (lane : ℕ) (e : Event V) (l l' : LaneState) : Type 
   pub taken : l'.taken ≡ l.taken ++ new
   pub packets : map (λ x. x.packet) new ≡ packets_of lane e
   pub first : l.seen ≤ l'.seen
-  pub told : (n : ℕ) → e ≡ tell lane n → n ≤ l'.seen
+  pub heard : (n : ℕ) → e ≡ tell lane n → n ≤ l'.seen
   pub used : (d : Packet) (s : ℕ) (way : Way) → e ≡ take lane d s way → s ≤ l'.seen
   pub entry : (d : Packet) (s : ℕ) (way : Way) → e ≡ take lane d s way → new ≡ (record { packet = d; known = l.seen; way = way }) ∷ []
 
@@ -83,7 +83,7 @@ nothing_heard lane e l l' same none no_tell no_take = record {
   taken = ap (λ (k : LaneState). k.taken) same ∙ sym (append-nil l.taken);
   packets = sym none;
   first = let is = ap (λ (k : LaneState). k.seen) same in omega (arith, is);
-  told = λ n is. absurd (no_tell n is);
+  heard = λ n is. absurd (no_tell n is);
   used = λ d s way is. absurd (no_take d s way is);
   entry = λ d s way is. absurd (no_take d s way is);
 }
@@ -95,7 +95,7 @@ heard_once lane (tell other n) l l' (inl h) = record {
   taken = ap (λ (k : LaneState). k.taken) h.1 ∙ sym (append-nil l.taken);
   packets = refl;
   first = let is = ap (λ (k : LaneState). k.seen) h.1 in omega (arith, is);
-  told = λ k is. let same : n ≡ k = cc is in let seen = ap (λ (x : LaneState). x.seen) h.1 in omega (arith, same, seen);
+  heard = λ k is. let same : n ≡ k = cc is in let seen = ap (λ (x : LaneState). x.seen) h.1 in omega (arith, same, seen);
   used = λ d s way is. absurd (cc is);
   entry = λ d s way is. absurd (cc is);
 }
@@ -105,7 +105,7 @@ heard_once lane (take other d n way) l l' (inl h) = record {
   taken = h.3;
   packets = ap (λ b. if b then d ∷ [] else []) (sym (eq-eqb other lane h.0));
   first = omega (arith, h.1, h.2);
-  told = λ k is. absurd (cc is);
+  heard = λ k is. absurd (cc is);
   used = λ c s by is. let same : n ≡ s = cc is in omega (arith, same, h.2);
   entry = λ c s by is. let same : d ≡ c = cc is in let way_is : way ≡ by = cc is in ap (λ (x : Packet). (record { packet = x; known = l.seen; way = way }) ∷ []) same ∙ ap (λ (x : Way). (record { packet = c; known = l.seen; way = x }) ∷ []) way_is;
 }
@@ -116,20 +116,20 @@ mindful_more : {V : Type 0} (lane first mid : ℕ) (e : Event V) (events : List 
     → IsMindful lane first (e ∷ events) known
 mindful_more {V = V} lane first mid e events known le by_tell by_take r = record {
   first_known = let up = r.first_known in omega (arith, le, up);
-  told = λ n at. one_tell n at.0 at.1 at.2;
+  heard = λ n at. one_tell n at.0 at.1 at.2;
   used = λ d s way at. one_take d s way at.0 at.1 at.2;
 }
   where
     one_tell : (n k : ℕ) → k < length (e ∷ events) → slice_index_or (e ∷ events) k (tell lane n) ≡ tell lane n → n ≤ known
     one_tell n zero lt is = let below = by_tell n is in let up = r.first_known in omega (arith, below, up)
-    one_tell n (suc k) lt is = r.told n (k, omega (arith, lt), is)
+    one_tell n (suc k) lt is = r.heard n (k, omega (arith, lt), is)
 
     one_take : (d : Packet) (s : ℕ) (way : Way) (k : ℕ) → k < length (e ∷ events) → slice_index_or (e ∷ events) k (take lane d s way) ≡ take lane d s way → s ≤ known
     one_take d s way zero lt is = let below = by_take d s way is in let up = r.first_known in omega (arith, below, up)
     one_take d s way (suc k) lt is = r.used d s way (k, omega (arith, lt), is)
 
 mindful_none : {V : Type 0} (lane n : ℕ) → IsMindful {V = V} lane n [] n
-mindful_none lane n = record { first_known = omega arith; told = λ k at. absurd (omega (arith, at.1)); used = λ d s way at. absurd (omega (arith, at.1)) }
+mindful_none lane n = record { first_known = omega arith; heard = λ k at. absurd (omega (arith, at.1)); used = λ d s way at. absurd (omega (arith, at.1)) }
 
 behind_some : {A : Type 0} (xs ys : List A) (n k : ℕ) (y : A) → k ≡ length xs + n → slice_get ys n ≡ Some y → slice_get (xs ++ ys) k ≡ Some y
 behind_some [] ys n k y at is = let here : k ≡ n = omega (arith, at) in ap (slice_get ys) here ∙ is
@@ -153,7 +153,7 @@ entry_more {V = V} lane e events l mid l' once rest (x ∷ before) behind d s wa
       one.0,
       behind_some once.new rest.new (length (flat_map (packets_of lane) before)) (length (packets_of lane x ++ flat_map (packets_of lane) before)) one.0 (length-append (packets_of lane x) (flat_map (packets_of lane) before) ∙ ap (λ k. k + length (flat_map (packets_of lane) before)) size) one.1,
       one.2,
-      subst (λ (y : Event V). IsMindful lane l.seen (y ∷ before) one.0.known) same (mindful_more lane l.seen mid.seen e before one.0.known once.first once.told once.used one.3),
+      subst (λ (y : Event V). IsMindful lane l.seen (y ∷ before) one.0.known) same (mindful_more lane l.seen mid.seen e before one.0.known once.first once.heard once.used one.3),
     )
 
 -- one event more
@@ -165,7 +165,7 @@ minded_more lane e events l mid l' h rest =
       taken = rest.taken ∙ (ap (λ xs. xs ++ rest.new) once.taken ∙ append_assoc l.taken once.new rest.new);
       packets = map-append (λ (x : Entry). x.packet) once.new rest.new ∙ (ap (λ xs. xs ++ map (λ (x : Entry). x.packet) rest.new) once.packets ∙ ap (λ xs. packets_of lane e ++ xs) rest.packets);
       entries = λ before behind d s way is. entry_more lane e events l mid l' once rest before behind d s way is;
-      after = mindful_more lane l.seen mid.seen e events l'.seen once.first once.told once.used rest.after;
+      after = mindful_more lane l.seen mid.seen e events l'.seen once.first once.heard once.used rest.after;
     }
 
 no_event : {A : Type 0} (before behind : List A) (x : A) → [] ≡ before ++ x ∷ behind → ⊥

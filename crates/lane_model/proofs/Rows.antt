@@ -4,7 +4,7 @@ use Rattle.addr_text.specs.declared.address.Addr.TheVariants.{V4}
 use Rattle.outside.specs.Port.{Packet}
 use Rattle.answer_core.specs.declared.way.Way.TheVariants.{Datagram, Stream}
 use Rattle.lane_model.specs.Lanes.{Entry, draw, following}
-use Rattle.lane_model.specs.Machine.{Event, LaneState, fresh, passed, told, take, tell}
+use Rattle.lane_model.specs.Machine.{Event, LaneState, fresh, passed, heard, take, tell}
 use Rattle.lane_model.specs.Minded.{IsMinded}
 use Rattle.lane_model.proofs.Minded.{minded_more, minded_none}
 
@@ -42,7 +42,7 @@ abbrev first_lane : LaneState
 first_lane = passed first_packet 0 Datagram fresh
 
 abbrev second_lane : LaneState
-second_lane = passed second_packet 4 Stream (told 2 first_lane)
+second_lane = passed second_packet 4 Stream (heard 2 first_lane)
 
 -- it knew 0 at the first, and 2 at the second, and knows 4 then
 entries_are : second_lane.taken ≡ (record { packet = first_packet; known = 0; way = Datagram }) ∷ (record { packet = second_packet; known = 2; way = Stream }) ∷ []
@@ -54,9 +54,9 @@ seen_is = refl
 -- that is minded
 second_minded : IsMinded 3 lane_events fresh second_lane
 second_minded = minded_more 3 (take 3 first_packet 0 Datagram) (tell 3 2 ∷ tell 1 9 ∷ take 3 second_packet 4 Stream ∷ []) fresh first_lane second_lane (inl (refl, omega arith, refl, refl))
-    (minded_more 3 (tell 3 2) (tell 1 9 ∷ take 3 second_packet 4 Stream ∷ []) first_lane (told 2 first_lane) second_lane (inl (refl, refl))
-    (minded_more 3 (tell 1 9) (take 3 second_packet 4 Stream ∷ []) (told 2 first_lane) (told 2 first_lane) second_lane (inr (λ is. absurd (omega (arith, is)), refl))
-    (minded_more 3 (take 3 second_packet 4 Stream) [] (told 2 first_lane) second_lane second_lane (inl (refl, omega arith, refl, refl)) (minded_none 3 second_lane))))
+    (minded_more 3 (tell 3 2) (tell 1 9 ∷ take 3 second_packet 4 Stream ∷ []) first_lane (heard 2 first_lane) second_lane (inl (refl, refl))
+    (minded_more 3 (tell 1 9) (take 3 second_packet 4 Stream ∷ []) (heard 2 first_lane) (heard 2 first_lane) second_lane (inr (λ is. absurd (omega (arith, is)), refl))
+    (minded_more 3 (take 3 second_packet 4 Stream) [] (heard 2 first_lane) second_lane second_lane (inl (refl, omega arith, refl, refl)) (minded_none 3 second_lane))))
 
 -- had it known 1 at the second, that would not be minded
 abbrev low_entries : List Entry
@@ -68,6 +68,6 @@ low_known new e is at = let here : Some (record { packet = second_packet; known 
 low_unminded : IsMinded 3 lane_events fresh (record second_lane { taken = low_entries }) → ⊥
 low_unminded minded =
     let one = minded.entries (take 3 first_packet 0 Datagram ∷ tell 3 2 ∷ tell 1 9 ∷ []) [] second_packet 4 Stream refl in
-    let told_of = one.3.told 2 (1, omega arith, refl) in
+    let told_of = one.3.heard 2 (1, omega arith, refl) in
     let known_is = low_known minded.new one.0 minded.taken one.1 in
     omega (arith, told_of, known_is)

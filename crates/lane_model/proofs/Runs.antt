@@ -1,4 +1,4 @@
--- What a session of turns says: a lane run, what was told, and what port, gate and notes tell after it.
+-- What turns one after the other say: a lane run, what was told, and what port, gate and notes tell after it.
 use Rattle.std.proofs.Common.{◌≡◌, ℕ, ◌+◌, ◌<◌, ◌≤◌, Bool, true, false, List, [], ◌∷◌, ◌++◌, length, fold, Option, None, Some, MatchBool, refl, sym, ap, subst, ◌∙◌, arith}
 use mathlib.Core.List.{IsPrefix}
 use Rattle.outside.specs.Faults.{BothTell}
@@ -6,14 +6,14 @@ use Rattle.outside.specs.Port.{Try}
 use Rattle.answer_core.specs.declared.way.Way.{Way}
 use Rattle.lane_model.specs.Lanes.{Answers, Entry, IsLaneRun, IsTryOf, following}
 use Rattle.lane_model.specs.Turns.{Turn, Came, AreGiven, IsCame, IsGiven, IsTold, count_after, entries_of, entries_of_came, floor_after, gate_turn, is_refused, port_turn, tries_of, tries_of_came, idle, oversize, ended, failed, took, silent, refused, tried}
-use Rattle.lane_model.specs.Sessions.{IsRise, IsSession, Moment}
+use Rattle.lane_model.specs.Calls.{IsRise, AreTurns, Moment}
 use Rattle.lane_model.proofs.Prefixes.{prefix_get}
 use Rattle.lane_model.proofs.Going.{rise_none, rise_trans}
 
 -- what is seen and known only grows
-pub session_rises : {V : Type 0} (a : Answers V) (w : ℕ) (log : List Turn) (m m' : Moment V) → IsSession a w log m m' → IsRise m.eyes m'.eyes
-session_rises a w [] m m' s = subst (λ k. IsRise m.eyes k.eyes) (sym s) (rise_none m.eyes)
-session_rises a w (t ∷ log) m m' s = rise_trans m.eyes s.0.eyes m'.eyes s.1.eyes (session_rises a w log s.0 m' s.2)
+pub turns_rises : {V : Type 0} (a : Answers V) (w : ℕ) (log : List Turn) (m m' : Moment V) → AreTurns a w log m m' → IsRise m.eyes m'.eyes
+turns_rises a w [] m m' s = subst (λ k. IsRise m.eyes k.eyes) (sym s) (rise_none m.eyes)
+turns_rises a w (t ∷ log) m m' s = rise_trans m.eyes s.0.eyes m'.eyes s.1.eyes (turns_rises a w log s.0 m' s.2)
 
 -- what a datagram came to is so over a longer history
 came_longer : {V : Type 0} (a : Answers V) (h h' : List V) (w n known : ℕ) (came : Came) → IsPrefix h h' → IsCame a h w n known came → IsCame a h' w n known came
@@ -82,24 +82,24 @@ emptied : (way : Way) (log : List Turn) → log ≡ [] → (entries_of way log �
 emptied way [] e = (refl, refl)
 emptied way (t ∷ log) e = absurd (cc e)
 
--- The datagrams and tries of a session are a lane run over what is seen at its end.
-pub session_run : {V : Type 0} (a : Answers V) (w floor : ℕ) (log : List Turn) (m m' : Moment V) → IsSession a w log m m' → IsInOrder log → floor < length m.eyes.told
+-- The datagrams and tries of some turns are a lane run over what is seen at its end.
+pub turns_run : {V : Type 0} (a : Answers V) (w floor : ℕ) (log : List Turn) (m m' : Moment V) → AreTurns a w log m m' → IsInOrder log → floor < length m.eyes.heard
     → IsLaneRun a m'.eyes.seen w m.count floor (entries_of a.way log) (tries_of log)
-session_run a w floor [] m m' s o lt = tt
-session_run a w floor (t ∷ log) m m' s o lt =
+turns_run a w floor [] m m' s o lt = tt
+turns_run a w floor (t ∷ log) m m' s o lt =
     let q = s.1 in
-    let rest = session_run a w (floor_after t.known t.came) log s.0 m' s.2 o.1 q.knows in
+    let rest = turns_run a w (floor_after t.known t.came) log s.0 m' s.2 o.1 q.knows in
     run_with a m'.eyes.seen w m.count floor t.known t.came (entries_of a.way log) (tries_of log) (omega (arith, lt, q.shown, q.known)) q.floor
-    (came_longer a s.0.eyes.seen m'.eyes.seen w m.count t.known t.came (session_rises a w log s.0 m' s.2).seen q.came)
+    (came_longer a s.0.eyes.seen m'.eyes.seen w m.count t.known t.came (turns_rises a w log s.0 m' s.2).seen q.came)
     (λ (r : is_refused t.came ≡ true). emptied a.way log (o.0 r))
     (subst (λ (n : ℕ). IsLaneRun a m'.eyes.seen w n (floor_after t.known t.came) (entries_of a.way log) (tries_of log)) q.count rest)
 
 -- What was told is minded.
-pub session_told : {V : Type 0} (a : Answers V) (w floor : ℕ) (log : List Turn) (m m' : Moment V) → IsSession a w log m m' → floor < length m.eyes.told → IsTold floor log
-session_told a w floor [] m m' s lt = tt
-session_told a w floor (t ∷ log) m m' s lt =
+pub turns_told : {V : Type 0} (a : Answers V) (w floor : ℕ) (log : List Turn) (m m' : Moment V) → AreTurns a w log m m' → floor < length m.eyes.heard → IsTold floor log
+turns_told a w floor [] m m' s lt = tt
+turns_told a w floor (t ∷ log) m m' s lt =
     let q = s.1 in
-    (omega (arith, lt, q.shown), q.known, q.noted, session_told a w (floor_after t.known t.came) log s.0 m' s.2 q.knows)
+    (omega (arith, lt, q.shown), q.known, q.noted, turns_told a w (floor_after t.known t.came) log s.0 m' s.2 q.knows)
 
 -- one after the other, where both tell
 pub tells_on : {A : Type 0} (x y z : Option A) (R S Q : A → A → Type 0) → ((b c d : A) → R b c → S c d → Q b d) → BothTell x y R → BothTell y z S → BothTell x z Q
@@ -115,17 +115,17 @@ tells_same None = tt
 tells_same (Some b) = refl
 
 -- What a port tells is what it told before, after each turn in order.
-pub session_port : {V : Type 0} (a : Answers V) (w : ℕ) (log : List Turn) (m m' : Moment V) → IsSession a w log m m' → BothTell m.port m'.port (λ b c. c ≡ fold port_turn b log)
-session_port a w [] m m' s = subst (λ k. BothTell m.port k.port (λ b c. c ≡ b)) (sym s) (tells_same m.port)
-session_port a w (t ∷ log) m m' s =
-    tells_on m.port s.0.port m'.port (λ b c. c ≡ port_turn b t) (λ b c. c ≡ fold port_turn b log) (λ b c. c ≡ fold port_turn b (t ∷ log)) (λ b c d r q. q ∙ ap (λ k. fold port_turn k log) r) s.1.port (session_port a w log s.0 m' s.2)
+pub turns_port : {V : Type 0} (a : Answers V) (w : ℕ) (log : List Turn) (m m' : Moment V) → AreTurns a w log m m' → BothTell m.port m'.port (λ b c. c ≡ fold port_turn b log)
+turns_port a w [] m m' s = subst (λ k. BothTell m.port k.port (λ b c. c ≡ b)) (sym s) (tells_same m.port)
+turns_port a w (t ∷ log) m m' s =
+    tells_on m.port s.0.port m'.port (λ b c. c ≡ port_turn b t) (λ b c. c ≡ fold port_turn b log) (λ b c. c ≡ fold port_turn b (t ∷ log)) (λ b c d r q. q ∙ ap (λ k. fold port_turn k log) r) s.1.port (turns_port a w log s.0 m' s.2)
 
-pub session_gate : {V : Type 0} (a : Answers V) (w : ℕ) (log : List Turn) (m m' : Moment V) → IsSession a w log m m' → BothTell m.gate m'.gate (λ b c. c ≡ fold gate_turn b log)
-session_gate a w [] m m' s = subst (λ k. BothTell m.gate k.gate (λ b c. c ≡ b)) (sym s) (tells_same m.gate)
-session_gate a w (t ∷ log) m m' s =
-    tells_on m.gate s.0.gate m'.gate (λ b c. c ≡ gate_turn b t) (λ b c. c ≡ fold gate_turn b log) (λ b c. c ≡ fold gate_turn b (t ∷ log)) (λ b c d r q. q ∙ ap (λ k. fold gate_turn k log) r) s.1.gate (session_gate a w log s.0 m' s.2)
+pub turns_gate : {V : Type 0} (a : Answers V) (w : ℕ) (log : List Turn) (m m' : Moment V) → AreTurns a w log m m' → BothTell m.gate m'.gate (λ b c. c ≡ fold gate_turn b log)
+turns_gate a w [] m m' s = subst (λ k. BothTell m.gate k.gate (λ b c. c ≡ b)) (sym s) (tells_same m.gate)
+turns_gate a w (t ∷ log) m m' s =
+    tells_on m.gate s.0.gate m'.gate (λ b c. c ≡ gate_turn b t) (λ b c. c ≡ fold gate_turn b log) (λ b c. c ≡ fold gate_turn b (t ∷ log)) (λ b c d r q. q ∙ ap (λ k. fold gate_turn k log) r) s.1.gate (turns_gate a w log s.0 m' s.2)
 
-pub session_notes : {V : Type 0} (a : Answers V) (w : ℕ) (log : List Turn) (m m' : Moment V) → IsSession a w log m m' → BothTell m.notes m'.notes (AreGiven log)
-session_notes a w [] m m' s = subst (λ k. BothTell m.notes k.notes (λ b c. c ≡ b)) (sym s) (tells_same m.notes)
-session_notes a w (t ∷ log) m m' s =
-    tells_on m.notes s.0.notes m'.notes (IsGiven t.notes) (AreGiven log) (AreGiven (t ∷ log)) (λ b c d r q. (c, r, q)) s.1.notes (session_notes a w log s.0 m' s.2)
+pub turns_notes : {V : Type 0} (a : Answers V) (w : ℕ) (log : List Turn) (m m' : Moment V) → AreTurns a w log m m' → BothTell m.notes m'.notes (AreGiven log)
+turns_notes a w [] m m' s = subst (λ k. BothTell m.notes k.notes (λ b c. c ≡ b)) (sym s) (tells_same m.notes)
+turns_notes a w (t ∷ log) m m' s =
+    tells_on m.notes s.0.notes m'.notes (IsGiven t.notes) (AreGiven log) (AreGiven (t ∷ log)) (λ b c d r q. (c, r, q)) s.1.notes (turns_notes a w log s.0 m' s.2)

@@ -35,8 +35,8 @@ pub record IsMoved (at : ℕ) (l l' : LaneState) (lanes lanes' : List LaneState)
   pub new : lanes' ≡ before ++ l' ∷ behind
 
 -- a lane learns of a serial
-abbrev pub told : ℕ → LaneState → LaneState
-told n l = record l { seen = max l.seen n }
+abbrev pub heard : ℕ → LaneState → LaneState
+heard n l = record l { seen = max l.seen n }
 
 -- a lane took a datagram that has no reply
 abbrev pub passed : Packet → ℕ → Way → LaneState → LaneState
@@ -54,7 +54,7 @@ Takes a h w d s way l l' = (l.seen ≤ s) × (s < length h)
 -- One step of the machine. `Follows` says which versions may come next.
 abbrev pub IsStep : {V : Type 0} → Answers V → (List V → V → Type 0) → Event V → Machine V → Machine V → Type 0
 IsStep a Follows (commit v) m m' = Follows m.history v × (m' ≡ record m { history = m.history ++ v ∷ [] })
-IsStep a Follows (tell lane n) m m' = (n < length m.history) × (m'.history ≡ m.history) × ((l : LaneState) × IsMoved lane l (told n l) m.lanes m'.lanes)
+IsStep a Follows (tell lane n) m m' = (n < length m.history) × (m'.history ≡ m.history) × ((l : LaneState) × IsMoved lane l (heard n l) m.lanes m'.lanes)
 IsStep a Follows (take lane d s way) m m' = (m'.history ≡ m.history) × ((l : LaneState) × (l' : LaneState) × Takes a m.history lane d s way l l' × IsMoved lane l l' m.lanes m'.lanes)
 
 -- some steps

@@ -15,7 +15,7 @@ packets_of lane (take other d s way) = if other == lane then d ∷ [] else []
 -- what is known is no less than what was known at first, than each serial of which the lane was told in these events, and than each that it used in them
 pub record IsMindful {V : Type 0} (lane first : ℕ) (events : List (Event V)) (known : ℕ) : Type 0 where
   pub first_known : first ≤ known
-  pub told : (n : ℕ) → Contains events (tell lane n) → n ≤ known
+  pub heard : (n : ℕ) → Contains events (tell lane n) → n ≤ known
   pub used : (d : Packet) (s : ℕ) (way : Way) → Contains events (take lane d s way) → s ≤ known
 
 -- What events make of a lane. It gains an entry for each datagram that it takes, in their order; what it knew at the entry of a take minds all events before that take, and what it knows at the end minds all events.

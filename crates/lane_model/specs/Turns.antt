@@ -30,34 +30,34 @@ pub record Turn : Type 0 where
   pub came : Came
 
 -- the try of a datagram
-abbrev pub try_of : Packet → Fate → List Try
-try_of d silent = []
-try_of d refused = []
-try_of d (tried serial octets went) = (record { octets = octets; to = d.from; serial = serial; went = went }) ∷ []
+abbrev pub tries_of_fate : Packet → Fate → List Try
+tries_of_fate d silent = []
+tries_of_fate d refused = []
+tries_of_fate d (tried serial octets went) = (record { octets = octets; to = d.from; serial = serial; went = went }) ∷ []
 
 abbrev pub tries_of_came : Came → List Try
 tries_of_came idle = []
 tries_of_came oversize = []
 tries_of_came ended = []
 tries_of_came failed = []
-tries_of_came (took d fate) = try_of d fate
+tries_of_came (took d fate) = tries_of_fate d fate
 
 -- the tries of some turns
 abbrev pub tries_of : List Turn → List Try
 tries_of log = flat_map (λ t. tries_of_came t.came) log
 
 -- the datagrams that count, of a lane of that way: but for one whose look was refused
-abbrev pub entry_of : Way → Packet → ℕ → Fate → List Entry
-entry_of way d known silent = (record { packet = d; known = known; way = way }) ∷ []
-entry_of way d known refused = []
-entry_of way d known (tried serial octets went) = (record { packet = d; known = known; way = way }) ∷ []
+abbrev pub entries_of_fate : Way → Packet → ℕ → Fate → List Entry
+entries_of_fate way d known silent = (record { packet = d; known = known; way = way }) ∷ []
+entries_of_fate way d known refused = []
+entries_of_fate way d known (tried serial octets went) = (record { packet = d; known = known; way = way }) ∷ []
 
 abbrev pub entries_of_came : Way → ℕ → Came → List Entry
 entries_of_came way known idle = []
 entries_of_came way known oversize = []
 entries_of_came way known ended = []
 entries_of_came way known failed = []
-entries_of_came way known (took d fate) = entry_of way d known fate
+entries_of_came way known (took d fate) = entries_of_fate way d known fate
 
 abbrev pub entries_of : Way → List Turn → List Entry
 entries_of way log = flat_map (λ t. entries_of_came way t.known t.came) log

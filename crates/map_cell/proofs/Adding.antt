@@ -7,7 +7,7 @@ use prog.Atomic.{either}
 use Rattle.logbook.specs.Pages.{Cell, cell, keeps, no_nib, step, Moves, Goes}
 use Rattle.published_map.specs.Version.{Version, IsVersion}
 use Rattle.map_cell.specs.Histories.{IsHistory, MayFollow}
-use Rattle.map_cell.specs.Rules.{IsKept, Adds}
+use Rattle.map_cell.specs.Rules.{IsCounted, Adds}
 use Rattle.map_cell.proofs.Fronts.{prefix_whole}
 
 abbrev pub shown : List Version → List Version
@@ -39,7 +39,7 @@ history_more h y old may = record {
 
 pub adds_goes : (log v : List Version) (e : Version) (old : ℕ) → length v ≡ old → MayFollow v e → IsHistory log → IsPrefix v log
     → (b : Bool) → (length log == old) ≡ b
-    → Goes IsKept shown moved 0 (v, (no_nib, None)) (λ n. either (n == old) (old + 1) n) (Adds (step 0 old (old + 1) e) (v, (no_nib, None))) ((length log, true) ∷ (0, true) ∷ []) log
+    → Goes IsCounted shown moved 0 (v, (no_nib, None)) (λ n. either (n == old) (old + 1) n) (Adds (step 0 old (old + 1) e) (v, (no_nib, None))) ((length log, true) ∷ (0, true) ∷ []) log
 adds_goes log v e old len may legal pre true is =
     let here : length log ≡ old = grind (arith, nat_tests) in
     let same : v ≡ log = prefix_whole v log pre (omega arith) in
@@ -68,7 +68,7 @@ adds_goes log v e old len may legal pre false is =
 
 -- whatever the book is, the exchange adds the entry to all that was seen, or finds that the history is longer
 pub adds_moves : (v : List Version) (e : Version) (old : ℕ) → length v ≡ old → MayFollow v e
-    → Moves IsKept shown moved 0 (v, (no_nib, None)) (λ n. either (n == old) (old + 1) n) (Adds (step 0 old (old + 1) e) (v, (no_nib, None)))
+    → Moves IsCounted shown moved 0 (v, (no_nib, None)) (λ n. either (n == old) (old + 1) n) (Adds (step 0 old (old + 1) e) (v, (no_nib, None)))
 adds_moves v e old len may cs log kept pre away =
-    let P : List Cell → Type 0 = λ c. (0 < length c) × ((cell c 0).1 ≡ true) × Goes IsKept shown moved 0 (v, (no_nib, None)) (λ n. either (n == old) (old + 1) n) (Adds (step 0 old (old + 1) e) (v, (no_nib, None))) c log in
+    let P : List Cell → Type 0 = λ c. (0 < length c) × ((cell c 0).1 ≡ true) × Goes IsCounted shown moved 0 (v, (no_nib, None)) (λ n. either (n == old) (old + 1) n) (Adds (step 0 old (old + 1) e) (v, (no_nib, None))) c log in
     subst P (sym kept.words) (omega arith, refl, adds_goes log v e old len may kept.history pre (length log == old) refl)

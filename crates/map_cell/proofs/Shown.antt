@@ -4,20 +4,20 @@ use Rattle.published_map.specs.declared.delta.Delta.{Delta}
 use Rattle.published_map.specs.Version.{Version, IsVersion}
 use Rattle.published_map.specs.Changes.{is_within, moved, after}
 use Rattle.map_cell.specs.Histories.{IsHistory, MayFollow, IsSealed}
-use Rattle.map_cell.specs.Rules.{CopyState, StepState, stepped}
+use Rattle.map_cell.specs.Rules.{CopyState, DeltaState, stepped}
 use Rattle.published_map.proofs.Changes.{after_plan}
 
 -- a step that names what is there
-pub steps : (s : CopyState) (o : StepState) → is_within s.version o.delta ≡ true → stepped s o ≡ record { book = o.book; history = o.history; version = moved s.version o.delta o.serial }
+pub steps : (s : CopyState) (o : DeltaState) → is_within s.version o.delta ≡ true → stepped s o ≡ record { book = o.book; history = o.history; version = moved s.version o.delta o.serial }
 unfolding stepped
 steps s o is = rw is refl
 
 -- and one that names something else
-pub stays : (s : CopyState) (o : StepState) → is_within s.version o.delta ≡ false → stepped s o ≡ s
+pub stays : (s : CopyState) (o : DeltaState) → is_within s.version o.delta ≡ false → stepped s o ≡ s
 unfolding stepped
 stays s o is = rw is refl
 
-pub after_step : (old shown next : CopyState) (o : StepState) (l : List StepState) → shown ≡ old → l ≡ o ∷ [] → is_within old.version o.delta ≡ true → next ≡ fold stepped shown l
+pub after_step : (old shown next : CopyState) (o : DeltaState) (l : List DeltaState) → shown ≡ old → l ≡ o ∷ [] → is_within old.version o.delta ≡ true → next ≡ fold stepped shown l
     → next ≡ record { book = o.book; history = o.history; version = moved old.version o.delta o.serial }
 after_step old shown next o l same one is e = e ∙ (ap (fold stepped shown) one ∙ (ap (λ s. stepped s o) same ∙ steps old o is))
 

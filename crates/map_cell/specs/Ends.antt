@@ -12,11 +12,11 @@ pub record PublisherState : Type 0 where
 -- what was looked at, and what the next look begins with
 pub record ViewerState : Type 0 where
   pub seen : List Version
-  pub told : List Version
+  pub heard : List Version
 
 -- a look at x, the last version of a history that begins with what was seen and told
-pub record LooksAt (seen told : List Version) (x : Version) (new : List Version) : Type 0 where
+pub record LooksAt (seen heard : List Version) (x : Version) (new : List Version) : Type 0 where
   pub seen_begins : IsPrefix seen new
-  pub told_begins : IsPrefix told new
+  pub heard_begins : IsPrefix heard new
   pub last : IsSealed new x
   pub history : IsHistory new

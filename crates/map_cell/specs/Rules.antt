@@ -6,7 +6,7 @@ use Rattle.published_map.specs.Version.{Version}
 use Rattle.published_map.specs.Changes.{moved, is_within}
 use Rattle.map_cell.specs.Histories.{IsHistory}
 
-pub record IsKept (cells : List Cell) (log : List Version) : Type 0 where
+pub record IsCounted (cells : List Cell) (log : List Version) : Type 0 where
   pub words : cells ≡ (length log, true) ∷ (0, true) ∷ []
   pub history : IsHistory log
 
@@ -24,12 +24,12 @@ pub record CopyState : Type 0 where
   pub version : Version
 
 -- a step of the copies: a delta, with the history that it leads to and the last serial of that
-pub record StepState : Type 0 where
+pub record DeltaState : Type 0 where
   pub book : Book
   pub history : List Version
   pub serial : ℕ
   pub delta : Delta
 
 -- a copy after a step. A step that names what is not there changes nothing
-unfoldable pub stepped : CopyState → StepState → CopyState
+unfoldable pub stepped : CopyState → DeltaState → CopyState
 stepped s o = if is_within s.version o.delta then record { book = o.book; history = o.history; version = moved s.version o.delta o.serial } else s

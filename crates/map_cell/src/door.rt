@@ -54,7 +54,7 @@ pub trait Door: Drop {
         publisher: &mut Publisher<J>,
     ) -> Result<Viewer<J>, OpenFault>
         ensures same { publisher.new ≡ publisher.old }
-        ensures seen { IfOk result (λ v. (v.seen ≡ publisher.old.history) × (v.told ≡ publisher.old.history)) }
+        ensures seen { IfOk result (λ v. (v.seen ≡ publisher.old.history) × (v.heard ≡ publisher.old.history)) }
         ensures counts { (asked self.new ≡ raised (asked self.old) 1) × (looks self.new ≡ looks self.old) × (greatest self.new ≡ greatest self.old) }
         ensures later { faults self.old ≤ faults self.new }
         ensures cause { IfErr result (λ e. e ≡ Shut → faults self.new ≡ raised (faults self.old) 1) }
@@ -63,11 +63,11 @@ pub trait Door: Drop {
     /// Tells the viewer of a published version, and of no more.
     fn learn<J: Naming>(&mut self, viewer: &mut Viewer<J>, note: &Note<J>)
         ensures seen { viewer.new.seen ≡ viewer.old.seen }
-        ensures kept { IsPrefix viewer.old.told viewer.new.told }
-        ensures note { IsPrefix note.now.front viewer.new.told }
-        ensures one { (viewer.new.told ≡ viewer.old.told) ⊎ (viewer.new.told ≡ note.now.front) }
+        ensures kept { IsPrefix viewer.old.heard viewer.new.heard }
+        ensures note { IsPrefix note.now.front viewer.new.heard }
+        ensures one { (viewer.new.heard ≡ viewer.old.heard) ⊎ (viewer.new.heard ≡ note.now.front) }
         ensures counts { (faults self.new ≡ faults self.old) × (looks self.new ≡ looks self.old) × (asked self.new ≡ asked self.old) }
-        ensures greatest { greatest self.new + 1 ≡ max (greatest self.old + 1) (length viewer.new.told) };
+        ensures greatest { greatest self.new + 1 ≡ max (greatest self.old + 1) (length viewer.new.heard) };
 
     /// Runs the closure once, on the last version of a history that begins with what the viewer saw and with what it was
     /// told; that history is then what it has seen.
@@ -83,9 +83,9 @@ pub trait Door: Drop {
     where
         C: Drop,
         requires call { (m : Version) → IsVersion m → FnOnceTakesAt C.FnOnce c m }
-        ensures ok { IfOk result (λ r. (m : Version) × LooksAt viewer.old.seen viewer.old.told m viewer.new.seen × FnOnceReturnsAt C.FnOnce c m r) }
-        ensures told { IfOk result (λ _. viewer.new.told ≡ viewer.new.seen) }
-        ensures greatest { OnOk result (greatest self.new + 1 ≡ max (greatest self.old + 1) (length viewer.new.told)) }
+        ensures ok { IfOk result (λ r. (m : Version) × LooksAt viewer.old.seen viewer.old.heard m viewer.new.seen × FnOnceReturnsAt C.FnOnce c m r) }
+        ensures heard { IfOk result (λ _. viewer.new.heard ≡ viewer.new.seen) }
+        ensures greatest { OnOk result (greatest self.new + 1 ≡ max (greatest self.old + 1) (length viewer.new.heard)) }
         ensures err { OnErr result ((viewer.new ≡ viewer.old) × (greatest self.new ≡ greatest self.old)) }
         ensures looks { (looks self.new ≡ raised (looks self.old) 1) × (asked self.new ≡ asked self.old) }
         ensures cause { OnErr result (Rose (faults self.old) (faults self.new)) }
@@ -145,7 +145,7 @@ impl Door for PlainDoor {
         publisher: &mut Publisher<J>,
     ) -> Result<Viewer<J>, OpenFault>
         ensures same { publisher.new ≡ publisher.old }
-        ensures seen { IfOk result (λ v. (v.seen ≡ publisher.old.history) × (v.told ≡ publisher.old.history)) }
+        ensures seen { IfOk result (λ v. (v.seen ≡ publisher.old.history) × (v.heard ≡ publisher.old.history)) }
         ensures counts { (self.new.asked ≡ raised self.old.asked 1) × (self.new.looks ≡ self.old.looks) × (self.new.greatest ≡ self.old.greatest) }
         ensures stays { self.new.faults ≡ self.old.faults }
         ensures granted { ¬ IsErrOf result OpenFault.CellFault }

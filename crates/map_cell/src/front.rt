@@ -4,9 +4,9 @@ ghost use mathlib.Core.List.{IsPrefix};
 ghost use Rattle.published_map.specs.Changes.{after};
 ghost use Rattle.map_cell.specs.Histories.{IsHistory, MayFollow};
 ghost use Rattle.map_cell.specs.Rules.{head_of};
-ghost use Rattle.map_cell.specs.Asks.{asked};
+ghost use Rattle.map_cell.specs.Additions.{added};
 
-use crate::asked::Asked;
+use crate::addition::Addition;
 use logbook::{Gain, Offer, Plain, Play, Rule, Seen, Start, Word};
 use published_map::MapVersion;
 use std::marker::{Brand, Model, PhantomData};
@@ -17,9 +17,9 @@ pub struct Law;
 impl Rule<MapVersion, u64> for Law {
     ghost use Rattle.std.specs.Prelude.{[]};
     ghost use base.Fml.{ftrue};
-    ghost use Rattle.map_cell.specs.Rules.{IsKept};
+    ghost use Rattle.map_cell.specs.Rules.{IsCounted};
 
-    ghost holds = { λ cells log. IsKept cells log };
+    ghost holds = { λ cells log. IsCounted cells log };
 
     ghost first = { [] };
 
@@ -50,11 +50,11 @@ impl Play<MapVersion, u64> for Add {
     ghost then = { Adds };
 }
 
-impl Plain<Asked, MapVersion, u64> for Add {
+impl Plain<Addition, MapVersion, u64> for Add {
     ghost use Rattle.std.specs.Prelude.{None};
-    ghost use Rattle.map_cell.specs.Asks.{asked};
+    ghost use Rattle.map_cell.specs.Additions.{added};
 
-    ghost ask = { asked };
+    ghost ask = { added };
 
     ghost state = { λ v. None };
 }
@@ -218,14 +218,14 @@ impl<J: Naming> Front<J> {
     }
 
     /// Adds a version to all that was seen, and says whether it did.
-    pub(crate) fn add(&mut self, book: &Book<J>, about: &Asked) -> bool
+    pub(crate) fn add(&mut self, book: &Book<J>, about: &Addition) -> bool
         requires room { length self.old < 2 ^ 64 - 1 }
-        requires next { MayFollow self.old (asked about.now) }
-        ensures { MatchBool result (self.new ≡ self.old ++ asked about.now ∷ []) (IsPrefix self.old self.new) }
+        requires next { MayFollow self.old (added about.now) }
+        ensures { MatchBool result (self.new ≡ self.old ++ added about.now ∷ []) (IsPrefix self.old self.new) }
     {
         let mut offer: Offer<MapVersion, u64, Law, Nothing> = self
             .seen
-            .plain::<Nothing, Asked, Add>(about);
+            .plain::<Nothing, Addition, Add>(about);
         let mut pen = self.seen.no_pen();
         let count = self.count;
         let found = book

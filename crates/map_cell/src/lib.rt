@@ -1,7 +1,7 @@
 //! The map cell: a published map that viewers look at without waiting, changed by deltas.
 #![tactic(auto)]
 
-mod asked;
+mod addition;
 mod door;
 mod front;
 mod notes;

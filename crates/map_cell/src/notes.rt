@@ -200,9 +200,7 @@ impl<'a, J: Naming> RowNotes<'a, J> {
     }
 }
 
-impl<J: Naming> Notes for RowNotes<'_, J> {
-    type Note = Note<J>;
-
+impl<J: Naming> Notes<Note<J>> for RowNotes<'_, J> {
     ghost use Rattle.std.specs.Prelude.{◌-◌, Some};
     ghost use Rattle.outside.specs.Limits.{most_notes};
     ghost use Rattle.map_cell.specs.Rows.{noted};

@@ -35,7 +35,7 @@ pub fn open<J: Naming, D: Door, R: Wait>(
     requires first { IsVersion first × (first.serial ≡ 0) }
     requires viewers { viewers ≤ 16 }
     ensures publisher { IfOk result (λ r. r.0 ≡ record { history = first ∷ []; newest = first }) }
-    ensures viewers { IfOk result (λ r. (vec_len r.1 ≡ viewers) × All (λ v. (v.seen ≡ first ∷ []) × (v.told ≡ first ∷ [])) r.1.items) }
+    ensures viewers { IfOk result (λ r. (vec_len r.1 ≡ viewers) × All (λ v. (v.seen ≡ first ∷ []) × (v.heard ≡ first ∷ [])) r.1.items) }
     ensures asked { (k : ℕ) × (k ≤ viewers) × (D.asked door.new ≡ raised (D.asked door.old) k) }
     ensures asked_all { OnOk result (D.asked door.new ≡ raised (D.asked door.old) viewers) }
     ensures same { (D.looks door.new ≡ D.looks door.old) × (D.greatest door.new ≡ D.greatest door.old) }
@@ -77,7 +77,7 @@ fn fill<J: Naming, D: Door, R: Wait>(
     requires { (vec_len made.old ≡ 0) × (viewers ≤ vec_capacity made.old) }
     ensures same { publisher.new ≡ publisher.old }
     ensures count { OnOk result (vec_len made.new ≡ viewers) }
-    ensures made { OnOk result (All (λ v. (v.seen ≡ publisher.old.history) × (v.told ≡ publisher.old.history)) made.new.items) }
+    ensures made { OnOk result (All (λ v. (v.seen ≡ publisher.old.history) × (v.heard ≡ publisher.old.history)) made.new.items) }
     ensures asked { (k : ℕ) × (k ≤ viewers) × (D.asked door.new ≡ raised (D.asked door.old) k) }
     ensures asked_all { OnOk result (D.asked door.new ≡ raised (D.asked door.old) viewers) }
     ensures untouched { (D.looks door.new ≡ D.looks door.old) × (D.greatest door.new ≡ D.greatest door.old) }

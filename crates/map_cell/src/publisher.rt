@@ -7,10 +7,10 @@ ghost use Rattle.map_cell.specs.Histories.{MayFollow, IsHistory, IsSealed};
 ghost use Rattle.map_cell.specs.Tags.{tag_of};
 ghost use Rattle.published_map.specs.Version.{IsVersion};
 
-use crate::asked::Asked;
+use crate::addition::Addition;
 use crate::front::{Book, Front, Naming};
-use crate::rule::{Names, OneCell, Same};
-use crate::sealed::{Sealed, Step};
+use crate::rule::{OneCell, Published, Same};
+use crate::sealed::{Sealed, SealedDelta};
 use crate::tag::Tag;
 use crate::viewer::{CellReader, Note, Viewer, new_viewer};
 use left_right::writer::Writer;
@@ -21,7 +21,7 @@ use std::marker::Model;
 use std::snapshot::Snapshot;
 use std::sync::Wait;
 
-type CellWriter = Writer<Sealed, Step, Tag, OneCell>;
+type CellWriter = Writer<Sealed, SealedDelta, Tag, OneCell>;
 
 /// The history counts its versions in 64 bits, so the version of serial 2^64-1 finds no room.
 const LAST_BASE: u64 = u64::MAX - 1;
@@ -75,14 +75,14 @@ pub(crate) fn start<J: Naming, R: Wait>(
         nodes: Vec::new(alloc),
     };
     let mut front = empty;
-    if !front.add(&book, &Asked::first(&first, &none)) {
+    if !front.add(&book, &Addition::first(&first, &none)) {
         return Err(NoMemory);
     }
     let newest = Snapshot::of(&first);
     let one = Sealed::new(first, &front);
     let two = Sealed::new(second, &front);
     let writer: CellWriter = Writer::new(alloc, one, two, readers)?;
-    let step = Step::new(none, 0, &front);
+    let step = SealedDelta::new(none, 0, &front);
     match show(rt, writer, step) {
         Err(writer) => {
             drop(writer.take(rt));
@@ -106,7 +106,7 @@ impl<J: Naming> Publisher<J> {
     /// `NoMemory` where there was no place for it.
     pub fn admit(&mut self) -> Result<Viewer<J>, NoMemory>
         ensures same { self.new ≡ self.old }
-        ensures seen { IfOk result (λ v. (v.seen ≡ self.old.history) × (v.told ≡ self.old.history)) }
+        ensures seen { IfOk result (λ v. (v.seen ≡ self.old.history) × (v.heard ≡ self.old.history)) }
     {
         let Some(writer) = &mut self.writer else {
             unreachable!()
@@ -173,13 +173,13 @@ impl<J: Naming> Publisher<J> {
         let mut front = self.front.again();
         if !front.add(
             &self.book,
-            &Asked::next(writer.published().version(), &delta),
+            &Addition::next(writer.published().version(), &delta),
         ) {
             put_back(&mut self.writer, writer, rt);
             self.broken = true;
             return Err(NoMemory);
         }
-        let step = Step::new(delta, serial, &front);
+        let step = SealedDelta::new(delta, serial, &front);
         match show(rt, writer, step) {
             Err(writer) => {
                 put_back(&mut self.writer, writer, rt);
@@ -197,7 +197,7 @@ impl<J: Naming> Publisher<J> {
 }
 
 /// Shows readers the copy after a step. The writer comes back as it was where the step found no room.
-fn show<R: Wait>(rt: &R, writer: CellWriter, step: Step) -> Result<CellWriter, CellWriter>
+fn show<R: Wait>(rt: &R, writer: CellWriter, step: SealedDelta) -> Result<CellWriter, CellWriter>
     requires idle { drop writer.behind writer.log.items ≡ [] }
     requires within { is_within writer.desk.shown.value.version step.delta ≡ true }
     requires book { step.book ≡ writer.desk.shown.value.book }
@@ -209,7 +209,7 @@ fn show<R: Wait>(rt: &R, writer: CellWriter, step: Step) -> Result<CellWriter, C
     if writer.append(step).is_err() {
         return Err(writer);
     }
-    let (writer, _done) = writer.publish_as::<Names, R>(rt);
+    let (writer, _done) = writer.publish_as::<Published, R>(rt);
     Ok(writer)
 }
 

@@ -26,9 +26,9 @@ impl Outcome<Sealed, Tag> for Knows {
 }
 
 /// A publish.
-pub struct Names;
+pub struct Published;
 
-impl Outcome<Sealed, Tag> for Names {
+impl Outcome<Sealed, Tag> for Published {
     ghost then = { λ v x y w. w ≡ tag_of y.book };
 }
 

@@ -1,6 +1,6 @@
 //! A copy of the newest version with the history that it ends, and the steps by which both copies go on.
 ghost use Rattle.std.specs.Prelude.{◌≡◌, ◌+◌, ◌<◌, length, IsTrue};
-ghost use Rattle.map_cell.specs.Rules.{CopyState, StepState, stepped};
+ghost use Rattle.map_cell.specs.Rules.{CopyState, DeltaState, stepped};
 
 use crate::front::{Front, Law, Naming};
 use left_right::Absorb;
@@ -56,31 +56,31 @@ impl Sealed {
 
 /// A step of the copies: a delta, with the history that it leads to.
 #[derive(Drop)]
-pub struct Step {
+pub struct SealedDelta {
     delta: Delta,
     serial: u64,
     count: u64,
     seen: Seen<MapVersion, u64, Law>,
 }
 
-impl Model for Step {
+impl Model for SealedDelta {
     ghost use Rattle.std.specs.Prelude.{◌≡◌, ◌+◌, length};
     ghost use Rattle.map_cell.specs.Histories.{IsHistory};
-    ghost use Rattle.map_cell.specs.Rules.{StepState};
+    ghost use Rattle.map_cell.specs.Rules.{DeltaState};
 
-    ghost Value = { StepState };
+    ghost Value = { DeltaState };
 
     ghost view = { λ s. record { book = s.seen.book; history = s.seen.log; serial = s.serial; delta = s.delta } };
 
     ghost invariant = { λ s. (s.count ≡ length s.seen.log) × (length s.seen.log ≡ s.serial + 1) × IsHistory s.seen.log };
 }
 
-impl Step {
-    pub fn new<J: Naming>(delta: Delta, serial: u64, front: &Front<J>) -> Step
+impl SealedDelta {
+    pub fn new<J: Naming>(delta: Delta, serial: u64, front: &Front<J>) -> SealedDelta
         requires { length front.now ≡ serial + 1 }
         ensures { result ≡ record { book = J.book; history = front.now; serial = serial; delta = delta } }
     {
-        Step {
+        SealedDelta {
             delta,
             serial,
             count: front.len(),
@@ -89,7 +89,7 @@ impl Step {
     }
 }
 
-impl Absorb<Step> for Sealed {
+impl Absorb<SealedDelta> for Sealed {
     type State = Sealed;
 
     ghost state = { λ s. s };
@@ -98,7 +98,7 @@ impl Absorb<Step> for Sealed {
 
     ghost never_fails = { Unit {0} };
 
-    fn absorb_first(&mut self, operation: &Step, _other: &Sealed) -> Result<(), AllocError> {
+    fn absorb_first(&mut self, operation: &SealedDelta, _other: &Sealed) -> Result<(), AllocError> {
         if self.version.fits(&operation.delta) {
             self.version.absorb(&operation.delta, operation.serial);
             self.count = operation.count;

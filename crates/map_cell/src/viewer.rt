@@ -60,7 +60,7 @@ impl<J: Naming> Note<J> {
 pub struct Viewer<J: Naming> {
     reader: Option<CellReader>,
     seen: Front<J>,
-    told: Front<J>,
+    heard: Front<J>,
 }
 
 impl<J: Naming> Model for Viewer<J> {
@@ -71,16 +71,16 @@ impl<J: Naming> Model for Viewer<J> {
 
     ghost Value = { ViewerState };
 
-    ghost view = { λ v. record { seen = v.seen; told = v.told } };
+    ghost view = { λ v. record { seen = v.seen; heard = v.heard } };
 
-    ghost invariant = { λ v. IsSome v.reader × IfSome v.reader (λ r. client_view r.place ≡ tag_of J.book) × (0 < length v.seen) × (length v.seen ≤ length v.told) };
+    ghost invariant = { λ v. IsSome v.reader × IfSome v.reader (λ r. client_view r.place ≡ tag_of J.book) × (0 < length v.seen) × (length v.seen ≤ length v.heard) };
 }
 
 /// Runs the closure on the copy, where it is no older than what was seen and told.
 fn look_in<J: Naming, R, C: FnOnce(&MapVersion) -> R>(
     sealed: &Sealed,
     seen: &Front<J>,
-    told: &Front<J>,
+    heard: &Front<J>,
     c: C,
 ) -> Option<(R, Front<J>)>
 where
@@ -88,10 +88,10 @@ where
     requires book { sealed.now.book ≡ J.book }
     requires last { IsSealed sealed.now.history sealed.now.version }
     requires call { (m : Version) → IsVersion m → FnOnceTakesAt C.FnOnce c m }
-    ensures { IfSome result (λ r. (m : Version) × LooksAt seen.now told.now m r.1 × FnOnceReturnsAt C.FnOnce c m r.0) }
+    ensures { IfSome result (λ r. (m : Version) × LooksAt seen.now heard.now m r.1 × FnOnceReturnsAt C.FnOnce c m r.0) }
 {
     let front = sealed.front::<J>();
-    if !front.covers(told) || !front.covers(seen) {
+    if !front.covers(heard) || !front.covers(seen) {
         return None;
     }
     let answer = c(sealed.version());
@@ -101,9 +101,9 @@ where
 impl<J: Naming> Viewer<J> {
     /// The greatest serial that this viewer has seen or was told of.
     pub fn known(&self) -> u64
-        ensures { result + 1 ≡ length self.now.told }
+        ensures { result + 1 ≡ length self.now.heard }
     {
-        self.told.len() - 1
+        self.heard.len() - 1
     }
 
     /// Whether all that this viewer has seen begins the note's history.
@@ -118,11 +118,11 @@ impl<J: Naming> Viewer<J> {
     /// Learns of the version that a note names, unless one at least as new is known.
     pub fn learn(&mut self, note: &Note<J>)
         ensures seen { self.new.seen ≡ self.old.seen }
-        ensures kept { IsPrefix self.old.told self.new.told }
-        ensures note { IsPrefix note.now.front self.new.told }
-        ensures one { (self.new.told ≡ self.old.told) ⊎ (self.new.told ≡ note.now.front) }
+        ensures kept { IsPrefix self.old.heard self.new.heard }
+        ensures note { IsPrefix note.now.front self.new.heard }
+        ensures one { (self.new.heard ≡ self.old.heard) ⊎ (self.new.heard ≡ note.now.front) }
     {
-        self.told = self.told.longer(&note.front);
+        self.heard = self.heard.longer(&note.front);
     }
 
     /// Looks at the newest version once: what the closure makes of it.
@@ -134,8 +134,8 @@ impl<J: Naming> Viewer<J> {
     where
         C: Drop,
         requires call { (m : Version) → IsVersion m → FnOnceTakesAt C.FnOnce c m }
-        ensures ok { IfOk result (λ r. (m : Version) × LooksAt self.old.seen self.old.told m self.new.seen × FnOnceReturnsAt C.FnOnce c m r) }
-        ensures told { IfOk result (λ _. self.new.told ≡ self.new.seen) }
+        ensures ok { IfOk result (λ r. (m : Version) × LooksAt self.old.seen self.old.heard m self.new.seen × FnOnceReturnsAt C.FnOnce c m r) }
+        ensures heard { IfOk result (λ _. self.new.heard ≡ self.new.seen) }
         ensures err { OnErr result (self.new ≡ self.old) }
     {
         let reader = self.reader.take().unwrap();
@@ -145,12 +145,12 @@ impl<J: Naming> Viewer<J> {
                 Err(Refused)
             }
             Ok(reading) => {
-                let looked = look_in(reading.get(), &self.seen, &self.told, c);
+                let looked = look_in(reading.get(), &self.seen, &self.heard, c);
                 self.reader = Some(reading.leave());
                 let Some((answer, front)) = looked else {
                     return Err(Refused);
                 };
-                self.told = front.again();
+                self.heard = front.again();
                 self.seen = front;
                 Ok(answer)
             }
@@ -162,11 +162,11 @@ impl<J: Naming> Viewer<J> {
 pub(crate) fn new_viewer<J: Naming>(reader: CellReader, front: &Front<J>) -> Viewer<J>
     requires some { 0 < length front.now }
     requires book { client_view reader.place ≡ tag_of J.book }
-    ensures { (result.seen ≡ front.now) × (result.told ≡ front.now) }
+    ensures { (result.seen ≡ front.now) × (result.heard ≡ front.now) }
 {
     Viewer {
         reader: Some(reader),
         seen: front.again(),
-        told: front.again(),
+        heard: front.again(),
     }
 }

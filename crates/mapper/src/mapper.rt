@@ -157,7 +157,7 @@ impl<J: Naming> Mapper<J> {
         requires book { history ≡ J.book }
         requires viewers { viewers ≤ 16 }
         ensures mapper { IfOk result (λ r. IsFirst topology r.0) }
-        ensures viewers { IfOk result (λ r. (vec_len r.1 ≡ viewers) × All (λ v. (v.seen ≡ r.0.history) × (v.told ≡ r.0.history)) r.1.items) }
+        ensures viewers { IfOk result (λ r. (vec_len r.1 ≡ viewers) × All (λ v. (v.seen ≡ r.0.history) × (v.heard ≡ r.0.history)) r.1.items) }
         ensures asked { (k : ℕ) × (k ≤ viewers) × (D.asked door.new ≡ raised (D.asked door.old) k) }
         ensures asked_all { OnOk result (D.asked door.new ≡ raised (D.asked door.old) viewers) }
         ensures same { (D.looks door.new ≡ D.looks door.old) × (D.greatest door.new ≡ D.greatest door.old) }

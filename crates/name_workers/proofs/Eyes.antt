@@ -5,7 +5,7 @@ use mathlib.Core.List.{IsPrefix}
 use Rattle.outside.specs.Faults.{BothTell, raised}
 use Rattle.published_map.specs.Version.{Version}
 use Rattle.outside.specs.Notes.{NotesTold, IsNextNote}
-use Rattle.lane_model.specs.Sessions.{Eyes, IsRise}
+use Rattle.lane_model.specs.Calls.{Eyes, IsRise}
 use Rattle.lane_model.specs.Turns.{IsGiven}
 use Rattle.lane_model.proofs.Prefixes.{prefix_self}
 use Rattle.lane_model.proofs.Runs.{tells_on}
@@ -47,10 +47,10 @@ given_all x y z below p q = (
 )
 
 -- a note was learned
-pub rise_learned : {V : Type 0} (e f : Eyes V) → f.seen ≡ e.seen → IsPrefix e.told f.told → f.greatest + 1 ≡ max (e.greatest + 1) (length f.told) → f.faults ≡ e.faults → IsRise e f
-rise_learned e f seen told greatest faults = record {
+pub rise_learned : {V : Type 0} (e f : Eyes V) → f.seen ≡ e.seen → IsPrefix e.heard f.heard → f.greatest + 1 ≡ max (e.greatest + 1) (length f.heard) → f.faults ≡ e.faults → IsRise e f
+rise_learned e f seen heard greatest faults = record {
   seen = subst (λ (l : List _). IsPrefix e.seen l) (sym seen) (prefix_self e.seen);
-  told = told;
+  heard = heard;
   above = omega (arith, greatest);
   greatest = omega (arith, greatest);
   rising = omega (arith, greatest);
@@ -61,8 +61,8 @@ rise_learned e f seen told greatest faults = record {
 pub rise_refused : (octets : List ℕ) (e f : Eyes Version) → IsLookRefused octets e f → IsRise e f
 rise_refused octets e f r = record {
   seen = subst (λ (l : List Version). IsPrefix e.seen l) (sym r.seen) (prefix_self e.seen);
-  told = subst (λ (l : List Version). IsPrefix e.told l) (sym r.told) (prefix_self e.told);
-  above = omega (arith, ap length r.told);
+  heard = subst (λ (l : List Version). IsPrefix e.heard l) (sym r.heard) (prefix_self e.heard);
+  above = omega (arith, ap length r.heard);
   greatest = omega (arith, r.greatest);
   rising = omega (arith, r.greatest);
   faults = omega (arith, r.rose);

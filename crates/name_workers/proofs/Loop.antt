@@ -6,7 +6,7 @@ use Rattle.published_map.specs.Version.{Version}
 use Rattle.lane_model.specs.declared.ended.Ended.{Ended}
 use Rattle.lane_model.specs.declared.ended.Ended.TheVariants as end
 use Rattle.lane_model.specs.Turns.{AreCalm, Came, Turn, fails_of, failures, is_calm, is_refused, idle, oversize, ended, failed, took, silent, refused, tried}
-use Rattle.lane_model.specs.Sessions.{IsEnd, IsLast, IsTurn, Moment}
+use Rattle.lane_model.specs.Calls.{IsEnd, IsLast, IsTurn, Moment}
 use Rattle.lane_model.proofs.Going.{one_more}
 use Rattle.name_workers.specs.declared.ending.Step.{Step}
 use Rattle.name_workers.specs.declared.ending.Step.TheVariants as step
@@ -16,7 +16,7 @@ use Rattle.name_workers.specs.Steps.{IsServed, IsTurned, step_of}
 use Rattle.name_workers.specs.Invariant.{IsSoFar}
 
 pub start : (w : ℕ) (m : Moment Version) → IsSoFar w 0 0 m m
-start w m = record { log = []; session = refl; calm = λ k d lt. absurd (omega (arith, lt)); failures_are = refl; few = omega arith; turns_are = refl }
+start w m = record { log = []; made = refl; calm = λ k d lt. absurd (omega (arith, lt)); failures_are = refl; few = omega arith; turns_are = refl }
 
 -- what a calm turn adds
 calm_more : (log : List Turn) (t : Turn) → AreCalm log → is_calm t.came ≡ true → AreCalm (log ++ t ∷ [])
@@ -90,7 +90,7 @@ eighth k k' e n is = eighth_by (k' == 8) k' e refl is
 goes_with : (w i k k' : ℕ) (m mid m' : Moment Version) → IsSoFar w i k m mid → (t : Turn) → IsTurn replies w t mid m' → is_calm t.came ≡ true → k' ≡ k + fails_of t.came → k' < 8 → IsSoFar w (i + 1) k' m m'
 goes_with w i k k' m mid m' so t turn calm fails few = record {
   log = so.log ++ t ∷ [];
-  session = one_more replies w so.log t m mid m' so.session turn;
+  made = one_more replies w so.log t m mid m' so.made turn;
   calm = calm_more so.log t so.calm calm;
   failures_are = failures_more so.log t ∙ omega (arith, so.failures_are, fails);
   few = few;
@@ -118,7 +118,7 @@ ends_with w i k turns e x m mid m' so t turn lt is last ending =
     (record {
       log = so.log ++ t ∷ [];
       mid = m';
-      session = one_more replies w so.log t m mid m' so.session turn;
+      made = one_more replies w so.log t m mid m' so.made turn;
       last = last;
       ending = ending (omega (arith, more, so.turns_are, lt));
     })
@@ -128,7 +128,7 @@ ends : (w i k k' turns : ℕ) (s : Step) (e : Ended) (m mid m' : Moment Version)
 ends w i k k' turns step.On e m mid m' lt so t n = absurd (cc (n.0))
 ends w i k k' turns step.Stopped e m mid m' lt so t n =
     let is : e ≡ end.Stopped = cc (n.0) in
-    subst (λ (x : Ended). IsServed w turns m m' x) (sym is) (record { log = so.log; mid = mid; session = so.session; last = t; ending = (so.calm, omega (arith, so.failures_are, so.few), omega (arith, so.turns_are, lt)) })
+    subst (λ (x : Ended). IsServed w turns m m' x) (sym is) (record { log = so.log; mid = mid; made = so.made; last = t; ending = (so.calm, omega (arith, so.failures_are, so.few), omega (arith, so.turns_are, lt)) })
 ends w i k k' turns step.PortEnd e m mid m' lt so t n =
     ends_with w i k turns e end.PortEnd m mid m' so t.0 t.1 lt (cc (n.0)) refl (λ short. (so.log, t.0, refl, so.calm, omega (arith, so.failures_are, so.few), end_is t.0.came t.2, short))
 ends w i k k' turns step.Refused e m mid m' lt so t n =
@@ -140,7 +140,7 @@ ends w i k k' turns step.PortFailed e m mid m' lt so t n =
 
 -- all turns were made
 pub all_spent : (w i k turns : ℕ) (m m' : Moment Version) → i ≡ turns → IsSoFar w i k m m' → IsServed w turns m m' end.Spent
-all_spent w i k turns m m' is so = record { log = so.log; mid = m'; session = so.session; last = refl; ending = (so.calm, omega (arith, so.failures_are, so.few), so.turns_are ∙ is) }
+all_spent w i k turns m m' is so = record { log = so.log; mid = m'; made = so.made; last = refl; ending = (so.calm, omega (arith, so.failures_are, so.few), so.turns_are ∙ is) }
 
 -- the same, where the worker's number is told by an equation
 pub goes_on_by : (w w' i k k' : ℕ) (s : Step) (m mid m' : Moment Version) → w' ≡ w → IsSoFar w i k m mid → IsTurned w' s mid m' → IsNextEnd s k k' None → IsSoFar w (i + 1) k' m m'

@@ -9,7 +9,7 @@ use Rattle.outside.specs.Gate.{IsTurning}
 use Rattle.outside.specs.declared.gate.Turning.TheVariants.{Go}
 use Rattle.lane_model.specs.Lanes.{following}
 use Rattle.lane_model.specs.Turns.{Came, IsCame, IsGiven, Turn, count_after, fails_of, floor_after, looks_of, idle, oversize, ended, failed, took, silent, refused, tried}
-use Rattle.lane_model.specs.Sessions.{Eyes, IsRise, IsTurn, Moment}
+use Rattle.lane_model.specs.Calls.{Eyes, IsRise, IsTurn, Moment}
 use Rattle.lane_model.proofs.Going.{rise_none, rise_trans}
 use Rattle.lane_model.proofs.Prefixes.{prefix_length}
 use Rattle.lane_model.proofs.Runs.{tells_on}
@@ -51,12 +51,12 @@ turned w step.PortEnd m m' t q e = (t, q, e)
 turned w step.PortFailed m m' t q e = (t, q, e)
 turned w step.Refused m m' t q e = (t, q, e)
 
-pub turn_of : (w w1 n1 shown : ℕ) (s : Step) (e1 : Eyes Version) (m m' : Moment Version) → shown + 1 ≡ length m.eyes.told → BothTell m.gate m'.gate (IsTurning shown Go) → m.gate_faults ≤ m'.gate_faults
-    → ((serials : List ℕ) × BothTell m.notes m'.notes (IsGiven serials) × All (λ x. x < length e1.told) serials) → IsRise m.eyes e1 → e1.looks ≡ m.eyes.looks → e1.faults ≡ m.eyes.faults → w1 ≡ w → n1 ≡ m.count
+pub turn_of : (w w1 n1 shown : ℕ) (s : Step) (e1 : Eyes Version) (m m' : Moment Version) → shown + 1 ≡ length m.eyes.heard → BothTell m.gate m'.gate (IsTurning shown Go) → m.gate_faults ≤ m'.gate_faults
+    → ((serials : List ℕ) × BothTell m.notes m'.notes (IsGiven serials) × All (λ x. x < length e1.heard) serials) → IsRise m.eyes e1 → e1.looks ≡ m.eyes.looks → e1.faults ≡ m.eyes.faults → w1 ≡ w → n1 ≡ m.count
     → IsTaken w1 n1 m'.count s e1 m'.eyes (record { told = m.port; faults = m.port_faults }) (record { told = m'.port; faults = m'.port_faults }) → IsTurned w s m m'
 turn_of w w1 n1 shown s e1 m m' is gate gl given rise looks faults same count q =
     let r = q.received in
-    let longer = prefix_length m.eyes.told e1.told rise.told in
+    let longer = prefix_length m.eyes.heard e1.heard rise.heard in
     turned w s m m' (record { shown = shown; notes = given.0; known = q.known; came = q.came }) (record {
       gate = gate;
       notes = given.1;
@@ -88,7 +88,7 @@ rose_from : (x y z : ℕ) → y ≡ x → Rose y z → raised x 1 ≤ z
 rose_from x y z same r = omega (arith, same, r)
 
 -- a datagram that arrived, to which a reply was tried
-arrived_tried : (w n n' known len : ℕ) (buffer : List ℕ) (from : Peer) (went : Bool) (s : Step) (e g : Eyes Version) (p q r : Wire) → known + 1 ≡ length e.told → BothTell p.told q.told (IsRecv known buffer (Arrived len from))
+arrived_tried : (w n n' known len : ℕ) (buffer : List ℕ) (from : Peer) (went : Bool) (s : Step) (e g : Eyes Version) (p q r : Wire) → known + 1 ≡ length e.heard → BothTell p.told q.told (IsRecv known buffer (Arrived len from))
     → (serial : ℕ) (octets : List ℕ) → IsTried w n (packet_in buffer len from) e g q r serial octets (record { octets = octets; to = from; serial = serial; went = went })
     → raised p.faults (fails_of (took (packet_in buffer len from) (tried serial octets went))) ≤ r.faults → (fails_of (took (packet_in buffer len from) (tried serial octets went)) ≡ 0 → r.faults ≡ p.faults) → n' ≡ following n → s ≡ step_of (took (packet_in buffer len from) (tried serial octets went)) → IsTaken w n n' s e g p r
 arrived_tried w n n' known len buffer from went s e g p q r is recv serial octets x faults stays count st = record {
@@ -112,7 +112,7 @@ arrived_tried w n n' known len buffer from went s e g p q r is recv serial octet
 }
 
 -- a datagram that arrived, and what became of it
-pub arrived : (w n n' known len : ℕ) (buffer : List ℕ) (from : Peer) (f : Fared) (s : Step) (e g : Eyes Version) (p q r : Wire) → known + 1 ≡ length e.told → BothTell p.told q.told (IsRecv known buffer (Arrived len from)) → q.faults ≡ p.faults
+pub arrived : (w n n' known len : ℕ) (buffer : List ℕ) (from : Peer) (f : Fared) (s : Step) (e g : Eyes Version) (p q r : Wire) → known + 1 ≡ length e.heard → BothTell p.told q.told (IsRecv known buffer (Arrived len from)) → q.faults ≡ p.faults
     → IsFared w n (packet_in buffer len from) f e g q r → n' ≡ following n → s ≡ step_of_fared f → IsTaken w n n' s e g p r
 arrived w n n' known len buffer from fared.Silent s e g p q r is recv same x count st = record {
   known = known;
@@ -122,7 +122,7 @@ arrived w n n' known len buffer from fared.Silent s e g p q r is recv same x cou
     port = subst (λ (k : Wire). BothTell p.told k.told (λ b c. c ≡ taking (packet_in buffer len from) known b)) (sym x.2) (tells_on p.told q.told q.told (IsRecv known buffer (Arrived len from)) (λ b c. c ≡ b) (λ b c. c ≡ taking (packet_in buffer len from) known b) (λ b c d u v. v ∙ u.port) recv (tells_itself q.told));
     came_is = x.0;
     rise = subst (λ (k : Eyes Version). IsRise e k) (sym x.1) (rise_none e);
-    knows = subst (λ (k : Eyes Version). known < length k.told) (sym x.1) (omega (arith, is));
+    knows = subst (λ (k : Eyes Version). known < length k.heard) (sym x.1) (omega (arith, is));
     looks = ap (λ k. k.looks) x.1 ∙ raised_none e.looks;
     refusal = λ b. absurd (cc b);
     stays = λ b. ap (λ k. k.faults) x.1;
@@ -140,7 +140,7 @@ arrived w n n' known len buffer from fared.Refused s e g p q r is recv same x co
     port = subst (λ (k : Wire). BothTell p.told k.told (λ b c. c ≡ taking (packet_in buffer len from) known b)) (sym x.1) (tells_on p.told q.told q.told (IsRecv known buffer (Arrived len from)) (λ b c. c ≡ b) (λ b c. c ≡ taking (packet_in buffer len from) known b) (λ b c d u v. v ∙ u.port) recv (tells_itself q.told));
     came_is = x.0.spoken;
     rise = rise_refused (packet_in buffer len from).octets e g x.0;
-    knows = subst (λ (k : List Version). known < length k) (sym x.0.told) (omega (arith, is));
+    knows = subst (λ (k : List Version). known < length k) (sym x.0.heard) (omega (arith, is));
     looks = x.0.looks;
     refusal = λ b. x.0.rose;
     stays = λ b. absurd (cc b);

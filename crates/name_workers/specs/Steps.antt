@@ -6,7 +6,7 @@ use Rattle.published_map.specs.Version.{Version}
 use Rattle.answer_core.specs.declared.way.Way.TheVariants.{Datagram}
 use Rattle.lane_model.specs.declared.ended.Ended.{Ended}
 use Rattle.lane_model.specs.Turns.{Came, Fate, Turn, IsCame, count_after, fails_of, floor_after, is_refused, looks_of, port_after, idle, oversize, ended, failed, took, silent, refused, tried}
-use Rattle.lane_model.specs.Sessions.{Eyes, IsRise, IsTurn, IsStop, Moment, IsSession, IsEnd, IsLast}
+use Rattle.lane_model.specs.Calls.{Eyes, IsRise, IsTurn, IsStop, Moment, AreTurns, IsEnd, IsLast}
 use Rattle.name_workers.specs.declared.serve.Fared.{Fared}
 use Rattle.name_workers.specs.declared.serve.Fared.TheVariants as fared
 use Rattle.name_workers.specs.declared.ending.Step.{Step}
@@ -55,11 +55,11 @@ step_of (took d fate) = step_of_fate fate
 
 -- what a recv and its answer do
 pub record IsReceived (w n known : ℕ) (came : Came) (e f : Eyes Version) (p q : Wire) : Type 0 where
-  pub known_is : known + 1 ≡ length e.told
+  pub known_is : known + 1 ≡ length e.heard
   pub port : BothTell p.told q.told (λ b c. c ≡ port_after known came b)
   pub came_is : IsCame replies f.seen w n known came
   pub rise : IsRise e f
-  pub knows : floor_after known came < length f.told
+  pub knows : floor_after known came < length f.heard
   pub looks : f.looks ≡ raised e.looks (looks_of came)
   pub refusal : is_refused came ≡ true → Rose e.faults f.faults
   pub stays : is_refused came ≡ false → f.faults ≡ e.faults
@@ -83,6 +83,6 @@ IsTurned w s m m' = (t : Turn) × IsTurn replies w t m m' × (s ≡ step_of t.ca
 pub record IsServed (w turns : ℕ) (m m' : Moment Version) (result : Ended) : Type 0 where
   pub log : List Turn
   pub mid : Moment Version
-  pub session : IsSession replies w log m mid
+  pub made : AreTurns replies w log m mid
   pub last : IsLast result mid m'
   pub ending : IsEnd turns log result

@@ -6,15 +6,15 @@ use Rattle.published_map.specs.Version.{Version}
 use Rattle.answer_core.specs.declared.way.Way.{Way}
 use Rattle.map_cell.specs.declared.door.CellFault.{CellFault}
 use Rattle.lane_model.specs.Lanes.{draw}
-use Rattle.lane_model.specs.Sessions.{Eyes, IsRise}
+use Rattle.lane_model.specs.Calls.{Eyes, IsRise}
 use Rattle.lane_model.specs.Replies.{is_silent, reply_of}
 
 -- the reply of one version, by a way, that is no older than what was known
 pub record IsReplied (w n : ℕ) (from : Addr) (octets : List ℕ) (way : Way) (serial : ℕ) (e f : Eyes Version) (out : List ℕ) : Type 0 where
   pub spoken : is_silent octets ≡ false
   pub version : (v : Version) × (slice_get f.seen serial ≡ Some v) × (reply_of v from octets (draw w n) way ≡ Some out)
-  pub fresh : length e.told ≤ serial + 1
-  pub known : length f.told ≡ serial + 1
+  pub fresh : length e.heard ≤ serial + 1
+  pub known : length f.heard ≡ serial + 1
   pub rise : IsRise e f
   pub stays : f.faults ≡ e.faults
 
@@ -22,7 +22,7 @@ pub record IsReplied (w n : ℕ) (from : Addr) (octets : List ℕ) (way : Way) (
 pub record IsLookRefused (octets : List ℕ) (e f : Eyes Version) : Type 0 where
   pub spoken : is_silent octets ≡ false
   pub seen : f.seen ≡ e.seen
-  pub told : f.told ≡ e.told
+  pub heard : f.heard ≡ e.heard
   pub greatest : f.greatest ≡ e.greatest
   pub looks : f.looks ≡ raised e.looks 1
   pub rose : Rose e.faults f.faults

@@ -1,8 +1,8 @@
 //! A lane's turns: the gate is asked, notes are learned, and a datagram is taken and answered.
-ghost use Rattle.std.specs.Prelude.{◌≡◌, ◌-◌, IfSome, length};
+ghost use Rattle.std.specs.Prelude.{◌≡◌, IfSome};
 ghost use Rattle.outside.specs.Port.{HasDue};
 ghost use Rattle.lane_model.specs.Lanes.{following};
-ghost use Rattle.lane_model.specs.Sessions.{IsLaneCall};
+ghost use Rattle.lane_model.specs.Calls.{IsLaneCall};
 ghost use Rattle.lane_model.specs.Replies.{replies};
 ghost use Rattle.name_workers.specs.Moments.{eyes_of, moment_of};
 ghost use Rattle.name_workers.specs.Steps.{IsFared, IsServed, IsTaken, IsTurned, step_of_fared};
@@ -15,7 +15,7 @@ use answer_core::Way;
 use arrayvec::ArrayVec;
 use lane_model::Ended;
 use map_cell::{CellFault, Door, Naming, Note};
-use outside::{Arrival, Gate, LARGEST_DATAGRAM, Notes, Numbered, Port, Sending, Turning};
+use outside::{Arrival, Gate, LARGEST_DATAGRAM, Notes, Port, Sending, Turning};
 
 /// The room for a datagram: one octet more than the longest that is answered, so that a port sees a longer one without a
 /// copy of its own.
@@ -94,7 +94,7 @@ fn take_one<J: Naming, P: Port, D: Door>(
 }
 
 /// One turn.
-fn one_turn<J: Naming, P: Port, G: Gate, D: Door, N: Notes<Note = Note<J>>>(
+fn one_turn<J: Naming, P: Port, G: Gate, D: Door, N: Notes<Note<J>>>(
     worker: &mut Worker<J>,
     port: &mut P,
     gate: &mut G,
@@ -102,7 +102,6 @@ fn one_turn<J: Naming, P: Port, G: Gate, D: Door, N: Notes<Note = Note<J>>>(
     notes: &mut N,
     buffer: &mut [u8; BUFFER],
 ) -> Step
-    requires numbered { (note : _) → ⟦<Note<J> as Numbered>⟧.number note ≡ length note.front - 1 }
     ensures turned { IsTurned worker.old.number result
         (moment_of P.told P.faults G.told G.faults N.told port.old gate.old notes.old (eyes_of D.looks D.greatest D.faults worker.old.viewer door.old) worker.old.count)
         (moment_of P.told P.faults G.told G.faults N.told port.new gate.new notes.new (eyes_of D.looks D.greatest D.faults worker.new.viewer door.new) worker.new.count) }
@@ -117,7 +116,7 @@ fn one_turn<J: Naming, P: Port, G: Gate, D: Door, N: Notes<Note = Note<J>>>(
 }
 
 /// The turns of a lane.
-fn serve_turns<J: Naming, P: Port, G: Gate, D: Door, N: Notes<Note = Note<J>>>(
+fn serve_turns<J: Naming, P: Port, G: Gate, D: Door, N: Notes<Note<J>>>(
     worker: &mut Worker<J>,
     port: &mut P,
     gate: &mut G,
@@ -125,7 +124,6 @@ fn serve_turns<J: Naming, P: Port, G: Gate, D: Door, N: Notes<Note = Note<J>>>(
     notes: &mut N,
     turns: u64,
 ) -> Ended
-    requires numbered { (note : _) → ⟦<Note<J> as Numbered>⟧.number note ≡ length note.front - 1 }
     ensures served { IsServed worker.old.number turns
         (moment_of P.told P.faults G.told G.faults N.told port.old gate.old notes.old (eyes_of D.looks D.greatest D.faults worker.old.viewer door.old) worker.old.count)
         (moment_of P.told P.faults G.told G.faults N.told port.new gate.new notes.new (eyes_of D.looks D.greatest D.faults worker.new.viewer door.new) worker.new.count) result }
@@ -144,7 +142,7 @@ fn serve_turns<J: Naming, P: Port, G: Gate, D: Door, N: Notes<Note = Note<J>>>(
 }
 
 /// Serves a port: in each turn asks the gate, learns the notes, and answers the next datagram.
-pub fn serve_port<J: Naming, P: Port, G: Gate, D: Door, N: Notes<Note = Note<J>>>(
+pub fn serve_port<J: Naming, P: Port, G: Gate, D: Door, N: Notes<Note<J>>>(
     worker: &mut Worker<J>,
     port: &mut P,
     gate: &mut G,
@@ -152,8 +150,6 @@ pub fn serve_port<J: Naming, P: Port, G: Gate, D: Door, N: Notes<Note = Note<J>>
     notes: &mut N,
     turns: u64,
 ) -> Ended
-    // What notes tell of themselves are the serials of the maps that they name.
-    requires numbered { (note : _) → ⟦<Note<J> as Numbered>⟧.number note ≡ length note.front - 1 }
     ensures call { IsLaneCall replies worker.old.number turns
         (moment_of P.told P.faults G.told G.faults N.told port.old gate.old notes.old (eyes_of D.looks D.greatest D.faults worker.old.viewer door.old) worker.old.count)
         (moment_of P.told P.faults G.told G.faults N.told port.new gate.new notes.new (eyes_of D.looks D.greatest D.faults worker.new.viewer door.new) worker.new.count) result }

@@ -66,7 +66,7 @@ impl<J: Naming> Worker<J> {
 
     /// The greatest serial that it used or was told of.
     pub fn known(&self) -> u64
-        ensures { result + 1 ≡ length self.now.viewer.told }
+        ensures { result + 1 ≡ length self.now.viewer.heard }
     {
         self.viewer.known()
     }
@@ -74,12 +74,12 @@ impl<J: Naming> Worker<J> {
     /// Tells it of a published map, and of no later one.
     pub fn learn<D: Door>(&mut self, door: &mut D, note: &Note<J>)
         ensures seen { self.new.viewer.seen ≡ self.old.viewer.seen }
-        ensures kept { IsPrefix self.old.viewer.told self.new.viewer.told }
-        ensures note { IsPrefix note.now.front self.new.viewer.told }
-        ensures one { (self.new.viewer.told ≡ self.old.viewer.told) ⊎ (self.new.viewer.told ≡ note.now.front) }
+        ensures kept { IsPrefix self.old.viewer.heard self.new.viewer.heard }
+        ensures note { IsPrefix note.now.front self.new.viewer.heard }
+        ensures one { (self.new.viewer.heard ≡ self.old.viewer.heard) ⊎ (self.new.viewer.heard ≡ note.now.front) }
         ensures same { (self.new.number ≡ self.old.number) × (self.new.count ≡ self.old.count) }
         ensures counts { (D.faults door.new ≡ D.faults door.old) × (D.looks door.new ≡ D.looks door.old) × (D.asked door.new ≡ D.asked door.old) }
-        ensures greatest { D.greatest door.new + 1 ≡ max (D.greatest door.old + 1) (length self.new.viewer.told) }
+        ensures greatest { D.greatest door.new + 1 ≡ max (D.greatest door.old + 1) (length self.new.viewer.heard) }
     {
         door.learn(&mut self.viewer, note);
     }

@@ -33,7 +33,7 @@ pub struct Point {
 
 /// How far two lanes and a feed have come, for all who hold them.
 #[derive(Drop)]
-pub struct Marks {
+pub struct Milestones {
     first_turns: AtomicU64,
     second_turns: AtomicU64,
     /// The newest serial that the pace was shown.
@@ -44,10 +44,10 @@ pub struct Marks {
     late: AtomicU64,
 }
 
-impl Marks {
+impl Milestones {
     /// Nothing has begun.
-    pub fn new() -> Marks {
-        Marks {
+    pub fn new() -> Milestones {
+        Milestones {
             first_turns: AtomicU64::new(0),
             second_turns: AtomicU64::new(0),
             newest: AtomicU64::new(0),

@@ -1,7 +1,7 @@
 //! A gate that holds its lane until others have come to a stated point.
 ghost use Rattle.std.specs.Prelude.{◌≤◌, Some, map, vec_capacity};
 
-use crate::hold::{HeldLane, Marks, Point};
+use crate::hold::{HeldLane, Milestones, Point};
 use crate::{Gate, MemShown, Turning};
 use no_memory::NoMemory;
 use std::alloc::Global;
@@ -10,7 +10,7 @@ use std::alloc::Global;
 /// `Stop`.
 #[derive(Drop)]
 pub struct HoldGate<'a> {
-    marks: &'a Marks,
+    milestones: &'a Milestones,
     lane: HeldLane,
     points: Vec<Point>,
     turns: Vec<MemShown>,
@@ -24,13 +24,13 @@ impl<'a> HoldGate<'a> {
     /// One of that lane, which waits at these turns, and has room to note so many.
     pub fn new(
         alloc: Global,
-        marks: &'a Marks,
+        milestones: &'a Milestones,
         lane: HeldLane,
         points: Vec<Point>,
         room: usize,
     ) -> Result<HoldGate<'a>, NoMemory> {
         Ok(HoldGate {
-            marks,
+            milestones,
             lane,
             points,
             turns: Vec::with_capacity(alloc, room)?,
@@ -54,14 +54,14 @@ impl Gate for HoldGate<'_> {
     ghost faults = { λ g. g.faults };
 
     fn turn(&mut self, known: u64) -> Turning {
-        self.marks.begin_turn(self.lane);
+        self.milestones.begin_turn(self.lane);
         if self.turns.len() >= self.room {
             self.is_stopped = true;
             self.faults = self.faults.saturating_add(1);
             return Turning::Stop;
         }
         let at = self.turns.len() as u64;
-        let go = self.marks.wait_all(self.points.as_slice(), at);
+        let go = self.milestones.wait_all(self.points.as_slice(), at);
         self.turns.push_reserved(MemShown { known, go });
         if go {
             Turning::Go

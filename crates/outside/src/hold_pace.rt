@@ -1,7 +1,7 @@
 //! A pace that holds its feed until lanes have come to a stated point.
 ghost use Rattle.outside.specs.MemPace.{paced};
 
-use crate::hold::{Marks, Point};
+use crate::hold::{Milestones, Point};
 use crate::{MemPace, Pace, PaceCall};
 use no_memory::NoMemory;
 use std::alloc::Global;
@@ -9,7 +9,7 @@ use std::alloc::Global;
 /// A pace that holds its feed ahead of stated commits. Where its room is used up it tells no more.
 #[derive(Drop)]
 pub struct HoldPace<'a> {
-    marks: &'a Marks,
+    milestones: &'a Milestones,
     points: Vec<Point>,
     noted: MemPace,
 }
@@ -18,12 +18,12 @@ impl<'a> HoldPace<'a> {
     /// One that waits at these calls, and has room to note so many.
     pub fn new(
         alloc: Global,
-        marks: &'a Marks,
+        milestones: &'a Milestones,
         points: Vec<Point>,
         room: usize,
     ) -> Result<HoldPace<'a>, NoMemory> {
         Ok(HoldPace {
-            marks,
+            milestones,
             points,
             noted: MemPace::new(alloc, room)?,
         })
@@ -41,15 +41,15 @@ impl Pace for HoldPace<'_> {
     ghost faults = { λ p. p.noted.faults };
 
     fn before(&mut self, newest: u64) {
-        self.marks.show(newest);
+        self.milestones.show(newest);
         let at = self.noted.calls().len() as u64;
         self.noted.before(newest);
-        let _ = self.marks.wait_all(self.points.as_slice(), at);
+        let _ = self.milestones.wait_all(self.points.as_slice(), at);
     }
 
     fn done(&mut self, newest: u64) {
-        self.marks.show(newest);
-        self.marks.finish();
+        self.milestones.show(newest);
+        self.milestones.finish();
         self.noted.done(newest);
     }
 }

@@ -35,7 +35,7 @@ mod streams;
 
 pub use file::{Contents, File, NotedLoad};
 pub use gate::{Gate, Turning};
-pub use hold::{HeldLane, Marks, Point, Wanted};
+pub use hold::{HeldLane, Milestones, Point, Wanted};
 pub use hold_gate::HoldGate;
 pub use hold_pace::HoldPace;
 pub use limits::{LARGEST_DATAGRAM, LARGEST_REPLY, MOST_NOTES};

@@ -59,9 +59,7 @@ impl<T: Drop> MemNotes<T> {
     }
 }
 
-impl<T: Drop + Numbered> Notes for MemNotes<T> {
-    type Note = T;
-
+impl<T: Drop + Numbered> Notes<T> for MemNotes<T> {
     ghost use Rattle.std.specs.Prelude.{length};
 
     ghost told = { λ s. Some (noted T.number s) };

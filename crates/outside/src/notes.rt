@@ -10,11 +10,9 @@ pub trait Numbered {
     ghost number: { Self → ℕ };
 }
 
-/// Notes that a worker is given, one after another. They end, so that it can read all that are there.
-pub trait Notes {
-    /// What names a map.
-    type Note: Numbered;
-
+/// Notes of one kind that a worker is given, one after another; each names a map. They end, so that it can read all that
+/// are there.
+pub trait Notes<T: Numbered> {
     /// The numbers of those that are to come, and how many answers were `None`, where they tell that.
     ghost told: { Self → Option NotesTold };
 
@@ -22,8 +20,8 @@ pub trait Notes {
     ghost left: { Self → ℕ };
 
     /// The next note, if one is there now.
-    fn next(&mut self) -> Option<Self::Note>
-        ensures next { BothTell (told self.old) (told self.new) (IsNextNote (option_map Self.Note.number result)) }
+    fn next(&mut self) -> Option<T>
+        ensures next { BothTell (told self.old) (told self.new) (IsNextNote (option_map T.number result)) }
         ensures few { left self.old ≤ MOST_NOTES }
         ensures some { IfSome result (λ _. left self.new < left self.old) }
         ensures none { IfNone result (left self.new ≡ left self.old) };

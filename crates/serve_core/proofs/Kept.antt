@@ -7,7 +7,7 @@ use Rattle.map_model.specs.Market.{IsSameShape, Market}
 use Rattle.map_model.specs.Batch.{IsApplied, IsBatch, IsChange}
 use Rattle.published_map.specs.Version.{IsVersion, Version}
 use Rattle.lane_model.specs.Histories.{Follows}
-use Rattle.lane_model.specs.Kept.{AreKeptLanes, IsKept}
+use Rattle.lane_model.specs.Lawful.{AreKeptLanes, IsLawful}
 use Rattle.lane_model.specs.Machine.{IsStep, LaneState, Machine, fresh}
 use Rattle.lane_model.specs.Machine as machine
 use Rattle.lane_model.specs.Replies.{replies}
@@ -102,7 +102,7 @@ fresh_kept : (v : Version) (n at : ℕ) → AreKeptLanes replies (v ∷ []) at (
 fresh_kept v zero at = tt
 fresh_kept v (suc n) at = ((refl, omega arith), omega arith, fresh_kept v n (at + 1))
 
-pub opened_kept : (v : Version) (n : ℕ) → IsKept replies Follows v (record { history = v ∷ []; lanes = replicate n fresh })
+pub opened_kept : (v : Version) (n : ℕ) → IsLawful replies Follows v (record { history = v ∷ []; lanes = replicate n fresh })
 opened_kept v n = record { rest = []; history = refl; goes_on = tt; lanes = fresh_kept v n 0 }
 
 -- an event for one market is one for any of its shape
@@ -127,8 +127,8 @@ still_for (Tell lane serial) es m m' t h v is =
 still_for (Take lane octets from serial way) es m m' t h v is =
     let step : IsStep replies Follows (machine.take lane (record { octets = octets; from = from }) serial way) m m' = subst (λ (x : machine.Event Version). IsStep replies Follows x m m') t.1 t.2 in h v (ap newest_of (sym step.0) ∙ is)
 
-pub kept_as : (v : Version) (n : ℕ) (h : List Version) (lanes : List LaneState) → h ≡ v ∷ [] → lanes ≡ replicate n fresh → IsKept replies Follows v (record { history = h; lanes = lanes })
-kept_as v n h lanes a b = subst (λ (g : List Version). IsKept replies Follows v (record { history = g; lanes = lanes })) (sym a) (subst (λ (ls : List LaneState). IsKept replies Follows v (record { history = v ∷ []; lanes = ls })) (sym b) (opened_kept v n))
+pub kept_as : (v : Version) (n : ℕ) (h : List Version) (lanes : List LaneState) → h ≡ v ∷ [] → lanes ≡ replicate n fresh → IsLawful replies Follows v (record { history = h; lanes = lanes })
+kept_as v n h lanes a b = subst (λ (g : List Version). IsLawful replies Follows v (record { history = g; lanes = lanes })) (sym a) (subst (λ (ls : List LaneState). IsLawful replies Follows v (record { history = v ∷ []; lanes = ls })) (sym b) (opened_kept v n))
 
 pub reverse_twice : {A : Type 0} (xs : List A) → reverse (reverse xs) ≡ xs
 reverse_twice [] = refl
@@ -147,5 +147,5 @@ pub refused_here : (e : Event) (es : List Event) (m m' : Machine Version) (f : S
 refused_here e es m m' f r same = inr (f, refl, same, r)
 
 -- one event keeps what the machine keeps
-pub kept_step : (e : Event) (m m' : Machine Version) (first : Version) → Takes e m m' → IsKept replies Follows first m → IsKept replies Follows first m'
+pub kept_step : (e : Event) (m m' : Machine Version) (first : Version) → Takes e m m' → IsLawful replies Follows first m → IsLawful replies Follows first m'
 kept_step e m m' first t kept = all_kept replies Follows first (t.0 ∷ []) m m' (m', t.2, refl) kept

@@ -7,9 +7,9 @@ use Rattle.outside.specs.Port.{Packet}
 use Rattle.published_map.specs.Version.{Version}
 use Rattle.answer_core.specs.declared.way.Way.{Way}
 use Rattle.lane_model.specs.Histories.{Follows}
-use Rattle.lane_model.specs.Kept.{IsKept}
+use Rattle.lane_model.specs.Lawful.{IsLawful}
 use Rattle.lane_model.specs.Lanes.{draw}
-use Rattle.lane_model.specs.Machine.{IsMoved, IsStep, IsTaken, LaneState, Machine, Takes, fresh, told}
+use Rattle.lane_model.specs.Machine.{IsMoved, IsStep, IsTaken, LaneState, Machine, Takes, fresh, heard}
 use Rattle.lane_model.specs.Machine as machine
 use Rattle.lane_model.specs.Replies.{replies}
 use Rattle.lane_model.proofs.Keeps.{all_kept}
@@ -30,8 +30,8 @@ moved_set (x ∷ xs) (suc k) d l' lt =
 
 -- a lane learns of a serial
 pub tell_step : (m : Machine Version) (lane serial : ℕ) → lane < length m.lanes → serial < length m.history
-    → IsStep replies Follows (machine.tell lane serial) m (record m { lanes = slice_set m.lanes lane (told serial (slice_index_or m.lanes lane fresh)) })
-tell_step m lane serial lt there = (there, refl, (slice_index_or m.lanes lane fresh, moved_set m.lanes lane fresh (told serial (slice_index_or m.lanes lane fresh)) lt))
+    → IsStep replies Follows (machine.tell lane serial) m (record m { lanes = slice_set m.lanes lane (heard serial (slice_index_or m.lanes lane fresh)) })
+tell_step m lane serial lt there = (there, refl, (slice_index_or m.lanes lane fresh, moved_set m.lanes lane fresh (heard serial (slice_index_or m.lanes lane fresh)) lt))
 
 takes : (h : List Version) (v : Version) (w : ℕ) (d : Packet) (s : ℕ) (way : Way) (old new : LaneState) → IsTakenBy v w d s way old new → slice_get h s ≡ Some v → s < length h → old.seen ≤ s → Takes replies h w d s way old new
 takes h v w d s way old new (inl none) there lt le = (le, lt, inl (none_silent v d.from.addr d.octets (draw w old.count) way none.0, none.1))
@@ -59,7 +59,7 @@ run_taken (e ∷ es) m m' fault r =
     (λ (q : (f : StepFault) × (fault ≡ Some f) × (m' ≡ m) × IsRefused e m f). ([], q.2)) r
 
 -- what a run keeps: a history, and lanes that are lane runs over it
-pub run_kept : (es : List Event) (m m' : Machine Version) (fault : Option StepFault) (first : Version) → RunsTo es m m' fault → IsKept replies Follows first m → IsKept replies Follows first m'
+pub run_kept : (es : List Event) (m m' : Machine Version) (fault : Option StepFault) (first : Version) → RunsTo es m m' fault → IsLawful replies Follows first m → IsLawful replies Follows first m'
 run_kept es m m' fault first r kept = let taken = run_taken es m m' fault r in all_kept replies Follows first taken.0 m m' taken.1 kept
 
 -- what a commit, a tell and a take of the code do are events of the machine
@@ -68,7 +68,7 @@ did_commit m m' batch map (Ok u) h = (machine.commit h.0, (h.0, refl, h.1), ((h.
 did_commit m m' batch map (Err e) h = tt
 
 pub did_tell : (m m' : Machine Version) (lane serial : ℕ) (r : Result (Unit {0}) StepFault)
-    → OnOk r ((lane < length m.lanes) × (serial < length m.history) × (m' ≡ record m { lanes = slice_set m.lanes lane (told serial (events.lane_at m lane)) })) → OnOk r (events.Takes (Tell lane serial) m m')
+    → OnOk r ((lane < length m.lanes) × (serial < length m.history) × (m' ≡ record m { lanes = slice_set m.lanes lane (heard serial (events.lane_at m lane)) })) → OnOk r (events.Takes (Tell lane serial) m m')
 did_tell m m' lane serial (Ok u) h = (machine.tell lane serial, refl, subst (λ (x : Machine Version). IsStep replies Follows (machine.tell lane serial) m x) (sym h.2) (tell_step m lane serial h.0 h.1))
 did_tell m m' lane serial (Err e) h = tt
 

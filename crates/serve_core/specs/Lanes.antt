@@ -5,8 +5,8 @@ use Rattle.lane_model.specs.Lanes.{Entry}
 use Rattle.serve_core.specs.declared.lane.TakenRow.{TakenRow}
 use Rattle.serve_core.specs.declared.lane.TryRow.{TryRow}
 
-abbrev pub entry_of : TakenRow → Entry
-entry_of t = record { packet = record { octets = t.octets; from = t.from }; known = t.known; way = t.way }
+abbrev pub entry_of_row : TakenRow → Entry
+entry_of_row t = record { packet = record { octets = t.octets; from = t.from }; known = t.known; way = t.way }
 
-abbrev pub try_of : TryRow → Try
-try_of t = record { octets = t.octets.items; to = t.to; serial = t.serial; went = true }
+abbrev pub try_of_row : TryRow → Try
+try_of_row t = record { octets = t.octets.items; to = t.to; serial = t.serial; went = true }

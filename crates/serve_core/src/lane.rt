@@ -1,8 +1,8 @@
 //! One lane of the machine.
 ghost use Rattle.std.specs.Prelude.{◌≡◌, true, OnOk, OnErr};
-ghost use Rattle.lane_model.specs.Machine.{fresh, passed, replied, told};
+ghost use Rattle.lane_model.specs.Machine.{fresh, passed, replied, heard};
 ghost use Rattle.published_map.specs.Version.{IsVersion};
-ghost use Rattle.serve_core.specs.Lanes.{entry_of};
+ghost use Rattle.serve_core.specs.Lanes.{entry_of_row};
 ghost use Rattle.serve_core.specs.Takings.{IsTakenBy};
 
 use crate::octets::Octets;
@@ -45,11 +45,11 @@ pub struct LaneRow {
 impl Model for LaneRow {
     ghost use Rattle.std.specs.Prelude.{map};
     ghost use Rattle.lane_model.specs.Machine.{LaneState};
-    ghost use Rattle.serve_core.specs.Lanes.{entry_of, try_of};
+    ghost use Rattle.serve_core.specs.Lanes.{entry_of_row, try_of_row};
 
     ghost Value = { LaneState };
 
-    ghost view = { λ l. record { seen = l.seen; count = l.count; taken = map entry_of l.taken.items; tries = map try_of l.tries.items } };
+    ghost view = { λ l. record { seen = l.seen; count = l.count; taken = map entry_of_row l.taken.items; tries = map try_of_row l.tries.items } };
 }
 
 impl LaneRow {
@@ -74,14 +74,14 @@ impl LaneRow {
 
     /// Learns of a serial.
     pub fn tell(&mut self, serial: u64)
-        ensures { self.new ≡ told serial self.old }
+        ensures { self.new ≡ heard serial self.old }
     {
         self.seen = self.seen.max(serial);
     }
 
     /// A datagram, with what the lane knows.
     fn row(&self, octets: Octets, from: Peer, way: Way) -> TakenRow
-        ensures { entry_of result ≡ record { packet = record { octets = octets; from = from }; known = self.now.seen; way = way } }
+        ensures { entry_of_row result ≡ record { packet = record { octets = octets; from = from }; known = self.now.seen; way = way } }
     {
         TakenRow {
             octets,

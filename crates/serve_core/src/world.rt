@@ -2,8 +2,8 @@
 ghost use Rattle.std.specs.Prelude.{◌≡◌, ◌≤◌, ◌<◌, ◌+◌, ◌∷◌, ◌++◌, [], All, Some, length, replicate, reverse, slice_get, slice_set, IfOk, IfErr, OnOk, OnErr};
 ghost use Rattle.std.specs.Result.{result_err};
 ghost use Rattle.lane_model.specs.Histories.{Follows};
-ghost use Rattle.lane_model.specs.Kept.{IsKept};
-ghost use Rattle.lane_model.specs.Machine.{fresh, told};
+ghost use Rattle.lane_model.specs.Lawful.{IsLawful};
+ghost use Rattle.lane_model.specs.Machine.{fresh, heard};
 ghost use Rattle.lane_model.specs.Replies.{replies};
 ghost use Rattle.std.specs.Arc.{arc_value};
 ghost use Rattle.published_map.specs.Shared.{LooksUp, plan_of};
@@ -96,7 +96,7 @@ impl World {
         requires serial { version.serial ≡ 0 }
         requires market { version.market ≡ version.plan.market }
         ensures world { IfOk result (λ w. w ≡ record { history = version ∷ []; lanes = replicate lanes fresh }) }
-        ensures kept { IfOk result (λ w. IsKept replies Follows version w) }
+        ensures kept { IfOk result (λ w. IsLawful replies Follows version w) }
     {
         let instance = version.topology().instance().try_clone()?;
         let mut rows = Vec::with_capacity(alloc, lanes as usize)?;
@@ -157,7 +157,7 @@ impl World {
 
     /// Lets a lane learn of a serial.
     fn tell(&mut self, lane: u8, serial: u64) -> Result<(), StepFault>
-        ensures ok { OnOk result ((lane < length self.old.lanes) × (serial < length self.old.history) × (self.new ≡ record self.old { lanes = slice_set self.old.lanes lane (told serial (lane_at self.old lane)) })) }
+        ensures ok { OnOk result ((lane < length self.old.lanes) × (serial < length self.old.history) × (self.new ≡ record self.old { lanes = slice_set self.old.lanes lane (heard serial (lane_at self.old lane)) })) }
         ensures refused { IfErr result (IsRefused (Event.Tell lane serial) self.old) }
         ensures same { OnErr result (self.new ≡ self.old) }
     {
@@ -235,7 +235,7 @@ impl World {
     pub fn run(&mut self, events: Vec<Event>) -> Result<(), StepFault>
         requires { (v : Version) → newest_of self.old.history ≡ Some v → All (IsEventFor v.market) events.items }
         ensures runs { RunsTo events.items self.old self.new (result_err result) }
-        ensures kept { (first : Version) → IsKept replies Follows first self.old → IsKept replies Follows first self.new }
+        ensures kept { (first : Version) → IsLawful replies Follows first self.old → IsLawful replies Follows first self.new }
         ensures minded { AreMinded events.items self.old self.new (result_err result) }
     {
         let mut behind = backwards(events);

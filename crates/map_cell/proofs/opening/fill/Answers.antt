@@ -12,8 +12,8 @@ loop-preserved g c = record {
   same = c.admit.ensures.same ∙ c.loop.invariant.same;
   size = omega (arith, c.push_reserved.ensures.len, c.loop.invariant.size);
   room = c.push_reserved.ensures.capacity ∙ c.loop.invariant.room;
-  seen = let one : (c.in_ok-viewer.viewer.seen ≡ c.args.publisher.now.history) × (c.in_ok-viewer.viewer.told ≡ c.args.publisher.now.history) = rw (← c.loop.invariant.same) c.in_ok-viewer.ensures.seen in
-      rw c.push_reserved.ensures.items (All-push (λ v. (v.seen ≡ c.args.publisher.now.history) × (v.told ≡ c.args.publisher.now.history)) c.loop.made.items c.in_ok-viewer.viewer c.loop.invariant.seen one);
+  seen = let one : (c.in_ok-viewer.viewer.seen ≡ c.args.publisher.now.history) × (c.in_ok-viewer.viewer.heard ≡ c.args.publisher.now.history) = rw (← c.loop.invariant.same) c.in_ok-viewer.ensures.seen in
+      rw c.push_reserved.ensures.items (All-push (λ v. (v.seen ≡ c.args.publisher.now.history) × (v.heard ≡ c.args.publisher.now.history)) c.loop.made.items c.in_ok-viewer.viewer c.loop.invariant.seen one);
   faults = c.admit.ensures.stays (λ h. cc (h, c.in_ok-viewer.is)) ∙ c.loop.invariant.faults;
   asked = c.admit.ensures.counts.0 ∙ (ap (λ (n : ℕ). raised n 1) c.loop.invariant.asked ∙ raised_more (g.D.Door.asked c.args.door.now) c.loop.counter 1);
   looks = c.admit.ensures.counts.1 ∙ c.loop.invariant.looks;

@@ -10,7 +10,7 @@ loop-note-preserved g c =
     let l = c.learn.ensures in
     let le = prefix_length _ _ l.kept in
     let has = prefix_length _ _ l.note in (
-      given_more _ _ _ _ _ _ i.0 c.in-Some.ensures.next le (omega (arith, has, c.requires.numbered c.in-Some.note, c.in-Some.note.some)),
+      given_more _ _ _ _ _ _ i.0 c.in-Some.ensures.next le (omega (arith, has, c.in-Some.note.some)),
       rise_trans _ _ _ i.1 (rise_learned _ _ l.seen l.kept l.greatest l.counts.0),
       l.counts.1 ∙ i.2,
       l.seen ∙ i.3,

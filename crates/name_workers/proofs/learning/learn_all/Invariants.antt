@@ -1,11 +1,11 @@
 use Rattle.std.proofs.Common.{◌≡◌, length}
-use Rattle.lane_model.specs.Sessions.{IsRise}
+use Rattle.lane_model.specs.Calls.{IsRise}
 use Rattle.name_workers.specs.Given.{AreGivenSoFar}
 use Rattle.name_workers.specs.Moments.{eyes_of}
 use Rattle.name_workers.proofs.learning.learn_all.Given as goal
 
 abbrev pub invariant-loop-note : goal.invariant-loop-note
-invariant-loop-note g l = AreGivenSoFar (g.N.Notes.told l.fn.notes) (g.N.Notes.told l.notes) (length l.worker.viewer.told)
+invariant-loop-note g l = AreGivenSoFar (g.N.Notes.told l.fn.notes) (g.N.Notes.told l.notes) (length l.worker.viewer.heard)
     × IsRise (eyes_of g.D.Door.looks g.D.Door.greatest g.D.Door.faults l.fn.worker.viewer l.fn.door) (eyes_of g.D.Door.looks g.D.Door.greatest g.D.Door.faults l.worker.viewer l.door)
     × (g.D.Door.looks l.door ≡ g.D.Door.looks l.fn.door) × (l.worker.viewer.seen ≡ l.fn.worker.viewer.seen) × (l.worker.count ≡ l.fn.worker.count) × (l.worker.number ≡ l.fn.worker.number) × (g.D.Door.asked l.door ≡ g.D.Door.asked l.fn.door) × (g.D.Door.faults l.door ≡ g.D.Door.faults l.fn.door)
 

@@ -1,6 +1,6 @@
 use Rattle.std.proofs.Common.{sym, ◌∙◌, ap}
 use Rattle.map_cell.specs.Histories.{MayFollow}
-use Rattle.map_cell.specs.Asks.{asked}
+use Rattle.map_cell.specs.Additions.{added}
 use Rattle.map_cell.proofs.Adding.{adds_moves}
 use Rattle.map_cell.proofs.front.Front.add.Goals as goal
 
@@ -9,10 +9,10 @@ compare_exchange-found-requires g c =
     let h = c.args.book.now.head_is in
     let offer = c.plain-offer.ensures in
     let pen = c.no_pen-pen.ensures in
-    let may : MayFollow c.self.inside.seen.log (asked c.args.about.now) = rw c.self.view_is c.requires.next in (
+    let may : MayFollow c.self.inside.seen.log (added c.args.about.now) = rw c.self.view_is c.requires.next in (
       ap (λ w. w.tracked) h,
       c.self.invariant.1 ∙ sym (ap (λ w. w.book) h),
       pen.0 ∙ (c.self.invariant.1 ∙ sym (ap (λ w. w.book) h)),
       offer.0,
-      rw (ap (λ w. w.key) h, pen.1, offer.1, offer.3) (adds_moves c.self.inside.seen.log (asked c.args.about.now) c.self.inside.count (sym c.self.invariant.0) may),
+      rw (ap (λ w. w.key) h, pen.1, offer.1, offer.3) (adds_moves c.self.inside.seen.log (added c.args.about.now) c.self.inside.count (sym c.self.invariant.0) may),
     )

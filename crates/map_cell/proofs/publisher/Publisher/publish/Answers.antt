@@ -1,5 +1,5 @@
 use Rattle.std.proofs.Common.{rules, ◌≡◌, ◌+◌, ◌∷◌, ◌++◌, [], ap, sym, subst, ◌∙◌}
-use Rattle.map_cell.specs.Asks.{asked}
+use Rattle.map_cell.specs.Additions.{added}
 use Rattle.published_map.specs.Changes.{after}
 use Rattle.map_cell.specs.Ends.{PublisherState}
 use Rattle.published_map.specs.Version.{IsVersion}
@@ -9,7 +9,7 @@ use Rattle.map_cell.proofs.publisher.Publisher.publish.Goals as goal
 pub add-requires-clause-next : goal.add-requires-clause-next
 add-requires-clause-next g c =
     let v = c.self.inside.newest.value in
-    let e : asked c.next.result ≡ after v c.args.delta = search rules in
+    let e : added c.next.result ≡ after v c.args.delta = search rules in
     let good : IsVersion (after v c.args.delta) = subst (λ (p : PublisherState). IsVersion (after p.newest c.args.delta)) (sym c.self.view_is) c.requires.good in
     rw (c.again-front.ensures, e) (may_follow c.self.inside.front v c.args.delta c.len.ensures.history c.self.invariant.1 good)
 

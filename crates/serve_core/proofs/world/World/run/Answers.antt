@@ -1,7 +1,7 @@
 use Rattle.std.proofs.Common.{rules, ◌≡◌, ◌∙◌, ◌∷◌, suc, List, All, None, Some, reverse, ap, sym, subst, arith}
 use Rattle.published_map.specs.Version.{Version}
 use Rattle.lane_model.specs.Histories.{Follows}
-use Rattle.lane_model.specs.Kept.{IsKept}
+use Rattle.lane_model.specs.Lawful.{IsLawful}
 use Rattle.lane_model.specs.Machine.{Machine}
 use Rattle.lane_model.specs.Replies.{replies}
 use Rattle.serve_core.specs.declared.event.Event.{Event}
@@ -43,7 +43,7 @@ returns-in-Err-clause-runs c =
     c.loop-event.invariant.0 c.step.new.self (Some c.in-Err.fault) (subst (λ (es : List Event). RunsTo es m c.step.new.self (Some c.in-Err.fault)) (sym front) (refused_here e rest m c.step.new.self c.in-Err.fault c.in-Err.ensures.refused c.in-Err.ensures.same))
 
 pub returns-in-Err-clause-kept : goal.returns-in-Err-clause-kept
-returns-in-Err-clause-kept c = λ first kept. subst (λ (m : Machine Version). IsKept replies Follows first m) (sym c.in-Err.ensures.same) (c.loop-event.invariant.2 first kept)
+returns-in-Err-clause-kept c = λ first kept. subst (λ (m : Machine Version). IsLawful replies Follows first m) (sym c.in-Err.ensures.same) (c.loop-event.invariant.2 first kept)
 
 pub returns-in-Err-clause-minded : goal.returns-in-Err-clause-minded
 returns-in-Err-clause-minded c = run_minded c.args.events.items c.args.self.now c.step.new.self (Some c.in-Err.fault) (returns-in-Err-clause-runs c)

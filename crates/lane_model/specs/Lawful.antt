@@ -18,7 +18,7 @@ AreKeptLanes a h at [] = Unit {0}
 AreKeptLanes a h at (l ∷ lanes) = IsRunTo a h at 0 0 l.taken l.tries l.count l.seen × (l.seen < length h) × AreKeptLanes a h (at + 1) lanes
 
 -- the history goes on from its first version, and the lanes are lane runs over it
-pub record IsKept {V : Type 0} (a : Answers V) (F : List V → V → Type 0) (first : V) (m : Machine V) : Type 0 where
+pub record IsLawful {V : Type 0} (a : Answers V) (F : List V → V → Type 0) (first : V) (m : Machine V) : Type 0 where
   pub rest : List V
   pub history : m.history ≡ first ∷ rest
   pub goes_on : GoesOn F (first ∷ []) rest

@@ -14,7 +14,7 @@ use Rattle.lane_model.specs.Turns.{Turn, AreCalm, AreGiven, IsCame, IsGiven, IsT
 -- what a viewer has seen and was told of, and its door's numbers
 pub record Eyes (V : Type 0) : Type 0 where
   pub seen : List V
-  pub told : List V
+  pub heard : List V
   pub looks : ℕ
   pub greatest : ℕ
   pub faults : ℕ
@@ -32,9 +32,9 @@ pub record Moment (V : Type 0) : Type 0 where
 -- what is seen only grows; what is known is at most what was known before, or what the door showed or learned, and the other way round
 pub record IsRise {V : Type 0} (e f : Eyes V) : Type 0 where
   pub seen : IsPrefix e.seen f.seen
-  pub told : IsPrefix e.told f.told
-  pub above : length f.told ≤ max (length e.told) (f.greatest + 1)
-  pub greatest : f.greatest + 1 ≤ max (e.greatest + 1) (length f.told)
+  pub heard : IsPrefix e.heard f.heard
+  pub above : length f.heard ≤ max (length e.heard) (f.greatest + 1)
+  pub greatest : f.greatest + 1 ≤ max (e.greatest + 1) (length f.heard)
   pub rising : e.greatest ≤ f.greatest
   pub faults : e.faults ≤ f.faults
 
@@ -43,14 +43,14 @@ pub record IsTurn {V : Type 0} (a : Answers V) (w : ℕ) (t : Turn) (m m' : Mome
   pub gate : BothTell m.gate m'.gate (λ b c. c ≡ going t.shown b)
   pub notes : BothTell m.notes m'.notes (IsGiven t.notes)
   pub port : BothTell m.port m'.port (λ b c. c ≡ port_after t.known t.came b)
-  pub shown : t.shown + 1 ≡ length m.eyes.told
+  pub shown : t.shown + 1 ≡ length m.eyes.heard
   pub known : t.shown ≤ t.known
   pub noted : All (λ s. s ≤ t.known) t.notes
   pub came : IsCame a m'.eyes.seen w m.count t.known t.came
   pub count : m'.count ≡ count_after m.count t.came
   pub eyes : IsRise m.eyes m'.eyes
   pub floor : t.known ≤ floor_after t.known t.came
-  pub knows : floor_after t.known t.came < length m'.eyes.told
+  pub knows : floor_after t.known t.came < length m'.eyes.heard
   pub looks : m'.eyes.looks ≡ raised m.eyes.looks (looks_of t.came)
   pub port_faults : raised m.port_faults (fails_of t.came) ≤ m'.port_faults
   pub port_stays : fails_of t.came ≡ 0 → m'.port_faults ≡ m.port_faults
@@ -59,14 +59,14 @@ pub record IsTurn {V : Type 0} (a : Answers V) (w : ℕ) (t : Turn) (m m' : Mome
   pub stays : is_refused t.came ≡ false → m'.eyes.faults ≡ m.eyes.faults
 
 -- some turns, one after the other
-abbrev pub IsSession : {V : Type 0} → Answers V → ℕ → List Turn → Moment V → Moment V → Type 0
-IsSession a w [] m m' = m' ≡ m
-IsSession {V = V} a w (t ∷ log) m m' = (mid : Moment V) × IsTurn a w t m mid × IsSession a w log mid m'
+abbrev pub AreTurns : {V : Type 0} → Answers V → ℕ → List Turn → Moment V → Moment V → Type 0
+AreTurns a w [] m m' = m' ≡ m
+AreTurns {V = V} a w (t ∷ log) m m' = (mid : Moment V) × IsTurn a w t m mid × AreTurns a w log mid m'
 
 -- the gate answered Stop, and nothing else was asked
 pub record IsStop {V : Type 0} (m m' : Moment V) : Type 0 where
   pub shown : ℕ
-  pub is_known : shown + 1 ≡ length m.eyes.told
+  pub is_known : shown + 1 ≡ length m.eyes.heard
   pub gate : BothTell m.gate m'.gate (IsTurning shown Stop)
   pub later : m.gate_faults ≤ m'.gate_faults
   pub rest : m' ≡ record m { gate = m'.gate; gate_faults = m'.gate_faults }
@@ -96,13 +96,13 @@ IsGateRun shown log _ before after = after ≡ fold gate_turn before log
 
 -- What a call of a lane promises, over the turns that it made: a lane run over what its viewer has seen by then; that what was told is minded; what port and notes tell by then; one look for each datagram that isn't silent; that nothing that was handed out is past what is known by then; that the port's count rose by at least as many as its calls failed, and stands where none did; that the door's count rose where a look was refused, and stands where none was; that a datagram whose look was refused has a reply, which it missed; and that datagrams are counted on.
 pub record IsLaneLog {V : Type 0} (a : Answers V) (w : ℕ) (log : List Turn) (m m' : Moment V) : Type 0 where
-  pub run : (floor : ℕ) → floor < length m.eyes.told → IsLaneRun a m'.eyes.seen w m.count floor (entries_of a.way log) (tries_of log)
-  pub told : (floor : ℕ) → floor < length m.eyes.told → IsTold floor log
+  pub run : (floor : ℕ) → floor < length m.eyes.heard → IsLaneRun a m'.eyes.seen w m.count floor (entries_of a.way log) (tries_of log)
+  pub told : (floor : ℕ) → floor < length m.eyes.heard → IsTold floor log
   pub port : BothTell m.port m'.port (λ b c. c ≡ fold port_turn b log)
   pub notes : BothTell m.notes m'.notes (AreGiven log)
   pub rise : IsRise m.eyes m'.eyes
-  pub known : All (λ t. t.known < length m'.eyes.told) log
-  pub within : All (λ t. floor_after t.known t.came < length m'.eyes.told) log
+  pub known : All (λ t. t.known < length m'.eyes.heard) log
+  pub within : All (λ t. floor_after t.known t.came < length m'.eyes.heard) log
   pub looks : m'.eyes.looks ≡ raised m.eyes.looks (sum_by (λ t. looks_of t.came) log)
   pub port_faults : raised m.port_faults (failures log) ≤ m'.port_faults
   pub port_stays : failures log ≡ 0 → m'.port_faults ≡ m.port_faults
@@ -115,7 +115,7 @@ pub record IsLaneLog {V : Type 0} (a : Answers V) (w : ℕ) (log : List Turn) (m
 pub record IsLaneCall {V : Type 0} (a : Answers V) (w turns : ℕ) (m m' : Moment V) (result : Ended) : Type 0 where
   pub log : List Turn
   pub shown : ℕ
-  pub shown_is : shown + 1 ≡ length m'.eyes.told
+  pub shown_is : shown + 1 ≡ length m'.eyes.heard
   pub all : IsLaneLog a w log m m'
   pub gate : BothTell m.gate m'.gate (IsGateRun shown log result)
   pub ending : IsEnd turns log result
