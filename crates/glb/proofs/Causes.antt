@@ -8,20 +8,22 @@ use Rattle.outside.specs.Port.{PortTold}
 use Rattle.published_map.specs.Version.{Version}
 use Rattle.lane_model.specs.declared.ended.Ended.{Ended}
 use Rattle.lane_model.specs.declared.ended.Ended.TheVariants as lane
-use Rattle.lane_model.specs.Sessions.{IsEnd}
+use Rattle.lane_model.specs.Calls.{IsEnd}
 use Rattle.lane_model.proofs.Calls.{failed_last}
 use Rattle.lane_model.specs.Turns.{Came, Turn, failures, idle, oversize, ended, failed, took, silent, refused, tried, is_refused, port_after, port_turn, refused_of}
 use Rattle.demand_feed.specs.declared.run.FeedEnd.{FeedEnd}
 use Rattle.demand_feed.specs.declared.run.FeedEnd.TheVariants as feed
 use Rattle.drive.specs.Closing.{shut}
-use Rattle.drive.specs.Done.{IsDone, IsOverNewest, IsOverPast, IsOverSeen, LaneTold}
+use Rattle.drive.specs.Done.{IsDone, IsOverNewest, IsOverPast, IsOverSeen, IsServedLog, LaneTold, ServerTold}
+use Rattle.lane_model.specs.Lanes.{Answers}
+use Rattle.lane_model.specs.Replies.{replies}
 use Rattle.drive.specs.Driven.{AreDone}
 use Rattle.glb.specs.declared.status.Status.TheVariants as status
 use Rattle.glb.specs.Causes.{AnyLane, HasCellFault, HasEightPortFaults, HasTaken}
 use Rattle.glb.specs.Serve.{is_cell_fault, is_port_fault, is_spent, status_by, status_of}
 use Rattle.glb.proofs.Loads.{tell_weaker}
 
-is_port : (e : Ended) → is_port_fault e ≡ true → e ≡ lane.PortFault
+pub is_port : (e : Ended) → is_port_fault e ≡ true → e ≡ lane.PortFault
 is_port lane.PortFault h = refl
 is_port lane.Stopped h = absurd (cc)
 is_port lane.PortEnd h = absurd (cc)
@@ -29,7 +31,7 @@ is_port lane.CellFault h = absurd (cc)
 is_port (lane.Above known newest) h = absurd (cc)
 is_port lane.Spent h = absurd (cc)
 
-is_over : (e : Ended) → is_spent e ≡ true → e ≡ lane.Spent
+pub is_over : (e : Ended) → is_spent e ≡ true → e ≡ lane.Spent
 is_over lane.Spent h = refl
 is_over lane.Stopped h = absurd (cc)
 is_over lane.PortEnd h = absurd (cc)
@@ -46,18 +48,18 @@ shut_is e (lane.Above known newest) other h = sym h
 shut_is e lane.Stopped other h = let clash : is_cell_fault lane.CellFault ≡ false = subst (λ (x : Ended). is_cell_fault x ≡ false) h other in absurd (cc)
 shut_is e lane.PortEnd other h = let clash : is_cell_fault lane.CellFault ≡ false = subst (λ (x : Ended). is_cell_fault x ≡ false) h other in absurd (cc)
 
-served_is : (turns : ℕ) (first : Version) (rest : List Version) (w : ℕ) (b c : LaneTold) (e : Ended) → is_cell_fault e ≡ false → (d : IsDone turns first rest w b c e) → d.served ≡ e
-served_is turns first rest w b c e other d = go d.which
+pub served_is : {T : Type 0} (a : Answers Version) (first : Version) (rest : List Version) (w : ℕ) (log : List Turn) (served e : Ended) (shown : ℕ) (b c : ServerTold T) → is_cell_fault e ≡ false → IsServedLog a first rest w log served e shown b c → served ≡ e
+served_is a first rest w log served e shown b c other d = go d.which
   where
-    go : IsOverNewest (first ∷ rest) d.over d.log d.served e b c ⊎ IsOverSeen first (first ∷ rest) d.over d.served e b c ⊎ IsOverPast (first ∷ rest) d.over d.log e b c → d.served ≡ e
+    go : IsOverNewest (first ∷ rest) d.over log served e b c ⊎ IsOverSeen first (first ∷ rest) d.over served e b c ⊎ IsOverPast (first ∷ rest) d.over log e b c → served ≡ e
     go (inl newest) = sym newest.ended_is
-    go (inr (inl seen)) = shut_is e d.served other seen.ended_is
+    go (inr (inl seen)) = shut_is e served other seen.ended_is
     go (inr (inr past)) = let clash : is_cell_fault (lane.Above past.last past.newest) ≡ false = subst (λ (x : Ended). is_cell_fault x ≡ false) past.ended_is other in absurd (cc)
 
 served_port : (turns : ℕ) (first : Version) (rest : List Version) (w : ℕ) (b c : LaneTold) → IsDone turns first rest w b c lane.PortFault → HasEightPortFaults b c
 served_port turns first rest w b c d =
-    let eighth : failures d.log ≡ 8 = failed_last turns d.log (subst (IsEnd turns d.log) (served_is turns first rest w b c lane.PortFault refl d) d.ending) in
-    subst (λ (n : ℕ). raised b.port_faults n ≤ c.port_faults) eighth d.port_faults
+    let eighth : failures d.log ≡ 8 = failed_last turns d.log (subst (IsEnd turns d.log) (served_is replies first rest w d.log d.served lane.PortFault d.shown b c refl d.line) d.ending) in
+    subst (λ (n : ℕ). raised b.port_faults n ≤ c.port_faults) eighth d.line.port_faults
 
 -- a port after some turns has given as many answers more
 took_one : (known : ℕ) (came : Came) (p : PortTold) → (port_after known came p).recvs ≡ raised p.recvs 1
@@ -69,10 +71,10 @@ took_one known (took d silent) p = refl
 took_one known (took d refused) p = refl
 took_one known (took d (tried serial octets went)) p = refl
 
-raised_next : (a n : ℕ) → raised (raised a 1) n ≡ raised a (suc n)
+pub raised_next : (a n : ℕ) → raised (raised a 1) n ≡ raised a (suc n)
 raised_next a n = omega arith
 
-raised_none : (a : ℕ) → raised a 0 ≡ a
+pub raised_none : (a : ℕ) → raised a 0 ≡ a
 raised_none a = omega arith
 
 took_all : (log : List Turn) (p : PortTold) → (fold port_turn p log).recvs ≡ raised p.recvs (length log)
@@ -81,37 +83,44 @@ took_all (t ∷ log) p = took_all log (port_turn p t) ∙ ap (λ n. raised n (le
 
 served_spent : (turns : ℕ) (first : Version) (rest : List Version) (w : ℕ) (b c : LaneTold) → IsDone turns first rest w b c lane.Spent → HasTaken turns b c
 served_spent turns first rest w b c d =
-    let ending : IsEnd turns d.log lane.Spent = subst (IsEnd turns d.log) (served_is turns first rest w b c lane.Spent refl d) d.ending in
+    let ending : IsEnd turns d.log lane.Spent = subst (IsEnd turns d.log) (served_is replies first rest w d.log d.served lane.Spent d.shown b c refl d.line) d.ending in
     tell_weaker (λ (p q : PortTold). q ≡ fold port_turn p d.log) (λ (p q : PortTold). q.recvs ≡ raised p.recvs turns) b.port c.port
     (λ p q h. ap (λ (x : PortTold). x.recvs) h ∙ took_all d.log p ∙ ap (raised p.recvs) ending.2) d.port
 
 refused_counts : (came : Came) → is_refused came ≡ true → refused_of came ≡ 1
 refused_counts came h = rw h refl
 
-has_refused : (before : List Turn) (t : Turn) (log : List Turn) → log ≡ before ++ t ∷ [] → is_refused t.came ≡ true → 0 < sum_by (λ t. refused_of t.came) log
+pub has_refused : (before : List Turn) (t : Turn) (log : List Turn) → log ≡ before ++ t ∷ [] → is_refused t.came ≡ true → 0 < sum_by (λ t. refused_of t.came) log
 has_refused before t log is h =
     let count : sum_by (λ t. refused_of t.came) log ≡ sum_by (λ t. refused_of t.came) before + refused_of t.came = ap (sum_by (λ t. refused_of t.came)) is ∙ sum_by_push (λ (t : Turn). refused_of t.came) before t in
     omega (arith, count, refused_counts t.came h)
 
-served_cell : (turns : ℕ) (first : Version) (rest : List Version) (w : ℕ) (b c : LaneTold) (e : Ended) → is_cell_fault e ≡ true → IsDone turns first rest w b c e → HasCellFault (length (first ∷ rest)) b c
-served_cell turns first rest w b c e fault d = go d.which
+-- a lane that ended by a fault of the cell: its last look was refused, or its closing look, or that was past the newest map
+pub cell_fault : {T : Type 0} (a : Answers Version) (first : Version) (rest : List Version) (w : ℕ) (log : List Turn) (served e : Ended) (shown : ℕ) (b c : ServerTold T) → is_cell_fault e ≡ true
+    → (served ≡ lane.CellFault → 0 < sum_by (λ t. refused_of t.came) log) → ((known newest : ℕ) → served ≡ lane.Above known newest → ⊥) → IsServedLog a first rest w log served e shown b c → HasCellFault (length (first ∷ rest)) b c
+cell_fault a first rest w log served e shown b c fault refusal never d = go d.which
   where
-    refused : (served : Ended) → e ≡ served → IsEnd turns d.log served → Rose b.door_faults c.door_faults
-    refused lane.CellFault is ending = d.refusal (has_refused ending.0 ending.1 d.log ending.2 ending.5)
-    refused (lane.Above known newest) is ending = absurd ending
-    refused lane.Stopped is ending = let no : is_cell_fault lane.Stopped ≡ true = subst (λ (x : Ended). is_cell_fault x ≡ true) is fault in absurd (cc)
-    refused lane.PortEnd is ending = let no : is_cell_fault lane.PortEnd ≡ true = subst (λ (x : Ended). is_cell_fault x ≡ true) is fault in absurd (cc)
-    refused lane.PortFault is ending = let no : is_cell_fault lane.PortFault ≡ true = subst (λ (x : Ended). is_cell_fault x ≡ true) is fault in absurd (cc)
-    refused lane.Spent is ending = let no : is_cell_fault lane.Spent ≡ true = subst (λ (x : Ended). is_cell_fault x ≡ true) is fault in absurd (cc)
+    refused_as : (x : Ended) → e ≡ x → served ≡ x → Rose b.door_faults c.door_faults
+    refused_as lane.CellFault is same = d.refusal (refusal same)
+    refused_as (lane.Above known newest) is same = absurd (never known newest same)
+    refused_as lane.Stopped is same = let no : is_cell_fault lane.Stopped ≡ true = subst (λ (x : Ended). is_cell_fault x ≡ true) is fault in absurd (cc)
+    refused_as lane.PortEnd is same = let no : is_cell_fault lane.PortEnd ≡ true = subst (λ (x : Ended). is_cell_fault x ≡ true) is fault in absurd (cc)
+    refused_as lane.PortFault is same = let no : is_cell_fault lane.PortFault ≡ true = subst (λ (x : Ended). is_cell_fault x ≡ true) is fault in absurd (cc)
+    refused_as lane.Spent is same = let no : is_cell_fault lane.Spent ≡ true = subst (λ (x : Ended). is_cell_fault x ≡ true) is fault in absurd (cc)
 
-    go : IsOverNewest (first ∷ rest) d.over d.log d.served e b c ⊎ IsOverSeen first (first ∷ rest) d.over d.served e b c ⊎ IsOverPast (first ∷ rest) d.over d.log e b c → HasCellFault (length (first ∷ rest)) b c
-    go (inl newest) = inl (refused d.served newest.ended_is d.ending)
+    go : IsOverNewest (first ∷ rest) d.over log served e b c ⊎ IsOverSeen first (first ∷ rest) d.over served e b c ⊎ IsOverPast (first ∷ rest) d.over log e b c → HasCellFault (length (first ∷ rest)) b c
+    go (inl newest) = inl (refused_as e refl (sym newest.ended_is))
     go (inr (inl seen)) = inl seen.rose
     go (inr (inr past)) = inr (above past.shown)
       where
         above : (c.greatest + 1 ≡ length d.over) ⊎ (length d.over ≤ b.greatest) → length (first ∷ rest) ≤ c.greatest
         above (inl shown) = omega (arith, shown, past.longer)
         above (inr shown) = omega (arith, shown, past.longer, d.rising.0)
+
+served_cell : (turns : ℕ) (first : Version) (rest : List Version) (w : ℕ) (b c : LaneTold) (e : Ended) → is_cell_fault e ≡ true → IsDone turns first rest w b c e → HasCellFault (length (first ∷ rest)) b c
+served_cell turns first rest w b c e fault d = cell_fault replies first rest w d.log d.served e d.shown b c fault
+    (λ is. let ending : IsEnd turns d.log lane.CellFault = subst (IsEnd turns d.log) is d.ending in has_refused ending.0 ending.1 d.log ending.2 ending.5)
+    (λ known newest is. subst (IsEnd turns d.log) is d.ending) d.line
 
 -- where some lane ended so, some lane has that
 any_done : (test : Ended → Bool) (P : LaneTold → LaneTold → Type 0) (turns : ℕ) (first : Version) (rest : List Version) (w : ℕ) (ends : List Ended) (before after : List LaneTold)

@@ -19,14 +19,16 @@ use Rattle.demand_feed.specs.declared.run.FeedEnd.TheVariants as feed
 use Rattle.mapper.specs.Feeding.{IsFeed}
 use Rattle.mapper.specs.Scenes.{IsPrinted, Scene, scene}
 use Rattle.mapper.specs.Words.{map_text}
-use Rattle.drive.specs.Done.{LaneTold}
+use Rattle.drive.specs.Done.{LaneTold, StreamLaneTold}
+use Rattle.outside.specs.Streams.{StreamsTold, IsOpening as AreStreamsOpened}
+use Rattle.glb.specs.Words.{Service, lanes_of}
 use Rattle.drive.specs.Driven.{Lent}
 use Rattle.glb.specs.declared.status.Status.{Status}
 use Rattle.glb.specs.declared.status.Status.TheVariants as status
-use Rattle.glb.specs.Causes.{AnyLane, AreSpent, HasCellFault, HasDoorFault, HasEightPortFaults, HasGiven, HasLaneCauses, HasPortFault, HasShown, HasTaken, IsPastMaps}
+use Rattle.glb.specs.Causes.{AnyLane, AnyServer, AreSpent, HasCellFault, HasDoorFault, HasEightPortFaults, HasGiven, HasHeard, HasLaneCauses, HasPortFault, HasShown, HasTaken, IsPastMaps, OfStream}
 use Rattle.glb.specs.Outcome.{Outcome, RunsBy}
 use Rattle.glb.specs.Files.{Kind, IsRefused}
-use Rattle.glb.specs.Serve.{AreOpened, FirstDoorRose, IsFirstSession, IsOpening, IsPlaced, IsServed, IsSession, IsStarted, PlacedFirst, all_ready, is_cell_fault, is_port_fault, is_spent, status_by, status_of, then_failed}
+use Rattle.glb.specs.Serve.{AreOpened, FirstDoorRose, IsFirstSession, IsOpening, IsPlaced, IsServed, IsSession, IsStarted, IsStreamReady, IsStreamShut, PlacedFirst, all_ends, all_ready, is_cell_fault, is_port_fault, is_spent, status_by, status_of, then_failed}
 use Rattle.glb.specs.Told.{Stage}
 use Rattle.glb.proofs.Loads.{tell_weaker}
 use Rattle.glb.proofs.Histories.{texts_of}
@@ -71,6 +73,36 @@ opened_begun listen (r ∷ rs) (x ∷ xs) (y ∷ ys) h = (one_begun listen r x y
 opened_begun listen (r ∷ rs) [] ys h = absurd h
 opened_begun listen (r ∷ rs) (x ∷ xs) [] h = absurd h
 
+-- the lane for conversations, whose streams were opened at most: no count is lower, and its streams gave no answer of accept and read
+pub record IsStreamBegun (x y : StreamLaneTold) : Type 0 where
+  pub port : BothTell x.port y.port (λ b c. c.answers ≡ b.answers)
+  pub port_faults : x.port_faults ≤ y.port_faults
+  pub door_faults : x.door_faults ≤ y.door_faults
+
+streams_same : (p : Option StreamsTold) → BothTell p p (λ b c. c.answers ≡ b.answers)
+streams_same None = tt
+streams_same (Some b) = refl
+
+stream_same : (x y : StreamLaneTold) → y ≡ x → IsStreamBegun x y
+stream_same x y is = subst (IsStreamBegun x) (sym is) (record { port = streams_same x.port; port_faults = omega arith; door_faults = omega arith })
+
+heard_same : (listen : Listen) (r : Opening) (b c : StreamsTold) → AreStreamsOpened listen r b c → c.answers ≡ b.answers
+heard_same listen opening.Ready b c h = ap (λ (s : StreamsTold). s.answers) h
+heard_same listen opening.Failed b c h = ap (λ (s : StreamsTold). s.answers) h.1
+
+pub stream_begun : (tcp : Option Listen) (x y : StreamLaneTold) → IsStreamReady tcp x y → IsStreamBegun x y
+stream_begun None x y h = stream_same x y h
+stream_begun (Some at) x y h = record {
+  port = tell_weaker (AreStreamsOpened at opening.Ready) (λ b c. c.answers ≡ b.answers) x.port y.port (λ b c o. heard_same at opening.Ready b c o) h.port;
+  port_faults = h.later;
+  door_faults = let same : y.door_faults ≡ x.door_faults = ap (λ (l : StreamLaneTold). l.door_faults) h.rest in omega (arith, same);
+}
+
+-- all lanes
+pub record AreAllBegun (before mid : Lent) : Type 0 where
+  pub lanes : AreBegun before.lanes mid.lanes
+  pub stream : IsStreamBegun before.stream mid.stream
+
 -- what is so of some lane from a moment on is so from the one before
 any_from : (P Q : LaneTold → LaneTold → Type 0) (n : ℕ) (xs ys zs : List LaneTold) → ((x y z : LaneTold) → IsBegun x y → P y z → Q x z) → AreBegun xs ys → AnyLane n P ys zs → AnyLane n Q xs zs
 any_from P Q zero xs ys zs f b h = absurd h
@@ -80,24 +112,37 @@ any_from P Q (suc n) xs [] zs f b h = absurd h
 any_from P Q (suc n) xs (y ∷ ys) [] f b h = absurd h
 any_from P Q (suc n) [] (y ∷ ys) (z ∷ zs) f b h = absurd b
 
-pub port_from : (n : ℕ) (xs ys zs : List LaneTold) → AreBegun xs ys → AnyLane n HasPortFault ys zs → AnyLane n HasPortFault xs zs
-port_from n xs ys zs b h = any_from HasPortFault HasPortFault n xs ys zs (λ x y z o r. omega (arith, o.port_faults, r)) b h
+of_stream_from : (P Q : StreamLaneTold → StreamLaneTold → Type 0) (tcp : Option Listen) (x y z : StreamLaneTold) → (P y z → Q x z) → OfStream tcp P y z → OfStream tcp Q x z
+of_stream_from P Q None x y z f h = h
+of_stream_from P Q (Some at) x y z f h = f h
 
-eight_from : (n : ℕ) (xs ys zs : List LaneTold) → AreBegun xs ys → AnyLane n HasEightPortFaults ys zs → AnyLane n HasPortFault xs zs
-eight_from n xs ys zs b h = any_from HasEightPortFaults HasPortFault n xs ys zs (λ x y z o r. omega (arith, o.port_faults, r)) b h
+server_from : (P P' : LaneTold → LaneTold → Type 0) (Q Q' : StreamLaneTold → StreamLaneTold → Type 0) (ask : Service) (before mid after : Lent) → ((x y z : LaneTold) → IsBegun x y → P y z → P' x z) → ((x y z : StreamLaneTold) → IsStreamBegun x y → Q y z → Q' x z)
+    → AreAllBegun before mid → AnyServer ask P Q mid after → AnyServer ask P' Q' before after
+server_from P P' Q Q' ask before mid after f g b (inl h) = inl (any_from P P' ask.workers before.lanes mid.lanes after.lanes f b.lanes h)
+server_from P P' Q Q' ask before mid after f g b (inr h) = inr (of_stream_from Q Q' ask.tcp before.stream mid.stream after.stream (λ q. g before.stream mid.stream after.stream b.stream q) h)
 
-pub door_from : (n : ℕ) (xs ys zs : List LaneTold) → AreBegun xs ys → AnyLane n HasDoorFault ys zs → AnyLane n HasDoorFault xs zs
-door_from n xs ys zs b h = any_from HasDoorFault HasDoorFault n xs ys zs (λ x y z o r. omega (arith, o.door_faults, r)) b h
+pub port_from : (ask : Service) (before mid after : Lent) → AreAllBegun before mid → AnyServer ask HasPortFault HasPortFault mid after → AnyServer ask HasPortFault HasPortFault before after
+port_from ask before mid after b h = server_from HasPortFault HasPortFault HasPortFault HasPortFault ask before mid after (λ x y z o r. omega (arith, o.port_faults, r)) (λ x y z o r. omega (arith, o.port_faults, r)) b h
 
-pub shown_from : (k n : ℕ) (xs ys zs : List LaneTold) → AreBegun xs ys → AnyLane n (HasShown k) ys zs → AnyLane n (HasShown k) xs zs
-shown_from k n xs ys zs b h = any_from (HasShown k) (HasShown k) n xs ys zs (λ x y z o r. r) b h
+eight_from : (ask : Service) (before mid after : Lent) → AreAllBegun before mid → AnyServer ask HasEightPortFaults HasEightPortFaults mid after → AnyServer ask HasPortFault HasPortFault before after
+eight_from ask before mid after b h = server_from HasEightPortFaults HasPortFault HasEightPortFaults HasPortFault ask before mid after (λ x y z o r. omega (arith, o.port_faults, r)) (λ x y z o r. omega (arith, o.port_faults, r)) b h
+
+pub door_from : (ask : Service) (before mid after : Lent) → AreAllBegun before mid → AnyServer ask HasDoorFault HasDoorFault mid after → AnyServer ask HasDoorFault HasDoorFault before after
+door_from ask before mid after b h = server_from HasDoorFault HasDoorFault HasDoorFault HasDoorFault ask before mid after (λ x y z o r. omega (arith, o.door_faults, r)) (λ x y z o r. omega (arith, o.door_faults, r)) b h
+
+pub shown_from : (k : ℕ) (ask : Service) (before mid after : Lent) → AreAllBegun before mid → AnyServer ask (HasShown k) (HasShown k) mid after → AnyServer ask (HasShown k) (HasShown k) before after
+shown_from k ask before mid after b h = server_from (HasShown k) (HasShown k) (HasShown k) (HasShown k) ask before mid after (λ x y z o r. r) (λ x y z o r. r) b h
 
 taken_on : (turns : ℕ) (x y z : LaneTold) → IsBegun x y → HasTaken turns y z → HasTaken turns x z
 taken_on turns x y z o r =
     tells_on x.port y.port z.port (λ (b c : PortTold). c.recvs ≡ b.recvs) (λ (b c : PortTold). c.recvs ≡ raised b.recvs turns) (λ (b c : PortTold). c.recvs ≡ raised b.recvs turns) (λ b c d u v. v ∙ ap (λ (k : ℕ). raised k turns) u) o.port r
 
-pub taken_from : (turns n : ℕ) (xs ys zs : List LaneTold) → AreBegun xs ys → AnyLane n (HasTaken turns) ys zs → AnyLane n (HasTaken turns) xs zs
-taken_from turns n xs ys zs b h = any_from (HasTaken turns) (HasTaken turns) n xs ys zs (λ x y z o r. taken_on turns x y z o r) b h
+heard_on : (turns : ℕ) (x y z : StreamLaneTold) → IsStreamBegun x y → HasHeard turns y z → HasHeard turns x z
+heard_on turns x y z o r =
+    tells_on x.port y.port z.port (λ (b c : StreamsTold). c.answers ≡ b.answers) (λ (b c : StreamsTold). c.answers ≡ raised b.answers turns) (λ (b c : StreamsTold). c.answers ≡ raised b.answers turns) (λ b c d u v. v ∙ ap (λ (k : ℕ). raised k turns) u) o.port r
+
+pub taken_from : (turns : ℕ) (ask : Service) (before mid after : Lent) → AreAllBegun before mid → AnyServer ask (HasTaken turns) (HasHeard turns) mid after → AnyServer ask (HasTaken turns) (HasHeard turns) before after
+taken_from turns ask before mid after b h = server_from (HasTaken turns) (HasTaken turns) (HasHeard turns) (HasHeard turns) ask before mid after (λ x y z o r. taken_on turns x y z o r) (λ x y z o r. heard_on turns x y z o r) b h
 
 -- a fault of the cell is a fault of a door or a serial past the versions
 any_parts : (k n : ℕ) (xs ys : List LaneTold) → AnyLane n (HasCellFault k) xs ys → AnyLane n HasDoorFault xs ys ⊎ AnyLane n (HasShown k) xs ys
@@ -108,6 +153,14 @@ any_parts k (suc n) (x ∷ xs) (y ∷ ys) (inr h) = elim (any_parts k n xs ys h)
 any_parts k (suc n) [] ys h = absurd h
 any_parts k (suc n) (x ∷ xs) [] h = absurd h
 
+stream_parts : (k : ℕ) (tcp : Option Listen) (x y : StreamLaneTold) → OfStream tcp (HasCellFault k) x y → OfStream tcp HasDoorFault x y ⊎ OfStream tcp (HasShown k) x y
+stream_parts k None x y h = absurd h
+stream_parts k (Some at) x y h = h
+
+server_parts : (k : ℕ) (ask : Service) (before after : Lent) → AnyServer ask (HasCellFault k) (HasCellFault k) before after → AnyServer ask HasDoorFault HasDoorFault before after ⊎ AnyServer ask (HasShown k) (HasShown k) before after
+server_parts k ask before after (inl h) = elim (any_parts k ask.workers before.lanes after.lanes h) [ inl r ↦ inl (inl r) | inr r ↦ inr (inl r) ]
+server_parts k ask before after (inr h) = elim (stream_parts k ask.tcp before.stream after.stream h) [ inl r ↦ inl (inr r) | inr r ↦ inr (inr r) ]
+
 -- a port that failed to open has a fault
 failed_port : (listen : Listen) (k n : ℕ) (xs ys : List LaneTold) → k < n → AreOpened listen (then_failed k) xs ys → AnyLane n HasPortFault xs ys
 failed_port listen k zero xs ys lt h = absurd (omega (arith, lt))
@@ -117,6 +170,11 @@ failed_port listen zero (suc n) (x ∷ xs) [] lt h = absurd h
 failed_port listen (suc k) (suc n) (x ∷ xs) (y ∷ ys) lt h = inr (failed_port listen k n xs ys (omega (arith, lt)) h.1)
 failed_port listen (suc k) (suc n) [] ys lt h = absurd h
 failed_port listen (suc k) (suc n) (x ∷ xs) [] lt h = absurd h
+
+-- and so have streams that failed to open
+failed_stream : (tcp : Option Listen) (x y : StreamLaneTold) → IsStreamShut tcp x y → OfStream tcp HasPortFault x y
+failed_stream None x y h = h
+failed_stream (Some at) x y h = h.cause refl
 
 once_rose : (b c : ℕ) → c ≡ raised b 1 → Rose b c
 once_rose b c is = omega (arith, is)
@@ -129,16 +187,16 @@ first_door (suc n) [] ys some h = absurd h
 first_door (suc n) (x ∷ xs) [] some h = absurd h
 
 -- an answer that is none of these has no cause to tell
-other : (turns workers : ℕ) (before after : Lent) (result : Status) → (result ≡ status.PortFault → ⊥) → (result ≡ status.Spent → ⊥) → (result ≡ status.CellFault → ⊥) → HasLaneCauses turns workers before after result
-other turns workers before after result port spent cell = record { port = λ h. absurd (port h); spent = λ h. absurd (spent h); cell = λ h. absurd (cell h) }
+other : (turns : ℕ) (ask : Service) (before after : Lent) (result : Status) → (result ≡ status.PortFault → ⊥) → (result ≡ status.Spent → ⊥) → (result ≡ status.CellFault → ⊥) → HasLaneCauses turns ask before after result
+other turns ask before after result port spent cell = record { port = λ h. absurd (port h); spent = λ h. absurd (spent h); cell = λ h. absurd (cell h) }
 
-pub unread_causes : {T : Type 0} (kind : Kind T) (turns workers : ℕ) (before after : Lent) (name : List ℕ) (shelf : Option Shelved) (out out' : Option Written) (result : Status) → RunsBy (IsRefused kind shelf name) out out' result → HasLaneCauses turns workers before after result
-unread_causes kind turns workers before after name shelf out out' result (inl whole) =
+pub unread_causes : {T : Type 0} (kind : Kind T) (turns : ℕ) (ask : Service) (before after : Lent) (name : List ℕ) (shelf : Option Shelved) (out out' : Option Written) (result : Status) → RunsBy (IsRefused kind shelf name) out out' result → HasLaneCauses turns ask before after result
+unread_causes kind turns ask before after name shelf out out' result (inl whole) =
     let is : whole.due.status ≡ status.Refused = ap (λ (o : Outcome). o.status) whole.is_due.4 in
-    let same : result ≡ status.Refused = whole.status ∙ is in other turns workers before after result (λ h. cc) (λ h. cc) (λ h. cc)
-unread_causes kind turns workers before after name shelf out out' result (inr (inl cut)) = let is = cut.status in other turns workers before after result (λ h. cc) (λ h. cc) (λ h. cc)
-unread_causes kind turns workers before after name shelf out out' result (inr (inr silent)) =
-    elim silent.status [ inl is ↦ other turns workers before after result (λ h. cc) (λ h. cc) (λ h. cc) | inr is ↦ other turns workers before after result (λ h. cc) (λ h. cc) (λ h. cc) ]
+    let same : result ≡ status.Refused = whole.status ∙ is in other turns ask before after result (λ h. cc) (λ h. cc) (λ h. cc)
+unread_causes kind turns ask before after name shelf out out' result (inr (inl cut)) = let is = cut.status in other turns ask before after result (λ h. cc) (λ h. cc) (λ h. cc)
+unread_causes kind turns ask before after name shelf out out' result (inr (inr silent)) =
+    elim silent.status [ inl is ↦ other turns ask before after result (λ h. cc) (λ h. cc) (λ h. cc) | inr is ↦ other turns ask before after result (λ h. cc) (λ h. cc) (λ h. cc) ]
 
 -- what a run over a feed gave that was spent
 given_of : (t : Plan) (turns : ℕ) (end : FeedEnd) (fed then : Option Fed) (before after : Scene) → end ≡ feed.Spent → IsFeed t turns end fed then before after → HasGiven turns fed then
@@ -159,65 +217,65 @@ cell_ends feed.SourceFault p s c h = absurd (cc)
 cell_ends feed.SinkFault p s c h = absurd (cc)
 
 -- a session that was started and served
-served_causes : (turns workers : ℕ) (listen : Listen) (first : Version) (before started after : Stage) (result : Status) → IsStarted listen workers first before started → IsServed turns workers first started after result → HasLaneCauses turns workers before.lent after.lent result
-served_causes turns workers listen first before started after result start served = record {
-  port = λ h. eight_from workers before.lent.lanes started.lent.lanes after.lent.lanes begun (served.port h);
+served_causes : (turns : ℕ) (ask : Service) (first : Version) (before started after : Stage) (result : Status) → IsStarted ask first before started → IsServed turns ask first started after result → HasLaneCauses turns ask before.lent after.lent result
+served_causes turns ask first before started after result start served = record {
+  port = λ h. eight_from ask before.lent started.lent after.lent begun (served.port h);
   spent = λ h. spent_of (served.spent h);
-  cell = λ h. cell_of h (any_parts (length (first ∷ served.driven.rest)) workers started.lent.lanes after.lent.lanes (served.cell h));
+  cell = λ h. cell_of h (server_parts (length (first ∷ served.driven.rest)) ask started.lent after.lent (served.cell h));
 }
   where
-    begun : AreBegun before.lent.lanes started.lent.lanes
-    begun = opened_begun listen (all_ready workers) before.lent.lanes started.lent.lanes start.opened
+    begun : AreAllBegun before.lent started.lent
+    begun = record { lanes = opened_begun ask.listen (all_ready ask.workers) before.lent.lanes started.lent.lanes start.opened; stream = stream_begun ask.tcp before.lent.stream started.lent.stream start.stream }
 
     same_feed : started.lent.feed ≡ before.lent.feed
     same_feed = ap (λ (l : Lent). l.feed) start.lent
 
-    spent_of : (served.end ≡ feed.Spent) ⊎ AnyLane workers (HasTaken turns) started.lent.lanes after.lent.lanes → AreSpent turns workers before.lent after.lent
+    spent_of : (served.end ≡ feed.Spent) ⊎ AnyServer ask (HasTaken turns) (HasHeard turns) started.lent after.lent → AreSpent turns ask before.lent after.lent
     spent_of (inl is) = inl (subst (λ (f : Option Fed). HasGiven turns f after.lent.feed) same_feed (given_of first.plan turns served.end started.lent.feed after.lent.feed _ _ is served.driven.feed))
-    spent_of (inr h) = inr (taken_from turns workers before.lent.lanes started.lent.lanes after.lent.lanes begun h)
+    spent_of (inr h) = inr (taken_from turns ask before.lent started.lent after.lent begun h)
 
     ended : result ≡ status.CellFault → served.end ≡ feed.Ended
-    ended h = cell_ends served.end (list_any is_port_fault served.ends) (list_any is_spent served.ends) (list_any is_cell_fault served.ends) (sym h ∙ served.result_is)
+    ended h = cell_ends served.end (list_any is_port_fault (all_ends served.ends served.stream_end)) (list_any is_spent (all_ends served.ends served.stream_end)) (list_any is_cell_fault (all_ends served.ends served.stream_end)) (sym h ∙ served.result_is)
 
     texts : served.end ≡ feed.Ended → BothTell before.lent.maps after.lent.maps (IsPrinted (map map_text (first ∷ served.driven.rest)))
     texts is = texts_of first.plan turns started.lent.feed after.lent.feed first served.driven.rest before.lent.maps (scene first (first ∷ []) started.lent.out started.lent.maps started.lent.pace) (scene served.driven.newest (first ∷ served.driven.rest) after.lent.out after.lent.maps after.lent.pace) refl refl start.put
         (subst (λ (e : FeedEnd). IsFeed first.plan turns e started.lent.feed after.lent.feed (scene first (first ∷ []) started.lent.out started.lent.maps started.lent.pace) (scene served.driven.newest (first ∷ served.driven.rest) after.lent.out after.lent.maps after.lent.pace)) is served.driven.feed)
 
-    cell_of : result ≡ status.CellFault → AnyLane workers HasDoorFault started.lent.lanes after.lent.lanes ⊎ AnyLane workers (HasShown (length (first ∷ served.driven.rest))) started.lent.lanes after.lent.lanes
-        → AnyLane workers HasDoorFault before.lent.lanes after.lent.lanes ⊎ IsPastMaps workers before.lent after.lent
-    cell_of is (inl h) = inl (door_from workers before.lent.lanes started.lent.lanes after.lent.lanes begun h)
+    cell_of : result ≡ status.CellFault → AnyServer ask HasDoorFault HasDoorFault started.lent after.lent ⊎ AnyServer ask (HasShown (length (first ∷ served.driven.rest))) (HasShown (length (first ∷ served.driven.rest))) started.lent after.lent
+        → AnyServer ask HasDoorFault HasDoorFault before.lent after.lent ⊎ IsPastMaps ask before.lent after.lent
+    cell_of is (inl h) = inl (door_from ask before.lent started.lent after.lent begun h)
     cell_of is (inr h) = inr (
       map map_text (first ∷ served.driven.rest),
       texts (ended is),
-      subst (λ (k : ℕ). AnyLane workers (HasShown k) before.lent.lanes after.lent.lanes) (sym (length-map (first ∷ served.driven.rest) map_text)) (shown_from (length (first ∷ served.driven.rest)) workers before.lent.lanes started.lent.lanes after.lent.lanes begun h),
+      subst (λ (k : ℕ). AnyServer ask (HasShown k) (HasShown k) before.lent after.lent) (sym (length-map (first ∷ served.driven.rest) map_text)) (shown_from (length (first ∷ served.driven.rest)) ask before.lent started.lent after.lent begun h),
     )
 
-first_causes : (turns : ℕ) (listen : Listen) (workers : ℕ) (first : Version) (before after : Stage) (result : Status) → IsFirstSession turns listen workers first before after result → HasLaneCauses turns workers before.lent after.lent result
-first_causes turns listen workers first before after result (inl shut) = record {
-  port = λ h. failed_port listen shut.opened.0 workers before.lent.lanes after.lent.lanes shut.opened.1 shut.opened.2;
+first_causes : (turns : ℕ) (ask : Service) (first : Version) (before after : Stage) (result : Status) → IsFirstSession turns ask first before after result → HasLaneCauses turns ask before.lent after.lent result
+first_causes turns ask first before after result (inl shut) = record {
+  port = λ h. elim shut.opened [ inl some ↦ inl (failed_port ask.listen some.0 ask.workers before.lent.lanes after.lent.lanes some.1 some.2) | inr all ↦ inr (failed_stream ask.tcp before.lent.stream after.lent.stream all.1) ];
   spent = λ h. let is = shut.why in absurd (cc);
   cell = λ h. let is = shut.why in absurd (cc);
 }
-first_causes turns listen workers first before after result (inr (inl unput)) = let is = unput.why in other turns workers before.lent after.lent result (λ h. cc) (λ h. cc) (λ h. cc)
-first_causes turns listen workers first before after result (inr (inr (inl k))) = let is = k.0 in other turns workers before.lent after.lent result (λ h. cc) (λ h. cc) (λ h. cc)
-first_causes turns listen workers first before after result (inr (inr (inr (started, start, served)))) = served_causes turns workers listen first before started after result start served
+first_causes turns ask first before after result (inr (inl unput)) = let is = unput.why in other turns ask before.lent after.lent result (λ h. cc) (λ h. cc) (λ h. cc)
+first_causes turns ask first before after result (inr (inr (inl k))) = let is = k.0 in other turns ask before.lent after.lent result (λ h. cc) (λ h. cc) (λ h. cc)
+first_causes turns ask first before after result (inr (inr (inr (started, start, served)))) = served_causes turns ask first before started after result start served
 
 -- what is so from the opened cell on is so from before it
-placed_causes : (turns workers : ℕ) (before placed after : Stage) (result : Status) → IsPlaced workers before placed → HasLaneCauses turns workers placed.lent after.lent result → HasLaneCauses turns workers before.lent after.lent result
-placed_causes turns workers before placed after result place causes = record {
-  port = λ h. port_from workers before.lent.lanes placed.lent.lanes after.lent.lanes begun (causes.port h);
+placed_causes : (turns : ℕ) (ask : Service) (before placed after : Stage) (result : Status) → IsPlaced ask before placed → HasLaneCauses turns ask placed.lent after.lent result → HasLaneCauses turns ask before.lent after.lent result
+placed_causes turns ask before placed after result place causes = record {
+  port = λ h. port_from ask before.lent placed.lent after.lent begun (causes.port h);
   spent = λ h. elim (causes.spent h) [
     | inl given ↦ inl (subst (λ (f : Option Fed). HasGiven turns f after.lent.feed) same_feed given)
-    | inr some ↦ inr (taken_from turns workers before.lent.lanes placed.lent.lanes after.lent.lanes begun some)
+    | inr some ↦ inr (taken_from turns ask before.lent placed.lent after.lent begun some)
   ];
   cell = λ h. elim (causes.cell h) [
-    | inl some ↦ inl (door_from workers before.lent.lanes placed.lent.lanes after.lent.lanes begun some)
-    | inr past ↦ inr (past.0, subst (λ (m : Option Written). BothTell m after.lent.maps (IsPrinted past.0)) same_maps past.1, shown_from (length past.0) workers before.lent.lanes placed.lent.lanes after.lent.lanes begun past.2)
+    | inl some ↦ inl (door_from ask before.lent placed.lent after.lent begun some)
+    | inr past ↦ inr (past.0, subst (λ (m : Option Written). BothTell m after.lent.maps (IsPrinted past.0)) same_maps past.1, shown_from (length past.0) ask before.lent placed.lent after.lent begun past.2)
   ];
 }
   where
-    begun : AreBegun before.lent.lanes placed.lent.lanes
-    begun = door_begun workers before.lent.lanes placed.lent.lanes place.asked
+    begun : AreAllBegun before.lent placed.lent
+    begun = record { lanes = door_begun (lanes_of ask) before.lent.lanes placed.lent.lanes place.asked; stream = stream_same before.lent.stream placed.lent.stream (ap (λ (l : Lent). l.stream) place.lent) }
 
     same_feed : placed.lent.feed ≡ before.lent.feed
     same_feed = ap (λ (l : Lent). l.feed) place.lent
@@ -225,13 +283,13 @@ placed_causes turns workers before placed after result place causes = record {
     same_maps : placed.lent.maps ≡ before.lent.maps
     same_maps = ap (λ (l : Lent). l.maps) place.lent
 
-pub session_causes : (turns : ℕ) (listen : Listen) (workers : ℕ) (t : Plan) (before after : Stage) (result : Status) → 1 ≤ workers → IsSession turns listen workers t before after result → HasLaneCauses turns workers before.lent after.lent result
-session_causes turns listen workers t before after result some (inl unopened) = elim unopened.why [
-  | inl is ↦ other turns workers before.lent after.lent result (λ h. cc) (λ h. cc) (λ h. cc)
+pub session_causes : (turns : ℕ) (ask : Service) (t : Plan) (before after : Stage) (result : Status) → 1 ≤ ask.workers → IsSession turns ask t before after result → HasLaneCauses turns ask before.lent after.lent result
+session_causes turns ask t before after result some (inl unopened) = elim unopened.why [
+  | inl is ↦ other turns ask before.lent after.lent result (λ h. cc) (λ h. cc) (λ h. cc)
   | inr is ↦ record {
     port = λ h. let fault = is.0 in absurd (cc);
     spent = λ h. let fault = is.0 in absurd (cc);
-    cell = λ h. inl (first_door workers before.lent.lanes after.lent.lanes some is.1);
+    cell = λ h. inl (inl (first_door ask.workers before.lent.lanes after.lent.lanes some is.1));
   }
 ]
-session_causes turns listen workers t before after result some (inr (placed, first, place, is_first, session)) = placed_causes turns workers before placed after result place (first_causes turns listen workers first placed after result session)
+session_causes turns ask t before after result some (inr (placed, first, place, is_first, session)) = placed_causes turns ask before placed after result place (first_causes turns ask first placed after result session)

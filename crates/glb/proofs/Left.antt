@@ -12,9 +12,9 @@ use Rattle.glb.specs.Words.{Service, serve}
 use Rattle.glb.specs.Outcome.{Outcome, RunsBy}
 use Rattle.glb.specs.Files.{IsRefused, said, topology_file}
 use Rattle.glb.specs.Map.{HoldsTopology}
-use Rattle.glb.specs.Causes.{AnyLane, HasDoorFault, IsPastMaps}
+use Rattle.glb.specs.Causes.{AnyServer, HasDoorFault, IsPastMaps}
 use Rattle.glb.specs.Told.{Surroundings}
-use Rattle.glb.specs.Serve.{IsServeRun, is_cell_fault, is_port_fault, is_spent, status_by, status_of}
+use Rattle.glb.specs.Serve.{IsServeRun, all_ends, is_cell_fault, is_port_fault, is_spent, status_by, status_of}
 use Rattle.glb.specs.Program.{HasServeCauses, IsLeft, IsServeQuiet}
 use Rattle.glb.proofs.Complete.{one_answer, one_content}
 
@@ -53,8 +53,8 @@ served_left feed.Ended p s c result is source sink port = by_left result p s c i
 served_left feed.Spent p s c result is source sink port = by_left result p true c is port
 
 -- what is left of the answers, by their causes
-pub left_of : (turns : ℕ) (ask : Service) (before after : Surroundings) (result : Status) → IsServeRun turns ask before after result → HasServeCauses turns ask.workers before after result → IsSome before.files → HoldsTopology ask.topology before.files
-    → IsServeQuiet ask.workers before after → IsLeft turns (Some (serve ask)) before after result
+pub left_of : (turns : ℕ) (ask : Service) (before after : Surroundings) (result : Status) → IsServeRun turns ask before after result → HasServeCauses turns ask before after result → IsSome before.files → HoldsTopology ask.topology before.files
+    → IsServeQuiet ask before after → IsLeft turns (Some (serve ask)) before after result
 left_of turns ask before after result run causes told held quiet = elim (go run) [
   | inl h ↦ inl h
   | inr (inl h) ↦ inr (inl h)
@@ -71,7 +71,7 @@ left_of turns ask before after result run causes told held quiet = elim (go run)
     port : result ≡ status.PortFault → ⊥
     port h = quiet.ports (causes.lanes.port h)
 
-    past : AnyLane ask.workers HasDoorFault before.stage.lent.lanes after.stage.lent.lanes ⊎ IsPastMaps ask.workers before.stage.lent after.stage.lent → IsPastMaps ask.workers before.stage.lent after.stage.lent
+    past : AnyServer ask HasDoorFault HasDoorFault before.stage.lent after.stage.lent ⊎ IsPastMaps ask before.stage.lent after.stage.lent → IsPastMaps ask before.stage.lent after.stage.lent
     past (inl h) = absurd (quiet.doors h)
     past (inr h) = h
 
@@ -82,4 +82,4 @@ left_of turns ask before after result run causes told held quiet = elim (go run)
     go (inr (topology, plan, says, inr (placed, first, place, is_first, inr (inl unput)))) = absurd (sink unput.why)
     go (inr (topology, plan, says, inr (placed, first, place, is_first, inr (inr (inl h))))) = inr (inl h.0)
     go (inr (topology, plan, says, inr (placed, first, place, is_first, inr (inr (inr (started, start, served)))))) =
-        served_left served.end (list_any is_port_fault served.ends) (list_any is_spent served.ends) (list_any is_cell_fault served.ends) result served.result_is source sink port
+        served_left served.end (list_any is_port_fault (all_ends served.ends served.stream_end)) (list_any is_spent (all_ends served.ends served.stream_end)) (list_any is_cell_fault (all_ends served.ends served.stream_end)) result served.result_is source sink port

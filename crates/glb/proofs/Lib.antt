@@ -9,6 +9,7 @@ mod Asked
 mod Histories
 mod Causes
 mod Served
+mod StreamCauses
 mod Lanes
 mod Left
 mod Reports

@@ -1,14 +1,14 @@
 -- Counts of faults over a session.
 use Rattle.std.proofs.Common.{◌≡◌, inl, inr, ℕ, Bool, true, false, refl, ap, sym, ◌∙◌, arith}
 use Rattle.std.specs.List.{list_any}
-use Rattle.addr_text.specs.declared.address.Listen.{Listen}
+use Rattle.glb.specs.Words.{Service}
 use Rattle.topology_text.specs.Plan.{Plan}
 use Rattle.published_map.specs.Version.{Version}
 use Rattle.demand_feed.specs.declared.run.FeedEnd.{FeedEnd}
 use Rattle.demand_feed.specs.declared.run.FeedEnd.TheVariants as feed
 use Rattle.glb.specs.declared.status.Status.{Status}
 use Rattle.glb.specs.declared.status.Status.TheVariants as status
-use Rattle.glb.specs.Serve.{IsFirstSession, IsSession, IsServed, is_cell_fault, is_port_fault, is_spent, status_by, status_of}
+use Rattle.glb.specs.Serve.{IsFirstSession, IsSession, IsServed, all_ends, is_cell_fault, is_port_fault, is_spent, status_by, status_of}
 use Rattle.glb.specs.Starting.{IsSessionLater}
 use Rattle.glb.specs.Told.{Stage}
 
@@ -58,20 +58,20 @@ no_fault before after result same source sink = record {
   maps_stay = λ none. same.maps;
 }
 
-served_later : (turns workers : ℕ) (first : Version) (before after : Stage) (result : Status) → IsServed turns workers first before after result → IsSessionLater before after result
-served_later turns workers first before after result s = record {
+served_later : (turns : ℕ) (ask : Service) (first : Version) (before after : Stage) (result : Status) → IsServed turns ask first before after result → IsSessionLater before after result
+served_later turns ask first before after result s = record {
   feed = s.later.0;
   out = s.later.1;
   maps = s.later.2;
-  source = λ h. s.source (source_means s.end (list_any is_port_fault s.ends) (list_any is_spent s.ends) (list_any is_cell_fault s.ends) (sym h ∙ s.result_is));
-  sink = λ h. s.sink (sink_means s.end (list_any is_port_fault s.ends) (list_any is_spent s.ends) (list_any is_cell_fault s.ends) (sym h ∙ s.result_is));
+  source = λ h. s.source (source_means s.end (list_any is_port_fault (all_ends s.ends s.stream_end)) (list_any is_spent (all_ends s.ends s.stream_end)) (list_any is_cell_fault (all_ends s.ends s.stream_end)) (sym h ∙ s.result_is));
+  sink = λ h. s.sink (sink_means s.end (list_any is_port_fault (all_ends s.ends s.stream_end)) (list_any is_spent (all_ends s.ends s.stream_end)) (list_any is_cell_fault (all_ends s.ends s.stream_end)) (sym h ∙ s.result_is));
   feed_stays = λ none. s.source_stays (λ e. none (ended e));
   out_stays = λ none. (s.sink_stays (λ e. none (ended e))).0;
   maps_stay = λ none. (s.sink_stays (λ e. none (ended e))).1;
 }
   where
-    ended : {end : FeedEnd} → s.end ≡ end → result ≡ status_of end (list_any is_port_fault s.ends) (list_any is_spent s.ends) (list_any is_cell_fault s.ends)
-    ended e = s.result_is ∙ ap (λ x. status_of x (list_any is_port_fault s.ends) (list_any is_spent s.ends) (list_any is_cell_fault s.ends)) e
+    ended : {end : FeedEnd} → s.end ≡ end → result ≡ status_of end (list_any is_port_fault (all_ends s.ends s.stream_end)) (list_any is_spent (all_ends s.ends s.stream_end)) (list_any is_cell_fault (all_ends s.ends s.stream_end))
+    ended e = s.result_is ∙ ap (λ x. status_of x (list_any is_port_fault (all_ends s.ends s.stream_end)) (list_any is_spent (all_ends s.ends s.stream_end)) (list_any is_cell_fault (all_ends s.ends s.stream_end))) e
 
 -- what is so from a moment on is so from one with the same counts
 from_same : (a b c : Stage) (result : Status) → IsSameCounts a b → IsSessionLater b c result → IsSessionLater a c result
@@ -86,10 +86,10 @@ from_same a b c result same later = record {
   maps_stay = λ none. later.maps_stay none ∙ same.maps;
 }
 
-started_later : (turns : ℕ) (listen : Listen) (workers : ℕ) (first : Version) (before after : Stage) (result : Status) → IsFirstSession turns listen workers first before after result → IsSessionLater before after result
-started_later turns listen workers first before after result (inl shut) =
+started_later : (turns : ℕ) (ask : Service) (first : Version) (before after : Stage) (result : Status) → IsFirstSession turns ask first before after result → IsSessionLater before after result
+started_later turns ask first before after result (inl shut) =
     no_fault before after result (lent_alone before after shut.rest) (λ h. let is = shut.why in cc) (λ h. let is = shut.why in cc)
-started_later turns listen workers first before after result (inr (inl unput)) = record {
+started_later turns ask first before after result (inr (inl unput)) = record {
   feed = let same = ap (λ (s : Stage). s.feed_faults) unput.rest in omega (arith, same);
   out = let same = ap (λ (s : Stage). s.out_faults) unput.rest in omega (arith, same);
   maps = let rose = unput.rose in omega (arith, rose);
@@ -99,14 +99,14 @@ started_later turns listen workers first before after result (inr (inl unput)) =
   out_stays = λ none. ap (λ (s : Stage). s.out_faults) unput.rest;
   maps_stay = λ none. absurd (none unput.why);
 }
-started_later turns listen workers first before after result (inr (inr (inl h))) =
+started_later turns ask first before after result (inr (inr (inl h))) =
     no_fault before after result (lent_alone before after h.1.rest) (λ k. let is = h.0 in cc) (λ k. let is = h.0 in cc)
-started_later turns listen workers first before after result (inr (inr (inr (started, start, served)))) =
-    from_same before started after result (lent_alone before started start.rest) (served_later turns workers first started after result served)
+started_later turns ask first before after result (inr (inr (inr (started, start, served)))) =
+    from_same before started after result (lent_alone before started start.rest) (served_later turns ask first started after result served)
 
-pub session_later : (turns : ℕ) (listen : Listen) (workers : ℕ) (t : Plan) (before after : Stage) (result : Status) → IsSession turns listen workers t before after result → IsSessionLater before after result
-session_later turns listen workers t before after result (inl unopened) =
+pub session_later : (turns : ℕ) (ask : Service) (t : Plan) (before after : Stage) (result : Status) → IsSession turns ask t before after result → IsSessionLater before after result
+session_later turns ask t before after result (inl unopened) =
     no_fault before after result (lent_alone before after unopened.rest)
     (λ h. elim unopened.why [ inl is ↦ cc | inr is ↦ let fault = is.0 in cc ]) (λ h. elim unopened.why [ inl is ↦ cc | inr is ↦ let fault = is.0 in cc ])
-session_later turns listen workers t before after result (inr (placed, first, place, is_first, session)) =
-    from_same before placed after result (lent_alone before placed place.rest) (started_later turns listen workers first placed after result session)
+session_later turns ask t before after result (inr (placed, first, place, is_first, session)) =
+    from_same before placed after result (lent_alone before placed place.rest) (started_later turns ask first placed after result session)

@@ -13,7 +13,7 @@ use Rattle.glb.proofs.Left.{left_of}
 use Rattle.glb.proofs.WellServed.{well_served}
 
 pub promised : (turns : ℕ) (ask : Service) (before after : Surroundings) (result : Status) → IsServeRun turns ask before after result → BothTell before.files after.files (AreLoadsOf (loads_of_serve ask))
-    → (result ≢ status.SourceFault → result ≢ status.NoMemory → BothTell before.files after.files (AreLoaded (loads_of_serve ask))) → HasServeCauses turns ask.workers before after result → IsPromised turns (Some (serve ask)) before after result
+    → (result ≢ status.SourceFault → result ≢ status.NoMemory → BothTell before.files after.files (AreLoaded (loads_of_serve ask))) → HasServeCauses turns ask before after result → IsPromised turns (Some (serve ask)) before after result
 promised turns ask before after result run noted loaded causes = record {
   run = run;
   noted = noted;

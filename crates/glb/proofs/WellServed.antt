@@ -1,23 +1,30 @@
 -- A run of `serve` with status 0.
-use Rattle.std.proofs.Common.{◌≡◌, ◌⊎◌, inl, inr, ℕ, ◌+◌, Bool, true, false, List, [], ◌∷◌, length, refl, ap, subst}
-use Rattle.std.specs.Prelude.{Option, ◌||◌}
+use Rattle.std.proofs.Common.{◌≡◌, ◌⊎◌, inl, inr, ℕ, ◌+◌, Bool, true, false, List, [], ◌∷◌, length, refl, ap, sym, ◌∙◌, subst}
+use Rattle.std.specs.Prelude.{Option, None, Some, ◌||◌}
 use Rattle.std.specs.List.{list_any}
 use Rattle.topology_text.specs.Plan.{IsPlan, Plan}
 use Rattle.published_map.specs.Version.{Version}
 use Rattle.lane_model.specs.declared.ended.Ended.{Ended}
 use Rattle.lane_model.specs.declared.ended.Ended.TheVariants as lane
-use Rattle.lane_model.specs.Lanes.{IsLaneRun}
-use Rattle.lane_model.specs.Replies.{replies}
-use Rattle.lane_model.specs.Turns.{entries_of, tries_of}
+use Rattle.lane_model.specs.Lanes.{Answers, IsLaneRun}
+use Rattle.lane_model.specs.Replies.{replies, replies_by}
+use Rattle.lane_model.specs.Turns.{Turn, entries_of, tries_of}
 use Rattle.demand_feed.specs.declared.run.FeedEnd.{FeedEnd}
 use Rattle.demand_feed.specs.declared.run.FeedEnd.TheVariants as feed
 use Rattle.mapper.specs.Feeding.{IsFeed}
 use Rattle.mapper.specs.Scenes.{IsPrinted, scene}
 use Rattle.drive.specs.Closing.{shut}
-use Rattle.drive.specs.Done.{IsDone, LaneTold}
+use Rattle.drive.specs.Done.{IsDone, IsOverNewest, IsServedLog, LaneTold, ServerTold, StreamLaneTold}
+use Rattle.drive.specs.Streams.{AreStreamsDone, IsStreamDone}
+use Rattle.addr_text.specs.declared.address.Listen.{Listen}
+use Rattle.answer_core.specs.declared.way.Way.TheVariants.{Stream}
+use Rattle.tcp_lane.specs.Stream.{IsStreamRun}
+use Rattle.tcp_lane.specs.Turns.{lane_of}
+use Rattle.std.proofs.lemmas.List.Folds.{list_any-append}
+use Rattle.std.specs.Option.{option_to_list}
 use Rattle.drive.specs.Driven.{AreDone}
 use Rattle.glb.specs.declared.status.Status.TheVariants as status
-use Rattle.glb.specs.Words.{Service}
+use Rattle.glb.specs.Words.{Service, streams_of}
 use Rattle.glb.specs.Outcome.{Outcome, RunsBy}
 use Rattle.glb.specs.Files.{IsRefused, Says, topology_file}
 use Rattle.drive.specs.Driven.{Lent}
@@ -25,8 +32,8 @@ use Rattle.outside.specs.Faults.{BothTell}
 use Rattle.outside.specs.Sink.{Written}
 use Rattle.mapper.specs.Words.{map_text}
 use Rattle.glb.specs.Told.{Stage, Surroundings}
-use Rattle.glb.specs.Serve.{IsFirstOf, IsPlaced, IsServeRun, IsServed, IsStarted, is_cell_fault, is_port_fault, is_spent, status_by, status_of}
-use Rattle.glb.specs.Served.{AreWellDone, IsWellDone, IsWellServed}
+use Rattle.glb.specs.Serve.{IsFirstOf, IsPlaced, IsServeRun, IsServed, IsStarted, all_ends, is_cell_fault, is_port_fault, is_spent, status_by, status_of}
+use Rattle.glb.specs.Served.{AreWellDone, IsStreamWell, IsStreamWellDone, IsWellDone, IsWellServed}
 use Rattle.glb.proofs.Histories.{texts_of}
 
 well_end : (e : Ended) → is_port_fault e ≡ false → is_spent e ≡ false → is_cell_fault e ≡ false → (e ≡ lane.Stopped) ⊎ (e ≡ lane.PortEnd)
@@ -56,35 +63,70 @@ not_past : (e : Ended) (known newest : ℕ) → e ≡ lane.Above known newest �
 not_past e known newest is (inl h) = cc
 not_past e known newest is (inr h) = cc
 
--- a lane that ended well stands over the newest history
-well_done : (turns : ℕ) (first : Version) (rest : List Version) (w : ℕ) (b c : LaneTold) (e : Ended) → IsDone turns first rest w b c e → (e ≡ lane.Stopped) ⊎ (e ≡ lane.PortEnd) → IsWellDone turns (first ∷ rest) w b c
-well_done turns first rest w b c e d well = elim d.which [
-  | inl newest ↦ record {
-    log = d.log;
-    ended = d.served;
-    shown = d.shown;
-    run = subst (λ h. IsLaneRun replies h w 0 0 (entries_of replies.way d.log) (tries_of d.log)) newest.same d.run;
-    told = d.told;
-    notes = d.notes;
-    noted = newest.noted;
-    last = d.last.0;
-    port = d.port;
-    gate = d.gate;
-    port_faults = d.port_faults;
-    port_stays = d.port_stays;
-    ending = d.ending;
-    well = subst (λ (x : Ended). (x ≡ lane.Stopped) ⊎ (x ≡ lane.PortEnd)) newest.ended_is well;
-  }
-  | inr (inl seen) ↦ absurd (not_shut d.served e seen.ended_is well)
-  | inr (inr past) ↦ absurd (not_past e past.last past.newest past.ended_is well)
-]
-
 none_of : (test : Ended → Bool) (e : Ended) (ends : List Ended) → list_any test (e ∷ ends) ≡ false → (test e ≡ false) × (list_any test ends ≡ false)
 none_of test e ends = go (test e) refl
   where
     go : (b : Bool) → test e ≡ b → list_any test (e ∷ ends) ≡ false → (test e ≡ false) × (list_any test ends ≡ false)
     go true is h = let other : true ≡ false = subst (λ (x : Bool). (x || list_any test ends) ≡ false) is h in absurd (cc)
     go false is h = (is, subst (λ (x : Bool). (x || list_any test ends) ≡ false) is h)
+
+-- a lane that ended well stands over the newest history
+over_newest : {T : Type 0} (a : Answers Version) (first : Version) (rest : List Version) (w : ℕ) (log : List Turn) (served e : Ended) (shown : ℕ) (b c : ServerTold T) → (d : IsServedLog a first rest w log served e shown b c) → (e ≡ lane.Stopped) ⊎ (e ≡ lane.PortEnd)
+    → IsOverNewest (first ∷ rest) d.over log served e b c
+over_newest a first rest w log served e shown b c d well = elim d.which [
+  | inl newest ↦ newest
+  | inr (inl seen) ↦ absurd (not_shut served e seen.ended_is well)
+  | inr (inr past) ↦ absurd (not_past e past.last past.newest past.ended_is well)
+]
+
+well_done : (turns : ℕ) (first : Version) (rest : List Version) (w : ℕ) (b c : LaneTold) (e : Ended) → IsDone turns first rest w b c e → (e ≡ lane.Stopped) ⊎ (e ≡ lane.PortEnd) → IsWellDone turns (first ∷ rest) w b c
+well_done turns first rest w b c e d well =
+    let newest = over_newest replies first rest w d.log d.served e d.shown b c d.line well in
+    record {
+      log = d.log;
+      ended = d.served;
+      shown = d.shown;
+      run = subst (λ h. IsLaneRun replies h w 0 0 (entries_of replies.way d.log) (tries_of d.log)) newest.same d.line.run;
+      told = d.line.told;
+      notes = d.line.notes;
+      noted = newest.noted;
+      last = d.line.last.0;
+      port = d.port;
+      gate = d.gate;
+      port_faults = d.line.port_faults;
+      port_stays = d.line.port_stays;
+      ending = d.ending;
+      well = subst (λ (x : Ended). (x ≡ lane.Stopped) ⊎ (x ≡ lane.PortEnd)) newest.ended_is well;
+    }
+
+-- the same of the lane for conversations
+stream_well_done : (turns : ℕ) (first : Version) (rest : List Version) (w : ℕ) (b c : StreamLaneTold) (e : Ended) → IsStreamDone turns first rest w b c e → (e ≡ lane.Stopped) ⊎ (e ≡ lane.PortEnd) → IsStreamWellDone turns (first ∷ rest) w b c
+stream_well_done turns first rest w b c e d well =
+    let newest = over_newest (replies_by Stream) first rest w (lane_of d.log) d.served e d.shown b c d.line well in
+    record {
+      log = d.log;
+      closes = d.closes;
+      ended = d.served;
+      shown = d.shown;
+      runs = λ s none. let r = d.runs s none in (r.0, r.1, r.2, subst (λ h. IsStreamRun (replies_by Stream) h w 0 0 r.0 (entries_of Stream (lane_of d.log)) (tries_of (lane_of d.log))) newest.same r.3);
+      told = d.line.told;
+      notes = d.line.notes;
+      noted = newest.noted;
+      last = d.line.last.0;
+      streams = d.streams;
+      gate = d.gate;
+      port_faults = d.line.port_faults;
+      port_stays = d.line.port_stays;
+      ending = d.ending;
+      well = subst (λ (x : Ended). (x ≡ lane.Stopped) ⊎ (x ≡ lane.PortEnd)) newest.ended_is well;
+    }
+
+stream_well : (turns : ℕ) (first : Version) (rest : List Version) (w : ℕ) (tcp : Option Listen) (e : Option Ended) (b c : StreamLaneTold) → length (option_to_list e) ≡ streams_of tcp → AreStreamsDone turns first rest w e b c
+    → list_any is_port_fault (option_to_list e) ≡ false → list_any is_spent (option_to_list e) ≡ false → list_any is_cell_fault (option_to_list e) ≡ false → IsStreamWell tcp turns (first ∷ rest) w b c
+stream_well turns first rest w None None b c same d p s f = d
+stream_well turns first rest w None (Some e) b c same d p s f = absurd (cc)
+stream_well turns first rest w (Some at) None b c same d p s f = absurd (cc)
+stream_well turns first rest w (Some at) (Some e) b c same d p s f = stream_well_done turns first rest w b c e d (well_end e (none_of is_port_fault e [] p).0 (none_of is_spent e [] s).0 (none_of is_cell_fault e [] f).0)
 
 all_well : (turns : ℕ) (first : Version) (rest : List Version) (w : ℕ) (ends : List Ended) (before after : List LaneTold) → AreDone turns first rest w ends before after
     → list_any is_port_fault ends ≡ false → list_any is_spent ends ≡ false → list_any is_cell_fault ends ≡ false → AreWellDone turns (first ∷ rest) w (length ends) before after
@@ -96,6 +138,14 @@ all_well turns first rest w (e ∷ ends) (b ∷ before) (a ∷ after) h p s c =
     (well_done turns first rest w b a e h.0 (well_end e ports.0 spents.0 cells.0), all_well turns first rest (w + 1) ends before after h.1 ports.1 spents.1 cells.1)
 all_well turns first rest w (e ∷ ends) [] after h p s c = absurd h
 all_well turns first rest w (e ∷ ends) (b ∷ before) [] h p s c = absurd h
+
+-- of both kinds of lanes
+both_none : (test : Ended → Bool) (ends : List Ended) (e : Option Ended) → list_any test (all_ends ends e) ≡ false → (list_any test ends ≡ false) × (list_any test (option_to_list e) ≡ false)
+both_none test ends e h = parts (list_any test ends) (list_any test (option_to_list e)) (sym (list_any-append test ends (option_to_list e)) ∙ h)
+  where
+    parts : (x y : Bool) → (x || y) ≡ false → (x ≡ false) × (y ≡ false)
+    parts true y h = absurd (cc)
+    parts false y h = (refl, h)
 
 by_parts : (p s c : Bool) → status.Ok ≡ status_by p s c → (p ≡ false) × (s ≡ false) × (c ≡ false)
 by_parts false false false h = (refl, refl, refl)
@@ -111,10 +161,13 @@ ok_parts feed.SinkFault p s c h = absurd (cc)
 
 -- a session over a topology
 session_well : (turns : ℕ) (ask : Service) (topology : Plan) (before after : Surroundings) → IsPlan topology → Says topology_file before.files ask.topology topology
-    → (placed started : Stage) (first : Version) → IsPlaced ask.workers before.stage placed → IsFirstOf topology first → IsStarted ask.listen ask.workers first placed started
-    → IsServed turns ask.workers first started after.stage status.Ok → IsWellServed turns ask before after
+    → (placed started : Stage) (first : Version) → IsPlaced ask before.stage placed → IsFirstOf topology first → IsStarted ask first placed started
+    → IsServed turns ask first started after.stage status.Ok → IsWellServed turns ask before after
 session_well turns ask topology before after plan says placed started first place is_first start served =
-    let parts = ok_parts served.end (list_any is_port_fault served.ends) (list_any is_spent served.ends) (list_any is_cell_fault served.ends) served.result_is in
+    let parts = ok_parts served.end (list_any is_port_fault (all_ends served.ends served.stream_end)) (list_any is_spent (all_ends served.ends served.stream_end)) (list_any is_cell_fault (all_ends served.ends served.stream_end)) served.result_is in
+    let ports = both_none is_port_fault served.ends served.stream_end parts.1 in
+    let spents = both_none is_spent served.ends served.stream_end parts.2 in
+    let cells = both_none is_cell_fault served.ends served.stream_end parts.3 in
     let d = served.driven in
     let fed : IsFeed topology turns feed.Ended started.lent.feed after.stage.lent.feed (scene first (first ∷ []) started.lent.out started.lent.maps started.lent.pace) (scene d.newest (first ∷ d.rest) after.stage.lent.out after.stage.lent.maps after.stage.lent.pace) =
     subst (λ (t : Plan). IsFeed t turns feed.Ended started.lent.feed after.stage.lent.feed (scene first (first ∷ []) started.lent.out started.lent.maps started.lent.pace) (scene d.newest (first ∷ d.rest) after.stage.lent.out after.stage.lent.maps after.stage.lent.pace)) is_first.0.plan
@@ -137,7 +190,9 @@ session_well turns ask topology before after plan says placed started first plac
       start = start;
       fed = fed;
       lanes = subst (λ (n : ℕ). AreWellDone turns (first ∷ d.rest) 0 n started.lent.lanes after.stage.lent.lanes) served.as_many
-          (all_well turns first d.rest 0 served.ends started.lent.lanes after.stage.lent.lanes d.lanes parts.1 parts.2 parts.3);
+          (all_well turns first d.rest 0 served.ends started.lent.lanes after.stage.lent.lanes d.lanes ports.0 spents.0 cells.0);
+      stream = stream_well turns first d.rest ask.workers ask.tcp served.stream_end started.lent.stream after.stage.lent.stream served.as_asked
+          (subst (λ (n : ℕ). AreStreamsDone turns first d.rest n served.stream_end started.lent.stream after.stage.lent.stream) served.as_many d.stream) ports.1 spents.1 cells.1;
     }
 
 -- what status 0 says

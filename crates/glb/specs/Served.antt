@@ -10,7 +10,7 @@ use Rattle.lane_model.specs.Lanes.{IsLaneRun}
 use Rattle.lane_model.specs.Machine.{GoesOn}
 use Rattle.lane_model.specs.Replies.{replies, replies_by}
 use Rattle.answer_core.specs.declared.way.Way.TheVariants.{Stream}
-use Rattle.lane_model.specs.Sessions.{IsEnd, IsGateRun}
+use Rattle.lane_model.specs.Calls.{IsEnd, IsGateRun}
 use Rattle.lane_model.specs.Turns.{IsTold, Turn, entries_of, failures, port_turn, tries_of}
 use Rattle.demand_feed.specs.declared.run.FeedEnd.TheVariants as feed
 use Rattle.mapper.specs.Feeding.{IsFeed}

@@ -6,7 +6,7 @@ use glb::{Lane, Status};
 use map_cell::{MOST_VIEWERS, PlainDoor};
 use no_memory::NoMemory;
 use outside::{
-    HeldLane, HoldGate, HoldPace, Marks, MemPort, MemSink, MemSource, MemTaken, MemTry, Point,
+    HeldLane, HoldGate, HoldPace, MemPort, MemSink, MemSource, MemTaken, MemTry, Milestones, Point,
     Wanted,
 };
 use std::alloc::Global;
@@ -77,7 +77,7 @@ const FEED: &[u8] = b"demand g2 4\ncommit\ndemand g2 5\ncommit\nstop\n";
 
 type HoldLane<'a> = Lane<MemPort, HoldGate<'a>, PlainDoor>;
 
-fn held_lane(alloc: Global, marks: &Marks, held: Held) -> Result<HoldLane<'_>, NoMemory> {
+fn held_lane(alloc: Global, milestones: &Milestones, held: Held) -> Result<HoldLane<'_>, NoMemory> {
     let waiting = queries(alloc, held.queries)?;
     let points = Vec::from_slice(alloc, held.points)?;
     let port = MemPort::new(
@@ -87,13 +87,13 @@ fn held_lane(alloc: Global, marks: &Marks, held: Held) -> Result<HoldLane<'_>, N
         Vec::new(alloc),
         Vec::new(alloc),
     )?;
-    let gate = HoldGate::new(alloc, marks, held.lane, points, 8)?;
+    let gate = HoldGate::new(alloc, milestones, held.lane, points, 8)?;
     Ok(Lane::new(port, gate, PlainDoor::new()))
 }
 
 fn held_lanes<'a>(
     alloc: Global,
-    marks: &'a Marks,
+    milestones: &'a Milestones,
     first: &[Held],
 ) -> Result<Vec<HoldLane<'a>>, NoMemory>
     ensures { IfOk result (λ v. vec_len v ≡ MOST_VIEWERS) }
@@ -101,7 +101,7 @@ fn held_lanes<'a>(
     let mut lanes = Vec::with_capacity(alloc, MOST_VIEWERS)?;
     for i in 0..MOST_VIEWERS {
         let held = first.get(i).copied().unwrap_or(IDLE);
-        lanes.push(held_lane(alloc, marks, held)?)?;
+        lanes.push(held_lane(alloc, milestones, held)?)?;
     }
     Ok(lanes)
 }
@@ -119,8 +119,8 @@ fn are_tried(tries: &[MemTry], serials: &[u64]) -> bool {
 /// What is lent to a run of two lanes and a feed that hold each other.
 type HeldLent<'a> = Lent<MemPort, HoldGate<'a>, PlainDoor, HoldPace<'a>>;
 
-/// A feed and two lanes that hold each other by these marks.
-fn held_lent(alloc: Global, marks: &Marks) -> Result<HeldLent<'_>, NoMemory>
+/// A feed and two lanes that hold each other by these milestones.
+fn held_lent(alloc: Global, milestones: &Milestones) -> Result<HeldLent<'_>, NoMemory>
     ensures { IfOk result (λ l. vec_len l.lanes ≡ MOST_VIEWERS) }
 {
     let feed = Vec::from_slice(alloc, FEED)?;
@@ -130,8 +130,8 @@ fn held_lent(alloc: Global, marks: &Marks) -> Result<HeldLent<'_>, NoMemory>
         feed: MemSource::new(alloc, feed, Vec::new(alloc), Vec::new(alloc))?,
         out: MemSink::new(alloc, 1024, Vec::new(alloc))?,
         maps: MemSink::new(alloc, 1024, Vec::new(alloc))?,
-        lanes: held_lanes(alloc, marks, &[FIRST_LANE, SECOND_LANE])?,
-        pace: HoldPace::new(alloc, marks, Vec::from_slice(alloc, COMMITS)?, 8)?,
+        lanes: held_lanes(alloc, milestones, &[FIRST_LANE, SECOND_LANE])?,
+        pace: HoldPace::new(alloc, milestones, Vec::from_slice(alloc, COMMITS)?, 8)?,
     })
 }
 
@@ -152,10 +152,10 @@ fn serve_both(lanes: &[HoldLane<'_>], first: &[u64], second: &[u64]) -> bool {
 
 #[test]
 fn lanes_run_at_once(rt: HostRuntime) -> Result<(), Fail> {
-    let marks = Marks::new();
-    let mut lent = held_lent(rt.alloc(), &marks)?;
+    let milestones = Milestones::new();
+    let mut lent = held_lent(rt.alloc(), &milestones)?;
     let status = run(&rt, rt.alloc(), &mut lent, 100);
-    assert!(rt; status == Status::Ok && !marks.is_late());
+    assert!(rt; status == Status::Ok && !milestones.is_late());
     assert!(rt; lent.out.bytes() == b"published 1\npublished 2\n".as_slice());
     assert!(rt; serve_both(lent.lanes.as_slice(), &[0, 1, 2], &[1]));
     Ok(())
