@@ -7,7 +7,7 @@ use Rattle.glb.proofs.serve.serve.Goals as goal
 
 pub returns-in-Ok-clause-promised : goal.returns-in-Ok-clause-promised
 returns-in-Ok-clause-promised g c =
-    let later = session_later _ _ _ _ _ _ _ c.serve_topology.ensures.session in
+    let later = session_later _ _ _ _ _ _ c.serve_topology.ensures.session in
     promised _ _ _ _ _ (search rules) (search rules) (search rules)
     (record {
       files_later = c.load_topology.ensures.later;
@@ -20,7 +20,7 @@ returns-in-Ok-clause-promised g c =
       feed_stays = later.feed_stays;
       out_stays = later.out_stays;
       maps_stay = later.maps_stay;
-      lanes = session_causes _ _ _ _ _ _ _ c.requires.workers.0 c.serve_topology.ensures.session;
+      lanes = session_causes _ _ _ _ _ _ c.requires.workers.0 c.serve_topology.ensures.session;
     })
 
 pub returns-in-Err-clause-promised : goal.returns-in-Err-clause-promised
