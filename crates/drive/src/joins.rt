@@ -1,7 +1,7 @@
 //! All lanes at once, each with its worker, and their closing looks one after the other.
 ghost use Rattle.std.specs.Prelude.{◌≡◌, ◌∷◌, [], length, vec_len, vec_capacity};
 ghost use Rattle.std.specs.Thread.{IsSync, IsSend};
-ghost use Rattle.drive.specs.All.{AllRan};
+ghost use Rattle.drive.specs.All.{AllRan, MayRan};
 
 use crate::lane::{Closes, Runs};
 use std::thread::{Threads, join_mut};
@@ -88,4 +88,17 @@ fn close_one<N, H: Drop, T: Closes<N, H>>(note: &N, work: H, lanes: &mut [T]) ->
     let mut work = work;
     lanes[0].close(note, &mut work);
     work
+}
+
+/// The closing look of one lane more, if it has a worker.
+pub(crate) fn close_more<N, H: Drop, U: Closes<N, H>>(
+    note: &N,
+    listener: &mut Option<H>,
+    stream: &mut U,
+)
+    ensures closed { MayRan (U.closed note.now) stream.old stream.new listener.old listener.new }
+{
+    if let Some(work) = listener {
+        stream.close(note, work);
+    }
 }

@@ -44,6 +44,13 @@ pub(crate) struct LaneWorker<J: Naming> {
     pub ended: Ended,
 }
 
+/// The workers of a drive: one for each lane, and one for conversations, if they are to be answered.
+#[derive(Drop)]
+pub(crate) struct Workers<H> {
+    pub lanes: Vec<H>,
+    pub stream: Option<H>,
+}
+
 /// How a lane ended whose closing look was refused.
 fn shut(ended: Ended) -> Ended
     ensures { result ≡ shut ended }
@@ -59,7 +66,7 @@ fn shut(ended: Ended) -> Ended
 }
 
 /// The closing look: the worker learns of the newest map, and looks once.
-fn close_lane<J: Naming, D: Door>(
+pub(crate) fn close_lane<J: Naming, D: Door>(
     worker: &mut Worker<J>,
     door: &mut D,
     note: &Note<J>,

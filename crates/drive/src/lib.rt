@@ -6,8 +6,10 @@ mod joins;
 mod lane;
 mod laws;
 mod loan;
+mod stream;
 mod whole;
 
 pub use lane::Lane;
 pub use laws::{drives_are_taken, machines_are_kept};
+pub use stream::StreamLane;
 pub use whole::{DriveEnd, drive};

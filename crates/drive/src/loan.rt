@@ -18,11 +18,12 @@ pub(crate) struct FeedLoan<'f, 'o, 'm, 'p, S, K, M> {
     pub end: FeedEnd,
 }
 
-/// What both sides are lent: the mapper's, and the lanes that have workers.
+/// What both sides are lent: the mapper's, the lanes that have workers, and the lane for conversations.
 #[derive(Drop)]
-pub(crate) struct Loan<'f, 'o, 'm, 'p, 'l, S, K, M, T> {
+pub(crate) struct Loan<'f, 'o, 'm, 'p, 'l, 's, S, K, M, T, U> {
     pub side: FeedLoan<'f, 'o, 'm, 'p, S, K, M>,
     pub lanes: &'l mut [T],
+    pub stream: &'s mut U,
 }
 
 impl<J: Naming, S: Source, K: Sink, M: Pace> Feeds<NoteRow<J>, Mapper<J>>
