@@ -102,12 +102,12 @@ done_of turns first rest w m m' f served e n n' j k asked seen heard count c are
     q.case
 
 -- the same, where some things are told by equations
-pub done_by : (turns : ℕ) (first : Version) (rest : List Version) (i w : ℕ) (m m' : Moment Version) (f : Eyes Version) (served e : Ended) (h0 h : List Version) (port : Option PortTold) (faults : ℕ) (gate : Option GateTold) (n n' n'' j k l nones : ℕ) → w ≡ i → h ≡ first ∷ rest → h0 ≡ first ∷ []
+pub done_by : (turns : ℕ) (first : Version) (rest : List Version) (i w t : ℕ) (m m' : Moment Version) (f : Eyes Version) (served e : Ended) (h0 h : List Version) (port : Option PortTold) (faults : ℕ) (gate : Option GateTold) (n n' n'' j k l nones : ℕ) → w ≡ i → t ≡ turns → h ≡ first ∷ rest → h0 ≡ first ∷ []
     → m.eyes.seen ≡ h0 → m.eyes.heard ≡ h0 → m.count ≡ 0 → m.notes ≡ Some (record { coming = range_with_len 0 most_notes; nones = 0 }) → m'.notes ≡ Some (record { coming = range_with_len k (most_notes - k); nones = nones }) → k ≤ most_notes
-    → IsLaneCall replies w turns m m' served → IsClosing h m'.eyes f served e → port ≡ m'.port → faults ≡ m'.port_faults → gate ≡ m'.gate → n' ≡ n → n'' ≡ n' → l ≡ k
+    → IsLaneCall replies w t m m' served → IsClosing h m'.eyes f served e → port ≡ m'.port → faults ≡ m'.port_faults → gate ≡ m'.gate → n' ≡ n → n'' ≡ n' → l ≡ k
     → IsDone turns first rest i (told_of m m.eyes n j) (record { port = port; port_faults = faults; gate = gate; asked = n''; looks = f.looks; greatest = f.greatest; door_faults = f.faults; noted = l }) e
-done_by turns first rest i w m m' f served e h0 h port faults gate n n' n'' j k l nones same is opened seen heard count b a le c q p1 p2 p3 p4 p5 p6 =
-    let call = subst (λ (x : ℕ). IsLaneCall replies x turns m m' served) same c in
+done_by turns first rest i w t m m' f served e h0 h port faults gate n n' n'' j k l nones same long is opened seen heard count b a le c q p1 p2 p3 p4 p5 p6 =
+    let call = subst (λ (x : ℕ). IsLaneCall replies i x m m' served) long (subst (λ (x : ℕ). IsLaneCall replies x t m m' served) same c) in
     let given = subst (λ x. BothTell x (Some (record { coming = range_with_len k (most_notes - k); nones = nones })) (AreGiven call.log)) b (subst (λ x. BothTell m.notes x (AreGiven call.log)) a call.all.notes) in
     let done = done_of turns first rest i m m' f served e n n' j k p4 (seen ∙ opened) (heard ∙ opened) count call (notes_are call.log k nones 0 le given) (subst (λ (x : List Version). IsClosing x m'.eyes f served e) is q) in
     subst (λ (x : LaneTold). IsDone turns first rest i (told_of m m.eyes n j) x e) (cc (p1, p2, p3, p5, p6)) done

@@ -5,3 +5,4 @@ pub mod Done
 pub mod Driven
 pub mod Fed
 pub mod Laws
+pub mod Told

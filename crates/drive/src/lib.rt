@@ -1,11 +1,11 @@
 //! A mapper and its lanes at once, and behind their joins the closing look of each lane.
 #![tactic(auto)]
 
-mod desk;
-mod feeding;
+mod beside;
 mod joins;
 mod lane;
 mod laws;
+mod loan;
 mod whole;
 
 pub use lane::Lane;

@@ -1,15 +1,15 @@
-//! What the mapper's side of a drive is lent, and how its feed is run.
+//! All that a drive is lent: one value, made once, which goes through its functions.
 
-use crate::feeding::Feeding;
+use crate::beside::Feeds;
 use demand_feed::FeedEnd;
 use map_cell::{Naming, NoteRow};
 use mapper::Mapper;
 use outside::{Pace, Sink, Source};
 use std::sync::Wait;
 
-/// The feed, both outputs and the pace, the number of turns, and how the feed ended.
+/// What the mapper's side is lent: the feed, both outputs and the pace; and the number of turns, and how the feed ended.
 #[derive(Drop)]
-pub(crate) struct Desk<'f, 'o, 'm, 'p, S, K, M> {
+pub(crate) struct FeedLoan<'f, 'o, 'm, 'p, S, K, M> {
     pub feed: &'f mut S,
     pub out: &'o mut K,
     pub maps: &'m mut K,
@@ -18,13 +18,20 @@ pub(crate) struct Desk<'f, 'o, 'm, 'p, S, K, M> {
     pub end: FeedEnd,
 }
 
-impl<J: Naming, S: Source, K: Sink, M: Pace> Feeding<NoteRow<J>, Mapper<J>>
-    for Desk<'_, '_, '_, '_, S, K, M> {
+/// What both sides are lent: the mapper's, and the lanes that have workers.
+#[derive(Drop)]
+pub(crate) struct Loan<'f, 'o, 'm, 'p, 'l, S, K, M, T> {
+    pub side: FeedLoan<'f, 'o, 'm, 'p, S, K, M>,
+    pub lanes: &'l mut [T],
+}
+
+impl<J: Naming, S: Source, K: Sink, M: Pace> Feeds<NoteRow<J>, Mapper<J>>
+    for FeedLoan<'_, '_, '_, '_, S, K, M> {
     ghost use Rattle.std.specs.Prelude.{◌<◌, ◌≤◌, ◌^◌};
     ghost use Rattle.demand_feed.specs.declared.limits.TheConstants.{MOST_TURNS};
     ghost use Rattle.drive.specs.Fed.{IsFedBy};
 
-    ghost ready = { λ d m. (d.turns ≤ MOST_TURNS) × (m.newest.serial < 2 ^ 63) };
+    ghost ready = { λ l m. (l.turns ≤ MOST_TURNS) × (m.newest.serial < 2 ^ 63) };
 
     ghost fed = { λ a b m n. IsFedBy S.told S.faults K.told K.faults M.told a b m n };
 

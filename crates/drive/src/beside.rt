@@ -9,7 +9,7 @@ use std::sync::Wait;
 use std::thread::{Threads, join_mut};
 
 /// The mapper's side of a drive.
-pub(crate) trait Feeding<W, M> {
+pub(crate) trait Feeds<W, M> {
     /// Whether it may run.
     ghost ready: { Self → M → Type 0 };
 
@@ -27,19 +27,19 @@ pub(crate) fn run_beside<
     H: Drop + Send,
     M,
     T: Runs<W, H> + Send,
-    F: Feeding<W, M>,
+    F: Feeds<W, M>,
     R: Threads + Wait + Sync,
->(rt: &R, row: &W, turns: u64, works: &mut Vec<H>, lanes: &mut [T], mapper: &mut M, feed: &mut F)
+>(rt: &R, row: &W, works: &mut Vec<H>, lanes: &mut [T], mapper: &mut M, feed: &mut F)
     requires ready { F.ready feed.old mapper.old }
     requires lanes { length lanes.old ≡ vec_len works.old }
     ensures fed { F.fed feed.old feed.new mapper.old mapper.new }
-    ensures ran { AllRan (T.ran turns) lanes.old lanes.new works.old.items works.new.items }
+    ensures ran { AllRan T.ran lanes.old lanes.new works.old.items works.new.items }
     ensures len { vec_len works.new ≡ vec_len works.old }
 {
     let mut all = ||
         requires { IsSync R.row × IsSend T.row × IsSend H.row × IsSync W.row × (length lanes.now ≡ vec_len works.now) }
-        ensures { AllRan (T.ran turns) lanes.entry.now lanes.exit.now works.entry.now.items works.exit.now.items × (vec_len works.exit.now ≡ vec_len works.entry.now) }
-    { run_all(rt, row, turns, works, lanes) };
+        ensures { AllRan T.ran lanes.entry.now lanes.exit.now works.entry.now.items works.exit.now.items × (vec_len works.exit.now ≡ vec_len works.entry.now) }
+    { run_all(rt, row, works, lanes) };
     let mut map = ||
         requires { F.ready feed.now mapper.now }
         ensures { F.fed feed.entry.now feed.exit.now mapper.entry.now mapper.exit.now }
