@@ -125,8 +125,8 @@ fn serve_all<
     requires first { (mapper.old.history ≡ mapper.old.newest ∷ []) × (mapper.old.newest.serial ≡ 0) }
     requires fresh { AllHeld (λ i w. (w.worker.number ≡ i) × (w.worker.count ≡ 0) × (w.worker.viewer.seen ≡ mapper.old.history) × (w.worker.viewer.heard ≡ mapper.old.history) × (w.turns ≡ loan.old.side.turns)) 0 works.old.lanes.items }
     requires lanes { length loan.old.lanes.now ≡ vec_len works.old.lanes }
-    ensures fed { IsFedBy S.told S.faults K.told K.faults M.told loan.old.side loan.new.side mapper.old mapper.new }
     requires listener { IfSome works.old.stream (λ w. (w.worker.number ≡ vec_len works.old.lanes) × (w.worker.count ≡ 0) × (w.worker.viewer.seen ≡ mapper.old.history) × (w.worker.viewer.heard ≡ mapper.old.history) × (w.turns ≡ loan.old.side.turns)) }
+    ensures fed { IsFedBy S.told S.faults K.told K.faults M.told loan.old.side loan.new.side mapper.old mapper.new }
     ensures lanes { (loan.new.lanes.ghost_name ≡ loan.old.lanes.ghost_name) × (loan.new.stream.ghost_name ≡ loan.old.stream.ghost_name) }
     ensures history { IsHistory mapper.new.history }
     ensures len { vec_len works.new.lanes ≡ vec_len works.old.lanes.lanes }
@@ -137,7 +137,15 @@ fn serve_all<
     ensures same { length (option_to_list works.new.stream) ≡ length (option_to_list works.old.stream) }
 {
     let _ = row.put_at(rt, 0, mapper.note());
-    run_beside(rt, row, works, loan.lanes, loan.stream, mapper, &mut loan.side);
+    run_beside(
+        rt,
+        row,
+        works,
+        loan.lanes,
+        loan.stream,
+        mapper,
+        &mut loan.side,
+    );
     let note = mapper.note();
     // tells the prover what the type keeps
     let _ = note.front.len();
@@ -215,18 +223,15 @@ pub fn drive<
         stream: hold_one(listener, count as u8, turns),
     };
     let (served, _behind) = lanes.split_at_mut(count);
-    let mut loan = Loan {
-        side: FeedLoan {
-            feed,
-            out,
-            maps,
-            pace,
-            turns,
-            end: FeedEnd::Ended,
-        },
-        lanes: served,
-        stream,
+    let side = FeedLoan {
+        feed,
+        out,
+        maps,
+        pace,
+        turns,
+        end: FeedEnd::Ended,
     };
+    let mut loan = Loan::new(side, served, stream);
     serve_all(rt, &row, &mut mapper, &mut works, &mut loan);
     mapper.close(rt);
     Ok(DriveEnd {
