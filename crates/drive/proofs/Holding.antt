@@ -1,5 +1,5 @@
 -- Workers one by one, and the lanes that they have.
-use Rattle.std.proofs.Common.{◌≡◌, ℕ, zero, suc, ◌+◌, All, List, [], ◌∷◌, ◌++◌, length, subst, arith}
+use Rattle.std.proofs.Common.{◌≡◌, ℕ, zero, suc, ◌+◌, All, List, [], ◌∷◌, ◌++◌, length, Option, IfSome, subst, arith}
 use Rattle.drive.specs.AllDone.{AllFresh, AllHeld}
 
 -- what all have, those in front have and the last one
@@ -21,3 +21,7 @@ fresh_of P i [] [] n h = tt
 fresh_of P i [] (w ∷ ws) n h = absurd (omega (arith, n))
 fresh_of P i (a ∷ ls) [] n h = absurd (omega (arith, n))
 fresh_of P i (a ∷ ls) (w ∷ ws) n h = (h.0, fresh_of P (i + 1) ls ws (omega (arith, n)) h.1)
+
+-- a worker's number by another name
+pub numbered_as : {A : Type 0} (P : ℕ → A → Type 0) (work : Option A) (k n : ℕ) → k ≡ n → IfSome work (P k) → IfSome work (P n)
+numbered_as P work k n same h = subst (λ (x : ℕ). IfSome work (P x)) same h

@@ -3,6 +3,8 @@ pub mod Together
 pub mod Holding
 pub mod Noted
 pub mod Finished
+pub mod Refused
+mod StreamFinished
 pub mod Growing
 pub mod Events
 pub mod Ends

@@ -12,6 +12,8 @@ use Rattle.lane_model.specs.declared.ended.Ended.{Ended}
 use Rattle.lane_model.specs.Replies.{replies}
 use Rattle.lane_model.specs.Calls.{IsLaneCall, Moment}
 use Rattle.lane_model.specs.Turns.{Turn, AreGiven, IsTold, floor_after}
+use Rattle.tcp_lane.specs.Calls.{IsStreamCall, StreamMoment}
+use Rattle.tcp_lane.specs.Replies.{stream_replies}
 use Rattle.drive.specs.Done.{floor_behind}
 
 -- what was to come is what was given, and then what is to come
@@ -64,3 +66,7 @@ behind_within (t ∷ log) floor n lt within = behind_within log (floor_after t.k
 -- a call, by what its notes tell in other words
 pub with_notes : (w turns : ℕ) (m m' : Moment Version) (x y : Option NotesTold) (e : Ended) → m.notes ≡ x → m'.notes ≡ y → IsLaneCall replies w turns m m' e → IsLaneCall replies w turns (record m { notes = x }) (record m' { notes = y }) e
 with_notes w turns m m' x y e p q call = subst (λ z. IsLaneCall replies w turns (record m { notes = x }) (record m' { notes = z }) e) q (subst (λ z. IsLaneCall replies w turns (record m { notes = z }) m' e) p call)
+
+-- the same of a lane for conversations
+pub with_stream_notes : (w turns : ℕ) (m m' : StreamMoment Version) (x y : Option NotesTold) (e : Ended) → m.notes ≡ x → m'.notes ≡ y → IsStreamCall stream_replies w turns m m' e → IsStreamCall stream_replies w turns (record m { notes = x }) (record m' { notes = y }) e
+with_stream_notes w turns m m' x y e p q call = subst (λ z. IsStreamCall stream_replies w turns (record m { notes = x }) (record m' { notes = z }) e) q (subst (λ z. IsStreamCall stream_replies w turns (record m { notes = z }) m' e) p call)

@@ -1,10 +1,13 @@
 -- What each lane did, one after the other.
-use Rattle.std.proofs.Common.{◌≡◌, ℕ, ◌+◌, List, [], ◌∷◌, ◌++◌, map, refl, subst, sym}
+use Rattle.std.proofs.Common.{◌≡◌, ℕ, ◌+◌, List, [], ◌∷◌, ◌++◌, map, length, Option, None, Some, IfSome, refl, subst, sym, ap, ◌∙◌}
 use Rattle.published_map.specs.Version.{Version}
 use Rattle.lane_model.specs.declared.ended.Ended.{Ended}
-use Rattle.drive.specs.All.{AllRan}
+use Rattle.std.specs.Prelude.{option_map}
+use Rattle.std.specs.Option.{option_to_list}
+use Rattle.drive.specs.All.{AllRan, MayRan}
 use Rattle.drive.specs.AllDone.{AllDone, AllFresh}
-use Rattle.drive.specs.Done.{IsDone, LaneTold}
+use Rattle.drive.specs.Done.{IsDone, LaneTold, StreamLaneTold}
+use Rattle.drive.specs.Streams.{AreStreamsDone, IsStreamDone}
 use Rattle.drive.specs.Driven.{AreDone}
 
 -- turns and then a closing look, lane by lane
@@ -37,3 +40,27 @@ pub are_done_in : {A W : Type 0} (tell : A → LaneTold) (ended : W → Ended) (
     → AllDone (λ k a c x. IsDone turns first rest k (tell a) (tell c) (ended x)) 0 ls cs xs → AreDone turns first rest 0 (map ended xs) (map tell all) (map tell (cs ++ behind))
 are_done_in {A = A} tell ended turns first rest all ls cs behind xs is d =
     subst (λ (l : List A). AreDone turns first rest 0 (map ended xs) (map tell l) (map tell (cs ++ behind))) (sym is) (are_done tell ended turns first rest 0 ls cs behind xs d)
+
+-- one lane more: turns and then a closing look, or nothing
+pub may_done : {A W : Type 0} (tell : A → StreamLaneTold) (ended : W → Ended) (R C : A → A → W → W → Type 0) (F : W → Type 0) (turns : ℕ) (first : Version) (rest : List Version) (n : ℕ)
+    → ((a b c : A) (v w x : W) → F v → R a b v w → C b c w x → IsStreamDone turns first rest n (tell a) (tell c) (ended x)) → (a b c : A) (v w x : Option W) → IfSome v F → MayRan R a b v w → MayRan C b c w x
+    → AreStreamsDone turns first rest n (option_map ended x) (tell a) (tell c)
+may_done tell ended R C F turns first rest n f a b c None None None h p q = ap tell (q ∙ p)
+may_done tell ended R C F turns first rest n f a b c None None (Some x) h p q = absurd q
+may_done tell ended R C F turns first rest n f a b c None (Some w) x h p q = absurd p
+may_done tell ended R C F turns first rest n f a b c (Some v) None x h p q = absurd p
+may_done tell ended R C F turns first rest n f a b c (Some v) (Some w) None h p q = absurd q
+may_done tell ended R C F turns first rest n f a b c (Some v) (Some w) (Some x) h p q = f a b c v w x h p q
+
+-- it has a worker behind that where it had one before
+pub may_same : {A W : Type 0} (R C : A → A → W → W → Type 0) (a b c : A) (v w x : Option W) → MayRan R a b v w → MayRan C b c w x → length (option_to_list x) ≡ length (option_to_list v)
+may_same R C a b c None None None p q = refl
+may_same R C a b c None None (Some x) p q = absurd q
+may_same R C a b c None (Some w) x p q = absurd p
+may_same R C a b c (Some v) None x p q = absurd p
+may_same R C a b c (Some v) (Some w) None p q = absurd q
+may_same R C a b c (Some v) (Some w) (Some x) p q = refl
+
+-- an end and a number by other names
+pub ended_as : (turns : ℕ) (first : Version) (rest : List Version) (k n : ℕ) (d e : Option Ended) (b c : StreamLaneTold) → k ≡ n → e ≡ d → AreStreamsDone turns first rest k d b c → AreStreamsDone turns first rest n e b c
+ended_as turns first rest k n d e b c same is h = subst (λ (x : Option Ended). AreStreamsDone turns first rest n x b c) (sym is) (subst (λ (x : ℕ). AreStreamsDone turns first rest x d b c) same h)

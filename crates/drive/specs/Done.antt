@@ -5,19 +5,20 @@ use mathlib.Core.List.{IsPrefix}
 use Rattle.outside.specs.Faults.{BothTell, Rose, raised}
 use Rattle.outside.specs.Port.{Packet, PortTold}
 use Rattle.outside.specs.Gate.{GateTold}
+use Rattle.outside.specs.Streams.{StreamsTold}
 use Rattle.published_map.specs.Version.{Version}
 use Rattle.map_cell.specs.Histories.{IsHistory}
 use Rattle.lane_model.specs.declared.ended.Ended.{Ended}
 use Rattle.lane_model.specs.declared.ended.Ended.TheVariants.{Above, CellFault}
-use Rattle.lane_model.specs.Lanes.{IsLaneRun}
-use Rattle.lane_model.specs.Replies.{is_silent, replies}
+use Rattle.lane_model.specs.Lanes.{Answers, IsLaneRun}
+use Rattle.lane_model.specs.Replies.{replies}
 use Rattle.lane_model.specs.Turns.{Turn, IsTold, entries_of, failures, floor_after, looks_of, port_turn, refused, refused_of, took, tries_of}
 use Rattle.lane_model.specs.Calls.{IsEnd, IsGateRun}
 use Rattle.drive.specs.Closing.{shut}
 
--- what a lane tells at one moment: its port and gate, where they tell, the port's count of faults, its door's numbers, which are the places and the looks that it was asked for, the greatest serial, and its faults, and how many notes its worker was given
-pub record LaneTold : Type 0 where
-  pub port : Option PortTold
+-- what a lane tells at one moment: its port, which is one for datagrams or streams, and its gate, where they tell, the port's count of faults, its door's numbers, which are the places and the looks that it was asked for, the greatest serial, and its faults, and how many notes its worker was given
+pub record ServerTold (T : Type 0) : Type 0 where
+  pub port : Option T
   pub port_faults : ℕ
   pub gate : Option GateTold
   pub asked : ℕ
@@ -26,13 +27,21 @@ pub record LaneTold : Type 0 where
   pub door_faults : ℕ
   pub noted : ℕ
 
+-- a lane for datagrams
+abbrev pub LaneTold : Type 0
+LaneTold = ServerTold PortTold
+
+-- a lane for conversations
+abbrev pub StreamLaneTold : Type 0
+StreamLaneTold = ServerTold StreamsTold
+
 -- the serial below which nothing may be that a worker knows behind some turns
 abbrev pub floor_behind : ℕ → List Turn → ℕ
 floor_behind floor [] = floor
 floor_behind floor (t ∷ log) = floor_behind (floor_after t.known t.came) log
 
 -- A lane stands over the mapper's history, in which all that it knew has its place;
-pub record IsOverNewest (h over : List Version) (log : List Turn) (served ended : Ended) (before after : LaneTold) : Type 0 where
+pub record IsOverNewest {T : Type 0} (h over : List Version) (log : List Turn) (served ended : Ended) (before after : ServerTold T) : Type 0 where
   pub same : over ≡ h
   pub known : All (λ t. t.known < length h) log
   pub noted : after.noted ≤ length h
@@ -41,7 +50,7 @@ pub record IsOverNewest (h over : List Version) (log : List Turn) (served ended 
   pub ended_is : ended ≡ served
 
 -- or, where its closing look was refused, over what it had seen, which is a history from the same first version on, of which and the mapper's history one begins the other, and then, if a look at a datagram was refused too, its door counted both;
-pub record IsOverSeen (first : Version) (h over : List Version) (served ended : Ended) (before after : LaneTold) : Type 0 where
+pub record IsOverSeen {T : Type 0} (first : Version) (h over : List Version) (served ended : Ended) (before after : ServerTold T) : Type 0 where
   pub first_is : IsPrefix (first ∷ []) over
   pub beside : IsPrefix over h ⊎ IsPrefix h over
   pub history : IsHistory over
@@ -50,7 +59,7 @@ pub record IsOverSeen (first : Version) (h over : List Version) (served ended : 
   pub ended_is : ended ≡ shut served
 
 -- or, where that look was past the newest map, over a history that goes on from the mapper's, up to the serial that its door showed, if its door had shown none above that before. The end tells the last serial of either history.
-pub record IsOverPast (h over : List Version) (log : List Turn) (ended : Ended) (before after : LaneTold) : Type 0 where
+pub record IsOverPast {T : Type 0} (h over : List Version) (log : List Turn) (ended : Ended) (before after : ServerTold T) : Type 0 where
   pub begins : IsPrefix h over
   pub longer : length h < length over
   pub history : IsHistory over
@@ -62,27 +71,31 @@ pub record IsOverPast (h over : List Version) (log : List Turn) (ended : Ended) 
   pub newest_is : newest + 1 ≡ length h
   pub ended_is : ended ≡ Above last newest
 
--- Lane w after a drive, whose worker knew the first version alone: the turns that it made, as a lane run; what was told; what port, gate and door tell, which was asked for no place; why it ended; that its port's count rose by at least as many as its calls failed, and stands where none did; that a datagram whose look was refused has a reply, which it missed; that the notes that its worker was given are those of the first versions, as many as it tells, in their order, each once; that what its gate was shown last is no less than what was known by then; that the whole history was learned ahead of the closing look; and over which history it stands.
-pub record IsDone (turns : ℕ) (first : Version) (rest : List Version) (w : ℕ) (before after : LaneTold) (ended : Ended) : Type 0 where
-  pub log : List Turn
+-- The turns of lane w of a drive, whose worker knew the first version alone: that they are a lane run; what was told; that the notes that its worker was given are those of the first versions, as many as it tells, in their order, each once; that what its gate was shown last is no less than what was known by then; that its door was asked for no place, and for one look for each datagram that isn't silent, and one more; that its port's count rose by at least as many as its calls failed, and stands where none did; that a datagram whose look was refused has a reply, which it missed; that the whole history was learned ahead of the closing look; and over which history it stands.
+pub record IsServedLog {T : Type 0} (a : Answers Version) (first : Version) (rest : List Version) (w : ℕ) (log : List Turn) (served ended : Ended) (shown : ℕ) (before after : ServerTold T) : Type 0 where
   pub over : List Version
-  pub served : Ended
-  pub shown : ℕ
-  pub run : IsLaneRun replies over w 0 0 (entries_of replies.way log) (tries_of log)
+  pub run : IsLaneRun a over w 0 0 (entries_of a.way log) (tries_of log)
   pub told : IsTold 0 log
   pub notes : flat_map (λ t. t.notes) log ≡ range_with_len 0 after.noted
   pub noted : after.noted ≤ after.greatest + 1
   pub within : All (λ t. floor_after t.known t.came ≤ after.greatest) log
   pub last : (floor_behind 0 log ≤ shown) × (shown ≤ after.greatest)
-  pub port : BothTell before.port after.port (λ b c. c ≡ fold port_turn b log)
-  pub gate : BothTell before.gate after.gate (IsGateRun shown log served)
-  pub ending : IsEnd turns log served
   pub asked : after.asked ≡ before.asked
   pub looks : after.looks ≡ raised before.looks (sum_by (λ t. looks_of t.came) log + 1)
   pub port_faults : raised before.port_faults (failures log) ≤ after.port_faults
   pub port_stays : failures log ≡ 0 → after.port_faults ≡ before.port_faults
   pub refusal : 0 < sum_by (λ t. refused_of t.came) log → Rose before.door_faults after.door_faults
-  pub missed : All (λ t. (d : Packet) → t.came ≡ took d refused → is_silent d.octets ≡ false) log
+  pub missed : All (λ t. (d : Packet) → t.came ≡ took d refused → a.silent d.octets ≡ false) log
   pub learned : length (first ∷ rest) ≤ after.greatest + 1
   pub rising : (before.greatest ≤ after.greatest) × (before.door_faults ≤ after.door_faults)
   pub which : IsOverNewest (first ∷ rest) over log served ended before after ⊎ IsOverSeen first (first ∷ rest) over served ended before after ⊎ IsOverPast (first ∷ rest) over log ended before after
+
+-- Lane w after a drive: the turns that it made; what port and gate tell; and why it ended.
+pub record IsDone (turns : ℕ) (first : Version) (rest : List Version) (w : ℕ) (before after : LaneTold) (ended : Ended) : Type 0 where
+  pub log : List Turn
+  pub served : Ended
+  pub shown : ℕ
+  pub line : IsServedLog replies first rest w log served ended shown before after
+  pub port : BothTell before.port after.port (λ b c. c ≡ fold port_turn b log)
+  pub gate : BothTell before.gate after.gate (IsGateRun shown log served)
+  pub ending : IsEnd turns log served

@@ -11,15 +11,17 @@ use Rattle.lane_model.specs.Machine.{GoesOn}
 use Rattle.mapper.specs.Control.{IsNext}
 use Rattle.mapper.specs.Feeding.{IsFeed}
 use Rattle.mapper.specs.Scenes.{scene}
-use Rattle.drive.specs.Done.{IsDone, LaneTold}
+use Rattle.drive.specs.Done.{IsDone, LaneTold, StreamLaneTold}
+use Rattle.drive.specs.Streams.{AreStreamsDone}
 
--- what is told at one moment by all that a drive is lent: the feed, both outputs, the pace and the lanes
+-- what is told at one moment by all that a drive is lent: the feed, both outputs, the pace, the lanes, and that for conversations
 pub record Lent : Type 0 where
   pub feed : Option Fed
   pub out : Option Written
   pub maps : Option Written
   pub pace : Option (List PaceCall)
   pub lanes : List LaneTold
+  pub stream : StreamLaneTold
 
 -- a version may follow on a history: some changes lead to it from the last one
 abbrev pub Succeeds : List Version → Version → Type 0
@@ -31,13 +33,14 @@ AreDone turns first rest w [] before after = after ≡ before
 AreDone turns first rest w (e ∷ ends) (b ∷ before) (c ∷ after) = IsDone turns first rest w b c e × AreDone turns first rest (w + 1) ends before after
 AreDone turns first rest w (e ∷ ends) _ _ = ⊥
 
--- A drive from a first version on: the feed's run, whose versions go on from the first one, and the lanes over that history.
-pub record IsDriven (turns : ℕ) (first : Version) (end : FeedEnd) (ends : List Ended) (before after : Lent) : Type 0 where
+-- A drive from a first version on: the feed's run, whose versions go on from the first one, and the lanes over that history, the one for conversations behind the others.
+pub record IsDriven (turns : ℕ) (first : Version) (end : FeedEnd) (ends : List Ended) (stream_end : Option Ended) (before after : Lent) : Type 0 where
   pub rest : List Version
   pub newest : Version
   pub feed : IsFeed first.plan turns end before.feed after.feed (scene first (first ∷ []) before.out before.maps before.pace) (scene newest (first ∷ rest) after.out after.maps after.pace)
   pub goes_on : GoesOn Succeeds (first ∷ []) rest
   pub lanes : AreDone turns first rest 0 ends before.lanes after.lanes
+  pub stream : AreStreamsDone turns first rest (length ends) stream_end before.stream after.stream
 
 -- sixteen places, the first of which have the ends of the lanes
 abbrev pub AreEnds : List Ended → List (Option Ended) → Type 0

@@ -9,17 +9,17 @@ use Rattle.demand_feed.specs.declared.run.FeedEnd.TheVariants.{SinkFault, Source
 use Rattle.map_cell.specs.Ends.{PublisherState}
 use Rattle.mapper.specs.Feeding.{IsFeed}
 use Rattle.mapper.specs.Scenes.{scene}
-use Rattle.drive.specs.declared.desk.Desk.{Desk}
+use Rattle.drive.specs.declared.loan.FeedLoan.{FeedLoan}
 
 -- the same things are lent, for as many turns
-pub record IsSame {S K M : Type 0} (a b : Desk S K M) : Type 0 where
+pub record IsSame {S K M : Type 0} (a b : FeedLoan S K M) : Type 0 where
   pub feed : b.feed.ghost_name ≡ a.feed.ghost_name
   pub out : b.out.ghost_name ≡ a.out.ghost_name
   pub maps : b.maps.ghost_name ≡ a.maps.ghost_name
   pub pace : b.pace.ghost_name ≡ a.pace.ghost_name
 
 -- the feed was run to its end
-pub record IsFedBy {S K M : Type 0} (fed : S → Option Fed) (fed_faults : S → ℕ) (told : K → Option Written) (faults : K → ℕ) (paced : M → Option (List PaceCall)) (a b : Desk S K M) (m n : PublisherState) : Type 0 where
+pub record IsFedBy {S K M : Type 0} (fed : S → Option Fed) (fed_faults : S → ℕ) (told : K → Option Written) (faults : K → ℕ) (paced : M → Option (List PaceCall)) (a b : FeedLoan S K M) (m n : PublisherState) : Type 0 where
   pub same : IsSame a b
   pub run : IsFeed m.newest.plan a.turns b.end (fed a.feed.now) (fed b.feed.now) (scene m.newest m.history (told a.out.now) (told a.maps.now) (paced a.pace.now)) (scene n.newest n.history (told b.out.now) (told b.maps.now) (paced b.pace.now))
   pub kept : IsPrefix m.history n.history

@@ -2,6 +2,8 @@ pub mod All
 pub mod AllDone
 pub mod Closing
 pub mod Done
+pub mod Streams
 pub mod Driven
 pub mod Fed
 pub mod Laws
+pub mod Told

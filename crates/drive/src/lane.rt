@@ -1,5 +1,6 @@
 //! A lane with its worker: its turns, and its closing look.
 ghost use Rattle.std.specs.Prelude.{◌≡◌, ℕ};
+ghost use Rattle.name_workers.specs.Moments.{eyes_of};
 ghost use Rattle.drive.specs.Closing.{IsClosing, shut};
 
 use lane_model::Ended;
@@ -35,11 +36,19 @@ impl<P, G, D> Lane<P, G, D> {
     }
 }
 
-/// A worker, and how its lane ended.
+/// A lane's worker, how many turns it has, and how its lane ended.
 #[derive(Drop)]
-pub(crate) struct Held<J: Naming> {
+pub(crate) struct LaneWorker<J: Naming> {
     pub worker: Worker<J>,
+    pub turns: u64,
     pub ended: Ended,
+}
+
+/// The workers of a drive: one for each lane, and one for conversations, if they are to be answered.
+#[derive(Drop)]
+pub(crate) struct Workers<H> {
+    pub lanes: Vec<H>,
+    pub stream: Option<H>,
 }
 
 /// How a lane ended whose closing look was refused.
@@ -57,16 +66,14 @@ fn shut(ended: Ended) -> Ended
 }
 
 /// The closing look: the worker learns of the newest map, and looks once.
-fn close_lane<J: Naming, D: Door>(
+pub(crate) fn close_lane<J: Naming, D: Door>(
     worker: &mut Worker<J>,
     door: &mut D,
     note: &Note<J>,
     served: Ended,
 ) -> Ended
     ensures closing { IsClosing note.now.front
-        (record { seen = worker.old.viewer.seen; heard = worker.old.viewer.heard; looks = D.looks door.old; greatest = D.greatest door.old; faults = D.faults door.old })
-        (record { seen = worker.new.viewer.seen; heard = worker.new.viewer.heard; looks = D.looks door.new; greatest = D.greatest door.new; faults = D.faults door.new })
-        served result }
+        (eyes_of D.looks D.greatest D.faults worker.old.viewer door.old) (eyes_of D.looks D.greatest D.faults worker.new.viewer door.new) served result }
     ensures asked { D.asked door.new ≡ D.asked door.old }
 {
     door.learn(&mut worker.viewer, note);
@@ -92,58 +99,59 @@ fn close_lane<J: Naming, D: Door>(
     }
 }
 
-/// What runs in a thread of its own, over what all threads share, with what it holds.
+/// What runs in a thread of its own, over what all threads share, with what works in it.
 pub(crate) trait Runs<W, H> {
-    ghost ran: { ℕ → Self → Self → H → H → Type 0 };
+    ghost ran: { Self → Self → H → H → Type 0 };
 
-    fn run(&mut self, row: &W, turns: u64, held: &mut H)
-        ensures { ran turns self.old self.new held.old held.new };
+    fn run(&mut self, row: &W, work: &mut H)
+        ensures { ran self.old self.new work.old work.new };
 }
 
 /// What is closed when all threads have ended.
 pub(crate) trait Closes<N, H> {
     ghost closed: { N → Self → Self → H → H → Type 0 };
 
-    fn close(&mut self, note: &N, held: &mut H)
-        ensures { closed note.now self.old self.new held.old held.new };
+    fn close(&mut self, note: &N, work: &mut H)
+        ensures { closed note.now self.old self.new work.old work.new };
 }
 
-impl<J: Naming, P: Port, G: Gate, D: Door> Runs<NoteRow<J>, Held<J>> for Lane<P, G, D> {
+impl<J: Naming, P: Port, G: Gate, D: Door> Runs<NoteRow<J>, LaneWorker<J>> for Lane<P, G, D> {
     ghost use Rattle.std.specs.Prelude.{◌≡◌, ◌≤◌, ◌-◌, ℕ, Some};
     ghost use Rattle.std.specs.List.{range_with_len};
     ghost use Rattle.outside.specs.Limits.{most_notes};
     ghost use Rattle.lane_model.specs.Calls.{IsLaneCall};
     ghost use Rattle.lane_model.specs.Replies.{replies};
+    ghost use Rattle.name_workers.specs.Moments.{eyes_of};
 
-    ghost ran = { λ turns a b v w. (nones : ℕ) × IsLaneCall replies v.worker.number turns
-        (record { port = P.told a.port; gate = G.told a.gate; notes = Some (record { coming = range_with_len 0 most_notes; nones = 0 }); eyes = record { seen = v.worker.viewer.seen; heard = v.worker.viewer.heard; looks = D.looks a.door; greatest = D.greatest a.door; faults = D.faults a.door }; count = v.worker.count; port_faults = P.faults a.port; gate_faults = G.faults a.gate })
-        (record { port = P.told b.port; gate = G.told b.gate; notes = Some (record { coming = range_with_len b.noted (most_notes - b.noted); nones = nones }); eyes = record { seen = w.worker.viewer.seen; heard = w.worker.viewer.heard; looks = D.looks b.door; greatest = D.greatest b.door; faults = D.faults b.door }; count = w.worker.count; port_faults = P.faults b.port; gate_faults = G.faults b.gate })
+    ghost ran = { λ a b v w. (nones : ℕ) × IsLaneCall replies v.worker.number v.turns
+        (record { port = P.told a.port; gate = G.told a.gate; notes = Some (record { coming = range_with_len 0 most_notes; nones = 0 }); eyes = eyes_of D.looks D.greatest D.faults v.worker.viewer a.door; count = v.worker.count; port_faults = P.faults a.port; gate_faults = G.faults a.gate })
+        (record { port = P.told b.port; gate = G.told b.gate; notes = Some (record { coming = range_with_len b.noted (most_notes - b.noted); nones = nones }); eyes = eyes_of D.looks D.greatest D.faults w.worker.viewer b.door; count = w.worker.count; port_faults = P.faults b.port; gate_faults = G.faults b.gate })
         w.ended × (b.noted ≤ most_notes) × (D.asked b.door ≡ D.asked a.door) };
 
-    fn run(&mut self, row: &NoteRow<J>, turns: u64, held: &mut Held<J>) {
+    fn run(&mut self, row: &NoteRow<J>, work: &mut LaneWorker<J>) {
         let mut notes = RowNotes::over(row);
-        held.ended = serve_port(
-            &mut held.worker,
+        work.ended = serve_port(
+            &mut work.worker,
             &mut self.port,
             &mut self.gate,
             &mut self.door,
             &mut notes,
-            turns,
+            work.turns,
         );
         self.noted = notes.given() as u64;
     }
 }
 
-impl<J: Naming, P: Port, G: Gate, D: Door> Closes<Note<J>, Held<J>> for Lane<P, G, D> {
+impl<J: Naming, P: Port, G: Gate, D: Door> Closes<Note<J>, LaneWorker<J>> for Lane<P, G, D> {
     ghost use Rattle.std.specs.Prelude.{◌≡◌};
+    ghost use Rattle.name_workers.specs.Moments.{eyes_of};
     ghost use Rattle.drive.specs.Closing.{IsClosing};
 
     ghost closed = { λ note a b v w. IsClosing note.front
-        (record { seen = v.worker.viewer.seen; heard = v.worker.viewer.heard; looks = D.looks a.door; greatest = D.greatest a.door; faults = D.faults a.door })
-        (record { seen = w.worker.viewer.seen; heard = w.worker.viewer.heard; looks = D.looks b.door; greatest = D.greatest b.door; faults = D.faults b.door })
+        (eyes_of D.looks D.greatest D.faults v.worker.viewer a.door) (eyes_of D.looks D.greatest D.faults w.worker.viewer b.door)
         v.ended w.ended × (P.told b.port ≡ P.told a.port) × (P.faults b.port ≡ P.faults a.port) × (G.told b.gate ≡ G.told a.gate) × (D.asked b.door ≡ D.asked a.door) × (b.noted ≡ a.noted) };
 
-    fn close(&mut self, note: &Note<J>, held: &mut Held<J>) {
-        held.ended = close_lane(&mut held.worker, &mut self.door, note, held.ended);
+    fn close(&mut self, note: &Note<J>, work: &mut LaneWorker<J>) {
+        work.ended = close_lane(&mut work.worker, &mut self.door, note, work.ended);
     }
 }

@@ -1,13 +1,15 @@
 //! A mapper and its lanes at once, and behind their joins the closing look of each lane.
 #![tactic(auto)]
 
-mod desk;
-mod feeding;
+mod beside;
 mod joins;
 mod lane;
 mod laws;
+mod loan;
+mod stream;
 mod whole;
 
 pub use lane::Lane;
 pub use laws::{drives_are_taken, machines_are_kept};
+pub use stream::StreamLane;
 pub use whole::{DriveEnd, drive};

@@ -1,5 +1,5 @@
 -- The turns of a lane.
-use Rattle.std.specs.Prelude.{◌≡◌, ℕ, ◌+◌, ◌≤◌, Bool, true, false, List, [], ◌∷◌, ◌++◌, All, length, drop, sum_by, Some, option_map, if◌then◌else◌, slice_get}
+use Rattle.std.specs.Prelude.{◌≡◌, ℕ, ◌≤◌, Bool, true, false, List, [], ◌∷◌, ◌++◌, All, drop, sum_by, Some, option_map, if◌then◌else◌, slice_get}
 use Rattle.std.specs.List.{flat_map}
 use Rattle.outside.specs.Faults.{raised}
 use Rattle.outside.specs.Port.{Packet, Try, PortTold, answered, taking, trying}

@@ -1,9 +1,6 @@
 //! What a gate was asked, and what it answered.
-ghost use Rattle.std.specs.Prelude.{◌≡◌};
-ghost use Rattle.std.specs.Borrow.{ftrue};
-ghost use Rattle.outside.specs.Gate.{GateTold};
-ghost use Rattle.past_log.specs.Gate.{new_gate, noted};
 
+use crate::past::{EventOf, Past, Telling};
 use outside::Turning;
 use std::marker::{Model, PhantomData};
 
@@ -14,33 +11,31 @@ pub struct GateEvent<'a> {
     pub turning: Turning,
 }
 
-/// All turns of a gate so far. Only clauses read it.
-#[derive(Drop)]
-pub struct GatePast {
+/// What a gate tells.
+pub struct GateTelling {
     marker: PhantomData<u8>,
-    pub ghost told: { GateTold },
 }
 
-impl Model for GatePast {
-    ghost also_owns = { λ _. ftrue };
+impl Model for GateTelling {
+    ghost use Rattle.outside.specs.Gate.{GateTold};
+    ghost use Rattle.past_log.specs.Gate.{new_gate};
+
+    ghost Value = { GateTold };
+
+    ghost view = { λ _. new_gate };
 }
 
-// It owns nothing.
-unsafe impl Send for GatePast {}
+impl Telling for GateTelling {
+    ghost use Rattle.past_log.specs.Gate.{new_gate};
 
-impl GatePast {
-    /// No turn so far.
-    pub fn new() -> GatePast
-        ensures { result.told ≡ new_gate }
-    {
-        GatePast {
-            marker: PhantomData,
-        }
-    }
-
-    /// One turn more.
-    #[inline(always)]
-    pub fn note(&mut self, _event: &GateEvent<'_>)
-        ensures { self.new.told ≡ noted _event.now self.old.told }
-    {}
+    ghost first = { new_gate };
 }
+
+impl EventOf<GateTelling> for GateEvent<'_> {
+    ghost use Rattle.past_log.specs.Gate.{noted};
+
+    ghost noted = { noted };
+}
+
+/// All that a gate was asked.
+pub type GatePast = Past<GateTelling>;

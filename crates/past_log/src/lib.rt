@@ -4,14 +4,16 @@
 
 mod gate;
 mod pace;
+mod past;
 mod port;
 mod sink;
 mod source;
 mod streams;
 
-pub use gate::{GateEvent, GatePast};
-pub use pace::{PaceEvent, PacePast};
-pub use port::{PortEvent, PortPast};
-pub use sink::{SinkEvent, SinkPast};
-pub use source::{SourceEvent, SourcePast};
-pub use streams::{StreamsEvent, StreamsPast};
+pub use gate::{GateEvent, GatePast, GateTelling};
+pub use pace::{PaceEvent, PacePast, PaceTelling};
+pub use past::Past;
+pub use port::{PortEvent, PortPast, PortTelling};
+pub use sink::{SinkEvent, SinkPast, SinkTelling};
+pub use source::{SourceEvent, SourcePast, SourceTelling};
+pub use streams::{StreamsEvent, StreamsPast, StreamsTelling};

@@ -1,9 +1,6 @@
 //! Which calls a pace had.
-ghost use Rattle.std.specs.Prelude.{◌≡◌, List};
-ghost use Rattle.std.specs.Borrow.{ftrue};
-ghost use Rattle.outside.specs.declared.pace.PaceCall.{PaceCall};
-ghost use Rattle.past_log.specs.Pace.{new_pace, noted};
 
+use crate::past::{EventOf, Past, Telling};
 use outside::PaceCall;
 use std::marker::{Model, PhantomData};
 
@@ -13,33 +10,32 @@ pub struct PaceEvent<'a> {
     pub call: &'a PaceCall,
 }
 
-/// All calls of a pace so far. Only clauses read it.
-#[derive(Drop)]
-pub struct PacePast {
+/// What a pace tells.
+pub struct PaceTelling {
     marker: PhantomData<u8>,
-    pub ghost told: { List PaceCall },
 }
 
-impl Model for PacePast {
-    ghost also_owns = { λ _. ftrue };
+impl Model for PaceTelling {
+    ghost use Rattle.std.specs.Prelude.{List};
+    ghost use Rattle.outside.specs.declared.pace.PaceCall.{PaceCall};
+    ghost use Rattle.past_log.specs.Pace.{new_pace};
+
+    ghost Value = { List PaceCall };
+
+    ghost view = { λ _. new_pace };
 }
 
-// It owns nothing.
-unsafe impl Send for PacePast {}
+impl Telling for PaceTelling {
+    ghost use Rattle.past_log.specs.Pace.{new_pace};
 
-impl PacePast {
-    /// No call so far.
-    pub fn new() -> PacePast
-        ensures { result.told ≡ new_pace }
-    {
-        PacePast {
-            marker: PhantomData,
-        }
-    }
-
-    /// One call more.
-    #[inline(always)]
-    pub fn note(&mut self, _event: &PaceEvent<'_>)
-        ensures { self.new.told ≡ noted _event.now self.old.told }
-    {}
+    ghost first = { new_pace };
 }
+
+impl EventOf<PaceTelling> for PaceEvent<'_> {
+    ghost use Rattle.past_log.specs.Pace.{noted};
+
+    ghost noted = { noted };
+}
+
+/// All that a pace was asked.
+pub type PacePast = Past<PaceTelling>;

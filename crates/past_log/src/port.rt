@@ -1,9 +1,6 @@
 //! What a port was asked, and what it answered.
-ghost use Rattle.std.specs.Prelude.{◌≡◌};
-ghost use Rattle.std.specs.Borrow.{ftrue};
-ghost use Rattle.outside.specs.Port.{PortTold};
-ghost use Rattle.past_log.specs.Port.{new_port, noted};
 
+use crate::past::{EventOf, Past, Telling};
 use addr_text::{Listen, Peer};
 use outside::{Arrival, Sending};
 use std::marker::{Model, PhantomData};
@@ -19,33 +16,31 @@ pub enum PortEvent<'a> {
     Tried(&'a [u8], Peer, u64, Sending),
 }
 
-/// All calls of a port so far. Only clauses read it.
-#[derive(Drop)]
-pub struct PortPast {
+/// What a port tells.
+pub struct PortTelling {
     marker: PhantomData<u8>,
-    pub ghost told: { PortTold },
 }
 
-impl Model for PortPast {
-    ghost also_owns = { λ _. ftrue };
+impl Model for PortTelling {
+    ghost use Rattle.outside.specs.Port.{PortTold};
+    ghost use Rattle.past_log.specs.Port.{new_port};
+
+    ghost Value = { PortTold };
+
+    ghost view = { λ _. new_port };
 }
 
-// It owns nothing.
-unsafe impl Send for PortPast {}
+impl Telling for PortTelling {
+    ghost use Rattle.past_log.specs.Port.{new_port};
 
-impl PortPast {
-    /// No call so far.
-    pub fn new() -> PortPast
-        ensures { result.told ≡ new_port }
-    {
-        PortPast {
-            marker: PhantomData,
-        }
-    }
-
-    /// One call more.
-    #[inline(always)]
-    pub fn note(&mut self, _event: &PortEvent<'_>)
-        ensures { self.new.told ≡ noted _event.now self.old.told }
-    {}
+    ghost first = { new_port };
 }
+
+impl EventOf<PortTelling> for PortEvent<'_> {
+    ghost use Rattle.past_log.specs.Port.{noted};
+
+    ghost noted = { noted };
+}
+
+/// All that a port was asked.
+pub type PortPast = Past<PortTelling>;

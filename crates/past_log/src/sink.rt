@@ -1,9 +1,6 @@
 //! What a sink was asked, and what it answered.
-ghost use Rattle.std.specs.Prelude.{◌≡◌};
-ghost use Rattle.std.specs.Borrow.{ftrue};
-ghost use Rattle.outside.specs.Sink.{Written};
-ghost use Rattle.past_log.specs.Sink.{new_sink, noted};
 
+use crate::past::{EventOf, Past, Telling};
 use std::marker::{Model, PhantomData};
 
 /// A put: the piece, and how many octets at its front were taken.
@@ -13,33 +10,31 @@ pub struct SinkEvent<'a> {
     pub taken: usize,
 }
 
-/// All puts of a sink so far. Only clauses read it.
-#[derive(Drop)]
-pub struct SinkPast {
+/// What a sink tells.
+pub struct SinkTelling {
     marker: PhantomData<u8>,
-    pub ghost told: { Written },
 }
 
-impl Model for SinkPast {
-    ghost also_owns = { λ _. ftrue };
+impl Model for SinkTelling {
+    ghost use Rattle.outside.specs.Sink.{Written};
+    ghost use Rattle.past_log.specs.Sink.{new_sink};
+
+    ghost Value = { Written };
+
+    ghost view = { λ _. new_sink };
 }
 
-// It owns nothing.
-unsafe impl Send for SinkPast {}
+impl Telling for SinkTelling {
+    ghost use Rattle.past_log.specs.Sink.{new_sink};
 
-impl SinkPast {
-    /// No put so far.
-    pub fn new() -> SinkPast
-        ensures { result.told ≡ new_sink }
-    {
-        SinkPast {
-            marker: PhantomData,
-        }
-    }
-
-    /// One put more.
-    #[inline(always)]
-    pub fn note(&mut self, _event: &SinkEvent<'_>)
-        ensures { self.new.told ≡ noted _event.now self.old.told }
-    {}
+    ghost first = { new_sink };
 }
+
+impl EventOf<SinkTelling> for SinkEvent<'_> {
+    ghost use Rattle.past_log.specs.Sink.{noted};
+
+    ghost noted = { noted };
+}
+
+/// All that a sink was asked.
+pub type SinkPast = Past<SinkTelling>;

@@ -1,9 +1,6 @@
 //! What a source was asked, and what it answered.
-ghost use Rattle.std.specs.Prelude.{◌≡◌};
-ghost use Rattle.std.specs.Borrow.{ftrue};
-ghost use Rattle.outside.specs.Source.{Fed};
-ghost use Rattle.past_log.specs.Source.{new_source, noted};
 
+use crate::past::{EventOf, Past, Telling};
 use outside::Read;
 use std::marker::{Model, PhantomData};
 
@@ -14,33 +11,31 @@ pub struct SourceEvent<'a> {
     pub read: Read,
 }
 
-/// All reads of a source so far. Only clauses read it.
-#[derive(Drop)]
-pub struct SourcePast {
+/// What a source tells.
+pub struct SourceTelling {
     marker: PhantomData<u8>,
-    pub ghost told: { Fed },
 }
 
-impl Model for SourcePast {
-    ghost also_owns = { λ _. ftrue };
+impl Model for SourceTelling {
+    ghost use Rattle.outside.specs.Source.{Fed};
+    ghost use Rattle.past_log.specs.Source.{new_source};
+
+    ghost Value = { Fed };
+
+    ghost view = { λ _. new_source };
 }
 
-// It owns nothing.
-unsafe impl Send for SourcePast {}
+impl Telling for SourceTelling {
+    ghost use Rattle.past_log.specs.Source.{new_source};
 
-impl SourcePast {
-    /// No read so far.
-    pub fn new() -> SourcePast
-        ensures { result.told ≡ new_source }
-    {
-        SourcePast {
-            marker: PhantomData,
-        }
-    }
-
-    /// One read more.
-    #[inline(always)]
-    pub fn note(&mut self, _event: &SourceEvent<'_>)
-        ensures { self.new.told ≡ noted _event.now self.old.told }
-    {}
+    ghost first = { new_source };
 }
+
+impl EventOf<SourceTelling> for SourceEvent<'_> {
+    ghost use Rattle.past_log.specs.Source.{noted};
+
+    ghost noted = { noted };
+}
+
+/// All that a source was asked.
+pub type SourcePast = Past<SourceTelling>;

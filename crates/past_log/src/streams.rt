@@ -1,9 +1,6 @@
 //! What streams were asked, and what they answered.
-ghost use Rattle.std.specs.Prelude.{◌≡◌};
-ghost use Rattle.std.specs.Borrow.{ftrue};
-ghost use Rattle.outside.specs.Streams.{StreamsTold};
-ghost use Rattle.past_log.specs.Streams.{new_streams, noted};
 
+use crate::past::{EventOf, Past, Telling};
 use addr_text::Listen;
 use outside::{Accepting, Reading, Writing};
 use std::marker::{Model, PhantomData};
@@ -23,33 +20,31 @@ pub enum StreamsEvent<'a> {
     Closed,
 }
 
-/// All calls of streams so far. Only clauses read it.
-#[derive(Drop)]
-pub struct StreamsPast {
+/// What streams tell.
+pub struct StreamsTelling {
     marker: PhantomData<u8>,
-    pub ghost told: { StreamsTold },
 }
 
-impl Model for StreamsPast {
-    ghost also_owns = { λ _. ftrue };
+impl Model for StreamsTelling {
+    ghost use Rattle.outside.specs.Streams.{StreamsTold};
+    ghost use Rattle.past_log.specs.Streams.{new_streams};
+
+    ghost Value = { StreamsTold };
+
+    ghost view = { λ _. new_streams };
 }
 
-// It owns nothing.
-unsafe impl Send for StreamsPast {}
+impl Telling for StreamsTelling {
+    ghost use Rattle.past_log.specs.Streams.{new_streams};
 
-impl StreamsPast {
-    /// No call so far.
-    pub fn new() -> StreamsPast
-        ensures { result.told ≡ new_streams }
-    {
-        StreamsPast {
-            marker: PhantomData,
-        }
-    }
-
-    /// One call more.
-    #[inline(always)]
-    pub fn note(&mut self, _event: &StreamsEvent<'_>)
-        ensures { self.new.told ≡ noted _event.now self.old.told }
-    {}
+    ghost first = { new_streams };
 }
+
+impl EventOf<StreamsTelling> for StreamsEvent<'_> {
+    ghost use Rattle.past_log.specs.Streams.{noted};
+
+    ghost noted = { noted };
+}
+
+/// All that streams were asked.
+pub type StreamsPast = Past<StreamsTelling>;

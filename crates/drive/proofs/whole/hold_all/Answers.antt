@@ -15,5 +15,5 @@ loop-viewer-preserved g c =
       λ h e.
           let q = i.2 h e in
           let p = all_front (λ k. (k.seen ≡ h) × (k.heard ≡ h)) _ _ (subst (λ l. All (λ k. (k.seen ≡ h) × (k.heard ≡ h)) l) whole q.0) in
-          let n = c.new.ensures in (p.0, rw c.push_reserved.ensures.items (held_more _ 0 c.new.result.number _ _ q.1 number (refl, n.2, rw n.0 p.1.0, rw n.0 p.1.1))),
+          let n = c.new.ensures in (p.0, rw c.push_reserved.ensures.items (held_more _ 0 c.new.result.number _ _ q.1 number (refl, n.2, rw n.0 p.1.0, rw n.0 p.1.1, refl))),
     )

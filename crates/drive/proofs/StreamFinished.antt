@@ -1,0 +1,90 @@
+-- A call of a lane for conversations and its closing look make a lane that is done.
+use Rattle.std.proofs.Common.{◌≡◌, ℕ, ◌+◌, ◌-◌, ◌<◌, ◌≤◌, List, [], ◌∷◌, ◌++◌, length, map, Option, Some, refl, sym, ap, subst, ◌∙◌, arith}
+use Rattle.std.specs.List.{flat_map, range_with_len}
+use mathlib.Core.List.{IsPrefix}
+use Rattle.std.proofs.lemmas.Grind.{flat_map-append}
+use Rattle.std.proofs.lemmas.List.{append-nil}
+use Rattle.addr_text.specs.declared.address.Peer.{Peer}
+use Rattle.outside.specs.Faults.{BothTell}
+use Rattle.outside.specs.Gate.{GateTold}
+use Rattle.outside.specs.Limits.{most_notes}
+use Rattle.outside.specs.Port.{Try}
+use Rattle.outside.specs.Streams.{StreamsTold, Talk}
+use Rattle.published_map.specs.Version.{Version}
+use Rattle.lane_model.specs.declared.ended.Ended.{Ended}
+use Rattle.lane_model.specs.declared.ended.Ended.TheVariants.{CellFault}
+use Rattle.lane_model.specs.Lanes.{Entry}
+use Rattle.lane_model.specs.Turns.{AreGiven, Turn}
+use Rattle.lane_model.specs.Calls.{Eyes}
+use Rattle.lane_model.proofs.Runs.{run_longer}
+use Rattle.tcp_lane.specs.Calls.{IsStreamCall, IsStreamEnd, StreamMoment, inner}
+use Rattle.tcp_lane.specs.Replies.{stream_replies}
+use Rattle.tcp_lane.specs.Stream.{IsStreamRun}
+use Rattle.tcp_lane.specs.Turns.{Said, StreamTurn, lane_of, lead_of, turn_of}
+use Rattle.drive.specs.Closing.{IsClosing}
+use Rattle.drive.specs.Done.{StreamLaneTold}
+use Rattle.drive.specs.Streams.{IsStreamDone}
+use Rattle.drive.proofs.Finished.{served_log, told_by}
+use Rattle.drive.proofs.Noted.{notes_are}
+use Rattle.drive.proofs.Refused.{turn_refused}
+
+-- messages come without notes
+said_notes : (peer : Peer) (said : List Said) → flat_map (λ (t : Turn). t.notes) (map (turn_of peer) said) ≡ []
+said_notes peer [] = refl
+said_notes peer (s ∷ said) = said_notes peer said
+
+lane_notes : (log : List StreamTurn) → flat_map (λ t. t.notes) (lane_of log) ≡ flat_map (λ t. t.notes) (map lead_of log)
+lane_notes [] = refl
+lane_notes (t ∷ log) =
+    flat_map-append (λ (u : Turn). u.notes) (lead_of t ∷ map (turn_of t.peer) t.said) (lane_of log)
+    ∙ (ap (λ l. (t.notes ++ l) ++ flat_map (λ (u : Turn). u.notes) (lane_of log)) (said_notes t.peer t.said) ∙ (ap (λ l. l ++ flat_map (λ (u : Turn). u.notes) (lane_of log)) (append-nil t.notes) ∙ ap (λ l. t.notes ++ l) (lane_notes log)))
+
+-- a stream run over a history is one over each that it begins
+stream_longer : (h h' : List Version) (w n floor : ℕ) (talks : List Talk) (taken : List Entry) (tries : List Try) → IsPrefix h h' → IsStreamRun stream_replies h w n floor talks taken tries → IsStreamRun stream_replies h' w n floor talks taken tries
+stream_longer h h' w n floor talks taken tries begins r = record {
+  conversations = r.conversations;
+  talks_are = r.talks_are;
+  taken_are = r.taken_are;
+  tries_are = r.tries_are;
+  each = r.each;
+  run = run_longer stream_replies h h' w n floor taken tries begins r.run;
+}
+
+stream_of : (turns : ℕ) (first : Version) (rest : List Version) (w : ℕ) (m m' : StreamMoment Version) (f : Eyes Version) (served e : Ended) (n n' j k : ℕ) → n' ≡ n → m.eyes.seen ≡ first ∷ [] → m.eyes.heard ≡ first ∷ [] → m.count ≡ 0
+    → (c : IsStreamCall stream_replies w turns m m' served) → flat_map (λ t. t.notes) (map lead_of c.log) ≡ range_with_len 0 k → IsClosing (first ∷ rest) m'.eyes f served e
+    → IsStreamDone turns first rest w (told_by m.streams m.stream_faults m.gate m.eyes n j) (told_by m'.streams m'.stream_faults m'.gate f n' k) e
+stream_of turns first rest w m m' f served e n n' j k asked seen heard count c are q =
+    let some : 0 < length m.eyes.heard = omega (arith, ap length heard) in
+    let line = served_log stream_replies first rest w (lane_of c.log) c.shown (inner m.eyes m.count m.stream_faults) (inner m'.eyes m'.count m'.stream_faults) f served e n n' j k m.streams m'.streams m.gate m'.gate (record {
+      shown_is = c.shown_is;
+      all = c.all;
+      notes = lane_notes c.log ∙ are;
+      closing = q;
+      refusing = λ is. let ending : IsStreamEnd turns c.log CellFault = subst (IsStreamEnd turns c.log) is c.ending in turn_refused ending.0 ending.1 c.log ending.2 ending.5;
+      asked = asked;
+      seen = seen;
+      heard = heard;
+      count = count;
+    }) in
+    record {
+      log = c.log;
+      closes = c.closes;
+      served = served;
+      shown = c.shown;
+      line = line.0;
+      streams = c.streams;
+      gate = c.gate;
+      runs = λ b none. let r = c.runs b none 0 some in (r.0, r.1, r.2, stream_longer m'.eyes.seen line.0.over w 0 0 r.0 _ _ line.1 (subst (λ (x : ℕ). IsStreamRun stream_replies m'.eyes.seen w x 0 r.0 _ _) count r.3));
+      ending = c.ending;
+    }
+
+-- the same, where some things are told by equations
+pub stream_by : (turns : ℕ) (first : Version) (rest : List Version) (i w t : ℕ) (m m' : StreamMoment Version) (f : Eyes Version) (served e : Ended) (h0 h : List Version) (streams : Option StreamsTold) (faults : ℕ) (gate : Option GateTold) (n n' n'' j k l nones : ℕ) → w ≡ i → t ≡ turns → h ≡ first ∷ rest → h0 ≡ first ∷ []
+    → m.eyes.seen ≡ h0 → m.eyes.heard ≡ h0 → m.count ≡ 0 → m.notes ≡ Some (record { coming = range_with_len 0 most_notes; nones = 0 }) → m'.notes ≡ Some (record { coming = range_with_len k (most_notes - k); nones = nones }) → k ≤ most_notes
+    → IsStreamCall stream_replies w t m m' served → IsClosing h m'.eyes f served e → streams ≡ m'.streams → faults ≡ m'.stream_faults → gate ≡ m'.gate → n' ≡ n → n'' ≡ n' → l ≡ k
+    → IsStreamDone turns first rest i (told_by m.streams m.stream_faults m.gate m.eyes n j) (told_by streams faults gate f n'' l) e
+stream_by turns first rest i w t m m' f served e h0 h streams faults gate n n' n'' j k l nones same long is opened seen heard count b a le c q p1 p2 p3 p4 p5 p6 =
+    let call = subst (λ (x : ℕ). IsStreamCall stream_replies i x m m' served) long (subst (λ (x : ℕ). IsStreamCall stream_replies x t m m' served) same c) in
+    let given = subst (λ x. BothTell x (Some (record { coming = range_with_len k (most_notes - k); nones = nones })) (AreGiven (map lead_of call.log))) b (subst (λ x. BothTell m.notes x (AreGiven (map lead_of call.log))) a call.notes) in
+    let done = stream_of turns first rest i m m' f served e n n' j k p4 (seen ∙ opened) (heard ∙ opened) count call (notes_are (map lead_of call.log) k nones 0 le given) (subst (λ (x : List Version). IsClosing x m'.eyes f served e) is q) in
+    subst (λ (x : StreamLaneTold). IsStreamDone turns first rest i (told_by m.streams m.stream_faults m.gate m.eyes n j) x e) (cc (p1, p2, p3, p5, p6)) done
