@@ -1,25 +1,21 @@
 -- Why a lane for conversations was at fault.
 use Rattle.std.proofs.Common.{◌≡◌, ℕ, ◌+◌, ◌<◌, ◌≤◌, Bool, true, false, List, [], ◌∷◌, ◌++◌, length, map, refl, ap, sym, ◌∙◌, subst, arith}
 use Rattle.std.specs.Prelude.{fold, sum_by}
-use Rattle.std.proofs.lemmas.Grind.{flat_map-append}
-use Rattle.std.proofs.lemmas.List.{append-nil, map-append}
-use Rattle.std.proofs.lemmas.List.Sums.{sum_by-append}
-use Rattle.addr_text.specs.declared.address.Peer.{Peer}
 use Rattle.outside.specs.Faults.{raised}
 use Rattle.outside.specs.Streams.{StreamsTold}
-use Rattle.answer_core.specs.declared.way.Way.TheVariants.{Stream}
 use Rattle.published_map.specs.Version.{Version}
 use Rattle.lane_model.specs.declared.ended.Ended.{Ended}
 use Rattle.lane_model.specs.declared.ended.Ended.TheVariants as lane
-use Rattle.lane_model.specs.Replies.{replies_by}
-use Rattle.lane_model.specs.Turns.{Fate, Turn, is_refused, refused, refused_of, silent, took, tried}
+use Rattle.lane_model.specs.Turns.{Fate, refused, silent, tried}
 use Rattle.tcp_lane.specs.Calls.{IsStreamEnd}
-use Rattle.tcp_lane.specs.Turns.{Heard, IsBroken, Said, StreamTurn, broke, came_of, closing_if, come, ended, got, hearing_of, idle, lane_of, lead_of, missed, put_for, quiet, saying, shut, stream_turn, turn_of, turns_of}
+use Rattle.tcp_lane.specs.Replies.{stream_replies}
+use Rattle.tcp_lane.specs.Turns.{Heard, Said, StreamTurn, broke, closing_if, come, ended, got, hearing_of, idle, lane_of, missed, put_for, quiet, saying, shut, stream_turn}
 use Rattle.drive.specs.Done.{StreamLaneTold}
 use Rattle.drive.specs.Streams.{IsStreamDone}
+use Rattle.drive.proofs.Refused.{turn_refused}
 use Rattle.glb.specs.Causes.{HasCellFault, HasEightPortFaults, HasHeard}
 use Rattle.glb.specs.Serve.{is_cell_fault, is_port_fault, is_spent}
-use Rattle.glb.proofs.Causes.{cell_fault, has_refused, is_over, is_port, raised_next, raised_none, served_is}
+use Rattle.glb.proofs.Causes.{cell_fault, is_over, is_port, raised_next, raised_none, served_is}
 use Rattle.glb.proofs.Loads.{tell_weaker}
 
 -- the count of its streams rose by eight
@@ -28,7 +24,7 @@ stream_port turns first rest w b c e fault d = go (subst (IsStreamDone turns fir
   where
     go : IsStreamDone turns first rest w b c lane.PortFault → HasEightPortFaults b c
     go d =
-        let ending : IsStreamEnd turns d.log lane.PortFault = subst (IsStreamEnd turns d.log) (served_is (replies_by Stream) first rest w (lane_of d.log) d.served lane.PortFault d.shown b c refl d.line) d.ending in
+        let ending : IsStreamEnd turns d.log lane.PortFault = subst (IsStreamEnd turns d.log) (served_is stream_replies first rest w (lane_of d.log) d.served lane.PortFault d.shown b c refl d.line) d.ending in
         subst (λ (n : ℕ). raised b.port_faults n ≤ c.port_faults) ending.5 d.line.port_faults
 
 -- streams after some turns have given as many answers more
@@ -65,24 +61,11 @@ stream_spent turns first rest w b c e fault d = go (subst (IsStreamDone turns fi
   where
     go : IsStreamDone turns first rest w b c lane.Spent → HasHeard turns b c
     go d =
-        let ending : IsStreamEnd turns d.log lane.Spent = subst (IsStreamEnd turns d.log) (served_is (replies_by Stream) first rest w (lane_of d.log) d.served lane.Spent d.shown b c refl d.line) d.ending in
+        let ending : IsStreamEnd turns d.log lane.Spent = subst (IsStreamEnd turns d.log) (served_is stream_replies first rest w (lane_of d.log) d.served lane.Spent d.shown b c refl d.line) d.ending in
         tell_weaker (λ (p q : StreamsTold). q ≡ closing_if d.closes (fold stream_turn p d.log)) (λ (p q : StreamsTold). q.answers ≡ raised p.answers turns) b.port c.port
         (λ p q h. ap (λ (x : StreamsTold). x.answers) h ∙ closed_same d.closes (fold stream_turn p d.log) ∙ heard_all d.log p ∙ ap (raised p.answers) ending.2) d.streams
 
--- a message whose look was refused is among the turns
-refused_said : (peer : Peer) (before : List Said) (s : Said) (said : List Said) → said ≡ before ++ s ∷ [] → s.fate ≡ refused → 0 < sum_by (λ t. refused_of t.came) (map (turn_of peer) said)
-refused_said peer before s said is fate =
-    let split : map (turn_of peer) said ≡ map (turn_of peer) before ++ turn_of peer s ∷ [] = ap (map (turn_of peer)) is ∙ map-append (turn_of peer) before (s ∷ []) in
-    has_refused (map (turn_of peer) before) (turn_of peer s) (map (turn_of peer) said) split (ap (λ (f : Fate). is_refused (took (record { octets = s.octets; from = peer }) f)) fate)
-
-refused_turn : (before : List StreamTurn) (t : StreamTurn) (log : List StreamTurn) → log ≡ before ++ t ∷ [] → IsBroken (λ f. f ≡ refused) t.said → 0 < sum_by (λ t. refused_of t.came) (lane_of log)
-refused_turn before t log is broken =
-    let whole : lane_of log ≡ lane_of before ++ turns_of t = ap lane_of is ∙ (flat_map-append turns_of before (t ∷ []) ∙ ap (λ l. lane_of before ++ l) (append-nil (turns_of t))) in
-    let parts : sum_by (λ t. refused_of t.came) (lane_of log) ≡ sum_by (λ t. refused_of t.came) (lane_of before) + sum_by (λ t. refused_of t.came) (turns_of t) = ap (sum_by (λ t. refused_of t.came)) whole ∙ sum_by-append (λ (t : Turn). refused_of t.came) (lane_of before) (turns_of t) in
-    let here : sum_by (λ t. refused_of t.came) (turns_of t) ≡ refused_of (came_of t.heard) + sum_by (λ t. refused_of t.came) (map (turn_of t.peer) t.said) = sum_by-append (λ (t : Turn). refused_of t.came) (lead_of t ∷ []) (map (turn_of t.peer) t.said) in
-    let some = refused_said t.peer broken.0 broken.1 t.said broken.2 broken.4 in omega (arith, parts, here, some)
-
 pub stream_cell : (turns : ℕ) (first : Version) (rest : List Version) (w : ℕ) (b c : StreamLaneTold) (e : Ended) → is_cell_fault e ≡ true → IsStreamDone turns first rest w b c e → HasCellFault (length (first ∷ rest)) b c
-stream_cell turns first rest w b c e fault d = cell_fault (replies_by Stream) first rest w (lane_of d.log) d.served e d.shown b c fault
-    (λ is. let ending : IsStreamEnd turns d.log lane.CellFault = subst (IsStreamEnd turns d.log) is d.ending in refused_turn ending.0 ending.1 d.log ending.2 ending.5)
+stream_cell turns first rest w b c e fault d = cell_fault stream_replies first rest w (lane_of d.log) d.served e d.shown b c fault
+    (λ is. let ending : IsStreamEnd turns d.log lane.CellFault = subst (IsStreamEnd turns d.log) is d.ending in turn_refused ending.0 ending.1 d.log ending.2 ending.5)
     (λ known newest is. subst (IsStreamEnd turns d.log) is d.ending) d.line

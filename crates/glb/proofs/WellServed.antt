@@ -7,7 +7,7 @@ use Rattle.published_map.specs.Version.{Version}
 use Rattle.lane_model.specs.declared.ended.Ended.{Ended}
 use Rattle.lane_model.specs.declared.ended.Ended.TheVariants as lane
 use Rattle.lane_model.specs.Lanes.{Answers, IsLaneRun}
-use Rattle.lane_model.specs.Replies.{replies, replies_by}
+use Rattle.lane_model.specs.Replies.{replies}
 use Rattle.lane_model.specs.Turns.{Turn, entries_of, tries_of}
 use Rattle.demand_feed.specs.declared.run.FeedEnd.{FeedEnd}
 use Rattle.demand_feed.specs.declared.run.FeedEnd.TheVariants as feed
@@ -17,7 +17,7 @@ use Rattle.drive.specs.Closing.{shut}
 use Rattle.drive.specs.Done.{IsDone, IsOverNewest, IsServedLog, LaneTold, ServerTold, StreamLaneTold}
 use Rattle.drive.specs.Streams.{AreStreamsDone, IsStreamDone}
 use Rattle.addr_text.specs.declared.address.Listen.{Listen}
-use Rattle.answer_core.specs.declared.way.Way.TheVariants.{Stream}
+use Rattle.tcp_lane.specs.Replies.{stream_replies}
 use Rattle.tcp_lane.specs.Stream.{IsStreamRun}
 use Rattle.tcp_lane.specs.Turns.{lane_of}
 use Rattle.std.proofs.lemmas.List.Folds.{list_any-append}
@@ -102,13 +102,13 @@ well_done turns first rest w b c e d well =
 -- the same of the lane for conversations
 stream_well_done : (turns : ℕ) (first : Version) (rest : List Version) (w : ℕ) (b c : StreamLaneTold) (e : Ended) → IsStreamDone turns first rest w b c e → (e ≡ lane.Stopped) ⊎ (e ≡ lane.PortEnd) → IsStreamWellDone turns (first ∷ rest) w b c
 stream_well_done turns first rest w b c e d well =
-    let newest = over_newest (replies_by Stream) first rest w (lane_of d.log) d.served e d.shown b c d.line well in
+    let newest = over_newest stream_replies first rest w (lane_of d.log) d.served e d.shown b c d.line well in
     record {
       log = d.log;
       closes = d.closes;
       ended = d.served;
       shown = d.shown;
-      runs = λ s none. let r = d.runs s none in (r.0, r.1, r.2, subst (λ h. IsStreamRun (replies_by Stream) h w 0 0 r.0 (entries_of Stream (lane_of d.log)) (tries_of (lane_of d.log))) newest.same r.3);
+      runs = λ s none. let r = d.runs s none in (r.0, r.1, r.2, subst (λ h. IsStreamRun stream_replies h w 0 0 r.0 (entries_of stream_replies.way (lane_of d.log)) (tries_of (lane_of d.log))) newest.same r.3);
       told = d.line.told;
       notes = d.line.notes;
       noted = newest.noted;

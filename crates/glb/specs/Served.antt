@@ -8,8 +8,7 @@ use Rattle.lane_model.specs.declared.ended.Ended.{Ended}
 use Rattle.lane_model.specs.declared.ended.Ended.TheVariants.{PortEnd, Stopped}
 use Rattle.lane_model.specs.Lanes.{IsLaneRun}
 use Rattle.lane_model.specs.Machine.{GoesOn}
-use Rattle.lane_model.specs.Replies.{replies, replies_by}
-use Rattle.answer_core.specs.declared.way.Way.TheVariants.{Stream}
+use Rattle.lane_model.specs.Replies.{replies}
 use Rattle.lane_model.specs.Calls.{IsEnd, IsGateRun}
 use Rattle.lane_model.specs.Turns.{IsTold, Turn, entries_of, failures, port_turn, tries_of}
 use Rattle.demand_feed.specs.declared.run.FeedEnd.TheVariants as feed
@@ -22,6 +21,7 @@ use Rattle.glb.specs.Words.{Service}
 use Rattle.addr_text.specs.declared.address.Listen.{Listen}
 use Rattle.outside.specs.Streams.{StreamsTold, Talk}
 use Rattle.tcp_lane.specs.Calls.{IsStreamEnd}
+use Rattle.tcp_lane.specs.Replies.{stream_replies}
 use Rattle.tcp_lane.specs.Stream.{IsStreamRun}
 use Rattle.tcp_lane.specs.Turns.{StreamTurn, closing_if, lane_of, lead_of, stream_turn}
 use Rattle.glb.specs.Told.{Stage, Surroundings}
@@ -58,7 +58,7 @@ pub record IsStreamWellDone (turns : ℕ) (history : List Version) (w : ℕ) (be
   pub ended : Ended
   pub shown : ℕ
   pub runs : (b : StreamsTold) → b.current ≡ None
-      → (talks : List Talk) × ((closing_if closes (fold stream_turn b log)).closed ≡ b.closed ++ talks) × ((closing_if closes (fold stream_turn b log)).current ≡ None) × IsStreamRun (replies_by Stream) history w 0 0 talks (entries_of Stream (lane_of log)) (tries_of (lane_of log))
+      → (talks : List Talk) × ((closing_if closes (fold stream_turn b log)).closed ≡ b.closed ++ talks) × ((closing_if closes (fold stream_turn b log)).current ≡ None) × IsStreamRun stream_replies history w 0 0 talks (entries_of stream_replies.way (lane_of log)) (tries_of (lane_of log))
   pub told : IsTold 0 (lane_of log)
   pub notes : flat_map (λ t. t.notes) (lane_of log) ≡ range_with_len 0 after.noted
   pub noted : after.noted ≤ length history

@@ -7,10 +7,9 @@ use Rattle.outside.specs.Sink.{Written}
 use Rattle.outside.specs.Source.{Fed}
 use Rattle.outside.specs.Streams.{StreamsTold}
 use Rattle.outside.specs.declared.pace.PaceCall.{PaceCall}
-use Rattle.drive.specs.Done.{LaneTold, ServerTold, StreamLaneTold}
+use Rattle.drive.specs.Done.{LaneTold, StreamLaneTold}
 use Rattle.drive.specs.Driven.{Lent as LentTold}
-use Rattle.drive.specs.declared.lane.Lane.{Lane}
-use Rattle.drive.specs.declared.stream.StreamLane.{StreamLane}
+use Rattle.drive.specs.Told.{lane_told, stream_told}
 use Rattle.glb.specs.Outcome.{Faults, Outside}
 use Rattle.glb.specs.declared.lent.Lent.{Lent}
 
@@ -26,32 +25,6 @@ pub record Surroundings : Type 0 where
   pub files : Option Shelved
   pub files_faults : ℕ
   pub stage : Stage
-
--- a lane, by what its port, gate and door tell, and how many notes its worker was given
-abbrev pub lane_told : {P G D : Type 0} → (P → Option PortTold) → (P → ℕ) → (G → Option GateTold) → (D → ℕ) → (D → ℕ) → (D → ℕ) → (D → ℕ) → Lane P G D → LaneTold
-lane_told port port_faults gate asked looks greatest door_faults lane = record {
-  port = port lane.port;
-  port_faults = port_faults lane.port;
-  gate = gate lane.gate;
-  asked = asked lane.door;
-  looks = looks lane.door;
-  greatest = greatest lane.door;
-  door_faults = door_faults lane.door;
-  noted = lane.noted;
-}
-
--- a lane for conversations, by what its streams, gate and door tell, and how many notes its worker was given
-abbrev pub stream_told : {Q G D : Type 0} → (Q → Option StreamsTold) → (Q → ℕ) → (G → Option GateTold) → (D → ℕ) → (D → ℕ) → (D → ℕ) → (D → ℕ) → StreamLane Q G D → StreamLaneTold
-stream_told streams stream_faults gate asked looks greatest door_faults lane = record {
-  port = streams lane.streams;
-  port_faults = stream_faults lane.streams;
-  gate = gate lane.gate;
-  asked = asked lane.door;
-  looks = looks lane.door;
-  greatest = greatest lane.door;
-  door_faults = door_faults lane.door;
-  noted = lane.noted;
-}
 
 abbrev pub stage : Option Fed → Option Written → Option Written → Option (List PaceCall) → List LaneTold → StreamLaneTold → ℕ → ℕ → ℕ → Stage
 stage feed out maps pace lanes stream feed_faults out_faults maps_faults = record {

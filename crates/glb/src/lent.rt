@@ -1,4 +1,6 @@
 //! All that a session is lent.
+ghost use Rattle.std.specs.Prelude.{◌≡◌};
+
 use drive::{Lane, StreamLane};
 
 /// What a session is lent: its feed, both outputs, its lanes, one of them for conversations, and the pace that is told of
@@ -12,4 +14,43 @@ pub struct Lent<'f, 'o, 'm, 'l, 's, 'p, S, K, P, Q, G, D, M> {
     pub stream: &'s mut StreamLane<Q, G, D>,
     pub pace: &'p mut M,
     pub turns: u64,
+}
+
+impl<'f, 'o, 'm, 'l, 's, 'p, S, K, P, Q, G, D, M> Lent<
+    'f,
+    'o,
+    'm,
+    'l,
+    's,
+    'p,
+    S,
+    K,
+    P,
+    Q,
+    G,
+    D,
+    M,
+> {
+    /// All of it as one.
+    pub fn new(
+        feed: &'f mut S,
+        out: &'o mut K,
+        maps: &'m mut K,
+        lanes: &'l mut [Lane<P, G, D>],
+        stream: &'s mut StreamLane<Q, G, D>,
+        pace: &'p mut M,
+        turns: u64,
+    ) -> Lent<'f, 'o, 'm, 'l, 's, 'p, S, K, P, Q, G, D, M>
+        ensures { result ≡ record { feed = feed; out = out; maps = maps; lanes = lanes; stream = stream; pace = pace; turns = turns } }
+    {
+        Lent {
+            feed,
+            out,
+            maps,
+            lanes,
+            stream,
+            pace,
+            turns,
+        }
+    }
 }

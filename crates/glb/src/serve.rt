@@ -9,7 +9,8 @@ ghost use Rattle.glb.specs.Program.{IsPromised};
 ghost use Rattle.glb.specs.Serve.{IsFirstSession, IsSession, PlacedFirst, is_cell_fault, is_port_fault, is_spent, status_by};
 ghost use Rattle.glb.specs.Starting.{IsAskedSome, at_place, status_at};
 ghost use Rattle.glb.specs.Commands.{service_asked};
-ghost use Rattle.glb.specs.Told.{IsSame, lane_told, stage_of, surroundings};
+ghost use Rattle.drive.specs.Told.{lane_told};
+ghost use Rattle.glb.specs.Told.{IsSame, stage_of, surroundings};
 ghost use Rattle.glb.specs.Words.{lanes_of, most_workers, serve as task, streams_of};
 
 use crate::ending::finish;

@@ -2,7 +2,7 @@
 ghost use Rattle.std.specs.Prelude.{◌≡◌, ◌≤◌, length, map};
 ghost use Rattle.glb.specs.Commands.{service_asked};
 ghost use Rattle.glb.specs.Starting.{HasOpened, IsStart, IsStreamStart};
-ghost use Rattle.glb.specs.Told.{lane_told, stream_told};
+ghost use Rattle.drive.specs.Told.{lane_told, stream_told};
 
 use crate::words::Service;
 use addr_text::Listen;

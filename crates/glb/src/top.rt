@@ -4,7 +4,8 @@ ghost use Rattle.demand_feed.specs.declared.limits.TheConstants.{MOST_TURNS};
 ghost use Rattle.command_line.specs.Asked.{texts};
 ghost use Rattle.glb.specs.Program.{IsPromised};
 ghost use Rattle.glb.specs.Commands.{IsManned, task_of};
-ghost use Rattle.glb.specs.Told.{IsSame, lane_told, stage, stage_of, stream_told, surroundings};
+ghost use Rattle.drive.specs.Told.{lane_told, stream_told};
+ghost use Rattle.glb.specs.Told.{IsSame, stage, stage_of, surroundings};
 ghost use Rattle.glb.specs.Words.{asked};
 
 use crate::large::large;
@@ -85,15 +86,7 @@ pub fn glb<
 {
     match read_words(alloc, words) {
         Ok(order) => {
-            let mut lent = Lent {
-                feed,
-                out,
-                maps,
-                lanes,
-                stream,
-                pace,
-                turns,
-            };
+            let mut lent = Lent::new(feed, out, maps, lanes, stream, pace, turns);
             run_order(rt, alloc, order, files, &mut lent)
         }
         Err(NoMemory) => Status::NoMemory,
