@@ -19,6 +19,6 @@ mod top;
 mod words;
 
 pub use demand_feed::MOST_TURNS;
-pub use drive::Lane;
+pub use drive::{Lane, StreamLane};
 pub use status::Status;
 pub use top::glb;

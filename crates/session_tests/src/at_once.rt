@@ -2,14 +2,15 @@
 ghost use Rattle.std.specs.Prelude.{◌≡◌, IfOk, vec_len};
 ghost use Rattle.map_cell.specs.declared.opening.TheConstants.{MOST_VIEWERS};
 
-use glb::{Lane, Status};
+use glb::{Lane, Status, StreamLane};
 use map_cell::{MOST_VIEWERS, PlainDoor};
 use no_memory::NoMemory;
 use outside::{
-    HeldLane, HoldGate, HoldPace, MemPort, MemSink, MemSource, MemTaken, MemTry, Milestones, Point,
-    Wanted,
+    HeldLane, HoldGate, HoldPace, MemPort, MemSink, MemSource, MemStreams, MemTaken, MemTry,
+    Milestones, Point, Wanted,
 };
 use std::alloc::Global;
+use std::collections::LinkedList;
 use std::sync::Wait;
 use std::test::Fail;
 use std::thread::Threads;
@@ -117,7 +118,23 @@ fn are_tried(tries: &[MemTry], serials: &[u64]) -> bool {
 }
 
 /// What is lent to a run of two lanes and a feed that hold each other.
-type HeldLent<'a> = Lent<MemPort, HoldGate<'a>, PlainDoor, HoldPace<'a>>;
+type HeldLent<'a> = Lent<MemPort, MemStreams, HoldGate<'a>, PlainDoor, HoldPace<'a>>;
+
+/// A lane for conversations, of which there are none.
+fn no_stream(
+    alloc: Global,
+    milestones: &Milestones,
+) -> Result<StreamLane<MemStreams, HoldGate<'_>, PlainDoor>, NoMemory> {
+    let streams = MemStreams::new(
+        alloc,
+        LinkedList::new(alloc),
+        Vec::new(alloc),
+        Vec::new(alloc),
+        Vec::new(alloc),
+    )?;
+    let gate = HoldGate::new(alloc, milestones, HeldLane::Second, Vec::new(alloc), 8)?;
+    Ok(StreamLane::new(streams, gate, PlainDoor::new()))
+}
 
 /// A feed and two lanes that hold each other by these milestones.
 fn held_lent(alloc: Global, milestones: &Milestones) -> Result<HeldLent<'_>, NoMemory>
@@ -131,6 +148,7 @@ fn held_lent(alloc: Global, milestones: &Milestones) -> Result<HeldLent<'_>, NoM
         out: MemSink::new(alloc, 1024, Vec::new(alloc))?,
         maps: MemSink::new(alloc, 1024, Vec::new(alloc))?,
         lanes: held_lanes(alloc, milestones, &[FIRST_LANE, SECOND_LANE])?,
+        stream: no_stream(alloc, milestones)?,
         pace: HoldPace::new(alloc, milestones, Vec::from_slice(alloc, COMMITS)?, 8)?,
     })
 }

@@ -11,3 +11,5 @@ mod failing_sessions;
 mod hostile;
 #[cfg(test)]
 mod serving;
+#[cfg(test)]
+mod streams;

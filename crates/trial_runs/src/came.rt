@@ -2,37 +2,43 @@
 ghost use Rattle.std.specs.Prelude.{◌≡◌, ◌≤◌, ◌^◌, IfOk, vec_len};
 
 use crate::lanes::{MemLane, Script, lanes_of};
+use crate::streams::{StreamScript, stream_of};
 use crate::texts::words_of;
-use glb::{Lane, Status, glb};
+use glb::{Lane, Status, StreamLane, glb};
 use map_cell::{Door, MemDoor};
 use no_memory::NoMemory;
-use outside::{Gate, MemGate, MemPace, MemPort, MemShelf, MemSink, MemSource, Pace, Port};
+use outside::{
+    Gate, MemGate, MemPace, MemPort, MemShelf, MemSink, MemSource, MemStreams, Pace, Port, Streams,
+};
 use std::alloc::Global;
 use std::sync::Wait;
 use std::thread::Threads;
 
 /// All that the program is lent.
 #[derive(Drop)]
-pub struct Lent<P, G, D, M> {
+pub struct Lent<P, Q, G, D, M> {
     pub words: Vec<String>,
     pub files: MemShelf,
     pub feed: MemSource,
     pub out: MemSink,
     pub maps: MemSink,
     pub lanes: Vec<Lane<P, G, D>>,
+    pub stream: StreamLane<Q, G, D>,
     pub pace: M,
 }
 
 /// The same, all of it in memory.
-pub type MemLent = Lent<MemPort, MemGate, MemDoor, MemPace>;
+pub type MemLent = Lent<MemPort, MemStreams, MemGate, MemDoor, MemPace>;
 
 /// Runs the program.
-pub fn run<R: Threads + Wait + Sync, P: Port + Send, G: Gate + Send, D: Door + Send, M: Pace>(
-    rt: &R,
-    alloc: Global,
-    lent: &mut Lent<P, G, D, M>,
-    turns: u64,
-) -> Status
+pub fn run<
+    R: Threads + Wait + Sync,
+    P: Port + Send,
+    Q: Streams + Send,
+    G: Gate + Send,
+    D: Door + Send,
+    M: Pace,
+>(rt: &R, alloc: Global, lent: &mut Lent<P, Q, G, D, M>, turns: u64) -> Status
     requires lanes { vec_len lent.old.lanes ≡ 16 }
     requires turns { (1 ≤ turns) × (turns ≤ 2 ^ 48) }
 {
@@ -45,6 +51,7 @@ pub fn run<R: Threads + Wait + Sync, P: Port + Send, G: Gate + Send, D: Door + S
         &mut lent.out,
         &mut lent.maps,
         lent.lanes.as_mut_slice(),
+        &mut lent.stream,
         &mut lent.pace,
         turns,
     )
@@ -66,6 +73,7 @@ fn lent_of(
     out: MemSink,
     maps: MemSink,
     scripts: &[Script],
+    stream: StreamScript,
 ) -> Result<MemLent, NoMemory>
     ensures { IfOk result (λ l. vec_len l.lanes ≡ 16) }
 {
@@ -76,6 +84,7 @@ fn lent_of(
         out,
         maps,
         lanes: lanes_of(alloc, scripts)?,
+        stream: stream_of(alloc, stream)?,
         pace: MemPace::new(alloc, 100)?,
     })
 }
@@ -100,9 +109,10 @@ pub fn came_by<R: Threads + Wait + Sync + AllocGlobal>(
     out: MemSink,
     maps: MemSink,
     scripts: &[Script],
+    stream: StreamScript,
     turns: u64,
 ) -> Result<Came, NoMemory> {
-    let mut lent = lent_of(rt.alloc(), words, files, feed, out, maps, scripts)?;
+    let mut lent = lent_of(rt.alloc(), words, files, feed, out, maps, scripts, stream)?;
     let status = run(rt, rt.alloc(), &mut lent, turns_of(turns));
     Ok(Came { status, lent })
 }

@@ -2,6 +2,7 @@
 use crate::came::{Came, came_by};
 use crate::fails::{Fails, NEVER};
 use crate::files::{Held, shelf_of};
+use crate::streams::NO_TALKS;
 use glb::Status;
 use no_memory::NoMemory;
 use outside::{MemShelf, MemSink, MemSource};
@@ -29,7 +30,7 @@ pub fn came_over<R: Threads + Wait + Sync + AllocGlobal>(
     let feed = no_feed(alloc)?;
     let out = MemSink::new(alloc, room, puts.numbers(alloc)?)?;
     let maps = MemSink::new(alloc, 0, Vec::new(alloc))?;
-    came_by(rt, words, files, feed, out, maps, &[], 100)
+    came_by(rt, words, files, feed, out, maps, &[], NO_TALKS, 100)
 }
 
 /// A command over what stands under these names, and an output that has room.

@@ -12,7 +12,7 @@ use std::alloc::Global;
 use std::collections::LinkedList;
 
 /// A client of the second group.
-const CLIENT: Peer = Peer {
+pub(crate) const CLIENT: Peer = Peer {
     addr: Addr::V4(0xc633_6407),
     port: 5353,
 };

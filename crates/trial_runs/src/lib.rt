@@ -7,6 +7,7 @@ mod fails;
 mod files;
 mod lanes;
 mod sessions;
+mod streams;
 mod texts;
 
 pub use came::{Came, Lent, MemLent, are_joined, run};
@@ -15,6 +16,7 @@ pub use fails::{Fails, NEVER};
 pub use files::{Held, shelf, shelf_of};
 pub use lanes::{MemLane, ONE, QUERY, QUIET, Script, queries};
 pub use sessions::{PLAIN, SERVE, SERVE_TWO, Scene, session_of};
+pub use streams::{MemStreamLane, NO_TALKS, StreamScript, stream_of};
 pub use texts::{
     EIGHT_LEVELS, EMPTY_POOL, FLAT, GOOD_FLAT, GOOD_REGION, NO_DEFAULT, NO_LONGER_FULL, REGION,
     REGION_MAP, TWO_GOOD, ZONE, words_of,

@@ -3,6 +3,7 @@ use crate::came::{Came, came_by};
 use crate::fails::{Fails, NEVER};
 use crate::files::{Held, shelf_of};
 use crate::lanes::Script;
+use crate::streams::{NO_TALKS, StreamScript};
 use crate::texts::REGION;
 use no_memory::NoMemory;
 use outside::{MemSink, MemSource};
@@ -26,7 +27,8 @@ pub const SERVE_TWO: &[&str] = &[
     "2",
 ];
 
-/// The words of a session, the sizes of its feed's pieces, which loads, reads and puts fail, and the turns.
+/// The words of a session, the sizes of its feed's pieces, which loads, reads and puts fail, its lane for conversations, and
+/// the turns.
 #[derive(Clone, Copy)]
 pub struct Scene {
     pub words: &'static [&'static str],
@@ -37,6 +39,7 @@ pub struct Scene {
     pub lines: Fails,
     /// Of puts of a map's text.
     pub maps: Fails,
+    pub stream: StreamScript,
     pub turns: u64,
 }
 
@@ -48,6 +51,7 @@ pub const PLAIN: Scene = Scene {
     reads: NEVER,
     lines: NEVER,
     maps: NEVER,
+    stream: NO_TALKS,
     turns: 100,
 };
 
@@ -83,6 +87,7 @@ pub fn session_of<R: Threads + Wait + Sync + AllocGlobal>(
         out,
         maps,
         scripts,
+        scene.stream,
         scene.turns,
     )
 }
