@@ -1,0 +1,3 @@
+pub mod Splits
+pub mod Batches
+pub mod Rows
