@@ -9,6 +9,8 @@ use Rattle.outside.specs.declared.port.Arrival.{Arrival}
 use Rattle.outside.specs.declared.port.Arrival.TheVariants as arrival
 use Rattle.outside.specs.declared.port.Sending.{Sending}
 use Rattle.outside.specs.declared.port.Sending.TheVariants as sending
+use Rattle.edges.specs.declared.judged.Knock.{Knock}
+use Rattle.edges.specs.declared.judged.Knock.TheVariants as knock
 use Rattle.edges.specs.Peers.{peer_of}
 
 -- The numbers of Linux that say of a socket that it is none, or can't be used any more: EBADF, EPIPE, ENOTSOCK, EOPNOTSUPP, ENOTCONN, ESHUTDOWN. Every other one concerns a datagram.
@@ -33,3 +35,28 @@ arrival_of (Err error) = if is_broken error then arrival.Failed else arrival.Idl
 abbrev pub sending_of : Result ℕ Error → Sending
 sending_of (Ok count) = sending.Sent
 sending_of (Err error) = if is_broken error then sending.Failed else sending.Sent
+
+-- The numbers of Linux that say of a listener that it is none, or can't be used any more: EBADF, EINVAL, ENOTSOCK.
+abbrev pub deaf_numbers : List ℕ
+deaf_numbers = 9 ∷ 22 ∷ 88 ∷ []
+
+-- The numbers of Linux that concern one connection, which was gone before it was taken: EPERM, EINTR, ENONET, EPROTO, ENOPROTOOPT, EOPNOTSUPP, ENETDOWN, ENETUNREACH, ECONNABORTED, EHOSTDOWN, EHOSTUNREACH.
+abbrev pub gone_numbers : List ℕ
+gone_numbers = 1 ∷ 4 ∷ 64 ∷ 71 ∷ 92 ∷ 95 ∷ 100 ∷ 101 ∷ 103 ∷ 112 ∷ 113 ∷ []
+
+-- The numbers of Linux that say that there is no descriptor to be had: ENFILE, EMFILE.
+abbrev pub full_numbers : List ℕ
+full_numbers = 23 ∷ 24 ∷ []
+
+-- the number is one of these
+abbrev pub is_one_of : List ℕ → Option ℤ → Bool
+is_one_of numbers None = false
+is_one_of numbers (Some code) = list_any (λ number. number == unsigned_abs code) numbers
+
+-- the number of an error is one of these
+unfoldable pub has_number : List ℕ → Error → Bool
+has_number numbers error = is_one_of numbers (raw_os_error error)
+
+-- what an error of a listener that takes connections comes to
+abbrev pub knock_of : Error → Knock
+knock_of error = if has_number deaf_numbers error then knock.Deaf else (if has_number gone_numbers error then knock.Gone else (if has_number full_numbers error then knock.Full else knock.Quiet))

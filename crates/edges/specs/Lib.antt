@@ -2,3 +2,5 @@ pub mod Peers
 pub mod Judged
 pub mod Streams
 pub mod Pasts
+pub mod Places
+pub mod Rooms

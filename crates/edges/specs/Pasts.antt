@@ -1,6 +1,7 @@
 -- Real things, as what they were asked and answered.
 use Rattle.std.specs.Prelude.{◌≡◌, ◌≤◌, ℕ, None, false, length}
 use Rattle.outside.specs.Port.{PortTold}
+use Rattle.outside.specs.Streams.{StreamsTold}
 
 -- a port, with the count of its calls that failed
 pub record PortNoted : Type 0 where
@@ -10,3 +11,8 @@ pub record PortNoted : Type 0 where
 -- a port that tells not what waits, and has not ended; never were more replies tried than datagrams taken
 abbrev pub IsGoing : PortTold → Type 0
 IsGoing port = (port.waiting ≡ None) × (port.is_ended ≡ false) × (length port.tries ≤ length port.taken)
+
+-- streams, with the count of their calls that failed
+pub record StreamsNoted : Type 0 where
+  pub told : StreamsTold
+  pub faults : ℕ

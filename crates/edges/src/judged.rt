@@ -1,6 +1,6 @@
 //! What the system's answers about a socket come to.
 ghost use Rattle.std.specs.Prelude.{◌≡◌};
-ghost use Rattle.edges.specs.Judged.{arrival_of, is_broken, sending_of};
+ghost use Rattle.edges.specs.Judged.{arrival_of, has_number, is_broken, knock_of, sending_of};
 
 use crate::peers::peer_of;
 use outside::{Arrival, LARGEST_DATAGRAM, Sending};
@@ -43,5 +43,54 @@ pub fn sending_of(sent: io::Result<usize>) -> Sending
     match sent {
         Err(error) if is_broken(&error) => Sending::Failed,
         _ => Sending::Sent,
+    }
+}
+
+/// The numbers of Linux that say of a listener that it is none, or can't be used any more: EBADF, EINVAL, ENOTSOCK.
+const DEAF_NUMBERS: [u32; 3] = [9, 22, 88];
+
+/// The numbers of Linux that concern one connection, which was gone before it was taken: EPERM, EINTR, ENONET, EPROTO,
+/// ENOPROTOOPT, EOPNOTSUPP, ENETDOWN, ENETUNREACH, ECONNABORTED, EHOSTDOWN, EHOSTUNREACH.
+const GONE_NUMBERS: [u32; 11] = [1, 4, 64, 71, 92, 95, 100, 101, 103, 112, 113];
+
+/// The numbers of Linux that say that there is no descriptor to be had: ENFILE, EMFILE.
+const FULL_NUMBERS: [u32; 2] = [23, 24];
+
+/// What came of a try to take a connection, where none was had.
+#[derive(Clone, Copy, Debug, PartialEq, Eq)]
+pub enum Knock {
+    /// The listener is broken.
+    Deaf,
+    /// One was gone before it was taken. The next one may be had at once.
+    Gone,
+    /// There is no descriptor to be had.
+    Full,
+    /// None waits, or the system is short of something for a while.
+    Quiet,
+}
+
+/// Whether the number of an error is one of these.
+#[tactic(auto, unfolding(crate::specs::Judged::has_number))]
+fn has_number(error: &Error, numbers: &[u32]) -> bool
+    ensures { result ≡ has_number numbers.now error.now }
+{
+    match error.raw_os_error() {
+        Some(code) => numbers.contains(&code.unsigned_abs()),
+        None => false,
+    }
+}
+
+/// What an error of a listener that takes connections comes to.
+pub fn knock_of(error: &Error) -> Knock
+    ensures { result ≡ knock_of error.now }
+{
+    if has_number(error, &DEAF_NUMBERS) {
+        Knock::Deaf
+    } else if has_number(error, &GONE_NUMBERS) {
+        Knock::Gone
+    } else if has_number(error, &FULL_NUMBERS) {
+        Knock::Full
+    } else {
+        Knock::Quiet
     }
 }

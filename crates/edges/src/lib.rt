@@ -1,4 +1,5 @@
-//! The real things that the program asks: files of the system, its standard streams, UDP, and a flag that stops lanes.
+//! The real things that the program asks: files of the system, its standard streams, UDP, TCP, and a flag that stops
+//! lanes.
 //!
 //! They tell their past: what a call was handed and what it answered is noted in it, in some ten lines a device, and so
 //! their clauses tie every answer to what went through the system's calls. The files tell their count of faults alone.
@@ -9,10 +10,15 @@
 //! that one which is said to be received came in.
 #![tactic(auto)]
 
+mod ears;
 mod file_shelf;
 mod judged;
+mod many_streams;
 mod peers;
 mod pieces;
+mod places;
+mod room;
+mod seat;
 mod standard_stream;
 mod stop_flag;
 mod stream_sink;
@@ -20,7 +26,8 @@ mod stream_source;
 mod udp_port;
 
 pub use file_shelf::FileShelf;
-pub use judged::{arrival_of, is_broken, sending_of};
+pub use judged::{Knock, arrival_of, is_broken, knock_of, sending_of};
+pub use many_streams::{ManyStreams, SharedTcp};
 pub use pieces::{put_whole, read_piece, read_within};
 pub use standard_stream::StandardStream;
 pub use stop_flag::{FlagGate, FlagPace, StopFlag};

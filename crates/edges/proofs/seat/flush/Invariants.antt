@@ -1,0 +1,5 @@
+use Rattle.edges.specs.Rooms.{IsFlushed}
+use Rattle.edges.proofs.seat.flush.Given as goal
+
+abbrev pub invariant-loop : goal.invariant-loop
+invariant-loop l = IsFlushed l.fn.room.coming.items l.room.coming.items l.fn.room.going.items l.room.going.items

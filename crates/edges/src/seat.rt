@@ -1,0 +1,175 @@
+//! A place for a connection: whether it is taken, and what goes on with it.
+ghost use Rattle.std.specs.Prelude.{◌≡◌, []};
+ghost use Rattle.edges.specs.Rooms.{IsFilled, IsFlushed, IsSettled};
+
+use crate::room::Room;
+use addr_text::{Addr, Peer};
+use mio::net::TcpStream;
+use std::io::{Error, ErrorKind, Read, Write};
+use tcp_frames::{LARGEST_FRAME, batch_of};
+
+/// For how long a connection may bring no whole message, or take no reply, in milliseconds.
+pub(crate) const LONGEST_IDLE: u64 = 10_000;
+
+/// How many calls of the system in a row one connection gets.
+const MOST_CALLS: usize = 8;
+
+/// A place for a connection.
+#[derive(Drop)]
+pub(crate) struct Seat {
+    pub(crate) stream: Option<TcpStream>,
+    pub(crate) peer: Peer,
+    /// When it came, or was last handed over.
+    pub(crate) since: u64,
+    /// Its number among those that wait to be handed over. 0 is none.
+    pub(crate) turn: u64,
+    /// Whether there may be something to read.
+    pub(crate) is_readable: bool,
+    /// Whether there may be room to write.
+    pub(crate) is_writable: bool,
+    /// Whether its peer sends no more.
+    pub(crate) is_ended: bool,
+    /// Whether it is of no use any more.
+    pub(crate) is_over: bool,
+}
+
+impl Seat {
+    /// A place that is free.
+    pub(crate) fn free() -> Seat {
+        Seat {
+            stream: None,
+            peer: Peer {
+                addr: Addr::V4(0),
+                port: 0,
+            },
+            since: 0,
+            turn: 0,
+            is_readable: false,
+            is_writable: false,
+            is_ended: false,
+            is_over: false,
+        }
+    }
+
+    /// A place that a connection takes.
+    pub(crate) fn taken(stream: TcpStream, peer: Peer, now: u64) -> Seat {
+        Seat {
+            stream: Some(stream),
+            peer,
+            since: now,
+            turn: 0,
+            is_readable: true,
+            is_writable: true,
+            is_ended: false,
+            is_over: false,
+        }
+    }
+}
+
+/// What an error of a connection comes to: a wait, another try, or its end. Whoever connects can bring about each.
+fn meet(error: &Error, may_go_on: &mut bool, is_over: &mut bool) {
+    match error.kind() {
+        ErrorKind::WouldBlock => *may_go_on = false,
+        ErrorKind::Interrupted => {}
+        _ => *is_over = true,
+    }
+}
+
+/// Reads once.
+fn fill_once(seat: &mut Seat, room: &mut Room)
+    ensures { IsFilled room.old.coming.items room.new.coming.items room.old.going.items room.new.going.items }
+{
+    let Some(stream) = &mut seat.stream else {
+        return;
+    };
+    let mut buffer = [0u8; LARGEST_FRAME];
+    let space = LARGEST_FRAME.saturating_sub(room.coming.len());
+    let Some(front) = buffer.get_mut(..space) else {
+        return;
+    };
+    match stream.read(front) {
+        Ok(0) => {
+            seat.is_ended = true;
+            seat.is_readable = false;
+        }
+        Ok(len) => {
+            if let Some(piece) = buffer.get(..len) {
+                room.take_in(piece);
+            }
+        }
+        Err(error) => meet(&error, &mut seat.is_readable, &mut seat.is_over),
+    }
+}
+
+/// Reads what is there.
+fn fill(seat: &mut Seat, room: &mut Room)
+    ensures { IsFilled room.old.coming.items room.new.coming.items room.old.going.items room.new.going.items }
+{
+    for _ in 0..MOST_CALLS {
+        if !seat.is_readable || seat.is_over || room.coming.is_full() {
+            return;
+        }
+        fill_once(seat, room);
+    }
+}
+
+/// Writes once.
+fn flush_once(seat: &mut Seat, room: &mut Room)
+    ensures { IsFlushed room.old.coming.items room.new.coming.items room.old.going.items room.new.going.items }
+{
+    let Some(stream) = &mut seat.stream else {
+        return;
+    };
+    match stream.write(room.going.as_slice()) {
+        Ok(len) => room.let_go(len),
+        Err(error) => meet(&error, &mut seat.is_writable, &mut seat.is_over),
+    }
+}
+
+/// Writes what goes.
+fn flush(seat: &mut Seat, room: &mut Room)
+    ensures { IsFlushed room.old.coming.items room.new.coming.items room.old.going.items room.new.going.items }
+{
+    for _ in 0..MOST_CALLS {
+        if !seat.is_writable || seat.is_over || room.going.is_empty() {
+            return;
+        }
+        flush_once(seat, room);
+    }
+}
+
+/// Whether a connection is left: it is over; or it does not wait to be handed over, and either its peer sends no more and
+/// takes all that goes, or it was idle for too long.
+fn is_left(seat: &Seat, room: &Room, now: u64) -> bool {
+    seat.is_over
+        || (seat.turn == 0
+            && ((seat.is_ended && room.going.is_empty())
+                || now.saturating_sub(seat.since) >= LONGEST_IDLE))
+}
+
+/// Leaves a connection.
+pub(crate) fn leave(seat: &mut Seat, room: &mut Room)
+    ensures { (room.new.coming.items ≡ []) × (room.new.going.items ≡ []) }
+{
+    *seat = Seat::free();
+    room.clear();
+}
+
+/// Writes and reads what goes and comes at once, and has the connection wait to be handed over where it has whole messages
+/// and no reply of it is to go. `turns` counts those that waited.
+pub(crate) fn settle(seat: &mut Seat, room: &mut Room, now: u64, turns: &mut u64)
+    ensures { IsSettled room.old.coming.items room.new.coming.items room.old.going.items room.new.going.items }
+{
+    if seat.stream.is_none() {
+        return;
+    }
+    flush(seat, room);
+    fill(seat, room);
+    if seat.turn == 0 && room.going.is_empty() && batch_of(room.coming.as_slice()).len > 0 {
+        *turns = turns.saturating_add(1);
+        seat.turn = *turns;
+    }
+    if is_left(seat, room, now) {
+        leave(seat, room);
+    }
+}

@@ -1,0 +1,27 @@
+-- A stream lane at one moment, by what its parts tell.
+use Rattle.std.specs.Prelude.{ℕ, Option}
+use Rattle.outside.specs.Gate.{GateTold}
+use Rattle.outside.specs.Notes.{NotesTold}
+use Rattle.outside.specs.Streams.{StreamsTold}
+use Rattle.published_map.specs.Version.{Version}
+use Rattle.lane_model.specs.Sessions.{Eyes}
+use Rattle.tcp_lane.specs.declared.talking.Talking.{Talking}
+use Rattle.tcp_lane.specs.Calls.{StreamMoment}
+use Rattle.tcp_lane.specs.Turns.{Line}
+
+-- the conversation of a lane
+abbrev pub line_of : Talking → Line
+line_of talk = record { is_open = talk.is_open; peer = talk.peer; held = talk.held.items; quiets = talk.quiets }
+
+-- streams, a gate and notes, by what each tells and its faults, with a viewer and its door, the number of the next message and a conversation
+abbrev pub stream_moment_of : {Q G N : Type 0} → (Q → Option StreamsTold) → (Q → ℕ) → (G → Option GateTold) → (G → ℕ) → (N → Option NotesTold) → Q → G → N → Eyes Version → ℕ → Line → StreamMoment Version
+stream_moment_of told faults gate_told gate_faults notes_told streams gate notes eyes count line = record {
+  streams = told streams;
+  gate = gate_told gate;
+  notes = notes_told notes;
+  eyes = eyes;
+  count = count;
+  stream_faults = faults streams;
+  gate_faults = gate_faults gate;
+  line = line;
+}

@@ -1,0 +1,147 @@
+-- Inside this crate alone: the steps of a stream lane's turn.
+use Rattle.std.specs.Prelude.{◌≡◌, ℕ, ◌+◌, ◌<◌, ◌≤◌, ◌⊎◌, Bool, true, false, List, [], ◌∷◌, ◌++◌, All, length, map, take, fold, Option}
+use Rattle.std.specs.List.{flat_map}
+use Rattle.addr_text.specs.declared.address.Addr.{Addr}
+use Rattle.addr_text.specs.declared.address.Peer.{Peer}
+use Rattle.outside.specs.Faults.{BothTell, Rose, raised}
+use Rattle.outside.specs.Limits.{largest_datagram}
+use Rattle.outside.specs.Streams.{StreamsTold, failing, writing}
+use Rattle.tcp_frames.specs.Split.{HasNoMessage, IsOverlong, IsUnfinished, framed}
+use Rattle.published_map.specs.Version.{Version}
+use Rattle.answer_core.specs.declared.way.Way.TheVariants.{Stream}
+use Rattle.lane_model.specs.declared.ended.Ended.{Ended}
+use Rattle.lane_model.specs.Turns.{AreCalm, failures, fails_of, is_calm, refused, tried}
+use Rattle.lane_model.specs.Sessions.{Eyes, IsSession}
+use Rattle.lane_model.specs.Replies.{is_silent}
+use Rattle.name_workers.specs.Worker.{IsLookRefused, IsReplied}
+use Rattle.name_workers.specs.declared.ending.Step.{Step}
+use Rattle.name_workers.specs.declared.ending.Step.TheVariants as step
+use Rattle.tcp_lane.specs.declared.answering.Fared.{Fared}
+use Rattle.tcp_lane.specs.declared.answering.Fared.TheVariants as fared
+use Rattle.tcp_lane.specs.Replies.{stream_replies}
+use Rattle.tcp_lane.specs.Turns.{AreKnown, AreWell, Heard, IsBroken, IsPiece, IsRuled, Line, Said, StreamTurn, came_of, closing_if, ended, got, hearing_of, known_behind, lane_of, saying, stream_turn, turn_of}
+use Rattle.tcp_lane.specs.Calls.{IsStreamEnd, IsStreamLast, IsStreamSession, IsStreamStop, IsStreamTurn, StreamMoment, inner}
+
+-- what streams tell, and their faults
+pub record Wire : Type 0 where
+  pub told : Option StreamsTold
+  pub faults : ℕ
+
+-- what became of a message: the streams' count rose where the reply was not written, and else stands
+abbrev pub IsFared : ℕ → ℕ → Addr → List ℕ → Fared → Eyes Version → Eyes Version → Wire → Wire → Type 0
+IsFared w n from octets fared.Silent e f p q = (is_silent octets ≡ true) × (f ≡ e) × (q ≡ p)
+IsFared w n from octets fared.Refused e f p q = IsLookRefused octets e f × (q ≡ p)
+IsFared w n from octets fared.Sent e f p q = (serial : ℕ) × (reply : List ℕ) × IsReplied w n from octets Stream serial e f reply × (f.looks ≡ raised e.looks 1) × BothTell p.told q.told (λ b c. c ≡ writing serial (framed reply) b) × (q.faults ≡ p.faults)
+IsFared w n from octets fared.Failed e f p q = (serial : ℕ) × (reply : List ℕ) × IsReplied w n from octets Stream serial e f reply × (f.looks ≡ raised e.looks 1) × BothTell p.told q.told (λ b c. (k : ℕ) × (c ≡ failing (writing serial (take k (framed reply)) b))) × Rose p.faults q.faults
+
+-- the lane goes on with the conversation
+abbrev pub is_on : Fared → Bool
+is_on fared.Silent = true
+is_on fared.Sent = true
+is_on fared.Failed = false
+is_on fared.Refused = false
+
+-- These messages were taken, one after another.
+pub record AreSaid (w n n' : ℕ) (peer : Peer) (said : List Said) (cut : ℕ) (e f : Eyes Version) (p q : Wire) : Type 0 where
+  pub session : IsSession stream_replies w (map (turn_of peer) said) (inner e n p.faults) (inner f n' q.faults)
+  pub told : BothTell p.told q.told (λ b c. c ≡ fold (saying cut) b said)
+  pub known : (k : ℕ) → k + 1 ≡ length e.told → AreKnown k said × (known_behind k said + 1 ≡ length f.told)
+
+-- why no more messages were taken
+abbrev pub IsAnsweredBy : Fared → List Said → List ℕ → Type 0
+IsAnsweredBy fared.Silent said rest = AreWell said × IsUnfinished rest
+IsAnsweredBy fared.Sent said rest = ⊥
+IsAnsweredBy fared.Failed said rest = IsBroken (λ f. (serial : ℕ) × (octets : List ℕ) × (f ≡ tried serial octets false)) said
+IsAnsweredBy fared.Refused said rest = IsBroken (λ f. f ≡ refused) said
+
+-- all whole messages at the front of octets were taken
+pub record IsAnswered (w n n' : ℕ) (peer : Peer) (octets rest : List ℕ) (result : Fared) (e f : Eyes Version) (p q : Wire) : Type 0 where
+  pub first : ℕ
+  pub first_is : first + 1 ≡ length e.told
+  pub said : List Said
+  pub cut : ℕ
+  pub are_said : AreSaid w n n' peer said cut e f p q
+  pub parts : octets ≡ flat_map (λ x. framed x.octets) said ++ rest
+  pub short : All (λ x. length x.octets ≤ largest_datagram) said
+  pub by : IsAnsweredBy result said rest
+
+-- so far
+pub record AreSoFar (w n n' : ℕ) (peer : Peer) (octets rest : List ℕ) (e f : Eyes Version) (p q : Wire) : Type 0 where
+  pub said : List Said
+  pub are_said : (cut : ℕ) → AreSaid w n n' peer said cut e f p q
+  pub parts : octets ≡ flat_map (λ x. framed x.octets) said ++ rest
+  pub short : All (λ x. length x.octets ≤ largest_datagram) said
+  pub well : AreWell said
+
+-- a turn without messages, but for its gate and notes
+abbrev pub plain : ℕ → Heard → Peer → Bool → StreamTurn
+plain known heard peer closes = record { shown = 0; notes = []; known = known; heard = heard; peer = peer; said = []; cut = 0; closes = closes }
+
+-- how a lane goes on after a turn
+abbrev pub IsStepOf : Step → StreamTurn → Type 0
+IsStepOf step.Stopped t = ⊥
+IsStepOf step.On t = AreWell t.said × (is_calm (came_of t.heard) ≡ true) × (fails_of (came_of t.heard) ≡ 0)
+IsStepOf step.PortEnd t = t.heard ≡ ended
+IsStepOf step.PortFailed t = ((AreWell t.said × (fails_of (came_of t.heard) ≡ 1)) ⊎ (IsBroken (λ f. (serial : ℕ) × (octets : List ℕ) × (f ≡ tried serial octets false)) t.said × (fails_of (came_of t.heard) ≡ 0))) × (is_calm (came_of t.heard) ≡ true)
+IsStepOf step.Refused t = IsBroken (λ f. f ≡ refused) t.said × (is_calm (came_of t.heard) ≡ true) × (fails_of (came_of t.heard) ≡ 0)
+
+-- what an answer of accept or read without a piece does
+pub record IsPlain (known : ℕ) (l l' : Line) (s : Step) (p q : Wire) : Type 0 where
+  pub heard : Heard
+  pub closes : Bool
+  pub told : BothTell p.told q.told (λ b c. c ≡ closing_if closes (hearing_of known heard b))
+  pub faults : raised p.faults (fails_of (came_of heard)) ≤ q.faults
+  pub stays : fails_of (came_of heard) ≡ 0 → q.faults ≡ p.faults
+  pub ruled : IsRuled heard l (plain known heard l.peer closes) l'
+  pub step : IsStepOf s (plain known heard l.peer closes)
+
+-- what the messages of a piece do, behind its read
+pub record IsHeard (w n n' : ℕ) (octets : List ℕ) (l l' : Line) (s : Step) (e f : Eyes Version) (p q : Wire) : Type 0 where
+  pub t : StreamTurn
+  pub heard : t.heard ≡ got octets
+  pub known_is : t.known + 1 ≡ length e.told
+  pub session : IsSession stream_replies w (map (turn_of t.peer) t.said) (inner e n p.faults) (inner f n' q.faults)
+  pub told : BothTell p.told q.told (λ b c. c ≡ closing_if t.closes (fold (saying t.cut) b t.said))
+  pub piece : IsPiece octets l t l'
+  pub step : IsStepOf s t
+
+-- what an answer of accept or read and the messages behind it do
+pub record IsTaken (w n n' : ℕ) (l l' : Line) (s : Step) (e f : Eyes Version) (p q : Wire) : Type 0 where
+  pub t : StreamTurn
+  pub known_is : t.known + 1 ≡ length e.told
+  pub middle : ℕ
+  pub faults : raised p.faults (fails_of (came_of t.heard)) ≤ middle
+  pub stays : fails_of (came_of t.heard) ≡ 0 → middle ≡ p.faults
+  pub session : IsSession stream_replies w (map (turn_of t.peer) t.said) (inner e n middle) (inner f n' q.faults)
+  pub told : BothTell p.told q.told (λ b c. c ≡ stream_turn b t)
+  pub ruled : IsRuled t.heard l t l'
+  pub step : IsStepOf s t
+
+-- how a lane goes on after a message that ended its conversation
+abbrev pub step_of : Fared → Step
+step_of fared.Silent = step.On
+step_of fared.Sent = step.On
+step_of fared.Failed = step.PortFailed
+step_of fared.Refused = step.Refused
+
+-- what one turn does: the gate answered Stop, or a turn was made
+abbrev pub IsTurned : ℕ → Step → StreamMoment Version → StreamMoment Version → Type 0
+IsTurned w step.Stopped m m' = IsStreamStop m m'
+IsTurned w s m m' = (t : StreamTurn) × IsStreamTurn stream_replies w t m m' × IsStepOf s t
+
+-- so many turns were made from one moment to another, and so many calls of the streams failed
+pub record IsSoFar (w turns fails : ℕ) (m mid : StreamMoment Version) : Type 0 where
+  pub log : List StreamTurn
+  pub session : IsStreamSession stream_replies w log m mid
+  pub calm : AreCalm (lane_of log)
+  pub failures_are : failures (lane_of log) ≡ fails
+  pub few : fails < 8
+  pub turns_are : length log ≡ turns
+
+-- What the turns of a call do: some turns, and then its end.
+pub record IsServed (w turns : ℕ) (m m' : StreamMoment Version) (result : Ended) : Type 0 where
+  pub log : List StreamTurn
+  pub mid : StreamMoment Version
+  pub session : IsStreamSession stream_replies w log m mid
+  pub last : IsStreamLast result mid m'
+  pub ending : IsStreamEnd turns log result

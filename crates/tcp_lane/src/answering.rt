@@ -1,0 +1,100 @@
+//! The messages of a piece, answered one after another.
+ghost use Rattle.std.specs.Prelude.{◌≡◌};
+ghost use Rattle.lane_model.specs.Lanes.{following};
+ghost use Rattle.name_workers.specs.Moments.{eyes_of};
+ghost use Rattle.tcp_lane.specs.Steps.{IsAnswered, IsFared, is_on, step_of};
+
+use addr_text::Peer;
+use answer_core::Way;
+use arrayvec::ArrayVec;
+use map_cell::{CellFault, Door, Naming};
+use name_workers::{Step, Worker};
+use outside::{Streams, Writing};
+use tcp_frames::{first_message, frame_of};
+
+/// What became of a message.
+#[derive(Clone, Copy)]
+pub(crate) enum Fared {
+    Silent,
+    Refused,
+    Sent,
+    Failed,
+}
+
+/// Answers a message.
+fn answer_one<J: Naming, Q: Streams, D: Door>(
+    worker: &mut Worker<J>,
+    streams: &mut Q,
+    door: &mut D,
+    octets: &[u8],
+    from: Peer,
+) -> Fared
+    ensures fared { IsFared worker.old.number worker.old.count from.addr octets.now result
+        (eyes_of D.looks D.greatest D.faults worker.old.viewer door.old)
+        (eyes_of D.looks D.greatest D.faults worker.new.viewer door.new)
+        (record { told = Q.told streams.old; faults = Q.faults streams.old }) (record { told = Q.told streams.new; faults = Q.faults streams.new }) }
+    ensures count { (worker.new.count ≡ following worker.old.count) × (worker.new.number ≡ worker.old.number) }
+    ensures asked { D.asked door.new ≡ D.asked door.old }
+{
+    let mut out = ArrayVec::new();
+    match worker.answer(door, from.addr, octets, Way::Stream, &mut out) {
+        Err(CellFault) => Fared::Refused,
+        Ok(None) => Fared::Silent,
+        Ok(Some(serial)) => match streams.write(serial, frame_of(&out).as_slice()) {
+            Writing::Done => Fared::Sent,
+            Writing::Failed => Fared::Failed,
+        },
+    }
+}
+
+/// Whether the lane goes on with the conversation.
+pub(crate) fn is_on(fared: Fared) -> bool
+    ensures { result ≡ is_on fared }
+{
+    match fared {
+        Fared::Silent => true,
+        Fared::Sent => true,
+        Fared::Failed => false,
+        Fared::Refused => false,
+    }
+}
+
+/// How the lane goes on after a message that ended its conversation.
+pub(crate) fn step_of(fared: Fared) -> Step
+    ensures { result ≡ step_of fared }
+{
+    match fared {
+        Fared::Silent => Step::On,
+        Fared::Sent => Step::On,
+        Fared::Failed => Step::PortFailed,
+        Fared::Refused => Step::Refused,
+    }
+}
+
+/// Answers all whole messages at the front of octets, and gives what is left of these. Silent stands for all of them.
+pub(crate) fn answer_all<'a, J: Naming, Q: Streams, D: Door>(
+    worker: &mut Worker<J>,
+    streams: &mut Q,
+    door: &mut D,
+    octets: &'a [u8],
+    from: Peer,
+) -> (Fared, &'a [u8])
+    ensures answered { IsAnswered worker.old.number worker.old.count worker.new.count from octets.entry.now result.1.now result.0
+        (eyes_of D.looks D.greatest D.faults worker.old.viewer door.old)
+        (eyes_of D.looks D.greatest D.faults worker.new.viewer door.new)
+        (record { told = Q.told streams.old; faults = Q.faults streams.old }) (record { told = Q.told streams.new; faults = Q.faults streams.new }) }
+    ensures number { worker.new.number ≡ worker.old.number }
+    ensures asked { D.asked door.new ≡ D.asked door.old }
+{
+    // tells the prover what the type keeps
+    let _ = worker.known();
+    let mut rest = octets;
+    while let Some((message, behind)) = first_message(rest) {
+        let fared = answer_one(worker, streams, door, message, from);
+        if !is_on(fared) {
+            return (fared, behind);
+        }
+        rest = behind;
+    }
+    (Fared::Silent, rest)
+}

@@ -1,0 +1,224 @@
+//! A stream lane's turns: the gate is asked, notes are learned, and a conversation is taken, or a piece of the open one is
+//! read and its messages are answered.
+ghost use Rattle.std.specs.Prelude.{◌≡◌, ◌≤◌, ◌<◌, ◌-◌, true, false, length};
+ghost use Rattle.name_workers.specs.Moments.{eyes_of};
+ghost use Rattle.tcp_lane.specs.Calls.{IsStreamCall};
+ghost use Rattle.tcp_lane.specs.Moments.{line_of, stream_moment_of};
+ghost use Rattle.tcp_lane.specs.Replies.{stream_replies};
+ghost use Rattle.tcp_lane.specs.Steps.{IsHeard, IsPlain, IsServed, IsTaken, IsTurned};
+ghost use Rattle.tcp_lane.specs.Turns.{no_line};
+
+use crate::answering::{answer_all, is_on, step_of};
+use crate::talking::{Talking, close, joined, kept, no_talk, rest_once};
+use arrayvec::ArrayVec;
+use lane_model::Ended;
+use map_cell::{Door, Naming, Note};
+use name_workers::{Step, Worker, learn_all, next_end};
+use outside::{Accepting, Gate, Notes, Numbered, Reading, Streams, Turning};
+use tcp_frames::{LARGEST_FRAME, is_overlong};
+
+/// Takes all whole messages of a piece that was read.
+fn hear<J: Naming, Q: Streams, D: Door>(
+    worker: &mut Worker<J>,
+    streams: &mut Q,
+    door: &mut D,
+    talk: &mut Talking,
+    piece: &[u8],
+) -> Step
+    requires piece { length piece.now ≤ LARGEST_FRAME }
+    requires few { talk.old.quiets < 200 }
+    ensures few { talk.new.quiets < 200 }
+    ensures heard { IsHeard worker.old.number worker.old.count worker.new.count piece.now
+        (line_of talk.old)
+        (line_of talk.new) result
+        (eyes_of D.looks D.greatest D.faults worker.old.viewer door.old)
+        (eyes_of D.looks D.greatest D.faults worker.new.viewer door.new)
+        (record { told = Q.told streams.old; faults = Q.faults streams.old }) (record { told = Q.told streams.new; faults = Q.faults streams.new }) }
+    ensures number { worker.new.number ≡ worker.old.number }
+    ensures asked { D.asked door.new ≡ D.asked door.old }
+{
+    let octets = joined(&talk.held, piece);
+    let (fared, rest) = answer_all(worker, streams, door, octets.as_slice(), talk.peer);
+    if !is_on(fared) {
+        close(streams, talk);
+        return step_of(fared);
+    }
+    if is_overlong(rest) {
+        close(streams, talk);
+        return Step::On;
+    }
+    talk.held = kept(rest);
+    talk.quiets = 0;
+    Step::On
+}
+
+/// Takes the next conversation.
+fn accept_one<Q: Streams>(known: u64, streams: &mut Q, talk: &mut Talking) -> Step
+    requires shut { talk.old.is_open ≡ false }
+    requires few { talk.old.quiets < 200 }
+    ensures few { talk.new.quiets < 200 }
+    ensures plain { IsPlain known
+        (line_of talk.old)
+        (line_of talk.new) result
+        (record { told = Q.told streams.old; faults = Q.faults streams.old }) (record { told = Q.told streams.new; faults = Q.faults streams.new }) }
+{
+    match streams.accept(known) {
+        Accepting::Come(peer) => {
+            talk.is_open = true;
+            talk.peer = peer;
+            talk.held = ArrayVec::new();
+            talk.quiets = 0;
+            Step::On
+        }
+        Accepting::Idle => Step::On,
+        Accepting::End => Step::PortEnd,
+        Accepting::Failed => Step::PortFailed,
+    }
+}
+
+/// Reads the next piece of the conversation, and takes its messages.
+fn read_one<J: Naming, Q: Streams, D: Door>(
+    worker: &mut Worker<J>,
+    streams: &mut Q,
+    door: &mut D,
+    talk: &mut Talking,
+    buffer: &mut [u8; LARGEST_FRAME],
+) -> Step
+    requires open_ { talk.old.is_open ≡ true }
+    requires few { talk.old.quiets < 200 }
+    ensures few { talk.new.quiets < 200 }
+    ensures taken { IsTaken worker.old.number worker.old.count worker.new.count
+        (line_of talk.old)
+        (line_of talk.new) result
+        (eyes_of D.looks D.greatest D.faults worker.old.viewer door.old)
+        (eyes_of D.looks D.greatest D.faults worker.new.viewer door.new)
+        (record { told = Q.told streams.old; faults = Q.faults streams.old }) (record { told = Q.told streams.new; faults = Q.faults streams.new }) }
+    ensures number { worker.new.number ≡ worker.old.number }
+    ensures asked { D.asked door.new ≡ D.asked door.old }
+{
+    match streams.read(worker.known(), buffer) {
+        Reading::Got(len) => hear(worker, streams, door, talk, &buffer[..len]),
+        Reading::Quiet => {
+            rest_once(streams, talk);
+            Step::On
+        }
+        Reading::Closed => {
+            close(streams, talk);
+            Step::On
+        }
+        Reading::Failed => {
+            close(streams, talk);
+            Step::PortFailed
+        }
+    }
+}
+
+/// Takes the next conversation, or reads on in the one that is open.
+fn take_one<J: Naming, Q: Streams, D: Door>(
+    worker: &mut Worker<J>,
+    streams: &mut Q,
+    door: &mut D,
+    talk: &mut Talking,
+    buffer: &mut [u8; LARGEST_FRAME],
+) -> Step
+    requires few { talk.old.quiets < 200 }
+    ensures few { talk.new.quiets < 200 }
+    ensures taken { IsTaken worker.old.number worker.old.count worker.new.count
+        (line_of talk.old)
+        (line_of talk.new) result
+        (eyes_of D.looks D.greatest D.faults worker.old.viewer door.old)
+        (eyes_of D.looks D.greatest D.faults worker.new.viewer door.new)
+        (record { told = Q.told streams.old; faults = Q.faults streams.old }) (record { told = Q.told streams.new; faults = Q.faults streams.new }) }
+    ensures number { worker.new.number ≡ worker.old.number }
+    ensures asked { D.asked door.new ≡ D.asked door.old }
+{
+    if talk.is_open {
+        read_one(worker, streams, door, talk, buffer)
+    } else {
+        accept_one(worker.known(), streams, talk)
+    }
+}
+
+/// One turn.
+fn one_turn<J: Naming, Q: Streams, G: Gate, D: Door, N: Notes<Note = Note<J>>>(
+    worker: &mut Worker<J>,
+    streams: &mut Q,
+    gate: &mut G,
+    door: &mut D,
+    notes: &mut N,
+    talk: &mut Talking,
+    buffer: &mut [u8; LARGEST_FRAME],
+) -> Step
+    requires numbered { (note : _) → ⟦<Note<J> as Numbered>⟧.number note ≡ length note.front - 1 }
+    requires few { talk.old.quiets < 200 }
+    ensures few { talk.new.quiets < 200 }
+    ensures turned { IsTurned worker.old.number result
+        (stream_moment_of Q.told Q.faults G.told G.faults N.told streams.old gate.old notes.old (eyes_of D.looks D.greatest D.faults worker.old.viewer door.old) worker.old.count (line_of talk.old))
+        (stream_moment_of Q.told Q.faults G.told G.faults N.told streams.new gate.new notes.new (eyes_of D.looks D.greatest D.faults worker.new.viewer door.new) worker.new.count (line_of talk.new)) }
+    ensures number { worker.new.number ≡ worker.old.number }
+    ensures asked { D.asked door.new ≡ D.asked door.old }
+{
+    if let Turning::Stop = gate.turn(worker.known()) {
+        return Step::Stopped;
+    }
+    learn_all(worker, door, notes);
+    take_one(worker, streams, door, talk, buffer)
+}
+
+/// The turns of a lane.
+fn serve_turns<J: Naming, Q: Streams, G: Gate, D: Door, N: Notes<Note = Note<J>>>(
+    worker: &mut Worker<J>,
+    streams: &mut Q,
+    gate: &mut G,
+    door: &mut D,
+    notes: &mut N,
+    talk: &mut Talking,
+    turns: u64,
+) -> Ended
+    requires numbered { (note : _) → ⟦<Note<J> as Numbered>⟧.number note ≡ length note.front - 1 }
+    requires few { talk.old.quiets < 200 }
+    ensures served { IsServed worker.old.number turns
+        (stream_moment_of Q.told Q.faults G.told G.faults N.told streams.old gate.old notes.old (eyes_of D.looks D.greatest D.faults worker.old.viewer door.old) worker.old.count (line_of talk.old))
+        (stream_moment_of Q.told Q.faults G.told G.faults N.told streams.new gate.new notes.new (eyes_of D.looks D.greatest D.faults worker.new.viewer door.new) worker.new.count (line_of talk.new)) result }
+    ensures number { worker.new.number ≡ worker.old.number }
+    ensures asked { D.asked door.new ≡ D.asked door.old }
+{
+    let mut buffer = [0u8; LARGEST_FRAME];
+    let mut failed = 0u8;
+    for _ in 0..turns {
+        let step = one_turn(worker, streams, gate, door, notes, talk, &mut buffer);
+        if let Some(ended) = next_end(step, &mut failed) {
+            return ended;
+        }
+    }
+    Ended::Spent
+}
+
+/// Serves streams: in each turn asks the gate, learns the notes, and takes the next conversation, or reads on in the open
+/// one and answers all of its whole messages. A conversation that is open at the end is closed.
+pub fn serve_streams<J: Naming, Q: Streams, G: Gate, D: Door, N: Notes<Note = Note<J>>>(
+    worker: &mut Worker<J>,
+    streams: &mut Q,
+    gate: &mut G,
+    door: &mut D,
+    notes: &mut N,
+    turns: u64,
+) -> Ended
+    // What notes tell of themselves are the serials of the maps that they name.
+    requires numbered { (note : _) → ⟦<Note<J> as Numbered>⟧.number note ≡ length note.front - 1 }
+    ensures call { IsStreamCall stream_replies worker.old.number turns
+        (stream_moment_of Q.told Q.faults G.told G.faults N.told streams.old gate.old notes.old (eyes_of D.looks D.greatest D.faults worker.old.viewer door.old) worker.old.count no_line)
+        (stream_moment_of Q.told Q.faults G.told G.faults N.told streams.new gate.new notes.new (eyes_of D.looks D.greatest D.faults worker.new.viewer door.new) worker.new.count no_line) result }
+    ensures number { worker.new.number ≡ worker.old.number }
+    // No place is asked for.
+    ensures asked { D.asked door.new ≡ D.asked door.old }
+{
+    // tells the prover what the type keeps
+    let _ = worker.known();
+    let mut talk = no_talk();
+    let ended = serve_turns(worker, streams, gate, door, notes, &mut talk, turns);
+    if talk.is_open {
+        close(streams, &mut talk);
+    }
+    ended
+}
