@@ -49,13 +49,7 @@ fn next_of(knock: Knock, has_room: bool) -> Next
     match knock {
         Knock::Deaf => Next::Broken,
         Knock::Gone => Next::Again,
-        Knock::Full => {
-            if has_room {
-                Next::Again
-            } else {
-                Next::Wait
-            }
-        }
+        Knock::Full => { if has_room { Next::Again } else { Next::Wait } }
         Knock::Quiet => Next::Wait,
     }
 }
@@ -63,8 +57,7 @@ fn next_of(knock: Knock, has_room: bool) -> Next
 /// Listens there. Where a standard stream was closed at the start, the system may give its descriptor away, and a
 /// connection would be read as a feed: such a listener is given up.
 pub(crate) fn bind<N: Net>(net: &N, listen: Listen, events: Events) -> Option<Ears> {
-    let mut listener =
-        TcpListener::bind(net, socket_addr(listen.addr, listen.port)).ok()?;
+    let mut listener = TcpListener::bind(net, socket_addr(listen.addr, listen.port)).ok()?;
     let poll = Poll::new(net).ok()?;
     if listener.as_raw_fd() < FIRST_DESCRIPTOR || poll.as_raw_fd() < FIRST_DESCRIPTOR {
         return None;
@@ -152,8 +145,7 @@ impl Ears {
                 }
                 Err(error) => {
                     let knock = knock_of(&error);
-                    let has_room =
-                        knock == Knock::Full && may_make_room && make_room(seats, rooms);
+                    let has_room = knock == Knock::Full && may_make_room && make_room(seats, rooms);
                     may_make_room = false;
                     match next_of(knock, has_room) {
                         Next::Broken => return true,

@@ -176,8 +176,7 @@ impl<'a, R: Net + Clock> ManyStreams<'a, R> {
             return true;
         }
         self.now = now_of(self.rt, self.now);
-        let is_broken =
-            ears.take_all(&mut self.seats, &mut self.rooms, self.most_of_one, self.now);
+        let is_broken = ears.take_all(&mut self.seats, &mut self.rooms, self.most_of_one, self.now);
         settle_all(&mut self.seats, &mut self.rooms, self.now, &mut self.turns);
         is_broken
     }

@@ -13,6 +13,8 @@ use std::net::{Net, SocketAddr, UdpSocket};
 use std::thread::{Threads, join_mut};
 use std::time::Duration;
 
+mod tcp;
+
 /// A limit, how many octets are expected, and whether four are read whole.
 type LimitRow = (usize, u64, bool);
 
@@ -366,6 +368,39 @@ fn misjudged(datagrams: &[i32], sockets: &[i32]) -> Option<i32> {
 #[test]
 fn judges_errors(rt: HostRuntime) {
     assert_eq!(rt; misjudged(OF_A_DATAGRAM, OF_A_SOCKET), None);
+}
+
+/// What numbers of Linux's errors say of a listener: EBADF, EINVAL and ENOTSOCK; EPERM, EINTR, ENETDOWN, ECONNABORTED
+/// and EHOSTUNREACH; ENFILE and EMFILE; EAGAIN, ENOMEM and ENOBUFS.
+const KNOCKS: &[(Knock, &[i32])] = &[
+    (Knock::Deaf, &[9, 22, 88]),
+    (Knock::Gone, &[1, 4, 100, 103, 113]),
+    (Knock::Full, &[23, 24]),
+    (Knock::Quiet, &[11, 12, 105]),
+];
+
+fn all_knock(wanted: Knock, codes: &[i32]) -> bool {
+    for code in codes {
+        if knock_of(&Error::from_raw_os_error(*code)) != wanted {
+            return false;
+        }
+    }
+    true
+}
+
+/// The first kind of which a number is judged otherwise.
+fn other_knock(rows: &[(Knock, &[i32])]) -> Option<Knock> {
+    for (wanted, codes) in rows {
+        if !all_knock(*wanted, codes) {
+            return Some(*wanted);
+        }
+    }
+    None
+}
+
+#[test]
+fn judges_listeners(rt: HostRuntime) {
+    assert!(rt; other_knock(KNOCKS).is_none());
 }
 
 fn stops_lanes(flag: &StopFlag) -> bool {

@@ -1,5 +1,5 @@
 -- What the turns of a stream lane come to.
-use Rattle.std.proofs.Common.{◌≡◌, ℕ, zero, suc, ◌+◌, ◌-◌, ◌<◌, ◌≤◌, Bool, true, false, List, [], ◌∷◌, ◌++◌, All, length, map, fold, Option, None, Some, refl, sym, ap, subst, ◌∙◌, arith, append_assoc}
+use Rattle.std.proofs.Common.{◌≡◌, ℕ, ◌+◌, ◌-◌, ◌<◌, Bool, true, false, List, [], ◌∷◌, ◌++◌, All, length, map, fold, Option, None, Some, refl, sym, ap, subst, ◌∙◌, arith, append_assoc}
 use Rattle.std.proofs.lemmas.List.{map-append}
 use Rattle.outside.specs.Faults.{BothTell}
 use Rattle.outside.specs.Gate.{GateTold, IsTurning}
@@ -9,15 +9,16 @@ use Rattle.outside.specs.Port.{Packet}
 use Rattle.outside.specs.Streams.{StreamsTold, Talk, closing}
 use Rattle.published_map.specs.Version.{Version}
 use Rattle.addr_text.specs.declared.address.Peer.{Peer}
+use Rattle.answer_core.specs.declared.way.Way.TheVariants.{Stream}
 use Rattle.lane_model.specs.declared.ended.Ended.{Ended}
 use Rattle.lane_model.specs.declared.ended.Ended.TheVariants as end
 use Rattle.lane_model.specs.Turns.{AreCalm, AreGiven, IsGiven, Turn, gate_turn, Fate, entries_of, is_calm, is_refused, took, tries_of, silent, refused, tried}
-use Rattle.lane_model.specs.Sessions.{Eyes, IsGateRun, IsLaneLog, IsSession}
+use Rattle.lane_model.specs.Calls.{Eyes, IsGateRun, IsLaneLog, AreTurns}
 use Rattle.tcp_lane.specs.Replies.{stream_replies}
 use Rattle.lane_model.proofs.Prefixes.{prefix_length}
 use Rattle.lane_model.proofs.Runs.{IsInOrder, tells_on}
-use Rattle.tcp_lane.specs.Turns.{AreWell, Heard, IsBroken, IsRuled, Line, Said, StreamTurn, came_of, closing_if, ended, is_well, lane_of, lead_of, no_line, stream_turn, turn_of, turns_of}
-use Rattle.tcp_lane.specs.Calls.{AreRuled, IsStreamCall, IsStreamEnd, IsStreamLast, IsStreamSession, IsStreamStop, IsStreamTurn, StreamMoment, inner}
+use Rattle.tcp_lane.specs.Turns.{AreWell, StreamCame, IsBroken, IsRuled, Line, Said, StreamTurn, closing_if, ended, is_well, lane_of, lead_of, no_line, stream_turn, turn_of, turns_of}
+use Rattle.tcp_lane.specs.Calls.{AreRuled, IsStreamCall, IsStreamEnd, IsStreamLast, IsStreamSession, StreamMoment, inner}
 use Rattle.tcp_lane.specs.Steps.{IsServed}
 use Rattle.tcp_lane.proofs.Sessions.{session_on}
 use Rattle.lane_model.proofs.Calls.{calm_not_refused, log_of}
@@ -32,7 +33,7 @@ tells_same None = tt
 tells_same (Some b) = refl
 
 -- all turns as turns of a lane
-lane_session : (w : ℕ) (log : List StreamTurn) (m m' : StreamMoment Version) → IsStreamSession stream_replies w log m m' → IsSession stream_replies w (lane_of log) (inner m.eyes m.count m.stream_faults) (inner m'.eyes m'.count m'.stream_faults)
+lane_session : (w : ℕ) (log : List StreamTurn) (m m' : StreamMoment Version) → IsStreamSession stream_replies w log m m' → AreTurns stream_replies w (lane_of log) (inner m.eyes m.count m.stream_faults) (inner m'.eyes m'.count m'.stream_faults)
 lane_session w [] m m' s = ap (λ k. inner k.eyes k.count k.stream_faults) s
 lane_session w (t ∷ log) m m' s =
     session_on stream_replies w (turns_of t) (lane_of log) (inner m.eyes m.count m.stream_faults) (inner s.0.eyes s.0.count s.0.stream_faults) (inner m'.eyes m'.count m'.stream_faults) s.1.session (lane_session w log s.0 m' s.2)
@@ -85,7 +86,7 @@ free_said peer (s ∷ said) w = All-cons (λ (t : Turn). is_refused t.came ≡ f
 
 order_blind : (before : List Turn) (t : StreamTurn) → All (λ (x : Turn). is_refused x.came ≡ false) before → IsBroken (λ f. f ≡ refused) t.said → IsInOrder (before ++ turns_of t)
 order_blind before t free b =
-    let all = All-append (λ (x : Turn). is_refused x.came ≡ false) before (lead_of t ∷ map (turn_of t.peer) b.0) free (All-cons (λ (x : Turn). is_refused x.came ≡ false) (lead_of t) (map (turn_of t.peer) b.0) (lead_refused t.heard) (free_said t.peer b.0 b.3)) in
+    let all = All-append (λ (x : Turn). is_refused x.came ≡ false) before (lead_of t ∷ map (turn_of t.peer) b.0) free (All-cons (λ (x : Turn). is_refused x.came ≡ false) (lead_of t) (map (turn_of t.peer) b.0) (lead_refused t.came) (free_said t.peer b.0 b.3)) in
     let is : before ++ turns_of t ≡ (before ++ (lead_of t ∷ map (turn_of t.peer) b.0)) ++ turn_of t.peer b.1 ∷ [] =
     ap (λ l. before ++ (lead_of t ∷ l)) (ap (λ l. map (turn_of t.peer) l) b.2 ∙ map-append (turn_of t.peer) b.0 (b.1 ∷ [])) ∙ sym (append_assoc before (lead_of t ∷ map (turn_of t.peer) b.0) (turn_of t.peer b.1 ∷ [])) in
     subst IsInOrder (sym is) (order_last (before ++ (lead_of t ∷ map (turn_of t.peer) b.0)) (turn_of t.peer b.1) all)
@@ -94,12 +95,12 @@ order_end : (before : List Turn) (t : StreamTurn) → All (λ (x : Turn). is_ref
 order_end before t free none = subst (λ (l : List Said). IsInOrder (before ++ (lead_of t ∷ map (turn_of t.peer) l))) (sym none) (order_last before (lead_of t) free)
 
 -- the last of some turns has a rule
-last_ruled : (w : ℕ) (before : List StreamTurn) (t : StreamTurn) (m m' : StreamMoment Version) → IsStreamSession stream_replies w (before ++ t ∷ []) m m' → (l : Line) × (l' : Line) × IsRuled t.heard l t l'
+last_ruled : (w : ℕ) (before : List StreamTurn) (t : StreamTurn) (m m' : StreamMoment Version) → IsStreamSession stream_replies w (before ++ t ∷ []) m m' → (l : Line) × (l' : Line) × IsRuled t.came l t l'
 last_ruled w [] t m m' s = (m.line, s.0.line, s.1.ruled)
 last_ruled w (x ∷ before) t m m' s = last_ruled w before t s.0 m' s.2
 
-ended_silent : (t : StreamTurn) (l l' : Line) → t.heard ≡ ended → IsRuled t.heard l t l' → t.said ≡ []
-ended_silent t l l' is r = (subst (λ (h : Heard). IsRuled h l t l') is r).1
+ended_silent : (t : StreamTurn) (l l' : Line) → t.came ≡ ended → IsRuled t.came l t l' → t.said ≡ []
+ended_silent t l l' is r = (subst (λ (h : StreamCame). IsRuled h l t l') is r).1
 
 order_of : (w turns : ℕ) (log : List StreamTurn) (m m' : StreamMoment Version) (e : Ended) → IsStreamSession stream_replies w log m m' → IsStreamEnd turns log e → IsInOrder (lane_of log)
 order_of w turns log m m' end.Stopped s c = order_free (lane_of log) (calm_free (lane_of log) c.0)
@@ -137,17 +138,17 @@ last_like end.CellFault m m' l = like_same m m' l
 last_like (end.Above known newest) m m' l = like_same m m' l
 last_like end.Spent m m' l = like_same m m' l
 
-pub gate_of : (e : Ended) (log : List Turn) (m mid m' : StreamMoment Version) → 0 < length mid.eyes.told → BothTell m.gate mid.gate (λ b c. c ≡ fold gate_turn b log) → IsStreamLast e mid m' → (shown : ℕ) × (shown + 1 ≡ length mid.eyes.told) × BothTell m.gate m'.gate (IsGateRun shown log e)
+pub gate_of : (e : Ended) (log : List Turn) (m mid m' : StreamMoment Version) → 0 < length mid.eyes.heard → BothTell m.gate mid.gate (λ b c. c ≡ fold gate_turn b log) → IsStreamLast e mid m' → (shown : ℕ) × (shown + 1 ≡ length mid.eyes.heard) × BothTell m.gate m'.gate (IsGateRun shown log e)
 gate_of end.Stopped log m mid m' some g l = (
   l.shown,
   l.is_known,
   tells_on m.gate mid.gate m'.gate (λ b c. c ≡ fold gate_turn b log) (IsTurning l.shown Stop) (IsGateRun l.shown log end.Stopped) (λ b c d r q. subst (λ (k : GateTold). IsTurning l.shown Stop k d) r q) g l.gate,
 )
-gate_of end.PortEnd log m mid m' some g l = (length mid.eyes.told - 1, omega (arith, some), subst (λ k. BothTell m.gate k.gate (λ b c. c ≡ fold gate_turn b log)) (sym l) g)
-gate_of end.PortFault log m mid m' some g l = (length mid.eyes.told - 1, omega (arith, some), subst (λ k. BothTell m.gate k.gate (λ b c. c ≡ fold gate_turn b log)) (sym l) g)
-gate_of end.CellFault log m mid m' some g l = (length mid.eyes.told - 1, omega (arith, some), subst (λ k. BothTell m.gate k.gate (λ b c. c ≡ fold gate_turn b log)) (sym l) g)
-gate_of (end.Above known newest) log m mid m' some g l = (length mid.eyes.told - 1, omega (arith, some), subst (λ k. BothTell m.gate k.gate (λ b c. c ≡ fold gate_turn b log)) (sym l) g)
-gate_of end.Spent log m mid m' some g l = (length mid.eyes.told - 1, omega (arith, some), subst (λ k. BothTell m.gate k.gate (λ b c. c ≡ fold gate_turn b log)) (sym l) g)
+gate_of end.PortEnd log m mid m' some g l = (length mid.eyes.heard - 1, omega (arith, some), subst (λ k. BothTell m.gate k.gate (λ b c. c ≡ fold gate_turn b log)) (sym l) g)
+gate_of end.PortFault log m mid m' some g l = (length mid.eyes.heard - 1, omega (arith, some), subst (λ k. BothTell m.gate k.gate (λ b c. c ≡ fold gate_turn b log)) (sym l) g)
+gate_of end.CellFault log m mid m' some g l = (length mid.eyes.heard - 1, omega (arith, some), subst (λ k. BothTell m.gate k.gate (λ b c. c ≡ fold gate_turn b log)) (sym l) g)
+gate_of (end.Above known newest) log m mid m' some g l = (length mid.eyes.heard - 1, omega (arith, some), subst (λ k. BothTell m.gate k.gate (λ b c. c ≡ fold gate_turn b log)) (sym l) g)
+gate_of end.Spent log m mid m' some g l = (length mid.eyes.heard - 1, omega (arith, some), subst (λ k. BothTell m.gate k.gate (λ b c. c ≡ fold gate_turn b log)) (sym l) g)
 
 inner_same : (log : List Turn) (w : ℕ) (m mid m2 : StreamMoment Version) → m2.eyes ≡ mid.eyes → m2.count ≡ mid.count → m2.stream_faults ≡ mid.stream_faults → IsLaneLog stream_replies w log (inner m.eyes m.count m.stream_faults) (inner mid.eyes mid.count mid.stream_faults) → IsLaneLog stream_replies w log (inner m.eyes m.count m.stream_faults) (inner m2.eyes m2.count m2.stream_faults)
 inner_same log w m mid m2 a b c x =
@@ -156,7 +157,7 @@ inner_same log w m mid m2 a b c x =
     (subst (λ (k : ℕ). IsLaneLog stream_replies w log (inner m.eyes m.count m.stream_faults) (inner mid.eyes mid.count k)) (sym c) x))
 
 -- Some turns, their end and the close of an open conversation are what a call promises.
-pub call_of : (w turns : ℕ) (m m1 m2 : StreamMoment Version) (e : Ended) → 0 < length m.eyes.told → m.line ≡ no_line → IsServed w turns m m1 e
+pub call_of : (w turns : ℕ) (m m1 m2 : StreamMoment Version) (e : Ended) → 0 < length m.eyes.heard → m.line ≡ no_line → IsServed w turns m m1 e
     → (m1.line.is_open ≡ true → BothTell m1.streams m2.streams (λ b c. c ≡ closing b)) → (m1.line.is_open ≡ false → m2.streams ≡ m1.streams) → m2.stream_faults ≡ m1.stream_faults → m2.gate ≡ m1.gate → m2.notes ≡ m1.notes → m2.eyes ≡ m1.eyes → m2.count ≡ m1.count
     → IsStreamCall stream_replies w turns (record m { line = no_line }) m2 e
 call_of w turns m m1 m2 e some line served closes stays faults gate notes eyes count =
@@ -164,7 +165,7 @@ call_of w turns m m1 m2 e some line served closes stays faults gate notes eyes c
     let order = order_of w turns served.log m served.mid e served.session served.ending in
     let inside = lane_session w served.log m served.mid served.session in
     let all0 : IsLaneLog stream_replies w (lane_of served.log) (inner m.eyes m.count m.stream_faults) (inner served.mid.eyes served.mid.count served.mid.stream_faults) = log_of stream_replies w (lane_of served.log) (inner m.eyes m.count m.stream_faults) (inner served.mid.eyes served.mid.count served.mid.stream_faults) inside order in
-    let le = prefix_length m.eyes.told served.mid.eyes.told all0.rise.told in
+    let le = prefix_length m.eyes.heard served.mid.eyes.heard all0.rise.heard in
     let eyes2 : m2.eyes ≡ served.mid.eyes = eyes ∙ like.eyes in
     let line2 : m1.line ≡ served.mid.line = like.line in
     let g = gate_of e (map lead_of served.log) m served.mid m1 (omega (arith, le, some)) (gate_after w served.log m served.mid served.session) served.last in
@@ -174,7 +175,7 @@ call_of w turns m m1 m2 e some line served closes stays faults gate notes eyes c
       log = served.log;
       closes = m1.line.is_open;
       shown = g.0;
-      shown_is = subst (λ (k : Eyes Version). g.0 + 1 ≡ length k.told) (sym eyes2) g.1;
+      shown_is = subst (λ (k : Eyes Version). g.0 + 1 ≡ length k.heard) (sym eyes2) g.1;
       all = inner_same (lane_of served.log) w m served.mid m2 eyes2 (count ∙ like.count) (faults ∙ like.faults) all0;
       streams = closed_at m1.line.is_open m.streams m1.streams m2.streams (λ b. fold stream_turn b served.log) streams1 closes stays;
       notes = subst (λ (k : Option NotesTold). BothTell m.notes k (AreGiven (map lead_of served.log))) (sym (notes ∙ like.notes)) (notes_after w served.log m served.mid served.session);

@@ -1,17 +1,15 @@
 -- What a lane knows along messages.
-use Rattle.std.proofs.Common.{◌≡◌, ℕ, List, [], ◌∷◌, ◌++◌, All, refl, sym, ap, subst, ◌∙◌}
-use Rattle.std.specs.Prelude.{◌+◌, length, map, false, true, Bool, MatchBool}
-use Rattle.addr_text.specs.declared.address.Peer.{Peer}
+use Rattle.std.proofs.Common.{◌≡◌, ℕ, List, [], ◌∷◌, ◌++◌, refl, sym, subst}
+use Rattle.std.specs.Prelude.{true, Bool, MatchBool}
 use Rattle.outside.specs.Port.{Packet, Try}
 use Rattle.published_map.specs.Version.{Version}
 use Rattle.answer_core.specs.declared.way.Way.TheVariants.{Stream}
 use Rattle.lane_model.specs.Lanes.{Entry}
-use Rattle.lane_model.specs.Turns.{Fate, IsFate, entry_of, try_of, silent, refused, tried}
-use Rattle.lane_model.specs.Sessions.{IsSession, Moment}
+use Rattle.lane_model.specs.Turns.{Fate, IsFate, entries_of_fate, tries_of_fate, silent, refused, tried}
 use Rattle.lane_model.specs.Replies.{is_silent}
 use Rattle.tcp_lane.specs.Replies.{stream_replies}
 use Rattle.tcp_lane.specs.Stream.{AreKnownFrom}
-use Rattle.tcp_lane.specs.Turns.{AreKnown, Said, known_after, known_behind, turn_of}
+use Rattle.tcp_lane.specs.Turns.{AreKnown, Said, known_after, known_behind}
 
 pub behind_more : (known : ℕ) (said : List Said) (s : Said) → known_behind known (said ++ s ∷ []) ≡ known_after (known_behind known said) s.fate
 behind_more known [] s = refl
@@ -26,7 +24,7 @@ silent_at : (d : Packet) (known : ℕ) (entries : List Entry) (tries : List Try)
 silent_at d known entries [] is a = (refl, is, a)
 silent_at d known entries (s ∷ tries) is a = (refl, subst (λ (b : Bool). MatchBool b (AreKnownFrom is_silent known entries (s ∷ tries)) (AreKnownFrom is_silent s.serial entries tries)) (sym is) a)
 
-one_at : (h : List Version) (w n known : ℕ) (d : Packet) (f : Fate) (entries : List Entry) (tries : List Try) → IsFate stream_replies h w n known d f → AreKnownFrom is_silent (known_after known f) entries tries → AreKnownFrom is_silent known (entry_of Stream d known f ++ entries) (try_of d f ++ tries)
+pub one_at : (h : List Version) (w n known : ℕ) (d : Packet) (f : Fate) (entries : List Entry) (tries : List Try) → IsFate stream_replies h w n known d f → AreKnownFrom is_silent (known_after known f) entries tries → AreKnownFrom is_silent known (entries_of_fate Stream d known f ++ entries) (tries_of_fate d f ++ tries)
 one_at h w n known d silent entries tries is a = silent_at d known entries tries is a
 one_at h w n known d refused entries tries is a = a
 one_at h w n known d (tried serial octets went) entries tries is a = (refl, subst (λ (b : Bool). MatchBool b (AreKnownFrom is_silent known entries ((record { octets = octets; to = d.from; serial = serial; went = went }) ∷ tries)) (AreKnownFrom is_silent serial entries tries)) (sym is.0) a)

@@ -7,3 +7,5 @@ pub mod Loop
 pub mod Talks
 pub mod Whole
 pub mod Final
+pub mod Ends
+pub mod Rows

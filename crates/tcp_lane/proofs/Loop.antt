@@ -1,11 +1,9 @@
 -- The loop of a stream lane: turns so far, and one more.
-use Rattle.std.proofs.Common.{◌≡◌, ◌⊎◌, ℕ, zero, suc, ◌+◌, ◌<◌, ◌≤◌, Bool, true, false, ◌==◌, if◌then◌else◌, List, [], ◌∷◌, ◌++◌, All, length, map, None, Some, refl, sym, ap, subst, ◌∙◌, arith, length-append, append_assoc, append-nil, inl, inr}
-use Rattle.std.specs.Prelude.{sum_by}
-use Rattle.std.specs.List.{flat_map}
+use Rattle.std.proofs.Common.{◌≡◌, ◌⊎◌, ℕ, ◌+◌, ◌<◌, ◌≤◌, Bool, true, false, ◌==◌, if◌then◌else◌, List, [], ◌∷◌, ◌++◌, length, map, None, Some, refl, sym, ap, subst, ◌∙◌, arith, length-append, append-nil, inl, inr}
 use Rattle.std.proofs.lemmas.List.Sums.{sum_by-cons}
 use Rattle.std.proofs.lemmas.List.{map-append}
 use Rattle.std.proofs.lemmas.List.Elements.{All-append, All-cons, All-nil, All-tail}
-use Rattle.std.proofs.lemmas.Grind.{common_steps, flat_map-append}
+use Rattle.std.proofs.lemmas.Grind.{flat_map-append}
 use Rattle.addr_text.specs.declared.address.Peer.{Peer}
 use Rattle.outside.specs.Port.{Packet}
 use Rattle.published_map.specs.Version.{Version}
@@ -15,8 +13,8 @@ use Rattle.lane_model.specs.Turns.{AreCalm, Fate, Turn, fails_of, failures, is_c
 use Rattle.tcp_lane.specs.Replies.{stream_replies}
 use Rattle.name_workers.specs.declared.ending.Step.{Step}
 use Rattle.name_workers.specs.declared.ending.Step.TheVariants as step
-use Rattle.tcp_lane.specs.Turns.{AreWell, IsBroken, Said, StreamTurn, came_of, ended, is_well, lane_of, lead_of, turn_of, turns_of}
-use Rattle.tcp_lane.specs.Calls.{IsStreamEnd, IsStreamLast, IsStreamSession, IsStreamTurn, StreamMoment, stream_failures}
+use Rattle.tcp_lane.specs.Turns.{AreWell, IsBroken, Said, StreamTurn, lane_came, is_well, lane_of, lead_of, turn_of, turns_of}
+use Rattle.tcp_lane.specs.Calls.{IsStreamEnd, IsStreamLast, IsStreamSession, IsStreamTurn, StreamMoment}
 use Rattle.name_workers.specs.Ending.{IsNextEnd}
 use Rattle.tcp_lane.specs.Steps.{IsServed, IsSoFar, IsStepOf, IsTurned}
 
@@ -66,7 +64,7 @@ lost_failures peer said b =
     ap failures is ∙ (failures_both (map (turn_of peer) b.0) (turn_of peer b.1 ∷ []) ∙ omega (arith, well_failures peer b.0 b.3, last, (lost_is peer b.1 b.4).1))
 
 -- a turn, by its step
-lead_first : (t : StreamTurn) → failures (turns_of t) ≡ fails_of (came_of t.heard) + failures (map (turn_of t.peer) t.said)
+lead_first : (t : StreamTurn) → failures (turns_of t) ≡ fails_of (lane_came t.came) + failures (map (turn_of t.peer) t.said)
 lead_first t = sum_by-cons (λ (y : Turn). fails_of y.came) (lead_of t) (map (turn_of t.peer) t.said)
 
 on_is : (t : StreamTurn) → IsStepOf step.On t → AreCalm (turns_of t) × (failures (turns_of t) ≡ 0)
@@ -75,7 +73,7 @@ on_is t x = (
   lead_first t ∙ omega (arith, x.2, well_failures t.peer t.said x.0),
 )
 
-failed_by : (t : StreamTurn) → (AreWell t.said × (fails_of (came_of t.heard) ≡ 1)) ⊎ (IsBroken (λ f. (serial : ℕ) × (octets : List ℕ) × (f ≡ tried serial octets false)) t.said × (fails_of (came_of t.heard) ≡ 0)) → AreCalm (map (turn_of t.peer) t.said) × (failures (turns_of t) ≡ 1)
+failed_by : (t : StreamTurn) → (AreWell t.said × (fails_of (lane_came t.came) ≡ 1)) ⊎ (IsBroken (λ f. (serial : ℕ) × (octets : List ℕ) × (f ≡ tried serial octets false)) t.said × (fails_of (lane_came t.came) ≡ 0)) → AreCalm (map (turn_of t.peer) t.said) × (failures (turns_of t) ≡ 1)
 failed_by t (inl x) = (well_calm t.peer t.said x.0, lead_first t ∙ omega (arith, x.1, well_failures t.peer t.said x.0))
 failed_by t (inr x) = (lost_calm t.peer t.said x.0, lead_first t ∙ omega (arith, x.1, lost_failures t.peer t.said x.0))
 

@@ -1,24 +1,23 @@
 -- What an answer of accept or read, and the messages behind it, do.
-use Rattle.std.proofs.Common.{◌≡◌, ◌⊎◌, ℕ, ◌+◌, ◌<◌, ◌≤◌, ◌==◌, Bool, true, false, List, [], ◌∷◌, ◌++◌, All, length, map, fold, take, Option, None, Some, refl, sym, ap, subst, ◌∙◌, arith, inl, inr}
-use Rattle.std.specs.List.{flat_map}
+use Rattle.std.proofs.Common.{◌≡◌, ℕ, ◌+◌, ◌==◌, Bool, true, false, List, [], ◌++◌, length, map, fold, take, Option, None, Some, refl, sym, ap, subst, ◌∙◌, arith, inl, inr}
 use Rattle.addr_text.specs.declared.address.Peer.{Peer}
-use Rattle.outside.specs.Faults.{BothTell, Rose, raised}
+use Rattle.outside.specs.Faults.{BothTell, Rose}
 use Rattle.outside.specs.Streams.{IsAccept, IsRead, StreamsTold, closing}
 use Rattle.outside.specs.declared.streams.Accepting.TheVariants as came
 use Rattle.outside.specs.declared.streams.Reading.TheVariants as read
 use Rattle.published_map.specs.Version.{Version}
-use Rattle.lane_model.specs.Turns.{fails_of, refused, tried}
-use Rattle.lane_model.specs.Sessions.{Eyes, IsSession}
+use Rattle.lane_model.specs.Turns.{fails_of}
+use Rattle.lane_model.specs.Calls.{Eyes, AreTurns}
 use Rattle.tcp_lane.specs.Replies.{stream_replies}
 use Rattle.lane_model.proofs.Runs.{tells_on}
 use Rattle.tcp_lane.specs.declared.answering.Fared.{Fared}
 use Rattle.tcp_lane.specs.declared.answering.Fared.TheVariants as fared
 use Rattle.name_workers.specs.declared.ending.Step.{Step}
 use Rattle.name_workers.specs.declared.ending.Step.TheVariants as step
-use Rattle.tcp_frames.specs.Split.{IsOverlong, framed}
-use Rattle.tcp_lane.specs.Turns.{AreKnown, AreWell, Heard, IsLeft, IsRuled, Line, Said, StreamTurn, came_of, closing_if, hearing_of, is_well, saying, turn_of, idle, ended, missed, come, got, quiet, shut, broke, on, long, lost, blind}
+use Rattle.tcp_frames.specs.Split.{IsOverlong}
+use Rattle.tcp_lane.specs.Turns.{AreKnown, AreWell, StreamCame, IsLeft, Line, Said, StreamTurn, lane_came, closing_if, stream_after, saying, turn_of, idle, ended, missed, come, got, quiet, shut, broke, on, long, lost, blind}
 use Rattle.tcp_lane.specs.Calls.{inner}
-use Rattle.tcp_lane.specs.Steps.{IsAnswered, IsHeard, IsPlain, IsStepOf, IsTaken, Wire, is_on, plain, step_of}
+use Rattle.tcp_lane.specs.Steps.{IsAnswered, IsPieceTaken, IsPlain, IsStepOf, IsTaken, Wire, is_on, plain, step_of}
 
 pub tells_as : {A : Type 0} (R S : A → A → Type 0) (x y : Option A) → ((b c : A) → R b c → S b c) → BothTell x y R → BothTell x y S
 tells_as R S None None f r = tt
@@ -31,9 +30,9 @@ none_well k d lt = absurd (omega (arith, lt))
 
 pub accept_come : (known : ℕ) (peer : Peer) (held : List ℕ) (l : Line) (p q : Wire) → BothTell p.told q.told (IsAccept known (came.Come peer)) → q.faults ≡ p.faults → l.is_open ≡ false → held ≡ [] → IsPlain known l (record { is_open = true; peer = peer; held = held; quiets = 0 }) step.On p q
 accept_come known peer held l p q told same closed is = record {
-  heard = come peer;
+  came = come peer;
   closes = false;
-  told = tells_as (IsAccept known (came.Come peer)) (λ b c. c ≡ hearing_of known (come peer) b) p.told q.told (λ b c r. r.1) told;
+  told = tells_as (IsAccept known (came.Come peer)) (λ b c. c ≡ stream_after known (come peer) b) p.told q.told (λ b c r. r.1) told;
   faults = omega (arith, same);
   stays = λ none. same;
   ruled = (closed, refl, refl, ap (λ h. record { is_open = true; peer = peer; held = h; quiets = 0 }) is);
@@ -42,9 +41,9 @@ accept_come known peer held l p q told same closed is = record {
 
 pub accept_idle : (known : ℕ) (l : Line) (p q : Wire) → BothTell p.told q.told (IsAccept known came.Idle) → q.faults ≡ p.faults → l.is_open ≡ false → IsPlain known l l step.On p q
 accept_idle known l p q told same closed = record {
-  heard = idle;
+  came = idle;
   closes = false;
-  told = tells_as (IsAccept known came.Idle) (λ b c. c ≡ hearing_of known idle b) p.told q.told (λ b c r. r.1) told;
+  told = tells_as (IsAccept known came.Idle) (λ b c. c ≡ stream_after known idle b) p.told q.told (λ b c r. r.1) told;
   faults = omega (arith, same);
   stays = λ none. same;
   ruled = (closed, refl, refl, refl);
@@ -53,7 +52,7 @@ accept_idle known l p q told same closed = record {
 
 pub accept_end : (known : ℕ) (l : Line) (p q : Wire) → BothTell p.told q.told (IsAccept known came.End) → q.faults ≡ p.faults → l.is_open ≡ false → IsPlain known l l step.PortEnd p q
 accept_end known l p q told same closed = record {
-  heard = ended;
+  came = ended;
   closes = false;
   told = told;
   faults = omega (arith, same);
@@ -64,9 +63,9 @@ accept_end known l p q told same closed = record {
 
 pub accept_failed : (known : ℕ) (l : Line) (p q : Wire) → BothTell p.told q.told (IsAccept known came.Failed) → Rose p.faults q.faults → l.is_open ≡ false → IsPlain known l l step.PortFailed p q
 accept_failed known l p q told rose closed = record {
-  heard = missed;
+  came = missed;
   closes = false;
-  told = tells_as (IsAccept known came.Failed) (λ b c. c ≡ hearing_of known missed b) p.told q.told (λ b c r. r.1) told;
+  told = tells_as (IsAccept known came.Failed) (λ b c. c ≡ stream_after known missed b) p.told q.told (λ b c r. r.1) told;
   faults = rose;
   stays = λ none. absurd (omega (arith, none));
   ruled = (closed, refl, refl, refl);
@@ -77,65 +76,65 @@ closed_then : (x y z : Option StreamsTold) (f : StreamsTold → StreamsTold) →
 closed_then x y z f p q = tells_on x y z (λ b c. c ≡ f b) (λ b c. c ≡ closing b) (λ b c. c ≡ closing (f b)) (λ b c d u v. v ∙ ap closing u) p q
 
 -- a message ended the conversation
-pub heard_over : (w n n' : ℕ) (octets whole rest : List ℕ) (r : Fared) (s : Step) (l l' : Line) (e f : Eyes Version) (p q v : Wire) → whole ≡ l.held ++ octets → IsAnswered w n n' l.peer whole rest r e f p q → is_on r ≡ false → BothTell q.told v.told (λ b c. c ≡ closing b) → v.faults ≡ q.faults → l'.is_open ≡ false → s ≡ step_of r
-    → IsHeard w n n' octets l l' s e f p v
-heard_over w n n' octets whole rest fared.Silent s l l' e f p q v at a off told same closed st = absurd (cc off)
-heard_over w n n' octets whole rest fared.Sent s l l' e f p q v at a off told same closed st = absurd (cc off)
-heard_over w n n' octets whole rest fared.Failed s l l' e f p q v at a off told same closed st = subst (λ (k : Step). IsHeard w n n' octets l l' k e f p v) (sym st) (record {
-  t = record { shown = 0; notes = []; known = a.first; heard = got octets; peer = l.peer; said = a.said; cut = a.cut; closes = true };
-  heard = refl;
+pub piece_over : (w n n' : ℕ) (octets whole rest : List ℕ) (r : Fared) (s : Step) (l l' : Line) (e f : Eyes Version) (p q v : Wire) → whole ≡ l.held ++ octets → IsAnswered w n n' l.peer whole rest r e f p q → is_on r ≡ false → BothTell q.told v.told (λ b c. c ≡ closing b) → v.faults ≡ q.faults → l'.is_open ≡ false → s ≡ step_of r
+    → IsPieceTaken w n n' octets l l' s e f p v
+piece_over w n n' octets whole rest fared.Silent s l l' e f p q v at a off told same closed st = absurd (cc off)
+piece_over w n n' octets whole rest fared.Sent s l l' e f p q v at a off told same closed st = absurd (cc off)
+piece_over w n n' octets whole rest fared.Failed s l l' e f p q v at a off told same closed st = subst (λ (k : Step). IsPieceTaken w n n' octets l l' k e f p v) (sym st) (record {
+  t = record { shown = 0; notes = []; known = a.first; came = got octets; peer = l.peer; said = a.said; cut = a.cut; closes = true };
+  came = refl;
   known_is = a.first_is;
-  session = subst (λ (k : ℕ). IsSession stream_replies w (map (turn_of l.peer) a.said) (inner e n p.faults) (inner f n' k)) (sym same) a.are_said.session;
+  session = subst (λ (k : ℕ). AreTurns stream_replies w (map (turn_of l.peer) a.said) (inner e n p.faults) (inner f n' k)) (sym same) a.are_said.session;
   told = closed_then p.told q.told v.told (λ b. fold (saying a.cut) b a.said) a.are_said.told told;
   piece = record { from = refl; rest = rest; ending = lost; known = (a.are_said.known a.first a.first_is).0; parts = sym at ∙ a.parts; short = a.short; over = a.by; closes = refl; left = closed };
   step = (inr (a.by, refl), refl);
 })
-heard_over w n n' octets whole rest fared.Refused s l l' e f p q v at a off told same closed st = subst (λ (k : Step). IsHeard w n n' octets l l' k e f p v) (sym st) (record {
-  t = record { shown = 0; notes = []; known = a.first; heard = got octets; peer = l.peer; said = a.said; cut = a.cut; closes = true };
-  heard = refl;
+piece_over w n n' octets whole rest fared.Refused s l l' e f p q v at a off told same closed st = subst (λ (k : Step). IsPieceTaken w n n' octets l l' k e f p v) (sym st) (record {
+  t = record { shown = 0; notes = []; known = a.first; came = got octets; peer = l.peer; said = a.said; cut = a.cut; closes = true };
+  came = refl;
   known_is = a.first_is;
-  session = subst (λ (k : ℕ). IsSession stream_replies w (map (turn_of l.peer) a.said) (inner e n p.faults) (inner f n' k)) (sym same) a.are_said.session;
+  session = subst (λ (k : ℕ). AreTurns stream_replies w (map (turn_of l.peer) a.said) (inner e n p.faults) (inner f n' k)) (sym same) a.are_said.session;
   told = closed_then p.told q.told v.told (λ b. fold (saying a.cut) b a.said) a.are_said.told told;
   piece = record { from = refl; rest = rest; ending = blind; known = (a.are_said.known a.first a.first_is).0; parts = sym at ∙ a.parts; short = a.short; over = a.by; closes = refl; left = closed };
   step = (a.by, refl, refl);
 })
 
 -- a length that is too great did
-pub heard_long : (w n n' : ℕ) (octets whole rest : List ℕ) (r : Fared) (l l' : Line) (e f : Eyes Version) (p q v : Wire) → whole ≡ l.held ++ octets → IsAnswered w n n' l.peer whole rest r e f p q → is_on r ≡ true → IsOverlong rest → BothTell q.told v.told (λ b c. c ≡ closing b) → v.faults ≡ q.faults → l'.is_open ≡ false
-    → IsHeard w n n' octets l l' step.On e f p v
-heard_long w n n' octets whole rest fared.Silent l l' e f p q v at a going is told same closed = record {
-  t = record { shown = 0; notes = []; known = a.first; heard = got octets; peer = l.peer; said = a.said; cut = a.cut; closes = true };
-  heard = refl;
+pub piece_long : (w n n' : ℕ) (octets whole rest : List ℕ) (r : Fared) (l l' : Line) (e f : Eyes Version) (p q v : Wire) → whole ≡ l.held ++ octets → IsAnswered w n n' l.peer whole rest r e f p q → is_on r ≡ true → IsOverlong rest → BothTell q.told v.told (λ b c. c ≡ closing b) → v.faults ≡ q.faults → l'.is_open ≡ false
+    → IsPieceTaken w n n' octets l l' step.On e f p v
+piece_long w n n' octets whole rest fared.Silent l l' e f p q v at a going is told same closed = record {
+  t = record { shown = 0; notes = []; known = a.first; came = got octets; peer = l.peer; said = a.said; cut = a.cut; closes = true };
+  came = refl;
   known_is = a.first_is;
-  session = subst (λ (k : ℕ). IsSession stream_replies w (map (turn_of l.peer) a.said) (inner e n p.faults) (inner f n' k)) (sym same) a.are_said.session;
+  session = subst (λ (k : ℕ). AreTurns stream_replies w (map (turn_of l.peer) a.said) (inner e n p.faults) (inner f n' k)) (sym same) a.are_said.session;
   told = closed_then p.told q.told v.told (λ b. fold (saying a.cut) b a.said) a.are_said.told told;
   piece = record { from = refl; rest = rest; ending = long; known = (a.are_said.known a.first a.first_is).0; parts = sym at ∙ a.parts; short = a.short; over = (a.by.0, a.by.1.0, is); closes = refl; left = closed };
   step = (a.by.0, refl, refl);
 }
-heard_long w n n' octets whole rest fared.Sent l l' e f p q v at a going is told same closed = absurd a.by
-heard_long w n n' octets whole rest fared.Failed l l' e f p q v at a going is told same closed = absurd (cc going)
-heard_long w n n' octets whole rest fared.Refused l l' e f p q v at a going is told same closed = absurd (cc going)
+piece_long w n n' octets whole rest fared.Sent l l' e f p q v at a going is told same closed = absurd a.by
+piece_long w n n' octets whole rest fared.Failed l l' e f p q v at a going is told same closed = absurd (cc going)
+piece_long w n n' octets whole rest fared.Refused l l' e f p q v at a going is told same closed = absurd (cc going)
 
 -- the conversation goes on
-pub heard_on : (w n n' : ℕ) (octets whole rest held : List ℕ) (r : Fared) (l : Line) (e f : Eyes Version) (p q : Wire) → whole ≡ l.held ++ octets → IsAnswered w n n' l.peer whole rest r e f p q → is_on r ≡ true → (IsOverlong rest → ⊥) → held ≡ rest
-    → IsHeard w n n' octets l (record l { held = held; quiets = 0 }) step.On e f p q
-heard_on w n n' octets whole rest held fared.Silent l e f p q at a going not_long is = record {
-  t = record { shown = 0; notes = []; known = a.first; heard = got octets; peer = l.peer; said = a.said; cut = a.cut; closes = false };
-  heard = refl;
+pub piece_on : (w n n' : ℕ) (octets whole rest held : List ℕ) (r : Fared) (l : Line) (e f : Eyes Version) (p q : Wire) → whole ≡ l.held ++ octets → IsAnswered w n n' l.peer whole rest r e f p q → is_on r ≡ true → (IsOverlong rest → ⊥) → held ≡ rest
+    → IsPieceTaken w n n' octets l (record l { held = held; quiets = 0 }) step.On e f p q
+piece_on w n n' octets whole rest held fared.Silent l e f p q at a going not_long is = record {
+  t = record { shown = 0; notes = []; known = a.first; came = got octets; peer = l.peer; said = a.said; cut = a.cut; closes = false };
+  came = refl;
   known_is = a.first_is;
   session = a.are_said.session;
   told = a.are_said.told;
   piece = record { from = refl; rest = rest; ending = on; known = (a.are_said.known a.first a.first_is).0; parts = sym at ∙ a.parts; short = a.short; over = (a.by.0, a.by.1.0, not_long); closes = refl; left = ap (λ h. record l { held = h; quiets = 0 }) is };
   step = (a.by.0, refl, refl);
 }
-heard_on w n n' octets whole rest held fared.Sent l e f p q at a going not_long is = absurd a.by
-heard_on w n n' octets whole rest held fared.Failed l e f p q at a going not_long is = absurd (cc going)
-heard_on w n n' octets whole rest held fared.Refused l e f p q at a going not_long is = absurd (cc going)
+piece_on w n n' octets whole rest held fared.Sent l e f p q at a going not_long is = absurd a.by
+piece_on w n n' octets whole rest held fared.Failed l e f p q at a going not_long is = absurd (cc going)
+piece_on w n n' octets whole rest held fared.Refused l e f p q at a going not_long is = absurd (cc going)
 
 -- an answer without a piece is a turn without messages
-pub plain_taken : (w n known : ℕ) (l l' : Line) (s : Step) (e : Eyes Version) (p q : Wire) → IsPlain known l l' s p q → known + 1 ≡ length e.told → IsTaken w n n l l' s e e p q
+pub plain_taken : (w n known : ℕ) (l l' : Line) (s : Step) (e : Eyes Version) (p q : Wire) → IsPlain known l l' s p q → known + 1 ≡ length e.heard → IsTaken w n n l l' s e e p q
 plain_taken w n known l l' s e p q x is = record {
-  t = plain known x.heard l.peer x.closes;
+  t = plain known x.came l.peer x.closes;
   known_is = is;
   middle = q.faults;
   faults = x.faults;
@@ -146,47 +145,47 @@ plain_taken w n known l l' s e p q x is = record {
   step = x.step;
 }
 
-heard_step : (s : Step) (octets : List ℕ) (t : StreamTurn) (known : ℕ) → t.heard ≡ got octets → IsStepOf s t → IsStepOf s (record t { known = known; heard = got octets })
-heard_step step.Stopped octets t known is x = absurd x
-heard_step step.On octets t known is x = (x.0, refl, refl)
-heard_step step.PortEnd octets t known is x = absurd (cc (is, x))
-heard_step step.Refused octets t known is x = (x.0, refl, refl)
-heard_step step.PortFailed octets t known is (inl x, y) = absurd (omega (arith, subst (λ (h : Heard). fails_of (came_of h) ≡ 1) is x.1))
-heard_step step.PortFailed octets t known is (inr x, y) = (inr (x.0, refl), refl)
+piece_step : (s : Step) (octets : List ℕ) (t : StreamTurn) (known : ℕ) → t.came ≡ got octets → IsStepOf s t → IsStepOf s (record t { known = known; came = got octets })
+piece_step step.Stopped octets t known is x = absurd x
+piece_step step.On octets t known is x = (x.0, refl, refl)
+piece_step step.PortEnd octets t known is x = absurd (cc (is, x))
+piece_step step.Refused octets t known is x = (x.0, refl, refl)
+piece_step step.PortFailed octets t known is (inl x, y) = absurd (omega (arith, subst (λ (h : StreamCame). fails_of (lane_came h) ≡ 1) is x.1))
+piece_step step.PortFailed octets t known is (inr x, y) = (inr (x.0, refl), refl)
 
 known_as : (a b : ℕ) (said : List Said) → a ≡ b → AreKnown a said → AreKnown b said
 known_as a b said is x = subst (λ (k : ℕ). AreKnown k said) is x
 
 -- a piece was read
-pub read_got : (w n n' known len size : ℕ) (buffer : List ℕ) (l l' : Line) (s : Step) (e f : Eyes Version) (p q v : Wire) → known + 1 ≡ length e.told → size ≡ 4098 → l.is_open ≡ true → BothTell p.told q.told (IsRead known size buffer (read.Got len)) → q.faults ≡ p.faults
-    → IsHeard w n n' (take len buffer) l l' s e f q v → IsTaken w n n' l l' s e f p v
+pub read_got : (w n n' known len size : ℕ) (buffer : List ℕ) (l l' : Line) (s : Step) (e f : Eyes Version) (p q v : Wire) → known + 1 ≡ length e.heard → size ≡ 4098 → l.is_open ≡ true → BothTell p.told q.told (IsRead known size buffer (read.Got len)) → q.faults ≡ p.faults
+    → IsPieceTaken w n n' (take len buffer) l l' s e f q v → IsTaken w n n' l l' s e f p v
 read_got w n n' known len size buffer l l' s e f p q v is room opened told same h =
-    let at : BothTell p.told q.told (λ b c. c ≡ hearing_of known (got (take len buffer)) b) = subst (λ (k : ℕ). BothTell p.told q.told (IsRead known k buffer (read.Got len))) room told in
+    let at : BothTell p.told q.told (λ b c. c ≡ stream_after known (got (take len buffer)) b) = subst (λ (k : ℕ). BothTell p.told q.told (IsRead known k buffer (read.Got len))) room told in
     record {
-      t = record h.t { known = known; heard = got (take len buffer) };
+      t = record h.t { known = known; came = got (take len buffer) };
       known_is = is;
       middle = q.faults;
       faults = omega (arith, same);
       stays = λ none. same;
       session = h.session;
-      told = tells_on p.told q.told v.told (λ b c. c ≡ hearing_of known (got (take len buffer)) b) (λ b c. c ≡ closing_if h.t.closes (fold (saying h.t.cut) b h.t.said)) (λ b c. c ≡ closing_if h.t.closes (fold (saying h.t.cut) (hearing_of known (got (take len buffer)) b) h.t.said))
+      told = tells_on p.told q.told v.told (λ b c. c ≡ stream_after known (got (take len buffer)) b) (λ b c. c ≡ closing_if h.t.closes (fold (saying h.t.cut) b h.t.said)) (λ b c. c ≡ closing_if h.t.closes (fold (saying h.t.cut) (stream_after known (got (take len buffer)) b) h.t.said))
           (λ b c d x y. y ∙ ap (λ k. closing_if h.t.closes (fold (saying h.t.cut) k h.t.said)) x) at h.told;
       ruled = (opened, record { from = h.piece.from; rest = h.piece.rest; ending = h.piece.ending; parts = h.piece.parts; short = h.piece.short; over = h.piece.over; closes = h.piece.closes; known = known_as h.t.known known h.t.said (omega (arith, h.known_is, is)) h.piece.known; left = h.piece.left });
-      step = heard_step s (take len buffer) h.t known h.heard h.step;
+      step = piece_step s (take len buffer) h.t known h.came h.step;
     }
 
 closed_by : (c : Bool) (x y z : Option StreamsTold) (f : StreamsTold → StreamsTold) → BothTell x y (λ b d. d ≡ f b) → BothTell y z (λ b d. d ≡ closing_if c b) → BothTell x z (λ b d. d ≡ closing_if c (f b))
 closed_by c x y z f p q = tells_on x y z (λ b d. d ≡ f b) (λ b d. d ≡ closing_if c b) (λ b d. d ≡ closing_if c (f b)) (λ b d k u v. v ∙ ap (λ m. closing_if c m) u) p q
 
 -- a read was quiet
-pub read_quiet : (w n known size : ℕ) (buffer : List ℕ) (l l' : Line) (e : Eyes Version) (p q v : Wire) → known + 1 ≡ length e.told → size ≡ 4098 → l.is_open ≡ true → BothTell p.told q.told (IsRead known size buffer read.Quiet) → q.faults ≡ p.faults
+pub read_quiet : (w n known size : ℕ) (buffer : List ℕ) (l l' : Line) (e : Eyes Version) (p q v : Wire) → known + 1 ≡ length e.heard → size ≡ 4098 → l.is_open ≡ true → BothTell p.told q.told (IsRead known size buffer read.Quiet) → q.faults ≡ p.faults
     → BothTell q.told v.told (λ b c. c ≡ closing_if (l.quiets + 1 == 200) b) → v.faults ≡ q.faults → IsLeft (l.quiets + 1 == 200) (record l { quiets = l.quiets + 1 }) l' → IsTaken w n n l l' step.On e e p v
 read_quiet w n known size buffer l l' e p q v is room opened told same shutting later left =
-    let at : BothTell p.told q.told (λ b c. c ≡ hearing_of known quiet b) = subst (λ (k : ℕ). BothTell p.told q.told (IsRead known k buffer read.Quiet)) room told in
+    let at : BothTell p.told q.told (λ b c. c ≡ stream_after known quiet b) = subst (λ (k : ℕ). BothTell p.told q.told (IsRead known k buffer read.Quiet)) room told in
     plain_taken w n known l l' step.On e p v (record {
-      heard = quiet;
+      came = quiet;
       closes = l.quiets + 1 == 200;
-      told = closed_by (l.quiets + 1 == 200) p.told q.told v.told (λ b. hearing_of known quiet b) at shutting;
+      told = closed_by (l.quiets + 1 == 200) p.told q.told v.told (λ b. stream_after known quiet b) at shutting;
       faults = omega (arith, same, later);
       stays = λ none. later ∙ same;
       ruled = (opened, refl, refl, left);
@@ -194,14 +193,14 @@ read_quiet w n known size buffer l l' e p q v is room opened told same shutting 
     }) is
 
 -- the peer is done
-pub read_closed : (w n known size : ℕ) (buffer : List ℕ) (l l' : Line) (e : Eyes Version) (p q v : Wire) → known + 1 ≡ length e.told → size ≡ 4098 → l.is_open ≡ true → BothTell p.told q.told (IsRead known size buffer read.Closed) → q.faults ≡ p.faults
+pub read_closed : (w n known size : ℕ) (buffer : List ℕ) (l l' : Line) (e : Eyes Version) (p q v : Wire) → known + 1 ≡ length e.heard → size ≡ 4098 → l.is_open ≡ true → BothTell p.told q.told (IsRead known size buffer read.Closed) → q.faults ≡ p.faults
     → BothTell q.told v.told (λ b c. c ≡ closing b) → v.faults ≡ q.faults → l'.is_open ≡ false → IsTaken w n n l l' step.On e e p v
 read_closed w n known size buffer l l' e p q v is room opened told same shutting later left =
-    let at : BothTell p.told q.told (λ b c. c ≡ hearing_of known shut b) = subst (λ (k : ℕ). BothTell p.told q.told (IsRead known k buffer read.Closed)) room told in
+    let at : BothTell p.told q.told (λ b c. c ≡ stream_after known shut b) = subst (λ (k : ℕ). BothTell p.told q.told (IsRead known k buffer read.Closed)) room told in
     plain_taken w n known l l' step.On e p v (record {
-      heard = shut;
+      came = shut;
       closes = true;
-      told = closed_by true p.told q.told v.told (λ b. hearing_of known shut b) at shutting;
+      told = closed_by true p.told q.told v.told (λ b. stream_after known shut b) at shutting;
       faults = omega (arith, same, later);
       stays = λ none. later ∙ same;
       ruled = (opened, refl, refl, left);
@@ -209,14 +208,14 @@ read_closed w n known size buffer l l' e p q v is room opened told same shutting
     }) is
 
 -- a read failed
-pub read_failed : (w n known size : ℕ) (buffer : List ℕ) (l l' : Line) (e : Eyes Version) (p q v : Wire) → known + 1 ≡ length e.told → size ≡ 4098 → l.is_open ≡ true → BothTell p.told q.told (IsRead known size buffer read.Failed) → Rose p.faults q.faults
+pub read_failed : (w n known size : ℕ) (buffer : List ℕ) (l l' : Line) (e : Eyes Version) (p q v : Wire) → known + 1 ≡ length e.heard → size ≡ 4098 → l.is_open ≡ true → BothTell p.told q.told (IsRead known size buffer read.Failed) → Rose p.faults q.faults
     → BothTell q.told v.told (λ b c. c ≡ closing b) → v.faults ≡ q.faults → l'.is_open ≡ false → IsTaken w n n l l' step.PortFailed e e p v
 read_failed w n known size buffer l l' e p q v is room opened told rose shutting later left =
-    let at : BothTell p.told q.told (λ b c. c ≡ hearing_of known broke b) = subst (λ (k : ℕ). BothTell p.told q.told (IsRead known k buffer read.Failed)) room told in
+    let at : BothTell p.told q.told (λ b c. c ≡ stream_after known broke b) = subst (λ (k : ℕ). BothTell p.told q.told (IsRead known k buffer read.Failed)) room told in
     plain_taken w n known l l' step.PortFailed e p v (record {
-      heard = broke;
+      came = broke;
       closes = true;
-      told = closed_by true p.told q.told v.told (λ b. hearing_of known broke b) at shutting;
+      told = closed_by true p.told q.told v.told (λ b. stream_after known broke b) at shutting;
       faults = omega (arith, rose, later);
       stays = λ none. absurd (omega (arith, none));
       ruled = (opened, refl, refl, left);

@@ -1,20 +1,19 @@
 -- What is written to conversations, by what was read of them.
-use Rattle.std.proofs.Common.{◌≡◌, ◌⊎◌, ℕ, zero, suc, ◌+◌, ◌*◌, ◌-◌, ◌/◌, ◌%◌, ◌<◌, ◌≤◌, Bool, true, false, List, [], ◌∷◌, ◌++◌, All, length, map, fold, take, Option, None, Some, refl, sym, ap, subst, ◌∙◌, arith, append_assoc, append-nil, inl, inr}
+use Rattle.std.proofs.Common.{◌≡◌, ◌⊎◌, ℕ, ◌≤◌, true, false, List, [], ◌∷◌, ◌++◌, All, length, map, fold, take, Some, refl, sym, ap, subst, ◌∙◌, arith, append_assoc, append-nil, inl, inr}
 use Rattle.std.specs.List.{flat_map}
 use Rattle.std.proofs.lemmas.List.{map-append}
 use Rattle.std.proofs.lemmas.List.Elements.{All-append, All-cons, All-nil, All-tail}
-use Rattle.std.proofs.lemmas.List.Folds.{flat_map-map}
 use Rattle.std.proofs.lemmas.Grind.{flat_map-append}
 use Rattle.addr_text.specs.declared.address.Peer.{Peer}
 use Rattle.outside.specs.Limits.{largest_datagram}
 use Rattle.outside.specs.Port.{Packet, Try}
-use Rattle.outside.specs.Streams.{Piece, StreamsTold, Talk, changed}
+use Rattle.outside.specs.Streams.{StreamsTold, Talk, changed}
 use Rattle.answer_core.specs.declared.way.Way.TheVariants.{Stream}
 use Rattle.lane_model.specs.Lanes.{Entry}
 use Rattle.lane_model.specs.Replies.{is_silent}
-use Rattle.lane_model.specs.Turns.{Fate, entry_of, is_refused_fate, try_of, silent, refused, tried}
-use Rattle.tcp_frames.specs.Split.{HasNoMessage, IsSplit, framed}
-use Rattle.tcp_lane.specs.Stream.{AreKnownFrom, AreRounds, HasFailed, HasMissed, IsCut, IsRound, IsTalk, IsWhole, Round, messages_of}
+use Rattle.lane_model.specs.Turns.{Fate, entries_of_fate, is_refused_fate, tries_of_fate, silent, refused, tried}
+use Rattle.tcp_frames.specs.Split.{HasNoMessage, framed}
+use Rattle.tcp_lane.specs.Stream.{AreKnownFrom, AreRounds, HasFailed, HasMissed, IsCut, IsRound, IsWhole, Round, messages_of}
 use Rattle.tcp_lane.specs.Turns.{AreWell, Said, is_well, put_for, saying}
 use Rattle.tcp_frames.proofs.Splits.{split_of}
 
@@ -31,10 +30,10 @@ abbrev pub packet_of : Peer → Said → Packet
 packet_of peer s = record { octets = s.octets; from = peer }
 
 abbrev pub entries_in : Peer → List Said → List Entry
-entries_in peer said = flat_map (λ s. entry_of Stream (packet_of peer s) s.known s.fate) said
+entries_in peer said = flat_map (λ s. entries_of_fate Stream (packet_of peer s) s.known s.fate) said
 
 abbrev pub tries_in : Peer → List Said → List Try
-tries_in peer said = flat_map (λ s. try_of (packet_of peer s) s.fate) said
+tries_in peer said = flat_map (λ s. tries_of_fate (packet_of peer s) s.fate) said
 
 abbrev pub frames : List Try → List ℕ
 frames tries = flat_map (λ x. framed x.octets) tries
@@ -84,7 +83,7 @@ put_all cut (s ∷ said) b t e =
     }
 
 -- messages that went well or were lost count, and those only that were not refused
-entry_messages : (d : Packet) (known : ℕ) (f : Fate) → is_refused_fate f ≡ false → map (λ (e : Entry). e.packet.octets) (entry_of Stream d known f) ≡ d.octets ∷ []
+entry_messages : (d : Packet) (known : ℕ) (f : Fate) → is_refused_fate f ≡ false → map (λ (e : Entry). e.packet.octets) (entries_of_fate Stream d known f) ≡ d.octets ∷ []
 entry_messages d known silent e = refl
 entry_messages d known refused e = absurd (cc e)
 entry_messages d known (tried serial octets went) e = refl
@@ -92,20 +91,20 @@ entry_messages d known (tried serial octets went) e = refl
 pub said_messages : (peer : Peer) (said : List Said) → All (λ s. is_refused_fate s.fate ≡ false) said → map (λ (e : Entry). e.packet.octets) (entries_in peer said) ≡ map (λ s. s.octets) said
 said_messages peer [] a = refl
 said_messages peer (s ∷ said) a =
-    map-append (λ (e : Entry). e.packet.octets) (entry_of Stream (packet_of peer s) s.known s.fate) (entries_in peer said)
+    map-append (λ (e : Entry). e.packet.octets) (entries_of_fate Stream (packet_of peer s) s.known s.fate) (entries_in peer said)
     ∙ (ap (λ l. l ++ map (λ (e : Entry). e.packet.octets) (entries_in peer said)) (entry_messages (packet_of peer s) s.known s.fate (a 0 s (omega arith))) ∙ ap (λ l. s.octets ∷ l) (said_messages peer said (All-tail (λ (x : Said). is_refused_fate x.fate ≡ false) s said a)))
 
-one_from : (d : Packet) (known : ℕ) (f : Fate) → All (λ (e : Entry). e.packet.from ≡ d.from) (entry_of Stream d known f)
+one_from : (d : Packet) (known : ℕ) (f : Fate) → All (λ (e : Entry). e.packet.from ≡ d.from) (entries_of_fate Stream d known f)
 one_from d known silent = All-cons (λ (e : Entry). e.packet.from ≡ d.from) (record { packet = d; known = known; way = Stream }) [] refl (All-nil (λ (e : Entry). e.packet.from ≡ d.from))
 one_from d known refused = All-nil (λ (e : Entry). e.packet.from ≡ d.from)
 one_from d known (tried serial octets went) = All-cons (λ (e : Entry). e.packet.from ≡ d.from) (record { packet = d; known = known; way = Stream }) [] refl (All-nil (λ (e : Entry). e.packet.from ≡ d.from))
 
 pub said_from : (peer : Peer) (said : List Said) → All (λ (e : Entry). e.packet.from ≡ peer) (entries_in peer said)
 said_from peer [] = All-nil (λ (e : Entry). e.packet.from ≡ peer)
-said_from peer (s ∷ said) = All-append (λ (e : Entry). e.packet.from ≡ peer) (entry_of Stream (packet_of peer s) s.known s.fate) (entries_in peer said) (one_from (packet_of peer s) s.known s.fate) (said_from peer said)
+said_from peer (s ∷ said) = All-append (λ (e : Entry). e.packet.from ≡ peer) (entries_of_fate Stream (packet_of peer s) s.known s.fate) (entries_in peer said) (one_from (packet_of peer s) s.known s.fate) (said_from peer said)
 
 -- what is put for messages that went well are their replies
-well_put : (cut : ℕ) (d : Packet) (f : Fate) → is_well f ≡ true → put_of cut f ≡ frames (try_of d f)
+well_put : (cut : ℕ) (d : Packet) (f : Fate) → is_well f ≡ true → put_of cut f ≡ frames (tries_of_fate d f)
 well_put cut d silent e = refl
 well_put cut d refused e = absurd (cc e)
 well_put cut d (tried serial octets true) e = sym (append-nil (framed octets))
@@ -114,10 +113,10 @@ well_put cut d (tried serial octets false) e = absurd (cc e)
 pub said_put : (cut : ℕ) (peer : Peer) (said : List Said) → AreWell said → puts cut said ≡ frames (tries_in peer said)
 said_put cut peer [] a = refl
 said_put cut peer (s ∷ said) a =
-    ap (λ l. l ++ puts cut said) (well_put cut (packet_of peer s) s.fate (a 0 s (omega arith))) ∙ (ap (λ l. frames (try_of (packet_of peer s) s.fate) ++ l) (said_put cut peer said (All-tail (λ (x : Said). is_well x.fate ≡ true) s said a))
-    ∙ sym (flat_map-append (λ (x : Try). framed x.octets) (try_of (packet_of peer s) s.fate) (tries_in peer said)))
+    ap (λ l. l ++ puts cut said) (well_put cut (packet_of peer s) s.fate (a 0 s (omega arith))) ∙ (ap (λ l. frames (tries_of_fate (packet_of peer s) s.fate) ++ l) (said_put cut peer said (All-tail (λ (x : Said). is_well x.fate ≡ true) s said a))
+    ∙ sym (flat_map-append (λ (x : Try). framed x.octets) (tries_of_fate (packet_of peer s) s.fate) (tries_in peer said)))
 
-well_went : (d : Packet) (f : Fate) → is_well f ≡ true → All (λ (x : Try). x.went ≡ true) (try_of d f)
+well_went : (d : Packet) (f : Fate) → is_well f ≡ true → All (λ (x : Try). x.went ≡ true) (tries_of_fate d f)
 well_went d silent e = All-nil (λ (x : Try). x.went ≡ true)
 well_went d refused e = absurd (cc e)
 well_went d (tried serial octets true) e = All-cons (λ (x : Try). x.went ≡ true) (record { octets = octets; to = d.from; serial = serial; went = true }) [] refl (All-nil (λ (x : Try). x.went ≡ true))
@@ -125,7 +124,7 @@ well_went d (tried serial octets false) e = absurd (cc e)
 
 pub said_went : (peer : Peer) (said : List Said) → AreWell said → All (λ (x : Try). x.went ≡ true) (tries_in peer said)
 said_went peer [] a = All-nil (λ (x : Try). x.went ≡ true)
-said_went peer (s ∷ said) a = All-append (λ (x : Try). x.went ≡ true) (try_of (packet_of peer s) s.fate) (tries_in peer said) (well_went (packet_of peer s) s.fate (a 0 s (omega arith))) (said_went peer said (All-tail (λ (x : Said). is_well x.fate ≡ true) s said a))
+said_went peer (s ∷ said) a = All-append (λ (x : Try). x.went ≡ true) (tries_of_fate (packet_of peer s) s.fate) (tries_in peer said) (well_went (packet_of peer s) s.fate (a 0 s (omega arith))) (said_went peer said (All-tail (λ (x : Said). is_well x.fate ≡ true) s said a))
 
 well_kept : (f : Fate) → is_well f ≡ true → is_refused_fate f ≡ false
 well_kept silent e = refl
@@ -238,8 +237,8 @@ cut_of t t2 held octets rest rest' put more said known place taken tries o n is 
 said_last : (said before : List Said) (s : Said) → said ≡ before ++ s ∷ [] → map (λ x. x.octets) said ≡ map (λ x. x.octets) before ++ s.octets ∷ []
 said_last said before s is = ap (λ l. map (λ (x : Said). x.octets) l) is ∙ map-append (λ (x : Said). x.octets) before (s ∷ [])
 
-lost_try : (d : Packet) (f : Fate) (serial : ℕ) (octets : List ℕ) → f ≡ tried serial octets false → try_of d f ≡ (record { octets = octets; to = d.from; serial = serial; went = false }) ∷ []
-lost_try d f serial octets is = ap (λ k. try_of d k) is
+lost_try : (d : Packet) (f : Fate) (serial : ℕ) (octets : List ℕ) → f ≡ tried serial octets false → tries_of_fate d f ≡ (record { octets = octets; to = d.from; serial = serial; went = false }) ∷ []
+lost_try d f serial octets is = ap (λ k. tries_of_fate d k) is
 
 -- a conversation whose last write failed
 pub lost_of : (t t2 : Talk) (held octets rest : List ℕ) (said before : List Said) (s : Said) (serial : ℕ) (reply : List ℕ) (cut known place : ℕ) (taken : List Entry) (tries : List Try) → IsOpenTalk t held taken tries → IsNew t t2 held octets rest said known place (puts cut said)
@@ -248,14 +247,14 @@ lost_of t t2 held octets rest said before s serial reply cut known place taken t
     let c = split_of rest in
     let due : Entry = record { packet = packet_of t.peer s; known = s.known; way = Stream } in
     let last : Try = record { octets = reply; to = t.peer; serial = serial; went = false } in
-    let mine : tries_in t.peer said ≡ tries_in t.peer before ++ last ∷ [] = ap (λ l. tries_in t.peer l) is ∙ (flat_more (λ (x : Said). try_of (packet_of t.peer x) x.fate) before s ∙ ap (λ l. tries_in t.peer before ++ l) (lost_try (packet_of t.peer s) s.fate serial reply f)) in
+    let mine : tries_in t.peer said ≡ tries_in t.peer before ++ last ∷ [] = ap (λ l. tries_in t.peer l) is ∙ (flat_more (λ (x : Said). tries_of_fate (packet_of t.peer x) x.fate) before s ∙ ap (λ l. tries_in t.peer before ++ l) (lost_try (packet_of t.peer s) s.fate serial reply f)) in
     let put : puts cut said ≡ puts cut before ++ take cut (framed reply) = ap (λ l. puts cut l) is ∙ (flat_more (λ (x : Said). put_of cut x.fate) before s ∙ ap (λ k. puts cut before ++ put_of cut k) f) in
     let all : frames tries ++ puts cut said ≡ frames (tries ++ tries_in t.peer before) ++ take cut (framed reply) =
     ap (λ l. frames tries ++ l) (put ∙ ap (λ l. l ++ take cut (framed reply)) (said_put cut t.peer before well)) ∙ (sym (append_assoc (frames tries) (frames (tries_in t.peer before)) (take cut (framed reply))) ∙ ap (λ l. l ++ take cut (framed reply)) (sym (flat_map-append (λ (x : Try). framed x.octets) tries (tries_in t.peer before)))) in
     cut_of t t2 held octets rest c.rest (puts cut said) c.messages said known place taken tries o n c.parts c.none c.short (inl (record {
       earlier = entries_in t.peer before;
       due = due;
-      entries_are = ap (λ l. entries_in t.peer l) is ∙ (flat_more (λ (x : Said). entry_of Stream (packet_of t.peer x) x.known x.fate) before s ∙ ap (λ l. entries_in t.peer before ++ l) (ap (λ k. entry_of Stream (packet_of t.peer s) s.known k) f));
+      entries_are = ap (λ l. entries_in t.peer l) is ∙ (flat_more (λ (x : Said). entries_of_fate Stream (packet_of t.peer x) x.known x.fate) before s ∙ ap (λ l. entries_in t.peer before ++ l) (ap (λ k. entries_of_fate Stream (packet_of t.peer s) s.known k) f));
       spoken = spoken;
       before = tries ++ tries_in t.peer before;
       reply = last;
@@ -275,8 +274,8 @@ pub blind_of : (t t2 : Talk) (held octets rest : List ℕ) (said before : List S
     → IsCut is_silent t2 (taken ++ entries_in t.peer said) (tries ++ tries_in t.peer said)
 blind_of t t2 held octets rest said before s cut known place taken tries o peer pieces written parts short knows is well f spoken =
     let c = split_of rest in
-    let entries : entries_in t.peer said ≡ entries_in t.peer before = none_more (entries_in t.peer said) (entries_in t.peer before) (entry_of Stream (packet_of t.peer s) s.known s.fate) (ap (λ l. entries_in t.peer l) is ∙ flat_more (λ (x : Said). entry_of Stream (packet_of t.peer x) x.known x.fate) before s) (ap (λ k. entry_of Stream (packet_of t.peer s) s.known k) f) in
-    let mine : tries_in t.peer said ≡ tries_in t.peer before = none_more (tries_in t.peer said) (tries_in t.peer before) (try_of (packet_of t.peer s) s.fate) (ap (λ l. tries_in t.peer l) is ∙ flat_more (λ (x : Said). try_of (packet_of t.peer x) x.fate) before s) (ap (λ k. try_of (packet_of t.peer s) k) f) in
+    let entries : entries_in t.peer said ≡ entries_in t.peer before = none_more (entries_in t.peer said) (entries_in t.peer before) (entries_of_fate Stream (packet_of t.peer s) s.known s.fate) (ap (λ l. entries_in t.peer l) is ∙ flat_more (λ (x : Said). entries_of_fate Stream (packet_of t.peer x) x.known x.fate) before s) (ap (λ k. entries_of_fate Stream (packet_of t.peer s) s.known k) f) in
+    let mine : tries_in t.peer said ≡ tries_in t.peer before = none_more (tries_in t.peer said) (tries_in t.peer before) (tries_of_fate (packet_of t.peer s) s.fate) (ap (λ l. tries_in t.peer l) is ∙ flat_more (λ (x : Said). tries_of_fate (packet_of t.peer x) x.fate) before s) (ap (λ k. tries_of_fate (packet_of t.peer s) k) f) in
     let put : puts cut said ≡ puts cut before = none_more (puts cut said) (puts cut before) (put_of cut s.fate) (ap (λ l. puts cut l) is ∙ flat_more (λ (x : Said). put_of cut x.fate) before s) (ap (λ k. put_of cut k) f) in
     let wide : map (λ (x : Said). x.octets) said ≡ map (λ (x : Said). x.octets) before ++ s.octets ∷ [] = said_last said before s is in
     let shorts : All (λ (m : List ℕ). length m ≤ largest_datagram) (map (λ (x : Said). x.octets) before ++ s.octets ∷ []) = subst (λ (l : List (List ℕ)). All (λ m. length m ≤ largest_datagram) l) wide short in

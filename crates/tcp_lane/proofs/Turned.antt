@@ -1,20 +1,20 @@
 -- A turn is made of a Go, the notes, what accept or read answered, and the messages.
-use Rattle.std.proofs.Common.{◌≡◌, ℕ, ◌+◌, ◌<◌, ◌≤◌, Bool, true, false, List, [], ◌∷◌, length, map, All, Option, None, Some, refl, sym, ap, subst, ◌∙◌, arith}
-use Rattle.outside.specs.Faults.{BothTell, Rose, raised}
+use Rattle.std.proofs.Common.{◌≡◌, ℕ, ◌+◌, ◌<◌, ◌≤◌, Bool, true, false, List, length, map, All, refl, subst, ◌∙◌, arith}
+use Rattle.outside.specs.Faults.{BothTell, raised}
 use Rattle.published_map.specs.Version.{Version}
 use Rattle.outside.specs.Gate.{IsTurning}
 use Rattle.outside.specs.declared.gate.Turning.TheVariants.{Go}
-use Rattle.lane_model.specs.Turns.{Came, IsCame, IsGiven, count_after, fails_of, floor_after, is_refused, looks_of}
-use Rattle.lane_model.specs.Sessions.{Eyes, IsRise, IsSession, IsTurn}
+use Rattle.lane_model.specs.Turns.{IsCame, IsGiven, count_after, fails_of, floor_after, is_refused, looks_of}
+use Rattle.lane_model.specs.Calls.{Eyes, IsRise, AreTurns, IsTurn}
 use Rattle.tcp_lane.specs.Replies.{stream_replies}
 use Rattle.lane_model.proofs.Prefixes.{prefix_length}
 use Rattle.name_workers.specs.declared.ending.Step.{Step}
 use Rattle.name_workers.specs.declared.ending.Step.TheVariants as step
-use Rattle.tcp_lane.specs.Turns.{Heard, IsRuled, Line, StreamTurn, came_of, lead_of, turn_of, idle, ended, missed, come, got, quiet, shut, broke}
+use Rattle.tcp_lane.specs.Turns.{StreamCame, IsRuled, Line, StreamTurn, lane_came, turn_of, idle, ended, missed, come, got, quiet, shut, broke}
 use Rattle.tcp_lane.specs.Calls.{IsStreamTurn, StreamMoment, inner}
-use Rattle.tcp_lane.specs.Steps.{IsStepOf, IsTaken, IsTurned, Wire}
+use Rattle.tcp_lane.specs.Steps.{IsStepOf, IsTaken, IsTurned}
 
-lead_came : (h : List Version) (w n known : ℕ) (x : Heard) → IsCame stream_replies h w n known (came_of x)
+lead_came : (h : List Version) (w n known : ℕ) (x : StreamCame) → IsCame stream_replies h w n known (lane_came x)
 lead_came h w n known idle = tt
 lead_came h w n known ended = tt
 lead_came h w n known missed = tt
@@ -24,7 +24,7 @@ lead_came h w n known quiet = tt
 lead_came h w n known shut = tt
 lead_came h w n known broke = tt
 
-lead_count : (n : ℕ) (x : Heard) → n ≡ count_after n (came_of x)
+lead_count : (n : ℕ) (x : StreamCame) → n ≡ count_after n (lane_came x)
 lead_count n idle = refl
 lead_count n ended = refl
 lead_count n missed = refl
@@ -34,7 +34,7 @@ lead_count n quiet = refl
 lead_count n shut = refl
 lead_count n broke = refl
 
-lead_floor : (known : ℕ) (x : Heard) → floor_after known (came_of x) ≡ known
+lead_floor : (known : ℕ) (x : StreamCame) → floor_after known (lane_came x) ≡ known
 lead_floor known idle = refl
 lead_floor known ended = refl
 lead_floor known missed = refl
@@ -44,7 +44,7 @@ lead_floor known quiet = refl
 lead_floor known shut = refl
 lead_floor known broke = refl
 
-lead_looks : (x : Heard) → looks_of (came_of x) ≡ 0
+lead_looks : (x : StreamCame) → looks_of (lane_came x) ≡ 0
 lead_looks idle = refl
 lead_looks ended = refl
 lead_looks missed = refl
@@ -54,7 +54,7 @@ lead_looks quiet = refl
 lead_looks shut = refl
 lead_looks broke = refl
 
-pub lead_refused : (x : Heard) → is_refused (came_of x) ≡ false
+pub lead_refused : (x : StreamCame) → is_refused (lane_came x) ≡ false
 lead_refused idle = refl
 lead_refused ended = refl
 lead_refused missed = refl
@@ -74,7 +74,7 @@ step_after step.PortEnd t shown notes x = x
 step_after step.PortFailed t shown notes x = x
 step_after step.Refused t shown notes x = x
 
-ruled_by : (h : Heard) (t : StreamTurn) (shown : ℕ) (notes : List ℕ) (l l' : Line) → IsRuled h l t l' → IsRuled h l (record t { shown = shown; notes = notes }) l'
+ruled_by : (h : StreamCame) (t : StreamTurn) (shown : ℕ) (notes : List ℕ) (l l' : Line) → IsRuled h l t l' → IsRuled h l (record t { shown = shown; notes = notes }) l'
 ruled_by idle t shown notes l l' x = x
 ruled_by ended t shown notes l l' x = x
 ruled_by missed t shown notes l l' x = x
@@ -91,10 +91,10 @@ turned w step.PortEnd m m' t q e = (t, q, e)
 turned w step.PortFailed m m' t q e = (t, q, e)
 turned w step.Refused m m' t q e = (t, q, e)
 
-lead : (w shown known : ℕ) (notes : List ℕ) (x : Heard) (e e1 : Eyes Version) (n faults middle : ℕ) → shown + 1 ≡ length e.told → known + 1 ≡ length e1.told → IsRise e e1 → e1.looks ≡ e.looks → e1.faults ≡ e.faults
-    → All (λ s. s < length e1.told) notes → raised faults (fails_of (came_of x)) ≤ middle → (fails_of (came_of x) ≡ 0 → middle ≡ faults) → IsTurn stream_replies w (record { shown = shown; notes = notes; known = known; came = came_of x }) (inner e n faults) (inner e1 n middle)
+lead : (w shown known : ℕ) (notes : List ℕ) (x : StreamCame) (e e1 : Eyes Version) (n faults middle : ℕ) → shown + 1 ≡ length e.heard → known + 1 ≡ length e1.heard → IsRise e e1 → e1.looks ≡ e.looks → e1.faults ≡ e.faults
+    → All (λ s. s < length e1.heard) notes → raised faults (fails_of (lane_came x)) ≤ middle → (fails_of (lane_came x) ≡ 0 → middle ≡ faults) → IsTurn stream_replies w (record { shown = shown; notes = notes; known = known; came = lane_came x }) (inner e n faults) (inner e1 n middle)
 lead w shown known notes x e e1 n faults middle is is1 rise looks same noted p q =
-    let longer = prefix_length e.told e1.told rise.told in
+    let longer = prefix_length e.heard e1.heard rise.heard in
     record {
       gate = tt;
       notes = tt;
@@ -111,23 +111,23 @@ lead w shown known notes x e e1 n faults middle is is1 rise looks same noted p q
       port_faults = p;
       port_stays = q;
       gate_later = omega arith;
-      refusal = λ r. never_both (is_refused (came_of x)) (lead_refused x) r;
+      refusal = λ r. never_both (is_refused (lane_came x)) (lead_refused x) r;
       stays = λ r. same;
     }
 
-pub stream_turn_of : (w w1 n1 shown : ℕ) (s : Step) (e1 : Eyes Version) (m m' : StreamMoment Version) → shown + 1 ≡ length m.eyes.told → BothTell m.gate m'.gate (IsTurning shown Go) → m.gate_faults ≤ m'.gate_faults
-    → ((serials : List ℕ) × BothTell m.notes m'.notes (IsGiven serials) × All (λ x. x < length e1.told) serials) → IsRise m.eyes e1 → e1.looks ≡ m.eyes.looks → e1.faults ≡ m.eyes.faults → w1 ≡ w → n1 ≡ m.count
+pub stream_turn_of : (w w1 n1 shown : ℕ) (s : Step) (e1 : Eyes Version) (m m' : StreamMoment Version) → shown + 1 ≡ length m.eyes.heard → BothTell m.gate m'.gate (IsTurning shown Go) → m.gate_faults ≤ m'.gate_faults
+    → ((serials : List ℕ) × BothTell m.notes m'.notes (IsGiven serials) × All (λ x. x < length e1.heard) serials) → IsRise m.eyes e1 → e1.looks ≡ m.eyes.looks → e1.faults ≡ m.eyes.faults → w1 ≡ w → n1 ≡ m.count
     → IsTaken w1 n1 m'.count m.line m'.line s e1 m'.eyes (record { told = m.streams; faults = m.stream_faults }) (record { told = m'.streams; faults = m'.stream_faults }) → IsTurned w s m m'
 stream_turn_of w w1 n1 shown s e1 m m' is gate gl given rise looks faults same count x =
-    let session : IsSession stream_replies w (map (turn_of x.t.peer) x.t.said) (inner e1 m.count x.middle) (inner m'.eyes m'.count m'.stream_faults) =
-    subst (λ (k : ℕ). IsSession stream_replies k (map (turn_of x.t.peer) x.t.said) (inner e1 m.count x.middle) (inner m'.eyes m'.count m'.stream_faults)) same
-    (subst (λ (k : ℕ). IsSession stream_replies w1 (map (turn_of x.t.peer) x.t.said) (inner e1 k x.middle) (inner m'.eyes m'.count m'.stream_faults)) count x.session) in
-    let first = lead w shown x.t.known given.0 x.t.heard m.eyes e1 m.count m.stream_faults x.middle is x.known_is rise looks faults given.2 x.faults x.stays in
+    let session : AreTurns stream_replies w (map (turn_of x.t.peer) x.t.said) (inner e1 m.count x.middle) (inner m'.eyes m'.count m'.stream_faults) =
+    subst (λ (k : ℕ). AreTurns stream_replies k (map (turn_of x.t.peer) x.t.said) (inner e1 m.count x.middle) (inner m'.eyes m'.count m'.stream_faults)) same
+    (subst (λ (k : ℕ). AreTurns stream_replies w1 (map (turn_of x.t.peer) x.t.said) (inner e1 k x.middle) (inner m'.eyes m'.count m'.stream_faults)) count x.session) in
+    let first = lead w shown x.t.known given.0 x.t.came m.eyes e1 m.count m.stream_faults x.middle is x.known_is rise looks faults given.2 x.faults x.stays in
     turned w s m m' (record x.t { shown = shown; notes = given.0 }) (record {
       gate = gate;
       notes = given.1;
       streams = x.told;
       session = (inner e1 m.count x.middle, first, session);
       gate_later = gl;
-      ruled = ruled_by x.t.heard x.t shown given.0 m.line m'.line x.ruled;
+      ruled = ruled_by x.t.came x.t shown given.0 m.line m'.line x.ruled;
     }) (step_after s x.t shown given.0 x.step)

@@ -1,5 +1,5 @@
 -- All turns of a lane are a stream run.
-use Rattle.std.proofs.Common.{◌≡◌, ◌⊎◌, ℕ, zero, suc, ◌+◌, ◌<◌, ◌≤◌, ◌==◌, Bool, true, false, List, [], ◌∷◌, ◌++◌, All, length, map, fold, Option, None, Some, refl, sym, ap, subst, ◌∙◌, arith, append_assoc, append-nil, inl, inr}
+use Rattle.std.proofs.Common.{◌≡◌, ℕ, ◌+◌, ◌≤◌, ◌==◌, Bool, true, false, List, [], ◌∷◌, ◌++◌, All, length, map, fold, Option, None, Some, refl, sym, ap, subst, ◌∙◌, arith, append_assoc, append-nil, inl, inr}
 use Rattle.std.specs.List.{flat_map}
 use Rattle.std.proofs.lemmas.List.{map-append}
 use Rattle.std.proofs.lemmas.List.Elements.{All-append, All-cons, All-nil, All-tail}
@@ -13,17 +13,16 @@ use Rattle.outside.specs.Streams.{Piece, StreamsTold, Talk, changed, closing, li
 use Rattle.published_map.specs.Version.{Version}
 use Rattle.answer_core.specs.declared.way.Way.TheVariants.{Stream}
 use Rattle.lane_model.specs.Lanes.{Answers, Entry, IsLaneRun}
-use Rattle.lane_model.specs.Turns.{Fate, IsFate, Turn, entries_of, entries_of_came, entry_of, floor_after, is_refused_fate, refused, tries_of, tries_of_came, try_of, tried}
-use Rattle.lane_model.specs.Sessions.{IsSession, Moment}
+use Rattle.lane_model.specs.Turns.{Fate, IsFate, Turn, entries_of, entries_of_came, entries_of_fate, is_refused_fate, refused, tries_of, tries_of_came, tries_of_fate, tried}
+use Rattle.lane_model.specs.Calls.{AreTurns, Moment}
 use Rattle.lane_model.specs.Replies.{is_silent}
 use Rattle.tcp_lane.specs.Replies.{stream_replies}
-use Rattle.lane_model.proofs.Prefixes.{prefix_length}
 use Rattle.tcp_frames.specs.Split.{framed}
 use Rattle.tcp_lane.specs.Stream.{AreKnownFrom, Conversation, IsStreamRun, IsTalk}
-use Rattle.tcp_lane.specs.Turns.{AreWell, Heard, IsBroken, IsLeft, AreKnown, IsOver, IsPiece, IsRuled, Line, PieceEnd, Said, StreamTurn, came_of, closing_if, hearing_of, is_closed_by, known_after, lane_of, saying, stream_turn, turn_of, turns_of, idle, ended, missed, come, got, quiet, shut, broke, on, long, lost, blind}
+use Rattle.tcp_lane.specs.Turns.{StreamCame, IsLeft, AreKnown, IsOver, IsRuled, Line, PieceEnd, Said, StreamTurn, lane_came, closing_if, stream_after, is_closed_by, known_after, lane_of, saying, stream_turn, turn_of, turns_of, idle, ended, missed, come, got, quiet, shut, broke, on, long, lost, blind}
 use Rattle.tcp_lane.specs.Calls.{IsStreamSession, IsStreamTurn, StreamMoment, inner}
 use Rattle.tcp_lane.proofs.Known.{one_at}
-use Rattle.tcp_lane.proofs.Talks.{IsNew, IsOpenTalk, IsPut, blind_of, entries_in, lost_of, open_more, packet_of, put_all, puts, said_kept, tries_in, whole_of}
+use Rattle.tcp_lane.proofs.Talks.{IsNew, IsOpenTalk, blind_of, entries_in, lost_of, open_more, packet_of, put_all, puts, said_kept, tries_in, whole_of}
 
 -- the conversation that is open, or that none is
 abbrev pub IsNow : Bool → Option Talk → Line → List Entry → List Try → Type 0
@@ -150,14 +149,14 @@ same_lists t held taken tries o = subst (λ (x : List Entry). IsOpenTalk t held 
 -- messages of a lane's turns are those that were taken
 said_entries : (peer : Peer) (said : List Said) → entries_of Stream (map (turn_of peer) said) ≡ entries_in peer said
 said_entries peer [] = refl
-said_entries peer (s ∷ said) = ap (λ l. entry_of Stream (record { octets = s.octets; from = peer }) s.known s.fate ++ l) (said_entries peer said)
+said_entries peer (s ∷ said) = ap (λ l. entries_of_fate Stream (record { octets = s.octets; from = peer }) s.known s.fate ++ l) (said_entries peer said)
 
 said_tries : (peer : Peer) (said : List Said) → tries_of (map (turn_of peer) said) ≡ tries_in peer said
 said_tries peer [] = refl
-said_tries peer (s ∷ said) = ap (λ l. try_of (record { octets = s.octets; from = peer }) s.fate ++ l) (said_tries peer said)
+said_tries peer (s ∷ said) = ap (λ l. tries_of_fate (record { octets = s.octets; from = peer }) s.fate ++ l) (said_tries peer said)
 
 -- what was known at messages that were taken
-known_at : (w known : ℕ) (peer : Peer) (said : List Said) (m m' : Moment Version) → IsSession stream_replies w (map (turn_of peer) said) m m' → AreKnown known said → AreKnownFrom is_silent known (entries_in peer said) (tries_in peer said)
+known_at : (w known : ℕ) (peer : Peer) (said : List Said) (m m' : Moment Version) → AreTurns stream_replies w (map (turn_of peer) said) m m' → AreKnown known said → AreKnownFrom is_silent known (entries_in peer said) (tries_in peer said)
 known_at w known peer [] m m' s a = tt
 known_at w known peer (x ∷ said) m m' s a =
     let rest = known_at w (known_after known x.fate) peer said s.0 m' s.2 a.1 in
@@ -165,12 +164,12 @@ known_at w known peer (x ∷ said) m m' s a =
     subst (λ (k : ℕ). AreKnownFrom is_silent k (entries_in peer (x ∷ said)) (tries_in peer (x ∷ said))) a.0 one
 
 -- a message for which the look was refused has a reply
-spoken_by : (w : ℕ) (peer : Peer) (before : List Said) (x : Said) (m m' : Moment Version) → IsSession stream_replies w (map (turn_of peer) (before ++ x ∷ [])) m m' → x.fate ≡ refused → is_silent x.octets ≡ false
+spoken_by : (w : ℕ) (peer : Peer) (before : List Said) (x : Said) (m m' : Moment Version) → AreTurns stream_replies w (map (turn_of peer) (before ++ x ∷ [])) m m' → x.fate ≡ refused → is_silent x.octets ≡ false
 spoken_by w peer [] x m m' s f = subst (λ (k : Fate). IsFate stream_replies s.0.eyes.seen w m.count x.known (record { octets = x.octets; from = peer }) k) f s.1.came
 spoken_by w peer (y ∷ before) x m m' s f = spoken_by w peer before x s.0 m' s.2 f
 
 -- and so has one whose reply was tried
-spoken_lost : (w : ℕ) (peer : Peer) (before : List Said) (x : Said) (serial : ℕ) (reply : List ℕ) (m m' : Moment Version) → IsSession stream_replies w (map (turn_of peer) (before ++ x ∷ [])) m m' → x.fate ≡ tried serial reply false → is_silent x.octets ≡ false
+spoken_lost : (w : ℕ) (peer : Peer) (before : List Said) (x : Said) (serial : ℕ) (reply : List ℕ) (m m' : Moment Version) → AreTurns stream_replies w (map (turn_of peer) (before ++ x ∷ [])) m m' → x.fate ≡ tried serial reply false → is_silent x.octets ≡ false
 spoken_lost w peer [] x serial reply m m' s f = (subst (λ (k : Fate). IsFate stream_replies s.0.eyes.seen w m.count x.known (record { octets = x.octets; from = peer }) k) f s.1.came).0
 spoken_lost w peer (y ∷ before) x serial reply m m' s f = spoken_lost w peer before x serial reply s.0 m' s.2 f
 
@@ -187,10 +186,10 @@ record IsAfter (b b2 : StreamsTold) (t0 : Talk) (octets : List ℕ) (known place
   pieces : talk.pieces ≡ t0.pieces ++ (record { octets = octets; known = known; place = place }) ∷ []
   written : talk.written ≡ t0.written ++ put
 
-after_piece : (cut known : ℕ) (octets : List ℕ) (said : List Said) (b : StreamsTold) (t0 : Talk) → b.current ≡ Some t0 → IsAfter b (fold (saying cut) (hearing_of known (got octets) b) said) t0 octets known b.answers (puts cut said)
+after_piece : (cut known : ℕ) (octets : List ℕ) (said : List Said) (b : StreamsTold) (t0 : Talk) → b.current ≡ Some t0 → IsAfter b (fold (saying cut) (stream_after known (got octets) b) said) t0 octets known b.answers (puts cut said)
 after_piece cut known octets said b t0 e =
     let p : Piece = record { octets = octets; known = known; place = b.answers } in
-    let put = put_all cut said (hearing_of known (got octets) b) (record t0 { pieces = t0.pieces ++ p ∷ [] }) (ap (λ o. changed (λ x. record x { pieces = x.pieces ++ p ∷ [] }) o) e) in
+    let put = put_all cut said (stream_after known (got octets) b) (record t0 { pieces = t0.pieces ++ p ∷ [] }) (ap (λ o. changed (λ x. record x { pieces = x.pieces ++ p ∷ [] }) o) e) in
     record { talk = put.talk; current = put.current; closed = put.closed; peer = put.peer; pieces = put.pieces; written = put.written }
 
 closing_then : (b0 b b2 : StreamsTold) (l l' : Line) (taken more : List Entry) (tries further : List Try) (i : IsByThen b0 b l taken tries) (t : Talk) → b2.current ≡ Some t → b2.closed ≡ b.closed → l'.is_open ≡ false → IsTalk is_silent t (i.now_taken ++ more) (i.now_tries ++ further) → IsByThen b0 (closing b2) l' (taken ++ more) (tries ++ further)
@@ -199,7 +198,7 @@ closing_then b0 b b2 l l' taken more tries further i t current closed is talk =
 
 -- what a piece with its messages came to, by its way
 piece_by : (ending : PieceEnd) (b0 b : StreamsTold) (l l' : Line) (taken : List Entry) (tries : List Try) (i : IsByThen b0 b l taken tries) (t0 : Talk) (b2 : StreamsTold) (octets rest : List ℕ) (said : List Said) (cut known place w : ℕ) (m m' : Moment Version) → IsOpenTalk t0 l.held i.now_taken i.now_tries → t0.peer ≡ l.peer → IsAfter b b2 t0 octets known place (puts cut said)
-    → l.held ++ octets ≡ flat_map framed (map (λ x. x.octets) said) ++ rest → All (λ x. length x ≤ largest_datagram) (map (λ x. x.octets) said) → IsOver ending said rest → IsLeft (is_closed_by ending) (record l { held = rest; quiets = 0 }) l' → l.is_open ≡ true → IsSession stream_replies w (map (turn_of t0.peer) said) m m' → AreKnown known said
+    → l.held ++ octets ≡ flat_map framed (map (λ x. x.octets) said) ++ rest → All (λ x. length x ≤ largest_datagram) (map (λ x. x.octets) said) → IsOver ending said rest → IsLeft (is_closed_by ending) (record l { held = rest; quiets = 0 }) l' → l.is_open ≡ true → AreTurns stream_replies w (map (turn_of t0.peer) said) m m' → AreKnown known said
     → IsByThen b0 (closing_if (is_closed_by ending) b2) l' (taken ++ entries_in t0.peer said) (tries ++ tries_in t0.peer said)
 piece_by on b0 b l l' taken tries i t0 b2 octets rest said cut known place w m m' o peer a parts short over left is s kn =
     let n : IsNew t0 a.talk l.held octets rest said known place (puts cut said) = record { peer = a.peer; pieces = a.pieces; written_is = a.written; parts = parts; short = short; knows = known_at w known t0.peer said m m' s kn; kept = said_kept said over.0 } in
@@ -211,18 +210,18 @@ piece_by long b0 b l l' taken tries i t0 b2 octets rest said cut known place w m
 piece_by lost b0 b l l' taken tries i t0 b2 octets rest said cut known place w m m' o peer a parts short over left is s kn =
     let kept : All (λ (x : Said). is_refused_fate x.fate ≡ false) said = subst (λ (k : List Said). All (λ x. is_refused_fate x.fate ≡ false) k) (sym over.2) (All-append (λ (x : Said). is_refused_fate x.fate ≡ false) over.0 (over.1 ∷ []) (said_kept over.0 over.3) (All-cons (λ (x : Said). is_refused_fate x.fate ≡ false) over.1 [] (ap (λ f. is_refused_fate f) over.4.2) (All-nil (λ (x : Said). is_refused_fate x.fate ≡ false)))) in
     let n : IsNew t0 a.talk l.held octets rest said known place (puts cut said) = record { peer = a.peer; pieces = a.pieces; written_is = a.written; parts = parts; short = short; knows = known_at w known t0.peer said m m' s kn; kept = kept } in
-    let lost_spoken = spoken_lost w t0.peer over.0 over.1 over.4.0 over.4.1 m m' (subst (λ (k : List Said). IsSession stream_replies w (map (turn_of t0.peer) k) m m') over.2 s) over.4.2 in
-    closing_then b0 b b2 l l' taken (entries_in t0.peer said) tries (tries_in t0.peer said) i a.talk a.current a.closed left (inr (lost_of t0 a.talk l.held octets rest said over.0 over.1 over.4.0 over.4.1 cut known place i.now_taken i.now_tries o n over.2 over.3 over.4.2))
+    let lost_spoken = spoken_lost w t0.peer over.0 over.1 over.4.0 over.4.1 m m' (subst (λ (k : List Said). AreTurns stream_replies w (map (turn_of t0.peer) k) m m') over.2 s) over.4.2 in
+    closing_then b0 b b2 l l' taken (entries_in t0.peer said) tries (tries_in t0.peer said) i a.talk a.current a.closed left (inr (lost_of t0 a.talk l.held octets rest said over.0 over.1 over.4.0 over.4.1 cut known place i.now_taken i.now_tries o n over.2 over.3 over.4.2 lost_spoken))
 piece_by blind b0 b l l' taken tries i t0 b2 octets rest said cut known place w m m' o peer a parts short over left is s kn =
     let knows = known_at w known t0.peer said m m' s kn in
-    let spoken = spoken_by w t0.peer over.0 over.1 m m' (subst (λ (k : List Said). IsSession stream_replies w (map (turn_of t0.peer) k) m m') over.2 s) over.4 in
+    let spoken = spoken_by w t0.peer over.0 over.1 m m' (subst (λ (k : List Said). AreTurns stream_replies w (map (turn_of t0.peer) k) m m') over.2 s) over.4 in
     closing_then b0 b b2 l l' taken (entries_in t0.peer said) tries (tries_in t0.peer said) i a.talk a.current a.closed left (inr (blind_of t0 a.talk l.held octets rest said over.0 over.1 cut known place i.now_taken i.now_tries o a.peer a.pieces a.written parts short knows over.2 over.3 over.4 spoken))
 
 -- a turn without messages
-none_then : (h : Heard) (b0 b : StreamsTold) (t : StreamTurn) (l' : Line) (taken : List Entry) (tries : List Try) (closes : Bool) → t.said ≡ [] → t.closes ≡ closes → IsByThen b0 (closing_if closes (hearing_of t.known h b)) l' (taken ++ []) (tries ++ []) → IsByThen b0 (closing_if t.closes (fold (saying t.cut) (hearing_of t.known h b) t.said)) l' (taken ++ entries_in t.peer t.said) (tries ++ tries_in t.peer t.said)
+none_then : (h : StreamCame) (b0 b : StreamsTold) (t : StreamTurn) (l' : Line) (taken : List Entry) (tries : List Try) (closes : Bool) → t.said ≡ [] → t.closes ≡ closes → IsByThen b0 (closing_if closes (stream_after t.known h b)) l' (taken ++ []) (tries ++ []) → IsByThen b0 (closing_if t.closes (fold (saying t.cut) (stream_after t.known h b) t.said)) l' (taken ++ entries_in t.peer t.said) (tries ++ tries_in t.peer t.said)
 none_then h b0 b t l' taken tries closes none is x =
-    subst (λ (said : List Said). IsByThen b0 (closing_if t.closes (fold (saying t.cut) (hearing_of t.known h b) said)) l' (taken ++ entries_in t.peer said) (tries ++ tries_in t.peer said)) (sym none)
-    (subst (λ (c : Bool). IsByThen b0 (closing_if c (hearing_of t.known h b)) l' (taken ++ []) (tries ++ [])) (sym is) x)
+    subst (λ (said : List Said). IsByThen b0 (closing_if t.closes (fold (saying t.cut) (stream_after t.known h b) said)) l' (taken ++ entries_in t.peer said) (tries ++ tries_in t.peer said)) (sym none)
+    (subst (λ (c : Bool). IsByThen b0 (closing_if c (stream_after t.known h b)) l' (taken ++ []) (tries ++ [])) (sym is) x)
 
 more_nothing : (b0 b : StreamsTold) (l : Line) (taken : List Entry) (tries : List Try) → IsByThen b0 b l taken tries → IsByThen b0 b l (taken ++ []) (tries ++ [])
 more_nothing b0 b l taken tries i = subst (λ (x : List Entry). IsByThen b0 b l x (tries ++ [])) (sym (append-nil taken)) (subst (λ (x : List Try). IsByThen b0 b l taken x) (sym (append-nil tries)) i)
@@ -233,32 +232,32 @@ shut_then b0 b b2 l l' taken tries i is closed current left =
     let op = opened l.is_open b.current l i.now_taken i.now_tries is i.now in
     closing_then b0 b b2 l l' taken [] tries [] i op.0 (current ∙ op.1) closed left (inl (whole_of op.0 l.held (i.now_taken ++ []) (i.now_tries ++ []) (same_lists op.0 l.held i.now_taken i.now_tries op.3)))
 
-quiet_then : (c : Bool) (known : ℕ) (b0 b : StreamsTold) (l l' : Line) (taken : List Entry) (tries : List Try) → IsByThen b0 b l taken tries → l.is_open ≡ true → IsLeft c (record l { quiets = l.quiets + 1 }) l' → IsByThen b0 (closing_if c (hearing_of known quiet b)) l' (taken ++ []) (tries ++ [])
+quiet_then : (c : Bool) (known : ℕ) (b0 b : StreamsTold) (l l' : Line) (taken : List Entry) (tries : List Try) → IsByThen b0 b l taken tries → l.is_open ≡ true → IsLeft c (record l { quiets = l.quiets + 1 }) l' → IsByThen b0 (closing_if c (stream_after known quiet b)) l' (taken ++ []) (tries ++ [])
 quiet_then true known b0 b l l' taken tries i is left =
     let op = opened l.is_open b.current l i.now_taken i.now_tries is i.now in
     let t : Talk = record op.0 { quiets = raised op.0.quiets 1 } in
-    closing_then b0 b (hearing_of known quiet b) l l' taken [] tries [] i t (ap (λ o. changed (λ x. record x { quiets = raised x.quiets 1 }) o) op.1) refl left (inl (whole_of t l.held (i.now_taken ++ []) (i.now_tries ++ []) (same_lists t l.held i.now_taken i.now_tries (quieter op.0 (raised op.0.quiets 1) l.held i.now_taken i.now_tries op.3))))
+    closing_then b0 b (stream_after known quiet b) l l' taken [] tries [] i t (ap (λ o. changed (λ x. record x { quiets = raised x.quiets 1 }) o) op.1) refl left (inl (whole_of t l.held (i.now_taken ++ []) (i.now_tries ++ []) (same_lists t l.held i.now_taken i.now_tries (quieter op.0 (raised op.0.quiets 1) l.held i.now_taken i.now_tries op.3))))
 quiet_then false known b0 b l l' taken tries i is left =
     let op = opened l.is_open b.current l i.now_taken i.now_tries is i.now in
     let t : Talk = record op.0 { quiets = raised op.0.quiets 1 } in
-    open_then b0 b (hearing_of known quiet b) l l' taken [] tries [] i t refl (ap (λ o. changed (λ x. record x { quiets = raised x.quiets 1 }) o) op.1) (ap (λ k. k.is_open) left ∙ is) (op.2 ∙ sym (ap (λ k. k.peer) left))
+    open_then b0 b (stream_after known quiet b) l l' taken [] tries [] i t refl (ap (λ o. changed (λ x. record x { quiets = raised x.quiets 1 }) o) op.1) (ap (λ k. k.is_open) left ∙ is) (op.2 ∙ sym (ap (λ k. k.peer) left))
     (subst (λ (h : List ℕ). IsOpenTalk t h (i.now_taken ++ []) (i.now_tries ++ [])) (sym (ap (λ k. k.held) left)) (same_lists t l.held i.now_taken i.now_tries (quieter op.0 (raised op.0.quiets 1) l.held i.now_taken i.now_tries op.3)))
 
 no_current : (b0 b : StreamsTold) (l : Line) (taken : List Entry) (tries : List Try) (i : IsByThen b0 b l taken tries) → l.is_open ≡ false → b.current ≡ None
 no_current b0 b l taken tries i is = (unopened l.is_open b.current l i.now_taken i.now_tries is i.now).0
 
 -- what a turn comes to
-ruled_then : (h : Heard) (b0 b : StreamsTold) (t : StreamTurn) (l l' : Line) (taken : List Entry) (tries : List Try) (w : ℕ) (m m' : Moment Version) → IsByThen b0 b l taken tries → IsRuled h l t l' → IsSession stream_replies w (map (turn_of t.peer) t.said) m m'
-    → IsByThen b0 (closing_if t.closes (fold (saying t.cut) (hearing_of t.known h b) t.said)) l' (taken ++ entries_in t.peer t.said) (tries ++ tries_in t.peer t.said)
-ruled_then idle b0 b t l l' taken tries w m m' i r s = none_then idle b0 b t l' taken tries false r.1 r.2 (more_nothing b0 (hearing_of t.known idle b) l' taken tries (same_then b0 b (hearing_of t.known idle b) l' taken tries (subst (λ (k : Line). IsByThen b0 b k taken tries) (sym r.3) i) refl refl))
-ruled_then ended b0 b t l l' taken tries w m m' i r s = none_then ended b0 b t l' taken tries false r.1 r.2 (more_nothing b0 (hearing_of t.known ended b) l' taken tries (same_then b0 b (hearing_of t.known ended b) l' taken tries (subst (λ (k : Line). IsByThen b0 b k taken tries) (sym r.3) i) refl refl))
-ruled_then missed b0 b t l l' taken tries w m m' i r s = none_then missed b0 b t l' taken tries false r.1 r.2 (more_nothing b0 (hearing_of t.known missed b) l' taken tries (same_then b0 b (hearing_of t.known missed b) l' taken tries (subst (λ (k : Line). IsByThen b0 b k taken tries) (sym r.3) i) refl refl))
+ruled_then : (h : StreamCame) (b0 b : StreamsTold) (t : StreamTurn) (l l' : Line) (taken : List Entry) (tries : List Try) (w : ℕ) (m m' : Moment Version) → IsByThen b0 b l taken tries → IsRuled h l t l' → AreTurns stream_replies w (map (turn_of t.peer) t.said) m m'
+    → IsByThen b0 (closing_if t.closes (fold (saying t.cut) (stream_after t.known h b) t.said)) l' (taken ++ entries_in t.peer t.said) (tries ++ tries_in t.peer t.said)
+ruled_then idle b0 b t l l' taken tries w m m' i r s = none_then idle b0 b t l' taken tries false r.1 r.2 (more_nothing b0 (stream_after t.known idle b) l' taken tries (same_then b0 b (stream_after t.known idle b) l' taken tries (subst (λ (k : Line). IsByThen b0 b k taken tries) (sym r.3) i) refl refl))
+ruled_then ended b0 b t l l' taken tries w m m' i r s = none_then ended b0 b t l' taken tries false r.1 r.2 (more_nothing b0 (stream_after t.known ended b) l' taken tries (same_then b0 b (stream_after t.known ended b) l' taken tries (subst (λ (k : Line). IsByThen b0 b k taken tries) (sym r.3) i) refl refl))
+ruled_then missed b0 b t l l' taken tries w m m' i r s = none_then missed b0 b t l' taken tries false r.1 r.2 (more_nothing b0 (stream_after t.known missed b) l' taken tries (same_then b0 b (stream_after t.known missed b) l' taken tries (subst (λ (k : Line). IsByThen b0 b k taken tries) (sym r.3) i) refl refl))
 ruled_then (come peer) b0 b t l l' taken tries w m m' i r s =
-    none_then (come peer) b0 b t l' taken tries false r.1 r.2 (more_nothing b0 (hearing_of t.known (come peer) b) l' taken tries (come_then b0 b (hearing_of t.known (come peer) b) l l' taken tries peer i r.0 (ap (λ o. b.closed ++ listed o) (no_current b0 b l taken tries i r.0) ∙ append-nil b.closed) refl r.3))
+    none_then (come peer) b0 b t l' taken tries false r.1 r.2 (more_nothing b0 (stream_after t.known (come peer) b) l' taken tries (come_then b0 b (stream_after t.known (come peer) b) l l' taken tries peer i r.0 (ap (λ o. b.closed ++ listed o) (no_current b0 b l taken tries i r.0) ∙ append-nil b.closed) refl r.3))
 ruled_then quiet b0 b t l l' taken tries w m m' i r s =
     none_then quiet b0 b t l' taken tries (l.quiets + 1 == 200) r.1 r.2 (quiet_then (l.quiets + 1 == 200) t.known b0 b l l' taken tries i r.0 (subst (λ (c : Bool). IsLeft c (record l { quiets = l.quiets + 1 }) l') r.2 r.3))
-ruled_then shut b0 b t l l' taken tries w m m' i r s = none_then shut b0 b t l' taken tries true r.1 r.2 (shut_then b0 b (hearing_of t.known shut b) l l' taken tries i r.0 refl refl r.3)
-ruled_then broke b0 b t l l' taken tries w m m' i r s = none_then broke b0 b t l' taken tries true r.1 r.2 (shut_then b0 b (hearing_of t.known broke b) l l' taken tries i r.0 refl refl r.3)
+ruled_then shut b0 b t l l' taken tries w m m' i r s = none_then shut b0 b t l' taken tries true r.1 r.2 (shut_then b0 b (stream_after t.known shut b) l l' taken tries i r.0 refl refl r.3)
+ruled_then broke b0 b t l l' taken tries w m m' i r s = none_then broke b0 b t l' taken tries true r.1 r.2 (shut_then b0 b (stream_after t.known broke b) l l' taken tries i r.0 refl refl r.3)
 ruled_then (got octets) b0 b t l l' taken tries w m m' i r s =
     let op = opened l.is_open b.current l i.now_taken i.now_tries r.0 i.now in
     let a = after_piece t.cut t.known octets t.said b op.0 op.1 in
@@ -266,11 +265,11 @@ ruled_then (got octets) b0 b t l l' taken tries w m m' i r s =
     let parts = r.1.parts ∙ ap (λ x. x ++ r.1.rest) (sym (flat_map-map framed (λ (x : Said). x.octets) t.said)) in
     let short = all_map (λ (x : Said). x.octets) (λ (x : List ℕ). length x ≤ largest_datagram) t.said r.1.short in
     let left = subst (λ (c : Bool). IsLeft c (record l { held = r.1.rest; quiets = 0 }) l') r.1.closes r.1.left in
-    let made = piece_by r.1.ending b0 b l l' taken tries i op.0 (fold (saying t.cut) (hearing_of t.known (got octets) b) t.said) octets r.1.rest t.said t.cut t.known b.answers w m m' op.3 op.2 a parts short r.1.over left r.0 (subst (λ (p : Peer). IsSession stream_replies w (map (turn_of p) t.said) m m') (sym same) s) r.1.known in
-    subst (λ (c : Bool). IsByThen b0 (closing_if c (fold (saying t.cut) (hearing_of t.known (got octets) b) t.said)) l' (taken ++ entries_in t.peer t.said) (tries ++ tries_in t.peer t.said)) (sym r.1.closes)
-    (subst (λ (p : Peer). IsByThen b0 (closing_if (is_closed_by r.1.ending) (fold (saying t.cut) (hearing_of t.known (got octets) b) t.said)) l' (taken ++ entries_in p t.said) (tries ++ tries_in p t.said)) same made)
+    let made = piece_by r.1.ending b0 b l l' taken tries i op.0 (fold (saying t.cut) (stream_after t.known (got octets) b) t.said) octets r.1.rest t.said t.cut t.known b.answers w m m' op.3 op.2 a parts short r.1.over left r.0 (subst (λ (p : Peer). AreTurns stream_replies w (map (turn_of p) t.said) m m') (sym same) s) r.1.known in
+    subst (λ (c : Bool). IsByThen b0 (closing_if c (fold (saying t.cut) (stream_after t.known (got octets) b) t.said)) l' (taken ++ entries_in t.peer t.said) (tries ++ tries_in t.peer t.said)) (sym r.1.closes)
+    (subst (λ (p : Peer). IsByThen b0 (closing_if (is_closed_by r.1.ending) (fold (saying t.cut) (stream_after t.known (got octets) b) t.said)) l' (taken ++ entries_in p t.said) (tries ++ tries_in p t.said)) same made)
 
-lead_entries : (known : ℕ) (h : Heard) → entries_of_came Stream known (came_of h) ≡ []
+lead_entries : (known : ℕ) (h : StreamCame) → entries_of_came Stream known (lane_came h) ≡ []
 lead_entries known idle = refl
 lead_entries known ended = refl
 lead_entries known missed = refl
@@ -280,7 +279,7 @@ lead_entries known quiet = refl
 lead_entries known shut = refl
 lead_entries known broke = refl
 
-lead_tries : (h : Heard) → tries_of_came (came_of h) ≡ []
+lead_tries : (h : StreamCame) → tries_of_came (lane_came h) ≡ []
 lead_tries idle = refl
 lead_tries ended = refl
 lead_tries missed = refl
@@ -291,15 +290,15 @@ lead_tries shut = refl
 lead_tries broke = refl
 
 turn_entries : (t : StreamTurn) → entries_of Stream (turns_of t) ≡ entries_in t.peer t.said
-turn_entries t = ap (λ x. x ++ entries_of Stream (map (turn_of t.peer) t.said)) (lead_entries t.known t.heard) ∙ said_entries t.peer t.said
+turn_entries t = ap (λ x. x ++ entries_of Stream (map (turn_of t.peer) t.said)) (lead_entries t.known t.came) ∙ said_entries t.peer t.said
 
 turn_tries : (t : StreamTurn) → tries_of (turns_of t) ≡ tries_in t.peer t.said
-turn_tries t = ap (λ x. x ++ tries_of (map (turn_of t.peer) t.said)) (lead_tries t.heard) ∙ said_tries t.peer t.said
+turn_tries t = ap (λ x. x ++ tries_of (map (turn_of t.peer) t.said)) (lead_tries t.came) ∙ said_tries t.peer t.said
 
 turn_then : (w : ℕ) (t : StreamTurn) (m m' : StreamMoment Version) (b0 b : StreamsTold) (taken : List Entry) (tries : List Try) → IsStreamTurn stream_replies w t m m' → IsByThen b0 b m.line taken tries
     → IsByThen b0 (stream_turn b t) m'.line (taken ++ entries_of Stream (turns_of t)) (tries ++ tries_of (turns_of t))
 turn_then w t m m' b0 b taken tries q i =
-    let r = ruled_then t.heard b0 b t m.line m'.line taken tries w q.session.0 (inner m'.eyes m'.count m'.stream_faults) i q.ruled q.session.2 in
+    let r = ruled_then t.came b0 b t m.line m'.line taken tries w q.session.0 (inner m'.eyes m'.count m'.stream_faults) i q.ruled q.session.2 in
     subst (λ (x : List Entry). IsByThen b0 (stream_turn b t) m'.line (taken ++ x) (tries ++ tries_of (turns_of t))) (sym (turn_entries t))
     (subst (λ (x : List Try). IsByThen b0 (stream_turn b t) m'.line (taken ++ entries_in t.peer t.said) (tries ++ x)) (sym (turn_tries t)) r)
 

@@ -9,7 +9,7 @@ use Rattle.lane_model.specs.declared.ended.Ended.{Ended}
 use Rattle.lane_model.specs.declared.ended.Ended.TheVariants as end
 use Rattle.lane_model.specs.Lanes.{Answers}
 use Rattle.lane_model.specs.Turns.{AreCalm, AreGiven, IsGiven, entries_of, failures, refused, tries_of}
-use Rattle.lane_model.specs.Sessions.{Eyes, IsGateRun, IsLaneLog, IsSession, Moment}
+use Rattle.lane_model.specs.Calls.{Eyes, IsGateRun, IsLaneLog, AreTurns, Moment}
 use Rattle.tcp_lane.specs.Stream.{IsStreamRun}
 use Rattle.tcp_lane.specs.Turns.{IsBroken, IsRuled, Line, StreamTurn, closing_if, ended, lane_of, lead_of, stream_turn, turns_of}
 
@@ -33,9 +33,9 @@ pub record IsStreamTurn {V : Type 0} (a : Answers V) (w : ℕ) (t : StreamTurn) 
   pub gate : BothTell m.gate m'.gate (λ b c. c ≡ going t.shown b)
   pub notes : BothTell m.notes m'.notes (IsGiven t.notes)
   pub streams : BothTell m.streams m'.streams (λ b c. c ≡ stream_turn b t)
-  pub session : IsSession a w (turns_of t) (inner m.eyes m.count m.stream_faults) (inner m'.eyes m'.count m'.stream_faults)
+  pub session : AreTurns a w (turns_of t) (inner m.eyes m.count m.stream_faults) (inner m'.eyes m'.count m'.stream_faults)
   pub gate_later : m.gate_faults ≤ m'.gate_faults
-  pub ruled : IsRuled t.heard m.line t m'.line
+  pub ruled : IsRuled t.came m.line t m'.line
 
 -- some turns, one after the other
 abbrev pub IsStreamSession : {V : Type 0} → Answers V → ℕ → List StreamTurn → StreamMoment V → StreamMoment V → Type 0
@@ -45,7 +45,7 @@ IsStreamSession {V = V} a w (t ∷ log) m m' = (mid : StreamMoment V) × IsStrea
 -- the gate answered Stop, and nothing else was asked
 pub record IsStreamStop {V : Type 0} (m m' : StreamMoment V) : Type 0 where
   pub shown : ℕ
-  pub is_known : shown + 1 ≡ length m.eyes.told
+  pub is_known : shown + 1 ≡ length m.eyes.heard
   pub gate : BothTell m.gate m'.gate (IsTurning shown Stop)
   pub later : m.gate_faults ≤ m'.gate_faults
   pub rest : m' ≡ record m { gate = m'.gate; gate_faults = m'.gate_faults }
@@ -66,7 +66,7 @@ stream_failures log = failures (lane_of log)
 -- Why a lane ended after these turns. All turns but the last go on: accept didn't answer End, no look was refused, fewer than eight calls of the streams failed.
 abbrev pub IsStreamEnd : ℕ → List StreamTurn → Ended → Type 0
 IsStreamEnd turns log end.Stopped = AreCalm (lane_of log) × (stream_failures log < 8) × (length log < turns)
-IsStreamEnd turns log end.PortEnd = (before : List StreamTurn) × (t : StreamTurn) × (log ≡ before ++ t ∷ []) × AreCalm (lane_of before) × (stream_failures before < 8) × (t.heard ≡ ended) × (length log ≤ turns)
+IsStreamEnd turns log end.PortEnd = (before : List StreamTurn) × (t : StreamTurn) × (log ≡ before ++ t ∷ []) × AreCalm (lane_of before) × (stream_failures before < 8) × (t.came ≡ ended) × (length log ≤ turns)
 IsStreamEnd turns log end.PortFault = (before : List StreamTurn) × (t : StreamTurn) × (log ≡ before ++ t ∷ []) × AreCalm (lane_of log) × (stream_failures before ≡ 7) × (stream_failures log ≡ 8) × (length log ≤ turns)
 IsStreamEnd turns log end.CellFault = (before : List StreamTurn) × (t : StreamTurn) × (log ≡ before ++ t ∷ []) × AreCalm (lane_of before) × (stream_failures before < 8) × IsBroken (λ f. f ≡ refused) t.said × (length log ≤ turns)
 IsStreamEnd turns log (end.Above known newest) = ⊥
@@ -75,19 +75,19 @@ IsStreamEnd turns log end.Spent = AreCalm (lane_of log) × (stream_failures log 
 -- the rules of some turns, one after the other
 abbrev pub AreRuled : Line → List StreamTurn → Line → Type 0
 AreRuled s [] s' = s' ≡ s
-AreRuled s (t ∷ log) s' = (mid : Line) × IsRuled t.heard s t mid × AreRuled mid log s'
+AreRuled s (t ∷ log) s' = (mid : Line) × IsRuled t.came s t mid × AreRuled mid log s'
 
 -- A call of a stream lane, over the turns that it made. All of them, as turns of a lane, are a lane's log: what was told is minded, what is seen and known rises, each message that isn't silent has one look, messages are counted on. What streams, gate and notes tell by then follows turn by turn. Whatever streams told before, the conversations that they tell of by then are a stream run over what the viewer has seen. A conversation is closed where the rules say so, and where it is open at the end.
 pub record IsStreamCall {V : Type 0} (a : Answers V) (w turns : ℕ) (m m' : StreamMoment V) (result : Ended) : Type 0 where
   pub log : List StreamTurn
   pub closes : Bool
   pub shown : ℕ
-  pub shown_is : shown + 1 ≡ length m'.eyes.told
+  pub shown_is : shown + 1 ≡ length m'.eyes.heard
   pub all : IsLaneLog a w (lane_of log) (inner m.eyes m.count m.stream_faults) (inner m'.eyes m'.count m'.stream_faults)
   pub streams : BothTell m.streams m'.streams (λ b c. c ≡ closing_if closes (fold stream_turn b log))
   pub notes : BothTell m.notes m'.notes (AreGiven (map lead_of log))
   pub gate : BothTell m.gate m'.gate (IsGateRun shown (map lead_of log) result)
-  pub runs : (b : StreamsTold) → b.current ≡ None → (floor : ℕ) → floor < length m.eyes.told
+  pub runs : (b : StreamsTold) → b.current ≡ None → (floor : ℕ) → floor < length m.eyes.heard
       → (talks : List Talk) × ((closing_if closes (fold stream_turn b log)).closed ≡ b.closed ++ talks) × ((closing_if closes (fold stream_turn b log)).current ≡ None)
       × IsStreamRun a m'.eyes.seen w m.count floor talks (entries_of a.way (lane_of log)) (tries_of (lane_of log))
   pub rules : (line : Line) × AreRuled m.line log line × (closes ≡ line.is_open)

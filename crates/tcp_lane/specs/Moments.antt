@@ -4,7 +4,7 @@ use Rattle.outside.specs.Gate.{GateTold}
 use Rattle.outside.specs.Notes.{NotesTold}
 use Rattle.outside.specs.Streams.{StreamsTold}
 use Rattle.published_map.specs.Version.{Version}
-use Rattle.lane_model.specs.Sessions.{Eyes}
+use Rattle.lane_model.specs.Calls.{Eyes}
 use Rattle.tcp_lane.specs.declared.talking.Talking.{Talking}
 use Rattle.tcp_lane.specs.Calls.{StreamMoment}
 use Rattle.tcp_lane.specs.Turns.{Line}

@@ -1,17 +1,17 @@
 -- Inside this crate alone: the steps of a stream lane's turn.
-use Rattle.std.specs.Prelude.{◌≡◌, ℕ, ◌+◌, ◌<◌, ◌≤◌, ◌⊎◌, Bool, true, false, List, [], ◌∷◌, ◌++◌, All, length, map, take, fold, Option}
+use Rattle.std.specs.Prelude.{◌≡◌, ℕ, ◌+◌, ◌<◌, ◌≤◌, ◌⊎◌, Bool, true, false, List, [], ◌++◌, All, length, map, take, fold, Option}
 use Rattle.std.specs.List.{flat_map}
 use Rattle.addr_text.specs.declared.address.Addr.{Addr}
 use Rattle.addr_text.specs.declared.address.Peer.{Peer}
 use Rattle.outside.specs.Faults.{BothTell, Rose, raised}
 use Rattle.outside.specs.Limits.{largest_datagram}
 use Rattle.outside.specs.Streams.{StreamsTold, failing, writing}
-use Rattle.tcp_frames.specs.Split.{HasNoMessage, IsOverlong, IsUnfinished, framed}
+use Rattle.tcp_frames.specs.Split.{IsUnfinished, framed}
 use Rattle.published_map.specs.Version.{Version}
 use Rattle.answer_core.specs.declared.way.Way.TheVariants.{Stream}
 use Rattle.lane_model.specs.declared.ended.Ended.{Ended}
 use Rattle.lane_model.specs.Turns.{AreCalm, failures, fails_of, is_calm, refused, tried}
-use Rattle.lane_model.specs.Sessions.{Eyes, IsSession}
+use Rattle.lane_model.specs.Calls.{Eyes, AreTurns}
 use Rattle.lane_model.specs.Replies.{is_silent}
 use Rattle.name_workers.specs.Worker.{IsLookRefused, IsReplied}
 use Rattle.name_workers.specs.declared.ending.Step.{Step}
@@ -19,7 +19,7 @@ use Rattle.name_workers.specs.declared.ending.Step.TheVariants as step
 use Rattle.tcp_lane.specs.declared.answering.Fared.{Fared}
 use Rattle.tcp_lane.specs.declared.answering.Fared.TheVariants as fared
 use Rattle.tcp_lane.specs.Replies.{stream_replies}
-use Rattle.tcp_lane.specs.Turns.{AreKnown, AreWell, Heard, IsBroken, IsPiece, IsRuled, Line, Said, StreamTurn, came_of, closing_if, ended, got, hearing_of, known_behind, lane_of, saying, stream_turn, turn_of}
+use Rattle.tcp_lane.specs.Turns.{AreKnown, AreWell, StreamCame, IsBroken, IsPiece, IsRuled, Line, Said, StreamTurn, lane_came, closing_if, ended, got, stream_after, known_behind, lane_of, saying, stream_turn, turn_of}
 use Rattle.tcp_lane.specs.Calls.{IsStreamEnd, IsStreamLast, IsStreamSession, IsStreamStop, IsStreamTurn, StreamMoment, inner}
 
 -- what streams tell, and their faults
@@ -43,9 +43,9 @@ is_on fared.Refused = false
 
 -- These messages were taken, one after another.
 pub record AreSaid (w n n' : ℕ) (peer : Peer) (said : List Said) (cut : ℕ) (e f : Eyes Version) (p q : Wire) : Type 0 where
-  pub session : IsSession stream_replies w (map (turn_of peer) said) (inner e n p.faults) (inner f n' q.faults)
+  pub session : AreTurns stream_replies w (map (turn_of peer) said) (inner e n p.faults) (inner f n' q.faults)
   pub told : BothTell p.told q.told (λ b c. c ≡ fold (saying cut) b said)
-  pub known : (k : ℕ) → k + 1 ≡ length e.told → AreKnown k said × (known_behind k said + 1 ≡ length f.told)
+  pub known : (k : ℕ) → k + 1 ≡ length e.heard → AreKnown k said × (known_behind k said + 1 ≡ length f.heard)
 
 -- why no more messages were taken
 abbrev pub IsAnsweredBy : Fared → List Said → List ℕ → Type 0
@@ -57,7 +57,7 @@ IsAnsweredBy fared.Refused said rest = IsBroken (λ f. f ≡ refused) said
 -- all whole messages at the front of octets were taken
 pub record IsAnswered (w n n' : ℕ) (peer : Peer) (octets rest : List ℕ) (result : Fared) (e f : Eyes Version) (p q : Wire) : Type 0 where
   pub first : ℕ
-  pub first_is : first + 1 ≡ length e.told
+  pub first_is : first + 1 ≡ length e.heard
   pub said : List Said
   pub cut : ℕ
   pub are_said : AreSaid w n n' peer said cut e f p q
@@ -74,33 +74,33 @@ pub record AreSoFar (w n n' : ℕ) (peer : Peer) (octets rest : List ℕ) (e f :
   pub well : AreWell said
 
 -- a turn without messages, but for its gate and notes
-abbrev pub plain : ℕ → Heard → Peer → Bool → StreamTurn
-plain known heard peer closes = record { shown = 0; notes = []; known = known; heard = heard; peer = peer; said = []; cut = 0; closes = closes }
+abbrev pub plain : ℕ → StreamCame → Peer → Bool → StreamTurn
+plain known came peer closes = record { shown = 0; notes = []; known = known; came = came; peer = peer; said = []; cut = 0; closes = closes }
 
 -- how a lane goes on after a turn
 abbrev pub IsStepOf : Step → StreamTurn → Type 0
 IsStepOf step.Stopped t = ⊥
-IsStepOf step.On t = AreWell t.said × (is_calm (came_of t.heard) ≡ true) × (fails_of (came_of t.heard) ≡ 0)
-IsStepOf step.PortEnd t = t.heard ≡ ended
-IsStepOf step.PortFailed t = ((AreWell t.said × (fails_of (came_of t.heard) ≡ 1)) ⊎ (IsBroken (λ f. (serial : ℕ) × (octets : List ℕ) × (f ≡ tried serial octets false)) t.said × (fails_of (came_of t.heard) ≡ 0))) × (is_calm (came_of t.heard) ≡ true)
-IsStepOf step.Refused t = IsBroken (λ f. f ≡ refused) t.said × (is_calm (came_of t.heard) ≡ true) × (fails_of (came_of t.heard) ≡ 0)
+IsStepOf step.On t = AreWell t.said × (is_calm (lane_came t.came) ≡ true) × (fails_of (lane_came t.came) ≡ 0)
+IsStepOf step.PortEnd t = t.came ≡ ended
+IsStepOf step.PortFailed t = ((AreWell t.said × (fails_of (lane_came t.came) ≡ 1)) ⊎ (IsBroken (λ f. (serial : ℕ) × (octets : List ℕ) × (f ≡ tried serial octets false)) t.said × (fails_of (lane_came t.came) ≡ 0))) × (is_calm (lane_came t.came) ≡ true)
+IsStepOf step.Refused t = IsBroken (λ f. f ≡ refused) t.said × (is_calm (lane_came t.came) ≡ true) × (fails_of (lane_came t.came) ≡ 0)
 
 -- what an answer of accept or read without a piece does
 pub record IsPlain (known : ℕ) (l l' : Line) (s : Step) (p q : Wire) : Type 0 where
-  pub heard : Heard
+  pub came : StreamCame
   pub closes : Bool
-  pub told : BothTell p.told q.told (λ b c. c ≡ closing_if closes (hearing_of known heard b))
-  pub faults : raised p.faults (fails_of (came_of heard)) ≤ q.faults
-  pub stays : fails_of (came_of heard) ≡ 0 → q.faults ≡ p.faults
-  pub ruled : IsRuled heard l (plain known heard l.peer closes) l'
-  pub step : IsStepOf s (plain known heard l.peer closes)
+  pub told : BothTell p.told q.told (λ b c. c ≡ closing_if closes (stream_after known came b))
+  pub faults : raised p.faults (fails_of (lane_came came)) ≤ q.faults
+  pub stays : fails_of (lane_came came) ≡ 0 → q.faults ≡ p.faults
+  pub ruled : IsRuled came l (plain known came l.peer closes) l'
+  pub step : IsStepOf s (plain known came l.peer closes)
 
 -- what the messages of a piece do, behind its read
-pub record IsHeard (w n n' : ℕ) (octets : List ℕ) (l l' : Line) (s : Step) (e f : Eyes Version) (p q : Wire) : Type 0 where
+pub record IsPieceTaken (w n n' : ℕ) (octets : List ℕ) (l l' : Line) (s : Step) (e f : Eyes Version) (p q : Wire) : Type 0 where
   pub t : StreamTurn
-  pub heard : t.heard ≡ got octets
-  pub known_is : t.known + 1 ≡ length e.told
-  pub session : IsSession stream_replies w (map (turn_of t.peer) t.said) (inner e n p.faults) (inner f n' q.faults)
+  pub came : t.came ≡ got octets
+  pub known_is : t.known + 1 ≡ length e.heard
+  pub session : AreTurns stream_replies w (map (turn_of t.peer) t.said) (inner e n p.faults) (inner f n' q.faults)
   pub told : BothTell p.told q.told (λ b c. c ≡ closing_if t.closes (fold (saying t.cut) b t.said))
   pub piece : IsPiece octets l t l'
   pub step : IsStepOf s t
@@ -108,13 +108,13 @@ pub record IsHeard (w n n' : ℕ) (octets : List ℕ) (l l' : Line) (s : Step) (
 -- what an answer of accept or read and the messages behind it do
 pub record IsTaken (w n n' : ℕ) (l l' : Line) (s : Step) (e f : Eyes Version) (p q : Wire) : Type 0 where
   pub t : StreamTurn
-  pub known_is : t.known + 1 ≡ length e.told
+  pub known_is : t.known + 1 ≡ length e.heard
   pub middle : ℕ
-  pub faults : raised p.faults (fails_of (came_of t.heard)) ≤ middle
-  pub stays : fails_of (came_of t.heard) ≡ 0 → middle ≡ p.faults
-  pub session : IsSession stream_replies w (map (turn_of t.peer) t.said) (inner e n middle) (inner f n' q.faults)
+  pub faults : raised p.faults (fails_of (lane_came t.came)) ≤ middle
+  pub stays : fails_of (lane_came t.came) ≡ 0 → middle ≡ p.faults
+  pub session : AreTurns stream_replies w (map (turn_of t.peer) t.said) (inner e n middle) (inner f n' q.faults)
   pub told : BothTell p.told q.told (λ b c. c ≡ stream_turn b t)
-  pub ruled : IsRuled t.heard l t l'
+  pub ruled : IsRuled t.came l t l'
   pub step : IsStepOf s t
 
 -- how a lane goes on after a message that ended its conversation

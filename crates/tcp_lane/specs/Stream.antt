@@ -1,5 +1,5 @@
 -- Stream runs: what is written to conversations, by what was read of them, however it was cut (RFC 1035 section 4.2.2).
-use Rattle.std.specs.Prelude.{◌≡◌, ◌≢◌, ℕ, ◌≤◌, ◌⊎◌, Bool, true, false, List, [], ◌∷◌, ◌++◌, All, MatchBool, take, map}
+use Rattle.std.specs.Prelude.{◌≡◌, ℕ, ◌⊎◌, Bool, true, false, List, [], ◌∷◌, ◌++◌, All, MatchBool, take, map}
 use Rattle.std.specs.List.{flat_map}
 use Rattle.addr_text.specs.declared.address.Peer.{Peer}
 use Rattle.outside.specs.Port.{Try}

@@ -1,5 +1,5 @@
 -- The turns of a stream lane.
-use Rattle.std.specs.Prelude.{◌≡◌, ℕ, ◌+◌, ◌*◌, ◌<◌, ◌≤◌, ◌==◌, Bool, true, false, List, [], ◌∷◌, ◌++◌, All, length, map, take, fold, sum_by, Some, if◌then◌else◌}
+use Rattle.std.specs.Prelude.{◌≡◌, ℕ, ◌+◌, ◌≤◌, ◌==◌, Bool, true, false, List, [], ◌∷◌, ◌++◌, All, length, map, take, fold}
 use Rattle.std.specs.List.{flat_map}
 use Rattle.addr_text.specs.declared.address.Addr.TheVariants.{V4}
 use Rattle.addr_text.specs.declared.address.Peer.{Peer}
@@ -10,15 +10,15 @@ use Rattle.lane_model.specs.Turns as lane
 use Rattle.tcp_frames.specs.Split.{HasNoMessage, IsOverlong, framed}
 
 -- what accept or read answered
-pub data Heard : Type 0 where
-  idle : Heard
-  ended : Heard
-  missed : Heard
-  come : Peer → Heard
-  got : List ℕ → Heard
-  quiet : Heard
-  shut : Heard
-  broke : Heard
+pub data StreamCame : Type 0 where
+  idle : StreamCame
+  ended : StreamCame
+  missed : StreamCame
+  come : Peer → StreamCame
+  got : List ℕ → StreamCame
+  quiet : StreamCame
+  shut : StreamCame
+  broke : StreamCame
 
 -- a message, what its worker knew, and what became of it
 pub record Said : Type 0 where
@@ -31,26 +31,26 @@ pub record StreamTurn : Type 0 where
   pub shown : ℕ
   pub notes : List ℕ
   pub known : ℕ
-  pub heard : Heard
+  pub came : StreamCame
   pub peer : Peer
   pub said : List Said
   pub cut : ℕ
   pub closes : Bool
 
 -- what an answer is to a lane
-abbrev pub came_of : Heard → lane.Came
-came_of idle = lane.idle
-came_of ended = lane.ended
-came_of missed = lane.failed
-came_of (come peer) = lane.idle
-came_of (got octets) = lane.idle
-came_of quiet = lane.idle
-came_of shut = lane.idle
-came_of broke = lane.failed
+abbrev pub lane_came : StreamCame → lane.Came
+lane_came idle = lane.idle
+lane_came ended = lane.ended
+lane_came missed = lane.failed
+lane_came (come peer) = lane.idle
+lane_came (got octets) = lane.idle
+lane_came quiet = lane.idle
+lane_came shut = lane.idle
+lane_came broke = lane.failed
 
 -- an answer of accept or read, as a turn of a lane in which no message is taken
 abbrev pub lead_of : StreamTurn → Turn
-lead_of t = record { shown = t.shown; notes = t.notes; known = t.known; came = came_of t.heard }
+lead_of t = record { shown = t.shown; notes = t.notes; known = t.known; came = lane_came t.came }
 
 -- a message, as a turn of a lane without gate and notes
 abbrev pub turn_of : Peer → Said → Turn
@@ -80,15 +80,15 @@ abbrev pub piece_room : ℕ
 piece_room = 4098
 
 -- streams after an answer of accept or read
-abbrev pub hearing_of : ℕ → Heard → StreamsTold → StreamsTold
-hearing_of known idle b = answered known b
-hearing_of known ended b = record (answered known b) { is_ended = true }
-hearing_of known missed b = failing (answered known b)
-hearing_of known (come peer) b = coming peer (answered known b)
-hearing_of known (got octets) b = hearing (record { octets = octets; known = known; place = b.answers }) (answered_into known piece_room b)
-hearing_of known quiet b = resting (answered_into known piece_room b)
-hearing_of known shut b = answered_into known piece_room b
-hearing_of known broke b = failing (answered_into known piece_room b)
+abbrev pub stream_after : ℕ → StreamCame → StreamsTold → StreamsTold
+stream_after known idle b = answered known b
+stream_after known ended b = record (answered known b) { is_ended = true }
+stream_after known missed b = failing (answered known b)
+stream_after known (come peer) b = coming peer (answered known b)
+stream_after known (got octets) b = hearing (record { octets = octets; known = known; place = b.answers }) (answered_into known piece_room b)
+stream_after known quiet b = resting (answered_into known piece_room b)
+stream_after known shut b = answered_into known piece_room b
+stream_after known broke b = failing (answered_into known piece_room b)
 
 abbrev pub closing_if : Bool → StreamsTold → StreamsTold
 closing_if true b = closing b
@@ -96,7 +96,7 @@ closing_if false b = b
 
 -- streams after a turn
 abbrev pub stream_turn : StreamsTold → StreamTurn → StreamsTold
-stream_turn b t = closing_if t.closes (fold (saying t.cut) (hearing_of t.known t.heard b) t.said)
+stream_turn b t = closing_if t.closes (fold (saying t.cut) (stream_after t.known t.came b) t.said)
 
 -- the conversation of a lane: whether one is open, with whom, the octets of its unfinished message, and how many reads in a row were quiet
 pub record Line : Type 0 where
@@ -181,7 +181,7 @@ abbrev pub most_quiets : ℕ
 most_quiets = 200
 
 -- what a turn does to the conversation of a lane, by what was answered
-abbrev pub IsRuled : Heard → Line → StreamTurn → Line → Type 0
+abbrev pub IsRuled : StreamCame → Line → StreamTurn → Line → Type 0
 IsRuled idle s t s' = (s.is_open ≡ false) × (t.said ≡ []) × (t.closes ≡ false) × (s' ≡ s)
 IsRuled ended s t s' = (s.is_open ≡ false) × (t.said ≡ []) × (t.closes ≡ false) × (s' ≡ s)
 IsRuled missed s t s' = (s.is_open ≡ false) × (t.said ≡ []) × (t.closes ≡ false) × (s' ≡ s)

@@ -5,7 +5,7 @@ ghost use Rattle.name_workers.specs.Moments.{eyes_of};
 ghost use Rattle.tcp_lane.specs.Calls.{IsStreamCall};
 ghost use Rattle.tcp_lane.specs.Moments.{line_of, stream_moment_of};
 ghost use Rattle.tcp_lane.specs.Replies.{stream_replies};
-ghost use Rattle.tcp_lane.specs.Steps.{IsHeard, IsPlain, IsServed, IsTaken, IsTurned};
+ghost use Rattle.tcp_lane.specs.Steps.{IsPieceTaken, IsPlain, IsServed, IsTaken, IsTurned};
 ghost use Rattle.tcp_lane.specs.Turns.{no_line};
 
 use crate::answering::{answer_all, is_on, step_of};
@@ -14,11 +14,11 @@ use arrayvec::ArrayVec;
 use lane_model::Ended;
 use map_cell::{Door, Naming, Note};
 use name_workers::{Step, Worker, learn_all, next_end};
-use outside::{Accepting, Gate, Notes, Numbered, Reading, Streams, Turning};
+use outside::{Accepting, Gate, Notes, Reading, Streams, Turning};
 use tcp_frames::{LARGEST_FRAME, is_overlong};
 
 /// Takes all whole messages of a piece that was read.
-fn hear<J: Naming, Q: Streams, D: Door>(
+fn take_piece<J: Naming, Q: Streams, D: Door>(
     worker: &mut Worker<J>,
     streams: &mut Q,
     door: &mut D,
@@ -28,7 +28,7 @@ fn hear<J: Naming, Q: Streams, D: Door>(
     requires piece { length piece.now ≤ LARGEST_FRAME }
     requires few { talk.old.quiets < 200 }
     ensures few { talk.new.quiets < 200 }
-    ensures heard { IsHeard worker.old.number worker.old.count worker.new.count piece.now
+    ensures taken { IsPieceTaken worker.old.number worker.old.count worker.new.count piece.now
         (line_of talk.old)
         (line_of talk.new) result
         (eyes_of D.looks D.greatest D.faults worker.old.viewer door.old)
@@ -97,7 +97,7 @@ fn read_one<J: Naming, Q: Streams, D: Door>(
     ensures asked { D.asked door.new ≡ D.asked door.old }
 {
     match streams.read(worker.known(), buffer) {
-        Reading::Got(len) => hear(worker, streams, door, talk, &buffer[..len]),
+        Reading::Got(len) => take_piece(worker, streams, door, talk, &buffer[..len]),
         Reading::Quiet => {
             rest_once(streams, talk);
             Step::On
@@ -140,7 +140,7 @@ fn take_one<J: Naming, Q: Streams, D: Door>(
 }
 
 /// One turn.
-fn one_turn<J: Naming, Q: Streams, G: Gate, D: Door, N: Notes<Note = Note<J>>>(
+fn one_turn<J: Naming, Q: Streams, G: Gate, D: Door, N: Notes<Note<J>>>(
     worker: &mut Worker<J>,
     streams: &mut Q,
     gate: &mut G,
@@ -149,7 +149,6 @@ fn one_turn<J: Naming, Q: Streams, G: Gate, D: Door, N: Notes<Note = Note<J>>>(
     talk: &mut Talking,
     buffer: &mut [u8; LARGEST_FRAME],
 ) -> Step
-    requires numbered { (note : _) → ⟦<Note<J> as Numbered>⟧.number note ≡ length note.front - 1 }
     requires few { talk.old.quiets < 200 }
     ensures few { talk.new.quiets < 200 }
     ensures turned { IsTurned worker.old.number result
@@ -166,7 +165,7 @@ fn one_turn<J: Naming, Q: Streams, G: Gate, D: Door, N: Notes<Note = Note<J>>>(
 }
 
 /// The turns of a lane.
-fn serve_turns<J: Naming, Q: Streams, G: Gate, D: Door, N: Notes<Note = Note<J>>>(
+fn serve_turns<J: Naming, Q: Streams, G: Gate, D: Door, N: Notes<Note<J>>>(
     worker: &mut Worker<J>,
     streams: &mut Q,
     gate: &mut G,
@@ -175,7 +174,6 @@ fn serve_turns<J: Naming, Q: Streams, G: Gate, D: Door, N: Notes<Note = Note<J>>
     talk: &mut Talking,
     turns: u64,
 ) -> Ended
-    requires numbered { (note : _) → ⟦<Note<J> as Numbered>⟧.number note ≡ length note.front - 1 }
     requires few { talk.old.quiets < 200 }
     ensures served { IsServed worker.old.number turns
         (stream_moment_of Q.told Q.faults G.told G.faults N.told streams.old gate.old notes.old (eyes_of D.looks D.greatest D.faults worker.old.viewer door.old) worker.old.count (line_of talk.old))
@@ -196,7 +194,7 @@ fn serve_turns<J: Naming, Q: Streams, G: Gate, D: Door, N: Notes<Note = Note<J>>
 
 /// Serves streams: in each turn asks the gate, learns the notes, and takes the next conversation, or reads on in the open
 /// one and answers all of its whole messages. A conversation that is open at the end is closed.
-pub fn serve_streams<J: Naming, Q: Streams, G: Gate, D: Door, N: Notes<Note = Note<J>>>(
+pub fn serve_streams<J: Naming, Q: Streams, G: Gate, D: Door, N: Notes<Note<J>>>(
     worker: &mut Worker<J>,
     streams: &mut Q,
     gate: &mut G,
@@ -204,8 +202,6 @@ pub fn serve_streams<J: Naming, Q: Streams, G: Gate, D: Door, N: Notes<Note = No
     notes: &mut N,
     turns: u64,
 ) -> Ended
-    // What notes tell of themselves are the serials of the maps that they name.
-    requires numbered { (note : _) → ⟦<Note<J> as Numbered>⟧.number note ≡ length note.front - 1 }
     ensures call { IsStreamCall stream_replies worker.old.number turns
         (stream_moment_of Q.told Q.faults G.told G.faults N.told streams.old gate.old notes.old (eyes_of D.looks D.greatest D.faults worker.old.viewer door.old) worker.old.count no_line)
         (stream_moment_of Q.told Q.faults G.told G.faults N.told streams.new gate.new notes.new (eyes_of D.looks D.greatest D.faults worker.new.viewer door.new) worker.new.count no_line) result }

@@ -42,10 +42,7 @@ pub(crate) fn no_talk() -> Talking
 }
 
 /// A held rest, and a piece behind it.
-pub(crate) fn joined(
-    held: &ArrayVec<u8, LARGEST_REST>,
-    piece: &[u8],
-) -> ArrayVec<u8, LARGEST_HELD>
+pub(crate) fn joined(held: &ArrayVec<u8, LARGEST_REST>, piece: &[u8]) -> ArrayVec<u8, LARGEST_HELD>
     requires { length piece.now ≤ LARGEST_FRAME }
     ensures { result.items ≡ held.now.items ++ piece.now }
 {
