@@ -129,7 +129,7 @@ fn serve_all<
     ensures fed { IsFedBy S.told S.faults K.told K.faults M.told loan.old.side loan.new.side mapper.old mapper.new }
     ensures lanes { (loan.new.lanes.ghost_name ≡ loan.old.lanes.ghost_name) × (loan.new.stream.ghost_name ≡ loan.old.stream.ghost_name) }
     ensures history { IsHistory mapper.new.history }
-    ensures len { vec_len works.new.lanes ≡ vec_len works.old.lanes.lanes }
+    ensures len { vec_len works.new.lanes ≡ vec_len works.old.lanes }
     ensures done { (rest : List Version) × (mapper.new.history ≡ mapper.old.newest ∷ rest) × AllDone (λ i l k w. IsDone loan.old.side.turns mapper.old.newest rest i
         (lane_told P.told P.faults G.told D.asked D.looks D.greatest D.faults l) (lane_told P.told P.faults G.told D.asked D.looks D.greatest D.faults k) w.ended) 0 loan.old.lanes.now loan.new.lanes.now works.new.lanes.items
         × AreStreamsDone loan.old.side.turns mapper.old.newest rest (vec_len works.old.lanes) (option_map (λ w. w.ended) works.new.stream)
