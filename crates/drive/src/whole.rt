@@ -1,13 +1,12 @@
 //! A drive: what it takes ahead of the first lane, its run, and its ends.
-ghost use Rattle.std.specs.Prelude.{◌≡◌, ◌≢◌, ◌⊎◌, ◌+◌, ◌<◌, ◌≤◌, ◌^◌, ◌∷◌, [], ℕ, List, All, IfOk, IfSome, OnErr, drop, length, map, option_map, take, vec_len};
+ghost use Rattle.std.specs.Prelude.{◌≡◌, ◌≢◌, ◌⊎◌, ◌≤◌, ◌∷◌, [], List, All, IfOk, IfSome, OnErr, drop, length, map, option_map, vec_len};
 ghost use Rattle.std.specs.Option.{option_to_list};
-ghost use mathlib.Core.List.{IsPrefix};
 ghost use Rattle.outside.specs.Faults.{Rose};
 ghost use Rattle.demand_feed.specs.declared.limits.TheConstants.{MOST_TURNS};
 ghost use Rattle.published_map.specs.Version.{Version};
 ghost use Rattle.map_cell.specs.Histories.{IsHistory};
 ghost use Rattle.lane_model.specs.declared.ended.Ended.{Ended};
-ghost use Rattle.drive.specs.AllDone.{AllDone, AllFresh, AllHeld};
+ghost use Rattle.drive.specs.AllDone.{AllDone, AllHeld};
 ghost use Rattle.drive.specs.Done.{IsDone};
 ghost use Rattle.drive.specs.Driven.{AreEnds, IsDriven};
 ghost use Rattle.drive.specs.Fed.{IsFedBy};

@@ -17,3 +17,6 @@ loop-viewer-preserved g c =
           let p = all_front (λ k. (k.seen ≡ h) × (k.heard ≡ h)) _ _ (subst (λ l. All (λ k. (k.seen ≡ h) × (k.heard ≡ h)) l) whole q.0) in
           let n = c.new.ensures in (p.0, rw c.push_reserved.ensures.items (held_more _ 0 c.new.result.number _ _ q.1 number (refl, n.2, rw n.0 p.1.0, rw n.0 p.1.1, refl))),
     )
+
+pub returns-clause-held : goal.returns-clause-held
+returns-clause-held g c = λ h all. (c.loop-viewer.invariant.2 h all).1

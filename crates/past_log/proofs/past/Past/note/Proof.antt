@@ -13,18 +13,17 @@ use types.Logic.{Logic}
 use contract.Monad.{Fun}
 use contract.Lifetimes.{AllOutlive}
 use contract.Running.{tables, tables_of}
-use types.Kit.{‵, raw, ◌⊛◌, ◌$◌, ◌∵◌, !, qed, by, move, keep, drop, use1, split, join, fsplit, fsplit3, fjoin, fjoin3, feq_i, suffices, frame, done}
+use types.Kit.{‵, ◌⊛◌, ◌$◌, ◌∵◌, !, qed, by, move, keep, drop, use1, split, join, fsplit, fsplit3, fjoin, fjoin3, feq_i, suffices, frame, done}
 use types.Run.{unit_lit, of_opd, returns, enter}
 use types.SemTy.{Body}
 use types.ByLocal.{alloc_all, pass_all, free_all, look_at, sets}
 use sound.WpLaws.{WpFn-mono}
 use denote.RattleType.{RattleType, owns}
 use denote.Param.{param, bounded}
-use denote.Param.Laws.{Laws}
 use denote.Memory.{mem}
 use denote.Ref.{Bor, MutRef, ShrRef, mut_vals, mut_Tells, shr_vals, shr_Tells}
 use denote.Exit.{yes}
-use denote.Signature.{plain, named_lft}
+use denote.Signature.{plain}
 use denote.Steps.{opens, closes}
 use denote.Triple.Clauses.{Clauses, Ended, closing}
 use denote.Triple.Entry.{on_entry}
