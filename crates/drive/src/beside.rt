@@ -35,7 +35,7 @@ fn run_both<
     ensures ran { U.ran lane.old lane.new work.old work.new }
 {
     let mut one = ||
-        requires { IsSync R.row × IsSend U.row × IsSend H.row × IsSync W.row }
+        requires { IsSend U.row × IsSend H.row × IsSync W.row }
         ensures { U.ran lane.entry.now lane.exit.now work.entry.now work.exit.now }
     { lane.run(row, work) };
     let mut map = ||

@@ -35,7 +35,7 @@ impl<'f, 'o, 'm, 'p, 'l, 's, S, K, M, T, U> Loan<'f, 'o, 'm, 'p, 'l, 's, S, K, M
         lanes: &'l mut [T],
         stream: &'s mut U,
     ) -> Loan<'f, 'o, 'm, 'p, 'l, 's, S, K, M, T, U>
-        ensures { result ≡ record { side = side; lanes = lanes; stream = stream } }
+        ensures { result ≡ record { side = side.entry; lanes = lanes.entry; stream = stream.entry } }
     {
         Loan {
             side,

@@ -1,4 +1,5 @@
 //! A lane for conversations with its worker: its turns, and its closing look.
+ghost use Rattle.std.specs.Prelude.{◌≡◌};
 
 use crate::lane::{Closes, LaneWorker, Runs, close_lane};
 use map_cell::{Door, Naming, Note, NoteRow, RowNotes};

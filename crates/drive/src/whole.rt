@@ -1,13 +1,12 @@
 //! A drive: what it takes ahead of the first lane, its run, and its ends.
-ghost use Rattle.std.specs.Prelude.{◌≡◌, ◌≢◌, ◌⊎◌, ◌+◌, ◌<◌, ◌≤◌, ◌^◌, ◌∷◌, [], ℕ, List, All, IfOk, IfSome, OnErr, drop, length, map, option_map, take, vec_len};
+ghost use Rattle.std.specs.Prelude.{◌≡◌, ◌≢◌, ◌⊎◌, ◌≤◌, ◌∷◌, [], List, All, IfOk, IfSome, OnErr, drop, length, map, option_map, vec_len};
 ghost use Rattle.std.specs.Option.{option_to_list};
-ghost use mathlib.Core.List.{IsPrefix};
 ghost use Rattle.outside.specs.Faults.{Rose};
 ghost use Rattle.demand_feed.specs.declared.limits.TheConstants.{MOST_TURNS};
 ghost use Rattle.published_map.specs.Version.{Version};
 ghost use Rattle.map_cell.specs.Histories.{IsHistory};
 ghost use Rattle.lane_model.specs.declared.ended.Ended.{Ended};
-ghost use Rattle.drive.specs.AllDone.{AllDone, AllFresh, AllHeld};
+ghost use Rattle.drive.specs.AllDone.{AllDone, AllHeld};
 ghost use Rattle.drive.specs.Done.{IsDone};
 ghost use Rattle.drive.specs.Driven.{AreEnds, IsDriven};
 ghost use Rattle.drive.specs.Fed.{IsFedBy};
@@ -129,7 +128,7 @@ fn serve_all<
     ensures fed { IsFedBy S.told S.faults K.told K.faults M.told loan.old.side loan.new.side mapper.old mapper.new }
     ensures lanes { (loan.new.lanes.ghost_name ≡ loan.old.lanes.ghost_name) × (loan.new.stream.ghost_name ≡ loan.old.stream.ghost_name) }
     ensures history { IsHistory mapper.new.history }
-    ensures len { vec_len works.new.lanes ≡ vec_len works.old.lanes.lanes }
+    ensures len { vec_len works.new.lanes ≡ vec_len works.old.lanes }
     ensures done { (rest : List Version) × (mapper.new.history ≡ mapper.old.newest ∷ rest) × AllDone (λ i l k w. IsDone loan.old.side.turns mapper.old.newest rest i
         (lane_told P.told P.faults G.told D.asked D.looks D.greatest D.faults l) (lane_told P.told P.faults G.told D.asked D.looks D.greatest D.faults k) w.ended) 0 loan.old.lanes.now loan.new.lanes.now works.new.lanes.items
         × AreStreamsDone loan.old.side.turns mapper.old.newest rest (vec_len works.old.lanes) (option_map (λ w. w.ended) works.new.stream)
