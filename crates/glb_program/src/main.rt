@@ -4,18 +4,21 @@
 ghost use Rattle.std.specs.Prelude.{◌≡◌, length, map};
 ghost use Rattle.std.specs.Process.{exit_status};
 ghost use Rattle.glb.specs.Outcome.{code_of};
-ghost use Rattle.glb.specs.Told.{lane_told, stage, surroundings};
+ghost use Rattle.drive.specs.Told.{lane_told, stream_told};
+ghost use Rattle.glb.specs.Told.{stage, surroundings};
 ghost use Rattle.glb_program.specs.Fresh.{new_surroundings};
 ghost use Rattle.glb_program.specs.Ran.{Ran};
 
 mod network;
 
-use edges::{FileShelf, FlagPace, SharedUdp, StandardStream, StopFlag, StreamSink, StreamSource};
-use glb::{Lane, MOST_TURNS, Status, glb};
+use edges::{
+    FileShelf, FlagPace, SharedTcp, SharedUdp, StandardStream, StopFlag, StreamSink, StreamSource,
+};
+use glb::{Lane, MOST_TURNS, Status, StreamLane, glb};
 use map_cell::Door;
-use network::udp_lanes;
+use network::{tcp_lane, udp_lanes};
 use no_memory::NoMemory;
-use outside::{Gate, Pace, Port, Shelf, Sink, Source};
+use outside::{Gate, Pace, Port, Shelf, Sink, Source, Streams};
 use std::env;
 use std::io::ErrorKind;
 use std::process::ExitCode;
@@ -46,6 +49,7 @@ fn run_words<
     S: Source,
     K: Sink,
     P: Port + Send,
+    Q: Streams + Send,
     G: Gate + Send,
     D: Door + Send,
     M: Pace,
@@ -56,13 +60,14 @@ fn run_words<
     out: &mut K,
     maps: &mut K,
     lanes: &mut [Lane<P, G, D>],
+    stream: &mut StreamLane<Q, G, D>,
     pace: &mut M,
 ) -> Status
     requires lanes { length lanes.old ≡ 16 }
     // All of it is new: so each count of faults counts from 0 on, and what is told is all that was ever asked.
-    requires fresh { (surroundings (F.told files.old) (F.faults files.old) (stage (S.told feed.old) (K.told out.old) (K.told maps.old) (M.told pace.old) (map (lane_told P.told P.faults G.told D.asked D.looks D.greatest D.faults) lanes.old) (S.faults feed.old) (K.faults out.old) (K.faults maps.old))) ≡ new_surroundings }
+    requires fresh { (surroundings (F.told files.old) (F.faults files.old) (stage (S.told feed.old) (K.told out.old) (K.told maps.old) (M.told pace.old) (map (lane_told P.told P.faults G.told D.asked D.looks D.greatest D.faults) lanes.old) (stream_told Q.told Q.faults G.told D.asked D.looks D.greatest D.faults stream.old) (S.faults feed.old) (K.faults out.old) (K.faults maps.old))) ≡ new_surroundings }
     // Unless the words could not be read for want of memory, where nothing is touched, it is a run of what some words ask for.
-    ensures { Ran (surroundings (F.told files.old) (F.faults files.old) (stage (S.told feed.old) (K.told out.old) (K.told maps.old) (M.told pace.old) (map (lane_told P.told P.faults G.told D.asked D.looks D.greatest D.faults) lanes.old) (S.faults feed.old) (K.faults out.old) (K.faults maps.old))) (surroundings (F.told files.new) (F.faults files.new) (stage (S.told feed.new) (K.told out.new) (K.told maps.new) (M.told pace.new) (map (lane_told P.told P.faults G.told D.asked D.looks D.greatest D.faults) lanes.new) (S.faults feed.new) (K.faults out.new) (K.faults maps.new))) result }
+    ensures { Ran (surroundings (F.told files.old) (F.faults files.old) (stage (S.told feed.old) (K.told out.old) (K.told maps.old) (M.told pace.old) (map (lane_told P.told P.faults G.told D.asked D.looks D.greatest D.faults) lanes.old) (stream_told Q.told Q.faults G.told D.asked D.looks D.greatest D.faults stream.old) (S.faults feed.old) (K.faults out.old) (K.faults maps.old))) (surroundings (F.told files.new) (F.faults files.new) (stage (S.told feed.new) (K.told out.new) (K.told maps.new) (M.told pace.new) (map (lane_told P.told P.faults G.told D.asked D.looks D.greatest D.faults) lanes.new) (stream_told Q.told Q.faults G.told D.asked D.looks D.greatest D.faults stream.new) (S.faults feed.new) (K.faults out.new) (K.faults maps.new))) result }
 {
     match read_args(rt) {
         Ok(words) => glb(
@@ -74,6 +79,7 @@ fn run_words<
             out,
             maps,
             lanes,
+            stream,
             pace,
             MOST_TURNS,
         ),
@@ -81,7 +87,7 @@ fn run_words<
     }
 }
 
-/// Over the files of the system, standard input as the feed, standard output, standard error for the texts of maps, and lanes over one socket of UDP, which stop when the feed has ended.
+/// Over the files of the system, standard input as the feed, standard output, standard error for the texts of maps, lanes over one socket of UDP, and one over connections of TCP, all of which stop when the feed has ended.
 fn main(rt: HostRuntime) -> ExitCode {
     let mut files = FileShelf::new(&rt);
     let mut feed = StreamSource::new(rt.stdin());
@@ -90,6 +96,8 @@ fn main(rt: HostRuntime) -> ExitCode {
     let shared = SharedUdp::new();
     let flag = StopFlag::new();
     let mut pace = FlagPace::new(&flag);
+    let shared_tcp = SharedTcp::new();
+    let mut stream = tcp_lane(rt.alloc(), &rt, &shared_tcp, &flag);
     let status = match udp_lanes(rt.alloc(), &rt, &shared, &flag) {
         Ok(mut lanes) => run_words(
             &rt,
@@ -98,6 +106,7 @@ fn main(rt: HostRuntime) -> ExitCode {
             &mut out,
             &mut maps,
             lanes.as_mut_slice(),
+            &mut stream,
             &mut pace,
         ),
         Err(NoMemory) => Status::NoMemory,

@@ -1,15 +1,18 @@
-//! Lanes that serve a network: ports of UDP over one socket, gates that one flag stops, and plain doors.
+//! Lanes that serve a network: ports of UDP over one socket, and connections of TCP, gates that one flag stops, and plain
+//! doors.
 ghost use Rattle.std.specs.Prelude.{◌≡◌, IfOk, replicate};
 ghost use Rattle.map_cell.specs.Doors.{unused};
 ghost use Rattle.past_log.specs.Gate.{new_gate};
 ghost use Rattle.past_log.specs.Port.{new_port};
+ghost use Rattle.past_log.specs.Streams.{new_streams};
 
-use edges::{FlagGate, SharedUdp, StopFlag, UdpPort};
-use glb::Lane;
+use edges::{FlagGate, ManyStreams, SharedTcp, SharedUdp, StopFlag, UdpPort};
+use glb::{Lane, StreamLane};
 use map_cell::{MOST_VIEWERS, PlainDoor};
 use no_memory::NoMemory;
 use std::alloc::Global;
 use std::net::Net;
+use std::time::Clock;
 
 /// A lane at a port of UDP.
 pub type UdpLane<'a, N> = Lane<UdpPort<'a, N>, FlagGate<'a>, PlainDoor>;
@@ -39,4 +42,29 @@ pub fn udp_lanes<'a, N: Net>(
         lanes.push_reserved(udp_lane(net, shared, flag));
     }
     Ok(lanes)
+}
+
+/// How many connections of TCP are held at once, and how many of one address, where those of IPv6 count as one by their
+/// first 64 bits.
+const CONNECTIONS: usize = 256;
+
+const CONNECTIONS_OF_ONE: usize = 32;
+
+/// A lane for conversations over connections of TCP.
+pub type TcpLane<'a, R> = StreamLane<ManyStreams<'a, R>, FlagGate<'a>, PlainDoor>;
+
+/// The lane for conversations, which is not opened.
+pub fn tcp_lane<'a, R: Net + Clock>(
+    alloc: Global,
+    rt: &'a R,
+    shared: &'a SharedTcp,
+    flag: &'a StopFlag,
+) -> TcpLane<'a, R>
+    ensures { result ≡ record { streams = record { told = new_streams; faults = 0 }; gate = new_gate; door = unused; noted = 0 } }
+{
+    StreamLane::new(
+        ManyStreams::new(alloc, rt, shared, CONNECTIONS, CONNECTIONS_OF_ONE),
+        FlagGate::new(flag),
+        PlainDoor::new(),
+    )
 }
