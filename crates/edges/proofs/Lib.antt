@@ -1,2 +1,3 @@
 pub mod Ports
 pub mod Puts
+pub mod Leasts

@@ -3,7 +3,7 @@ ghost use Rattle.std.specs.Prelude.{◌≡◌, ◌↔◌};
 
 use crate::judged::{Knock, knock_of};
 use crate::peers::{peer_of, socket_addr};
-use crate::places::{oldest, place_for};
+use crate::places::{Wanted, least, place_for};
 use crate::room::Room;
 use crate::seat::{Seat, leave};
 use addr_text::{Listen, Peer};
@@ -177,7 +177,7 @@ fn note_all(events: &Events, seats: &mut [Seat], is_knocked: &mut bool) {
 
 /// Leaves the connection that is idle for the longest time. Answers whether there was one.
 fn make_room(seats: &mut [Seat], rooms: &mut [Room]) -> bool {
-    let Some(i) = oldest(seats, None) else {
+    let Some(i) = least(seats, Wanted::Oldest) else {
         return false;
     };
     let (Some(seat), Some(room)) = (seats.get_mut(i), rooms.get_mut(i)) else {

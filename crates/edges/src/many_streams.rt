@@ -5,7 +5,7 @@ ghost use Rattle.outside.specs.Streams.{IsWithin};
 ghost use Rattle.past_log.specs.Streams.{new_streams};
 
 use crate::ears::{Ears, bind};
-use crate::places::first_in_turn;
+use crate::places::{Wanted, least};
 use crate::room::Room;
 use crate::seat::{Seat, settle};
 use addr_text::Listen;
@@ -164,7 +164,7 @@ impl<'a, R: Net + Clock> ManyStreams<'a, R> {
     fn gather(&mut self) -> bool
         ensures { self.new ≡ self.old }
     {
-        let wait = if first_in_turn(self.seats.as_slice()).is_some() {
+        let wait = if least(self.seats.as_slice(), Wanted::FirstInTurn).is_some() {
             0
         } else {
             LONGEST_WAIT
@@ -186,7 +186,7 @@ impl<'a, R: Net + Clock> ManyStreams<'a, R> {
         ensures same { self.new ≡ self.old }
         ensures fine { (result ≢ Accepting.Failed) × (result ≢ Accepting.End) }
     {
-        let Some(i) = first_in_turn(self.seats.as_slice()) else {
+        let Some(i) = least(self.seats.as_slice(), Wanted::FirstInTurn) else {
             return Accepting::Idle;
         };
         let Some(seat) = self.seats.get(i) else {

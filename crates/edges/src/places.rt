@@ -1,12 +1,31 @@
 //! Which connection has a place, gives way, or is handed over next.
-ghost use Rattle.std.specs.Prelude.{◌≡◌, ◌<◌, length, IfSome};
-ghost use Rattle.edges.specs.Places.{is_same};
+ghost use Rattle.std.specs.Prelude.{◌≡◌, ◌≤◌, ◌∷◌, [], ◌++◌, List, length, IfNone, IfSome, All};
+ghost use Rattle.edges.specs.Places.{IsLeast, IsLeastSoFar, MayBeTaken, is_of, is_same, key_of};
+ghost use Rattle.edges.specs.declared.seat.Seat.{Seat};
 
 use crate::seat::Seat;
 use addr_text::Addr;
 
 /// How many addresses of IPv6 one network of one owner has.
 const HOSTS: u128 = 1 << 64;
+
+/// Which connection is looked for.
+#[derive(Clone, Copy)]
+pub(crate) enum Wanted {
+    /// The one that is idle for the longest time.
+    Oldest,
+    /// The same, of those of an address.
+    OldestOf(Addr),
+    /// The one that has waited longest to be handed over.
+    FirstInTurn,
+}
+
+/// The least number so far, and whose it is.
+#[derive(Clone, Copy)]
+pub(crate) struct Found {
+    place: usize,
+    key: u64,
+}
 
 /// Whether two addresses count as one: those of IPv6 of one network do, but in the first network, where addresses of
 /// IPv4 stand too.
@@ -21,65 +40,74 @@ pub(crate) fn is_same(a: Addr, b: Addr) -> bool
     }
 }
 
+/// Whether a place has a connection of an address.
+fn is_of(seat: &Seat, addr: Addr) -> bool
+    ensures { result ≡ is_of addr seat.now }
+{
+    seat.stream.is_some() && is_same(seat.peer.addr, addr)
+}
+
+/// When an idle connection came or was last handed over, or the number of one that waits; None where it is not looked for.
+fn key_of(seat: &Seat, wanted: Wanted) -> Option<u64>
+    ensures { result ≡ key_of wanted seat.now }
+{
+    let is_wanted = match wanted {
+        Wanted::Oldest => seat.stream.is_some() && seat.turn == 0,
+        Wanted::OldestOf(addr) => is_of(seat, addr) && seat.turn == 0,
+        Wanted::FirstInTurn => seat.turn > 0,
+    };
+    if !is_wanted {
+        return None;
+    }
+    match wanted {
+        Wanted::FirstInTurn => Some(seat.turn),
+        Wanted::Oldest | Wanted::OldestOf(_) => Some(seat.since),
+    }
+}
+
+/// The lesser of what was found so far and the next place.
+fn lesser(seat: &Seat, place: usize, wanted: Wanted, found: Option<Found>) -> Option<Found>
+    ensures { (before : List Seat) → length before ≡ place → IsLeastSoFar wanted before found → IsLeastSoFar wanted (before ++ seat.now ∷ []) result }
+{
+    match key_of(seat, wanted) {
+        None => found,
+        Some(key) => match found {
+            Some(other) if other.key <= key => found,
+            _ => Some(Found { place, key }),
+        },
+    }
+}
+
+/// The place of the connection that is looked for, the first of those that are alike.
+pub(crate) fn least(seats: &[Seat], wanted: Wanted) -> Option<usize>
+    ensures some { IfSome result (λ i. IsLeast wanted seats.now i) }
+    ensures none { IfNone result (All (λ s. key_of wanted s ≡ None) seats.now) }
+{
+    let mut found = None;
+    for (i, seat) in seats.iter().enumerate() {
+        found = lesser(seat, i, wanted, found);
+    }
+    match found {
+        Some(found) => Some(found.place),
+        None => None,
+    }
+}
+
 /// How many connections of an address there are.
 fn count_of(seats: &[Seat], addr: Addr) -> usize {
-    let mut count = 0usize;
-    for seat in seats {
-        if seat.stream.is_some() && is_same(seat.peer.addr, addr) {
-            count = count.saturating_add(1);
-        }
-    }
-    count
+    seats.iter().filter(|seat| is_of(seat, addr)).count()
 }
 
-/// The first place that is free.
-fn free_seat(seats: &[Seat]) -> Option<usize> {
-    seats.iter().position(|seat| seat.stream.is_none())
-}
-
-/// Whether a connection may give way: it does not wait to be handed over, and is of that address, where one is given.
-fn may_give_way(seat: &Seat, addr: Option<Addr>) -> bool {
-    let is_of = match addr {
-        Some(addr) => is_same(seat.peer.addr, addr),
-        None => true,
-    };
-    is_of && seat.stream.is_some() && seat.turn == 0
-}
-
-/// The place of the connection, of an address where one is given, that is idle for the longest time.
-pub(crate) fn oldest(seats: &[Seat], addr: Option<Addr>) -> Option<usize> {
-    let mut found = None;
-    let mut since = u64::MAX;
-    for (i, seat) in seats.iter().enumerate() {
-        if may_give_way(seat, addr) && seat.since < since {
-            found = Some(i);
-            since = seat.since;
-        }
-    }
-    found
-}
-
-/// The place that a connection of an address may take: a free one, or that of an idle one; where there are as many of its
-/// address as there may be, that of an idle one of these.
-pub(crate) fn place_for(seats: &[Seat], addr: Addr, most_of_one: usize) -> Option<usize> {
+/// The place that a connection of an address may take: a free one, or that of the one that is idle for the longest time;
+/// where there are as many of its address as there may be, of the one of these. None that waits to be handed over gives way.
+pub(crate) fn place_for(seats: &[Seat], addr: Addr, most_of_one: usize) -> Option<usize>
+    ensures { IfSome result (MayBeTaken seats.now) }
+{
     if count_of(seats, addr) >= most_of_one {
-        return oldest(seats, Some(addr));
+        return least(seats, Wanted::OldestOf(addr));
     }
-    match free_seat(seats) {
+    match seats.iter().position(|seat| seat.stream.is_none()) {
         Some(i) => Some(i),
-        None => oldest(seats, None),
+        None => least(seats, Wanted::Oldest),
     }
-}
-
-/// The place that has waited longest to be handed over.
-pub(crate) fn first_in_turn(seats: &[Seat]) -> Option<usize> {
-    let mut found = None;
-    let mut turn = u64::MAX;
-    for (i, seat) in seats.iter().enumerate() {
-        if seat.turn > 0 && seat.turn < turn {
-            found = Some(i);
-            turn = seat.turn;
-        }
-    }
-    found
 }

@@ -1,0 +1,14 @@
+use Rattle.std.proofs.Common.{sym, subst, arith, ◌∙◌, ℕ, List, Option}
+use Rattle.edges.proofs.Leasts.{first, kept, newer}
+use Rattle.edges.specs.Places.{IsLeastSoFar}
+use Rattle.edges.specs.declared.places.Found.{Found}
+use Rattle.edges.proofs.places.lesser.Goals as goal
+
+pub returns-in-Some-found : goal.returns-in-Some-found
+returns-in-Some-found c = λ before at f. kept c.args.wanted before c.args.seat.now c.in-Some.key c.in-Some-found.other (sym c.key_of.ensures ∙ c.in-Some.is) (omega (arith, c.if-other-key.true)) (subst (λ (o : Option Found). IsLeastSoFar c.args.wanted before o) c.in-Some-found.is f)
+
+pub returns-in_default : goal.returns-in_default
+returns-in_default c = λ before at f. newer c.args.wanted before c.args.seat.now c.in-Some.key c.args.place c.in-Some-found.other at (sym c.key_of.ensures ∙ c.in-Some.is) (omega (arith, c.if-other-key.false)) (subst (λ (o : Option Found). IsLeastSoFar c.args.wanted before o) c.in-Some-found.is f)
+
+pub returns-in_default-2 : goal.returns-in_default-2
+returns-in_default-2 c = λ before at f. first c.args.wanted before c.args.seat.now c.in-Some.key c.args.place at (sym c.key_of.ensures ∙ c.in-Some.is) (subst (λ (o : Option Found). IsLeastSoFar c.args.wanted before o) c.in_default.is f)
