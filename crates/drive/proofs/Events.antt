@@ -53,12 +53,13 @@ any_run : (a b : Way) (h : List Version) (w n floor : ℕ) (taken : List Entry) 
 any_run a b h w n floor [] [] r = r
 any_run a b h w n floor [] (s ∷ tries) r = r
 any_run a b h w n floor (e ∷ taken) [] r = (r.0, r.1, any_run a b h w (following n) e.known taken [] r.2)
-any_run a b h w n floor (e ∷ taken) (s ∷ tries) r = (r.0, go (is_silent e.packet.octets) r.1)
+any_run a b h w n floor (e ∷ taken) (s ∷ tries) r = (r.0, go (is_silent e.packet.octets) (any_run a b h w (following n) e.known taken (s ∷ tries)) (any_run a b h w (following n) s.serial taken tries) r.1)
   where
-    go : (x : Bool) → MatchBool x (IsLaneRun (replies_by a) h w (following n) e.known taken (s ∷ tries)) (IsTryOf (replies_by a) h w n e s × IsLaneRun (replies_by a) h w (following n) s.serial taken tries)
+    go : (x : Bool) → (IsLaneRun (replies_by a) h w (following n) e.known taken (s ∷ tries) → IsLaneRun (replies_by b) h w (following n) e.known taken (s ∷ tries))
+        → (IsLaneRun (replies_by a) h w (following n) s.serial taken tries → IsLaneRun (replies_by b) h w (following n) s.serial taken tries) → MatchBool x (IsLaneRun (replies_by a) h w (following n) e.known taken (s ∷ tries)) (IsTryOf (replies_by a) h w n e s × IsLaneRun (replies_by a) h w (following n) s.serial taken tries)
         → MatchBool x (IsLaneRun (replies_by b) h w (following n) e.known taken (s ∷ tries)) (IsTryOf (replies_by b) h w n e s × IsLaneRun (replies_by b) h w (following n) s.serial taken tries)
-    go true r = any_run a b h w (following n) e.known taken (s ∷ tries) r
-    go false r = (any_try a b h w n e s r.0, any_run a b h w (following n) s.serial taken tries r.1)
+    go true quiet spoken r = quiet r
+    go false quiet spoken r = (any_try a b h w n e s r.0, spoken r.1)
 
 -- lanes and then others
 runs_append : (h : List Version) (w : ℕ) (ls ks : List LaneLog) → AreRuns replies h w ls → AreRuns replies h (w + length ls) ks → AreRuns replies h w (ls ++ ks)
@@ -87,7 +88,7 @@ stream_runs turns first rest w (Some e) before after d =
 
 pub are_runs : (turns : ℕ) (first : Version) (end : FeedEnd) (ends : List Ended) (stream_end : Option Ended) (before after : Lent) (d : IsDriven turns first end ends stream_end before after) → AreRuns replies (first ∷ d.rest) 0 (all_logs turns first end ends stream_end before after d)
 are_runs turns first end ends stream_end before after d =
-    let size : length ends ≡ 0 + length (logs_of turns first d.rest 0 ends before.lanes after.lanes d.lanes) = sym (logs_length turns first d.rest 0 ends before.lanes after.lanes d.lanes) in
+    let size : length ends ≡ 0 + length (logs_of turns first d.rest 0 ends before.lanes after.lanes d.lanes) = omega (arith, logs_length turns first d.rest 0 ends before.lanes after.lanes d.lanes) in
     runs_append (first ∷ d.rest) 0 (logs_of turns first d.rest 0 ends before.lanes after.lanes d.lanes) (stream_logs turns first d.rest (length ends) stream_end before.stream after.stream d.stream)
     (lane_runs turns first d.rest 0 ends before.lanes after.lanes d.lanes)
     (subst (λ x. AreRuns replies (first ∷ d.rest) x (stream_logs turns first d.rest (length ends) stream_end before.stream after.stream d.stream)) size (stream_runs turns first d.rest (length ends) stream_end before.stream after.stream d.stream))

@@ -96,7 +96,7 @@ served_log a first rest w log shown m m' f served e n n' j k port port' gate gat
     let by = log_over a first rest w log shown m m' f served e n n' j k port port' gate gate' one h in
     ⊎_elim
     (λ (s : IsShut (first ∷ rest) m'.eyes f served e).
-    (by m'.eyes.seen run (inr (inl (record { first_is = begins; beside = subst (λ l. IsPrefix l (first ∷ rest) ⊎ IsPrefix (first ∷ rest) l) s.seen s.beside; history = subst IsHistory s.seen s.history; rose = rose_later m.eyes.faults m'.eyes.faults f.faults h.all.rise.faults s.rose; twice = λ is. rose_twice m.eyes.faults m'.eyes.faults f.faults (h.all.refusal (h.refusing is)) s.rose; ended_is = s.ended_is }))), [], append-nil m'.eyes.seen))
+    (by m'.eyes.seen run (inr (inl (record { first_is = begins; beside = subst (λ l. IsPrefix l (first ∷ rest) ⊎ IsPrefix (first ∷ rest) l) s.seen s.beside; history = subst IsHistory s.seen s.history; rose = rose_later m.eyes.faults m'.eyes.faults f.faults h.all.rise.faults s.rose; twice = λ is. rose_twice m.eyes.faults m'.eyes.faults f.faults (h.all.refusal (h.refusing is)) s.rose; ended_is = s.ended_is }))), ([], append-nil m'.eyes.seen)))
     (λ (t : IsWithin (first ∷ rest) m'.eyes f served e ⊎ IsPast (first ∷ rest) m'.eyes f e).
     ⊎_elim
     (λ (s : IsWithin (first ∷ rest) m'.eyes f served e).

@@ -3,7 +3,6 @@ pub mod Together
 pub mod Holding
 pub mod Noted
 pub mod Finished
-pub mod Refused
 mod StreamFinished
 pub mod Growing
 pub mod Events

@@ -1,54 +1,24 @@
 -- A call of a lane for conversations and its closing look make a lane that is done.
 use Rattle.std.proofs.Common.{◌≡◌, ℕ, ◌+◌, ◌-◌, ◌<◌, ◌≤◌, List, [], ◌∷◌, ◌++◌, length, map, Option, Some, refl, sym, ap, subst, ◌∙◌, arith}
 use Rattle.std.specs.List.{flat_map, range_with_len}
-use mathlib.Core.List.{IsPrefix}
-use Rattle.std.proofs.lemmas.Grind.{flat_map-append}
-use Rattle.std.proofs.lemmas.List.{append-nil}
-use Rattle.addr_text.specs.declared.address.Peer.{Peer}
 use Rattle.outside.specs.Faults.{BothTell}
 use Rattle.outside.specs.Gate.{GateTold}
 use Rattle.outside.specs.Limits.{most_notes}
-use Rattle.outside.specs.Port.{Try}
-use Rattle.outside.specs.Streams.{StreamsTold, Talk}
+use Rattle.outside.specs.Streams.{StreamsTold}
 use Rattle.published_map.specs.Version.{Version}
 use Rattle.lane_model.specs.declared.ended.Ended.{Ended}
-use Rattle.lane_model.specs.declared.ended.Ended.TheVariants.{CellFault}
-use Rattle.lane_model.specs.Lanes.{Entry}
-use Rattle.lane_model.specs.Turns.{AreGiven, Turn}
+use Rattle.lane_model.specs.Turns.{AreGiven}
 use Rattle.lane_model.specs.Calls.{Eyes}
-use Rattle.lane_model.proofs.Runs.{run_longer}
 use Rattle.tcp_lane.specs.Calls.{IsStreamCall, IsStreamEnd, StreamMoment, inner}
 use Rattle.tcp_lane.specs.Replies.{stream_replies}
 use Rattle.tcp_lane.specs.Stream.{IsStreamRun}
-use Rattle.tcp_lane.specs.Turns.{Said, StreamTurn, lane_of, lead_of, turn_of}
+use Rattle.tcp_lane.specs.Turns.{lane_of, lead_of}
+use Rattle.tcp_lane.proofs.Ends.{lane_notes, refused_last, stream_run_longer}
 use Rattle.drive.specs.Closing.{IsClosing}
 use Rattle.drive.specs.Done.{StreamLaneTold}
 use Rattle.drive.specs.Streams.{IsStreamDone}
 use Rattle.drive.proofs.Finished.{served_log, told_by}
 use Rattle.drive.proofs.Noted.{notes_are}
-use Rattle.drive.proofs.Refused.{turn_refused}
-
--- messages come without notes
-said_notes : (peer : Peer) (said : List Said) → flat_map (λ (t : Turn). t.notes) (map (turn_of peer) said) ≡ []
-said_notes peer [] = refl
-said_notes peer (s ∷ said) = said_notes peer said
-
-lane_notes : (log : List StreamTurn) → flat_map (λ t. t.notes) (lane_of log) ≡ flat_map (λ t. t.notes) (map lead_of log)
-lane_notes [] = refl
-lane_notes (t ∷ log) =
-    flat_map-append (λ (u : Turn). u.notes) (lead_of t ∷ map (turn_of t.peer) t.said) (lane_of log)
-    ∙ (ap (λ l. (t.notes ++ l) ++ flat_map (λ (u : Turn). u.notes) (lane_of log)) (said_notes t.peer t.said) ∙ (ap (λ l. l ++ flat_map (λ (u : Turn). u.notes) (lane_of log)) (append-nil t.notes) ∙ ap (λ l. t.notes ++ l) (lane_notes log)))
-
--- a stream run over a history is one over each that it begins
-stream_longer : (h h' : List Version) (w n floor : ℕ) (talks : List Talk) (taken : List Entry) (tries : List Try) → IsPrefix h h' → IsStreamRun stream_replies h w n floor talks taken tries → IsStreamRun stream_replies h' w n floor talks taken tries
-stream_longer h h' w n floor talks taken tries begins r = record {
-  conversations = r.conversations;
-  talks_are = r.talks_are;
-  taken_are = r.taken_are;
-  tries_are = r.tries_are;
-  each = r.each;
-  run = run_longer stream_replies h h' w n floor taken tries begins r.run;
-}
 
 stream_of : (turns : ℕ) (first : Version) (rest : List Version) (w : ℕ) (m m' : StreamMoment Version) (f : Eyes Version) (served e : Ended) (n n' j k : ℕ) → n' ≡ n → m.eyes.seen ≡ first ∷ [] → m.eyes.heard ≡ first ∷ [] → m.count ≡ 0
     → (c : IsStreamCall stream_replies w turns m m' served) → flat_map (λ t. t.notes) (map lead_of c.log) ≡ range_with_len 0 k → IsClosing (first ∷ rest) m'.eyes f served e
@@ -60,7 +30,7 @@ stream_of turns first rest w m m' f served e n n' j k asked seen heard count c a
       all = c.all;
       notes = lane_notes c.log ∙ are;
       closing = q;
-      refusing = λ is. let ending : IsStreamEnd turns c.log CellFault = subst (IsStreamEnd turns c.log) is c.ending in turn_refused ending.0 ending.1 c.log ending.2 ending.5;
+      refusing = λ is. refused_last turns c.log (subst (IsStreamEnd turns c.log) is c.ending);
       asked = asked;
       seen = seen;
       heard = heard;
@@ -74,7 +44,7 @@ stream_of turns first rest w m m' f served e n n' j k asked seen heard count c a
       line = line.0;
       streams = c.streams;
       gate = c.gate;
-      runs = λ b none. let r = c.runs b none 0 some in (r.0, r.1, r.2, stream_longer m'.eyes.seen line.0.over w 0 0 r.0 _ _ line.1 (subst (λ (x : ℕ). IsStreamRun stream_replies m'.eyes.seen w x 0 r.0 _ _) count r.3));
+      runs = λ b none. let r = c.runs b none 0 some in (r.0, r.1, r.2, stream_run_longer stream_replies m'.eyes.seen line.0.over w 0 0 r.0 _ _ line.1 (subst (λ (x : ℕ). IsStreamRun stream_replies m'.eyes.seen w x 0 r.0 _ _) count r.3));
       ending = c.ending;
     }
 

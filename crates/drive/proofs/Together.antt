@@ -45,21 +45,19 @@ are_done_in {A = A} tell ended turns first rest all ls cs behind xs is d =
 pub may_done : {A W : Type 0} (tell : A → StreamLaneTold) (ended : W → Ended) (R C : A → A → W → W → Type 0) (F : W → Type 0) (turns : ℕ) (first : Version) (rest : List Version) (n : ℕ)
     → ((a b c : A) (v w x : W) → F v → R a b v w → C b c w x → IsStreamDone turns first rest n (tell a) (tell c) (ended x)) → (a b c : A) (v w x : Option W) → IfSome v F → MayRan R a b v w → MayRan C b c w x
     → AreStreamsDone turns first rest n (option_map ended x) (tell a) (tell c)
-may_done tell ended R C F turns first rest n f a b c None None None h p q = ap tell (q ∙ p)
-may_done tell ended R C F turns first rest n f a b c None None (Some x) h p q = absurd q
-may_done tell ended R C F turns first rest n f a b c None (Some w) x h p q = absurd p
-may_done tell ended R C F turns first rest n f a b c (Some v) None x h p q = absurd p
-may_done tell ended R C F turns first rest n f a b c (Some v) (Some w) None h p q = absurd q
-may_done tell ended R C F turns first rest n f a b c (Some v) (Some w) (Some x) h p q = f a b c v w x h p q
+may_done tell ended R C F turns first rest n f a b c None w x h p q =
+    let first_is = p.none refl in
+    let then = q.none first_is.0 in
+    subst (λ o. AreStreamsDone turns first rest n (option_map ended o) (tell a) (tell c)) (sym then.0) (ap tell (then.1 ∙ first_is.1))
+may_done tell ended R C F turns first rest n f a b c (Some v) w x h p q =
+    let ran = p.some v refl in
+    let closed = q.some ran.0 ran.1 in
+    subst (λ o. AreStreamsDone turns first rest n (option_map ended o) (tell a) (tell c)) (sym closed.1) (f a b c v ran.0 closed.0 h ran.2 closed.2)
 
 -- it has a worker behind that where it had one before
 pub may_same : {A W : Type 0} (R C : A → A → W → W → Type 0) (a b c : A) (v w x : Option W) → MayRan R a b v w → MayRan C b c w x → length (option_to_list x) ≡ length (option_to_list v)
-may_same R C a b c None None None p q = refl
-may_same R C a b c None None (Some x) p q = absurd q
-may_same R C a b c None (Some w) x p q = absurd p
-may_same R C a b c (Some v) None x p q = absurd p
-may_same R C a b c (Some v) (Some w) None p q = absurd q
-may_same R C a b c (Some v) (Some w) (Some x) p q = refl
+may_same R C a b c None w x p q = ap (λ o. length (option_to_list o)) (q.none (p.none refl).0).0
+may_same R C a b c (Some v) w x p q = let ran = p.some v refl in ap (λ o. length (option_to_list o)) (q.some ran.0 ran.1).1
 
 -- an end and a number by other names
 pub ended_as : (turns : ℕ) (first : Version) (rest : List Version) (k n : ℕ) (d e : Option Ended) (b c : StreamLaneTold) → k ≡ n → e ≡ d → AreStreamsDone turns first rest k d b c → AreStreamsDone turns first rest n e b c

@@ -8,7 +8,6 @@ AllRan R (x ∷ xs) (y ∷ ys) (v ∷ vs) (w ∷ ws) = R x y v w × AllRan R xs 
 AllRan R _ _ _ _ = ⊥
 
 -- one lane with its worker, where it has one
-abbrev pub MayRan : {A W : Type 0} → (A → A → W → W → Type 0) → A → A → Option W → Option W → Type 0
-MayRan R x y None None = y ≡ x
-MayRan R x y (Some v) (Some w) = R x y v w
-MayRan R x y _ _ = ⊥
+pub record MayRan {A W : Type 0} (R : A → A → W → W → Type 0) (x y : A) (v w : Option W) : Type 0 where
+  pub none : v ≡ None → (w ≡ None) × (y ≡ x)
+  pub some : (a : W) → v ≡ Some a → (b : W) × (w ≡ Some b) × R x y a b

@@ -1,7 +1,5 @@
 //! All that a drive is lent: one value, made once, which goes through its functions.
 
-ghost use Rattle.std.specs.Prelude.{◌≡◌};
-
 use crate::beside::Feeds;
 use demand_feed::FeedEnd;
 use map_cell::{Naming, NoteRow};
@@ -20,29 +18,11 @@ pub(crate) struct FeedLoan<'f, 'o, 'm, 'p, S, K, M> {
     pub end: FeedEnd,
 }
 
-/// What both sides are lent: the mapper's, the lanes that have workers, and the lane for conversations.
+/// What both sides are lent: the mapper's, and the lanes that have workers.
 #[derive(Drop)]
-pub(crate) struct Loan<'f, 'o, 'm, 'p, 'l, 's, S, K, M, T, U> {
+pub(crate) struct Loan<'f, 'o, 'm, 'p, 'l, S, K, M, T> {
     pub side: FeedLoan<'f, 'o, 'm, 'p, S, K, M>,
     pub lanes: &'l mut [T],
-    pub stream: &'s mut U,
-}
-
-impl<'f, 'o, 'm, 'p, 'l, 's, S, K, M, T, U> Loan<'f, 'o, 'm, 'p, 'l, 's, S, K, M, T, U> {
-    /// All of it as one.
-    pub(crate) fn new(
-        side: FeedLoan<'f, 'o, 'm, 'p, S, K, M>,
-        lanes: &'l mut [T],
-        stream: &'s mut U,
-    ) -> Loan<'f, 'o, 'm, 'p, 'l, 's, S, K, M, T, U>
-        ensures { result ≡ record { side = side.entry; lanes = lanes.entry; stream = stream.entry } }
-    {
-        Loan {
-            side,
-            lanes,
-            stream,
-        }
-    }
 }
 
 impl<J: Naming, S: Source, K: Sink, M: Pace> Feeds<NoteRow<J>, Mapper<J>>

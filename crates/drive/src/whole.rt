@@ -118,7 +118,8 @@ fn serve_all<
     row: &NoteRow<J>,
     mapper: &mut Mapper<J>,
     works: &mut Workers<LaneWorker<J>>,
-    loan: &mut Loan<'_, '_, '_, '_, '_, '_, S, K, M, Lane<P, G, D>, StreamLane<Q, G, D>>,
+    loan: &mut Loan<'_, '_, '_, '_, '_, S, K, M, Lane<P, G, D>>,
+    stream: &mut StreamLane<Q, G, D>,
 )
     requires turns { loan.old.side.turns ≤ MOST_TURNS }
     requires first { (mapper.old.history ≡ mapper.old.newest ∷ []) × (mapper.old.newest.serial ≡ 0) }
@@ -126,13 +127,13 @@ fn serve_all<
     requires lanes { length loan.old.lanes.now ≡ vec_len works.old.lanes }
     requires listener { IfSome works.old.stream (λ w. (w.worker.number ≡ vec_len works.old.lanes) × (w.worker.count ≡ 0) × (w.worker.viewer.seen ≡ mapper.old.history) × (w.worker.viewer.heard ≡ mapper.old.history) × (w.turns ≡ loan.old.side.turns)) }
     ensures fed { IsFedBy S.told S.faults K.told K.faults M.told loan.old.side loan.new.side mapper.old mapper.new }
-    ensures lanes { (loan.new.lanes.ghost_name ≡ loan.old.lanes.ghost_name) × (loan.new.stream.ghost_name ≡ loan.old.stream.ghost_name) }
+    ensures lanes { loan.new.lanes.ghost_name ≡ loan.old.lanes.ghost_name }
     ensures history { IsHistory mapper.new.history }
     ensures len { vec_len works.new.lanes ≡ vec_len works.old.lanes }
     ensures done { (rest : List Version) × (mapper.new.history ≡ mapper.old.newest ∷ rest) × AllDone (λ i l k w. IsDone loan.old.side.turns mapper.old.newest rest i
         (lane_told P.told P.faults G.told D.asked D.looks D.greatest D.faults l) (lane_told P.told P.faults G.told D.asked D.looks D.greatest D.faults k) w.ended) 0 loan.old.lanes.now loan.new.lanes.now works.new.lanes.items
         × AreStreamsDone loan.old.side.turns mapper.old.newest rest (vec_len works.old.lanes) (option_map (λ w. w.ended) works.new.stream)
-        (stream_told Q.told Q.faults G.told D.asked D.looks D.greatest D.faults loan.old.stream.now) (stream_told Q.told Q.faults G.told D.asked D.looks D.greatest D.faults loan.new.stream.now) }
+        (stream_told Q.told Q.faults G.told D.asked D.looks D.greatest D.faults stream.old) (stream_told Q.told Q.faults G.told D.asked D.looks D.greatest D.faults stream.new) }
     ensures same { length (option_to_list works.new.stream) ≡ length (option_to_list works.old.stream) }
 {
     let _ = row.put_at(rt, 0, mapper.note());
@@ -149,7 +150,7 @@ fn serve_all<
     // tells the prover what the type keeps
     let _ = note.front.len();
     close_all(&note, &mut works.lanes, loan.lanes);
-    close_more(&note, &mut works.stream, loan.stream);
+    close_more(&note, &mut works.stream, stream);
 }
 
 /// Runs a mapper's feed beside the first lanes, one for each viewer, and beside the lane for conversations where it has a
@@ -222,16 +223,18 @@ pub fn drive<
         stream: hold_one(listener, count as u8, turns),
     };
     let (served, _behind) = lanes.split_at_mut(count);
-    let side = FeedLoan {
-        feed,
-        out,
-        maps,
-        pace,
-        turns,
-        end: FeedEnd::Ended,
+    let mut loan = Loan {
+        side: FeedLoan {
+            feed,
+            out,
+            maps,
+            pace,
+            turns,
+            end: FeedEnd::Ended,
+        },
+        lanes: served,
     };
-    let mut loan = Loan::new(side, served, stream);
-    serve_all(rt, &row, &mut mapper, &mut works, &mut loan);
+    serve_all(rt, &row, &mut mapper, &mut works, &mut loan, stream);
     mapper.close(rt);
     Ok(DriveEnd {
         feed: loan.side.end,

@@ -1,5 +1,5 @@
 -- What ends of stream lanes say, and stream runs over longer histories: for the crates above.
-use Rattle.std.proofs.Common.{◌≡◌, ℕ, ◌+◌, ◌<◌, Bool, true, false, List, [], ◌∷◌, ◌++◌, length, map, fold, refl, sym, ap, subst, ◌∙◌, arith, append_assoc, append-nil}
+use Rattle.std.proofs.Common.{◌≡◌, ℕ, suc, ◌+◌, ◌<◌, Bool, true, false, List, [], ◌∷◌, ◌++◌, length, map, fold, refl, sym, ap, subst, ◌∙◌, arith, append_assoc, append-nil}
 use Rattle.std.specs.Prelude.{sum_by}
 use Rattle.std.specs.List.{flat_map}
 use Rattle.std.proofs.lemmas.Grind.{flat_map-append}
@@ -90,7 +90,7 @@ turn_answers b t = closed_answers t.closes (fold (saying t.cut) (stream_after t.
 raised_none : (n : ℕ) → n ≡ raised n 0
 raised_none n = omega arith
 
-raised_more : (n k : ℕ) → raised (raised n 1) k ≡ raised n (1 + k)
+raised_more : (n k : ℕ) → raised (raised n 1) k ≡ raised n (suc k)
 raised_more n k = omega arith
 
 log_answers : (b : StreamsTold) (log : List StreamTurn) → (fold stream_turn b log).answers ≡ raised b.answers (length log)

@@ -1,12 +1,13 @@
 //! Streams over TCP on loopback: messages cut and put together, lengths that are too great, resets, and places that ran
 //! out.
 use crate::peers::socket_addr;
-use crate::{ManyStreams, SharedTcp};
+use crate::{FlagGate, FlagPace, ManyStreams, SharedTcp, StopFlag};
 use addr_text::{Addr, Listen, Peer};
-use outside::{Accepting, Opening, Reading, Streams, Writing};
+use outside::{Accepting, Gate, Opening, Pace, Reading, Streams, Turning, Writing};
 use std::alloc::Global;
 use std::io::{Read, Write};
-use std::net::{Net, TcpListener, TcpStream};
+use std::net::{Net, SocketAddr, TcpListener, TcpStream};
+use std::thread::{Threads, join_mut};
 use std::time::{Clock, Duration};
 
 const LOCAL: Addr = Addr::V4(0x7f00_0001);
@@ -279,4 +280,76 @@ fn is_shut<R: Net + Clock>(alloc: Global, rt: &R) -> bool {
 #[test]
 fn none_is_open(rt: HostRuntime) {
     assert!(rt; is_shut(rt.alloc(), &rt));
+}
+
+/// Replies to each conversation until the gate stops it, and counts them.
+fn reply_all<Q: Streams>(streams: &mut Q, gate: &mut impl Gate) -> u32 {
+    let mut count = 0u32;
+    for _ in 0..1_000_000u32 {
+        if gate.turn(0) == Turning::Stop {
+            return count;
+        }
+        if let Accepting::Come(_) = streams.accept(0) {
+            if says(streams, MESSAGES) && streams.write(0, REPLY) == Writing::Done {
+                count = count.saturating_add(1);
+            }
+            streams.close();
+        }
+    }
+    count
+}
+
+/// Whether a client of its own gets a reply.
+fn is_answered<N: Net<Listener = TcpListener, Stream = TcpStream>>(
+    net: &N,
+    to: SocketAddr,
+) -> bool {
+    match TcpStream::connect(net, to) {
+        Ok(mut client) => {
+            let wait = Some(Duration::from_secs(5));
+            client.set_read_timeout(wait).is_ok()
+                && client.write_all(MESSAGES).is_ok()
+                && gets(&mut client, REPLY)
+        }
+        Err(_) => false,
+    }
+}
+
+/// Asks so many times, each time by a connection of its own, and counts the replies. Then the feed ends.
+fn ask_all<N: Net<Listener = TcpListener, Stream = TcpStream>>(
+    net: &N,
+    to: SocketAddr,
+    times: u32,
+    pace: &mut impl Pace,
+) -> u32 {
+    let mut count = 0u32;
+    for _ in 0..times {
+        if is_answered(net, to) {
+            count = count.saturating_add(1);
+        }
+    }
+    pace.done(0);
+    count
+}
+
+/// A lane in a thread, and a client in another.
+#[test]
+fn replies_in_a_thread(rt: HostRuntime) {
+    let (shared, flag) = (SharedTcp::new(), StopFlag::new());
+    let mut streams = ManyStreams::new(rt.alloc(), &rt, &shared, 4, 4);
+    let mut gate = FlagGate::new(&flag);
+    let mut pace = FlagPace::new(&flag);
+    let listen = Listen {
+        addr: LOCAL,
+        port: 0,
+    };
+    assert!(rt; streams.open(&listen) == Opening::Ready);
+    let to = socket_addr(LOCAL, shared.port().expect(&rt, "a port"));
+    let (asked, replied) = join_mut(
+        &rt,
+        &mut || ask_all(&rt, to, 20, &mut pace),
+        &mut || reply_all(&mut streams, &mut gate),
+    );
+    assert_eq!(rt; asked, 20);
+    assert_eq!(rt; replied, 20);
 }

@@ -15,7 +15,7 @@ pub serve_all-requires-clause-fresh : goal.serve_all-requires-clause-fresh
 serve_all-requires-clause-fresh g c κs within = c.in-Ok-hold_all.ensures.held c.args.mapper.history c.requires.viewers
 
 pub serve_all-requires-clause-listener : goal.serve_all-requires-clause-listener
-serve_all-requires-clause-listener g c κs within = numbered_as _ _ _ _ (search rules) (c.hold_one.ensures.held c.args.mapper.history c.requires.listener)
+serve_all-requires-clause-listener g c κs within = numbered_as (λ n w. (w.worker.number ≡ n) × (w.worker.count ≡ 0) × (w.worker.viewer.seen ≡ c.args.mapper.history) × (w.worker.viewer.heard ≡ c.args.mapper.history) × (w.turns ≡ c.args.turns)) _ _ _ (search rules) (c.hold_one.ensures.held c.args.mapper.history c.requires.listener)
 
 pub returns-clause-driven : goal.returns-clause-driven
 returns-clause-driven g c =
@@ -24,7 +24,7 @@ returns-clause-driven g c =
     let size : length c.serve_all.new.works.lanes.items ≡ vec_len c.args.viewers = search rules in
     let driven : IsDriven c.args.turns c.args.mapper.newest c.serve_all.new.loan.side.end (map (λ w. w.ended) c.serve_all.new.works.lanes.items) c.end_of.result
     (lent_of g.S.Source.told g.K.Sink.told g.M.Pace.told (lane_told g.P.Port.told g.P.Port.faults g.G.Gate.told g.D.Door.asked g.D.Door.looks g.D.Door.greatest g.D.Door.faults) (stream_told g.Q.Streams.told g.Q.Streams.faults g.G.Gate.told g.D.Door.asked g.D.Door.looks g.D.Door.greatest g.D.Door.faults) c.args.feed.now c.args.out.now c.args.maps.now c.args.pace.now c.args.lanes.now c.args.stream.now)
-    (lent_of g.S.Source.told g.K.Sink.told g.M.Pace.told (lane_told g.P.Port.told g.P.Port.faults g.G.Gate.told g.D.Door.asked g.D.Door.looks g.D.Door.greatest g.D.Door.faults) (stream_told g.Q.Streams.told g.Q.Streams.faults g.G.Gate.told g.D.Door.asked g.D.Door.looks g.D.Door.greatest g.D.Door.faults) c.serve_all.new.loan.side.feed.now c.serve_all.new.loan.side.out.now c.serve_all.new.loan.side.maps.now c.serve_all.new.loan.side.pace.now (c.serve_all.new.loan.lanes.now ++ c.split_at_mut-served.result.1.now) c.serve_all.new.loan.stream.now) = record {
+    (lent_of g.S.Source.told g.K.Sink.told g.M.Pace.told (lane_told g.P.Port.told g.P.Port.faults g.G.Gate.told g.D.Door.asked g.D.Door.looks g.D.Door.greatest g.D.Door.faults) (stream_told g.Q.Streams.told g.Q.Streams.faults g.G.Gate.told g.D.Door.asked g.D.Door.looks g.D.Door.greatest g.D.Door.faults) c.serve_all.new.loan.side.feed.now c.serve_all.new.loan.side.out.now c.serve_all.new.loan.side.maps.now c.serve_all.new.loan.side.pace.now (c.serve_all.new.loan.lanes.now ++ c.split_at_mut-served.result.1.now) c.serve_all.new.stream) = record {
       rest = s.done.0;
       newest = c.serve_all.new.mapper.newest;
       feed = feed_over _ _ _ _ _ _ _ _ _ _ _ _ _ _ _ _ _ opened s.done.1 s.fed.run;
