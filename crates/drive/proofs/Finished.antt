@@ -87,6 +87,7 @@ shown_past known before after le most = ⊎_elim (λ (is : known ≡ after + 1).
 pub served_log : {T : Type 0} (a : Answers Version) (first : Version) (rest : List Version) (w : ℕ) (log : List Turn) (shown : ℕ) (m m' : Moment Version) (f : Eyes Version) (served e : Ended) (n n' j k : ℕ) (port port' : Option T) (gate gate' : Option GateTold)
     → HasLogged a first rest w log shown m m' f served e n n' k
     → (line : IsServedLog a first rest w log served e shown (told_by port m.port_faults gate m.eyes n j) (told_by port' m'.port_faults gate' f n' k)) × IsPrefix m'.eyes.seen line.over
+unfolding log_over
 served_log a first rest w log shown m m' f served e n n' j k port port' gate gate' h =
     let one : length m.eyes.heard ≡ 1 = ap length h.heard in
     let some : 0 < length m.eyes.heard = omega (arith, one) in

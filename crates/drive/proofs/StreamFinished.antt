@@ -7,7 +7,7 @@ use Rattle.outside.specs.Limits.{most_notes}
 use Rattle.outside.specs.Streams.{StreamsTold}
 use Rattle.published_map.specs.Version.{Version}
 use Rattle.lane_model.specs.declared.ended.Ended.{Ended}
-use Rattle.lane_model.specs.Turns.{AreGiven}
+use Rattle.lane_model.specs.Turns.{AreGiven, entries_of, tries_of}
 use Rattle.lane_model.specs.Calls.{Eyes}
 use Rattle.tcp_lane.specs.Calls.{IsStreamCall, IsStreamEnd, StreamMoment, inner}
 use Rattle.tcp_lane.specs.Replies.{stream_replies}
@@ -44,7 +44,13 @@ stream_of turns first rest w m m' f served e n n' j k asked seen heard count c a
       line = line.0;
       streams = c.streams;
       gate = c.gate;
-      runs = λ b none. let r = c.runs b none 0 some in (r.0, r.1, r.2, stream_run_longer stream_replies m'.eyes.seen line.0.over w 0 0 r.0 _ _ line.1 (subst (λ (x : ℕ). IsStreamRun stream_replies m'.eyes.seen w x 0 r.0 _ _) count r.3));
+      runs = λ b none. let r = c.runs b none 0 some in (
+        r.0,
+        r.1,
+        r.2,
+        stream_run_longer stream_replies m'.eyes.seen line.0.over w 0 0 r.0 (entries_of stream_replies.way (lane_of c.log)) (tries_of (lane_of c.log)) line.1
+            (subst (λ (x : ℕ). IsStreamRun stream_replies m'.eyes.seen w x 0 r.0 (entries_of stream_replies.way (lane_of c.log)) (tries_of (lane_of c.log))) count r.3),
+      );
       ending = c.ending;
     }
 

@@ -60,5 +60,5 @@ may_same R C a b c None w x p q = ap (λ o. length (option_to_list o)) (q.none (
 may_same R C a b c (Some v) w x p q = let ran = p.some v refl in ap (λ o. length (option_to_list o)) (q.some ran.0 ran.1).1
 
 -- an end and a number by other names
-pub ended_as : (turns : ℕ) (first : Version) (rest : List Version) (k n : ℕ) (d e : Option Ended) (b c : StreamLaneTold) → k ≡ n → e ≡ d → AreStreamsDone turns first rest k d b c → AreStreamsDone turns first rest n e b c
-ended_as turns first rest k n d e b c same is h = subst (λ (x : Option Ended). AreStreamsDone turns first rest n x b c) (sym is) (subst (λ (x : ℕ). AreStreamsDone turns first rest x d b c) same h)
+pub ended_as : (turns : ℕ) (first : Version) (rest : List Version) (k n : ℕ) (d e : Option Ended) (b c : StreamLaneTold) → AreStreamsDone turns first rest k d b c → n ≡ k → e ≡ d → AreStreamsDone turns first rest n e b c
+ended_as turns first rest k n d e b c h same is = subst (λ (x : Option Ended). AreStreamsDone turns first rest n x b c) (sym is) (subst (λ (x : ℕ). AreStreamsDone turns first rest x d b c) (sym same) h)

@@ -137,15 +137,7 @@ fn serve_all<
     ensures same { length (option_to_list works.new.stream) ≡ length (option_to_list works.old.stream) }
 {
     let _ = row.put_at(rt, 0, mapper.note());
-    run_beside(
-        rt,
-        row,
-        works,
-        loan.lanes,
-        loan.stream,
-        mapper,
-        &mut loan.side,
-    );
+    run_beside(rt, row, works, loan.lanes, stream, mapper, &mut loan.side);
     let note = mapper.note();
     // tells the prover what the type keeps
     let _ = note.front.len();

@@ -30,7 +30,7 @@ returns-clause-driven g c =
       feed = feed_over _ _ _ _ _ _ _ _ _ _ _ _ _ _ _ _ _ opened s.done.1 s.fed.run;
       goes_on = feed_goes_on _ _ _ _ _ _ _ c.args.mapper.newest s.done.0 s.fed.run refl opened s.done.1 s.history;
       lanes = are_done_in (lane_told g.P.Port.told g.P.Port.faults g.G.Gate.told g.D.Door.asked g.D.Door.looks g.D.Door.greatest g.D.Door.faults) (λ w. w.ended) _ _ _ _ _ _ _ _ c.split_at_mut-served.ensures.value s.done.2;
-      stream = ended_as _ _ _ _ _ _ _ _ _ (length-map _ _ ∙ size) c.end_of.ensures s.done.3;
+      stream = ended_as _ _ _ _ _ _ _ _ _ s.done.3 (length-map _ _ ∙ search rules) c.end_of.ensures;
     } in (
       map (λ w. w.ended) c.serve_all.new.works.lanes.items,
       length-map _ _ ∙ size,
