@@ -36,7 +36,7 @@ step_front t desk line = unfold step in ap (by_said t (record desk { number = de
 pub stop_front : (line : List ℕ) → is_stop (front line) ≡ is_stop line
 stop_front line = ap is_stop_said (front_says line)
 
-has_stop_next : (line : List ℕ) (lines : List (List ℕ)) → has_stop (line ∷ lines) ≡ (is_stop line || has_stop lines)
+pub has_stop_next : (line : List ℕ) (lines : List (List ℕ)) → has_stop (line ∷ lines) ≡ (is_stop line || has_stop lines)
 has_stop_next line lines = unfold has_stop in refl
 
 pub no_stop_none : has_stop [] ≡ false

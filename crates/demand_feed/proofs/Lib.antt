@@ -7,6 +7,7 @@ pub mod Items
 pub mod Tellings
 pub mod Worked
 pub mod Ends
-pub mod Laws
+pub mod Desks
+pub mod Octets
 pub mod FileLaws
 pub mod FileRows

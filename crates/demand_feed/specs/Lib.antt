@@ -13,4 +13,5 @@ pub mod ChangesTexts
 pub mod Saying
 pub mod Taking
 pub mod Runs
+pub mod Octets
 pub mod Working
