@@ -2,7 +2,7 @@
 use Rattle.std.specs.Prelude.{◌≡◌, ℕ, true, List, [], ◌∷◌, ◌++◌, Option, None, Some, IfSome}
 use Rattle.outside.specs.Source.{Fed}
 use Rattle.topology_text.specs.Plan.{Plan}
-use Rattle.demand_feed.specs.Item.{Item, items}
+use Rattle.demand_feed.specs.Task.{Task, tasks}
 use Rattle.demand_feed.specs.Lines.{lines_of}
 use Rattle.demand_feed.specs.Runs.{IsRun}
 use Rattle.demand_feed.specs.declared.run.FeedEnd.TheVariants.{Ended}
@@ -16,22 +16,22 @@ abbrev pub Has : Option Fed → List ℕ → Type 0
 Has None octets = ⊥
 Has (Some fed) octets = fed.left ≡ Some octets
 
--- one item more
-abbrev pub Adds : Item → List Item → List Item → Type 0
-Adds item before after = after ≡ before ++ item ∷ []
+-- one task more
+abbrev pub Adds : Task → List Task → List Task → Type 0
+Adds task before after = after ≡ before ++ task ∷ []
 
--- no item is broken off
-abbrev pub Breaks : Item → List Item → List Item → Type 0
-Breaks item before after = ⊥
+-- no task is broken off
+abbrev pub Breaks : Task → List Task → List Task → Type 0
+Breaks task before after = ⊥
 
--- A run that ended came to the items of all octets that its feed had left, also of those behind its `stop`, which it may not have read.
-abbrev pub ItemsAreOfOctets : Type 0
-ItemsAreOfOctets =
-    (t : Plan) (turns : ℕ) (fed_before fed_after : Option Fed) (came : List Item) → IsRun Adds Breaks t turns Ended fed_before fed_after [] came
-    → (octets : List ℕ) × MayHave fed_before octets × (came ≡ items t (lines_of true octets))
+-- A run that ended came to the tasks of all octets that its feed had left, also of those behind its `stop`, which it may not have read.
+abbrev pub TasksAreOfOctets : Type 0
+TasksAreOfOctets =
+    (t : Plan) (turns : ℕ) (fed_before fed_after : Option Fed) (came : List Task) → IsRun Adds Breaks t turns Ended fed_before fed_after [] came
+    → (octets : List ℕ) × MayHave fed_before octets × (came ≡ tasks t (lines_of true octets))
 
--- Two runs that ended, over feeds that had the same octets left, came to the same items, however many turns they had and however the octets were cut into pieces.
+-- Two runs that ended, over feeds that had the same octets left, came to the same tasks, however many turns they had and however the octets were cut into pieces.
 abbrev pub RunsAgree : Type 0
 RunsAgree =
-    (t : Plan) (turns others : ℕ) (a b c d : Option Fed) (octets : List ℕ) (came also : List Item) → Has a octets → Has c octets
+    (t : Plan) (turns others : ℕ) (a b c d : Option Fed) (octets : List ℕ) (came also : List Task) → Has a octets → Has c octets
     → IsRun Adds Breaks t turns Ended a b [] came → IsRun Adds Breaks t others Ended c d [] also → came ≡ also

@@ -14,6 +14,7 @@ mod limits;
 mod line;
 mod pieces;
 mod run;
+mod sent;
 mod takes;
 mod words;
 
@@ -26,4 +27,5 @@ pub use laws::runs_agree;
 pub use limits::{LONGEST_LINE, LONGEST_QUERY, MOST_CHANGES, MOST_TURNS, READ_SIZE};
 pub use line::{Line, read_line};
 pub use run::{FeedEnd, Intake, run_lines};
-pub use takes::{Taken, TakesItems};
+pub use sent::{Item, What};
+pub use takes::{Taken, TakesTasks};

@@ -1,4 +1,4 @@
--- Courses, one item more.
+-- Courses, one task more.
 use Rattle.std.proofs.Common.{◌≡◌, ◌⊎◌, inl, inr, ℕ, List, [], ◌∷◌, ◌++◌, append_assoc, append-nil, refl, ap, sym, subst, ◌∙◌}
 use Rattle.std.specs.Prelude.{Option}
 use Rattle.outside.specs.Faults.{BothTell}

@@ -29,22 +29,22 @@ pub keeps_all : {R X K M : Type 0} (newest : X → Version) (history : X → Lis
     → (end : FeedEnd) (t : Plan) (turns : ℕ) (pieces : List (List ℕ)) (fed then : Option Fed) (a b : Session R X K M)
     → EndsBy (SessionDoes newest history lent told faults paced) (SessionCuts newest history lent told faults paced) end t turns pieces fed then a b → Keeps lent faults a b
 keeps_all newest history lent told faults paced end t turns pieces fed then a b h =
-    ends_keep (SessionDoes newest history lent told faults paced) (SessionCuts newest history lent told faults paced) (Keeps lent faults) (rests lent faults) (joins lent faults) (λ item x y d. d.0) (λ item x y d. d.0) end t turns pieces fed then a b h
+    ends_keep (SessionDoes newest history lent told faults paced) (SessionCuts newest history lent told faults paced) (Keeps lent faults) (rests lent faults) (joins lent faults) (λ task x y d. d.0) (λ task x y d. d.0) end t turns pieces fed then a b h
 
 -- no count of faults changed in a run that no output ended
 pub none_all : {R X K M : Type 0} (newest : X → Version) (history : X → List Version) (lent : X → ℕ) (told : K → Option Written) (faults : K → ℕ) (paced : M → Option (List PaceCall))
     → (end : FeedEnd) (t : Plan) (turns : ℕ) (pieces : List (List ℕ)) (fed then : Option Fed) (a b : Session R X K M) → end ≢ ends.SinkFault
     → EndsBy (SessionDoes newest history lent told faults paced) (SessionCuts newest history lent told faults paced) end t turns pieces fed then a b → HasNoFault faults a b
 none_all newest history lent told faults paced end t turns pieces fed then a b whole h =
-    ends_whole (SessionDoes newest history lent told faults paced) (SessionCuts newest history lent told faults paced) (HasNoFault faults) (λ x. (refl, refl)) (λ x y z p q. (q.0 ∙ p.0, q.1 ∙ p.1)) (λ item x y d. d.1) end t turns pieces fed then a b whole h
+    ends_whole (SessionDoes newest history lent told faults paced) (SessionCuts newest history lent told faults paced) (HasNoFault faults) (λ x. (refl, refl)) (λ x y z p q. (q.0 ∙ p.0, q.1 ∙ p.1)) (λ task x y d. d.1) end t turns pieces fed then a b whole h
 
 -- a run that an output ended has a fault of it
 pub fault_all : {R X K M : Type 0} (newest : X → Version) (history : X → List Version) (lent : X → ℕ) (told : K → Option Written) (faults : K → ℕ) (paced : M → Option (List PaceCall))
     → (t : Plan) (turns : ℕ) (pieces : List (List ℕ)) (fed then : Option Fed) (a b : Session R X K M)
     → EndsBy (SessionDoes newest history lent told faults paced) (SessionCuts newest history lent told faults paced) ends.SinkFault t turns pieces fed then a b → HasFault faults a b
 fault_all newest history lent told faults paced t turns pieces fed then a b h =
-    ends_cut (SessionDoes newest history lent told faults paced) (SessionCuts newest history lent told faults paced) (Keeps lent faults) (HasFault faults) (rests lent faults) (joins lent faults) (λ item x y d. d.0)
-    (λ item x y z k d. faulty lent faults x y z k d.1) t turns pieces fed then a b h
+    ends_cut (SessionDoes newest history lent told faults paced) (SessionCuts newest history lent told faults paced) (Keeps lent faults) (HasFault faults) (rests lent faults) (joins lent faults) (λ task x y d. d.0)
+    (λ task x y z k d. faulty lent faults x y z k d.1) t turns pieces fed then a b h
 
 -- how a run ended, by what is told
 pub ended_all : {R X K M : Type 0} (newest : X → Version) (history : X → List Version) (lent : X → ℕ) (told : K → Option Written) (faults : K → ℕ) (paced : M → Option (List PaceCall))
@@ -52,4 +52,4 @@ pub ended_all : {R X K M : Type 0} (newest : X → Version) (history : X → Lis
     → EndsBy (SessionDoes newest history lent told faults paced) (SessionCuts newest history lent told faults paced) end t turns pieces fed then a b
     → HasEnded end t turns pieces fed then (told_by newest history told paced a) (told_by newest history told paced b)
 ended_all newest history lent told faults paced end t turns pieces fed then a b h =
-    has_ended (SessionDoes newest history lent told faults paced) (SessionCuts newest history lent told faults paced) (told_by newest history told paced) (λ item x y d. d.2) (λ item x y d. d.2) end t turns pieces fed then a b h
+    has_ended (SessionDoes newest history lent told faults paced) (SessionCuts newest history lent told faults paced) (told_by newest history told paced) (λ task x y d. d.2) (λ task x y d. d.2) end t turns pieces fed then a b h

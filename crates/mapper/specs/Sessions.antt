@@ -1,9 +1,9 @@
--- Inside this crate alone: what an item does to a session over a feed.
+-- Inside this crate alone: what a task does to a session over a feed.
 use Rattle.std.specs.Prelude.{◌≡◌, ◌⊎◌, ℕ, ◌≤◌, List, Option}
 use Rattle.outside.specs.Faults.{Rose}
 use Rattle.outside.specs.Sink.{Written}
 use Rattle.outside.specs.declared.pace.PaceCall.{PaceCall}
-use Rattle.demand_feed.specs.Item.{Item}
+use Rattle.demand_feed.specs.Task.{Task}
 use Rattle.published_map.specs.Version.{Version}
 use Rattle.mapper.specs.Coming.{Cuts, Does}
 use Rattle.mapper.specs.Scenes.{Scene, scene}
@@ -29,10 +29,10 @@ HasFault faults a b = Rose (faults a.out.now) (faults b.out.now) ⊎ Rose (fault
 abbrev pub HasNoFault : {R X K M : Type 0} → (K → ℕ) → Session R X K M → Session R X K M → Type 0
 HasNoFault faults a b = (faults b.out.now ≡ faults a.out.now) × (faults b.maps.now ≡ faults a.maps.now)
 
--- an item that is taken whole
-abbrev pub SessionDoes : {R X K M : Type 0} → (X → Version) → (X → List Version) → (X → ℕ) → (K → Option Written) → (K → ℕ) → (M → Option (List PaceCall)) → Item → Session R X K M → Session R X K M → Type 0
-SessionDoes newest history lent told faults paced item a b = Keeps lent faults a b × HasNoFault faults a b × Does item (told_by newest history told paced a) (told_by newest history told paced b)
+-- a task that is taken whole
+abbrev pub SessionDoes : {R X K M : Type 0} → (X → Version) → (X → List Version) → (X → ℕ) → (K → Option Written) → (K → ℕ) → (M → Option (List PaceCall)) → Task → Session R X K M → Session R X K M → Type 0
+SessionDoes newest history lent told faults paced task a b = Keeps lent faults a b × HasNoFault faults a b × Does task (told_by newest history told paced a) (told_by newest history told paced b)
 
--- an item of which a put failed
-abbrev pub SessionCuts : {R X K M : Type 0} → (X → Version) → (X → List Version) → (X → ℕ) → (K → Option Written) → (K → ℕ) → (M → Option (List PaceCall)) → Item → Session R X K M → Session R X K M → Type 0
-SessionCuts newest history lent told faults paced item a b = Keeps lent faults a b × HasFault faults a b × Cuts item (told_by newest history told paced a) (told_by newest history told paced b)
+-- a task of which a put failed
+abbrev pub SessionCuts : {R X K M : Type 0} → (X → Version) → (X → List Version) → (X → ℕ) → (K → Option Written) → (K → ℕ) → (M → Option (List PaceCall)) → Task → Session R X K M → Session R X K M → Type 0
+SessionCuts newest history lent told faults paced task a b = Keeps lent faults a b × HasFault faults a b × Cuts task (told_by newest history told paced a) (told_by newest history told paced b)

@@ -1,12 +1,12 @@
-//! What one item of a feed comes to.
+//! What one task of a feed comes to.
 ghost use Rattle.std.specs.Prelude.{◌≡◌, ◌≢◌, ◌⊎◌, ◌<◌, ◌≤◌, ◌+◌, ◌-◌, ◌^◌, ◌∷◌, ℕ, List, [], Option, Some, IsSome, option_map};
 ghost use Rattle.outside.specs.Faults.{BothTell, Rose};
 ghost use Rattle.outside.specs.Pace.{IsPaced};
 ghost use Rattle.outside.specs.Sink.{IsPut};
 ghost use Rattle.outside.specs.declared.pace.PaceCall.{PaceCall};
 ghost use Rattle.map_model.specs.Batch.{IsBatch};
-ghost use Rattle.demand_feed.specs.Item.{Item};
-ghost use Rattle.demand_feed.specs.Clerk.{item_by};
+ghost use Rattle.demand_feed.specs.Task.{Task};
+ghost use Rattle.demand_feed.specs.Clerk.{task_by};
 ghost use Rattle.mapper.specs.Words.{map_text};
 ghost use Rattle.mapper.specs.Sayings.{text_of};
 ghost use Rattle.mapper.specs.Control.{Comes, Course, IsCommit, before_commit, with_line};
@@ -89,7 +89,7 @@ fn commit<R: Wait, X: Mapping, K: Sink>(
     }
 }
 
-/// The line of an item that is no batch.
+/// The line of a task that is no batch.
 fn saying_of<X: Mapping>(mapper: &X, next: &Next) -> Option<Saying>
     ensures { option_map text_of result ≡ line_for (X.newest mapper.now) next.now }
 {
@@ -108,8 +108,8 @@ fn saying_of<X: Mapping>(mapper: &X, next: &Next) -> Option<Saying>
     }
 }
 
-/// Puts the line of an item that is no batch.
-fn say_item<X: Mapping, K: Sink>(mapper: &X, line: &mut Spoken, next: &Next, out: &mut K) -> Put
+/// Puts the line of a task that is no batch.
+fn say_task<X: Mapping, K: Sink>(mapper: &X, line: &mut Spoken, next: &Next, out: &mut K) -> Put
     ensures put { PutIf (line_for (X.newest mapper.now) next.now) result (K.told out.old) (K.told out.new) }
     ensures later { K.faults out.old ≤ K.faults out.new }
     ensures cause { result ≡ Put.Failed → Rose (K.faults out.old) (K.faults out.new) }
@@ -121,7 +121,7 @@ fn say_item<X: Mapping, K: Sink>(mapper: &X, line: &mut Spoken, next: &Next, out
     }
 }
 
-/// Does what an item asks for.
+/// Does what a task asks for.
 pub(crate) fn come<R: Wait, X: Mapping, K: Sink, M: Pace>(
     rt: &R,
     mapper: &mut X,
@@ -136,11 +136,11 @@ pub(crate) fn come<R: Wait, X: Mapping, K: Sink, M: Pace>(
     requires some { next.now ≡ Next.Batch → due.now ≢ [] }
     requires serial { (X.newest mapper.old).serial < 2 ^ 64 - 1 }
     ensures came { (before : Scene) (c : Course) → IsAt before c (scene (X.newest mapper.old) (X.history mapper.old) (K.told out.old) (K.told maps.old) (M.told pace.old))
-        → Came result before c (ComesOf (item_by due.now next.now) c) (scene (X.newest mapper.new) (X.history mapper.new) (K.told out.new) (K.told maps.new) (M.told pace.new)) }
+        → Came result before c (ComesOf (task_by due.now next.now) c) (scene (X.newest mapper.new) (X.history mapper.new) (K.told out.new) (K.told maps.new) (M.told pace.new)) }
     ensures plan { (X.newest mapper.new).plan ≡ (X.newest mapper.old).plan }
     ensures lent { X.lent mapper.new ≡ X.lent mapper.old }
     ensures serial { (X.newest mapper.new).serial ≤ (X.newest mapper.old).serial + 1 }
-    ensures said { result ≡ Put.Failed → IsSome (item_by due.now next.now) }
+    ensures said { result ≡ Put.Failed → IsSome (task_by due.now next.now) }
     ensures later { (K.faults out.old ≤ K.faults out.new) × (K.faults maps.old ≤ K.faults maps.new) }
     ensures cause { result ≡ Put.Failed → Rose (K.faults out.old) (K.faults out.new) ⊎ Rose (K.faults maps.old) (K.faults maps.new) }
     ensures stays { result ≢ Put.Failed → (K.faults out.new ≡ K.faults out.old) × (K.faults maps.new ≡ K.faults maps.old) }
@@ -152,15 +152,15 @@ pub(crate) fn come<R: Wait, X: Mapping, K: Sink, M: Pace>(
         }
         Next::Empty => {
             pace.before(mapper.serial());
-            say_item(mapper, line, next, out)
+            say_task(mapper, line, next, out)
         }
         Next::Spoiled(_) => {
             pace.before(mapper.serial());
-            say_item(mapper, line, next, out)
+            say_task(mapper, line, next, out)
         }
-        Next::Refused(_, _) => say_item(mapper, line, next, out),
-        Next::Query { .. } => say_item(mapper, line, next, out),
-        Next::Totals => say_item(mapper, line, next, out),
+        Next::Refused(_, _) => say_task(mapper, line, next, out),
+        Next::Query { .. } => say_task(mapper, line, next, out),
+        Next::Totals => say_task(mapper, line, next, out),
         Next::Nothing => Put::Done,
         Next::Stop => Put::Done,
     }

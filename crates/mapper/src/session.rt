@@ -1,9 +1,9 @@
-//! A run over a feed: its items come to the mapper, to both outputs and to the pace.
+//! A run over a feed: its tasks come to the mapper, to both outputs and to the pace.
 ghost use Rattle.std.specs.Prelude.{◌≡◌, ◌≢◌, ◌⊎◌, ◌<◌, ◌≤◌, ◌-◌, ◌^◌, ◌↔◌, ℕ, List, None, IsTrue};
 ghost use mathlib.Core.List.{IsPrefix};
 ghost use Rattle.map_model.specs.declared.change.Change.{Change};
 ghost use Rattle.outside.specs.Faults.{Rose};
-ghost use Rattle.demand_feed.specs.Clerk.{item_by};
+ghost use Rattle.demand_feed.specs.Clerk.{task_by};
 ghost use Rattle.demand_feed.specs.declared.limits.TheConstants.{MOST_TURNS};
 ghost use Rattle.mapper.specs.Feeding.{IsFeed, IsFeedRun};
 ghost use Rattle.mapper.specs.Scenes.{scene};
@@ -11,12 +11,12 @@ ghost use Rattle.mapper.specs.Sessions.{HasFault, HasNoFault, Keeps, told_by};
 
 use crate::come::come;
 use crate::{Mapping, Spoken};
-use demand_feed::{Batch, FeedEnd, Intake, Next, Taken, TakesItems, run_lines};
+use demand_feed::{Batch, FeedEnd, Intake, Next, Taken, TakesTasks, run_lines};
 use outside::{Pace, Put, Sink, Source};
 use std::sync::Wait;
 use topology_text::Topology;
 
-/// What a feed's items come to.
+/// What a feed's tasks come to.
 #[derive(Drop)]
 struct Session<'r, 'x, 'l, 'o, 'm, 'p, R, X, K, M> {
     rt: &'r R,
@@ -29,19 +29,19 @@ struct Session<'r, 'x, 'l, 'o, 'm, 'p, R, X, K, M> {
 
 /// Whether nothing comes of a line.
 fn is_quiet(next: &Next) -> bool
-    ensures { (due : List Change) → IsTrue result ↔ (item_by due next.now ≡ None) }
+    ensures { (due : List Change) → IsTrue result ↔ (task_by due next.now ≡ None) }
 {
     matches!(next, Next::Nothing | Next::Stop)
 }
 
-impl<R: Wait, X: Mapping, K: Sink, M: Pace> TakesItems
+impl<R: Wait, X: Mapping, K: Sink, M: Pace> TakesTasks
     for Session<'_, '_, '_, '_, '_, '_, R, X, K, M> {
     ghost use Rattle.std.specs.Prelude.{◌-◌, ◌^◌};
     ghost use Rattle.mapper.specs.Sessions.{SessionCuts, SessionDoes};
 
-    ghost does = { λ item a b. SessionDoes X.newest X.history X.lent K.told K.faults M.told item a b };
+    ghost does = { λ task a b. SessionDoes X.newest X.history X.lent K.told K.faults M.told task a b };
 
-    ghost cuts = { λ item a b. SessionCuts X.newest X.history X.lent K.told K.faults M.told item a b };
+    ghost cuts = { λ task a b. SessionCuts X.newest X.history X.lent K.told K.faults M.told task a b };
 
     ghost market = { λ s. (X.newest s.mapper.now).plan.market };
 
