@@ -9,5 +9,6 @@ pub mod Worked
 pub mod Ends
 pub mod Ledgers
 pub mod Octets
+pub mod Chains
 pub mod FileLaws
 pub mod FileRows
