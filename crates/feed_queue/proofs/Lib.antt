@@ -1,0 +1,4 @@
+pub mod Lists
+pub mod Rules
+pub mod Markets
+pub mod Sendings

@@ -1,0 +1,5 @@
+pub mod Items
+pub mod Rule
+pub mod Ends
+pub mod Feeding
+pub mod Sending
