@@ -1,5 +1,5 @@
 -- Items of feeders, one more and some fewer.
-use Rattle.std.proofs.Common.{◌≡◌, ◌≢◌, ℕ, ◌+◌, ◌<◌, ◌≤◌, ◌^◌, false, cond, ◌==◌, ne_eqb, eq-eqb, eqb-true, lt_of_not-le, Bool, true, false, zero, suc, List, [], ◌∷◌, ◌++◌, length, map, All, append_assoc, append-nil, refl, ap, sym, subst, ◌∙◌, arith}
+use Rattle.std.proofs.Common.{◌≡◌, ◌≢◌, ℕ, ◌+◌, ◌<◌, ◌≤◌, ◌^◌, false, cond, ◌==◌, ne_eqb, eq-eqb, eqb-true, lt_of_not-le, Bool, true, false, zero, suc, List, [], ◌∷◌, ◌++◌, length, map, count_by, All, append_assoc, append-nil, refl, ap, sym, subst, ◌∙◌, arith}
 use Rattle.std.proofs.lemmas.List.{map-append}
 use Rattle.std.proofs.lemmas.List.Elements.{All-cons, All-head, All-nil, All-push, All-tail, filter-append}
 use Rattle.std.proofs.lemmas.List.FromFn.{map-range_with_len_more}
@@ -9,16 +9,16 @@ use Rattle.atomic_table.specs.Seated.{TableId}
 use Rattle.feed_queue.specs.Ends.{fresh_feeder}
 use Rattle.demand_feed.specs.declared.sent.Item.{Item}
 use Rattle.demand_feed.specs.declared.sent.What.{What}
-use Rattle.feed_queue.specs.Items.{AreTaken, Fits, MaySend, batches, is_batch, item, numbered, only, sent_by}
+use Rattle.feed_queue.specs.Items.{AreTaken, Fits, MaySend, batches, is_batch, item, numbered, only, sent_by, whats_of}
 
 -- what a feeder sent, and then more
 numbered_join : (k n : ℕ) (ws vs : List What) → numbered k n (ws ++ vs) ≡ numbered k n ws ++ numbered k (n + length ws) vs
 numbered_join k n [] vs = ap (λ m. numbered k m vs) (omega arith)
 numbered_join k n (w ∷ ws) vs = ap (λ xs. item k n w ∷ xs) (numbered_join k (n + 1) ws vs ∙ ap (λ m. numbered k (n + 1) ws ++ numbered k m vs) (omega arith))
 
-whats_of : (k n : ℕ) (ws : List What) → map (λ (x : Item). x.what) (numbered k n ws) ≡ ws
-whats_of k n [] = refl
-whats_of k n (w ∷ ws) = ap (λ xs. w ∷ xs) (whats_of k (n + 1) ws)
+whats_numbered : (k n : ℕ) (ws : List What) → whats_of (numbered k n ws) ≡ ws
+whats_numbered k n [] = refl
+whats_numbered k n (w ∷ ws) = ap (λ xs. w ∷ xs) (whats_numbered k (n + 1) ws)
 
 tail_is : (x y : Item) (xs ys : List Item) → x ∷ xs ≡ y ∷ ys → xs ≡ ys
 tail_is x y xs ys e = cc
@@ -80,11 +80,11 @@ taken_of groups nodes feeders sent got items four none may each = record {
 }
   where
     is : (k : ℕ) → sent_by k got ++ sent_by k items ≡ sent k
-    is k = sym (sent_join k got items) ∙ ap (map (λ (x : Item). x.what)) (each k) ∙ whats_of k 0 (sent k)
+    is k = sym (sent_join k got items) ∙ ap (map (λ (x : Item). x.what)) (each k) ∙ whats_numbered k 0 (sent k)
 
 -- what was taken and what is in the queue is what was sent
 pub accounts_of : (k : ℕ) (ws : List What) (got items : List Item) → only k (got ++ items) ≡ numbered k 0 ws → ws ≡ sent_by k got ++ sent_by k items
-accounts_of k ws got items each = sym (whats_of k 0 ws) ∙ ap (map (λ (x : Item). x.what)) (sym each) ∙ sent_join k got items
+accounts_of k ws got items each = sym (whats_numbered k 0 ws) ∙ ap (map (λ (x : Item). x.what)) (sym each) ∙ sent_join k got items
 
 -- one item more of this feeder
 pub each_here : (k : ℕ) (ws : List What) (got items : List Item) (x : Item) → x.feeder ≡ k → x.number ≡ length ws → only k (got ++ items) ≡ numbered k 0 ws → only k (got ++ (items ++ x ∷ [])) ≡ numbered k 0 (ws ++ x.what ∷ [])
@@ -146,18 +146,6 @@ last_fits groups nodes feeders xs x h = (
   lt_of_not-le (λ past. not_nil (sent_by x.feeder xs) x.what (sym (sent_last xs x) ∙ h.none x.feeder past)),
 )
 
-abbrev count : ℕ → List Item → ℕ
-count k xs = batches (sent_by k xs)
-
-batches_first : (w : What) (ws : List What) → batches (w ∷ ws) ≡ batches (w ∷ []) + batches ws
-batches_first w ws = batches_join (w ∷ []) ws
-
-count_here : (k : ℕ) (x : Item) (xs : List Item) → x.feeder ≡ k → count k (x ∷ xs) ≡ batches (x.what ∷ []) + count k xs
-count_here k x xs e = ap batches (here_more k x xs e) ∙ batches_first x.what (sent_by k xs)
-
-count_else : (k : ℕ) (x : Item) (xs : List Item) → x.feeder ≢ k → count k (x ∷ xs) ≡ count k xs
-count_else k x xs e = ap batches (else_same k x xs e)
-
 none_tail : (x : Item) (xs : List Item) → ((k : ℕ) → 4 ≤ k → sent_by k (x ∷ xs) ≡ []) → (k : ℕ) → 4 ≤ k → sent_by k xs ≡ []
 none_tail x xs none k past = at (x.feeder == k) refl
   where
@@ -165,23 +153,36 @@ none_tail x xs none k past = at (x.feeder == k) refl
     at true e = absurd (cons_nil x.what (sent_by k xs) (sym (here_more k x xs (eqb-true x.feeder k e)) ∙ none k past))
     at false e = sym (ap (λ b. map (λ (y : Item). y.what) (cond b (x ∷ only k xs) (only k xs))) e) ∙ none k past
 
-one_in_four : (x : Item) (xs : List Item) → sent_by x.feeder (x ∷ xs) ≢ [] → (4 ≤ x.feeder → sent_by x.feeder (x ∷ xs) ≡ []) → batches (map (λ (y : Item). y.what) xs) ≡ count 0 xs + count 1 xs + count 2 xs + count 3 xs
-    → (f : ℕ) → x.feeder ≡ f → batches (map (λ (y : Item). y.what) (x ∷ xs)) ≡ count 0 (x ∷ xs) + count 1 (x ∷ xs) + count 2 (x ∷ xs) + count 3 (x ∷ xs)
-one_in_four x xs some none rest zero e =
-    omega (arith, batches_first x.what (map (λ (y : Item). y.what) xs), rest, count_here 0 x xs e, count_else 1 x xs (λ o. omega (arith, e, o)), count_else 2 x xs (λ o. omega (arith, e, o)), count_else 3 x xs (λ o. omega (arith, e, o)))
-one_in_four x xs some none rest (suc zero) e =
-    omega (arith, batches_first x.what (map (λ (y : Item). y.what) xs), rest, count_here 1 x xs e, count_else 0 x xs (λ o. omega (arith, e, o)), count_else 2 x xs (λ o. omega (arith, e, o)), count_else 3 x xs (λ o. omega (arith, e, o)))
-one_in_four x xs some none rest (suc (suc zero)) e =
-    omega (arith, batches_first x.what (map (λ (y : Item). y.what) xs), rest, count_here 2 x xs e, count_else 1 x xs (λ o. omega (arith, e, o)), count_else 0 x xs (λ o. omega (arith, e, o)), count_else 3 x xs (λ o. omega (arith, e, o)))
-one_in_four x xs some none rest (suc (suc (suc zero))) e =
-    omega (arith, batches_first x.what (map (λ (y : Item). y.what) xs), rest, count_here 3 x xs e, count_else 1 x xs (λ o. omega (arith, e, o)), count_else 2 x xs (λ o. omega (arith, e, o)), count_else 0 x xs (λ o. omega (arith, e, o)))
-one_in_four x xs some none rest (suc (suc (suc (suc n)))) e = absurd (some (none (omega (arith, e))))
+module _ (test : What → Bool) where
+  -- how many of what was sent pass a test
+  abbrev pub passed : List What → ℕ
+  passed ws = count_by test ws
 
--- all batches are those of four feeders
-all_four : (xs : List Item) → ((k : ℕ) → 4 ≤ k → sent_by k xs ≡ []) → batches (map (λ (x : Item). x.what) xs) ≡ count 0 xs + count 1 xs + count 2 xs + count 3 xs
-all_four [] none = refl
-all_four (x ∷ xs) none = one_in_four x xs (λ e. cons_nil x.what (sent_by x.feeder xs) (sym (here_more x.feeder x xs refl) ∙ e)) (none x.feeder) (all_four xs (none_tail x xs none)) x.feeder refl
+  pub passed_first : (w : What) (ws : List What) → passed (w ∷ ws) ≡ cond (test w) 1 0 + passed ws
+  passed_first w ws = sum_by-append (λ v. cond (test v) 1 0) (w ∷ []) ws ∙ ap (λ n. n + passed ws) (omega arith)
+
+  abbrev pub passed_of : ℕ → List Item → ℕ
+  passed_of k xs = passed (sent_by k xs)
+
+  of_here : (k : ℕ) (x : Item) (xs : List Item) → x.feeder ≡ k → passed_of k (x ∷ xs) ≡ cond (test x.what) 1 0 + passed_of k xs
+  of_here k x xs e = ap passed (here_more k x xs e) ∙ passed_first x.what (sent_by k xs)
+
+  of_else : (k : ℕ) (x : Item) (xs : List Item) → x.feeder ≢ k → passed_of k (x ∷ xs) ≡ passed_of k xs
+  of_else k x xs e = ap passed (else_same k x xs e)
+
+  one_in_four : (x : Item) (xs : List Item) → (4 ≤ x.feeder → sent_by x.feeder (x ∷ xs) ≡ []) → passed (whats_of xs) ≡ passed_of 0 xs + passed_of 1 xs + passed_of 2 xs + passed_of 3 xs
+      → (f : ℕ) → x.feeder ≡ f → passed (whats_of (x ∷ xs)) ≡ passed_of 0 (x ∷ xs) + passed_of 1 (x ∷ xs) + passed_of 2 (x ∷ xs) + passed_of 3 (x ∷ xs)
+  one_in_four x xs none rest zero e = omega (arith, passed_first x.what (whats_of xs), rest, of_here 0 x xs e, of_else 1 x xs (λ o. omega (arith, e, o)), of_else 2 x xs (λ o. omega (arith, e, o)), of_else 3 x xs (λ o. omega (arith, e, o)))
+  one_in_four x xs none rest (suc zero) e = omega (arith, passed_first x.what (whats_of xs), rest, of_here 1 x xs e, of_else 0 x xs (λ o. omega (arith, e, o)), of_else 2 x xs (λ o. omega (arith, e, o)), of_else 3 x xs (λ o. omega (arith, e, o)))
+  one_in_four x xs none rest (suc (suc zero)) e = omega (arith, passed_first x.what (whats_of xs), rest, of_here 2 x xs e, of_else 1 x xs (λ o. omega (arith, e, o)), of_else 0 x xs (λ o. omega (arith, e, o)), of_else 3 x xs (λ o. omega (arith, e, o)))
+  one_in_four x xs none rest (suc (suc (suc zero))) e = omega (arith, passed_first x.what (whats_of xs), rest, of_here 3 x xs e, of_else 1 x xs (λ o. omega (arith, e, o)), of_else 2 x xs (λ o. omega (arith, e, o)), of_else 0 x xs (λ o. omega (arith, e, o)))
+  one_in_four x xs none rest (suc (suc (suc (suc n)))) e = absurd (cons_nil x.what (sent_by x.feeder xs) (sym (here_more x.feeder x xs refl) ∙ none (omega (arith, e))))
+
+  -- all that pass are those of four feeders
+  pub all_four : (xs : List Item) → ((k : ℕ) → 4 ≤ k → sent_by k xs ≡ []) → passed (whats_of xs) ≡ passed_of 0 xs + passed_of 1 xs + passed_of 2 xs + passed_of 3 xs
+  all_four [] none = refl
+  all_four (x ∷ xs) none = one_in_four x xs (none x.feeder) (all_four xs (none_tail x xs none)) x.feeder refl
 
 -- of all feeders fewer than 2^63 batches were taken
-pub few_in_all : (groups nodes feeders : ℕ) (taken : List Item) → AreTaken groups nodes feeders taken → batches (map (λ (x : Item). x.what) taken) + 4 ≤ 2 ^ 63
-few_in_all groups nodes feeders taken h = omega (arith, all_four taken (λ k past. h.none k (omega (arith, past, h.four))), (h.may 0).few, (h.may 1).few, (h.may 2).few, (h.may 3).few)
+pub few_in_all : (groups nodes feeders : ℕ) (taken : List Item) → AreTaken groups nodes feeders taken → batches (whats_of taken) + 4 ≤ 2 ^ 63
+few_in_all groups nodes feeders taken h = omega (arith, all_four is_batch taken (λ k past. h.none k (omega (arith, past, h.four))), (h.may 0).few, (h.may 1).few, (h.may 2).few, (h.may 3).few)

@@ -9,7 +9,7 @@ use Rattle.demand_feed.specs.declared.run.FeedEnd.{FeedEnd}
 use Rattle.demand_feed.specs.declared.run.FeedEnd.TheVariants as ends
 use Rattle.demand_feed.specs.declared.sent.What.{What}
 use Rattle.demand_feed.specs.declared.sent.What.TheVariants as what
-use Rattle.feed_queue.specs.Feeding.{Adds, Breaks, EndsWith, HasSent}
+use Rattle.feed_queue.specs.Feeder.{Adds, Breaks, EndsWith, HasSent}
 use Rattle.feed_queue.specs.Sending.{Keeps, SenderCuts, SenderDoes}
 use Rattle.feed_queue.specs.declared.sender.Sender.{Sender}
 

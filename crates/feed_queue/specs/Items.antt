@@ -55,6 +55,6 @@ pub record AreTaken (groups nodes feeders : ℕ) (taken : List Item) : Type 0 wh
   pub may : (k : ℕ) → MaySend groups nodes (sent_by k taken)
   pub none : (k : ℕ) → feeders ≤ k → sent_by k taken ≡ []
 
--- what taken items are
+-- what items are
 abbrev pub whats_of : List Item → List What
 whats_of items = map (λ x. x.what) items

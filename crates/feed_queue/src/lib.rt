@@ -5,6 +5,7 @@
 
 mod feeder;
 mod hand;
+mod laws;
 mod opening;
 mod ring;
 mod rule;
@@ -13,6 +14,7 @@ mod sender;
 mod taker;
 
 pub use feeder::Feeder;
+pub use laws::all_is_taken;
 pub use opening::{MOST_FEEDERS, PLACES, open};
 pub use rule::Numbers;
 pub use taker::Taker;

@@ -4,7 +4,7 @@ ghost use Rattle.feed_queue.specs.Ends.{with_item};
 ghost use Rattle.outside.specs.Faults.{Rose};
 ghost use Rattle.demand_feed.specs.Runs.{IsRun};
 ghost use Rattle.demand_feed.specs.declared.limits.TheConstants.{MOST_TURNS};
-ghost use Rattle.feed_queue.specs.Feeding.{Adds, Breaks, EndsWith, HasSent};
+ghost use Rattle.feed_queue.specs.Feeder.{Adds, Breaks, EndsWith, HasSent};
 ghost use Rattle.feed_queue.specs.Sending.{Keeps, market_if};
 
 use crate::feeder::Feeder;

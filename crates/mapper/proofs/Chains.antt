@@ -1,12 +1,11 @@
 -- Tasks one after another, and what is told behind them.
-use Rattle.std.proofs.Common.{◌≡◌, ◌≢◌, inl, inr, ℕ, List, [], ◌∷◌, refl, subst, sym}
-use Rattle.std.specs.Prelude.{IsSome, None, Option, Some}
+use Rattle.std.proofs.Common.{inl, inr, ℕ, List, [], ◌∷◌, refl, subst, sym}
+use Rattle.std.specs.Prelude.{Option}
 use Rattle.outside.specs.Source.{Fed}
 use Rattle.topology_text.specs.Plan.{Plan}
 use Rattle.demand_feed.specs.Task.{Task}
 use Rattle.demand_feed.specs.Runs.{EndsBy}
-use Rattle.demand_feed.specs.Taking.{AllDo, BrokeOff, HasTaken}
-use Rattle.demand_feed.specs.declared.takes.Taken.TheVariants as taken
+use Rattle.demand_feed.specs.Taking.{AllDo, BrokeOff}
 use Rattle.demand_feed.specs.declared.run.FeedEnd.{FeedEnd}
 use Rattle.demand_feed.specs.declared.run.FeedEnd.TheVariants as ends
 use Rattle.mapper.specs.Coming.{Cuts, Does}
@@ -43,5 +42,6 @@ has_ended does cuts tell f g ends.Ended t turns pieces fed then a b (inl h) = in
 has_ended does cuts tell f g ends.Ended t turns pieces fed then a b (inr h) = inr (h.0, h.1, all_came does tell f _ a b h.2)
 has_ended does cuts tell f g ends.SourceFault t turns pieces fed then a b h = (h.0, h.1, all_came does tell f _ a b h.2)
 has_ended does cuts tell f g ends.Spent t turns pieces fed then a b h = (h.0, h.1, all_came does tell f _ a b h.2)
+has_ended does cuts tell f g ends.NoMemory t turns pieces fed then a b h = absurd h
 has_ended does cuts tell f g ends.SinkFault t turns pieces fed then a b (inl h) = inl (h.0, h.1, was_cut does cuts tell f g _ a b h.2)
 has_ended does cuts tell f g ends.SinkFault t turns pieces fed then a b (inr h) = inr (h.0, h.1, was_cut does cuts tell f g _ a b h.2)

@@ -10,7 +10,7 @@ use Rattle.demand_feed.specs.declared.run.FeedEnd.TheVariants as ends
 use Rattle.mapper.specs.Control.{AllCome, Comes, Course, start}
 use Rattle.mapper.specs.Feeding.{AllCame, HasEnded, WasCut}
 use Rattle.mapper.specs.Scenes.{Scene}
-use Rattle.mapper.proofs.Chains.{all_keep}
+use Rattle.demand_feed.proofs.Chains.{all_keep}
 
 -- versions were added, and the topology is the same
 pub record IsFollowed (before after : Scene) : Type 0 where
@@ -46,5 +46,6 @@ ended_follows ends.Ended t turns pieces fed then before after (inl h) = came_fol
 ended_follows ends.Ended t turns pieces fed then before after (inr h) = came_follows _ before after h.2
 ended_follows ends.SourceFault t turns pieces fed then before after h = came_follows _ before after h.2
 ended_follows ends.Spent t turns pieces fed then before after h = came_follows _ before after h.2
+ended_follows ends.NoMemory t turns pieces fed then before after h = absurd h
 ended_follows ends.SinkFault t turns pieces fed then before after (inl h) = cut_follows _ before after h.2
 ended_follows ends.SinkFault t turns pieces fed then before after (inr h) = cut_follows _ before after h.2

@@ -11,7 +11,7 @@ use Rattle.demand_feed.specs.Task.{Task, tasks}
 use Rattle.demand_feed.specs.Lines.{lines_of}
 use Rattle.demand_feed.specs.Runs.{HasRead, IsAll, NoStop, NoStopAhead, StopsLast}
 use Rattle.demand_feed.specs.declared.run.FeedEnd.{FeedEnd}
-use Rattle.demand_feed.specs.declared.run.FeedEnd.TheVariants.{Ended, SourceFault, SinkFault, Spent}
+use Rattle.demand_feed.specs.declared.run.FeedEnd.TheVariants.{Ended, SourceFault, SinkFault, Spent, NoMemory}
 use Rattle.mapper.specs.Control.{AllCome, Comes, Course, start}
 use Rattle.mapper.specs.Scenes.{IsAt, IsCutAt, Scene}
 
@@ -37,6 +37,7 @@ HasEnded Spent t turns pieces fed_before fed_after before after =
 HasEnded SinkFault t turns pieces fed_before fed_after before after =
     (NoStopAhead pieces × (length pieces ≤ turns) × WasCut (tasks t (lines_of false (concat pieces))) before after)
     ⊎ (IsAll (concat pieces) fed_before fed_after × (length pieces < turns) × WasCut (tasks t (lines_of true (concat pieces))) before after)
+HasEnded NoMemory t turns pieces fed_before fed_after before after = ⊥
 
 -- a run over a feed
 abbrev pub IsFeedRun : Plan → ℕ → FeedEnd → Option Fed → Option Fed → Scene → Scene → Type 0

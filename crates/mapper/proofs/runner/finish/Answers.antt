@@ -1,5 +1,5 @@
 use Rattle.mapper.proofs.Followed.{ended_follows}
-use Rattle.mapper.proofs.session.finish.Goals as goal
+use Rattle.mapper.proofs.runner.finish.Goals as goal
 
 pub returns-clause-plan : goal.returns-clause-plan
 returns-clause-plan g c = let run = c.work-end.ensures.run in (ended_follows c.work-end.result c.args.topology.now c.args.turns run.0 _ _ _ _ run.2).plan

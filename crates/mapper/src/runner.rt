@@ -7,10 +7,11 @@ ghost use Rattle.demand_feed.specs.Clerk.{task_by};
 ghost use Rattle.demand_feed.specs.declared.limits.TheConstants.{MOST_TURNS};
 ghost use Rattle.mapper.specs.Feeding.{IsFeed, IsFeedRun};
 ghost use Rattle.mapper.specs.Scenes.{scene};
-ghost use Rattle.mapper.specs.Sessions.{HasFault, HasNoFault, Keeps, told_by};
+ghost use Rattle.mapper.specs.Runners.{HasFault, HasNoFault, Keeps, told_by};
 
+use crate::Spoken;
 use crate::come::come;
-use crate::{Mapping, Spoken};
+use crate::mapping::Mapping;
 use demand_feed::{Batch, FeedEnd, Intake, Next, Taken, TakesTasks, run_lines};
 use outside::{Pace, Put, Sink, Source};
 use std::sync::Wait;
@@ -18,7 +19,7 @@ use topology_text::Topology;
 
 /// What a feed's tasks come to.
 #[derive(Drop)]
-struct Session<'r, 'x, 'l, 'o, 'm, 'p, R, X, K, M> {
+struct Runner<'r, 'x, 'l, 'o, 'm, 'p, R, X, K, M> {
     rt: &'r R,
     mapper: &'x mut X,
     line: &'l mut Spoken,
@@ -35,13 +36,13 @@ fn is_quiet(next: &Next) -> bool
 }
 
 impl<R: Wait, X: Mapping, K: Sink, M: Pace> TakesTasks
-    for Session<'_, '_, '_, '_, '_, '_, R, X, K, M> {
+    for Runner<'_, '_, '_, '_, '_, '_, R, X, K, M> {
     ghost use Rattle.std.specs.Prelude.{◌-◌, ◌^◌};
-    ghost use Rattle.mapper.specs.Sessions.{SessionCuts, SessionDoes};
+    ghost use Rattle.mapper.specs.Runners.{RunnerCuts, RunnerDoes};
 
-    ghost does = { λ task a b. SessionDoes X.newest X.history X.lent K.told K.faults M.told task a b };
+    ghost does = { λ task a b. RunnerDoes X.newest X.history X.lent K.told K.faults M.told task a b };
 
-    ghost cuts = { λ task a b. SessionCuts X.newest X.history X.lent K.told K.faults M.told task a b };
+    ghost cuts = { λ task a b. RunnerCuts X.newest X.history X.lent K.told K.faults M.told task a b };
 
     ghost market = { λ s. (X.newest s.mapper.now).plan.market };
 
@@ -68,59 +69,59 @@ impl<R: Wait, X: Mapping, K: Sink, M: Pace> TakesTasks
     }
 }
 
-/// Runs a feed to its end. What the session lends stays lent.
+/// Runs a feed to its end. What the runner lends stays lent.
 fn work<R: Wait, S: Source, X: Mapping, K: Sink, M: Pace>(
     topology: &Topology,
     intake: &mut Intake,
     feed: &mut S,
-    session: &mut Session<'_, '_, '_, '_, '_, '_, R, X, K, M>,
+    runner: &mut Runner<'_, '_, '_, '_, '_, '_, R, X, K, M>,
     turns: u64,
 ) -> FeedEnd
     requires turns { turns ≤ MOST_TURNS }
-    requires plan { (X.newest session.old.mapper.now).plan ≡ topology.now }
-    requires serial { (X.newest session.old.mapper.now).serial < 2 ^ 63 }
-    ensures keeps { Keeps X.lent K.faults session.old session.new }
-    ensures run { IsFeedRun topology.now turns result (S.told feed.old) (S.told feed.new) (told_by X.newest X.history K.told M.told session.old) (told_by X.newest X.history K.told M.told session.new) }
-    ensures sink { result ≡ FeedEnd.SinkFault → HasFault K.faults session.old session.new }
-    ensures sink_stays { result ≢ FeedEnd.SinkFault → HasNoFault K.faults session.old session.new }
+    requires plan { (X.newest runner.old.mapper.now).plan ≡ topology.now }
+    requires serial { (X.newest runner.old.mapper.now).serial < 2 ^ 63 }
+    ensures keeps { Keeps X.lent K.faults runner.old runner.new }
+    ensures run { IsFeedRun topology.now turns result (S.told feed.old) (S.told feed.new) (told_by X.newest X.history K.told M.told runner.old) (told_by X.newest X.history K.told M.told runner.new) }
+    ensures sink { result ≡ FeedEnd.SinkFault → HasFault K.faults runner.old runner.new }
+    ensures sink_stays { result ≢ FeedEnd.SinkFault → HasNoFault K.faults runner.old runner.new }
     ensures source { result ≡ FeedEnd.SourceFault → Rose (S.faults feed.old) (S.faults feed.new) }
     ensures source_later { S.faults feed.old ≤ S.faults feed.new }
     ensures source_stays { result ≢ FeedEnd.SourceFault → S.faults feed.new ≡ S.faults feed.old }
 {
-    run_lines(topology, intake, feed, session, turns)
+    run_lines(topology, intake, feed, runner, turns)
 }
 
-/// Runs a feed to its end, and tells the pace. What the session lends stays lent.
+/// Runs a feed to its end, and tells the pace. What the runner lends stays lent.
 fn finish<R: Wait, S: Source, X: Mapping, K: Sink, M: Pace>(
     topology: &Topology,
     intake: &mut Intake,
     feed: &mut S,
-    session: &mut Session<'_, '_, '_, '_, '_, '_, R, X, K, M>,
+    runner: &mut Runner<'_, '_, '_, '_, '_, '_, R, X, K, M>,
     turns: u64,
 ) -> FeedEnd
     requires turns { turns ≤ MOST_TURNS }
-    requires plan { (X.newest session.old.mapper.now).plan ≡ topology.now }
-    requires serial { (X.newest session.old.mapper.now).serial < 2 ^ 63 }
-    ensures keeps { Keeps X.lent K.faults session.old session.new }
-    ensures run { IsFeed topology.now turns result (S.told feed.old) (S.told feed.new) (told_by X.newest X.history K.told M.told session.old) (told_by X.newest X.history K.told M.told session.new) }
-    ensures plan { (X.newest session.new.mapper.now).plan ≡ (X.newest session.old.mapper.now).plan }
-    ensures kept { IsPrefix (X.history session.old.mapper.now) (X.history session.new.mapper.now) }
-    ensures sink { result ≡ FeedEnd.SinkFault → HasFault K.faults session.old session.new }
-    ensures sink_stays { result ≢ FeedEnd.SinkFault → HasNoFault K.faults session.old session.new }
+    requires plan { (X.newest runner.old.mapper.now).plan ≡ topology.now }
+    requires serial { (X.newest runner.old.mapper.now).serial < 2 ^ 63 }
+    ensures keeps { Keeps X.lent K.faults runner.old runner.new }
+    ensures run { IsFeed topology.now turns result (S.told feed.old) (S.told feed.new) (told_by X.newest X.history K.told M.told runner.old) (told_by X.newest X.history K.told M.told runner.new) }
+    ensures plan { (X.newest runner.new.mapper.now).plan ≡ (X.newest runner.old.mapper.now).plan }
+    ensures kept { IsPrefix (X.history runner.old.mapper.now) (X.history runner.new.mapper.now) }
+    ensures sink { result ≡ FeedEnd.SinkFault → HasFault K.faults runner.old runner.new }
+    ensures sink_stays { result ≢ FeedEnd.SinkFault → HasNoFault K.faults runner.old runner.new }
     ensures source { result ≡ FeedEnd.SourceFault → Rose (S.faults feed.old) (S.faults feed.new) }
     ensures source_later { S.faults feed.old ≤ S.faults feed.new }
     ensures source_stays { result ≢ FeedEnd.SourceFault → S.faults feed.new ≡ S.faults feed.old }
 {
-    let end = work(topology, intake, feed, session, turns);
-    let newest = session.mapper.serial();
-    session.pace.done(newest);
+    let end = work(topology, intake, feed, runner, turns);
+    let newest = runner.mapper.serial();
+    runner.pace.done(newest);
     end
 }
 
 /// Runs a feed to its end or for so many turns, from the newest map on, and then tells the pace that it has ended.
 ///
 /// Each map's text and each line of control text is one put, and nothing is put behind one that failed.
-pub fn run_feed<R: Wait, S: Source, X: Mapping, K: Sink, M: Pace>(
+pub(crate) fn run_feed<R: Wait, S: Source, X: Mapping, K: Sink, M: Pace>(
     rt: &R,
     topology: &Topology,
     mapper: &mut X,
@@ -146,7 +147,7 @@ pub fn run_feed<R: Wait, S: Source, X: Mapping, K: Sink, M: Pace>(
     ensures source_stays { result ≢ FeedEnd.SourceFault → S.faults feed.new ≡ S.faults feed.old }
 {
     let mut line = Spoken::new();
-    let mut session = Session {
+    let mut runner = Runner {
         rt,
         mapper,
         line: &mut line,
@@ -154,5 +155,5 @@ pub fn run_feed<R: Wait, S: Source, X: Mapping, K: Sink, M: Pace>(
         maps,
         pace,
     };
-    finish(topology, intake, feed, &mut session, turns)
+    finish(topology, intake, feed, &mut runner, turns)
 }

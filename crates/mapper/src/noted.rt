@@ -3,8 +3,9 @@ ghost use Rattle.std.specs.Prelude.{◌≡◌, ◌<◌, option_map, Some, slice_
 ghost use Rattle.outside.specs.Limits.{most_notes};
 ghost use Rattle.mapper.specs.Words.{map_text, reply_by, totals_of};
 
+use crate::Totals;
+use crate::mapping::Mapping;
 use crate::maps::Maps;
-use crate::{Mapping, Totals};
 use addr_text::Addr;
 use answer_core::Answer;
 use arrayvec::ArrayVec;
@@ -17,18 +18,18 @@ use std::sync::Wait;
 
 /// The published maps, and the row into which their notes go, each into the cell of its serial.
 #[derive(Drop)]
-pub(crate) struct Feeding<'m, 'n, J: Naming> {
+pub(crate) struct Noted<'m, 'n, J: Naming> {
     maps: &'m mut Maps<J>,
     row: &'n NoteRow<J>,
 }
 
-impl<'m, 'n, J: Naming> Feeding<'m, 'n, J> {
+impl<'m, 'n, J: Naming> Noted<'m, 'n, J> {
     /// Those maps, with that row.
-    pub fn new(maps: &'m mut Maps<J>, row: &'n NoteRow<J>) -> Feeding<'m, 'n, J>
+    pub fn new(maps: &'m mut Maps<J>, row: &'n NoteRow<J>) -> Noted<'m, 'n, J>
         ensures same { result.maps.ghost_name ≡ maps.entry.ghost_name }
         ensures now { result.maps.now ≡ maps.entry.now }
     {
-        Feeding { maps, row }
+        Noted { maps, row }
     }
 }
 
@@ -48,7 +49,7 @@ fn put<'n, J: Naming, R: Wait>(
     }
 }
 
-impl<'n, J: Naming> Mapping for Feeding<'_, 'n, J> {
+impl<'n, J: Naming> Mapping for Noted<'_, 'n, J> {
     type Kept = KeptNote<'n, J>;
 
     ghost kept = { λ k. k };
