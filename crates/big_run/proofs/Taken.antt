@@ -7,34 +7,34 @@ use Rattle.text_parts.specs.Parts.{but_last, parts, whole_lines}
 use Rattle.text_parts.proofs.Lines.{whole_are}
 use Rattle.topology_text.specs.Plan.{Plan}
 use Rattle.map_cell.specs.Ends.{PublisherState}
-use Rattle.demand_feed.specs.Item.{Desk, Item, fresh, is_stop, items, items_of, step, up_to_stop}
+use Rattle.demand_feed.specs.Task.{Ledger, Task, fresh, is_stop, tasks, tasks_of, step, up_to_stop}
 use Rattle.demand_feed.specs.Taking.{AllDo}
 use Rattle.demand_feed.specs.declared.clerk.Next.{Next}
 use Rattle.demand_feed.specs.declared.clerk.Next.TheVariants as next
-use Rattle.demand_feed.specs.Clerk.{item_by}
+use Rattle.demand_feed.specs.Clerk.{task_by}
 use Rattle.map_model.specs.declared.change.Change.{Change}
 use Rattle.big_run.specs.Publishing.{Comes, Publishes}
 use Rattle.big_run.specs.Working.{IsLineTaken}
 
 -- what comes of one line, and then of others
-joined : (o : Option Item) (more : List Item) (a b last : PublisherState) → Comes o a b → AllDo Publishes more b last → AllDo Publishes (option_to_list o ++ more) a last
+joined : (o : Option Task) (more : List Task) (a b last : PublisherState) → Comes o a b → AllDo Publishes more b last → AllDo Publishes (option_to_list o ++ more) a last
 joined None more a b last same all = rw same at all
-joined (Some item) more a b last does all = (b, does, all)
+joined (Some task) more a b last does all = (b, does, all)
 
 -- a line that doesn't say stop, ahead of others
 goes : (line : List ℕ) (lines : List (List ℕ)) → is_stop line ≡ false → up_to_stop (line ∷ lines) ≡ line ∷ up_to_stop lines
 goes line lines calm = ap (λ b. cond b [] (line ∷ up_to_stop lines)) calm
 
-pub taken : (t : Plan) (desk after : Desk) (line : List ℕ) (lines : List (List ℕ)) (a b last : PublisherState) → is_stop line ≡ false → after ≡ (step t desk line).desk → Comes (step t desk line).item a b
-    → AllDo Publishes (items_of t after (up_to_stop lines)) b last → AllDo Publishes (items_of t desk (up_to_stop (line ∷ lines))) a last
-taken t desk after line lines a b last calm is comes all =
+pub taken : (t : Plan) (ledger after : Ledger) (line : List ℕ) (lines : List (List ℕ)) (a b last : PublisherState) → is_stop line ≡ false → after ≡ (step t ledger line).ledger → Comes (step t ledger line).task a b
+    → AllDo Publishes (tasks_of t after (up_to_stop lines)) b last → AllDo Publishes (tasks_of t ledger (up_to_stop (line ∷ lines))) a last
+taken t ledger after line lines a b last calm is comes all =
     let rest = rw is at all in
-    let whole = joined (step t desk line).item (items_of t (step t desk line).desk (up_to_stop lines)) a b last comes rest in
+    let whole = joined (step t ledger line).task (tasks_of t (step t ledger line).ledger (up_to_stop lines)) a b last comes rest in
     rw (goes line lines calm) whole
 
 -- a line that says stop ends all
-pub stops : (t : Plan) (desk : Desk) (line : List ℕ) (lines : List (List ℕ)) (a : PublisherState) → is_stop line ≡ true → AllDo Publishes (items_of t desk (up_to_stop (line ∷ lines))) a a
-stops t desk line lines a found =
+pub stops : (t : Plan) (ledger : Ledger) (line : List ℕ) (lines : List (List ℕ)) (a : PublisherState) → is_stop line ≡ true → AllDo Publishes (tasks_of t ledger (up_to_stop (line ∷ lines))) a a
+stops t ledger line lines a found =
     let none : up_to_stop (line ∷ lines) ≡ [] = ap (λ b. cond b [] (line ∷ up_to_stop lines)) found in
     rw none refl
 
@@ -47,7 +47,7 @@ pub cut_off : (text line rest : List ℕ) → parts 10 text ≡ line ∷ parts 1
 cut_off text line rest is = ap but_last is ∙ front line (parts 10 rest) (omega (arith, length-slice_split (λ b. b == 10) rest))
 
 -- nothing comes of a line that ends no batch
-pub nothing_by : (due : List Change) (n : Next) (a : PublisherState) → n ≢ next.Batch → Comes (item_by due n) a a
+pub nothing_by : (due : List Change) (n : Next) (a : PublisherState) → n ≢ next.Batch → Comes (task_by due n) a a
 nothing_by due next.Nothing a other = refl
 nothing_by due next.Stop a other = refl
 nothing_by due (next.Refused number why) a other = refl
@@ -66,18 +66,18 @@ calm line not_found = go (is_stop line) not_found
     go false other = refl
 
 -- behind a line that ends the feed nothing was done
-pub ended : (t : Plan) (line : List ℕ) (goes_on : Bool) (desk after : Desk) (a b : PublisherState) → goes_on ≡ false → IsLineTaken t line goes_on desk after a b → (is_stop line ≡ true) × (b ≡ a)
-ended t line true desk after a b h taken = absurd cc
-ended t line false desk after a b h taken = taken
+pub ended : (t : Plan) (line : List ℕ) (goes_on : Bool) (ledger after : Ledger) (a b : PublisherState) → goes_on ≡ false → IsLineTaken t line goes_on ledger after a b → (is_stop line ≡ true) × (b ≡ a)
+ended t line true ledger after a b h taken = absurd cc
+ended t line false ledger after a b h taken = taken
 
 -- behind another line what comes of it was done
-pub went_on : (t : Plan) (line : List ℕ) (goes_on : Bool) (desk after : Desk) (a b : PublisherState) → goes_on ≡ true → IsLineTaken t line goes_on desk after a b → (is_stop line ≡ false) × (after ≡ (step t desk line).desk) × Comes (step t desk line).item a b
-went_on t line true desk after a b h taken = taken
-went_on t line false desk after a b h taken = absurd cc
+pub went_on : (t : Plan) (line : List ℕ) (goes_on : Bool) (ledger after : Ledger) (a b : PublisherState) → goes_on ≡ true → IsLineTaken t line goes_on ledger after a b → (is_stop line ≡ false) × (after ≡ (step t ledger line).ledger) × Comes (step t ledger line).task a b
+went_on t line true ledger after a b h taken = taken
+went_on t line false ledger after a b h taken = absurd cc
 
--- the items of all lines, from the first on
-pub from_first : (t : Plan) (feed : List ℕ) (desk : Desk) (a b : PublisherState) → desk ≡ fresh → AllDo Publishes (items_of t desk (up_to_stop (but_last (parts 10 feed)))) a b → AllDo Publishes (items t (whole_lines feed)) a b
-from_first t feed desk a b is all =
+-- the tasks of all lines, from the first on
+pub from_first : (t : Plan) (feed : List ℕ) (ledger : Ledger) (a b : PublisherState) → ledger ≡ fresh → AllDo Publishes (tasks_of t ledger (up_to_stop (but_last (parts 10 feed)))) a b → AllDo Publishes (tasks t (whole_lines feed)) a b
+from_first t feed ledger a b is all =
     let fresh_all = rw is at all in
-    let shown : AllDo Publishes (items_of t fresh (up_to_stop (whole_lines feed))) a b = rw (whole_are feed) fresh_all in
-    unfold items in shown
+    let shown : AllDo Publishes (tasks_of t fresh (up_to_stop (whole_lines feed))) a b = rw (whole_are feed) fresh_all in
+    unfold tasks in shown

@@ -5,7 +5,7 @@ use Rattle.text_parts.specs.Parts.{whole_lines}
 use Rattle.map_model.specs.declared.change.Change.{Change}
 use Rattle.topology_text.specs.Plan.{Plan}
 use Rattle.topology_text.specs.Topology.{zone_of}
-use Rattle.demand_feed.specs.Item.{batch, items}
+use Rattle.demand_feed.specs.Task.{batch, tasks}
 use Rattle.demand_feed.specs.Taking.{AllDo}
 use Rattle.map_cell.specs.Ends.{PublisherState}
 use Rattle.big_world.specs.declared.TheConstants.{LARGEST_WORLD}
@@ -34,14 +34,14 @@ unfolding world_plan
 world_zone n = refl
 
 run_is : (n : ℕ) (t : Plan) (a b : PublisherState) (feed : List ℕ) (s : Summary) (proposals : ℕ) → 1 ≤ n → n ≤ LARGEST_WORLD → t ≡ world_plan n → feed ≡ feed_of n → IsFirst t a
-    → AllDo Publishes (items a.newest.plan (whole_lines feed)) a b → s ≡ summary_of n a.newest.plan b proposals → IsMapping t.market a.newest.lines 0 proposals → proposals ≤ most_offers t.market → IsRun n s
+    → AllDo Publishes (tasks a.newest.plan (whole_lines feed)) a b → s ≡ summary_of n a.newest.plan b proposals → IsMapping t.market a.newest.lines 0 proposals → proposals ≤ most_offers t.market → IsRun n s
 run_is n t a b feed s proposals some most plan_is feed_is first batches sums mapping few =
     let plan = first.plan in
     let count : s.proposals ≡ proposals = ap (λ (x : Summary). x.proposals) sums in
     let own : s ≡ summary_of n t b proposals = rw plan at sums in
-    let same = ap (λ p. items p (whole_lines feed)) plan ∙ ap (λ f. items t (whole_lines f)) feed_is in
-    let done : AllDo Publishes (items t (whole_lines (feed_of n))) a b = rw same at batches in
-    let each = ap (λ p. items p (whole_lines (feed_of n))) plan_is ∙ world_batches n some most in
+    let same = ap (λ p. tasks p (whole_lines feed)) plan ∙ ap (λ f. tasks t (whole_lines f)) feed_is in
+    let done : AllDo Publishes (tasks t (whole_lines (feed_of n))) a b = rw same at batches in
+    let each = ap (λ p. tasks p (whole_lines (feed_of n))) plan_is ∙ world_batches n some most in
     let all : AllDo Publishes (map batch (batches_of n)) a b = rw each at done in
     let behind = published (batches_of n) a b all in
     let zone = ap (λ (p : Plan). p.zone) (behind.1 ∙ plan ∙ plan_is) ∙ world_zone n in
@@ -62,6 +62,6 @@ run_is n t a b feed s proposals some most plan_is feed_is first batches sums map
 
 -- what came of the feed, where memory sufficed, makes a run
 pub run_or_none : {E : Type 0} (n : ℕ) (t : Plan) (a b : PublisherState) (feed : List ℕ) (done : Result Summary E) (proposals : ℕ) → 1 ≤ n → n ≤ LARGEST_WORLD → t ≡ world_plan n → feed ≡ feed_of n → IsFirst t a
-    → OnOk done (AllDo Publishes (items a.newest.plan (whole_lines feed)) a b) → IfOk done (λ s. s ≡ summary_of n a.newest.plan b proposals) → IsMapping t.market a.newest.lines 0 proposals → proposals ≤ most_offers t.market → IfOk done (IsRun n)
+    → OnOk done (AllDo Publishes (tasks a.newest.plan (whole_lines feed)) a b) → IfOk done (λ s. s ≡ summary_of n a.newest.plan b proposals) → IsMapping t.market a.newest.lines 0 proposals → proposals ≤ most_offers t.market → IfOk done (IsRun n)
 run_or_none n t a b feed (Ok s) proposals some most plan_is feed_is first batches sums mapping few = run_is n t a b feed s proposals some most plan_is feed_is first batches sums mapping few
 run_or_none n t a b feed (Err e) proposals some most plan_is feed_is first batches sums mapping few = tt

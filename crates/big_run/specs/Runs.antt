@@ -3,7 +3,7 @@ use Rattle.std.specs.Prelude.{◌≡◌, ℕ, ◌+◌, ◌≤◌, length, Ok}
 use Rattle.text_parts.specs.Parts.{whole_lines}
 use Rattle.topology_text.specs.Plan.{Plan}
 use Rattle.topology_text.specs.Faults.{reading}
-use Rattle.demand_feed.specs.Item.{items}
+use Rattle.demand_feed.specs.Task.{tasks}
 use Rattle.demand_feed.specs.Taking.{AllDo}
 use Rattle.map_cell.specs.Ends.{PublisherState}
 use Rattle.big_world.specs.Feed.{feed_of}
@@ -34,7 +34,7 @@ pub record IsRun (n : ℕ) (s : Summary) : Type 0 where
   pub last : PublisherState
   pub reads : reading (topology_of n) ≡ Ok topology
   pub is_first : IsFirst topology first
-  pub batches : AllDo Publishes (items topology (whole_lines (feed_of n))) first last
+  pub batches : AllDo Publishes (tasks topology (whole_lines (feed_of n))) first last
   pub counted : IsMapping topology.market first.newest.lines 0 s.proposals
   pub few : s.proposals ≤ most_offers topology.market
   pub sums : s ≡ summary_of n topology last s.proposals

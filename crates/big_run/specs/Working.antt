@@ -4,7 +4,7 @@ use Rattle.map_model.specs.Market.{IsSameShape}
 use Rattle.map_cell.specs.Ends.{PublisherState}
 use Rattle.topology_text.specs.Plan.{Plan}
 use Rattle.demand_feed.specs.Clerk.{AreBatches, Clerking}
-use Rattle.demand_feed.specs.Item.{Desk, is_stop, step}
+use Rattle.demand_feed.specs.Task.{Ledger, is_stop, step}
 use Rattle.big_run.specs.Publishing.{Comes}
 use Rattle.big_run.specs.declared.judge.Judge.{Judge}
 
@@ -17,6 +17,6 @@ pub record IsAtWork (t : Plan) (c : Clerking) (m : PublisherState) (j : Judge) :
   pub good : j.good ≡ m.newest.serial + 1
 
 -- a line was taken: it says `stop`, or what comes of it was done
-abbrev pub IsLineTaken : Plan → List ℕ → Bool → Desk → Desk → PublisherState → PublisherState → Type 0
-IsLineTaken t line false desk after a b = (is_stop line ≡ true) × (b ≡ a)
-IsLineTaken t line true desk after a b = (is_stop line ≡ false) × (after ≡ (step t desk line).desk) × Comes (step t desk line).item a b
+abbrev pub IsLineTaken : Plan → List ℕ → Bool → Ledger → Ledger → PublisherState → PublisherState → Type 0
+IsLineTaken t line false ledger after a b = (is_stop line ≡ true) × (b ≡ a)
+IsLineTaken t line true ledger after a b = (is_stop line ≡ false) × (after ≡ (step t ledger line).ledger) × Comes (step t ledger line).task a b

@@ -1,7 +1,7 @@
 //! The feed of a large world, worked by a mapper: each batch is published, and its map checked.
 ghost use Rattle.std.specs.Prelude.{◌≡◌, ◌<◌, ◌≤◌, ◌+◌, ◌-◌, ◌^◌, ◌≢◌, [], ℕ, List, IfOk, OnOk, length, true, false};
 ghost use Rattle.text_parts.specs.Parts.{whole_lines};
-ghost use Rattle.demand_feed.specs.Item.{Desk, Item, fresh, is_stop, items, step};
+ghost use Rattle.demand_feed.specs.Task.{Ledger, Task, fresh, is_stop, tasks, step};
 ghost use Rattle.demand_feed.specs.Taking.{AllDo};
 ghost use Rattle.map_cell.specs.Ends.{PublisherState};
 ghost use Rattle.map_model.specs.Batch.{IsBatch};
@@ -51,11 +51,11 @@ fn take_line<J: Naming, R: Wait>(
     judge: &mut Judge,
 ) -> Result<bool, NoMemory>
     requires work { IsAtWork topology.now clerk.old mapper.old judge.old }
-    requires number { clerk.old.desk.number < 2 ^ 64 - 1 }
+    requires number { clerk.old.ledger.number < 2 ^ 64 - 1 }
     requires serial { mapper.old.newest.serial < 2 ^ 64 - 2 }
     ensures work { OnOk result (IsAtWork topology.now clerk.new mapper.new judge.new) }
-    ensures taken { IfOk result (λ goes_on. IsLineTaken topology.now line.now goes_on clerk.old.desk clerk.new.desk mapper.old mapper.new) }
-    ensures number { OnOk result (clerk.new.desk.number ≡ clerk.old.desk.number + 1) }
+    ensures taken { IfOk result (λ goes_on. IsLineTaken topology.now line.now goes_on clerk.old.ledger clerk.new.ledger mapper.old mapper.new) }
+    ensures number { OnOk result (clerk.new.ledger.number ≡ clerk.old.ledger.number + 1) }
     ensures serial { OnOk result (mapper.new.newest.serial ≤ mapper.old.newest.serial + 1) }
 {
     match clerk.take(topology, line) {
@@ -78,11 +78,11 @@ pub(crate) fn take_lines<J: Naming, R: Wait>(
     judge: &mut Judge,
 ) -> Result<(), NoMemory>
     requires work { IsAtWork topology.now clerk.old mapper.old judge.old }
-    requires fresh { clerk.old.desk ≡ fresh }
+    requires fresh { clerk.old.ledger ≡ fresh }
     requires serial { mapper.old.newest.serial ≡ 0 }
     requires length { length feed.now < 2 ^ 63 }
     ensures work { OnOk result (IsAtWork topology.now clerk.new mapper.new judge.new) }
-    ensures done { OnOk result (AllDo Publishes (items topology.now (whole_lines feed.now)) mapper.old mapper.new) }
+    ensures done { OnOk result (AllDo Publishes (tasks topology.now (whole_lines feed.now)) mapper.old mapper.new) }
 {
     let mut rest = feed;
     'lines: while let Some((line, behind)) = cut(rest, b'\n') {

@@ -17,8 +17,8 @@ use Rattle.demand_feed.specs.Batch.{capacity_change, demand_change, with_capacit
 use Rattle.demand_feed.specs.Limits.{most_changes}
 use Rattle.demand_feed.specs.Line.{line_of}
 use Rattle.demand_feed.specs.declared.fault.BatchFault.TheVariants.{Full, Range}
-use Rattle.demand_feed.specs.Item.{Desk, Item, Step, batch, by_said, changed, desk_after, fresh, has_stop, is_stop, is_stop_said, items, items_of, step}
-use Rattle.demand_feed.proofs.Items.{items_join, items_stop, no_stop_none}
+use Rattle.demand_feed.specs.Task.{Ledger, Task, Step, batch, by_said, changed, ledger_after, fresh, has_stop, is_stop, is_stop_said, tasks, tasks_of, step}
+use Rattle.demand_feed.proofs.Tasks.{tasks_join, tasks_stop, no_stop_none}
 use Rattle.big_world.specs.declared.TheConstants.{LARGEST_WORLD}
 use Rattle.big_world.specs.Feed.{batch_text, behind_batch, behind_change, capacity_text, change_text, demand_text, feed_of}
 use Rattle.big_world.specs.Numbers.{behind, draw}
@@ -136,9 +136,9 @@ KnowsGroups t n = (i : ℕ) → i < n → number_in t.group_names (group_name i)
 abbrev pub KnowsPools : Plan → ℕ → Type 0
 KnowsPools t n = (i j : ℕ) → i < regions_of n → j < 4 → number_in t.node_names (pool_name i j) ≡ Some (pool_node i j)
 
--- what a line with a change does at a desk
-abbrev with_one : Desk → Change → Step
-with_one desk change = record { item = None; desk = record { number = desk.number + 1; refused = desk.refused; changes = desk.changes ++ change ∷ [] } }
+-- what a line with a change does to a ledger
+abbrev with_one : Ledger → Change → Step
+with_one ledger change = record { task = None; ledger = record { number = ledger.number + 1; refused = ledger.refused; changes = ledger.changes ++ change ∷ [] } }
 
 -- a batch with room takes a change
 takes : (changes : List Change) (change : Change) → length changes < 4096 → with_change changes (Ok change) ≡ Ok (changes ++ change ∷ [])
@@ -164,61 +164,61 @@ takes_capacity t changes name p number known low room =
     ∙ takes changes (Capacity (record { 0 = p }) number) room
 
 -- a line of the feed adds its change
-line_takes : (t : Plan) (n x : ℕ) (desk : Desk) → 1 ≤ n → n ≤ LARGEST_WORLD → KnowsGroups t n → KnowsPools t n → length desk.changes < 4096 → step t desk (line_at n x) ≡ with_one desk (change_at n x)
+line_takes : (t : Plan) (n x : ℕ) (ledger : Ledger) → 1 ≤ n → n ≤ LARGEST_WORLD → KnowsGroups t n → KnowsPools t n → length ledger.changes < 4096 → step t ledger (line_at n x) ≡ with_one ledger (change_at n x)
 unfolding step change_at
-line_takes t n x desk some most groups pools room = go (draw x 1 2 == 0)
+line_takes t n x ledger some most groups pools room = go (draw x 1 2 == 0)
   where
-    go : (b : Bool) → by_said t (record desk { number = desk.number + 1 }) (line_of (cond b (demand_at n (behind x 1)) (capacity_at n (behind x 1))))
-        ≡ with_one desk (cond b (Demand (record { 0 = draw (behind x 1) 1 n }) (1 + draw (behind x 1) 2 15)) (Capacity (record { 0 = pool_node (draw (behind x 1) 1 (regions_of n)) (draw (behind x 1) 2 4) }) (draw (behind x 1) 3 30)))
+    go : (b : Bool) → by_said t (record ledger { number = ledger.number + 1 }) (line_of (cond b (demand_at n (behind x 1)) (capacity_at n (behind x 1))))
+        ≡ with_one ledger (cond b (Demand (record { 0 = draw (behind x 1) 1 n }) (1 + draw (behind x 1) 2 15)) (Capacity (record { 0 = pool_node (draw (behind x 1) 1 (regions_of n)) (draw (behind x 1) 2 4) }) (draw (behind x 1) 3 30)))
     go true =
         let y = behind x 1 in
         let group = draw_below y 1 n (omega arith) in
         let amount = draw_below y 2 15 (omega arith) in
-        ap (by_said t (record desk { number = desk.number + 1 })) (demand_says (draw y 1 n) (1 + draw y 2 15) (omega arith) (omega arith))
-        ∙ ap (changed (record desk { number = desk.number + 1 })) (takes_demand t desk.changes (draw y 1 n) (1 + draw y 2 15) (groups (draw y 1 n) group) (omega arith) (omega arith) room)
+        ap (by_said t (record ledger { number = ledger.number + 1 })) (demand_says (draw y 1 n) (1 + draw y 2 15) (omega arith) (omega arith))
+        ∙ ap (changed (record ledger { number = ledger.number + 1 })) (takes_demand t ledger.changes (draw y 1 n) (1 + draw y 2 15) (groups (draw y 1 n) group) (omega arith) (omega arith) room)
     go false =
         let y = behind x 1 in
         let region = draw_below y 1 (regions_of n) (omega arith) in
         let pool = draw_below y 2 4 (omega arith) in
         let amount = draw_below y 3 30 (omega arith) in
         let few = few_regions n most in
-        ap (by_said t (record desk { number = desk.number + 1 })) (capacity_says (draw y 1 (regions_of n)) (draw y 2 4) (draw y 3 30) (omega arith) (omega arith) (omega arith))
-        ∙ ap (changed (record desk { number = desk.number + 1 })) (takes_capacity t desk.changes (pool_name (draw y 1 (regions_of n)) (draw y 2 4)) (pool_node (draw y 1 (regions_of n)) (draw y 2 4)) (draw y 3 30) (pools (draw y 1 (regions_of n)) (draw y 2 4) region pool) (omega arith) room)
+        ap (by_said t (record ledger { number = ledger.number + 1 })) (capacity_says (draw y 1 (regions_of n)) (draw y 2 4) (draw y 3 30) (omega arith) (omega arith) (omega arith))
+        ∙ ap (changed (record ledger { number = ledger.number + 1 })) (takes_capacity t ledger.changes (pool_name (draw y 1 (regions_of n)) (draw y 2 4)) (pool_node (draw y 1 (regions_of n)) (draw y 2 4)) (draw y 3 30) (pools (draw y 1 (regions_of n)) (draw y 2 4) region pool) (omega arith) room)
 
--- a desk between two batches, behind that many lines
-abbrev clean : ℕ → Desk
+-- a ledger between two batches, behind that many lines
+abbrev clean : ℕ → Ledger
 clean m = record { number = m; refused = 0; changes = [] }
 
-commit_ends : (t : Plan) (m : ℕ) (change : Change) (changes : List Change) → step t (record { number = m; refused = 0; changes = change ∷ changes }) (codes "commit") ≡ record { item = Some (batch (change ∷ changes)); desk = clean (m + 1) }
+commit_ends : (t : Plan) (m : ℕ) (change : Change) (changes : List Change) → step t (record { number = m; refused = 0; changes = change ∷ changes }) (codes "commit") ≡ record { task = Some (batch (change ∷ changes)); ledger = clean (m + 1) }
 unfolding step
 commit_ends t m change changes = ap (by_said t (record { number = m + 1; refused = 0; changes = change ∷ changes })) commit_said.says
 
--- what comes of some lines, and the desk behind them
-record Comes (t : Plan) (desk : Desk) (lines : List (List ℕ)) (come : List Item) (after : Desk) : Type 0 where
-  come_is : items_of t desk lines ≡ come
-  after_is : desk_after t desk lines ≡ after
+-- what comes of some lines, and the ledger behind them
+record Comes (t : Plan) (ledger : Ledger) (lines : List (List ℕ)) (come : List Task) (after : Ledger) : Type 0 where
+  come_is : tasks_of t ledger lines ≡ come
+  after_is : ledger_after t ledger lines ≡ after
 
-none_come : (t : Plan) (desk : Desk) → Comes t desk [] [] desk
-none_come t desk = record { come_is = refl; after_is = refl }
+none_come : (t : Plan) (ledger : Ledger) → Comes t ledger [] [] ledger
+none_come t ledger = record { come_is = refl; after_is = refl }
 
-comes_next : (t : Plan) (desk : Desk) (line : List ℕ) (s : Step) (lines : List (List ℕ)) (come : List Item) (after : Desk) → step t desk line ≡ s → Comes t s.desk lines come after → Comes t desk (line ∷ lines) (option_to_list s.item ++ come) after
-comes_next t desk line s lines come after e rest = record {
-  come_is = ap (λ (u : Step). option_to_list u.item ++ items_of t u.desk lines) e ∙ ap (λ is. option_to_list s.item ++ is) rest.come_is;
-  after_is = ap (λ (u : Step). desk_after t u.desk lines) e ∙ rest.after_is;
+comes_next : (t : Plan) (ledger : Ledger) (line : List ℕ) (s : Step) (lines : List (List ℕ)) (come : List Task) (after : Ledger) → step t ledger line ≡ s → Comes t s.ledger lines come after → Comes t ledger (line ∷ lines) (option_to_list s.task ++ come) after
+comes_next t ledger line s lines come after e rest = record {
+  come_is = ap (λ (u : Step). option_to_list u.task ++ tasks_of t u.ledger lines) e ∙ ap (λ is. option_to_list s.task ++ is) rest.come_is;
+  after_is = ap (λ (u : Step). ledger_after t u.ledger lines) e ∙ rest.after_is;
 }
 
-desk_join : (t : Plan) (desk : Desk) (lines more : List (List ℕ)) → desk_after t desk (lines ++ more) ≡ desk_after t (desk_after t desk lines) more
-desk_join t desk [] more = refl
-desk_join t desk (l ∷ ls) more = desk_join t (step t desk l).desk ls more
+ledger_join : (t : Plan) (ledger : Ledger) (lines more : List (List ℕ)) → ledger_after t ledger (lines ++ more) ≡ ledger_after t (ledger_after t ledger lines) more
+ledger_join t ledger [] more = refl
+ledger_join t ledger (l ∷ ls) more = ledger_join t (step t ledger l).ledger ls more
 
-comes_join : (t : Plan) (desk middle after : Desk) (lines more : List (List ℕ)) (come later : List Item) → Comes t desk lines come middle → Comes t middle more later after → Comes t desk (lines ++ more) (come ++ later) after
-comes_join t desk middle after lines more come later first second = record {
+comes_join : (t : Plan) (ledger middle after : Ledger) (lines more : List (List ℕ)) (come later : List Task) → Comes t ledger lines come middle → Comes t middle more later after → Comes t ledger (lines ++ more) (come ++ later) after
+comes_join t ledger middle after lines more come later first second = record {
   come_is =
-      items_join t desk lines more
-      ∙ ap (λ is. is ++ items_of t (desk_after t desk lines) more) first.come_is
-      ∙ ap (λ (d : Desk). come ++ items_of t d more) first.after_is
+      tasks_join t ledger lines more
+      ∙ ap (λ is. is ++ tasks_of t (ledger_after t ledger lines) more) first.come_is
+      ∙ ap (λ (d : Ledger). come ++ tasks_of t d more) first.after_is
       ∙ ap (λ is. come ++ is) second.come_is;
-  after_is = desk_join t desk lines more ∙ ap (λ (d : Desk). desk_after t d more) first.after_is ∙ second.after_is;
+  after_is = ledger_join t ledger lines more ∙ ap (λ (d : Ledger). ledger_after t d more) first.after_is ∙ second.after_is;
 }
 
 -- what comes of the lines of a batch
@@ -232,16 +232,16 @@ batch_comes t n x m some most groups pools =
     let c2 = change_at n x2 in
     let c3 = change_at n x3 in
     let d0 = clean m in
-    let d1 = (with_one d0 c0).desk in
-    let d2 = (with_one d1 c1).desk in
-    let d3 = (with_one d2 c2).desk in
+    let d1 = (with_one d0 c0).ledger in
+    let d2 = (with_one d1 c1).ledger in
+    let d3 = (with_one d2 c2).ledger in
     let after = clean (m + 1 + 1 + 1 + 1 + 1) in
     let done = batch (c0 ∷ c1 ∷ c2 ∷ c3 ∷ []) ∷ [] in
     comes_next t d0 (line_at n x) (with_one d0 c0) (line_at n x1 ∷ line_at n x2 ∷ line_at n x3 ∷ codes "commit" ∷ []) done after (line_takes t n x d0 some most groups pools (omega arith)) (
     comes_next t d1 (line_at n x1) (with_one d1 c1) (line_at n x2 ∷ line_at n x3 ∷ codes "commit" ∷ []) done after (line_takes t n x1 d1 some most groups pools (omega arith)) (
     comes_next t d2 (line_at n x2) (with_one d2 c2) (line_at n x3 ∷ codes "commit" ∷ []) done after (line_takes t n x2 d2 some most groups pools (omega arith)) (
     comes_next t d3 (line_at n x3) (with_one d3 c3) (codes "commit" ∷ []) done after (line_takes t n x3 d3 some most groups pools (omega arith)) (
-    comes_next t (with_one d3 c3).desk (codes "commit") (record { item = Some (batch (c0 ∷ c1 ∷ c2 ∷ c3 ∷ [])); desk = after }) [] [] after (commit_ends t (m + 1 + 1 + 1 + 1) c0 (c1 ∷ c2 ∷ c3 ∷ [])) (none_come t after)))))
+    comes_next t (with_one d3 c3).ledger (codes "commit") (record { task = Some (batch (c0 ∷ c1 ∷ c2 ∷ c3 ∷ [])); ledger = after }) [] [] after (commit_ends t (m + 1 + 1 + 1 + 1) c0 (c1 ∷ c2 ∷ c3 ∷ [])) (none_come t after)))))
 
 -- what comes of the first k batches
 batches_come : (t : Plan) (n x k : ℕ) → 1 ≤ n → n ≤ LARGEST_WORLD → KnowsGroups t n → KnowsPools t n → (m : ℕ) × Comes t fresh (lines_of_batches n x k) (map (λ i. batch (changes_at n (ahead behind_batch x i))) (range_with_len 0 k)) (clean m)
@@ -259,12 +259,12 @@ batches_come t n x (suc k) some most groups pools =
 pub batches : (t : Plan) (n : ℕ) → 1 ≤ n → n ≤ LARGEST_WORLD
     → ((i : ℕ) → i < n → number_in t.group_names (group_name i) ≡ Some i)
     → ((i j : ℕ) → i < regions_of n → j < 4 → number_in t.node_names (pool_name i j) ≡ Some (pool_node i j))
-    → items t (whole_lines (feed_of n)) ≡ map batch (batches_of n)
+    → tasks t (whole_lines (feed_of n)) ≡ map batch (batches_of n)
 batches t n some most groups pools =
     let x = ahead_of_feed n in
     let lines = lines_of_batches n x 16 in
-    ap (items t) (lines_are n some most)
-    ∙ items_stop t lines (codes "stop") [] (none_stops lines (batches_fine n x 16 some most)) (ap is_stop_said stop_said.says)
+    ap (tasks t) (lines_are n some most)
+    ∙ tasks_stop t lines (codes "stop") [] (none_stops lines (batches_fine n x 16 some most)) (ap is_stop_said stop_said.says)
     ∙ (batches_come t n x 16 some most groups pools).1.come_is
     ∙ sym (map-map batch (λ i. changes_at n (ahead behind_batch x i)) (range_with_len 0 16))
 

@@ -6,7 +6,7 @@ use Rattle.topology_text.specs.Faults.{reading}
 use Rattle.topology_text.specs.Names.{Entries, units_of}
 use Rattle.topology_text.specs.Plan.{number_in}
 use Rattle.topology_text.specs.Topology.{name_of}
-use Rattle.demand_feed.specs.Item.{batch, items}
+use Rattle.demand_feed.specs.Task.{batch, tasks}
 use Rattle.big_world.specs.declared.TheConstants.{LARGEST_WORLD}
 use Rattle.big_world.specs.Feed.{feed_of}
 use Rattle.big_world.specs.Topology.{group_name, pool_name, topology_of}
@@ -29,5 +29,5 @@ knows_pools n small i j within less = ap (λ (d : Entries). number_in (map name_
 pub world_reads : (n : ℕ) → 1 ≤ n → n ≤ LARGEST_WORLD → reading (topology_of n) ≡ Ok (world_plan n)
 world_reads n some small = topology_read n some small
 
-pub world_batches : (n : ℕ) → 1 ≤ n → n ≤ LARGEST_WORLD → items (world_plan n) (whole_lines (feed_of n)) ≡ map batch (batches_of n)
+pub world_batches : (n : ℕ) → 1 ≤ n → n ≤ LARGEST_WORLD → tasks (world_plan n) (whole_lines (feed_of n)) ≡ map batch (batches_of n)
 world_batches n some small = batches (world_plan n) n some small (knows_groups n small) (knows_pools n small)

@@ -10,7 +10,7 @@ use Rattle.topology_text.specs.Plan.{Plan}
 use Rattle.topology_text.specs.Prefixes.{all_prefixes}
 use Rattle.topology_text.specs.Topology.{plan_of}
 use Rattle.topology_text.specs.Walk.{walk}
-use Rattle.demand_feed.specs.Item.{batch, items}
+use Rattle.demand_feed.specs.Task.{batch, tasks}
 use Rattle.big_world.specs.Feed.{behind_batch, behind_change, feed_of}
 use Rattle.big_world.specs.Numbers.{behind, draw}
 use Rattle.big_world.specs.Pieces.{ahead}
@@ -43,6 +43,6 @@ batches_of n = map (λ k. changes_at n (ahead behind_batch (ahead_of_feed n) k))
 -- what the two texts of a world say: the topology has no fault, and the feed is sixteen batches, none of which is empty
 pub record IsWorld (n : ℕ) : Type 0 where
   pub topology : reading (topology_of n) ≡ Ok (world_plan n)
-  pub feed : items (world_plan n) (whole_lines (feed_of n)) ≡ map batch (batches_of n)
+  pub feed : tasks (world_plan n) (whole_lines (feed_of n)) ≡ map batch (batches_of n)
   pub sixteen : length (batches_of n) ≡ 16
   pub none_empty : All (λ changes. changes ≢ []) (batches_of n)

@@ -15,7 +15,7 @@ use Rattle.topology_text.specs.Plan.{Plan}
 use Rattle.demand_feed.specs.Limits.{longest_line, read_size}
 use Rattle.demand_feed.specs.Clerk.{AreBatches, Clerking}
 use Rattle.demand_feed.specs.Cutter.{front}
-use Rattle.demand_feed.specs.Item.{Item, fresh, has_stop, is_stop, items, items_of}
+use Rattle.demand_feed.specs.Task.{Task, fresh, has_stop, is_stop, tasks, tasks_of}
 use Rattle.demand_feed.specs.Lines.{lines_of}
 use Rattle.demand_feed.specs.Runs.{HasRead, IsOver, IsPiece, NoStop}
 use Rattle.demand_feed.specs.Taking.{AllDo, BrokeOff}
@@ -25,22 +25,22 @@ use Rattle.demand_feed.specs.declared.run.FeedEnd.TheVariants as ends
 use Rattle.demand_feed.specs.declared.pieces.LineEnd.{LineEnd}
 use Rattle.demand_feed.specs.declared.pieces.LineEnd.TheVariants as lines
 use Rattle.demand_feed.proofs.Fronts.{front_none}
-use Rattle.demand_feed.proofs.Items.{has_stop_at, items_all, items_at, items_stop, no_stop_none}
+use Rattle.demand_feed.proofs.Tasks.{has_stop_at, tasks_all, tasks_at, tasks_stop, no_stop_none}
 use Rattle.demand_feed.proofs.Tellings.{concat_end, one_more, tell_self, tell_trans}
 
--- where no line says stop all items were taken
-pub all_came : {X : Type 0} (does : Item → X → X → Type 0) (t : Plan) (before : X) (lines : List (List ℕ)) (clerk : Clerking) (now : X) → Stands does t before lines clerk now → AllDo does (items t lines) before now
-all_came does t before lines clerk now s = rw (items_all t lines s.1) s.2
+-- where no line says stop all tasks were taken
+pub all_came : {X : Type 0} (does : Task → X → X → Type 0) (t : Plan) (before : X) (lines : List (List ℕ)) (clerk : Clerking) (now : X) → Stands does t before lines clerk now → AllDo does (tasks t lines) before now
+all_came does t before lines clerk now s = rw (tasks_all t lines s.1) s.2
 
 -- a line says stop
-pub stop_came : {X : Type 0} (does : Item → X → X → Type 0) (t : Plan) (before : X) (lines done : List (List ℕ)) (line : List ℕ) (more : List (List ℕ)) (now : X) → lines ≡ done ++ line ∷ more → has_stop done ≡ false → is_stop line ≡ true → AllDo does (items_of t fresh done) before now → AllDo does (items t lines) before now
-stop_came does t before lines done line more now e calm h c = rw (e, items_stop t done line more calm h) c
+pub stop_came : {X : Type 0} (does : Task → X → X → Type 0) (t : Plan) (before : X) (lines done : List (List ℕ)) (line : List ℕ) (more : List (List ℕ)) (now : X) → lines ≡ done ++ line ∷ more → has_stop done ≡ false → is_stop line ≡ true → AllDo does (tasks_of t fresh done) before now → AllDo does (tasks t lines) before now
+stop_came does t before lines done line more now e calm h c = rw (e, tasks_stop t done line more calm h) c
 
--- a line's item was broken off
-pub broke_off : {X : Type 0} (does cuts : Item → X → X → Type 0) (t : Plan) (before : X) (lines done : List (List ℕ)) (line : List ℕ) (more : List (List ℕ)) (now : X) → lines ≡ done ++ line ∷ more → has_stop done ≡ false → is_stop line ≡ false → HasFailed does cuts t before done line now → BrokeOff does cuts (items t lines) before now
+-- a line's task was broken off
+pub broke_off : {X : Type 0} (does cuts : Task → X → X → Type 0) (t : Plan) (before : X) (lines done : List (List ℕ)) (line : List ℕ) (more : List (List ℕ)) (now : X) → lines ≡ done ++ line ∷ more → has_stop done ≡ false → is_stop line ≡ false → HasFailed does cuts t before done line now → BrokeOff does cuts (tasks t lines) before now
 broke_off does cuts t before lines done line more now e calm h f =
-    let at = items_at t done line more f.0 calm h f.2 in
-    (items_of t fresh done, f.0, at.0, f.1, ap (items t) e ∙ at.1, f.3, f.4)
+    let at = tasks_at t done line more f.0 calm h f.2 in
+    (tasks_of t fresh done, f.0, at.0, f.1, ap (tasks t) e ∙ at.1, f.3, f.4)
 
 front_length : (line : List ℕ) → length (front line) ≡ min (longest_line + 1) (length line)
 front_length line = unfold front in length-take (longest_line + 1) line
@@ -120,12 +120,12 @@ pub read_none : (a : Fed) → HasRead [] a a
 read_none a = record { left = tell_self a.left (λ x y. x ≡ y) (λ x. refl); given = sym (append-nil a.pieces); shortest = inl refl; sizes = λ k d h. absurd (omega (arith, h)) }
 
 -- ahead of all bytes
-pub reads_none : {X : Type 0} (does : Item → X → X → Type 0) (t : Plan) (clerk : Clerking) (s : X) → clerk.desk ≡ fresh → Reads does t s [] [] clerk s
+pub reads_none : {X : Type 0} (does : Task → X → X → Type 0) (t : Plan) (clerk : Clerking) (s : X) → clerk.ledger ≡ fresh → Reads does t s [] [] clerk s
 reads_none does t clerk s e =
     (sym (ap front nothing_unfinished ∙ front_none), rw nothing_whole (e, no_stop_none, refl))
 
 -- a turn that read a piece
-pub turn_got : {X : Type 0} (does cuts : Item → X → X → Type 0) (result : LineEnd) (t : Plan) (a b c : Option Fed) (before : X) (pieces : List (List ℕ)) (buffer : List ℕ) (k : ℕ) (held : List ℕ) (clerk : Clerking) (now : X)
+pub turn_got : {X : Type 0} (does cuts : Task → X → X → Type 0) (result : LineEnd) (t : Plan) (a b c : Option Fed) (before : X) (pieces : List (List ℕ)) (buffer : List ℕ) (k : ℕ) (held : List ℕ) (clerk : Clerking) (now : X)
     → IsPiece (take k buffer) → BothTell a b (HasRead pieces) → BothTell b c (IsRead read_size (read.Got k) buffer) → NoStop (concat pieces) → PieceCame does cuts result t before (concat pieces ++ take k buffer) held clerk now
     → TurnCame does cuts (end_of result) t a c before (length pieces) held clerk now
 turn_got does cuts lines.GoesOn t a b c before pieces buffer k held clerk now sized r s calm came =
@@ -148,7 +148,7 @@ turn_got does cuts lines.Failed t a b c before pieces buffer k held clerk now si
 )
 
 -- a turn that read the end
-pub turn_end : {X : Type 0} (does cuts : Item → X → X → Type 0) (end : FeedEnd) (t : Plan) (a b c : Option Fed) (before : X) (pieces : List (List ℕ)) (buffer : List ℕ) (held : List ℕ) (clerk : Clerking) (now : X)
+pub turn_end : {X : Type 0} (does cuts : Task → X → X → Type 0) (end : FeedEnd) (t : Plan) (a b c : Option Fed) (before : X) (pieces : List (List ℕ)) (buffer : List ℕ) (held : List ℕ) (clerk : Clerking) (now : X)
     → BothTell a b (HasRead pieces) → BothTell b c (IsRead read_size read.End buffer) → NoStop (concat pieces) → LastCame does cuts end t before (concat pieces) now → TurnCame does cuts (Some end) t a c before (length pieces) held clerk now
 turn_end does cuts ends.Ended t a b c before pieces buffer held clerk now r s calm came = (
   pieces,
@@ -164,9 +164,10 @@ turn_end does cuts ends.SinkFault t a b c before pieces buffer held clerk now r 
 )
 turn_end does cuts ends.SourceFault t a b c before pieces buffer held clerk now r s calm came = absurd came
 turn_end does cuts ends.Spent t a b c before pieces buffer held clerk now r s calm came = absurd came
+turn_end does cuts ends.NoMemory t a b c before pieces buffer held clerk now r s calm came = absurd came
 
 -- a turn whose read failed
-pub turn_failed : {X : Type 0} (does cuts : Item → X → X → Type 0) (t : Plan) (a b c : Option Fed) (before : X) (pieces : List (List ℕ)) (buffer : List ℕ) (held : List ℕ) (clerk : Clerking) (now : X)
+pub turn_failed : {X : Type 0} (does cuts : Task → X → X → Type 0) (t : Plan) (a b c : Option Fed) (before : X) (pieces : List (List ℕ)) (buffer : List ℕ) (held : List ℕ) (clerk : Clerking) (now : X)
     → BothTell a b (HasRead pieces) → BothTell b c (IsRead read_size read.Failed buffer) → Stands does t before (whole_lines (concat pieces)) clerk now → TurnCame does cuts (Some ends.SourceFault) t a c before (length pieces) held clerk now
 turn_failed does cuts t a b c before pieces buffer held clerk now r s st =
     (pieces, tell_trans a b c (HasRead pieces) (IsRead read_size read.Failed buffer) (HasRead pieces) r s (read_failed pieces buffer), (λ e. cc), λ turns l. (st.1, l, all_came does t before (whole_lines (concat pieces)) clerk now st))
@@ -178,7 +179,7 @@ goes_on lines.Stopped h = cc
 goes_on lines.Failed h = cc
 
 -- a clerk that was not called has batches of any instance
-pub batches_none : (m : Market) → AreBatches m (record { desk = fresh; due = [] })
+pub batches_none : (m : Market) → AreBatches m (record { ledger = fresh; due = [] })
 batches_none m = record { changes = λ k d h. absurd (omega (arith, h)); due = λ k d h. absurd (omega (arith, h)) }
 
 -- a turn behind which the feed goes on met no fault of the source

@@ -3,10 +3,12 @@ mod Digits
 mod Spaces
 mod FileLines
 pub mod Fronts
-pub mod Items
+pub mod Tasks
 pub mod Tellings
 pub mod Worked
 pub mod Ends
-pub mod Laws
+pub mod Ledgers
+pub mod Octets
+pub mod Chains
 pub mod FileLaws
 pub mod FileRows

@@ -1,11 +1,16 @@
 -- Changes of a topology by names.
-use Rattle.std.specs.Prelude.{ℕ, ◌^◌, ◌&&◌, nat_le, nat_lt, if◌then◌else◌, List, [], ◌∷◌, ◌++◌, length, Option, None, Some, Result, Ok, Err}
+use Rattle.std.specs.Prelude.{ℕ, ◌<◌, ◌≤◌, ◌^◌, ◌&&◌, nat_le, nat_lt, if◌then◌else◌, List, [], ◌∷◌, ◌++◌, length, Option, None, Some, Result, Ok, Err}
 use Rattle.map_model.specs.declared.change.Change.{Change}
 use Rattle.map_model.specs.declared.change.Change.TheVariants.{Demand, Capacity}
 use Rattle.demand_feed.specs.Limits.{most_changes}
 use Rattle.topology_text.specs.Plan.{Plan, number_in}
 use Rattle.demand_feed.specs.declared.fault.BatchFault.{BatchFault}
 use Rattle.demand_feed.specs.declared.fault.BatchFault.TheVariants.{UnknownName, Range, Full}
+
+-- the number of a change is in its range: a demand from 1 to 2^32-1, a capacity up to 2^48
+abbrev pub IsInRange : Change → Type 0
+IsInRange (Demand group demand) = (1 ≤ demand) × (demand < 2 ^ 32)
+IsInRange (Capacity node capacity) = capacity ≤ 2 ^ 48
 
 -- another demand of a group, from 1 to 2^32-1
 abbrev pub demand_change : Option ℕ → ℕ → Result Change BatchFault

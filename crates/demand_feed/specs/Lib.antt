@@ -5,7 +5,7 @@ pub mod Lines
 pub mod Cutter
 pub mod Batch
 pub mod Changing
-pub mod Item
+pub mod Task
 pub mod Clerk
 pub mod Texts
 pub mod Changes
@@ -13,4 +13,6 @@ pub mod ChangesTexts
 pub mod Saying
 pub mod Taking
 pub mod Runs
+pub mod Octets
 pub mod Working
+pub mod Sent

@@ -1,4 +1,4 @@
--- A run over a feed: what was read, what its items did, and how it ended.
+-- A run over a feed: what was read, what its tasks did, and how it ended.
 use Rattle.std.specs.Prelude.{◌≡◌, ◌⊎◌, ℕ, ◌<◌, ◌≤◌, true, false, All, List, [], ◌∷◌, ◌++◌, length, Option, IfSome}
 use Rattle.std.specs.List.{concat}
 use Rattle.text_parts.specs.Parts.{whole_lines}
@@ -7,10 +7,10 @@ use Rattle.outside.specs.Source.{Fed, shorter}
 use Rattle.topology_text.specs.Plan.{Plan}
 use Rattle.demand_feed.specs.Limits.{read_size}
 use Rattle.demand_feed.specs.Lines.{lines_of}
-use Rattle.demand_feed.specs.Item.{Item, has_stop, items}
+use Rattle.demand_feed.specs.Task.{Task, has_stop, tasks}
 use Rattle.demand_feed.specs.Taking.{AllDo, BrokeOff}
 use Rattle.demand_feed.specs.declared.run.FeedEnd.{FeedEnd}
-use Rattle.demand_feed.specs.declared.run.FeedEnd.TheVariants.{Ended, SourceFault, SinkFault, Spent}
+use Rattle.demand_feed.specs.declared.run.FeedEnd.TheVariants.{Ended, SourceFault, SinkFault, Spent, NoMemory}
 
 -- a piece that a buffer of the one size holds
 abbrev pub IsPiece : List ℕ → Type 0
@@ -44,20 +44,21 @@ pub record IsAll (bytes : List ℕ) (before after : Option Fed) : Type 0 where
   pub no_stop : NoStop bytes
   pub over : BothTell before after IsOver
 
--- How a run ended that read these pieces: at a `stop` or at the feed's end, by a fault of the source or of who takes the items, or since all turns were taken.
-abbrev pub EndsBy : {X : Type 0} → (Item → X → X → Type 0) → (Item → X → X → Type 0) → FeedEnd → Plan → ℕ → List (List ℕ) → Option Fed → Option Fed → X → X → Type 0
+-- How a run ended that read these pieces: at a `stop` or at the feed's end, by a fault of the source or of who takes the tasks, or since all turns were taken.
+abbrev pub EndsBy : {X : Type 0} → (Task → X → X → Type 0) → (Task → X → X → Type 0) → FeedEnd → Plan → ℕ → List (List ℕ) → Option Fed → Option Fed → X → X → Type 0
 EndsBy does cuts Ended t turns pieces fed_before fed_after before after =
-    (StopsLast pieces × (length pieces ≤ turns) × AllDo does (items t (lines_of false (concat pieces))) before after)
-    ⊎ (IsAll (concat pieces) fed_before fed_after × (length pieces < turns) × AllDo does (items t (lines_of true (concat pieces))) before after)
+    (StopsLast pieces × (length pieces ≤ turns) × AllDo does (tasks t (lines_of false (concat pieces))) before after)
+    ⊎ (IsAll (concat pieces) fed_before fed_after × (length pieces < turns) × AllDo does (tasks t (lines_of true (concat pieces))) before after)
 EndsBy does cuts SourceFault t turns pieces fed_before fed_after before after =
-    NoStop (concat pieces) × (length pieces < turns) × AllDo does (items t (lines_of false (concat pieces))) before after
+    NoStop (concat pieces) × (length pieces < turns) × AllDo does (tasks t (lines_of false (concat pieces))) before after
 EndsBy does cuts Spent t turns pieces fed_before fed_after before after =
-    NoStop (concat pieces) × (length pieces ≡ turns) × AllDo does (items t (lines_of false (concat pieces))) before after
+    NoStop (concat pieces) × (length pieces ≡ turns) × AllDo does (tasks t (lines_of false (concat pieces))) before after
 EndsBy does cuts SinkFault t turns pieces fed_before fed_after before after =
-    (NoStopAhead pieces × (length pieces ≤ turns) × BrokeOff does cuts (items t (lines_of false (concat pieces))) before after)
-    ⊎ (IsAll (concat pieces) fed_before fed_after × (length pieces < turns) × BrokeOff does cuts (items t (lines_of true (concat pieces))) before after)
+    (NoStopAhead pieces × (length pieces ≤ turns) × BrokeOff does cuts (tasks t (lines_of false (concat pieces))) before after)
+    ⊎ (IsAll (concat pieces) fed_before fed_after × (length pieces < turns) × BrokeOff does cuts (tasks t (lines_of true (concat pieces))) before after)
+EndsBy does cuts NoMemory t turns pieces fed_before fed_after before after = ⊥
 
 -- A run over a feed. Its pieces exist also where the feed tells nothing; so what it came to is that of some bytes, however they were cut.
-abbrev pub IsRun : {X : Type 0} → (Item → X → X → Type 0) → (Item → X → X → Type 0) → Plan → ℕ → FeedEnd → Option Fed → Option Fed → X → X → Type 0
+abbrev pub IsRun : {X : Type 0} → (Task → X → X → Type 0) → (Task → X → X → Type 0) → Plan → ℕ → FeedEnd → Option Fed → Option Fed → X → X → Type 0
 IsRun does cuts t turns result fed_before fed_after before after =
     (pieces : List (List ℕ)) × BothTell fed_before fed_after (HasRead pieces) × EndsBy does cuts result t turns pieces fed_before fed_after before after

@@ -1,9 +1,9 @@
 //! Batches of changes, by the names of a topology.
-ghost use Rattle.std.specs.Prelude.{◌≡◌, ◌↔◌, ◌≤◌, ◌<◌, ◌^◌, ℕ, List, Ok, Err, [], ◌∷◌, ◌++◌, true, length, IfOk, IsTrue, MatchResult};
+ghost use Rattle.std.specs.Prelude.{◌≡◌, ◌↔◌, ◌≤◌, ◌<◌, ◌^◌, ℕ, List, Ok, Err, [], ◌∷◌, ◌++◌, true, length, All, IfOk, IsTrue, MatchResult};
 ghost use Rattle.map_model.specs.Market.{Market};
 ghost use Rattle.map_model.specs.Batch.{IsApplied, IsBatch, IsChange};
 ghost use Rattle.topology_text.specs.Plan.{number_in};
-ghost use Rattle.demand_feed.specs.Batch.{capacity_change, demand_change, with_capacity, with_change, with_demand};
+ghost use Rattle.demand_feed.specs.Batch.{IsInRange, capacity_change, demand_change, with_capacity, with_change, with_demand};
 ghost use Rattle.demand_feed.specs.Changing.{IsChangeLine, with_line};
 
 use crate::limits::MOST_CHANGES;
@@ -14,28 +14,30 @@ use std::alloc::Global;
 use std::marker::Model;
 use topology_text::Topology;
 
-/// Changes of demands and capacities, in order.
+/// Changes of demands and capacities, in order, whose numbers are in their ranges.
 #[derive(Debug, Drop)]
 pub struct Batch {
     changes: Vec<Change>,
 }
 
 impl Model for Batch {
-    ghost use Rattle.std.specs.Prelude.{◌≤◌, List, vec_len, vec_capacity};
+    ghost use Rattle.std.specs.Prelude.{◌≤◌, All, List, vec_len, vec_capacity};
     ghost use Rattle.map_model.specs.declared.change.Change.{Change};
+    ghost use Rattle.demand_feed.specs.Batch.{IsInRange};
     ghost use Rattle.demand_feed.specs.Limits.{most_changes};
 
     ghost Value = { List Change };
 
     ghost view = { λ b. b.changes.items };
 
-    ghost invariant = { λ b. (most_changes ≤ vec_capacity b.changes) × (vec_len b.changes ≤ most_changes) };
+    ghost invariant = { λ b. (most_changes ≤ vec_capacity b.changes) × (vec_len b.changes ≤ most_changes) × All IsInRange b.changes.items };
 }
 
 /// Another demand of a group, by its name.
 fn demand_change(topology: &Topology, group: &[u8], number: u64) -> Result<Change, BatchFault>
     ensures change { result ≡ demand_change (number_in topology.now.group_names group.now) number }
     ensures sound { IfOk result (IsChange topology.now.market) }
+    ensures ranged { IfOk result IsInRange }
 {
     let Some(group) = topology.group_named(group) else {
         return Err(BatchFault::UnknownName);
@@ -50,6 +52,7 @@ fn demand_change(topology: &Topology, group: &[u8], number: u64) -> Result<Chang
 fn capacity_change(topology: &Topology, node: &[u8], number: u64) -> Result<Change, BatchFault>
     ensures change { result ≡ capacity_change (number_in topology.now.node_names node.now) number }
     ensures sound { IfOk result (IsChange topology.now.market) }
+    ensures ranged { IfOk result IsInRange }
 {
     let Some(node) = topology.node_named(node) else {
         return Err(BatchFault::UnknownName);
@@ -80,7 +83,8 @@ impl Batch {
 
     /// The changes, in order.
     pub fn changes(&self) -> &[Change]
-        ensures { result.now ≡ self.now }
+        ensures same { result.now ≡ self.now }
+        ensures ranged { All IsInRange self.now }
     {
         self.changes.as_slice()
     }
@@ -92,6 +96,19 @@ impl Batch {
         self.changes.is_empty()
     }
 
+    /// An equal batch.
+    ///
+    /// # Errors
+    ///
+    /// `NoMemory`.
+    pub fn try_clone(&self) -> Result<Batch, NoMemory>
+        ensures { IfOk result (λ b. b ≡ self.now) }
+    {
+        let mut changes = Vec::with_capacity(*self.changes.allocator(), MOST_CHANGES)?;
+        changes.extend_from_slice(self.changes.as_slice())?;
+        Ok(Batch { changes })
+    }
+
     /// Takes all changes away.
     pub fn clear(&mut self)
         ensures { self.new ≡ [] }
@@ -101,6 +118,7 @@ impl Batch {
 
     /// Takes one change more, unless there are 4,096.
     fn push(&mut self, change: Change) -> Result<(), BatchFault>
+        requires { IsInRange change }
         ensures added { MatchResult result (λ _. with_change self.old (Ok change) ≡ Ok self.new) (λ e. (with_change self.old (Ok change) ≡ Err e) × (self.new ≡ self.old)) }
         ensures kept { (m : Market) → IsChange m change → IsBatch m self.old → IsBatch m self.new }
     {

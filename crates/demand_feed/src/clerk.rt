@@ -3,9 +3,9 @@ ghost use Rattle.std.specs.Prelude.{◌≡◌, ◌≢◌, ◌↔◌, ◌≤◌, 
 ghost use Rattle.map_model.specs.Market.{Market};
 ghost use Rattle.demand_feed.specs.Line.{line_of};
 ghost use Rattle.demand_feed.specs.SaidBy.{IsShort, said_by};
-ghost use Rattle.demand_feed.specs.Item.{Desk, by_said, changed, commit_line, fresh, is_stop, octets_of, refuse, step};
+ghost use Rattle.demand_feed.specs.Task.{Ledger, by_said, changed, commit_line, fresh, is_stop, octets_of, refuse, step};
 ghost use Rattle.demand_feed.specs.Changing.{IsChangeLine, with_line};
-ghost use Rattle.demand_feed.specs.Clerk.{AreBatches, Clerking, item_by};
+ghost use Rattle.demand_feed.specs.Clerk.{AreBatches, Clerking, task_by};
 ghost use Rattle.demand_feed.specs.declared.limits.TheConstants.{LONGEST_LINE};
 
 use crate::limits::{LONGEST_LINE, LONGEST_QUERY};
@@ -57,7 +57,7 @@ impl Model for Clerk {
 
     ghost Value = { Clerking };
 
-    ghost view = { λ c. record { desk = record { number = c.number; refused = c.refused; changes = c.batch }; due = c.due } };
+    ghost view = { λ c. record { ledger = record { number = c.number; refused = c.refused; changes = c.batch }; due = c.due } };
 
     ghost invariant = { λ c. c.refused ≤ c.number };
 }
@@ -83,7 +83,7 @@ impl Clerk {
     ///
     /// `NoMemory`.
     pub fn new(alloc: Global) -> Result<Clerk, NoMemory>
-        ensures { IfOk result (λ c. c ≡ record { desk = fresh; due = [] }) }
+        ensures { IfOk result (λ c. c ≡ record { ledger = fresh; due = [] }) }
     {
         Ok(Clerk {
             number: 0,
@@ -95,7 +95,7 @@ impl Clerk {
 
     /// Begins a feed.
     pub fn restart(&mut self)
-        ensures { self.new ≡ record { desk = fresh; due = [] } }
+        ensures { self.new ≡ record { ledger = fresh; due = [] } }
     {
         self.number = 0;
         self.refused = 0;
@@ -111,8 +111,8 @@ impl Clerk {
     }
 
     fn refuse(&mut self, why: Refusal) -> Next
-        requires { self.old.desk.refused < self.old.desk.number }
-        ensures step { record { item = item_by self.new.due result; desk = self.new.desk } ≡ refuse self.old.desk why }
+        requires { self.old.ledger.refused < self.old.ledger.number }
+        ensures step { record { task = task_by self.new.due result; ledger = self.new.ledger } ≡ refuse self.old.ledger why }
         ensures due { self.new.due ≡ self.old.due }
         ensures goes_on { ¬ (result ≡ Next.Stop) }
     {
@@ -122,8 +122,8 @@ impl Clerk {
 
     fn change(&mut self, topology: &Topology, line: &Line<'_>) -> Next
         requires line { IsChangeLine line.now }
-        requires refused { self.old.desk.refused < self.old.desk.number }
-        ensures step { record { item = item_by self.new.due result; desk = self.new.desk } ≡ changed self.old.desk (with_line topology.now self.old.desk.changes line.now) }
+        requires refused { self.old.ledger.refused < self.old.ledger.number }
+        ensures step { record { task = task_by self.new.due result; ledger = self.new.ledger } ≡ changed self.old.ledger (with_line topology.now self.old.ledger.changes line.now) }
         ensures due { self.new.due ≡ self.old.due }
         ensures kept { AreBatches topology.now.market self.old → AreBatches topology.now.market self.new }
         ensures goes_on { ¬ (result ≡ Next.Stop) }
@@ -135,7 +135,7 @@ impl Clerk {
     }
 
     fn commit(&mut self) -> Next
-        ensures step { record { item = item_by self.new.due result; desk = self.new.desk } ≡ commit_line self.old.desk }
+        ensures step { record { task = task_by self.new.due result; ledger = self.new.ledger } ≡ commit_line self.old.ledger }
         ensures due { result ≢ Next.Batch → self.new.due ≡ self.old.due }
         ensures kept { (m : Market) → AreBatches m self.old → AreBatches m self.new }
         ensures goes_on { ¬ (result ≡ Next.Stop) }
@@ -156,8 +156,8 @@ impl Clerk {
 
     fn take_line(&mut self, topology: &Topology, line: Line<'_>) -> Next
         requires short { IsShort LONGEST_LINE line }
-        requires refused { self.old.desk.refused < self.old.desk.number }
-        ensures step { record { item = item_by self.new.due result; desk = self.new.desk } ≡ by_said topology.now self.old.desk (Ok (said_by line.entry)) }
+        requires refused { self.old.ledger.refused < self.old.ledger.number }
+        ensures step { record { task = task_by self.new.due result; ledger = self.new.ledger } ≡ by_said topology.now self.old.ledger (Ok (said_by line.entry)) }
         ensures due { result ≢ Next.Batch → self.new.due ≡ self.old.due }
         ensures kept { AreBatches topology.now.market self.old → AreBatches topology.now.market self.new }
         ensures stop { (result ≡ Next.Stop) ↔ (line.entry ≡ Line.Stop) }
@@ -175,10 +175,10 @@ impl Clerk {
     }
 
     /// Takes the next line of a feed.
-    #[tactic(auto, unfolding(crate::specs::Item::step))]
+    #[tactic(auto, unfolding(crate::specs::Task::step))]
     pub fn take(&mut self, topology: &Topology, line: &[u8]) -> Next
-        requires { self.old.desk.number < 2 ^ 64 - 1 }
-        ensures step { record { item = item_by self.new.due result; desk = self.new.desk } ≡ step topology.now self.old.desk line.now }
+        requires { self.old.ledger.number < 2 ^ 64 - 1 }
+        ensures step { record { task = task_by self.new.due result; ledger = self.new.ledger } ≡ step topology.now self.old.ledger line.now }
         // The batch that ended last stays until another one ends.
         ensures due { result ≢ Next.Batch → self.new.due ≡ self.old.due }
         ensures kept { AreBatches topology.now.market self.old → AreBatches topology.now.market self.new }

@@ -3,7 +3,7 @@ ghost use Rattle.std.specs.Prelude.{◌≡◌, ◌+◌, ◌↔◌, ◌++◌, ℕ
 ghost use Rattle.demand_feed.specs.Cutter.{front};
 ghost use Rattle.demand_feed.specs.Working.{InPiece, IsReady, LineCame, PieceCame, Reads, Stands};
 
-use crate::{Clerk, Cutter, Next, Taken, TakesItems};
+use crate::{Clerk, Cutter, Next, Taken, TakesTasks};
 use topology_text::Topology;
 
 /// What became of a line, or of the lines of a piece.
@@ -13,7 +13,7 @@ pub(crate) enum LineEnd {
     GoesOn,
     /// The line says `stop`.
     Stopped,
-    /// An item was broken off.
+    /// A task was broken off.
     Failed,
 }
 
@@ -25,7 +25,7 @@ fn is_stop(next: &Next) -> bool
 }
 
 /// Hands on what comes of a line.
-pub(crate) fn end_line<T: TakesItems>(
+pub(crate) fn end_line<T: TakesTasks>(
     topology: &Topology,
     clerk: &mut Clerk,
     line: &[u8],
@@ -49,7 +49,7 @@ pub(crate) fn end_line<T: TakesItems>(
 }
 
 /// Hands on what comes of the lines that end in a piece.
-pub(crate) fn take_piece<T: TakesItems>(
+pub(crate) fn take_piece<T: TakesTasks>(
     topology: &Topology,
     clerk: &mut Clerk,
     cutter: &mut Cutter,

@@ -9,7 +9,7 @@ ghost use Rattle.demand_feed.specs.declared.limits.TheConstants.{MOST_TURNS, REA
 
 use crate::limits::READ_SIZE;
 use crate::pieces::{LineEnd, end_line, take_piece};
-use crate::{Clerk, Cutter, TakesItems};
+use crate::{Clerk, Cutter, TakesTasks};
 use no_memory::NoMemory;
 use outside::{Read, Source};
 use std::alloc::Global;
@@ -22,14 +22,16 @@ pub enum FeedEnd {
     Ended,
     /// The source failed.
     SourceFault,
-    /// Who takes the items failed. Nothing was taken after that.
+    /// Who takes the tasks failed. Nothing was taken after that.
     SinkFault,
     /// All turns were taken.
     Spent,
+    /// There was no memory to read with. No run over lines ends so.
+    NoMemory,
 }
 
 /// Hands on what comes of the last line, which no LF ends. It counts where it is not empty.
-fn end_last<T: TakesItems>(
+fn end_last<T: TakesTasks>(
     topology: &Topology,
     clerk: &mut Clerk,
     line: &[u8],
@@ -62,7 +64,7 @@ fn piece_end(end: LineEnd) -> Option<FeedEnd>
 }
 
 /// Takes one turn: reads a piece, and hands on what comes of its lines.
-fn take_turn<S: Source, T: TakesItems>(
+fn take_turn<S: Source, T: TakesTasks>(
     topology: &Topology,
     clerk: &mut Clerk,
     cutter: &mut Cutter,
@@ -87,7 +89,7 @@ fn take_turn<S: Source, T: TakesItems>(
 }
 
 /// Reads a feed in at most so many pieces.
-fn read_all<S: Source, T: TakesItems>(
+fn read_all<S: Source, T: TakesTasks>(
     topology: &Topology,
     clerk: &mut Clerk,
     cutter: &mut Cutter,
@@ -144,7 +146,7 @@ impl Intake {
 /// Runs a feed, from its first line on, to its end or for so many turns, 2^48 at most. Each turn is one read.
 ///
 /// What follows a line `stop` is not looked at, and nothing is read behind the piece that brings its end.
-pub fn run_lines<S: Source, T: TakesItems>(
+pub fn run_lines<S: Source, T: TakesTasks>(
     topology: &Topology,
     intake: &mut Intake,
     feed: &mut S,

@@ -1,11 +1,11 @@
 //! Lines, a feed in pieces of any size, and changes files.
 ghost use Rattle.std.specs.Prelude.{◌≡◌, ◌≤◌, ◌↔◌, ◌^◌, None};
-ghost use Rattle.demand_feed.specs.Clerk.{item_by};
+ghost use Rattle.demand_feed.specs.Clerk.{task_by};
 
 use addr_text::Addr;
 use demand_feed::{
     Batch, BatchFault, ChangesFault, FeedEnd, Intake, Line, LineFault, MOST_TURNS, Next, Refusal,
-    Taken, TakesItems, read_changes, read_line, run_lines,
+    Taken, TakesTasks, read_changes, read_line, run_lines,
 };
 use outside::MemSource;
 use std::alloc::Global;
@@ -107,7 +107,7 @@ enum Seen {
 }
 
 fn seen_of(next: &Next, due: &Batch) -> Option<Seen>
-    ensures { (result ≡ None) ↔ (item_by due.now next.now ≡ None) }
+    ensures { (result ≡ None) ↔ (task_by due.now next.now ≡ None) }
 {
     match next {
         Next::Nothing => None,
@@ -121,7 +121,7 @@ fn seen_of(next: &Next, due: &Batch) -> Option<Seen>
     }
 }
 
-/// One that keeps what it is handed, and fails at the item of that number, from 1.
+/// One that keeps what it is handed, and fails at the task of that number, from 1.
 #[derive(Drop)]
 struct Recorder<'a> {
     topology: &'a Topology,
@@ -130,10 +130,10 @@ struct Recorder<'a> {
     left: u64,
 }
 
-impl TakesItems for Recorder<'_> {
-    ghost does = { λ item a b. Unit {0} };
+impl TakesTasks for Recorder<'_> {
+    ghost does = { λ task a b. Unit {0} };
 
-    ghost cuts = { λ item a b. Unit {0} };
+    ghost cuts = { λ task a b. Unit {0} };
 
     ghost market = { λ r. r.topology.now.market };
 
@@ -153,7 +153,7 @@ impl TakesItems for Recorder<'_> {
 }
 
 /// How a feed is read: in pieces of that size, of which those with these numbers, from 0, fail, by a recorder that fails
-/// at the item of that number, from 1, and in so many turns.
+/// at the task of that number, from 1, and in so many turns.
 #[derive(Clone, Copy)]
 struct Course {
     size: usize,
@@ -169,7 +169,7 @@ fn feed_of(alloc: Global, text: &[u8], course: &Course) -> Option<MemSource> {
     MemSource::new(alloc, bytes, sizes, fails).ok()
 }
 
-/// How a run ends that hands its items to a recorder.
+/// How a run ends that hands its tasks to a recorder.
 fn record(
     alloc: Global,
     feed: &mut MemSource,
@@ -286,7 +286,7 @@ fn all_come(alloc: Global, topology: &Topology, rows: &[ShortRow]) -> bool {
     true
 }
 
-/// How two lines that ask for totals end, read in two pieces, after how many items.
+/// How two lines that ask for totals end, read in two pieces, after how many tasks.
 const ENDS: &[(&Course, FeedEnd, usize)] = &[
     (
         &Course {
@@ -340,23 +340,23 @@ const ENDS: &[(&Course, FeedEnd, usize)] = &[
     ),
 ];
 
-/// Whether a feed ends so, after so many items.
+/// Whether a feed ends so, after so many tasks.
 fn ends_so(
     alloc: Global,
     topology: &Topology,
     course: &Course,
     end: FeedEnd,
-    items: usize,
+    tasks: usize,
 ) -> bool {
     match run_feed(alloc, topology, b"show\nshow\n", course) {
-        Some((found, seen, _)) => found == end && seen.len() == items,
+        Some((found, seen, _)) => found == end && seen.len() == tasks,
         None => false,
     }
 }
 
 fn all_end_so(alloc: Global, topology: &Topology, rows: &[(&Course, FeedEnd, usize)]) -> bool {
-    for (course, end, items) in rows {
-        if !ends_so(alloc, topology, *course, *end, *items) {
+    for (course, end, tasks) in rows {
+        if !ends_so(alloc, topology, *course, *end, *tasks) {
             return false;
         }
     }

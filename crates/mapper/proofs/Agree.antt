@@ -1,4 +1,4 @@
--- What a feed comes to is determined by the topology and its items, but for want of memory.
+-- What a feed comes to is determined by the topology and its tasks, but for want of memory.
 use Rattle.std.proofs.Common.{◌≡◌, ℕ, List, [], ◌∷◌, refl, sym, ap, ◌∙◌, subst, inl, inr, arith}
 use Rattle.std.proofs.lemmas.List.Elements.{Contains-append_left, Contains-append_right}
 use Rattle.map_model.specs.declared.change.Change.{Change}
@@ -11,7 +11,7 @@ use Rattle.agree_laws.proofs.Ends.{group_best_one}
 use Rattle.map_repair.specs.Determined.{IsRepairedOf}
 use Rattle.map_repair.proofs.Agree.{repaired_of_one}
 use Rattle.topology_text.specs.Plan.{Plan}
-use Rattle.demand_feed.specs.Item.{Item, refused, batch, empty, spoiled, query, totals}
+use Rattle.demand_feed.specs.Task.{Task, refused, batch, empty, spoiled, query, totals}
 use Rattle.published_map.specs.Version.{Version}
 use Rattle.map_cell.specs.Ends.{PublisherState}
 use Rattle.mapper.specs.Control.{AllCome, Comes, Course, IsNext, before_commit, start, with_version}
@@ -38,7 +38,7 @@ next_one old a b changes x y = version_is a b (x.serial ∙ sym y.serial) market
     lines = repaired_of_one old.market old.lines b.market a.lines b.lines y.applied.shape.groups (subst (λ (m : Market). IsRepairedOf old.market old.lines m a.lines) market x.repaired) y.repaired
 
 -- the line that memory was wanting stays
-said_still : (item : Item) (c d : Course) → Comes item c d → LackedMemory c → LackedMemory d
+said_still : (task : Task) (c d : Course) → Comes task c d → LackedMemory c → LackedMemory d
 said_still (refused number why) c d e said = subst (λ (x : Course). LackedMemory x) (sym e) (Contains-append_left c.out (text.refused number why ∷ []) text.memory said)
 said_still (batch changes) c d (inl (version, next, e)) said = subst (λ (x : Course). LackedMemory x) (sym e) (Contains-append_left c.out (text.published version.serial ∷ []) text.memory said)
 said_still (batch changes) c d (inr e) said = subst (λ (x : Course). LackedMemory x) (sym e) (Contains-append_left c.out (text.memory ∷ []) text.memory said)
@@ -47,12 +47,12 @@ said_still (spoiled lines) c d e said = subst (λ (x : Course). LackedMemory x) 
 said_still (query addr octets) c d e said = subst (λ (x : Course). LackedMemory x) (sym e) (Contains-append_left c.out (_ ∷ []) text.memory said)
 said_still totals c d e said = subst (λ (x : Course). LackedMemory x) (sym e) (Contains-append_left c.out (_ ∷ []) text.memory said)
 
-all_still : (items : List Item) (c d : Course) → AllCome items c d → LackedMemory c → LackedMemory d
+all_still : (tasks : List Task) (c d : Course) → AllCome tasks c d → LackedMemory c → LackedMemory d
 all_still [] c d e said = subst (λ (x : Course). LackedMemory x) (sym e) said
-all_still (item ∷ items) c d (mid, first, rest) said = all_still items mid d rest (said_still item c mid first said)
+all_still (task ∷ tasks) c d (mid, first, rest) said = all_still tasks mid d rest (said_still task c mid first said)
 
--- one item comes to one course
-pub comes_one : (item : Item) (c d e : Course) → Comes item c d → Comes item c e → (LackedMemory d → ⊥) → (LackedMemory e → ⊥) → d ≡ e
+-- one task comes to one course
+pub comes_one : (task : Task) (c d e : Course) → Comes task c d → Comes task c e → (LackedMemory d → ⊥) → (LackedMemory e → ⊥) → d ≡ e
 comes_one (refused number why) c d e x y quiet also_quiet = x ∙ sym y
 comes_one (batch changes) c d e (inl (v, next, x)) (inl (w, also, y)) quiet also_quiet = x ∙ ap (λ (u : Version). with_version (before_commit c) u) (next_one c.newest v w changes next also) ∙ sym y
 comes_one (batch changes) c d e (inr x) y quiet also_quiet = absurd (quiet (subst (λ (z : Course). LackedMemory z) (sym x) (Contains-append_right c.out (text.memory ∷ []) text.memory (0, omega arith, refl))))
@@ -62,12 +62,12 @@ comes_one (spoiled lines) c d e x y quiet also_quiet = x ∙ sym y
 comes_one (query addr octets) c d e x y quiet also_quiet = x ∙ sym y
 comes_one totals c d e x y quiet also_quiet = x ∙ sym y
 
--- so do items, one after another
-pub all_come_one : (items : List Item) (c d e : Course) → AllCome items c d → AllCome items c e → (LackedMemory d → ⊥) → (LackedMemory e → ⊥) → d ≡ e
+-- so do tasks, one after another
+pub all_come_one : (tasks : List Task) (c d e : Course) → AllCome tasks c d → AllCome tasks c e → (LackedMemory d → ⊥) → (LackedMemory e → ⊥) → d ≡ e
 all_come_one [] c d e x y quiet also_quiet = x ∙ sym y
-all_come_one (item ∷ items) c d e (a, first, rest) (b, also, more) quiet also_quiet =
-    let mid : a ≡ b = comes_one item c a b first also (λ said. quiet (all_still items a d rest said)) (λ said. also_quiet (all_still items b e more said)) in
-    all_come_one items b d e (subst (λ (x : Course). AllCome items x d) mid rest) more quiet also_quiet
+all_come_one (task ∷ tasks) c d e (a, first, rest) (b, also, more) quiet also_quiet =
+    let mid : a ≡ b = comes_one task c a b first also (λ said. quiet (all_still tasks a d rest said)) (λ said. also_quiet (all_still tasks b e more said)) in
+    all_come_one tasks b d e (subst (λ (x : Course). AllCome tasks x d) mid rest) more quiet also_quiet
 
 -- two mappers that were opened for one topology have the same first version
 pub first_one : (t : Plan) → IsMarket t.market → (a b : PublisherState) → IsFirst t a → IsFirst t b → a.newest ≡ b.newest
@@ -75,7 +75,7 @@ first_one t market a b x y =
     let e = group_best_one t.market market a.newest.lines b.newest.lines a.newest.names b.newest.names x.good y.good x.best y.best in
     version_is a.newest b.newest (x.serial ∙ sym y.serial) (x.market ∙ sym y.market) e.0 e.1 (x.plan ∙ sym y.plan)
 
--- So over the same items they come to the same courses, where neither said that memory was wanting: the same versions, the same texts of maps, the same lines and the same calls of the pace.
-pub courses_one : (t : Plan) → IsMarket t.market → (a b : PublisherState) (items : List Item) (c d : Course) → IsFirst t a → IsFirst t b → AllCome items (start a.newest) c → AllCome items (start b.newest) d → (LackedMemory c → ⊥) → (LackedMemory d → ⊥) → c ≡ d
-courses_one t market a b items c d x y all also quiet also_quiet =
-    all_come_one items (start b.newest) c d (subst (λ (v : Version). AllCome items (start v) c) (first_one t market a b x y) all) also quiet also_quiet
+-- So over the same tasks they come to the same courses, where neither said that memory was wanting: the same versions, the same texts of maps, the same lines and the same calls of the pace.
+pub courses_one : (t : Plan) → IsMarket t.market → (a b : PublisherState) (tasks : List Task) (c d : Course) → IsFirst t a → IsFirst t b → AllCome tasks (start a.newest) c → AllCome tasks (start b.newest) d → (LackedMemory c → ⊥) → (LackedMemory d → ⊥) → c ≡ d
+courses_one t market a b tasks c d x y all also quiet also_quiet =
+    all_come_one tasks (start b.newest) c d (subst (λ (v : Version). AllCome tasks (start v) c) (first_one t market a b x y) all) also quiet also_quiet

@@ -1,5 +1,5 @@
--- Courses, one item more.
-use Rattle.std.proofs.Common.{◌≡◌, ◌⊎◌, inl, inr, ℕ, List, [], ◌∷◌, ◌++◌, append_assoc, append-nil, refl, ap, sym, subst, ◌∙◌}
+-- Courses, one task more.
+use Rattle.std.proofs.Common.{◌≡◌, ◌≢◌, ◌⊎◌, inl, inr, ℕ, List, [], ◌∷◌, ◌++◌, append_assoc, append-nil, refl, ap, sym, subst, ◌∙◌}
 use Rattle.std.specs.Prelude.{Option}
 use Rattle.outside.specs.Faults.{BothTell}
 use Rattle.outside.specs.Pace.{IsPaced}
@@ -12,7 +12,9 @@ use Rattle.map_model.specs.declared.change.Change.{Change}
 use Rattle.published_map.specs.Version.{Version}
 use Rattle.mapper.specs.Words.{map_text}
 use Rattle.mapper.specs.Texts as text
-use Rattle.mapper.specs.Control.{Course, IsCommit, IsNext, before_commit, start, with_line, with_version}
+use Rattle.mapper.specs.Control.{Course, IsNext, before_commit, start, with_line}
+use Rattle.mapper.specs.Items.{CommitWorks, with_marked, with_published}
+use Rattle.mapper.specs.Texts.{marked}
 use Rattle.mapper.specs.Scenes.{IsAt, IsCutInMaps, IsCutInOut, IsPrinted, Scene, scene}
 use Rattle.mapper.specs.Coming.{BothPut, Came}
 use Rattle.demand_feed.proofs.Tellings.{tell_self}
@@ -49,22 +51,22 @@ said_at put.Failed before base c v h out o maps pace line eo em at p = (
 )
 
 -- a publish, with its two puts
-pub published_at : (result : Put) (before : Scene) (base c : Course) (changes : List Change) (v w : Version) (h k : List Version) (out o maps m : Option Written) (pace : Option (List PaceCall))
-    → base.out ≡ c.out → base.maps ≡ c.maps → IsAt before c (scene v h out maps pace) → IsNext v changes w → k ≡ h ++ w ∷ [] → BothPut result (map_text w) (text.published w.serial) maps m out o
-    → Came result before base (λ d. IsCommit c changes d ⊎ (d ≡ with_line c text.memory)) (scene w k o m pace)
-published_at put.Done before base c changes v w h k out o maps m pace eo em at next grown p = (
-  with_version c w,
+pub published_at : (mark : Option ℕ) (result : Put) (before : Scene) (base c : Course) (changes : List Change) (v w : Version) (h k : List Version) (out o maps m : Option Written) (pace : Option (List PaceCall))
+    → base.out ≡ c.out → base.maps ≡ c.maps → IsAt before c (scene v h out maps pace) → IsNext v changes w → k ≡ h ++ w ∷ [] → BothPut result (map_text w) (marked mark (text.published w.serial)) maps m out o
+    → Came result before base (CommitWorks mark changes c) (scene w k o m pace)
+published_at mark put.Done before base c changes v w h k out o maps m pace eo em at next grown p = (
+  with_published mark c w,
   inl (w, subst (λ old. IsNext old changes w) at.newest next, refl),
   record {
     newest = refl;
     history = grown ∙ ap (λ xs. xs ++ w ∷ []) at.history ∙ append_assoc before.history c.versions (w ∷ []);
-    out = printed_more c.out (text.published w.serial) before.out out o at.out p.1;
+    out = printed_more c.out (marked mark (text.published w.serial)) before.out out o at.out p.1;
     maps = printed_more c.maps (map_text w) before.maps maps m at.maps p.0;
     pace = at.pace;
   },
 )
-published_at put.Failed before base c changes v w h k out o maps m pace eo em at next grown p = (
-  with_version c w,
+published_at mark put.Failed before base c changes v w h k out o maps m pace eo em at next grown p = (
+  with_published mark c w,
   inl (w, subst (λ old. IsNext old changes w) at.newest next, refl),
   record {
     newest = refl;
@@ -74,12 +76,12 @@ published_at put.Failed before base c changes v w h k out o maps m pace eo em at
   },
 )
   where
-    go : (BothTell maps m (IsPut put.Done (map_text w)) × BothTell out o (IsPut put.Failed (text.published w.serial))) ⊎ (BothTell maps m (IsPut put.Failed (map_text w)) × (o ≡ out))
-        → IsCutInOut before base (with_version c w) (scene w k o m pace) ⊎ IsCutInMaps before base (with_version c w) (scene w k o m pace)
+    go : (BothTell maps m (IsPut put.Done (map_text w)) × BothTell out o (IsPut put.Failed (marked mark (text.published w.serial)))) ⊎ (BothTell maps m (IsPut put.Failed (map_text w)) × (o ≡ out))
+        → IsCutInOut before base (with_published mark c w) (scene w k o m pace) ⊎ IsCutInMaps before base (with_published mark c w) (scene w k o m pace)
     go (inl q) = inl (record {
-      line = text.published w.serial;
-      last = ap (λ xs. xs ++ text.published w.serial ∷ []) (sym eo);
-      out = rw eo (printed_cut c.out (text.published w.serial) before.out out o at.out q.1);
+      line = marked mark (text.published w.serial);
+      last = ap (λ xs. xs ++ marked mark (text.published w.serial) ∷ []) (sym eo);
+      out = rw eo (printed_cut c.out (marked mark (text.published w.serial)) before.out out o at.out q.1);
       maps = printed_more c.maps (map_text w) before.maps maps m at.maps q.0;
     })
     go (inr q) = inr (record {
@@ -115,10 +117,15 @@ pub came_map : (result : Put) (before : Scene) (base : Course) (To Via : Course 
 came_map put.Done before base To Via s f (d, to, at) = (d, f d to, at)
 came_map put.Failed before base To Via s f (d, to, at) = (d, f d to, at)
 
+-- what came where no put failed
+pub came_done : (result : Put) (before : Scene) (base : Course) (To : Course → Type 0) (s : Scene) → result ≢ put.Failed → Came result before base To s → (d : Course) × To d × IsAt before d s
+came_done put.Done before base To s whole h = h
+came_done put.Failed before base To s whole h = absurd (whole refl)
+
 -- a put of a line that speaks of the newest version
-pub speaks_at : (line : Version → List ℕ) (result : Put) (before : Scene) (base c : Course) (v : Version) (h : List Version) (out o maps : Option Written) (pace : Option (List PaceCall))
-    → base.out ≡ c.out → base.maps ≡ c.maps → IsAt before c (scene v h out maps pace) → BothTell out o (IsPut result (line v)) → Came result before base (λ d. d ≡ with_line c (line c.newest)) (scene v h o maps pace)
-speaks_at line result before base c v h out o maps pace eo em at p = said_at result before base c v h out o maps pace (line c.newest) eo em at (subst (λ w. BothTell out o (IsPut result (line w))) at.newest p)
+pub speaks_at : (mark : Option ℕ) (line : Version → List ℕ) (result : Put) (before : Scene) (base c : Course) (v : Version) (h : List Version) (out o maps : Option Written) (pace : Option (List PaceCall))
+    → base.out ≡ c.out → base.maps ≡ c.maps → IsAt before c (scene v h out maps pace) → BothTell out o (IsPut result (marked mark (line v))) → Came result before base (λ d. d ≡ with_marked mark c (line c.newest)) (scene v h o maps pace)
+speaks_at mark line result before base c v h out o maps pace eo em at p = said_at result before base c v h out o maps pace (marked mark (line c.newest)) eo em at (subst (λ w. BothTell out o (IsPut result (marked mark (line w)))) at.newest p)
 
 -- nothing to do
 pub rests_at : (before : Scene) (c : Course) (s : Scene) → IsAt before c s → Came put.Done before c (λ d. d ≡ c) s

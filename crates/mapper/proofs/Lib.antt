@@ -8,3 +8,8 @@ pub mod Fresh
 pub mod Nexts
 pub mod Opened
 pub mod Agree
+pub mod Marks
+pub mod Merging
+pub mod Giving
+pub mod Several
+pub mod Working

@@ -1,10 +1,10 @@
--- Inside this crate alone: what one item comes to.
+-- Inside this crate alone: what one task comes to.
 use Rattle.std.specs.Prelude.{◌≡◌, ◌⊎◌, ℕ, List, Option, None, Some}
 use Rattle.outside.specs.Faults.{BothTell}
 use Rattle.outside.specs.Sink.{IsPut, Written}
 use Rattle.outside.specs.declared.sink.Put.{Put}
 use Rattle.outside.specs.declared.sink.Put.TheVariants as put
-use Rattle.demand_feed.specs.Item.{Item}
+use Rattle.demand_feed.specs.Task.{Task}
 use Rattle.demand_feed.specs.declared.clerk.Next.{Next}
 use Rattle.demand_feed.specs.declared.clerk.Next.TheVariants as next
 use Rattle.published_map.specs.Version.{Version}
@@ -26,7 +26,7 @@ BothPut put.Failed text line maps_before maps_after out_before out_after =
     (BothTell maps_before maps_after (IsPut put.Done text) × BothTell out_before out_after (IsPut put.Failed line))
     ⊎ (BothTell maps_before maps_after (IsPut put.Failed text) × (out_after ≡ out_before))
 
--- the line of control text of an item that is no batch, over the newest version
+-- the line of control text of a task that is no batch, over the newest version
 abbrev pub line_for : Version → Next → Option (List ℕ)
 line_for v (next.Refused number why) = Some (text.refused number why)
 line_for v next.Empty = Some (text.published v.serial)
@@ -38,19 +38,19 @@ line_for v next.Stop = None
 line_for v next.Batch = None
 
 -- what comes of a line, if anything
-abbrev pub ComesOf : Option Item → Course → Course → Type 0
+abbrev pub ComesOf : Option Task → Course → Course → Type 0
 ComesOf None c d = d ≡ c
-ComesOf (Some item) c d = Comes item c d
+ComesOf (Some task) c d = Comes task c d
 
 -- a line was put, if there is one
 abbrev pub PutIf : Option (List ℕ) → Put → Option Written → Option Written → Type 0
 PutIf None result before after = (result ≡ put.Done) × (after ≡ before)
 PutIf (Some line) result before after = BothTell before after (IsPut result line)
 
--- from whatever course is told, an item leads to another one, which is then told
-abbrev pub Does : Item → Scene → Scene → Type 0
-Does item now then = (before : Scene) (c : Course) → IsAt before c now → (d : Course) × Comes item c d × IsAt before d then
+-- from whatever course is told, a task leads to another one, which is then told
+abbrev pub Does : Task → Scene → Scene → Type 0
+Does task now then = (before : Scene) (c : Course) → IsAt before c now → (d : Course) × Comes task c d × IsAt before d then
 
--- from whatever course is told, a put of an item failed on the way to another one
-abbrev pub Cuts : Item → Scene → Scene → Type 0
-Cuts item now then = (before : Scene) (c : Course) → IsAt before c now → (d : Course) × Comes item c d × IsCutAt before c d then
+-- from whatever course is told, a put of a task failed on the way to another one
+abbrev pub Cuts : Task → Scene → Scene → Type 0
+Cuts task now then = (before : Scene) (c : Course) → IsAt before c now → (d : Course) × Comes task c d × IsCutAt before c d then

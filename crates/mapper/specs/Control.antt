@@ -1,11 +1,11 @@
--- What a feed's items come to: lines of control text, versions that are published with their texts, and calls of the pace.
+-- What a feed's tasks come to: lines of control text, versions that are published with their texts, and calls of the pace.
 use Rattle.std.specs.Prelude.{◌≡◌, ◌⊎◌, ℕ, ◌+◌, List, [], ◌∷◌, ◌++◌}
 use Rattle.outside.specs.declared.pace.PaceCall.{PaceCall}
 use Rattle.outside.specs.declared.pace.PaceCall.TheVariants.{Before}
 use Rattle.map_model.specs.declared.change.Change.{Change}
 use Rattle.map_model.specs.Batch.{IsApplied}
 use Rattle.map_model.specs.Allocation.{IsGood}
-use Rattle.demand_feed.specs.Item.{Item, refused, batch, empty, spoiled, query, totals}
+use Rattle.demand_feed.specs.Task.{Task, refused, batch, empty, spoiled, query, totals}
 use Rattle.demand_feed.specs.Taking.{AllDo}
 use Rattle.map_repair.specs.Determined.{IsRepairedOf}
 use Rattle.map_repair.specs.Repaired.{IsKept, IsLocal}
@@ -57,8 +57,8 @@ pub record IsNext (old : Version) (changes : List Change) (new : Version) : Type
 abbrev pub IsCommit : Course → List Change → Course → Type 0
 IsCommit c changes d = (version : Version) × IsNext c.newest changes version × (d ≡ with_version c version)
 
--- what one item comes to
-abbrev pub Comes : Item → Course → Course → Type 0
+-- what one task comes to
+abbrev pub Comes : Task → Course → Course → Type 0
 Comes (refused number why) c d = d ≡ with_line c (text.refused number why)
 Comes (batch changes) c d = IsCommit (before_commit c) changes d ⊎ (d ≡ with_line (before_commit c) text.memory)
 Comes empty c d = d ≡ with_line (before_commit c) (text.published c.newest.serial)
@@ -66,6 +66,6 @@ Comes (spoiled lines) c d = d ≡ with_line (before_commit c) (text.spoiled line
 Comes (query addr octets) c d = d ≡ with_line c (text.answer c.newest.serial (reply_by c.newest addr octets))
 Comes totals c d = d ≡ with_line c (text.show c.newest.serial (totals_of c.newest))
 
--- what items come to, one after another
-abbrev pub AllCome : List Item → Course → Course → Type 0
-AllCome items c d = AllDo Comes items c d
+-- what tasks come to, one after another
+abbrev pub AllCome : List Task → Course → Course → Type 0
+AllCome tasks c d = AllDo Comes tasks c d

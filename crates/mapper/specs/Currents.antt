@@ -12,7 +12,7 @@ use Rattle.mapper.specs.Control.{IsNext}
 use Rattle.mapper.specs.Words.{map_text, totals_of}
 use Rattle.mapper.specs.declared.current.Current.{Current}
 use Rattle.mapper.specs.declared.current.Kept.{Kept}
-use Rattle.mapper.specs.declared.maps.Next.{Next}
+use Rattle.mapper.specs.declared.maps.Following.{Following}
 
 -- the version of an instance and a map
 abbrev pub version_of : ℕ → Plan → Current → Version
@@ -36,7 +36,7 @@ pub record Makes (t : Plan) (old : Current) (changes : List Change) (new : Curre
   pub current : (serial : ℕ) → IsCurrent (version_of serial t new) new
 
 -- what changes may be published, and leads to the version of a batch
-pub record IsPrepared (old : Version) (changes : List Change) (n : Next) : Type 0 where
+pub record IsPrepared (old : Version) (changes : List Change) (n : Following) : Type 0 where
   pub base : n.delta.base ≡ old.serial
   pub within : is_within old n.delta ≡ true
   pub good : IsVersion (after old n.delta)

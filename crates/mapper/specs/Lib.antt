@@ -7,6 +7,11 @@ pub mod Currents
 pub mod Scenes
 pub mod Feeding
 pub mod Coming
-pub mod Sessions
+pub mod Runners
 pub mod Notes
 pub mod Laws
+pub mod Items
+pub mod Merged
+pub mod Given
+pub mod Feeds
+pub mod Noting

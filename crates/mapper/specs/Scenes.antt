@@ -49,7 +49,7 @@ pub record IsCutInMaps (before : Scene) (c d : Course) (after : Scene) : Type 0 
   pub out : BothTell before.out after.out (IsPrinted c.out)
   pub maps : BothTell before.maps after.maps (IsCut c.maps text)
 
--- An item of which a put failed, on the way from one course to the next. What it published stays published.
+-- A task of which a put failed, on the way from one course to the next. What it published stays published.
 pub record IsCutAt (before : Scene) (c d : Course) (after : Scene) : Type 0 where
   pub newest : after.newest ≡ d.newest
   pub history : after.history ≡ before.history ++ d.versions

@@ -1,5 +1,5 @@
 -- The lines of the control text.
-use Rattle.std.specs.Prelude.{ℕ, List, [], ◌∷◌, ◌++◌, Option, None, Some, codes}
+use Rattle.std.specs.Prelude.{ℕ, ◌+◌, List, [], ◌∷◌, ◌++◌, Option, None, Some, codes}
 use Rattle.std.specs.Fmt.{decimal}
 use Rattle.hex.specs.Hex.{encode_lower}
 use Rattle.demand_feed.specs.Texts.{refusal_words}
@@ -38,3 +38,12 @@ answer serial reply = line (codes "answer " ++ decimal serial ++ codes " " ++ di
 -- the totals of that version
 unfoldable pub show : ℕ → Totals → List ℕ
 show serial totals = line (codes "show " ++ decimal serial ++ codes " placed " ++ decimal totals.placed ++ codes " unplaced " ++ decimal totals.unplaced ++ codes " full " ++ decimal totals.full)
+
+-- where there are several feeds, the mark of the lines of one: its number, from 1, and a space
+unfoldable pub mark_of : ℕ → List ℕ
+mark_of feeder = decimal (feeder + 1) ++ 32 ∷ []
+
+-- a line behind its feed's mark, if it has one
+abbrev pub marked : Option ℕ → List ℕ → List ℕ
+marked None text = text
+marked (Some feeder) text = mark_of feeder ++ text

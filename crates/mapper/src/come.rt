@@ -1,50 +1,62 @@
-//! What one item of a feed comes to.
-ghost use Rattle.std.specs.Prelude.{◌≡◌, ◌≢◌, ◌⊎◌, ◌<◌, ◌≤◌, ◌+◌, ◌-◌, ◌^◌, ◌∷◌, ℕ, List, [], Option, Some, IsSome, option_map};
+//! What one task of a feed comes to, and what any batch does.
+ghost use Rattle.std.specs.Prelude.{◌≡◌, ◌≢◌, ◌⊎◌, ◌<◌, ◌≤◌, ◌+◌, ◌-◌, ◌^◌, ◌∷◌, ℕ, List, [], Option, Some, None, IfSome, IsSome, option_map};
 ghost use Rattle.outside.specs.Faults.{BothTell, Rose};
 ghost use Rattle.outside.specs.Pace.{IsPaced};
 ghost use Rattle.outside.specs.Sink.{IsPut};
 ghost use Rattle.outside.specs.declared.pace.PaceCall.{PaceCall};
 ghost use Rattle.map_model.specs.Batch.{IsBatch};
-ghost use Rattle.demand_feed.specs.Item.{Item};
-ghost use Rattle.demand_feed.specs.Clerk.{item_by};
+ghost use Rattle.demand_feed.specs.Task.{Task};
+ghost use Rattle.demand_feed.specs.Clerk.{task_by};
 ghost use Rattle.mapper.specs.Words.{map_text};
 ghost use Rattle.mapper.specs.Sayings.{text_of};
-ghost use Rattle.mapper.specs.Control.{Comes, Course, IsCommit, before_commit, with_line};
+ghost use Rattle.mapper.specs.Control.{Comes, Course, before_commit};
+ghost use Rattle.mapper.specs.Items.{CommitWorks};
 ghost use Rattle.mapper.specs.Scenes.{IsAt, Scene, scene};
 ghost use Rattle.mapper.specs.Coming.{BothPut, Came, ComesOf, PutIf, line_for};
+ghost use Rattle.mapper.specs.Texts.{marked};
 ghost use Rattle.mapper.specs.Texts as text;
 
-use crate::saying::write_saying;
-use crate::{Mapping, Saying, Spoken};
+use crate::mapping::Mapping;
+use crate::saying::{with_mark, write_saying};
+use crate::{Saying, Spoken};
 use demand_feed::{Batch, Next};
 use no_memory::NoMemory;
 use outside::{Pace, Put, Sink};
 use std::sync::Wait;
 
-/// Puts a line of control text.
-fn say<K: Sink>(line: &mut Spoken, out: &mut K, saying: &Saying) -> Put
-    ensures put { BothTell (K.told out.old) (K.told out.new) (IsPut result (text_of saying.now)) }
+/// Puts a line of control text, behind its feed's mark if it has one.
+pub(crate) fn say<K: Sink>(mark: Option<u8>, line: &mut Spoken, out: &mut K, saying: &Saying) -> Put
+    requires { IfSome mark (λ feeder. feeder < 4) }
+    ensures put { BothTell (K.told out.old) (K.told out.new) (IsPut result (marked mark (text_of saying.now))) }
     ensures later { K.faults out.old ≤ K.faults out.new }
     ensures cause { result ≡ Put.Failed → Rose (K.faults out.old) (K.faults out.new) }
     ensures stays { result ≢ Put.Failed → K.faults out.new ≡ K.faults out.old }
 {
     write_saying(line, saying);
-    out.put(line.as_slice())
+    match mark {
+        None => out.put(line.as_slice()),
+        Some(feeder) => {
+            let text = with_mark(feeder, line);
+            out.put(text.as_slice())
+        }
+    }
 }
 
 /// Puts the newest map's text, and then the line that it is published. Then all who look are told of it.
 fn announce<R: Wait, X: Mapping, K: Sink>(
     rt: &R,
     mapper: &mut X,
+    mark: Option<u8>,
     line: &mut Spoken,
     serial: u64,
     out: &mut K,
     maps: &mut K,
 ) -> Put
+    requires { IfSome mark (λ feeder. feeder < 4) }
     ensures newest { X.newest mapper.new ≡ X.newest mapper.old }
     ensures history { X.history mapper.new ≡ X.history mapper.old }
     ensures lent { X.lent mapper.new ≡ X.lent mapper.old }
-    ensures put { BothPut result (map_text (X.newest mapper.old)) (text.published serial) (K.told maps.old) (K.told maps.new) (K.told out.old) (K.told out.new) }
+    ensures put { BothPut result (map_text (X.newest mapper.old)) (marked mark (text.published serial)) (K.told maps.old) (K.told maps.new) (K.told out.old) (K.told out.new) }
     ensures later { (K.faults out.old ≤ K.faults out.new) × (K.faults maps.old ≤ K.faults maps.new) }
     ensures cause { result ≡ Put.Failed → Rose (K.faults out.old) (K.faults out.new) ⊎ Rose (K.faults maps.old) (K.faults maps.new) }
     ensures stays { result ≢ Put.Failed → (K.faults out.new ≡ K.faults out.old) × (K.faults maps.new ≡ K.faults maps.old) }
@@ -53,7 +65,7 @@ fn announce<R: Wait, X: Mapping, K: Sink>(
         Put::Done => {}
         Put::Failed => return Put::Failed,
     }
-    match say(line, out, &Saying::Published(serial)) {
+    match say(mark, line, out, &Saying::Published(serial)) {
         Put::Done => {
             let _told = mapper.tell(rt);
             Put::Done
@@ -63,19 +75,21 @@ fn announce<R: Wait, X: Mapping, K: Sink>(
 }
 
 /// Commits a batch that is not empty.
-fn commit<R: Wait, X: Mapping, K: Sink>(
+pub(crate) fn commit<R: Wait, X: Mapping, K: Sink>(
     rt: &R,
     mapper: &mut X,
+    mark: Option<u8>,
     line: &mut Spoken,
     batch: &Batch,
     out: &mut K,
     maps: &mut K,
 ) -> Put
+    requires mark { IfSome mark (λ feeder. feeder < 4) }
     requires ids { IsBatch (X.newest mapper.old).plan.market batch.now }
     requires some { batch.now ≢ [] }
     requires serial { (X.newest mapper.old).serial < 2 ^ 64 - 1 }
     ensures came { (before : Scene) (base c : Course) (pace : Option (List PaceCall)) → base.out ≡ c.out → base.maps ≡ c.maps → IsAt before c (scene (X.newest mapper.old) (X.history mapper.old) (K.told out.old) (K.told maps.old) pace)
-        → Came result before base (λ d. IsCommit c batch.now d ⊎ (d ≡ with_line c text.memory)) (scene (X.newest mapper.new) (X.history mapper.new) (K.told out.new) (K.told maps.new) pace) }
+        → Came result before base (CommitWorks mark batch.now c) (scene (X.newest mapper.new) (X.history mapper.new) (K.told out.new) (K.told maps.new) pace) }
     ensures plan { (X.newest mapper.new).plan ≡ (X.newest mapper.old).plan }
     ensures lent { X.lent mapper.new ≡ X.lent mapper.old }
     ensures serial { (X.newest mapper.new).serial ≤ (X.newest mapper.old).serial + 1 }
@@ -84,12 +98,12 @@ fn commit<R: Wait, X: Mapping, K: Sink>(
     ensures stays { result ≢ Put.Failed → (K.faults out.new ≡ K.faults out.old) × (K.faults maps.new ≡ K.faults maps.old) }
 {
     match mapper.commit(rt, batch) {
-        Ok(serial) => announce(rt, mapper, line, serial, out, maps),
-        Err(NoMemory) => say(line, out, &Saying::NoMemory),
+        Ok(serial) => announce(rt, mapper, mark, line, serial, out, maps),
+        Err(NoMemory) => say(mark, line, out, &Saying::NoMemory),
     }
 }
 
-/// The line of an item that is no batch.
+/// The line of a task that is no batch.
 fn saying_of<X: Mapping>(mapper: &X, next: &Next) -> Option<Saying>
     ensures { option_map text_of result ≡ line_for (X.newest mapper.now) next.now }
 {
@@ -108,20 +122,20 @@ fn saying_of<X: Mapping>(mapper: &X, next: &Next) -> Option<Saying>
     }
 }
 
-/// Puts the line of an item that is no batch.
-fn say_item<X: Mapping, K: Sink>(mapper: &X, line: &mut Spoken, next: &Next, out: &mut K) -> Put
+/// Puts the line of a task that is no batch.
+fn say_task<X: Mapping, K: Sink>(mapper: &X, line: &mut Spoken, next: &Next, out: &mut K) -> Put
     ensures put { PutIf (line_for (X.newest mapper.now) next.now) result (K.told out.old) (K.told out.new) }
     ensures later { K.faults out.old ≤ K.faults out.new }
     ensures cause { result ≡ Put.Failed → Rose (K.faults out.old) (K.faults out.new) }
     ensures stays { result ≢ Put.Failed → K.faults out.new ≡ K.faults out.old }
 {
     match saying_of(mapper, next) {
-        Some(saying) => say(line, out, &saying),
+        Some(saying) => say(None, line, out, &saying),
         None => Put::Done,
     }
 }
 
-/// Does what an item asks for.
+/// Does what a task asks for.
 pub(crate) fn come<R: Wait, X: Mapping, K: Sink, M: Pace>(
     rt: &R,
     mapper: &mut X,
@@ -136,11 +150,11 @@ pub(crate) fn come<R: Wait, X: Mapping, K: Sink, M: Pace>(
     requires some { next.now ≡ Next.Batch → due.now ≢ [] }
     requires serial { (X.newest mapper.old).serial < 2 ^ 64 - 1 }
     ensures came { (before : Scene) (c : Course) → IsAt before c (scene (X.newest mapper.old) (X.history mapper.old) (K.told out.old) (K.told maps.old) (M.told pace.old))
-        → Came result before c (ComesOf (item_by due.now next.now) c) (scene (X.newest mapper.new) (X.history mapper.new) (K.told out.new) (K.told maps.new) (M.told pace.new)) }
+        → Came result before c (ComesOf (task_by due.now next.now) c) (scene (X.newest mapper.new) (X.history mapper.new) (K.told out.new) (K.told maps.new) (M.told pace.new)) }
     ensures plan { (X.newest mapper.new).plan ≡ (X.newest mapper.old).plan }
     ensures lent { X.lent mapper.new ≡ X.lent mapper.old }
     ensures serial { (X.newest mapper.new).serial ≤ (X.newest mapper.old).serial + 1 }
-    ensures said { result ≡ Put.Failed → IsSome (item_by due.now next.now) }
+    ensures said { result ≡ Put.Failed → IsSome (task_by due.now next.now) }
     ensures later { (K.faults out.old ≤ K.faults out.new) × (K.faults maps.old ≤ K.faults maps.new) }
     ensures cause { result ≡ Put.Failed → Rose (K.faults out.old) (K.faults out.new) ⊎ Rose (K.faults maps.old) (K.faults maps.new) }
     ensures stays { result ≢ Put.Failed → (K.faults out.new ≡ K.faults out.old) × (K.faults maps.new ≡ K.faults maps.old) }
@@ -148,19 +162,19 @@ pub(crate) fn come<R: Wait, X: Mapping, K: Sink, M: Pace>(
     match next {
         Next::Batch => {
             pace.before(mapper.serial());
-            commit(rt, mapper, line, due, out, maps)
+            commit(rt, mapper, None, line, due, out, maps)
         }
         Next::Empty => {
             pace.before(mapper.serial());
-            say_item(mapper, line, next, out)
+            say_task(mapper, line, next, out)
         }
         Next::Spoiled(_) => {
             pace.before(mapper.serial());
-            say_item(mapper, line, next, out)
+            say_task(mapper, line, next, out)
         }
-        Next::Refused(_, _) => say_item(mapper, line, next, out),
-        Next::Query { .. } => say_item(mapper, line, next, out),
-        Next::Totals => say_item(mapper, line, next, out),
+        Next::Refused(_, _) => say_task(mapper, line, next, out),
+        Next::Query { .. } => say_task(mapper, line, next, out),
+        Next::Totals => say_task(mapper, line, next, out),
         Next::Nothing => Put::Done,
         Next::Stop => Put::Done,
     }

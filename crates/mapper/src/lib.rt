@@ -4,16 +4,17 @@
 mod adding;
 mod come;
 mod current;
-mod feeding;
+mod ends;
+mod feeds;
+mod items;
 mod laws;
 mod mapper;
 mod mapping;
 mod maps;
+mod noted;
+mod runner;
 mod saying;
-mod session;
 
-pub use laws::courses_agree;
+pub use laws::{batches_are_given, courses_agree, texts_are_merged};
 pub use mapper::Mapper;
-pub use mapping::Mapping;
 pub use saying::{LINE_ROOM, Saying, Spoken, Totals, write_saying};
-pub use session::run_feed;

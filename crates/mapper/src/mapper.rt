@@ -1,5 +1,5 @@
 //! The mapper: the newest map of a topology, in a cell.
-ghost use Rattle.std.specs.Prelude.{◌≡◌, ◌≢◌, ◌⊎◌, ◌+◌, ◌-◌, ◌<◌, ◌≤◌, ◌^◌, [], ◌∷◌, ℕ, All, IfErr, IsErrOf, IfOk, OnErr, OnOk, Ok, vec_len};
+ghost use Rattle.std.specs.Prelude.{◌≡◌, ◌≢◌, ◌⊎◌, ◌+◌, ◌-◌, ◌<◌, ◌≤◌, ◌^◌, [], ◌∷◌, ℕ, All, IfErr, IsErrOf, IfOk, OnErr, OnOk, Ok, length, vec_len};
 ghost use mathlib.Core.List.{IsPrefix};
 ghost use Rattle.outside.specs.Faults.{Rose, raised};
 ghost use Rattle.map_model.specs.Batch.{IsBatch};
@@ -15,18 +15,22 @@ ghost use Rattle.map_cell.specs.Histories.{IsSealed};
 ghost use Rattle.answer_core.specs.Reply.{Replies};
 ghost use Rattle.mapper.specs.Currents.{IsCurrent, IsKeptFor, version_of};
 ghost use Rattle.mapper.specs.Feeding.{IsFeed};
+ghost use Rattle.mapper.specs.Feeds.{AreFeeds, HasMerged};
 ghost use Rattle.mapper.specs.Mappers.{IsFirst, IsMapping, IsPublished, IsRepairing, most_offers};
 ghost use Rattle.mapper.specs.Scenes.{scene};
 ghost use Rattle.mapper.specs.Words.{map_text, reply_by, totals_of};
 
+use crate::Totals;
 use crate::current::{First, first_of};
-use crate::feeding::Feeding;
+use crate::feeds::run_feeds;
 use crate::maps::Maps;
-use crate::{Totals, run_feed};
+use crate::noted::Noted;
+use crate::runner::run_feed;
 use addr_text::Addr;
 use answer_core::Answer;
 use arrayvec::ArrayVec;
 use demand_feed::{Batch, FeedEnd, Intake};
+use feed_queue::{Numbers, Taker};
 use map_cell::{Door, EmptyHistory, Naming, Note, NoteRow, OpenFault, Viewer};
 use map_model::{Instance, MapLines, Steps};
 use no_memory::NoMemory;
@@ -303,11 +307,11 @@ impl<J: Naming> Mapper<J> {
         ensures source_later { S.faults feed.old ≤ S.faults feed.new }
         ensures source_stays { result ≢ FeedEnd.SourceFault → S.faults feed.new ≡ S.faults feed.old }
     {
-        let mut feeding = Feeding::new(&mut self.maps, row);
+        let mut noted = Noted::new(&mut self.maps, row);
         run_feed(
             rt,
             &self.topology,
-            &mut feeding,
+            &mut noted,
             &mut self.intake,
             feed,
             out,
@@ -315,6 +319,39 @@ impl<J: Naming> Mapper<J> {
             pace,
             turns,
         )
+    }
+
+    /// Works the items of several feeders, from the newest map on, until each feeder's end was taken, and then tells the
+    /// pace that all have ended. It waits for feeders that send nothing. It answers `SinkFault`, else the first of
+    /// `SourceFault`, `Spent` and `NoMemory` by which a feed has ended, else `Ended`.
+    ///
+    /// Each map's text and each line of control text is one put; a line begins with its feed's number, from 1, and a space.
+    /// When both puts of a map are done, a note of it goes into the row, unless that is full. Behind a put that failed the
+    /// items that are left are taken and dropped, and nothing is published.
+    pub fn run_feeds<R: Wait, N: Numbers, K: Sink, M: Pace>(
+        &mut self,
+        rt: &R,
+        taker: &mut Taker<N>,
+        out: &mut K,
+        maps: &mut K,
+        pace: &mut M,
+        row: &NoteRow<J>,
+    ) -> FeedEnd
+        requires groups { length self.old.newest.plan.market.groups ≡ N.groups }
+        requires nodes { length self.old.newest.plan.market.nodes ≡ N.nodes }
+        requires serial { self.old.newest.serial < 2 ^ 63 }
+        requires unused { taker.old.taken ≡ [] }
+        ensures queue { (taker.new.queue ≡ taker.old.queue) × (taker.new.feeders ≡ taker.old.feeders) }
+        ensures run { AreFeeds taker.old.feeders result taker.new.taken (scene self.old.newest self.old.history (K.told out.old) (K.told maps.old) (M.told pace.old)) (scene self.new.newest self.new.history (K.told out.new) (K.told maps.new) (M.told pace.new)) }
+        ensures merged { result ≢ FeedEnd.SinkFault → HasMerged taker.new.taken (scene self.old.newest self.old.history (K.told out.old) (K.told maps.old) (M.told pace.old)) (scene self.new.newest self.new.history (K.told out.new) (K.told maps.new) (M.told pace.new)) }
+        ensures kept { IsPrefix self.old.history self.new.history }
+        ensures plan { self.new.newest.plan ≡ self.old.newest.plan }
+        ensures later { (K.faults out.old ≤ K.faults out.new) × (K.faults maps.old ≤ K.faults maps.new) }
+        ensures sink { result ≡ FeedEnd.SinkFault → Rose (K.faults out.old) (K.faults out.new) ⊎ Rose (K.faults maps.old) (K.faults maps.new) }
+        ensures sink_stays { result ≢ FeedEnd.SinkFault → (K.faults out.new ≡ K.faults out.old) × (K.faults maps.new ≡ K.faults maps.old) }
+    {
+        let mut noted = Noted::new(&mut self.maps, row);
+        run_feeds(rt, &mut noted, taker, out, maps, pace)
     }
 
     /// Closes the cell, and drops the rest. It waits for viewers that are looking.

@@ -15,7 +15,7 @@ use outside::LARGEST_REPLY;
 use std::sync::Wait;
 
 /// Who holds the newest map of a topology, and makes the next ones.
-pub trait Mapping {
+pub(crate) trait Mapping {
     ghost use Rattle.std.specs.Prelude.{List, ℕ};
     ghost use Rattle.published_map.specs.Version.{Version};
     ghost use Rattle.map_cell.specs.Rows.{KeptState};

@@ -26,7 +26,7 @@ use std::sync::Wait;
 
 /// What a batch leads to, before it is published.
 #[derive(Drop)]
-struct Next {
+struct Following {
     current: Current,
     delta: Delta,
 }
@@ -128,7 +128,7 @@ impl<J: Naming> Maps<J> {
         kept: &mut Kept,
         batch: &Batch,
         steps: &mut Steps<L>,
-    ) -> Result<Next, NoMemory>
+    ) -> Result<Following, NoMemory>
         requires kept { IsKeptFor self.now.newest.market self.now.newest.lines kept.old }
         requires ids { IsBatch self.now.newest.plan.market batch.now }
         ensures next { IfOk result (IsPrepared self.now.newest batch.now) }
@@ -150,7 +150,7 @@ impl<J: Naming> Maps<J> {
             &current.instance,
             &current.map,
         )?;
-        Ok(Next { current, delta })
+        Ok(Following { current, delta })
     }
 
     /// Publishes the map that a batch leads to, and answers its serial.

@@ -1,5 +1,5 @@
 //! Lines of control text, written without memory.
-ghost use Rattle.std.specs.Prelude.{◌≡◌, ◌≤◌, ◌+◌, ◌*◌, ◌++◌, [], length, decimal, option_map, IfSome};
+ghost use Rattle.std.specs.Prelude.{◌≡◌, ◌≤◌, ◌<◌, ◌+◌, ◌*◌, ◌++◌, [], length, decimal, option_map, IfSome};
 ghost use Rattle.hex.specs.Hex.{encode_lower};
 ghost use Rattle.outside.specs.declared.limits.TheConstants.{LARGEST_REPLY};
 ghost use Rattle.mapper.specs.Sayings.{text_of};
@@ -45,6 +45,12 @@ pub enum Saying {
 
 /// A line of control text, as it is written.
 pub type Spoken = ArrayVec<u8, LINE_ROOM>;
+
+/// Room for any line behind a mark of two octets.
+const MARKED_ROOM: usize = 2_642;
+
+/// A line of control text behind its feed's mark.
+pub(crate) type Marked = ArrayVec<u8, MARKED_ROOM>;
 
 /// Appends octets.
 fn push(line: &mut Spoken, octets: &[u8])
@@ -176,4 +182,25 @@ pub fn write_saying(line: &mut Spoken, saying: &Saying)
         Saying::Answer(serial, reply) => write_answer(line, *serial, reply),
         Saying::Show(serial, totals) => write_show(line, *serial, totals),
     }
+}
+
+/// The octets of a feed's mark.
+#[tactic(auto, using(crate::proofs::Marks::mark_is))]
+fn mark(feeder: u8) -> [u8; 2]
+    requires { feeder < 4 }
+    ensures { result ≡ text.mark_of feeder }
+{
+    [b'1' + feeder, b' ']
+}
+
+/// A line behind its feed's mark.
+pub(crate) fn with_mark(feeder: u8, line: &Spoken) -> Marked
+    requires { feeder < 4 }
+    ensures { result.items ≡ text.mark_of feeder ++ line.now.items }
+{
+    let mut marked = Marked::new();
+    let mark = mark(feeder);
+    let _ = marked.try_extend_from_slice(&mark);
+    let _ = marked.try_extend_from_slice(line.as_slice());
+    marked
 }

@@ -4,9 +4,9 @@ use Rattle.demand_feed.proofs.pieces.take_piece.Given as goal
 
 abbrev pub invariant-lines : goal.invariant-lines
 invariant-lines g l = record {
-  ready : (n : ℕ) → IsReady g.T.TakesItems.market g.T.TakesItems.left l.topology l.fn.clerk l.fn.to (n + length l.piece) → IsReady g.T.TakesItems.market g.T.TakesItems.left l.topology l.clerk l.to (n + length l.rest);
-  came : (before : g.row.T.Denot) (bytes : List ℕ) → Reads g.T.TakesItems.does l.topology before bytes l.fn.cutter l.fn.clerk l.fn.to
-      → InPiece g.T.TakesItems.does l.topology before (bytes ++ l.piece) l.rest l.cutter l.clerk l.to;
+  ready : (n : ℕ) → IsReady g.T.TakesTasks.market g.T.TakesTasks.left l.topology l.fn.clerk l.fn.to (n + length l.piece) → IsReady g.T.TakesTasks.market g.T.TakesTasks.left l.topology l.clerk l.to (n + length l.rest);
+  came : (before : g.row.T.Denot) (bytes : List ℕ) → Reads g.T.TakesTasks.does l.topology before bytes l.fn.cutter l.fn.clerk l.fn.to
+      → InPiece g.T.TakesTasks.does l.topology before (bytes ++ l.piece) l.rest l.cutter l.clerk l.to;
 }
 
 abbrev pub decreases-lines : goal.decreases-lines

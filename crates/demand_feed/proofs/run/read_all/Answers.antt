@@ -12,7 +12,7 @@ pub pieces-init : goal.pieces-init
 pieces-init g c = record {
   size = c.requires.buffer;
   used = omega arith;
-  ready = ready_less g.T.TakesItems.market g.T.TakesItems.left c.args.topology.now c.args.clerk.now c.args.to.now (read_size * (c.args.turns - 0)) (read_size * c.args.turns) (omega arith) c.requires.ready;
+  ready = ready_less g.T.TakesTasks.market g.T.TakesTasks.left c.args.topology.now c.args.clerk.now c.args.to.now (read_size * (c.args.turns - 0)) (read_size * c.args.turns) (omega arith) c.requires.ready;
   came = λ before reads. ([], refl, tell_self (g.S.Source.told c.args.feed.now) (HasRead []) read_none, reads);
   feed = refl;
 }
@@ -28,7 +28,7 @@ pieces-preserved g c = record {
   size = omega (arith, c.pieces.invariant.size, c.take_turn-end.auto.buffer);
   used = omega (arith, c.pieces-test.true);
   ready = c.take_turn-end.ensures.ready (read_size * (c.args.turns - (c.pieces.used + 1)))
-      (ready_less g.T.TakesItems.market g.T.TakesItems.left c.args.topology.now c.pieces.clerk c.pieces.to (read_size * (c.args.turns - (c.pieces.used + 1)) + read_size) (read_size * (c.args.turns - c.pieces.used)) (omega (arith, c.pieces-test.true)) c.pieces.invariant.ready)
+      (ready_less g.T.TakesTasks.market g.T.TakesTasks.left c.args.topology.now c.pieces.clerk c.pieces.to (read_size * (c.args.turns - (c.pieces.used + 1)) + read_size) (read_size * (c.args.turns - c.pieces.used)) (omega (arith, c.pieces-test.true)) c.pieces.invariant.ready)
       c.in_default.is;
   came = λ before reads.
       let i = c.pieces.invariant.came before reads in
@@ -40,4 +40,4 @@ pieces-preserved g c = record {
 pub returns-clause-came : goal.returns-clause-came
 returns-clause-came g c = λ before reads.
     let i = c.pieces.invariant.came before reads in
-    (i.0, i.2, (i.3.1.1, omega (arith, i.1, c.pieces-test.false, c.pieces.invariant.used), all_came g.T.TakesItems.does c.args.topology.now before (whole_lines (concat i.0)) c.pieces.clerk c.pieces.to i.3.1))
+    (i.0, i.2, (i.3.1.1, omega (arith, i.1, c.pieces-test.false, c.pieces.invariant.used), all_came g.T.TakesTasks.does c.args.topology.now before (whole_lines (concat i.0)) c.pieces.clerk c.pieces.to i.3.1))

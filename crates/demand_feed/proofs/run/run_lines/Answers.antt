@@ -9,4 +9,4 @@ read_all-requires-clause-ready g c =
 
 pub returns-clause-run : goal.returns-clause-run
 returns-clause-run g c =
-    c.read_all.ensures.came c.args.to.now (rw c.clear.ensures (reads_none g.T.TakesItems.does c.args.topology.now c.restart.new.self c.args.to.now (ap (λ (x : Clerking). x.desk) c.restart.ensures)))
+    c.read_all.ensures.came c.args.to.now (rw c.clear.ensures (reads_none g.T.TakesTasks.does c.args.topology.now c.restart.new.self c.args.to.now (ap (λ (x : Clerking). x.ledger) c.restart.ensures)))

@@ -1,0 +1,5 @@
+pub mod Lists
+pub mod Rules
+pub mod Markets
+pub mod Sendings
+pub mod Wholes
