@@ -5,9 +5,9 @@ use Rattle.outside.specs.Sink.{Written}
 use Rattle.outside.specs.Source.{Fed}
 use Rattle.outside.specs.declared.pace.PaceCall.{PaceCall}
 use Rattle.topology_text.specs.Plan.{Plan}
-use Rattle.demand_feed.specs.Item.{Item, refused, batch, empty, spoiled, query, totals}
+use Rattle.demand_feed.specs.Task.{Task, refused, batch, empty, spoiled, query, totals}
 use Rattle.demand_feed.specs.declared.run.FeedEnd.{FeedEnd}
-use Rattle.demand_feed.specs.declared.run.FeedEnd.TheVariants.{Ended, SourceFault, SinkFault, Spent}
+use Rattle.demand_feed.specs.declared.run.FeedEnd.TheVariants.{Ended, SourceFault, SinkFault, Spent, NoMemory}
 use Rattle.published_map.specs.Version.{IsVersion, Version}
 use Rattle.map_cell.specs.Histories.{IsHistory}
 use Rattle.lane_model.specs.Histories.{Follows}
@@ -36,7 +36,7 @@ stays c d versions newest = ([], versions ∙ sym (append-nil c.versions), newes
 goes : (b c d : Course) → Went b c → Went c d → Went b d
 goes b c d p q = (p.0 ++ q.0, q.1 ∙ (ap (λ l. l ++ q.0) p.1 ∙ append_assoc b.versions p.0 q.0), chained b.newest c.newest d.newest p.0 q.0 p.2 q.2)
 
-item_went : (item : Item) (c d : Course) → Comes item c d → Went c d
+item_went : (task : Task) (c d : Course) → Comes task c d → Went c d
 item_went (refused number why) c d is = stays c d (ap (λ x. x.versions) is) (ap (λ x. x.newest) is)
 item_went (batch changes) c d (inl p) = (p.0 ∷ [], ap (λ x. x.versions) p.2, ((changes, p.1), ap (λ x. x.newest) p.2))
 item_went (batch changes) c d (inr is) = stays c d (ap (λ x. x.versions) is) (ap (λ x. x.newest) is)
@@ -45,9 +45,9 @@ item_went (spoiled lines) c d is = stays c d (ap (λ x. x.versions) is) (ap (λ 
 item_went (query addr octets) c d is = stays c d (ap (λ x. x.versions) is) (ap (λ x. x.newest) is)
 item_went totals c d is = stays c d (ap (λ x. x.versions) is) (ap (λ x. x.newest) is)
 
-items_went : (items : List Item) (c d : Course) → AllCome items c d → Went c d
+items_went : (tasks : List Task) (c d : Course) → AllCome tasks c d → Went c d
 items_went [] c d is = stays c d (ap (λ x. x.versions) is) (ap (λ x. x.newest) is)
-items_went (item ∷ items) c d p = goes c p.0 d (item_went item c p.0 p.1) (items_went items p.0 d p.2)
+items_went (task ∷ tasks) c d p = goes c p.0 d (item_went task c p.0 p.1) (items_went tasks p.0 d p.2)
 
 -- what is told went on
 abbrev pub Grew : Scene → Scene → Type 0
@@ -56,15 +56,15 @@ Grew before after = (versions : List Version) × (after.history ≡ before.histo
 grew : (before after : Scene) (c : Course) → Went (start before.newest) c → after.newest ≡ c.newest → after.history ≡ before.history ++ c.versions → Grew before after
 grew before after c w newest history = (w.0, history ∙ ap (λ l. before.history ++ l) w.1, subst (λ v. Chain before.newest w.0 v) (sym newest) w.2)
 
-came_grew : (items : List Item) (before after : Scene) → AllCame items before after → Grew before after
-came_grew items before after p = grew before after p.0 (items_went items (start before.newest) p.0 p.1) p.2.newest p.2.history
+came_grew : (tasks : List Task) (before after : Scene) → AllCame tasks before after → Grew before after
+came_grew tasks before after p = grew before after p.0 (items_went tasks (start before.newest) p.0 p.1) p.2.newest p.2.history
 
-cut_grew : (items : List Item) (before after : Scene) → WasCut items before after → Grew before after
-cut_grew items before after p =
+cut_grew : (tasks : List Task) (before after : Scene) → WasCut tasks before after → Grew before after
+cut_grew tasks before after p =
     let done = p.0 in
-    let item = p.1 in
+    let task = p.1 in
     let c = p.3 in
-    let d = p.4 in grew before after d (goes (start before.newest) c d (items_went done (start before.newest) c p.6) (item_went item c d p.7)) p.8.newest p.8.history
+    let d = p.4 in grew before after d (goes (start before.newest) c d (items_went done (start before.newest) c p.6) (item_went task c d p.7)) p.8.newest p.8.history
 
 ended_grew : (end : FeedEnd) (t : Plan) (turns : ℕ) (pieces : List (List ℕ)) (fed fed' : Option Fed) (before after : Scene) → HasEnded end t turns pieces fed fed' before after → Grew before after
 ended_grew Ended t turns pieces fed fed' before after (inl p) = came_grew _ before after p.2
@@ -73,6 +73,7 @@ ended_grew SourceFault t turns pieces fed fed' before after p = came_grew _ befo
 ended_grew Spent t turns pieces fed fed' before after p = came_grew _ before after p.2
 ended_grew SinkFault t turns pieces fed fed' before after (inl p) = cut_grew _ before after p.2
 ended_grew SinkFault t turns pieces fed fed' before after (inr p) = cut_grew _ before after p.2
+ended_grew NoMemory t turns pieces fed fed' before after p = absurd p
 
 pub feed_grew : (t : Plan) (turns : ℕ) (end : FeedEnd) (fed fed' : Option Fed) (before after : Scene) → IsFeed t turns end fed fed' before after → Grew before after
 feed_grew t turns end fed fed' before after f = ended_grew end t turns f.run.0 fed fed' before (record after { pace = f.calls }) f.run.2

@@ -170,15 +170,18 @@ port_means feed.Ended p s c h = by_port p s c h
 port_means feed.Spent p s c h = by_port p true c h
 port_means feed.SourceFault p s c h = absurd (cc)
 port_means feed.SinkFault p s c h = absurd (cc)
+port_means feed.NoMemory p s c h = absurd (cc)
 
 pub spent_means : (end : FeedEnd) (p s c : Bool) → status.Spent ≡ status_of end p s c → (end ≡ feed.Spent) ⊎ (s ≡ true)
 spent_means feed.Ended p s c h = inr (by_spent p s c h)
 spent_means feed.Spent p s c h = inl refl
 spent_means feed.SourceFault p s c h = absurd (cc)
 spent_means feed.SinkFault p s c h = absurd (cc)
+spent_means feed.NoMemory p s c h = absurd (cc)
 
 pub cell_means : (end : FeedEnd) (p s c : Bool) → status.CellFault ≡ status_of end p s c → c ≡ true
 cell_means feed.Ended p s c h = by_cell p s c h
 cell_means feed.Spent p s c h = by_cell p true c h
 cell_means feed.SourceFault p s c h = absurd (cc)
 cell_means feed.SinkFault p s c h = absurd (cc)
+cell_means feed.NoMemory p s c h = absurd (cc)

@@ -8,7 +8,7 @@ use Rattle.outside.specs.Faults.{BothTell, raised}
 use Rattle.outside.specs.Sink.{Written}
 use Rattle.outside.specs.Source.{Fed}
 use Rattle.topology_text.specs.Plan.{Plan}
-use Rattle.demand_feed.specs.Item.{Item, refused, batch, empty, spoiled, query, totals}
+use Rattle.demand_feed.specs.Task.{Task, refused, batch, empty, spoiled, query, totals}
 use Rattle.demand_feed.specs.declared.run.FeedEnd.TheVariants as feed
 use Rattle.demand_feed.proofs.Tellings.{tell_trans}
 use Rattle.published_map.specs.Version.{Version}
@@ -17,7 +17,7 @@ use Rattle.mapper.specs.Feeding.{AllCame, IsFeed, IsFeedRun}
 use Rattle.mapper.specs.Scenes.{IsPrinted, Scene}
 use Rattle.mapper.specs.Words.{map_text}
 
-one_texts : (item : Item) (c d : Course) → c.maps ≡ map map_text c.versions → Comes item c d → d.maps ≡ map map_text d.versions
+one_texts : (task : Task) (c d : Course) → c.maps ≡ map map_text c.versions → Comes task c d → d.maps ≡ map map_text d.versions
 one_texts (refused number why) c d texts h = rw h texts
 one_texts empty c d texts h = rw h texts
 one_texts (spoiled lines) c d texts h = rw h texts
@@ -26,12 +26,12 @@ one_texts totals c d texts h = rw h texts
 one_texts (batch changes) c d texts (inr h) = rw h texts
 one_texts (batch changes) c d texts (inl h) = rw h.2 (ap (λ ts. ts ++ map_text h.0 ∷ []) texts ∙ sym (map-append map_text c.versions (h.0 ∷ [])))
 
-all_texts : (items : List Item) (c d : Course) → c.maps ≡ map map_text c.versions → AllCome items c d → d.maps ≡ map map_text d.versions
+all_texts : (tasks : List Task) (c d : Course) → c.maps ≡ map map_text c.versions → AllCome tasks c d → d.maps ≡ map map_text d.versions
 all_texts [] c d texts h = rw h texts
 all_texts (i ∷ is) c d texts h = all_texts is h.0 d (one_texts i c h.0 texts h.1) h.2
 
 -- what a run over a feed came to at its end
-course_of : (t : Plan) (turns : ℕ) (fed then : Option Fed) (before after : Scene) → IsFeedRun t turns feed.Ended fed then before after → (items : List Item) × AllCame items before after
+course_of : (t : Plan) (turns : ℕ) (fed then : Option Fed) (before after : Scene) → IsFeedRun t turns feed.Ended fed then before after → (tasks : List Task) × AllCame tasks before after
 course_of t turns fed then before after (pieces, read, inl h) = (_, h.2)
 course_of t turns fed then before after (pieces, read, inr h) = (_, h.2)
 

@@ -204,6 +204,7 @@ given_of t turns feed.Spent fed then before after is f = (f.run.0, f.run.1, f.ru
 given_of t turns feed.Ended fed then before after is f = absurd (cc)
 given_of t turns feed.SourceFault fed then before after is f = absurd (cc)
 given_of t turns feed.SinkFault fed then before after is f = absurd (cc)
+given_of t turns feed.NoMemory fed then before after is f = absurd (cc)
 
 -- a fault of the cell is answered only where the feed ended
 by_spent : (p c : Bool) → status.CellFault ≡ status_by p true c → ⊥
@@ -215,6 +216,7 @@ cell_ends feed.Ended p s c h = refl
 cell_ends feed.Spent p s c h = absurd (by_spent p c h)
 cell_ends feed.SourceFault p s c h = absurd (cc)
 cell_ends feed.SinkFault p s c h = absurd (cc)
+cell_ends feed.NoMemory p s c h = absurd (cc)
 
 -- a session that was started and served
 served_causes : (turns : ℕ) (ask : Service) (first : Version) (before started after : Stage) (result : Status) → IsStarted ask first before started → IsServed turns ask first started after result → HasLaneCauses turns ask before.lent after.lent result

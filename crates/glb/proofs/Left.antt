@@ -49,6 +49,7 @@ served_left : (end : FeedEnd) (p s c : Bool) (result : Status) → result ≡ st
     → (result ≡ status.Ok) ⊎ (result ≡ status.NoMemory) ⊎ (result ≡ status.Spent) ⊎ (result ≡ status.CellFault)
 served_left feed.SourceFault p s c result is source sink port = absurd (source is)
 served_left feed.SinkFault p s c result is source sink port = absurd (sink is)
+served_left feed.NoMemory p s c result is source sink port = inr (inl is)
 served_left feed.Ended p s c result is source sink port = by_left result p s c is port
 served_left feed.Spent p s c result is source sink port = by_left result p true c is port
 

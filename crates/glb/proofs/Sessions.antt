@@ -28,12 +28,14 @@ source_means : (end : FeedEnd) (p s c : Bool) → status.SourceFault ≡ status_
 source_means feed.SourceFault p s c h = refl
 source_means feed.SinkFault p s c h = absurd (cc)
 source_means feed.Ended p s c h = absurd (by_source p s c h)
+source_means feed.NoMemory p s c h = absurd (cc)
 source_means feed.Spent p s c h = absurd (by_source p true c h)
 
 sink_means : (end : FeedEnd) (p s c : Bool) → status.SinkFault ≡ status_of end p s c → end ≡ feed.SinkFault
 sink_means feed.SinkFault p s c h = refl
 sink_means feed.SourceFault p s c h = absurd (cc)
 sink_means feed.Ended p s c h = absurd (by_sink p s c h)
+sink_means feed.NoMemory p s c h = absurd (cc)
 sink_means feed.Spent p s c h = absurd (by_sink p true c h)
 
 -- the counts of two moments are the same

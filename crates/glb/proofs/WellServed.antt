@@ -158,6 +158,7 @@ ok_parts feed.Ended p s c h = let parts = by_parts p s c h in (refl, parts.0, pa
 ok_parts feed.Spent p s c h = let parts = by_parts p true c h in absurd (cc)
 ok_parts feed.SourceFault p s c h = absurd (cc)
 ok_parts feed.SinkFault p s c h = absurd (cc)
+ok_parts feed.NoMemory p s c h = absurd (cc)
 
 -- a session over a topology
 session_well : (turns : ℕ) (ask : Service) (topology : Plan) (before after : Surroundings) → IsPlan topology → Says topology_file before.files ask.topology topology

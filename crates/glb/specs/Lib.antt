@@ -18,3 +18,4 @@ pub mod Large
 pub mod Program
 pub mod Starting
 pub mod Ending
+pub mod Laws

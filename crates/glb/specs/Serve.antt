@@ -62,6 +62,7 @@ status_of feed.SourceFault port spent cell = status.SourceFault
 status_of feed.SinkFault port spent cell = status.SinkFault
 status_of feed.Spent port spent cell = status_by port true cell
 status_of feed.Ended port spent cell = status_by port spent cell
+status_of feed.NoMemory port spent cell = status.NoMemory
 
 -- the first door was asked for k places, and may have counted faults; nothing else was asked of the lanes
 abbrev pub AskedFirst : ℕ → List LaneTold → List LaneTold → Type 0

@@ -6,6 +6,7 @@ mod check;
 mod ending;
 mod files;
 mod large;
+mod laws;
 mod lent;
 mod map;
 mod placing;
@@ -20,5 +21,6 @@ mod words;
 
 pub use demand_feed::MOST_TURNS;
 pub use drive::{Lane, StreamLane};
+pub use laws::runs_agree;
 pub use status::Status;
 pub use top::glb;

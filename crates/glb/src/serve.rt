@@ -84,6 +84,7 @@ fn status_of(end: FeedEnd, places: &[Option<Ended>], stream: Option<Ended>) -> S
     match end {
         FeedEnd::SourceFault => Status::SourceFault,
         FeedEnd::SinkFault => Status::SinkFault,
+        FeedEnd::NoMemory => Status::NoMemory,
         FeedEnd::Spent => status_by(port, true, cell),
         FeedEnd::Ended => status_by(port, spent, cell),
     }

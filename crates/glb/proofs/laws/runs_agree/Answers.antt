@@ -1,0 +1,14 @@
+use Rattle.glb.proofs.Agree.{map_one, repair_one, serves_agree, serves_come}
+use Rattle.glb.proofs.laws.runs_agree.Goals as goal
+
+pub returns-clause-maps : goal.returns-clause-maps
+returns-clause-maps c = map_one
+
+pub returns-clause-repairs : goal.returns-clause-repairs
+returns-clause-repairs c = repair_one
+
+pub returns-clause-comes : goal.returns-clause-comes
+returns-clause-comes c = serves_come
+
+pub returns-clause-serves : goal.returns-clause-serves
+returns-clause-serves c = serves_agree
