@@ -37,3 +37,12 @@ returns-clause-driven g c =
       c.ends_of.ensures,
       search (rules, driven),
     )
+
+pub returns-clause-sink : goal.returns-clause-sink
+returns-clause-sink g c = let fed = c.serve_all.ensures.fed.sink in search (rules, fed)
+
+pub returns-clause-sink_stays : goal.returns-clause-sink_stays
+returns-clause-sink_stays g c = let fed = c.serve_all.ensures.fed.sink_stays in search (rules, fed)
+
+pub returns-clause-source_stays : goal.returns-clause-source_stays
+returns-clause-source_stays g c = let fed = c.serve_all.ensures.fed.source_stays in search (rules, fed)
