@@ -37,3 +37,20 @@ returns-clause-driven g c =
       c.ends_of.ensures,
       search (rules, driven),
     )
+
+pub returns-clause-sink : goal.returns-clause-sink
+returns-clause-sink g c =
+    let out : c.out-1.given.0 ≡ c.serve_all.new.loan.side.out.now = search rules in
+    let maps : c.maps-1.given.0 ≡ c.serve_all.new.loan.side.maps.now = search rules in
+    rw (out, maps) c.serve_all.ensures.fed.sink
+
+pub returns-clause-sink_stays : goal.returns-clause-sink_stays
+returns-clause-sink_stays g c =
+    let out : c.out-1.given.0 ≡ c.serve_all.new.loan.side.out.now = search rules in
+    let maps : c.maps-1.given.0 ≡ c.serve_all.new.loan.side.maps.now = search rules in
+    rw (out, maps) c.serve_all.ensures.fed.sink_stays
+
+pub returns-clause-source_stays : goal.returns-clause-source_stays
+returns-clause-source_stays g c =
+    let feed : c.feed-1.given.0 ≡ c.serve_all.new.loan.side.feed.now = search rules in
+    rw feed c.serve_all.ensures.fed.source_stays
