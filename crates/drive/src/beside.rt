@@ -9,30 +9,29 @@ use std::sync::Wait;
 use std::thread::{Threads, join_mut};
 
 /// The mapper's side of a drive.
-pub(crate) trait Feeds<W, M> {
+pub(crate) trait Feeds<W> {
     /// Whether it may run.
-    ghost ready: { Self → M → Type 0 };
+    ghost ready: { Self → Type 0 };
 
     /// What a run does.
-    ghost fed: { Self → Self → M → M → Type 0 };
+    ghost fed: { Self → Self → Type 0 };
 
-    fn run_feed<R: Wait>(&mut self, rt: &R, mapper: &mut M, row: &W)
-        requires { ready self.old mapper.old }
-        ensures { fed self.old self.new mapper.old mapper.new };
+    fn run_feed<R: Wait>(&mut self, rt: &R, row: &W)
+        requires { ready self.old }
+        ensures { fed self.old self.new };
 }
 
 /// Runs the feed beside the lanes.
 pub(crate) fn run_beside<
     W: Sync,
     H: Drop + Send,
-    M,
     T: Runs<W, H> + Send,
-    F: Feeds<W, M>,
+    F: Feeds<W>,
     R: Threads + Wait + Sync,
->(rt: &R, row: &W, works: &mut Vec<H>, lanes: &mut [T], mapper: &mut M, feed: &mut F)
-    requires ready { F.ready feed.old mapper.old }
+>(rt: &R, row: &W, works: &mut Vec<H>, lanes: &mut [T], feed: &mut F)
+    requires ready { F.ready feed.old }
     requires lanes { length lanes.old ≡ vec_len works.old }
-    ensures fed { F.fed feed.old feed.new mapper.old mapper.new }
+    ensures fed { F.fed feed.old feed.new }
     ensures ran { AllRan T.ran lanes.old lanes.new works.old.items works.new.items }
     ensures len { vec_len works.new ≡ vec_len works.old }
 {
@@ -41,8 +40,8 @@ pub(crate) fn run_beside<
         ensures { AllRan T.ran lanes.entry.now lanes.exit.now works.entry.now.items works.exit.now.items × (vec_len works.exit.now ≡ vec_len works.entry.now) }
     { run_all(rt, row, works, lanes) };
     let mut map = ||
-        requires { F.ready feed.now mapper.now }
-        ensures { F.fed feed.entry.now feed.exit.now mapper.entry.now mapper.exit.now }
-    { feed.run_feed(rt, mapper, row) };
+        requires { F.ready feed.now }
+        ensures { F.fed feed.entry.now feed.exit.now }
+    { feed.run_feed(rt, row) };
     join_mut(rt, &mut all, &mut map);
 }

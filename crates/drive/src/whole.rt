@@ -84,24 +84,23 @@ fn serve_all<
 >(
     rt: &R,
     row: &NoteRow<J>,
-    mapper: &mut Mapper<J>,
     works: &mut Vec<LaneWorker<J>>,
-    loan: &mut Loan<'_, '_, '_, '_, '_, S, K, M, Lane<P, G, D>>,
+    loan: &mut Loan<'_, '_, '_, '_, '_, '_, J, S, K, M, Lane<P, G, D>>,
 )
     requires turns { loan.old.side.turns ≤ MOST_TURNS }
-    requires first { (mapper.old.history ≡ mapper.old.newest ∷ []) × (mapper.old.newest.serial ≡ 0) }
-    requires fresh { AllHeld (λ i w. (w.worker.number ≡ i) × (w.worker.count ≡ 0) × (w.worker.viewer.seen ≡ mapper.old.history) × (w.worker.viewer.heard ≡ mapper.old.history) × (w.turns ≡ loan.old.side.turns)) 0 works.old.items }
+    requires first { (loan.old.side.mapper.now.history ≡ loan.old.side.mapper.now.newest ∷ []) × (loan.old.side.mapper.now.newest.serial ≡ 0) }
+    requires fresh { AllHeld (λ i w. (w.worker.number ≡ i) × (w.worker.count ≡ 0) × (w.worker.viewer.seen ≡ loan.old.side.mapper.now.history) × (w.worker.viewer.heard ≡ loan.old.side.mapper.now.history) × (w.turns ≡ loan.old.side.turns)) 0 works.old.items }
     requires lanes { length loan.old.lanes.now ≡ vec_len works.old }
-    ensures fed { IsFedBy S.told S.faults K.told K.faults M.told loan.old.side loan.new.side mapper.old mapper.new }
+    ensures fed { IsFedBy S.told S.faults K.told K.faults M.told loan.old.side loan.new.side }
     ensures lanes { loan.new.lanes.ghost_name ≡ loan.old.lanes.ghost_name }
-    ensures history { IsHistory mapper.new.history }
+    ensures history { IsHistory loan.new.side.mapper.now.history }
     ensures len { vec_len works.new ≡ vec_len works.old }
-    ensures done { (rest : List Version) × (mapper.new.history ≡ mapper.old.newest ∷ rest) × AllDone (λ i l k w. IsDone loan.old.side.turns mapper.old.newest rest i
+    ensures done { (rest : List Version) × (loan.new.side.mapper.now.history ≡ loan.old.side.mapper.now.newest ∷ rest) × AllDone (λ i l k w. IsDone loan.old.side.turns loan.old.side.mapper.now.newest rest i
         (lane_told P.told P.faults G.told D.asked D.looks D.greatest D.faults l) (lane_told P.told P.faults G.told D.asked D.looks D.greatest D.faults k) w.ended) 0 loan.old.lanes.now loan.new.lanes.now works.new.items }
 {
-    let _ = row.put_at(rt, 0, mapper.note());
-    run_beside(rt, row, works, loan.lanes, mapper, &mut loan.side);
-    let note = mapper.note();
+    let _ = row.put_at(rt, 0, loan.side.note());
+    run_beside(rt, row, works, loan.lanes, &mut loan.side);
+    let note = loan.side.note();
     // tells the prover what the type keeps
     let _ = note.front.len();
     close_all(&note, works, loan.lanes);
@@ -170,6 +169,7 @@ pub fn drive<
     let (served, _behind) = lanes.split_at_mut(count);
     let mut loan = Loan {
         side: FeedLoan {
+            mapper: &mut mapper,
             feed,
             out,
             maps,
@@ -179,10 +179,11 @@ pub fn drive<
         },
         lanes: served,
     };
-    serve_all(rt, &row, &mut mapper, &mut works, &mut loan);
+    serve_all(rt, &row, &mut works, &mut loan);
+    let end = loan.side.end;
     mapper.close(rt);
     Ok(DriveEnd {
-        feed: loan.side.end,
+        feed: end,
         lanes: ends_of(&works),
     })
 }

@@ -22,7 +22,7 @@ returns-clause-driven g c =
     (lent_of g.S.Source.told g.K.Sink.told g.M.Pace.told (lane_told g.P.Port.told g.P.Port.faults g.G.Gate.told g.D.Door.asked g.D.Door.looks g.D.Door.greatest g.D.Door.faults) c.args.feed.now c.args.out.now c.args.maps.now c.args.pace.now c.args.lanes.now)
     (lent_of g.S.Source.told g.K.Sink.told g.M.Pace.told (lane_told g.P.Port.told g.P.Port.faults g.G.Gate.told g.D.Door.asked g.D.Door.looks g.D.Door.greatest g.D.Door.faults) c.serve_all.new.loan.side.feed.now c.serve_all.new.loan.side.out.now c.serve_all.new.loan.side.maps.now c.serve_all.new.loan.side.pace.now (c.serve_all.new.loan.lanes.now ++ c.split_at_mut-served.result.1.now)) = record {
       rest = s.done.0;
-      newest = c.serve_all.new.mapper.newest;
+      newest = c.serve_all.new.loan.side.mapper.now.newest;
       feed = feed_over _ _ _ _ _ _ _ _ _ _ _ _ _ _ _ _ _ opened s.done.1 s.fed.run;
       goes_on = feed_goes_on _ _ _ _ _ _ _ c.args.mapper.newest s.done.0 s.fed.run refl opened s.done.1 s.history;
       lanes = are_done_in (lane_told g.P.Port.told g.P.Port.faults g.G.Gate.told g.D.Door.asked g.D.Door.looks g.D.Door.greatest g.D.Door.faults) (λ w. w.ended) _ _ _ _ _ _ _ _ c.split_at_mut-served.ensures.value s.done.2;
