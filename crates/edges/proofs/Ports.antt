@@ -1,5 +1,5 @@
 -- What each answer of recv leaves of a port that goes on.
-use Rattle.std.proofs.Common.{ℕ, List, ◌∷◌, ◌++◌, ◌≡◌, ◌≢◌, ◌≤◌, ◌+◌, length, ap, refl, arith}
+use Rattle.std.proofs.Common.{ℕ, List, ◌≢◌, ap, refl, arith}
 use Rattle.std.proofs.lemmas.List.{length_push}
 use Rattle.std.specs.Prelude.{option_map, drop, take}
 use Rattle.outside.specs.Port.{PortTold, received}

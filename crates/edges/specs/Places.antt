@@ -1,5 +1,5 @@
 -- Which connection has a place, gives way, or is handed over next.
-use Rattle.std.specs.Prelude.{◌≡◌, ℕ, ◌<◌, ◌≤◌, ◌⊎◌, ◌/◌, ◌^◌, ◌==◌, ◌&&◌, ◌||◌, Bool, true, false, not, nat_lt, List, All, Option, None, Some, is_some, if◌then◌else◌, slice_get}
+use Rattle.std.specs.Prelude.{◌≡◌, ℕ, ◌≤◌, ◌⊎◌, ◌/◌, ◌^◌, ◌==◌, ◌&&◌, ◌||◌, Bool, false, not, nat_lt, List, All, Option, None, Some, is_some, if◌then◌else◌, slice_get}
 use Rattle.addr_text.specs.declared.address.Addr.{Addr}
 use Rattle.addr_text.specs.declared.address.Addr.TheVariants.{V4, V6}
 use Rattle.edges.specs.declared.places.Found.{Found}

@@ -146,7 +146,7 @@ impl Ears {
                 Err(error) => {
                     let knock = knock_of(&error);
                     let has_room = knock == Knock::Full && may_make_room && make_room(seats, rooms);
-                    may_make_room = false;
+                    may_make_room = may_make_room && knock != Knock::Full;
                     match next_of(knock, has_room) {
                         Next::Broken => return true,
                         Next::Again => {}

@@ -192,8 +192,16 @@ fn serve_turns<J: Naming, Q: Streams, G: Gate, D: Door, N: Notes<Note<J>>>(
     Ended::Spent
 }
 
-/// Serves streams: in each turn asks the gate, learns the notes, and takes the next conversation, or reads on in the open
-/// one and answers all of its whole messages. A conversation that is open at the end is closed.
+/// Serves streams: in each of at most `turns` turns asks the gate, learns the notes, and takes the next conversation, or
+/// reads on in the open one and answers all of its whole messages (RFC 1035 section 4.2.2). Each read is handed 4,098
+/// octets: room for a message of 4,096, the longest that is answered, behind its length.
+///
+/// A conversation is closed where its peer is done, a read or a write failed, 200 reads in a row were quiet, or a length
+/// is above 4,096; one that is open at the end is closed then. Of the replies, one failed write leaves a prefix.
+///
+/// It ends `Stopped` by its gate, `PortEnd` where `accept` answered `End`, `PortFault` at the eighth failed answer of
+/// `accept`, `read` and `write`, `CellFault` where a look was refused, and `Spent` after `turns` answers of `accept` and
+/// `read`.
 pub fn serve_streams<J: Naming, Q: Streams, G: Gate, D: Door, N: Notes<Note<J>>>(
     worker: &mut Worker<J>,
     streams: &mut Q,

@@ -6,8 +6,8 @@ use addr_text::{Addr, Listen, Peer};
 use outside::{Accepting, Gate, Opening, Pace, Reading, Streams, Turning, Writing};
 use std::alloc::Global;
 use std::io::{Read, Write};
-use std::net::{Net, SocketAddr, TcpListener, TcpStream};
-use std::thread::{Threads, join_mut};
+use std::net::{Net, TcpListener, TcpStream};
+use std::thread::join_mut;
 use std::time::{Clock, Duration};
 
 const LOCAL: Addr = Addr::V4(0x7f00_0001);
@@ -299,32 +299,25 @@ fn reply_all<Q: Streams>(streams: &mut Q, gate: &mut impl Gate) -> u32 {
     count
 }
 
-/// Whether a client of its own gets a reply.
-fn is_answered<N: Net<Listener = TcpListener, Stream = TcpStream>>(
+/// So many clients.
+fn clients_of<N: Net<Listener = TcpListener, Stream = TcpStream>>(
+    alloc: Global,
     net: &N,
-    to: SocketAddr,
-) -> bool {
-    match TcpStream::connect(net, to) {
-        Ok(mut client) => {
-            let wait = Some(Duration::from_secs(5));
-            client.set_read_timeout(wait).is_ok()
-                && client.write_all(MESSAGES).is_ok()
-                && gets(&mut client, REPLY)
-        }
-        Err(_) => false,
+    shared: &SharedTcp,
+    count: usize,
+) -> Option<Vec<TcpStream>> {
+    let mut clients = Vec::new(alloc);
+    for _ in 0..count {
+        clients.push(client_of(net, shared, LOCAL)?).ok()?;
     }
+    Some(clients)
 }
 
-/// Asks so many times, each time by a connection of its own, and counts the replies. Then the feed ends.
-fn ask_all<N: Net<Listener = TcpListener, Stream = TcpStream>>(
-    net: &N,
-    to: SocketAddr,
-    times: u32,
-    pace: &mut impl Pace,
-) -> u32 {
+/// Has each client ask once, and counts the replies. Then the feed ends.
+fn ask_all(clients: &mut [TcpStream], pace: &mut impl Pace) -> u32 {
     let mut count = 0u32;
-    for _ in 0..times {
-        if is_answered(net, to) {
+    for client in clients {
+        if client.write_all(MESSAGES).is_ok() && gets(client, REPLY) {
             count = count.saturating_add(1);
         }
     }
@@ -332,23 +325,19 @@ fn ask_all<N: Net<Listener = TcpListener, Stream = TcpStream>>(
     count
 }
 
-/// A lane in a thread, and a client in another.
+/// A lane in a thread, and clients in another.
 #[test]
 fn replies_in_a_thread(rt: HostRuntime) {
     let (shared, flag) = (SharedTcp::new(), StopFlag::new());
-    let mut streams = ManyStreams::new(rt.alloc(), &rt, &shared, 4, 4);
+    let mut streams =
+        opened(rt.alloc(), &rt, &shared, LOCAL, 32, 32).expect(&rt, "streams that are open");
     let mut gate = FlagGate::new(&flag);
     let mut pace = FlagPace::new(&flag);
-    let listen = Listen {
-        addr: LOCAL,
-        port: 0,
-    };
-    assert!(rt; streams.open(&listen) == Opening::Ready);
-    let to = socket_addr(LOCAL, shared.port().expect(&rt, "a port"));
-    let (asked, replied) = join_mut(
+    let mut clients = clients_of(rt.alloc(), &rt, &shared, 20).expect(&rt, "clients");
+    let (replied, asked) = join_mut(
         &rt,
-        &mut || ask_all(&rt, to, 20, &mut pace),
         &mut || reply_all(&mut streams, &mut gate),
+        &mut || ask_all(&mut clients, &mut pace),
     );
     assert_eq!(rt; asked, 20);
     assert_eq!(rt; replied, 20);

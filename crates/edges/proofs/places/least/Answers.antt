@@ -1,6 +1,6 @@
-use Rattle.std.proofs.Common.{◌≡◌, ◌<◌, ◌≤◌, List, Option, All, None, length, take, sym, subst, arith}
+use Rattle.std.proofs.Common.{◌<◌, List, Option, length, take, sym, subst, arith}
 use Rattle.std.proofs.lemmas.List.{length-take-le, take_more}
-use Rattle.edges.specs.Places.{IsLeastSoFar, key_of}
+use Rattle.edges.specs.Places.{IsLeastSoFar}
 use Rattle.edges.specs.declared.places.Found.{Found}
 use Rattle.edges.specs.declared.seat.Seat.{Seat}
 use Rattle.edges.proofs.Leasts.{all_taken}

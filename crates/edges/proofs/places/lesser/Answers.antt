@@ -1,4 +1,4 @@
-use Rattle.std.proofs.Common.{sym, subst, arith, ◌∙◌, ℕ, List, Option}
+use Rattle.std.proofs.Common.{sym, subst, arith, ◌∙◌, Option}
 use Rattle.edges.proofs.Leasts.{first, kept, newer}
 use Rattle.edges.specs.Places.{IsLeastSoFar}
 use Rattle.edges.specs.declared.places.Found.{Found}
