@@ -7,7 +7,8 @@ use Rattle.demand_feed.specs.declared.sent.Item.{Item}
 use Rattle.demand_feed.specs.declared.sent.What.{What}
 use Rattle.demand_feed.specs.declared.sent.What.TheVariants as what
 use Rattle.published_map.specs.Version.{Version}
-use Rattle.mapper.specs.Merged.{Entry, IsMerged, SpeaksAs, batches_of, changes_of, newest_at, raises_in}
+use Rattle.feed_queue.specs.Items.{only, sent_by}
+use Rattle.mapper.specs.Merged.{Entry, IsMerged, SpeaksAs, batches_of, changes_of, has_line, newest_at, raises_in}
 use Rattle.mapper.specs.Given.{AreGiven, answers_of, commits_of, is_commit, kept, of_feeder}
 
 -- only a batch raises the serial
@@ -41,7 +42,7 @@ of_may k (e ∷ es) h = go (e.item.feeder == k) (of_may k es h.1)
     go true r = (h.0, r)
     go false r = r
 
-whats : List Entry → List What
+abbrev whats : List Entry → List What
 whats log = map (λ (e : Entry). e.item.what) log
 
 given : (es : List Entry) → EachMay es → batches_of es ≡ kept (answers_of es) (commits_of (map (λ (e : Entry). e.item.what) es))
@@ -55,5 +56,49 @@ given (e ∷ es) h = go e.raises (changes_of e.item.what) h.0 (given es h.1)
     go false (Some changes) may r = r
     go false None may r = r
 
-pub gives : (first : Version) (items : List Item) (log : List Entry) (vs : List Version) → IsMerged first items log vs → AreGiven log
-gives first items log vs h k = given (of_feeder k log) (of_may k log (each_may log (λ i e is. commit_of (newest_at first vs (raises_in (take i log))) e.item.what e (h.lines i e is))))
+-- what the entries of a feeder are
+whats_are : (k : ℕ) (log : List Entry) → whats (of_feeder k log) ≡ sent_by k (map (λ (e : Entry). e.item) log)
+whats_are k [] = refl
+whats_are k (e ∷ es) = go (e.item.feeder == k) (whats_are k es)
+  where
+    items : List Item
+    items = map (λ (f : Entry). f.item) es
+
+    go : (b : Bool) → whats (of_feeder k es) ≡ sent_by k items → whats (cond b (e ∷ of_feeder k es) (of_feeder k es)) ≡ map (λ (x : Item). x.what) (cond b (e.item ∷ only k items) (only k items))
+    go true r = ap (λ ws. e.item.what ∷ ws) r
+    go false r = r
+
+no_line : (w : What) → has_line w ≡ false → changes_of w ≡ None
+no_line (what.Refused number why) h = cc
+no_line (what.Commit changes) h = cc
+no_line what.Memory h = cc
+no_line what.Empty h = cc
+no_line (what.Lines lines) h = cc
+no_line (what.Ask addr octets) h = cc
+no_line what.Show h = cc
+no_line (what.End end) h = refl
+
+-- an end is no batch
+commits_are : (k : ℕ) (items : List Item) → commits_of (sent_by k (filter (λ (x : Item). has_line x.what) items)) ≡ commits_of (sent_by k items)
+commits_are k [] = refl
+commits_are k (x ∷ xs) = go (has_line x.what) (no_line x.what) (commits_are k xs)
+  where
+    lines : List Item
+    lines = filter (λ (y : Item). has_line y.what) xs
+
+    with_one : (b : Bool) → commits_of (sent_by k lines) ≡ commits_of (sent_by k xs) → commits_of (map (λ (y : Item). y.what) (cond b (x ∷ only k lines) (only k lines))) ≡ commits_of (map (λ (y : Item). y.what) (cond b (x ∷ only k xs) (only k xs)))
+    with_one true r = ap (λ cs. cons_option (changes_of x.what) cs) r
+    with_one false r = r
+
+    without : (b : Bool) → changes_of x.what ≡ None → commits_of (sent_by k lines) ≡ commits_of (sent_by k xs) → commits_of (sent_by k lines) ≡ commits_of (map (λ (y : Item). y.what) (cond b (x ∷ only k xs) (only k xs)))
+    without true none r = r ∙ sym (ap (λ o. cons_option o (commits_of (sent_by k xs))) none)
+    without false none r = r
+
+    go : (b : Bool) → (b ≡ false → changes_of x.what ≡ None) → commits_of (sent_by k lines) ≡ commits_of (sent_by k xs) → commits_of (sent_by k (cond b (x ∷ lines) lines)) ≡ commits_of (sent_by k (x ∷ xs))
+    go true none r = with_one (x.feeder == k) r
+    go false none r = without (x.feeder == k) (none refl) r
+
+pub gives : (first : Version) (items : List Item) (log : List Entry) (vs : List Version) → IsMerged first items log vs → AreGiven items log
+gives first items log vs h k =
+    given (of_feeder k log) (of_may k log (each_may log (λ i e is. commit_of (newest_at first vs (raises_in (take i log))) e.item.what e (h.lines i e is))))
+    ∙ ap (kept (answers_of (of_feeder k log))) (ap commits_of (whats_are k log ∙ ap (sent_by k) h.entries) ∙ commits_are k items)

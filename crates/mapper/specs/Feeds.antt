@@ -77,6 +77,6 @@ pub record HasMerged (items : List Item) (before after : Scene) : Type 0 where
   pub log : List Entry
   pub vs : List Version
   pub merged : IsMerged before.newest items log vs
-  pub given : AreGiven log
+  pub given : AreGiven items log
   pub history : after.history ≡ before.history ++ vs
   pub out : BothTell before.out after.out (IsPrinted (map spoken log))

@@ -2,7 +2,9 @@
 use Rattle.std.specs.Prelude.{◌≡◌, ℕ, ◌==◌, Bool, true, false, List, [], ◌∷◌, map, is_some}
 use Rattle.std.specs.List.{filter, filter_map}
 use Rattle.map_model.specs.declared.change.Change.{Change}
+use Rattle.demand_feed.specs.declared.sent.Item.{Item}
 use Rattle.demand_feed.specs.declared.sent.What.{What}
+use Rattle.feed_queue.specs.Items.{sent_by}
 use Rattle.mapper.specs.Merged.{Entry, batches_of, changes_of}
 
 -- the entries of one feeder
@@ -28,6 +30,6 @@ kept (false ∷ bs) (x ∷ xs) = kept bs xs
 abbrev pub answers_of : List Entry → List Bool
 answers_of log = map (λ (e : Entry). e.raises) (filter (λ (e : Entry). is_commit e.item.what) log)
 
--- Of each feeder, the batches in the history are those that it sent, once each and in its order, but for those that were answered `refused commit memory`.
-abbrev pub AreGiven : List Entry → Type 0
-AreGiven log = (k : ℕ) → batches_of (of_feeder k log) ≡ kept (answers_of (of_feeder k log)) (commits_of (map (λ (e : Entry). e.item.what) (of_feeder k log)))
+-- Of each feeder, the batches in the history are those among what was taken of it, once each and in its order, but for those that were answered `refused commit memory`.
+abbrev pub AreGiven : List Item → List Entry → Type 0
+AreGiven items log = (k : ℕ) → batches_of (of_feeder k log) ≡ kept (answers_of (of_feeder k log)) (commits_of (sent_by k items))

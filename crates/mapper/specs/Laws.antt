@@ -28,4 +28,4 @@ TextsAreMerged = (items : List Item) (c d : Course) → AllWork items c d
 
 -- In a merged text the batches of each feeder lead to versions, but for those that are answered for want of memory.
 abbrev pub BatchesAreGiven : Type 0
-BatchesAreGiven = (first : Version) (items : List Item) (log : List Entry) (vs : List Version) → IsMerged first items log vs → AreGiven log
+BatchesAreGiven = (first : Version) (items : List Item) (log : List Entry) (vs : List Version) → IsMerged first items log vs → AreGiven items log

@@ -115,7 +115,7 @@ const DROPPED: &str = "refused 1 unknown name
 refused commit lines 1
 ";
 
-/// The runner, a batch that a refused line drops, no feed, a line that no LF ends, and a query without a reply.
+/// The session, a batch that a refused line drops, no feed, a line that no LF ends, and a query without a reply.
 const ROWS: [Row; 5] = [
     Row {
         feed: SESSION,
@@ -169,7 +169,7 @@ const ROWS: [Row; 5] = [
     },
 ];
 
-/// The runner, in which each of the five puts fails in turn.
+/// The session, in which each of the five puts fails in turn.
 const CUTS: [Row; 5] = [
     Row {
         feed: SESSION,
@@ -406,7 +406,7 @@ fn feeds_in_pieces(rt: HostRuntime) -> Result<(), Fail> {
     Ok(())
 }
 
-/// Whether a row is so in pieces of 24 octets and more, up to more than the runner has.
+/// Whether a row is so in pieces of 24 octets and more, up to more than the session has.
 fn all_larger<R: Wait>(rt: &R, alloc: Global, row: &Row) -> bool {
     for size in 24..122 {
         if !runs(rt, alloc, row.feed.as_bytes(), row, size) {
