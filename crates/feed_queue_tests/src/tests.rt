@@ -250,7 +250,8 @@ impl<N: Numbers> Feeds for Reader<'_, N> {
     ghost ready = { λ r. (length r.topology.now.market.groups ≡ N.groups) × (length r.topology.now.market.nodes ≡ N.nodes) × (r.feeder.sent ≡ []) };
 
     fn run<R: Wait>(&mut self, rt: &R) {
-        self.feeder.run(rt, self.topology, &mut self.feed, 1_000_000);
+        self.feeder
+            .run(rt, self.topology, &mut self.feed, 1_000_000);
     }
 }
 
