@@ -325,7 +325,7 @@ pub fn serve<
     ensures promised { IsPromised lent.old.turns (Some (task (service_asked service.now))) (surroundings (F.told files.old) (F.faults files.old) (stage_of S.told S.faults K.told K.faults P.told P.faults Q.told Q.faults G.told D.asked D.looks D.greatest D.faults M.told lent.old)) (surroundings (F.told files.new) (F.faults files.new) (stage_of S.told S.faults K.told K.faults P.told P.faults Q.told Q.faults G.told D.asked D.looks D.greatest D.faults M.told lent.new)) result }
 {
     match load_topology(alloc, files, service.topology) {
-        Ok(topology) => serve_topology::<Brand, R, S, K, P, G, D, M>(
+        Ok(topology) => serve_topology::<Brand, R, S, K, P, Q, G, D, M>(
             rt,
             alloc,
             EmptyHistory::new(),

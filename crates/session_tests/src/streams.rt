@@ -97,7 +97,7 @@ const SILENT: &[u8] = &[
     0, 0, 0, 1, 7, 0, 12, 0x12, 0x34, 0x80, 0, 0, 0, 0, 0, 0, 0, 0, 0,
 ];
 
-/// The reply from the second pool, behind its length.
+/// The reply from the second pool, behind its length. The draws of worker 1 for its first four messages fall on this pool.
 const SECOND_POOL: &[u8] = &[
     0, 49, 0x12, 0x34, 0x85, 0, 0, 1, 0, 1, 0, 0, 0, 0, 3, b'w', b'w', b'w', 3, b'c', b'd', b'n',
     7, b'e', b'x', b'a', b'm', b'p', b'l', b'e', 0, 0, 1, 0, 1, 0xc0, 12, 0, 1, 0, 1, 0, 0, 0, 20,
@@ -150,20 +150,28 @@ const ROWS: &[Row] = &[
         is_open: false,
         ..PLAIN
     },
-    // two messages in one piece or in two, or cut anywhere
+    // two messages in one piece, of which the beginning of a third is left, and one that is cut
     Row {
         scene: Scene {
             stream: StreamScript {
-                talks: &[
-                    &[TWO_AND_MORE],
-                    &[MESSAGE, MESSAGE],
-                    &[FIRST_OCTET, FROM_SECOND, FROM_NAME],
-                ],
+                talks: &[&[TWO_AND_MORE], &[FIRST_OCTET, FROM_SECOND, FROM_NAME]],
                 ..TAKES
             },
             ..OVER_SCENE
         },
-        replies: &[2, 2, 1],
+        replies: &[2, 1],
+        ..PLAIN
+    },
+    // two messages in two pieces
+    Row {
+        scene: Scene {
+            stream: StreamScript {
+                talks: &[&[MESSAGE, MESSAGE]],
+                ..TAKES
+            },
+            ..OVER_SCENE
+        },
+        replies: &[2],
         ..PLAIN
     },
     // a length that is too great closes its conversation, and the next one is served
