@@ -3,14 +3,13 @@ ghost use Rattle.std.specs.Prelude.{◌≡◌, ◌≤◌, length};
 
 use addr_text::{Addr, Peer};
 use demand_feed::FeedEnd;
-use drive::{DriveEnd, Lane, drive};
+use drive::{DriveEnd, Lane, StreamLane, drive};
 use lane_model::Ended;
 use map_cell::{Door, EmptyHistory, MemDoor, Naming, PlainDoor};
 use map_model::{Proposals, Steps};
 use mapper::Mapper;
 use outside::{
-    Gate, HeldLane, HoldGate, HoldPace, MemGate, MemPace, MemPacket, MemPort, MemSink, MemSource,
-    Milestones, Pace, Point, Port, Wanted,
+    Gate, MemGate, MemPace, MemPacket, MemPort, MemSink, MemSource, MemStreams, Pace, Port,
 };
 use std::alloc::Global;
 use std::collections::LinkedList;
@@ -97,9 +96,32 @@ fn lane_of(alloc: Global, queries: u8, refused: &[u64]) -> Option<Lane<MemPort, 
     }
 }
 
+/// Streams at which no conversation waits.
+fn no_talks(alloc: Global) -> Option<MemStreams> {
+    let none = LinkedList::new(alloc);
+    MemStreams::new(
+        alloc,
+        none,
+        Vec::new(alloc),
+        Vec::new(alloc),
+        Vec::new(alloc),
+    )
+    .ok()
+}
+
+/// A lane for conversations, of which there are none.
+fn no_stream(alloc: Global) -> Option<StreamLane<MemStreams, MemGate, MemDoor>> {
+    let streams = no_talks(alloc)?;
+    let door = door_of(alloc, &[])?;
+    match MemGate::new(alloc, 1) {
+        Err(_) => None,
+        Ok(gate) => Some(StreamLane::new(streams, gate, door)),
+    }
+}
+
 /// A feed, and both outputs.
 #[derive(Drop)]
-struct Streams {
+struct Ends {
     feed: MemSource,
     out: MemSink,
     maps: MemSink,
@@ -119,12 +141,12 @@ fn sink_of(alloc: Global) -> Option<MemSink> {
 }
 
 /// A feed of these lines, and empty outputs.
-fn streams_of(alloc: Global, lines: &[u8]) -> Option<Streams> {
+fn ends_of(alloc: Global, lines: &[u8]) -> Option<Ends> {
     let feed = feed_of(alloc, lines)?;
     let out = sink_of(alloc)?;
     match sink_of(alloc) {
         None => None,
-        Some(maps) => Some(Streams { feed, out, maps }),
+        Some(maps) => Some(Ends { feed, out, maps }),
     }
 }
 
@@ -141,9 +163,10 @@ fn drive_over<
     alloc: Global,
     history: EmptyHistory,
     topology: Topology,
-    streams: &mut Streams,
+    ends: &mut Ends,
     viewers: u8,
     lanes: &mut [Lane<P, G, D>],
+    stream: &mut StreamLane<MemStreams, G, D>,
     pace: &mut M,
 ) -> Option<DriveEnd>
     requires book { history ≡ J.book }
@@ -154,8 +177,11 @@ fn drive_over<
     match Mapper::<J>::open(rt, alloc, history, topology, viewers, &mut door, &mut steps) {
         Err(_) => None,
         Ok((mapper, seats)) => {
-            let Streams { feed, out, maps } = streams;
-            drive(rt, alloc, mapper, seats, feed, out, maps, lanes, pace, 100).ok()
+            let Ends { feed, out, maps } = ends;
+            drive(
+                rt, alloc, mapper, seats, None, feed, out, maps, lanes, stream, pace, 100,
+            )
+            .ok()
         }
     }
 }
@@ -169,26 +195,20 @@ fn drive_lines<P: Port + Send, G: Gate + Send, D: Door + Send, M: Pace, R: Threa
     said: &[u8],
     viewers: u8,
     lanes: &mut [Lane<P, G, D>],
+    stream: &mut StreamLane<MemStreams, G, D>,
     pace: &mut M,
 ) -> Option<DriveEnd>
     requires few { (viewers ≤ 16) × (viewers ≤ length lanes.old) }
 {
-    match streams_of(alloc, lines) {
+    match ends_of(alloc, lines) {
         None => None,
-        Some(streams) => {
-            let mut streams = streams;
+        Some(ends) => {
+            let mut ends = ends;
             let history = EmptyHistory::new();
             let ended = drive_over::<Brand, P, G, D, M, R>(
-                rt,
-                alloc,
-                history,
-                topology,
-                &mut streams,
-                viewers,
-                lanes,
-                pace,
+                rt, alloc, history, topology, &mut ends, viewers, lanes, stream, pace,
             );
-            if streams.out.bytes() == said {
+            if ends.out.bytes() == said {
                 ended
             } else {
                 None
@@ -205,13 +225,16 @@ fn drive_example<P: Port + Send, G: Gate + Send, D: Door + Send, M: Pace, R: Thr
     said: &[u8],
     viewers: u8,
     lanes: &mut [Lane<P, G, D>],
+    stream: &mut StreamLane<MemStreams, G, D>,
     pace: &mut M,
 ) -> Option<DriveEnd>
     requires few { (viewers ≤ 16) × (viewers ≤ length lanes.old) }
 {
     match read_topology(alloc, EXAMPLE_TREE.as_bytes()) {
         Err(_) => None,
-        Ok(topology) => drive_lines(rt, alloc, topology, lines, said, viewers, lanes, pace),
+        Ok(topology) => drive_lines(
+            rt, alloc, topology, lines, said, viewers, lanes, stream, pace,
+        ),
     }
 }
 
@@ -226,6 +249,7 @@ fn ended_by(ended: Ended, count: usize) -> DriveEnd {
     DriveEnd {
         feed: FeedEnd::Ended,
         lanes,
+        stream: None,
     }
 }
 
@@ -237,9 +261,17 @@ fn drive_one<R: Threads + Wait + Sync>(
     pace: MemPace,
 ) -> Option<(DriveEnd, usize, usize)> {
     let mut lanes = [lane];
+    let mut stream = no_stream(alloc)?;
     let mut pace = pace;
     match drive_example::<MemPort, MemGate, MemDoor, MemPace, R>(
-        rt, alloc, ONE_BATCH, ONE_SAID, 1, &mut lanes, &mut pace,
+        rt,
+        alloc,
+        ONE_BATCH,
+        ONE_SAID,
+        1,
+        &mut lanes,
+        &mut stream,
+        &mut pace,
     ) {
         None => None,
         Some(ended) => {
@@ -318,6 +350,7 @@ fn drive_some<R: Threads + Wait + Sync>(
 ) -> Option<(DriveEnd, usize)>
     requires { count ≤ 16 }
 {
+    let mut stream = no_stream(alloc)?;
     let mut pace = pace;
     if lanes.len() != 16 {
         return None;
@@ -329,6 +362,7 @@ fn drive_some<R: Threads + Wait + Sync>(
         TWO_SAID,
         count,
         lanes,
+        &mut stream,
         &mut pace,
     ) {
         None => None,
@@ -366,158 +400,5 @@ fn lanes_with_viewers(rt: HostRuntime) -> Result<(), Fail> {
     assert!(rt; take_theirs(&rt, rt.alloc(), 1));
     assert!(rt; take_theirs(&rt, rt.alloc(), 2));
     assert!(rt; take_theirs(&rt, rt.alloc(), 16));
-    Ok(())
-}
-
-/// The serials and what was known of the tries of a port.
-fn serials_of(port: &MemPort) -> Serials {
-    let mut serials = [None; 4];
-    for (place, serial) in serials.iter_mut().enumerate() {
-        if let (Some(taken), Some(reply)) = (port.taken().get(place), port.tries().get(place)) {
-            *serial = Some((taken.known, reply.serial));
-        }
-    }
-    serials
-}
-
-/// Where the first lane waits for the feed, and where the second one does.
-const FIRST_WAITS: &[Point] = &[
-    Point {
-        at: 1,
-        wanted: Wanted::Newest(1),
-    },
-    Point {
-        at: 2,
-        wanted: Wanted::Done,
-    },
-];
-
-const SECOND_WAITS: &[Point] = &[Point {
-    at: 0,
-    wanted: Wanted::Newest(1),
-}];
-
-/// Where the commits wait for the lanes.
-const FEED_WAITS: &[Point] = &[
-    Point {
-        at: 0,
-        wanted: Wanted::Turns(HeldLane::First, 2),
-    },
-    Point {
-        at: 1,
-        wanted: Wanted::Turns(HeldLane::First, 3),
-    },
-    Point {
-        at: 1,
-        wanted: Wanted::Turns(HeldLane::Second, 2),
-    },
-];
-
-/// A gate of a lane that waits there.
-fn held_gate<'a>(
-    alloc: Global,
-    milestones: &'a Milestones,
-    lane: HeldLane,
-    waits: &[Point],
-) -> Option<HoldGate<'a>> {
-    match Vec::from_slice(alloc, waits) {
-        Err(_) => None,
-        Ok(points) => HoldGate::new(alloc, milestones, lane, points, 8).ok(),
-    }
-}
-
-/// A lane of so many queries that waits there for the feed.
-fn held_lane<'a>(
-    alloc: Global,
-    milestones: &'a Milestones,
-    lane: HeldLane,
-    queries: u8,
-    waits: &[Point],
-) -> Option<Lane<MemPort, HoldGate<'a>, PlainDoor>> {
-    let port = port_of(alloc, queries)?;
-    match held_gate(alloc, milestones, lane, waits) {
-        None => None,
-        Some(gate) => Some(Lane::new(port, gate, PlainDoor::new())),
-    }
-}
-
-/// Two lanes that wait for the feed.
-fn held_lanes<'a>(
-    alloc: Global,
-    milestones: &'a Milestones,
-) -> Option<[Lane<MemPort, HoldGate<'a>, PlainDoor>; 2]> {
-    match held_lane(alloc, milestones, HeldLane::First, 3, FIRST_WAITS) {
-        None => None,
-        Some(first) => match held_lane(alloc, milestones, HeldLane::Second, 1, SECOND_WAITS) {
-            None => None,
-            Some(second) => Some([first, second]),
-        },
-    }
-}
-
-/// The commits wait for the lanes.
-fn held_pace<'a>(alloc: Global, milestones: &'a Milestones) -> Option<HoldPace<'a>> {
-    match Vec::from_slice(alloc, FEED_WAITS) {
-        Err(_) => None,
-        Ok(points) => HoldPace::new(alloc, milestones, points, 10).ok(),
-    }
-}
-
-/// What each of four datagrams of a lane knew, and which map it was answered from.
-type Serials = [Option<(u64, u64)>; 4];
-
-/// How two lanes ended that run beside the feed, and the serials of each.
-fn drive_both<'a, R: Threads + Wait + Sync>(
-    rt: &R,
-    alloc: Global,
-    lanes: [Lane<MemPort, HoldGate<'a>, PlainDoor>; 2],
-    pace: HoldPace<'a>,
-) -> Option<(DriveEnd, Serials, Serials)> {
-    let mut lanes = lanes;
-    let mut pace = pace;
-    match drive_example::<MemPort, HoldGate<'_>, PlainDoor, HoldPace<'_>, R>(
-        rt,
-        alloc,
-        TWO_BATCHES,
-        TWO_SAID,
-        2,
-        &mut lanes,
-        &mut pace,
-    ) {
-        None => None,
-        Some(ended) => Some((
-            ended,
-            serials_of(&lanes[0].port),
-            serials_of(&lanes[1].port),
-        )),
-    }
-}
-
-/// The same of the lanes and the feed that wait for each other.
-fn run_at_once<R: Threads + Wait + Sync>(
-    rt: &R,
-    alloc: Global,
-    milestones: &Milestones,
-) -> Option<(DriveEnd, Serials, Serials)> {
-    let lanes = held_lanes(alloc, milestones)?;
-    match held_pace(alloc, milestones) {
-        None => None,
-        Some(pace) => drive_both(rt, alloc, lanes, pace),
-    }
-}
-
-/// What the first lane's three datagrams came to, and the second's one.
-const FIRST_SERIALS: Serials = [Some((0, 0)), Some((1, 1)), Some((2, 2)), None];
-
-const SECOND_SERIALS: Serials = [Some((1, 1)), None, None, None];
-
-/// Lanes and feed wait for each other, and nobody waits in vain. What is known rises by notes alone.
-#[test]
-fn lanes_run_at_once(rt: HostRuntime) -> Result<(), Fail> {
-    let milestones = Milestones::new();
-    let served = run_at_once(&rt, rt.alloc(), &milestones);
-    let due = (ended_by(Ended::PortEnd, 2), FIRST_SERIALS, SECOND_SERIALS);
-    assert!(rt; served == Some(due));
-    assert!(rt; !milestones.is_late());
     Ok(())
 }
