@@ -130,10 +130,14 @@ class Etcd:
         """Waits until a key is put, or for so long; the caller looks itself."""
 
         def heard(answer):
-            # the first line says that the watch is made: what was put before it is looked up
-            answer.readline()
-            if self.get(key) is None:
+            try:
+                # the first line says that the watch is made: what was put before it is looked up
                 answer.readline()
+                if self.get(key) is None:
+                    answer.readline()
+            except TimeoutError:
+                # nothing came, which is no fault of this member
+                pass
 
         try:
             self.reach("/v3/watch", {"create_request": {"key": encoded(key)}}, seconds, heard)
