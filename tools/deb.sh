@@ -71,15 +71,20 @@ set -e
 if [ "$1" = remove ] && [ -d /run/systemd/system ]; then
     systemctl stop 'glb*.service' 'glb*.timer' || true
 fi
+# what Python keeps of the tools that were run
+rm -rf /usr/lib/glb/__pycache__
 SCRIPT
 cat >"$root/DEBIAN/postrm" <<'SCRIPT'
 #!/bin/sh
 set -e
-if [ -d /run/systemd/system ]; then systemctl daemon-reload; fi
 if [ "$1" = purge ]; then
     rm -rf /etc/glb /var/lib/glb
+    # units that were enabled
+    rm -f /etc/systemd/system/*.wants/glb*.service /etc/systemd/system/*.wants/glb*.timer
+    rmdir /etc/systemd/system/glb*.wants 2>/dev/null || true
     if command -v deluser >/dev/null; then deluser --system --quiet glb || true; fi
 fi
+if [ -d /run/systemd/system ]; then systemctl daemon-reload; fi
 SCRIPT
 chmod 755 "$root"/DEBIAN/postinst "$root"/DEBIAN/prerm "$root"/DEBIAN/postrm
 dpkg-deb --root-owner-group --build "$root" "$folder/glb_${version}_amd64.deb"
