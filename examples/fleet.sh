@@ -11,6 +11,7 @@
 set -uo pipefail
 usual="writers answers server follower member cut base sums"
 others="behind early build memory clock"
+if ip netns list | grep -q glbfleet; then echo 'another run is there, or was cut off: ip netns del glbfleet0, ..1, ..2, ..3' && exit 1; fi
 here=$(cd "$(dirname "$0")/.." && pwd)
 glb=${GLB:-$here/crates/glb_program/out/glb_program}
 work=$(mktemp -d)
@@ -237,6 +238,7 @@ cut() {
     ok 'host3 answers on its side' answers 3
     ok 'host3 is behind or gone' until_line 3 'behind,\|gone'
     sed 's/^/while it is cut off: /' "$work/line"
+    ok 'and gone when its lease has run out' until_line 3 'gone'
     ip -n glbfleet0 link set port3 up
     ok 'all agree when it is back' agreed
     append 3 --id cut-off >"$work/cut"
