@@ -4,9 +4,9 @@
 #     tools/deb.sh VERSION [FOLDER]       VERSION as 1.0; the package goes into FOLDER, or here
 #
 # GLB names the built program; crates/glb_program/out/glb_program if it is not set. Who answers for the package stands in
-# DEBFULLNAME and DEBEMAIL, as for Debian's own tools. It needs dpkg-deb and gzip. The
-# package makes the user and the group `glb`, and starts nothing: docs/OPERATING.md says how (it goes to
-# /usr/share/doc/glb). Taking the package off leaves /etc/glb and /var/lib/glb; `apt purge` takes these and the user, too.
+# DEBFULLNAME and DEBEMAIL, as for Debian's own tools. It needs dpkg-deb, gzip and strip
+# (Debian: binutils). The package makes the user and the group `glb`, and starts nothing: docs/OPERATING.md says how (it goes
+# to /usr/share/doc/glb). Taking the package off leaves /etc/glb and /var/lib/glb; `apt purge` takes these and the user, too.
 set -euo pipefail
 top=$(cd "$(dirname "$0")/.." && pwd)
 version=${1:?'tools/deb.sh VERSION [FOLDER]'}
