@@ -64,6 +64,7 @@ BLOCKS = {
     ),
     "tail -n +1 -f": Block(("journalctl -u glb -n 3 -o cat; systemctl disable --now glb 2>/dev/null; systemctl start glb@v4; sleep 1; systemctl is-active glb@v4", "published 1\npublished 2\npublished 3\nactive"), before="systemctl stop glb@v4; systemctl disable glb-feed; sed -i '/^stop$/d' /var/lib/glb/changes.log; systemctl start glb; sleep 1", seconds=3),
     "apt-get install etcd": Block(
+        ("tr '\\0' ' ' </proc/$(systemctl show --value -p MainPID glb-follow@v4)/cmdline", ".*glb-follow --name .*"),
         ("sleep 2; glb-fleet", r"(?s)the log ends at entry 1\n\S*-v4: there, entry 1 .*"),
         (ANSWER.format("192.0.2.53"), ADDRESS),
         ("kill -9 $(systemctl show --value -p MainPID glb-fleet@v4); printf 'demand g1 7\\n' | glb-append; sleep 6; glb-fleet", r"(?s)2\nthe log ends at entry 2\n\S*-v4: there, entry 2 .*"),

@@ -25,7 +25,7 @@ for tool in numbers why moves metrics picture; do install -m 755 "$top/tools/$to
 # the units name the places of a program that was put there by hand
 for unit in "$top"/examples/*.service "$top"/examples/*.timer; do
     install -D -m 644 "$unit" "$root/usr/lib/systemd/system/$(basename "$unit")"
-    sed -i -e 's,/usr/local/bin/glb,/usr/bin/glb,g' -e 's,/usr/local/lib/glb,/usr/lib/glb,g' -e '/^#/s, *Install as /[^ ]*\.$,,' "$root/usr/lib/systemd/system/$(basename "$unit")"
+    sed -i -e 's,/usr/local/bin/glb,/usr/bin/glb,g' -e 's,/usr/local/lib/glb,/usr/lib/glb,g' -e '/^#/s, *Install as /.*$,,' -e '/^#$/d' "$root/usr/lib/systemd/system/$(basename "$unit")"
 done
 for tool in glb-append glb-follow glb-fleet; do install -d "$root/usr/bin" && ln -s "../lib/glb/$tool" "$root/usr/bin/$tool"; done
 install -D -m 644 "$top/docs/glb.1" "$root/usr/share/man/man1/glb.1"
