@@ -137,6 +137,10 @@ expect 0 'glb_refused_batches_total{why="lines"} 0
 glb_refused_batches_total{why="memory"} 0
 glb_refused_lines_total 0' grep -v '^#' "$work/none.prom"
 
+# picture.py
+expect 0 "$(cat docs/example.svg)" tools/picture.py examples/tree.toml examples/tree.map
+expect 1 '' tools/picture.py examples/tree.toml examples/flat.map
+
 # beside the program
 if [ -n "${GLB:-}" ]; then
     printf 'demand g2 4\ncommit\ndemand g1 x\ncommit\ncapacity A 9\ncapacity B 3\ncommit\ndemand g1 1\n' >"$work/log"
