@@ -4,13 +4,14 @@
 #
 #     apt-get install etcd-server etcd-client iproute2 dnsutils
 #     sudo GLB=/usr/local/bin/glb examples/fleet.sh               the parts of the list `usual` below
-#     sudo GLB=/usr/local/bin/glb examples/fleet.sh behind cut    some parts alone, those of `others` among them
+#     sudo GLB=/usr/local/bin/glb examples/fleet.sh behind base   some parts alone, those of `others` among them
 #
 # GLB names the program, as a whole path, and GLB_OTHER another build of it, for the part `build`; the part `memory` wants a
 # C compiler, `clock` the package faketime. Nothing is left behind but what it prints.
 set -uo pipefail
-usual="writers answers server follower member cut base sums"
+usual="writers answers server follower member cut_off base sums"
 others="behind early build memory clock"
+for part in "$@"; do case " $usual $others " in *" $part "*) ;; *) echo "no such part: $part" && exit 1 ;; esac; done
 if ip netns list | grep -q glbfleet; then echo 'another run is there, or was cut off: ip netns del glbfleet0, ..1, ..2, ..3' && exit 1; fi
 here=$(cd "$(dirname "$0")/.." && pwd)
 glb=${GLB:-$here/crates/glb_program/out/glb_program}
@@ -53,7 +54,7 @@ done
 
 # A member of etcd on each; each program of a host asks its own member first.
 members=m1=http://$net.1:2380,m2=http://$net.2:2380,m3=http://$net.3:2380
-member() {
+start_member() {
     be_on "$1" etcd --name "m$1" --data-dir "$work/etcd$1" --listen-peer-urls "http://$net.$1:2380" --initial-advertise-peer-urls "http://$net.$1:2380" \
         --listen-client-urls "http://$net.$1:2379" --advertise-client-urls "http://$net.$1:2379" --initial-cluster "$members" >>"$work/etcd$1.log" 2>&1 &
     echo $! >"$work/etcd$1.pid"
@@ -89,7 +90,6 @@ serve() {
             be_on "$host" env GLB_ETCD="$(etcd_of "$host")" $(cat "$work/clock$host" 2>/dev/null) "$here/tools/glb-follow" --name "host$host" --topology "$work/topology$host.toml" --feed "$place/feed" --said "$place/said" --maps "$place/maps" --state "$place/state" >>"$work/follow$host.log" 2>&1 &
             echo $! >"$place/follower"
             wait -n "$server" $! 2>/dev/null
-            echo "$?" >>"$work/ends$host"
             sleep 0.2
             if ! kill -0 "$server" 2>/dev/null; then kill "$(cat "$place/follower")" 2>/dev/null; fi
         done
@@ -114,7 +114,7 @@ last() { tool 1 glb-fleet | sed -n 's/^the log ends at entry //p'; }
 line_of() { tool 1 glb-fleet | grep "^host$1: "; }
 until_line() { for _ in $(seq 200); do line_of "$1" >"$work/line"; grep -q "$2" "$work/line" && return 0; sleep 0.1; done; cat "$work/line"; return 1; }
 # One server's answer to its own host: an address of one of the two pools.
-answers() { on "$1" dig +short +tries=2 +time=1 "@$net.$1" www.cdn.example A | grep -qx '192.0.2.[12]'; }
+answered() { on "$1" dig +short +tries=2 +time=1 "@$net.$1" www.cdn.example A | grep -qx '192.0.2.[12]'; }
 # How many octets wait in a server's feed.
 waits() { python3 -c 'import array, fcntl, os, sys, termios; n = array.array("i", [0]); fcntl.ioctl(os.open(sys.argv[1], os.O_RDWR), termios.FIONREAD, n); print(n[0])' "$work/host$1/feed"; }
 pid() { cat "$work/host$1/$2"; }
@@ -135,6 +135,9 @@ write() {
     ok 'and no number is left out' [ "$(last)" = $((first + $1 * $2)) ]
 }
 
+# The topology of the newest base, put in its place on some hosts at once.
+put_base() { for host in "$@"; do cp "$work/base.toml" "$work/topology$host.new" && mv "$work/topology$host.new" "$work/topology$host.toml"; done; }
+
 # The parts.
 
 # Two writers at once, and from an append until each server says that it has published it.
@@ -149,43 +152,45 @@ writers() {
         ok 'one more' agreed
         echo "from before an append until all three were seen to have published it: $(since "$begun") ms"
     done
-    # what is left out of that: the starts of two programs of Python
-    tool 1 glb-fleet --json >"$work/json"
-    python3 - "$here" "$(etcd_of 1)" <<'PYTHON' >"$work/timed.py"
-import sys
-print(f"""
-import sys, time, json, types, uuid
-sys.path.insert(0, "{sys.argv[1]}/tools")
+    # the same without the starts of Python: by one process
+    on 1 python3 - "$here" "$(etcd_of 1)" <<'PYTHON'
+import json, sys, time, types, uuid
+
+sys.path.insert(0, sys.argv[1] + "/tools")
 from batches import Log
-log = Log(types.SimpleNamespace(etcd="{sys.argv[2]}", prefix="glb", cert=None, user=None))
+
+log = Log(types.SimpleNamespace(etcd=sys.argv[2], prefix="glb", cert=None, user=None))
+
+
+def append(i):
+    return log.append(f"demand g1 {i % 9 + 1}\n", uuid.uuid4().hex)
+
+
+def wait_until_published(number):
+    while min(json.loads(text)["number"] for _, text in log.etcd.under("glb/at/")) < number:
+        time.sleep(0.001)
+
+
 begun = time.monotonic()
-for i in range(100):
-    number = log.append(f"demand g1 {{i % 9 + 1}}\\n", uuid.uuid4().hex)
-print(f"100 appends by one process: {{time.monotonic() - begun:.2f}} s")
-def at():
-    return [json.loads(text)["number"] for _, text in log.etcd.under("glb/at/")]
-while min(at()) < number:
-    time.sleep(0.001)
-print(f"until all three had published them: {{time.monotonic() - begun:.2f}} s")
-times = []
+number = [append(i) for i in range(100)][-1]
+print(f"100 appends by one process: {time.monotonic() - begun:.2f} s")
+wait_until_published(number)
+print(f"until all three had published them: {time.monotonic() - begun:.2f} s")
+appended, published = [], []
 for i in range(30):
     begun = time.monotonic()
-    number = log.append(f"demand g1 {{i % 9 + 1}}\\n", uuid.uuid4().hex)
-    appended = time.monotonic()
-    while min(at()) < number:
-        time.sleep(0.001)
-    times.append((appended - begun, time.monotonic() - begun))
+    number = append(i)
+    appended.append(time.monotonic() - begun)
+    wait_until_published(number)
+    published.append(time.monotonic() - begun)
     time.sleep(0.05)
-for name, column in (("its number", 0), ("all three had published it", 1)):
-    sorted_ = sorted(row[column] for row in times)
-    print(f"30 single appends, from the call until {{name}}: {{sorted_[0] * 1000:.1f}} to {{sorted_[-1] * 1000:.1f}} ms, half of them below {{sorted_[15] * 1000:.1f}}")
-""")
+for name, times in (("its number", sorted(appended)), ("all three had published it", sorted(published))):
+    print(f"30 single appends, from the call until {name}: {times[0] * 1000:.1f} to {times[-1] * 1000:.1f} ms, half of them below {times[15] * 1000:.1f}")
 PYTHON
-    on 1 python3 "$work/timed.py"
     ok 'all agree on these' agreed
 }
 
-answers_all() { for host in $hosts; do ok "host$host answers" answers "$host"; done; }
+answers() { for host in $hosts; do ok "host$host answers" answered "$host"; done; }
 
 # A server is killed: it begins anew, and reads the log from its start.
 server() {
@@ -194,7 +199,7 @@ server() {
     kill -9 "$old"
     ok 'all agree again' agreed
     ok 'the server is another one' [ "$(pid 2 server)" != "$old" ]
-    ok 'and answers' answers 2
+    ok 'and answers' answered 2
 }
 
 # A follower is killed between its write and the server's answer: the batch is worked once.
@@ -208,25 +213,25 @@ follower() {
     ok 'the batch waits in the feed' [ "$(waits 3)" -gt 0 ]
     kill -9 "$(pid 3 follower)"
     kill -CONT "$(pid 3 server)"
-    ok 'host3 answers without a follower' answers 3
+    ok 'host3 answers without a follower' answered 3
     ok 'all agree with the next follower' agreed
     ok 'two batches, each worked once' [ "$(line_of 3 | sed 's/.*serial \([0-9]*\),.*/\1/')" = $((serial + 2)) ]
 }
 
 # The leading member of etcd is killed in the middle of a hundred appends by four writers.
 member_dies() { sleep 1; led=$(leader); kill -9 "$(cat "$work/etcd$led.pid")"; }
-member_killed() {
+member() {
     local begun
     begun=$(now)
     write 4 25 member_dies
     echo "100 appends by four writers, the leading member killed amid them: $(since "$begun") ms"
     ok 'all agree with two members' agreed
-    member "$led"
+    start_member "$led"
     ok 'all agree with the member back' agreed
 }
 
 # A host is cut off, with a writer on both sides.
-cut() {
+cut_off() {
     local before
     agreed >/dev/null
     before=$(last)
@@ -235,7 +240,7 @@ cut() {
     ok 'the side without a majority says so' [ $? = 2 ]
     sed 's/^/host3: /' "$work/cut"
     ok 'the other side appends' append 1 >/dev/null
-    ok 'host3 answers on its side' answers 3
+    ok 'host3 answers on its side' answered 3
     ok 'host3 is behind or gone' until_line 3 'behind,\|gone'
     sed 's/^/while it is cut off: /' "$work/line"
     ok 'and gone when its lease has run out' until_line 3 'gone'
@@ -255,12 +260,12 @@ base() {
     ok 'a base that misses an entry is refused' bash -c "! ip netns exec glbfleet1 env GLB_ETCD=$(etcd_of 1) $here/tools/glb-append --base '$work/early.toml' 2>/dev/null"
     tool 1 glb-append --numbers "$work/topology1.toml" >"$work/base.toml"
     tool 1 glb-append --base "$work/base.toml" >/dev/null
-    for host in 1 2; do cp "$work/base.toml" "$work/topology$host.new" && mv "$work/topology$host.new" "$work/topology$host.toml"; done
+    put_base 1 2
     append 2 >/dev/null
     ok 'host3 waits for its file' until_line 3 'waits'
     sed 's/^/without its file: /' "$work/line"
-    ok 'and answers meanwhile' answers 3
-    cp "$work/base.toml" "$work/topology3.new" && mv "$work/topology3.new" "$work/topology3.toml"
+    ok 'and answers meanwhile' answered 3
+    put_base 3
     ok 'all agree behind the base' agreed
     tool 1 glb-append --cut
     ok 'and go on from it' agreed
@@ -274,18 +279,21 @@ behind() {
     first=$(last)
     on 1 python3 - "$here" "$(etcd_of 1)" "$first" <<'PYTHON'
 import sys, types
+
 sys.path.insert(0, sys.argv[1] + "/tools")
 from batches import Log, encoded
+
 log = Log(types.SimpleNamespace(etcd=sys.argv[2], prefix="glb", cert=None, user=None))
 first = int(sys.argv[3]) + 1
 for page in range(first, first + 10000, 100):
-    puts = [{"request_put": {"key": encoded(log.key(n)), "value": encoded(f"demand g1 {n % 9 + 1}\ncapacity A {n % 11}\n")}} for n in range(page, page + 100)]
+    batches = {log.key(number): f"demand g1 {number % 9 + 1}\ncapacity A {number % 11}\n" for number in range(page, page + 100)}
+    puts = [{"request_put": {"key": encoded(key), "value": encoded(text)}} for key, text in batches.items()]
     assert log.etcd.call("/v3/kv/txn", {"success": puts})["succeeded"]
 PYTHON
     begun=$(now)
     sleep 1
     tool 1 glb-fleet
-    ok 'host1 answers meanwhile' answers 1
+    ok 'host1 answers meanwhile' answered 1
     ok 'all agree' agreed 1200
     echo "ten thousand batches: $(since "$begun") ms"
     # a server that reads all of them again
@@ -295,14 +303,14 @@ PYTHON
     echo "and again, by a server that began anew: $(since "$begun") ms"
 }
 
-# A server that stands before a cut: it does not begin until it has the base.
+# A server that begins from before a cut: its follower does not go on until it has the base.
 early() {
     touch "$work/held3"
     kill -9 "$(pid 3 server)"
     append 1 >/dev/null
     tool 1 glb-append --numbers "$work/topology1.toml" >"$work/base.toml"
     tool 1 glb-append --base "$work/base.toml" >/dev/null
-    for host in 1 2; do cp "$work/base.toml" "$work/topology$host.new" && mv "$work/topology$host.new" "$work/topology$host.toml"; done
+    put_base 1 2
     append 1 >/dev/null
     for host in 1 2; do ok "host$host goes on" until_line "$host" ': there'; done
     tool 1 glb-append --cut
@@ -311,7 +319,7 @@ early() {
     ok 'its follower says what is wrong' bash -c "for _ in \$(seq 100); do grep -q 'is not the newest base' $work/follow3.log && exit 0; sleep 0.1; done; exit 1"
     grep -m 1 'is not the newest base' "$work/follow3.log"
     line_of 3
-    cp "$work/base.toml" "$work/topology3.new" && mv "$work/topology3.new" "$work/topology3.toml"
+    put_base 3
     kill -9 "$(pid 3 server)"
     ok 'all agree with the base in its place' agreed
 }
@@ -327,7 +335,7 @@ build() {
     tool 1 glb-fleet >"$work/fleet"
     echo "another build on host3: status $?"
     cat "$work/fleet"
-    ok 'it answers' answers 3
+    ok 'it answers' answered 3
     rm "$work/other3"
     kill -9 "$(pid 3 server)"
     ok 'all agree when it is gone' agreed
@@ -336,7 +344,7 @@ build() {
 # One server has no memory for a batch: bench/fail_alloc.c refuses what its commit asks for.
 memory() {
     local old
-    "${CC:-cc}" -O2 -shared -fPIC -o "$work/fail_alloc.so" "$here/bench/fail_alloc.c" || return
+    "${CC:-cc}" -O2 -shared -fPIC -o "$work/fail_alloc.so" "$here/bench/fail_alloc.c" || { echo 'memory: there is no C compiler' && return; }
     preload_of 3 "LD_PRELOAD=$work/fail_alloc.so" "FAIL_COUNT=1000000" "FAIL_TOLD=$work/asked" "FAIL_FROM=$work/from"
     kill -9 "$(pid 3 server)"
     ok 'all agree, one with a shim' agreed
@@ -394,18 +402,14 @@ PYTHON
     ok 'and are equal at each' [ "$differ" = 0 ]
 }
 
-for host in $hosts; do member "$host"; done
+for host in $hosts; do start_member "$host"; done
 for _ in $(seq 100); do tool 1 glb-fleet 2>/dev/null | grep -q 'log ends' && break; sleep 0.1; done
 for host in $hosts; do cp "$here/examples/tree.toml" "$work/topology$host.toml"; done
 for host in $hosts; do serve "$host" 2>/dev/null & done
 while [ ! -e "$work/over" ] && [ ! -e "$work/enough" ]; do tool 1 glb-fleet --json 2>/dev/null | python3 -c 'import json, sys; print(json.dumps(json.load(sys.stdin)))' >>"$work/seen" 2>/dev/null; sleep 0.5; done &
 ok 'three servers begin' agreed
 for part in ${@:-$usual}; do
-    case $part in
-        answers) answers_all ;;
-        member) member_killed ;;
-        *) "$part" ;;
-    esac
+    "$part"
 done
 tool 1 glb-fleet
 echo "$passed passed, $failed failed"
