@@ -26,10 +26,10 @@ CRATES = [folder.name for folder in (TOP / "crates").iterdir()]
 # docs/PROOFS.md is not among them: its pitfalls name what is not there
 DOCUMENTS = sorted(str(path.relative_to(TOP)) for folder in (".", "bench", "docs") for path in (TOP / folder).glob("*.md") if path.name != "PROOFS.md")
 # other programs, of whose words only the paths are looked up, and words of the system
-PROGRAMS = {"dig", "dnscap", "dnstop", "echo", "ldd", "ls", "man", "mkfifo", "nstat", "python3", "rt", "ss", "systemctl", "systemd-analyze", "tail", "ulimit", "usermod"}
+PROGRAMS = {"apt-get", "dig", "dnscap", "dnstop", "echo", "ldd", "ls", "man", "mkfifo", "nstat", "promtool", "python3", "rt", "ss", "systemctl", "systemd-analyze", "tail", "ulimit", "usermod"}
 ELSEWHERE = {"PIPE_BUF", "net", "core", "rmem_default", "write_all"}
 # places that are made when they are used
-MADE = re.compile(r"/(run|var|etc|proc|dev|usr/local)/|.*/out/")
+MADE = re.compile(r"/(run|var|etc|proc|dev|usr)(/|$)|.*/out/")
 # words in capitals stand for others
 STANDS_FOR_OTHERS = re.compile(r"[A-Z]+")
 
@@ -87,7 +87,7 @@ def is_path(word):
 def files_of(word, files, crates):
     """The files of a path from the top, beside a document, or in one of the crates; a specification without its ending."""
     pattern = re.escape(word.removeprefix("./").rstrip("/")).replace(r"\*", "[^/]*")
-    places = ["", "docs/", "bench/", "examples/", "crates/", *(f"crates/{crate}/" for crate in crates)]
+    places = ["", "docs/", "bench/", "examples/", "tools/", "crates/", *(f"crates/{crate}/" for crate in crates)]
     found = re.compile(f"({'|'.join(map(re.escape, places))}){pattern}(\\.antt|\\.rt)?(/.*)?")
     return [file for file in files if found.fullmatch(file)]
 

@@ -1,17 +1,20 @@
 #!/usr/bin/env python3
 """Writes a topology and a good map of it, for benchmarks.
 
-    generate.py [--limits] GROUPS POOLS LEVELS PERCENT TOPOLOGY [MAP]
+    generate.py [--limits] [--classes N] GROUPS POOLS LEVELS PERCENT TOPOLOGY [MAP]
 
 GROUPS groups each rank sixteen of POOLS pools. With LEVELS 1 every pool is a
 root; with more, each node of a level has two children on the level below, and
 the pools are the lowest level. The pools together hold PERCENT of the demand.
-With --limits every third group has limits, each from 1 to its demand.
+With --limits every third group has limits, each from 1 to its demand, and every
+third class. With --classes there are two services, and N classes, one of each
+service for the first groups: what they ask for comes on top of the PERCENT.
 The map is computed here by deferred acceptance with a heap for each node, apart
 from glb's own code, so that `glb check` has something to judge. The same
 arguments give the same files.
 """
 
+import argparse
 import heapq
 import random
 import sys
@@ -29,8 +32,9 @@ expire = 86400
 minimum = 60
 ttl = 20
 ns = ["ns1.ops.example", "ns2.ops.example"]
-services = ["www"]
+services = [%s]
 """
+SERVICES = ["www", "img"]
 
 
 def make_nodes(pools, levels):
@@ -57,7 +61,7 @@ def prefixes_of(group, count):
 
 
 class World:
-    def __init__(self, groups, pools, levels, percent, has_limits):
+    def __init__(self, groups, pools, levels, percent, has_limits, classes):
         draw = random.Random(20151)
         self.parents, self.first_pool = make_nodes(pools, levels)
         nodes = len(self.parents)
@@ -87,6 +91,15 @@ class World:
             [draw.randint(1, demand) for _ in l] if has_limits and g % 3 == 0 else None
             for g, (l, demand) in enumerate(zip(self.lists, self.demand))
         ]
+        # units: the groups, and behind them the classes
+        self.groups = groups
+        self.names = ["g%d" % g for g in range(groups)] + ["c%d" % c for c in range(classes)]
+        for c in range(classes):
+            pools_of = [self.first_pool + p for p in draw.sample(range(pools), min(LIST, pools))]
+            self.demand.append(draw.randint(50, 150))
+            self.lists.append(pools_of)
+            self.scores.append([draw.randrange(1 << 32) for _ in pools_of])
+            self.limits.append([draw.randint(1, self.demand[-1]) for _ in pools_of] if has_limits and c % 3 == 0 else None)
 
     def limit(self, group, place):
         limits = self.limits[group]
@@ -153,23 +166,32 @@ class World:
         return (-score, -group, -pool)
 
     def write_topology(self, path):
-        count = min(4, 262144 // max(1, len(self.lists)))
+        count = min(4, 262144 // max(1, self.groups))
+        services = SERVICES if len(self.names) > self.groups else SERVICES[:1]
         with open(path, "w") as out:
-            out.write(ZONE)
+            out.write(ZONE % ", ".join('"%s"' % service for service in services))
             for n, parent in enumerate(self.parents):
                 out.write('[[node]]\nname = "n%d"\ncapacity = %d\n' % (n, self.capacity[n]))
                 if parent is not None:
                     out.write('parent = "n%d"\n' % parent)
                 if n >= self.first_pool:
                     out.write('pool = true\na = ["192.0.2.%d"]\n' % (n % 256))
-            for g, pools in enumerate(self.lists):
-                out.write('[[group]]\nname = "g%d"\ndemand = %d\n' % (g, self.demand[g]))
-                out.write("pools = [%s]\n" % ", ".join('"n%d"' % p for p in pools))
-                out.write("scores = [%s]\n" % ", ".join(str(s) for s in self.scores[g]))
-                if self.limits[g] is not None:
-                    out.write("limits = [%s]\n" % ", ".join(str(s) for s in self.limits[g]))
-                prefixes = ", ".join('"%s"' % p for p in prefixes_of(g, count))
-                out.write("prefixes = [%s]\n" % prefixes)
+            for unit in range(len(self.names)):
+                self.write_unit(out, unit, count)
+
+    def write_unit(self, out, unit, count):
+        out.write("[[%s]]\n" % ("group" if unit < self.groups else "class"))
+        out.write('name = "%s"\n' % self.names[unit])
+        if unit >= self.groups:
+            number = unit - self.groups
+            out.write('group = "g%d"\nservice = "%s"\n' % (number // 2, SERVICES[number % 2]))
+        out.write("demand = %d\n" % self.demand[unit])
+        out.write("pools = [%s]\n" % ", ".join('"n%d"' % p for p in self.lists[unit]))
+        out.write("scores = [%s]\n" % ", ".join(str(s) for s in self.scores[unit]))
+        if self.limits[unit] is not None:
+            out.write("limits = [%s]\n" % ", ".join(str(s) for s in self.limits[unit]))
+        if unit < self.groups:
+            out.write("prefixes = [%s]\n" % ", ".join('"%s"' % p for p in prefixes_of(unit, count)))
 
     def write_map(self, path):
         full = [self.load[n] == self.capacity[n] for n in range(len(self.parents))]
@@ -179,7 +201,7 @@ class World:
             for g, amounts in enumerate(self.amount):
                 for k, amount in enumerate(amounts):
                     if amount:
-                        out.write("place g%d n%d %d\n" % (g, self.lists[g][k], amount))
+                        out.write("place %s n%d %d\n" % (self.names[g], self.lists[g][k], amount))
             for g, amounts in enumerate(self.amount):
                 placed = 0
                 for k, amount in enumerate(amounts):
@@ -188,27 +210,33 @@ class World:
                         break
                     pool = self.lists[g][k]
                     if amount == self.limit(g, k):
-                        out.write("limit g%d n%d\n" % (g, pool))
+                        out.write("limit %s n%d\n" % (self.names[g], pool))
                         continue
                     key = (self.scores[g][k], g, pool)
                     for n in self.paths[pool]:
                         if full[n] and (worst[n] is None or worst[n] <= key):
-                            out.write("full g%d n%d n%d\n" % (g, pool, n))
+                            out.write("full %s n%d n%d\n" % (self.names[g], pool, n))
                             break
                     else:
-                        sys.exit("no node refuses group %d at place %d" % (g, k))
+                        sys.exit("no node refuses %s at place %d" % (self.names[g], k))
             out.write("end\n")
 
 
 def main():
-    has_limits = "--limits" in sys.argv
-    words = [word for word in sys.argv[1:] if word != "--limits"]
-    world = World(*map(int, words[:4]), has_limits)
-    world.write_topology(words[4])
-    if len(words) == 5:
+    parser = argparse.ArgumentParser()
+    parser.add_argument("--limits", action="store_true")
+    parser.add_argument("--classes", type=int, default=0)
+    for word in ("groups", "pools", "levels", "percent"):
+        parser.add_argument(word, type=int)
+    parser.add_argument("topology")
+    parser.add_argument("map", nargs="?")
+    options = parser.parse_args()
+    world = World(options.groups, options.pools, options.levels, options.percent, options.limits, options.classes)
+    world.write_topology(options.topology)
+    if options.map is None:
         return
     proposals = world.accept()
-    world.write_map(words[5])
+    world.write_map(options.map)
     unplaced = sum(world.demand) - sum(map(sum, world.amount))
     print("%d proposals, %d units unplaced" % (proposals, unplaced))
 

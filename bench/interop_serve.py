@@ -4,12 +4,14 @@
     apt-get update
     apt-get install bind9-dnsutils knot-dnsutils ldnsutils python3-dnspython unbound pdns-recursor
     bench/interop_serve.py                 all below
-    bench/interop_serve.py tools feed      some of: tools, raw, feed, resolvers
+    bench/interop_serve.py tools feed      some of: tools, raw, feed, long, resolvers
 
     tools      dig, kdig, drill, delv and dnspython ask each row of interop.py, and a server where nothing is placed
     raw        datagrams that no tool sends, one for each case of the answer table, and forged ones from port 0
                (these need root)
     feed       the feed changes demands and capacities while queries are asked, and the replies follow
+    long       answers of forty addresses at each size that a query may name, by dig, kdig, drill, delv and dnspython, and
+               what dig, unbound and pdns-recursor make of one that is left out
     resolvers  unbound and pdns-recursor in front, with client subnets: answers by group, and caching by scope
 
 GLB names the program, the built one if it is not set. Every wanted value comes from the example topology and the
@@ -17,6 +19,7 @@ RFCs. The last line counts, and the status is 0 where nothing failed.
 """
 
 import os
+import re
 import shutil
 import socket
 import struct
@@ -260,6 +263,135 @@ def follow_demand(host, server):
     expect("maps", b"".join(server.maps).count(b"glb map 2\n"), 42)
 
 
+# An apex of 64 octets on the wire, and two services of it, whose names have 68 octets and 128; forty addresses of each
+# type. By RFC 1035 a reply has 12 octets, the name and 4 more, and 16 for an address, of IPv6 28; by RFC 6891 and 7871 an
+# OPT record has 11, and a client subnet of so many octets 8 more.
+APEX = f"{'a' * 50}.cdn.example"
+SHORT, LONG = f"www.{APEX}", f"{'s' * 63}.{APEX}"
+FORTY = {"A": {f"192.0.2.{number}" for number in range(1, 41)}, "AAAA": {f"2001:db8::{number:x}" for number in range(1, 41)}}
+# what is asked: name, type, whether there is an OPT record and which size it names, a client subnet, and how many octets
+# the answer would have: it is sent where that is at most 512 without an OPT record, and else the size, from 512 to 1,232
+LONG_ROWS = [
+    (SHORT, "AAAA", None, None, 1204),
+    (SHORT, "AAAA", 100, None, 1215),
+    (SHORT, "AAAA", 512, None, 1215),
+    (SHORT, "AAAA", 1214, None, 1215),
+    (SHORT, "AAAA", 1215, None, 1215),
+    (SHORT, "AAAA", 4096, None, 1215),
+    (SHORT, "AAAA", 4096, "2001:db8::/48", 1229),
+    (SHORT, "AAAA", 4096, "2001:db8::1/128", 1239),
+    (SHORT, "A", None, None, 724),
+    (SHORT, "A", 734, None, 735),
+    (SHORT, "A", 735, None, 735),
+    (LONG, "AAAA", 1232, None, 1275),
+    (LONG, "AAAA", 4096, None, 1275),
+    (LONG, "A", 794, None, 795),
+    (LONG, "A", 795, None, 795),
+]
+
+
+def long_topology(folder):
+    zone = (TOP / "examples/tree.toml").read_text().split("[[node]]")[0]
+    zone = re.sub('apex = .*', f'apex = "{APEX}"', zone)
+    zone = re.sub('services = .*', f'services = ["www", "{LONG.split(".")[0]}"]', zone)
+    lists = "\n".join(f"{kind.lower()} = [{', '.join(f'{chr(34)}{address}{chr(34)}' for address in sorted(FORTY[kind]))}]" for kind in FORTY)
+    path = Path(folder) / "long.toml"
+    path.write_text(f'{zone}[[node]]\nname = "P"\ncapacity = 1\npool = true\n{lists}\n[[group]]\nname = "g"\ndemand = 1\npools = ["P"]\nscores = [1]\nprefixes = ["0.0.0.0/0", "::/0"]\n')
+    return str(path)
+
+
+def is_whole(size, octets):
+    return octets <= (512 if size is None else min(max(size, 512), 1232))
+
+
+def ask_long_by(tool, host, port):
+    """What dig or kdig makes of each row where it does not ask again over TCP."""
+    for name, kind, size, subnet_of, octets in LONG_ROWS:
+        words = ["+noedns"] if size is None else ["+edns", f"+bufsize={size}"]
+        words += [f"+subnet={subnet_of}"] if subnet_of else []
+        words += ["+tries=1", "+nocookie"] if tool == "dig" else ["+retry=0"]
+        text = interop.run_tool(tool, f"@{host}", "-p", str(port), "+ignore", *words, name, kind)
+        flags = re.search(r"[Ff]lags: ([a-z ]*);", text)
+        sent = is_whole(size, octets)
+        what = f"{tool} @{host} {name[:3]} {kind} {size} {subnet_of}"
+        expect(what, interop.parse_dig(text), ("NOERROR", FORTY[kind] if sent else set(), True, False))
+        expect(f"{what} TC", flags is not None and "tc" in flags.group(1).split(), not sent)
+        if sent:
+            expect(f"{what} octets", re.search(r"(?:SIZE  rcvd:|Received) (\d+)", text).group(1), str(octets))
+
+
+def ask_long_by_drill(host, port):
+    for name, kind, size, subnet_of, octets in LONG_ROWS:
+        if subnet_of is None and (size is None or size >= 512):
+            text = interop.run_tool("drill", "-p", str(port), *([] if size is None else ["-b", str(size)]), name, f"@{host}", kind)
+            flags = re.search(r"flags: ([a-z ]*);", text)
+            answers = {line.split()[4] for line in text.splitlines() if re.match(rf"[a-z.]+\t\d+\tIN\t{kind}\t", line)}
+            sent = is_whole(size, octets)
+            expect(f"drill @{host} {name[:3]} {kind} {size}", (answers, flags is not None and "tc" in flags.group(1).split()), (FORTY[kind] if sent else set(), not sent))
+
+
+def ask_long_by_dnspython(host, port):
+    import dns.edns
+    import dns.flags
+    import dns.message
+    import dns.query
+
+    for name, kind, size, subnet_of, octets in LONG_ROWS:
+        options = [dns.edns.ECSOption(*[int(part) if part.isdigit() else part for part in subnet_of.split("/")])] if subnet_of else []
+        query = dns.message.make_query(name, kind, **({} if size is None else {"use_edns": 0, "payload": size, "options": options}))
+        reply = dns.query.udp(query, host, timeout=10, port=port, ignore_trailing=False)
+        data = {item.to_text() for rrset in reply.answer for item in rrset}
+        sent = is_whole(size, octets)
+        got = (data, bool(reply.flags & dns.flags.TC), bool(reply.flags & dns.flags.AA), reply.edns, [option.scopelen for option in reply.options])
+        # all clients are in the prefix of no bits, so the scope is 0 with addresses and in their place
+        expect(f"dnspython @{host} {name[:3]} {kind} {size} {subnet_of}", got, (FORTY[kind] if sent else set(), not sent, True, -1 if size is None else 0, [0] if subnet_of else []))
+
+
+def ask_again(host, port):
+    """Who does not take a truncated reply for an answer asks again over TCP: dig and delv, which name 1,232 octets."""
+    for name, kind, sent in [(SHORT, "AAAA", True), (LONG, "AAAA", False)]:
+        text = interop.run_tool("dig", f"@{host}", "-p", str(port), "+tries=1", "+time=2", name, kind)
+        expect(f"dig @{host} {name[:3]} asks again", "retrying in TCP mode" in text, not sent)
+        text = interop.run_tool("delv", "-i", f"@{host}", "-p", str(port), name, kind)
+        expect(f"delv @{host} {name[:3]}", FORTY[kind] & set(text.split()), FORTY[kind] if sent else set())
+
+
+def behind_long(name, words, port):
+    """Forty addresses through a resolver, and what it says where they do not fit and there is no TCP."""
+    resolver = subprocess.Popen(words, stdout=subprocess.PIPE, stderr=subprocess.STDOUT)
+    threading.Thread(target=lambda: list(resolver.stdout), daemon=True).start()
+    try:
+        ask_it = lambda service, kind: interop.parse_dig(interop.run_tool("dig", "@127.0.0.1", "-p", str(port), "+tries=1", "+time=20", "+tcp", service, kind))[:2]
+        start = time.monotonic()
+        while ask_it(APEX, "NS")[0] != "NOERROR" and time.monotonic() - start < 20:
+            time.sleep(0.2)
+        expect(f"{name}: forty of IPv6", ask_it(SHORT, "AAAA"), ("NOERROR", FORTY["AAAA"]))
+        expect(f"{name}: forty of IPv4", ask_it(SHORT, "A"), ("NOERROR", FORTY["A"]))
+        expect(f"{name}: forty of IPv4 of a long name", ask_it(LONG, "A"), ("NOERROR", FORTY["A"]))
+        expect(f"{name}: what does not fit", ask_it(LONG, "AAAA"), ("SERVFAIL", set()))
+    finally:
+        resolver.terminate()
+        resolver.wait()
+
+
+def long():
+    with tempfile.TemporaryDirectory() as work:
+        for host in HOSTS:
+            with Server(long_topology(work), host) as server:
+                ask_long_by("dig", host, server.port)
+                ask_long_by("kdig", host, server.port)
+                ask_long_by_drill(host, server.port)
+                ask_long_by_dnspython(host, server.port)
+                ask_again(host, server.port)
+        with Server(long_topology(work), "127.0.0.1") as server:
+            for name, start in [("unbound", start_unbound), ("pdns_recursor", start_recursor)]:
+                if shutil.which(name) is None:
+                    print(f"{name} is not installed")
+                    continue
+                port = free_port()
+                behind_long(name, start(work, port, server.port, APEX), port)
+
+
 class Between(threading.Thread):
     """Hands datagrams of a resolver on to the server, and keeps the queries."""
 
@@ -289,7 +421,7 @@ UNBOUND = """server:
     do-not-query-localhost: no
     module-config: "subnetcache iterator"
     send-client-subnet: 127.0.0.1
-    client-subnet-zone: cdn.example
+    client-subnet-zone: {zone}
     client-subnet-always-forward: yes
     max-client-subnet-ipv4: 24
     access-control: 127.0.0.0/8 allow
@@ -297,26 +429,26 @@ UNBOUND = """server:
 remote-control:
     control-enable: no
 stub-zone:
-    name: cdn.example
+    name: {zone}
     stub-addr: 127.0.0.1@{upstream}
 """
 
 RECURSOR = [
     "pdns_recursor", "--config-dir={work}", "--socket-dir={work}", "--local-address=127.0.0.1", "--local-port={port}",
-    "--forward-zones=cdn.example=127.0.0.1:{upstream}", "--dont-query=", "--dnssec=off", "--daemon=no", "--quiet=yes",
-    "--edns-subnet-allow-list=cdn.example", "--use-incoming-edns-subnet=yes", "--ecs-ipv4-bits=24", "--ecs-add-for=0.0.0.0/0",
+    "--forward-zones={zone}=127.0.0.1:{upstream}", "--dont-query=", "--dnssec=off", "--daemon=no", "--quiet=yes",
+    "--edns-subnet-allow-list={zone}", "--use-incoming-edns-subnet=yes", "--ecs-ipv4-bits=24", "--ecs-add-for=0.0.0.0/0",
     "--ecs-ipv4-cache-bits=32", "--ecs-cache-limit-ttl=0", "--threads=1", "--root-nx-trust=no", "--write-pid=no", "--setuid=", "--setgid=",
 ]
 
 
-def start_unbound(work, port, upstream):
+def start_unbound(work, port, upstream, zone="cdn.example"):
     path = Path(work) / "unbound.conf"
-    path.write_text(UNBOUND.format(work=work, port=port, upstream=upstream))
+    path.write_text(UNBOUND.format(work=work, port=port, upstream=upstream, zone=zone))
     return ["unbound", "-d", "-c", str(path)]
 
 
-def start_recursor(work, port, upstream):
-    return [word.format(work=work, port=port, upstream=upstream) for word in RECURSOR]
+def start_recursor(work, port, upstream, zone="cdn.example"):
+    return [word.format(work=work, port=port, upstream=upstream, zone=zone) for word in RECURSOR]
 
 
 def resolve(port, address):
@@ -366,7 +498,7 @@ def resolvers():
             behind(name, start(work, port, between.port), between, port)
 
 
-PARTS = {"tools": tools, "raw": raw, "feed": feed, "resolvers": resolvers}
+PARTS = {"tools": tools, "raw": raw, "feed": feed, "long": long, "resolvers": resolvers}
 
 
 def main():

@@ -1,12 +1,18 @@
 #!/usr/bin/env bash
-# Three servers on three hosts of their own (network namespaces) that follow one log of batches in etcd: two writers,
-# questions to each server, a server that is killed, a member that is killed in the middle of appends, a host that is cut
-# off with a writer on it, and a base that all go over to. It ends by itself within two minutes, and compares what came.
+# Three servers on three hosts of their own (network namespaces) that follow one log of batches in etcd, and what may
+# happen to them. It compares what came, and ends by itself within two minutes.
 #
-#     sudo GLB=/usr/local/bin/glb examples/fleet.sh      # after: apt-get install etcd-server etcd-client iproute2 dnsutils
+#     apt-get install etcd-server etcd-client iproute2 dnsutils
+#     sudo GLB=/usr/local/bin/glb examples/fleet.sh               the parts of the list `usual` below
+#     sudo GLB=/usr/local/bin/glb examples/fleet.sh behind base   some parts alone, those of `others` among them
 #
-# GLB names the program, as a whole path. Nothing is left behind but what it prints.
+# GLB names the program, as a whole path, and GLB_OTHER another build of it, for the part `build`; the part `memory` wants a
+# C compiler, `clock` the package faketime. Nothing is left behind but what it prints.
 set -uo pipefail
+usual="writers answers server follower member cut_off base sums"
+others="behind early build memory clock"
+for part in "$@"; do case " $usual $others " in *" $part "*) ;; *) echo "no such part: $part" && exit 1 ;; esac; done
+if ip netns list | grep -q glbfleet; then echo 'another run is there, or was cut off: ip netns del glbfleet0, ..1, ..2, ..3' && exit 1; fi
 here=$(cd "$(dirname "$0")/.." && pwd)
 glb=${GLB:-$here/crates/glb_program/out/glb_program}
 work=$(mktemp -d)
@@ -14,6 +20,7 @@ hosts="1 2 3"
 net=10.77.7
 passed=0
 failed=0
+appends=0
 
 # a command on a host; and in the place of the shell that runs it, so that its number is the command's own
 on() { local host=$1; shift; ip netns exec "glbfleet$host" "$@"; }
@@ -26,11 +33,11 @@ since() { echo $((($(now) - $1) / 1000000)); }
 clean() {
     touch "$work/over"
     for host in $hosts; do ip netns pids "glbfleet$host" 2>/dev/null | xargs -r kill -9 2>/dev/null; done
-    for host in 0 $hosts; do ip netns del "glbfleet$host" 2>/dev/null; done
     wait 2>/dev/null
+    for host in 0 $hosts; do ip netns del "glbfleet$host" 2>/dev/null; done
     rm -rf "$work"
 }
-trap clean EXIT
+trap 'clean 2>/dev/null' EXIT
 
 # The hosts, on one bridge.
 ip netns add glbfleet0
@@ -47,30 +54,40 @@ done
 
 # A member of etcd on each; each program of a host asks its own member first.
 members=m1=http://$net.1:2380,m2=http://$net.2:2380,m3=http://$net.3:2380
-member() {
+start_member() {
     be_on "$1" etcd --name "m$1" --data-dir "$work/etcd$1" --listen-peer-urls "http://$net.$1:2380" --initial-advertise-peer-urls "http://$net.$1:2380" \
         --listen-client-urls "http://$net.$1:2379" --advertise-client-urls "http://$net.$1:2379" --initial-cluster "$members" >>"$work/etcd$1.log" 2>&1 &
     echo $! >"$work/etcd$1.pid"
+    # its end by a signal is no news
+    disown $!
 }
-for host in $hosts; do member "$host"; done
 etcd_of() { local order; case $1 in 1) order="1 2 3" ;; 2) order="2 3 1" ;; 3) order="3 1 2" ;; esac; for host in $order; do printf 'http://%s.%s:2379,' "$net" "$host"; done | sed 's/,$//'; }
 tool() { local host=$1; shift; on "$host" env GLB_ETCD="$(etcd_of "$host")" "$here/tools/$@"; }
-be_tool() { local host=$1; shift; be_on "$host" env GLB_ETCD="$(etcd_of "$host")" "$here/tools/$@"; }
-for _ in $(seq 100); do tool 1 glb-fleet >/dev/null 2>&1; [ $? != 1 ] && break; tool 1 glb-fleet 2>/dev/null | grep -q 'log ends' && break; sleep 0.1; done
+# the host whose member leads the others
+leader() {
+    for host in $hosts; do
+        on "$host" env ETCDCTL_API=3 etcdctl --endpoints "http://$net.$host:2379" endpoint status -w fields >"$work/status"
+        [ "$(sed -n 's/^"MemberID" : //p' "$work/status")" = "$(sed -n 's/^"Leader" : //p' "$work/status")" ] && echo "$host" && return
+    done
+}
 
-# A server and its follower on each, begun again where they end, as systemd does (examples/glb-fleet@.service).
-cp "$here/examples/tree.toml" "$work/topology.toml"
+# A server and its follower on each, begun again where they end, as systemd does (examples/glb-fleet@.service). A file
+# `held` beside them keeps them from it. Each host has a topology of its own, which is the same.
+# What stands in the environment of the next server there, and of its next follower (in a file, as the loop below is another shell).
+preload_of() { echo "${@:2}" >"$work/preload$1"; }
+program_of() { if [ -e "$work/other$1" ]; then echo "$GLB_OTHER"; else echo "$glb"; fi; }
 serve() {
     local host=$1 place=$work/host$1
     while [ ! -e "$work/over" ]; do
+        if [ -e "$work/held$host" ]; then sleep 0.1 && continue; fi
         rm -rf "$place"
         mkdir "$place"
         mkfifo "$place/feed" "$place/said" "$place/maps"
-        be_on "$host" "$glb" serve "$work/topology.toml" --listen "$net.$host:53" --workers 2 0<>"$place/feed" 1<>"$place/said" 2<>"$place/maps" &
+        be_on "$host" env $(cat "$work/preload$host" 2>/dev/null) "$(program_of "$host")" serve "$work/topology$host.toml" --listen "$net.$host:53" --workers 2 0<>"$place/feed" 1<>"$place/said" 2<>"$place/maps" &
         echo $! >"$place/server"
         local server=$!
         while kill -0 "$server" 2>/dev/null && [ ! -e "$work/over" ]; do
-            be_tool "$host" glb-follow --name "host$host" --topology "$work/topology.toml" --feed "$place/feed" --said "$place/said" --maps "$place/maps" --state "$place/state" >>"$work/follow$host.log" 2>&1 &
+            be_on "$host" env GLB_ETCD="$(etcd_of "$host")" $(cat "$work/clock$host" 2>/dev/null) "$here/tools/glb-follow" --name "host$host" --topology "$work/topology$host.toml" --feed "$place/feed" --said "$place/said" --maps "$place/maps" --state "$place/state" >>"$work/follow$host.log" 2>&1 &
             echo $! >"$place/follower"
             wait -n "$server" $! 2>/dev/null
             sleep 0.2
@@ -78,83 +95,322 @@ serve() {
         done
     done
 }
-for host in $hosts; do serve "$host" & done
 
-# Waits until each server is at the last entry and none differs.
-agreed() { for _ in $(seq 300); do tool 1 glb-fleet >"$work/fleet" 2>/dev/null && [ "$(grep -c ': there' "$work/fleet")" = 3 ] && return 0; sleep 0.1; done; cat "$work/fleet"; return 1; }
-# The last number of the log.
+# One append by the host, whose number is said.
+append() { local host=$1; shift; appends=$((appends + 1)); printf 'demand g2 %s\n' "$((appends % 9 + 1))" | tool "$host" glb-append "$@"; }
+# Appends a batch, and waits until each server has published it, and none differs. Only an entry that came after a fault
+# shows that a server is back: what a follower said last stands for a while.
+agreed() {
+    append 1 >/dev/null
+    for _ in $(seq "${1:-300}"); do
+        tool 1 glb-fleet >"$work/fleet" 2>/dev/null && [ "$(grep -c ': there' "$work/fleet")" = 3 ] && return 0
+        sleep 0.1
+    done
+    cat "$work/fleet"
+    return 1
+}
+# The last number of the log, and one server's line.
 last() { tool 1 glb-fleet | sed -n 's/^the log ends at entry //p'; }
+line_of() { tool 1 glb-fleet | grep "^host$1: "; }
+until_line() { for _ in $(seq 200); do line_of "$1" >"$work/line"; grep -q "$2" "$work/line" && return 0; sleep 0.1; done; cat "$work/line"; return 1; }
+# One server's answer to its own host: an address of one of the two pools.
+answered() { on "$1" dig +short +tries=2 +time=1 "@$net.$1" www.cdn.example A | grep -qx '192.0.2.[12]'; }
+# How many octets wait in a server's feed.
+waits() { python3 -c 'import array, fcntl, os, sys, termios; n = array.array("i", [0]); fcntl.ioctl(os.open(sys.argv[1], os.O_RDWR), termios.FIONREAD, n); print(n[0])' "$work/host$1/feed"; }
+pid() { cat "$work/host$1/$2"; }
+writer() { for i in $(seq "$2" "$3"); do printf 'demand g1 %s\ncapacity A %s\n' "$i" "$((i + 1))" | tool "$1" glb-append --topology "$work/topology1.toml" >>"$work/written" || echo lost >>"$work/lost"; done; }
+# Writers on hosts 1, 2, 3, .. at once, so many appends each: each has its number, and no number is left out.
+write() {
+    local first writers=()
+    first=$(last)
+    rm -f "$work/written" "$work/lost"
+    for ((i = 0; i < $1; i++)); do
+        writer $((i % 3 + 1)) 1 "$2" &
+        writers+=($!)
+    done
+    "${@:3}"
+    wait "${writers[@]}"
+    ok 'no append is lost' [ ! -e "$work/lost" ]
+    ok 'each has a number of its own' [ "$(sort -n "$work/written" | uniq | wc -l)" = $(($1 * $2)) ]
+    ok 'and no number is left out' [ "$(last)" = $((first + $1 * $2)) ]
+}
 
-ok 'three servers begin' agreed
+# The topology of the newest base, put in its place on some hosts at once.
+put_base() { for host in "$@"; do cp "$work/base.toml" "$work/topology$host.new" && mv "$work/topology$host.new" "$work/topology$host.toml"; done; }
 
-# Two writers at once.
-begun=$(now)
-writer() { for i in $(seq "$2" "$3"); do printf 'demand g1 %s\ncapacity A %s\n' "$i" "$((i + 1))" | tool "$1" glb-append --topology "$work/topology.toml" >>"$work/written" || echo lost >>"$work/lost"; done; }
-writer 1 1 30 & one=$!
-writer 2 31 60 & two=$!
-wait $one $two
-took=$(since "$begun")
-ok 'sixty appends have sixty numbers' [ "$(sort -n "$work/written" | uniq | wc -l)" = 60 ]
-ok 'and no gap' [ "$(sort -n "$work/written" | tail -n 1)" = 60 ]
-ok 'all agree' agreed
-echo "60 appends by two writers: $took ms"
+# The parts.
 
-# From an append to the answer of all three.
-begun=$(now)
-printf 'demand g2 5\n' | tool 3 glb-append >/dev/null
-ok 'one more' agreed
-echo "from an append until each server says that it is published: $(since "$begun") ms"
+# Two writers at once, and from an append until each server says that it has published it.
+writers() {
+    local begun
+    begun=$(now)
+    write 2 30 true
+    echo "60 appends by two writers, each a process of its own: $(since "$begun") ms"
+    ok 'all agree' agreed
+    for _ in 1 2 3; do
+        begun=$(now)
+        ok 'one more' agreed
+        echo "from before an append until all three were seen to have published it: $(since "$begun") ms"
+    done
+    # the same without the starts of Python: by one process
+    on 1 python3 - "$here" "$(etcd_of 1)" <<'PYTHON'
+import json, sys, time, types, uuid
 
-# Questions.
-for host in $hosts; do
-    ok "host$host answers" bash -c "ip netns exec glbfleet1 dig +short +tries=1 +time=2 @$net.$host www.cdn.example A | grep -qx '192.0.2.[12]'"
-done
+sys.path.insert(0, sys.argv[1] + "/tools")
+from batches import Log
+
+log = Log(types.SimpleNamespace(etcd=sys.argv[2], prefix="glb", cert=None, user=None))
+
+
+def append(i):
+    return log.append(f"demand g1 {i % 9 + 1}\n", uuid.uuid4().hex)
+
+
+def wait_until_published(number):
+    while min(json.loads(text)["number"] for _, text in log.etcd.under("glb/at/")) < number:
+        time.sleep(0.001)
+
+
+begun = time.monotonic()
+number = [append(i) for i in range(100)][-1]
+print(f"100 appends by one process: {time.monotonic() - begun:.2f} s")
+wait_until_published(number)
+print(f"until all three had published them: {time.monotonic() - begun:.2f} s")
+appended, published = [], []
+for i in range(30):
+    begun = time.monotonic()
+    number = append(i)
+    appended.append(time.monotonic() - begun)
+    wait_until_published(number)
+    published.append(time.monotonic() - begun)
+    time.sleep(0.05)
+for name, times in (("its number", sorted(appended)), ("all three had published it", sorted(published))):
+    print(f"30 single appends, from the call until {name}: {times[0] * 1000:.1f} to {times[-1] * 1000:.1f} ms, half of them below {times[15] * 1000:.1f}")
+PYTHON
+    ok 'all agree on these' agreed
+}
+
+answers() { for host in $hosts; do ok "host$host answers" answered "$host"; done; }
 
 # A server is killed: it begins anew, and reads the log from its start.
-kill -9 "$(cat "$work/host2/server")"
-ok 'gone and back' bash -c "sleep 1; ! [ -e '$work/over' ]"
-ok 'all agree again' agreed
+server() {
+    local old
+    old=$(pid 2 server)
+    kill -9 "$old"
+    ok 'all agree again' agreed
+    ok 'the server is another one' [ "$(pid 2 server)" != "$old" ]
+    ok 'and answers' answered 2
+}
 
-# A follower is killed: its server answers on, and the next follower finds out how far it is.
-kill -9 "$(cat "$work/host3/follower")"
-printf 'demand g2 6\n' | tool 1 glb-append >/dev/null
-ok 'host3 answers without a follower' bash -c "ip netns exec glbfleet1 dig +short +tries=1 +time=2 @$net.3 www.cdn.example A | grep -qx '192.0.2.[12]'"
-ok 'all agree with the next follower' agreed
+# A follower is killed between its write and the server's answer: the batch is worked once.
+follower() {
+    local serial
+    agreed >/dev/null
+    serial=$(line_of 3 | sed 's/.*serial \([0-9]*\),.*/\1/')
+    kill -STOP "$(pid 3 server)"
+    append 1 >/dev/null
+    for _ in $(seq 100); do [ "$(waits 3)" -gt 0 ] && break; sleep 0.1; done
+    ok 'the batch waits in the feed' [ "$(waits 3)" -gt 0 ]
+    kill -9 "$(pid 3 follower)"
+    kill -CONT "$(pid 3 server)"
+    ok 'host3 answers without a follower' answered 3
+    ok 'all agree with the next follower' agreed
+    ok 'two batches, each worked once' [ "$(line_of 3 | sed 's/.*serial \([0-9]*\),.*/\1/')" = $((serial + 2)) ]
+}
 
-# A member of etcd is killed in the middle of appends.
-rm -f "$work/written" "$work/lost"
-writer 2 1 20 & one=$!
-sleep 0.5
-kill -9 "$(cat "$work/etcd1.pid")"
-wait $one
-ok 'no append is lost with one member of three' [ ! -e "$work/lost" ]
-ok 'none has two numbers' [ "$(sort -n "$work/written" | uniq | wc -l)" = 20 ]
-member 1
-ok 'all agree with the member back' agreed
+# The leading member of etcd is killed in the middle of a hundred appends by four writers.
+member_dies() { sleep 1; led=$(leader); kill -9 "$(cat "$work/etcd$led.pid")"; }
+member() {
+    local begun
+    begun=$(now)
+    write 4 25 member_dies
+    echo "100 appends by four writers, the leading member killed amid them: $(since "$begun") ms"
+    ok 'all agree with two members' agreed
+    start_member "$led"
+    ok 'all agree with the member back' agreed
+}
 
 # A host is cut off, with a writer on both sides.
-ip -n glbfleet0 link set port3 down
-before=$(last)
-printf 'demand g1 9\n' | tool 3 glb-append --seconds 2 >"$work/cut" 2>&1
-ok 'the side without a majority says so' [ $? = 2 ] || true
-ok 'the other side appends' bash -c "printf 'demand g1 8\n' | ip netns exec glbfleet1 env GLB_ETCD=$(etcd_of 1) $here/tools/glb-append >/dev/null"
-ok 'host3 is behind or gone' bash -c "sleep 1; ! ip netns exec glbfleet1 env GLB_ETCD=$(etcd_of 1) $here/tools/glb-fleet >/dev/null"
-ip -n glbfleet0 link set port3 up
-ok 'all agree when it is back' agreed
-ok 'one entry more, or two' [ $(($(last) - before)) -le 2 ]
+cut_off() {
+    local before
+    agreed >/dev/null
+    before=$(last)
+    ip -n glbfleet0 link set port3 down
+    append 3 --seconds 2 --id cut-off >"$work/cut" 2>&1
+    ok 'the side without a majority says so' [ $? = 2 ]
+    sed 's/^/host3: /' "$work/cut"
+    ok 'the other side appends' append 1 >/dev/null
+    ok 'host3 answers on its side' answered 3
+    ok 'host3 is behind or gone' until_line 3 'behind,\|gone'
+    sed 's/^/while it is cut off: /' "$work/line"
+    ok 'and gone when its lease has run out' until_line 3 'gone'
+    ip -n glbfleet0 link set port3 up
+    ok 'all agree when it is back' agreed
+    append 3 --id cut-off >"$work/cut"
+    append 3 --id cut-off >>"$work/cut"
+    ok 'asked again, it has one number' [ "$(uniq "$work/cut" | wc -l)" = 1 ]
+    ok 'and there is no other entry' [ "$(last)" = $((before + 3)) ]
+    ok 'all agree' agreed
+}
 
-# All go over to a base, and what stands before it is cut away.
-tool 1 glb-append --numbers "$work/topology.toml" >"$work/early.toml"
-printf 'demand g2 3\n' | tool 2 glb-append >/dev/null
-ok 'a base that misses an entry is refused' bash -c "! ip netns exec glbfleet1 env GLB_ETCD=$(etcd_of 1) $here/tools/glb-append --base '$work/early.toml' 2>/dev/null"
-tool 1 glb-append --numbers "$work/topology.toml" >"$work/base.toml"
-tool 1 glb-append --base "$work/base.toml" >"$work/number"
-mv "$work/base.toml" "$work/topology.toml"
-ok 'all agree behind the base' agreed
-tool 1 glb-append --cut
-printf 'demand g2 7\n' | tool 2 glb-append >/dev/null
-ok 'and go on from it' agreed
-ok 'with serials of their own' bash -c "[ \$(grep -c 'serial 1,' '$work/fleet') = 3 ]"
-cat "$work/fleet"
+# All go over to a base, one host later than the others, and what stands before it is cut away.
+base() {
+    tool 1 glb-append --numbers "$work/topology1.toml" >"$work/early.toml"
+    append 2 >/dev/null
+    ok 'a base that misses an entry is refused' bash -c "! ip netns exec glbfleet1 env GLB_ETCD=$(etcd_of 1) $here/tools/glb-append --base '$work/early.toml' 2>/dev/null"
+    tool 1 glb-append --numbers "$work/topology1.toml" >"$work/base.toml"
+    tool 1 glb-append --base "$work/base.toml" >/dev/null
+    put_base 1 2
+    append 2 >/dev/null
+    ok 'host3 waits for its file' until_line 3 'waits'
+    sed 's/^/without its file: /' "$work/line"
+    ok 'and answers meanwhile' answered 3
+    put_base 3
+    ok 'all agree behind the base' agreed
+    tool 1 glb-append --cut
+    ok 'and go on from it' agreed
+    ok 'with serials of their own' [ "$(grep -c 'serial 3,' "$work/fleet")" = 3 ]
+}
+
+# Ten thousand batches at once, which are written a hundred at a time: each server is as far behind.
+behind() {
+    local begun first
+    agreed >/dev/null
+    first=$(last)
+    on 1 python3 - "$here" "$(etcd_of 1)" "$first" <<'PYTHON'
+import sys, types
+
+sys.path.insert(0, sys.argv[1] + "/tools")
+from batches import Log, encoded
+
+log = Log(types.SimpleNamespace(etcd=sys.argv[2], prefix="glb", cert=None, user=None))
+first = int(sys.argv[3]) + 1
+for page in range(first, first + 10000, 100):
+    batches = {log.key(number): f"demand g1 {number % 9 + 1}\ncapacity A {number % 11}\n" for number in range(page, page + 100)}
+    puts = [{"request_put": {"key": encoded(key), "value": encoded(text)}} for key, text in batches.items()]
+    assert log.etcd.call("/v3/kv/txn", {"success": puts})["succeeded"]
+PYTHON
+    begun=$(now)
+    sleep 1
+    tool 1 glb-fleet
+    ok 'host1 answers meanwhile' answered 1
+    ok 'all agree' agreed 1200
+    echo "ten thousand batches: $(since "$begun") ms"
+    # a server that reads all of them again
+    begun=$(now)
+    kill -9 "$(pid 2 server)"
+    ok 'all agree with one that began anew' agreed 1200
+    echo "and again, by a server that began anew: $(since "$begun") ms"
+}
+
+# A server that begins from before a cut: its follower does not go on until it has the base.
+early() {
+    touch "$work/held3"
+    kill -9 "$(pid 3 server)"
+    append 1 >/dev/null
+    tool 1 glb-append --numbers "$work/topology1.toml" >"$work/base.toml"
+    tool 1 glb-append --base "$work/base.toml" >/dev/null
+    put_base 1 2
+    append 1 >/dev/null
+    for host in 1 2; do ok "host$host goes on" until_line "$host" ': there'; done
+    tool 1 glb-append --cut
+    : >"$work/follow3.log"
+    rm "$work/held3"
+    ok 'its follower says what is wrong' bash -c "for _ in \$(seq 100); do grep -q 'is not the newest base' $work/follow3.log && exit 0; sleep 0.1; done; exit 1"
+    grep -m 1 'is not the newest base' "$work/follow3.log"
+    line_of 3
+    put_base 3
+    kill -9 "$(pid 3 server)"
+    ok 'all agree with the base in its place' agreed
+}
+
+# A server of another build: where its maps' texts are others, that is seen, and each server goes on.
+build() {
+    if [ -z "${GLB_OTHER:-}" ]; then echo 'build: GLB_OTHER is not set' && return; fi
+    agreed >/dev/null
+    touch "$work/other3"
+    kill -9 "$(pid 3 server)"
+    append 1 >/dev/null
+    ok 'it comes to the last entry' until_line 3 ': there'
+    tool 1 glb-fleet >"$work/fleet"
+    echo "another build on host3: status $?"
+    cat "$work/fleet"
+    ok 'it answers' answered 3
+    rm "$work/other3"
+    kill -9 "$(pid 3 server)"
+    ok 'all agree when it is gone' agreed
+}
+
+# One server has no memory for a batch: bench/fail_alloc.c refuses what its commit asks for.
+memory() {
+    local old
+    "${CC:-cc}" -O2 -shared -fPIC -o "$work/fail_alloc.so" "$here/bench/fail_alloc.c" || { echo 'memory: there is no C compiler' && return; }
+    preload_of 3 "LD_PRELOAD=$work/fail_alloc.so" "FAIL_COUNT=1000000" "FAIL_TOLD=$work/asked" "FAIL_FROM=$work/from"
+    kill -9 "$(pid 3 server)"
+    ok 'all agree, one with a shim' agreed
+    old=$(pid 3 server)
+    : >"$work/follow3.log"
+    python3 -c 'import struct, sys; number = struct.unpack("Q", open(sys.argv[1], "rb").read())[0] + 1; open(sys.argv[2], "r+b").write(struct.pack("Q", number))' "$work/asked" "$work/from"
+    ok 'all agree when it is back' agreed
+    ok 'its follower said why' grep -q 'was dropped for want of memory' "$work/follow3.log"
+    cat "$work/follow3.log"
+    ok 'the server is another one' [ "$(pid 3 server)" != "$old" ]
+    preload_of 3
+    kill -9 "$(pid 3 server)"
+    ok 'all agree, and none with a shim' agreed
+}
+
+# The clock of one host jumps by an hour, there and back: that of its follower and of who looks. (A member of etcd makes
+# no call that could be turned aside, and the machine's own clock is everybody's.)
+clock() {
+    local lib
+    lib=$(find /usr/lib -name libfaketimeMT.so.1 | head -n 1)
+    if [ -z "$lib" ]; then echo 'clock: faketime is not installed' && return; fi
+    echo '+0' >"$work/time"
+    echo "LD_PRELOAD=$lib FAKETIME_TIMESTAMP_FILE=$work/time FAKETIME_NO_CACHE=1 FAKETIME_DONT_FAKE_MONOTONIC=1" >"$work/clock3"
+    kill -9 "$(pid 3 follower)"
+    ok 'all agree by another clock' agreed
+    for jump in +3600 -3600 +0; do
+        echo "$jump" >"$work/time.new" && mv "$work/time.new" "$work/time"
+        ok "all agree with the clock at $jump" agreed
+        line_of 3
+        sleep 17
+        ok 'and the server is still there' until_line 3 ': there'
+    done
+    rm "$work/clock3"
+    kill -9 "$(pid 3 follower)"
+    ok 'all agree by the old clock' agreed
+}
+
+# What the servers said of each entry, as glb-fleet showed it all the time: the checksums at each number.
+sums() {
+    touch "$work/enough"
+    python3 - "$work/seen" <<'PYTHON' >"$work/sums"
+import json, sys
+by_number = {}
+for line in open(sys.argv[1]):
+    for server in json.loads(line)["servers"]:
+        for number, checksum in server.get("checksums", {}).items():
+            by_number.setdefault(int(number), {}).setdefault(server["name"], set()).add(checksum)
+of_three = [n for n, servers in by_number.items() if len(servers) == 3]
+differ = [n for n, servers in by_number.items() if len(set().union(*servers.values())) > 1]
+print(len(of_three), len(differ))
+PYTHON
+    read -r of_three differ <"$work/sums"
+    echo "at $of_three entries checksums of all three were seen; they differ at $differ"
+    ok 'checksums of all three were seen at a hundred entries' [ "$of_three" -ge 100 ]
+    ok 'and are equal at each' [ "$differ" = 0 ]
+}
+
+for host in $hosts; do start_member "$host"; done
+for _ in $(seq 100); do tool 1 glb-fleet 2>/dev/null | grep -q 'log ends' && break; sleep 0.1; done
+for host in $hosts; do cp "$here/examples/tree.toml" "$work/topology$host.toml"; done
+for host in $hosts; do serve "$host" 2>/dev/null & done
+while [ ! -e "$work/over" ] && [ ! -e "$work/enough" ]; do tool 1 glb-fleet --json 2>/dev/null | python3 -c 'import json, sys; print(json.dumps(json.load(sys.stdin)))' >>"$work/seen" 2>/dev/null; sleep 0.5; done &
+ok 'three servers begin' agreed
+for part in ${@:-$usual}; do
+    "$part"
+done
+tool 1 glb-fleet
 echo "$passed passed, $failed failed"
 [ "$failed" = 0 ]

@@ -23,8 +23,8 @@ from texts import Fault
 KEPT, ALIVE = 3600, 15
 # the largest batch, in octets: etcd takes 1.5 MiB in one request
 LARGEST_BATCH = 1 << 20
-# how many keys are read at once
-PAGE = 500
+# how many entries are read at once
+PAGE = 100
 BASE = "base "
 
 
@@ -130,10 +130,14 @@ class Etcd:
         """Waits until a key is put, or for so long; the caller looks itself."""
 
         def heard(answer):
-            # the first line says that the watch is made: what was put before it is looked up
-            answer.readline()
-            if self.get(key) is None:
+            try:
+                # the first line says that the watch is made: what was put before it is looked up
                 answer.readline()
+                if self.get(key) is None:
+                    answer.readline()
+            except TimeoutError:
+                # nothing came, which is no fault of this member
+                pass
 
         try:
             self.reach("/v3/watch", {"create_request": {"key": encoded(key)}}, seconds, heard)
@@ -159,10 +163,6 @@ class Log:
     def key(self, number):
         return f"{self.prefix}/log/{number:016d}"
 
-    def entry(self, number):
-        text = self.etcd.get(self.key(number))
-        return None if text is None else Entry(number, text)
-
     def ends(self):
         """The numbers of the first entry and of the last one, 0 where there is none."""
         key = f"{self.prefix}/log/"
@@ -172,18 +172,22 @@ class Log:
             numbers.append(int(found[0][0].rsplit("/", 1)[1]) if found else 0)
         return tuple(numbers)
 
+    def page(self, number):
+        """Entries from a number on, as far as they are there one behind the other, and at most so many."""
+        message = {"key": encoded(self.key(number)), "range_end": encoded(after(f"{self.prefix}/log/")), "limit": PAGE, "sort_order": "ASCEND", "sort_target": "KEY"}
+        found = self.etcd.call("/v3/kv/range", message, 30).get("kvs", [])
+        page = []
+        for entry in found:
+            if base64.b64decode(entry["key"]).decode() != self.key(number + len(page)):
+                break
+            page.append(Entry(number + len(page), base64.b64decode(entry["value"]).decode()))
+        return page
+
     def entries(self, number):
         """The entries from a number on, as far as they are there one behind the other."""
-        while True:
-            message = {"key": encoded(self.key(number)), "range_end": encoded(after(f"{self.prefix}/log/")), "limit": PAGE, "sort_order": "ASCEND", "sort_target": "KEY"}
-            found = self.etcd.call("/v3/kv/range", message, 30).get("kvs", [])
-            for entry in found:
-                if base64.b64decode(entry["key"]).decode() != self.key(number):
-                    return
-                yield Entry(number, base64.b64decode(entry["value"]).decode())
-                number += 1
-            if len(found) < PAGE:
-                return
+        while page := self.page(number):
+            yield from page
+            number += len(page)
 
     def newest_base(self):
         """The last base of the log, none where there is no base."""

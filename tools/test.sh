@@ -1,6 +1,7 @@
 #!/usr/bin/env bash
 # Runs the tools over small files, and compares what they write. With GLB, the built program as a whole path, it also
-# compares them with the program: the map that a server has after a log is good for the numbers that numbers.py writes.
+# compares them with the program: the map that a server has after a log is good for the numbers that numbers.py writes; and
+# it looks into the package that deb.sh makes.
 set -uo pipefail
 cd "$(dirname "$0")/.."
 work=$(mktemp -d)
@@ -136,6 +137,10 @@ expect 0 'glb_refused_batches_total{why="lines"} 0
 glb_refused_batches_total{why="memory"} 0
 glb_refused_lines_total 0' grep -v '^#' "$work/none.prom"
 
+# picture.py
+expect 0 "$(cat docs/example.svg)" tools/picture.py examples/tree.toml examples/tree.map
+expect 1 '' tools/picture.py examples/tree.toml examples/flat.map
+
 # beside the program
 if [ -n "${GLB:-}" ]; then
     printf 'demand g2 4\ncommit\ndemand g1 x\ncommit\ncapacity A 9\ncapacity B 3\ncommit\ndemand g1 1\n' >"$work/log"
@@ -147,6 +152,20 @@ if [ -n "${GLB:-}" ]; then
     "$GLB" map "$work/small.toml" >"$work/made.map"
     expect 0 "$(cat "$work/small.map" | head -1)" head -1 "$work/made.map"
     expect 0 good "$GLB" check "$work/small.toml" "$work/made.map"
+fi
+# the alerts, where Prometheus' tool is, and a package, where Debian's is
+if command -v promtool >/dev/null; then
+    "$(command -v promtool)" check rules examples/glb-alerts.yml >"$work/rules" 2>&1
+    expect 0 3 bash -c "grep -oE '[0-9]+ rules found' $work/rules | cut -d' ' -f1"
+    expect 0 SUCCESS bash -c 'promtool test rules examples/glb-alerts-test.yml 2>&1 | grep -oE "SUCCESS|FAILED"'
+fi
+if [ -n "${GLB:-}" ] && command -v dpkg-deb >/dev/null && command -v strip >/dev/null; then
+    DEBEMAIL=ops@cdn.example tools/deb.sh 1.0 "$work" >/dev/null
+    expect 0 'glb 1.0 Whoever built it <ops@cdn.example>' bash -c "dpkg-deb -W --showformat='\${Package} \${Version} \${Maintainer}' $work/glb_1.0_amd64.deb"
+    expect 0 "$(find examples -name '*.service' -o -name '*.timer' | wc -l)" bash -c "dpkg-deb -c $work/glb_1.0_amd64.deb | grep -cE 'usr/lib/systemd/system/.*[.](service|timer)'"
+    dpkg-deb -x "$work/glb_1.0_amd64.deb" "$work/package"
+    expect 0 "$(cat examples/tree.map)" "$work/package/usr/bin/glb" map examples/tree.toml
+    expect 1 '' grep -rl /usr/local "$work/package/usr/lib/systemd"
 fi
 echo "$passed passed, $failed failed"
 [ "$failed" = 0 ]

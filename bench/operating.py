@@ -1,0 +1,164 @@
+#!/usr/bin/env python3
+"""Runs each block of commands of docs/OPERATING.md, in their order and in one shell, and looks at what came of it.
+
+It changes the machine that it runs on: operating.sh runs it in a container. A block that has no entry below is an error, and
+so is a command that fails in one, and a command in the text that is not there any more. The last line counts, and the status
+is 0 where all is as it should be.
+"""
+
+import re
+import subprocess
+import sys
+import tempfile
+from pathlib import Path
+
+TOP = Path(__file__).resolve().parent.parent
+DOCUMENT = (TOP / "docs/OPERATING.md").read_text()
+ANSWER = "dig +short +tries=1 +time=1 @{} www.cdn.example A"
+ADDRESS = r"192\.0\.2\.[12]"
+FOUR = "systemctl is-active glb@v4 glb@v6 glb-feed@v4 glb-feed@v6"
+
+
+class Block:
+    """What is done ahead of a block, and what is looked at behind it: commands, and what each has to write. With `seconds` it
+    does not end by itself."""
+
+    def __init__(self, *checks, before="", seconds=None, last=False):
+        self.checks, self.before, self.seconds, self.last = checks, before, seconds, last
+
+
+# by how a block begins
+BLOCKS = {
+    "install -m 755 crates": Block(("glb map examples/tree.toml | head -n 1", "glb map 2")),
+    "install -D -m 755 -t /usr/local/lib/glb": Block(("/usr/local/lib/glb/moves.py examples/tree.map examples/tree.map", "0 groups, .*")),
+    "DEBFULLNAME": Block(
+        ("dpkg -s glb", "(?s).*Status: install ok installed.*"),
+        ("cp examples/tree.toml /etc/glb/topology.toml; systemctl start glb@v4; sleep 2; " + ANSWER.format("127.0.0.1"), ADDRESS),
+        ("apt-get remove -y glb >/dev/null; ls /etc/glb; systemctl is-active glb@v4", "(?s)topology.toml\nv4.conf\ninactive"),
+        ("apt-get purge -y glb >/dev/null 2>&1; ls -d /etc/glb /var/lib/glb /usr/lib/glb 2>/dev/null; id glb 2>&1", "id: .glb.: no such user"),
+        before="systemctl disable --now glb-fleet@v4 glb@v6; rm -rf /etc/glb /var/lib/glb /etc/systemd/system/*glb* /etc/systemd/system/*/*glb*; systemctl daemon-reload; userdel glb",
+        last=True,
+    ),
+    "mkdir -p /run/glb": Block(("ls /run/glb 2>&1", ".*No such file.*")),
+    "useradd --system": Block(("sleep 1; systemctl is-active glb; " + ANSWER.format("192.0.2.53"), f"active\n{ADDRESS}"), before="cp examples/tree.toml topology.toml"),
+    "echo show >/run/glb/feed": Block(("journalctl -u glb -n 1 -o cat", "show 0 placed 15 unplaced 1 full 2")),
+    "mkdir -p /var/lib/glb": Block(
+        ("sleep 2; systemctl is-active glb glb-feed", "active\nactive"),
+        ("printf 'demand g1 9\\ncommit\\nstop\\ndemand g2 6\\ncommit\\n' >>/var/lib/glb/changes.log; sleep 2; journalctl -u glb -n 2 -o cat; systemctl is-active glb", "published 1\npublished 2\nactive"),
+        ("kill -9 $(systemctl show --value -p MainPID glb); sleep 4; systemctl is-active glb glb-feed; journalctl -u glb -n 2 -o cat", "active\nactive\npublished 1\npublished 2"),
+    ),
+    "systemctl disable --now glb": Block(("sleep 2; " + FOUR, "active\n" * 3 + "active"), (ANSWER.format("192.0.2.53"), ADDRESS), (ANSWER.format("2001:db8::53"), ADDRESS)),
+    "flock": Block(("sleep 1; journalctl -u glb@v4 -n 1 -o cat; journalctl -u glb@v6 -n 1 -o cat", "published 3\npublished 3")),
+    "nft add table": Block(("nft list ruleset | grep -c 'limit rate over 200/second burst 400 packets'; nft delete table inet glb", "2")),
+    "grep -avE": Block(("head -n 1 now.map; cat said", "glb map 2\npublished 1\npublished 2\npublished 3")),
+    "tools/numbers.py": Block(("glb check now.toml now.map", "good"), ("grep -c 'capacity = 9$' now.toml", "1")),
+    "{ cat log": Block(("glb check <(sed 's/capacity = 9$/capacity = 0/' now.toml) then.map", "good"), ("tools/moves.py now.map then.map | tail -n 1", r"\d+ groups, \d+ units moved, .*")),
+    "install -m 644 examples/glb-metrics.service": Block(
+        ("grep -c '^glb_placed_units 15' /var/lib/prometheus/node-exporter/glb.prom", "1"),
+        ("systemctl disable --now glb glb-metrics glb-show.timer 2>/dev/null; rm /var/lib/prometheus/node-exporter/glb.prom; systemctl enable --now glb@v4 2>/dev/null; sleep 2; " + FOUR, "active\n" * 3 + "active"),
+        before="systemctl disable --now glb@v4; systemctl enable --now glb; systemctl start prometheus-node-exporter",
+    ),
+    "install -m 644 examples/glb-metrics@.service": Block(
+        ("grep -c '^glb_placed_units{server=\"v6\"} 15' /var/lib/prometheus/node-exporter/glb-v6.prom", "1"),
+        ("python3 -c 'import urllib.request; print(urllib.request.urlopen(\"http://127.0.0.1:9100/metrics\").read().decode().count(\"\\nglb_shown_timestamp_seconds{\"))'", "2"),
+    ),
+    "tail -n +1 -f": Block(("journalctl -u glb -n 3 -o cat; systemctl disable --now glb 2>/dev/null; systemctl start glb@v4; sleep 1; systemctl is-active glb@v4", "published 1\npublished 2\npublished 3\nactive"), before="systemctl stop glb@v4; systemctl disable glb-feed; sed -i '/^stop$/d' /var/lib/glb/changes.log; systemctl start glb; sleep 1", seconds=3),
+    "apt-get install etcd": Block(
+        ("tr '\\0' ' ' </proc/$(systemctl show --value -p MainPID glb-follow@v4)/cmdline", ".*glb-follow --name .*"),
+        ("sleep 2; glb-fleet", r"(?s)the log ends at entry 1\n\S*-v4: there, entry 1 .*"),
+        (ANSWER.format("192.0.2.53"), ADDRESS),
+        ("kill -9 $(systemctl show --value -p MainPID glb-fleet@v4); printf 'demand g1 7\\n' | glb-append; sleep 6; glb-fleet", r"(?s)2\nthe log ends at entry 2\n\S*-v4: there, entry 2 .*"),
+        ("kill -9 $(systemctl show --value -p MainPID glb-follow@v4); printf 'demand g1 8\\n' | glb-append; sleep 6; glb-fleet", r"(?s)3\nthe log ends at entry 3\n\S*-v4: there, entry 3 .*"),
+        before="printf 'ETCD_LISTEN_CLIENT_URLS=http://192.0.2.1:2379\\nETCD_ADVERTISE_CLIENT_URLS=http://192.0.2.1:2379\\n' >/etc/default/etcd; systemctl start etcd",
+    ),
+    "glb-append --numbers": Block(("sleep 5; printf 'demand g1 5\\n' | glb-append; sleep 2; glb-fleet", r"(?s)5\nthe log ends at entry 5\n\S*-v4: there, entry 5 \(behind 0\), serial 1, .*")),
+}
+# blocks that documents.py runs, or that show a form
+OTHERS = ("$ ", "glb serve TOPOLOGY")
+# commands of the text and its tables, behind which block they are run, and what they have to write
+INLINE = [
+    ("useradd --system", "systemctl start glb && sleep 2 && systemctl is-active glb && dig +tries=1 +time=1 @192.0.2.53 www.cdn.example A", "(?s)active.*status: NOERROR.*"),
+    ("useradd --system", "nstat -az UdpRcvbufErrors Udp6RcvbufErrors", "(?s).*UdpRcvbufErrors .*"),
+    ("useradd --system", "ss -lunm 'sport = :53'", r"(?s).*skmem:\(r0,rb\d+,t0,tb\d+,.*"),
+    ("useradd --system", "systemctl show --value -p NRestarts glb", "0"),
+    ("useradd --system", "nstat -az UdpInDatagrams UdpOutDatagrams", "(?s).*UdpInDatagrams .*"),
+    ("useradd --system", "ss -lunp 'sport = :53'", '(?s).*"glb".*'),
+    ("mkdir -p /var/lib/glb", "systemctl is-active glb glb-feed", "active\nactive"),
+]
+
+
+class Shell:
+    """One shell for all, that says which of its commands fail."""
+
+    def __init__(self):
+        self.process = subprocess.Popen(["bash"], stdin=subprocess.PIPE, stdout=subprocess.PIPE, stderr=subprocess.STDOUT, cwd=TOP)
+        self.folder = tempfile.mkdtemp()
+        self.count = 0
+
+    def run(self, text, seconds=None):
+        self.count += 1
+        file = Path(self.folder) / str(self.count)
+        file.write_text(text + "\n")
+        if seconds:
+            line = f"timeout {seconds} bash {file} </dev/null\n"
+        else:
+            line = f"trap 'echo failed: $BASH_COMMAND' ERR; . {file} </dev/null; trap - ERR\n"
+        self.process.stdin.write(f"{line}echo; echo end-of-{self.count}\n".encode())
+        self.process.stdin.flush()
+        said = b""
+        while not said.endswith(f"\nend-of-{self.count}\n".encode()):
+            octets = self.process.stdout.readline()
+            if not octets:
+                sys.exit(f"the shell ended: {said.decode()}")
+            said += octets
+        return said.decode().rsplit("\n", 2)[0].strip("\n")
+
+
+def blocks():
+    found = []
+    for piece in re.findall(r"(?:^    .+\n)+", DOCUMENT, re.M):
+        found.append("\n".join(line[4:] for line in piece.splitlines()))
+    return [text for text in found if not text.startswith(OTHERS)]
+
+
+class Tally:
+    passed = failed = 0
+
+    def take(self, is_so, text):
+        if is_so:
+            self.passed += 1
+        else:
+            self.failed += 1
+            print(f"not so: {text}", flush=True)
+
+
+def main():
+    shell, tally, waiting = Shell(), Tally(), []
+    def run(text, entry):
+        if entry.before:
+            shell.run(entry.before)
+        said = shell.run(text, entry.seconds)
+        print(f"$ {text}\n{said}", flush=True)
+        tally.take("failed: " not in said, f"a command of the block fails: {text}")
+        checks = [(command, wanted) for start, command, wanted in INLINE if text.startswith(start)]
+        for command, _ in checks:
+            tally.take(command in DOCUMENT, f"the document does not say {command}")
+        for command, wanted in [*entry.checks, *checks]:
+            said = "\n".join(line for line in shell.run(command).splitlines() if not line.startswith("failed: "))
+            tally.take(re.fullmatch(wanted, said), f"{command}\n    writes {said!r}\n    wanted {wanted!r}")
+
+    for text in blocks():
+        entry = next((BLOCKS[start] for start in BLOCKS if text.startswith(start)), None)
+        if entry is None:
+            tally.take(False, f"a block that is not known here: {text}")
+        elif entry.last:
+            waiting.append((text, entry))
+        else:
+            run(text, entry)
+    for text, entry in waiting:
+        run(text, entry)
+    print(f"{tally.passed} passed, {tally.failed} failed")
+    sys.exit(1 if tally.failed else 0)
+
+
+main()
