@@ -329,8 +329,10 @@ fn ask_all(clients: &mut [TcpStream], pace: &mut impl Pace) -> u32 {
 #[test]
 fn replies_in_a_thread(rt: HostRuntime) {
     let (shared, flag) = (SharedTcp::new(), StopFlag::new());
-    let mut streams =
-        opened(rt.alloc(), &rt, &shared, LOCAL, 32, 32).expect(&rt, "streams that are open");
+    let mut streams = opened(rt.alloc(), &rt, &shared, LOCAL, 32, 32).expect(
+        &rt,
+        "streams that are open",
+    );
     let mut gate = FlagGate::new(&flag);
     let mut pace = FlagPace::new(&flag);
     let mut clients = clients_of(rt.alloc(), &rt, &shared, 20).expect(&rt, "clients");
