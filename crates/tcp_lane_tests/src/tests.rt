@@ -1,11 +1,13 @@
 //! Stream lanes over the example, with streams, gates and notes in memory. Each reply is stated by its octets.
 ghost use Rattle.std.specs.Prelude.{◌≡◌};
+ghost use Rattle.published_map.specs.Version.{IsVersion};
 
 use addr_text::{Addr, Peer};
 use lane_model::Ended;
 use map_cell::{EmptyHistory, MemDoor, Naming, Note, PlainDoor, Viewer, open};
 use name_workers::Worker;
 use outside::{MemGate, MemNotes, MemStreams, MemTalk};
+use published_map::MapVersion;
 use std::alloc::Global;
 use std::collections::LinkedList;
 use std::marker::Brand;
@@ -13,6 +15,8 @@ use std::sync::Wait;
 use std::test::Fail;
 use tcp_lane::serve_streams;
 use world_versions::first_version;
+
+mod long;
 
 /// A client of the second group, of whose seven units two are at pool A (192.0.2.1) and five at pool B (192.0.2.2).
 const CLIENT: Peer = Peer {
@@ -178,30 +182,27 @@ fn serve_last<J: Naming>(
     }
 }
 
-/// The same over a cell of the example that is opened and closed.
+/// The same over a cell of that version that is opened and closed.
 fn opened<J: Naming, R: Wait>(
     rt: &R,
     alloc: Global,
     history: EmptyHistory,
+    version: MapVersion,
     number: u8,
     streams: &mut MemStreams,
     door: MemDoor,
     turns: usize,
 ) -> Option<Ended>
-    requires { history ≡ J.book }
+    requires history { history ≡ J.book }
+    requires version { IsVersion version × (version.serial ≡ 0) }
 {
-    match first_version(alloc) {
-        None => None,
-        Some(version) => {
-            let mut first = PlainDoor::new();
-            match open::<J, PlainDoor, R>(rt, alloc, history, version, 1, &mut first) {
-                Err(_) => None,
-                Ok((publisher, viewers)) => {
-                    let ended = serve_last(alloc, viewers, number, streams, door, turns);
-                    publisher.close(rt);
-                    ended
-                }
-            }
+    let mut first = PlainDoor::new();
+    match open::<J, PlainDoor, R>(rt, alloc, history, version, 1, &mut first) {
+        Err(_) => None,
+        Ok((publisher, viewers)) => {
+            let ended = serve_last(alloc, viewers, number, streams, door, turns);
+            publisher.close(rt);
+            ended
         }
     }
 }
@@ -210,12 +211,24 @@ fn opened<J: Naming, R: Wait>(
 fn ends<R: Wait>(
     rt: &R,
     alloc: Global,
+    version: MapVersion,
     number: u8,
     streams: &mut MemStreams,
     door: MemDoor,
     turns: usize,
-) -> Option<Ended> {
-    opened::<Brand, R>(rt, alloc, EmptyHistory::new(), number, streams, door, turns)
+) -> Option<Ended>
+    requires { IsVersion version × (version.serial ≡ 0) }
+{
+    opened::<Brand, R>(
+        rt,
+        alloc,
+        EmptyHistory::new(),
+        version,
+        number,
+        streams,
+        door,
+        turns,
+    )
 }
 
 /// Whether octets are these parts, one behind another.
@@ -248,7 +261,8 @@ fn comes<R: Wait>(rt: &R, alloc: Global, row: &Row) -> Option<bool> {
     let (number, turns, conversations, failing, ended, written) = row;
     let mut streams = streams_of(alloc, conversations, failing)?;
     let door = MemDoor::new(Vec::new(alloc), numbers_of(alloc, failing.2)?);
-    let came = ends(rt, alloc, *number, &mut streams, door, *turns)?;
+    let version = first_version(alloc)?;
+    let came = ends(rt, alloc, version, *number, &mut streams, door, *turns)?;
     Some(came == *ended && are_written(streams.closed(), written))
 }
 
