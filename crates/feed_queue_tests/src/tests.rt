@@ -1,7 +1,7 @@
 //! What feeders send of their feeds, and two that send at once.
 ghost use Rattle.std.specs.Prelude.{◌≡◌, [], ◌∷◌, length, IfSome};
 ghost use Rattle.std.specs.Thread.{IsSync, IsSend};
-ghost use Rattle.feed_queue.specs.Ends.{fresh_feeder};
+
 
 use addr_text::Addr;
 use demand_feed::{BatchFault, FeedEnd, Item, LineFault, Refusal, What};

@@ -1,10 +1,8 @@
 //! Two feeds over a mapper: their merged control text, and how they end.
 ghost use Rattle.std.specs.Prelude.{◌≡◌, ◌<◌, ◌^◌, [], ◌∷◌, length, IfSome};
-ghost use Rattle.std.specs.Arc.{arc_value};
-ghost use Rattle.feed_queue.specs.Ends.{FeederState, fresh_feeder};
 
 use super::{SESSION, count_notes, opened, row_of, sink_of, source_of};
-use demand_feed::{Batch, FeedEnd, Item, What};
+use demand_feed::FeedEnd;
 use feed_queue::{Feeder, Numbers, Taker, open};
 use map_cell::{EmptyHistory, Naming};
 use mapper::Mapper;
@@ -324,12 +322,7 @@ fn feeds_of<J: Naming, R: Wait>(rt: &R, alloc: Global, mapper: &mut Mapper<J>, r
 }
 
 /// The same, of a mapper of the example.
-fn runs_on<J: Naming, R: Wait>(
-    rt: &R,
-    alloc: Global,
-    history: EmptyHistory,
-    row: &Row,
-) -> bool
+fn runs_on<J: Naming, R: Wait>(rt: &R, alloc: Global, history: EmptyHistory, row: &Row) -> bool
     requires { history ≡ J.book }
 {
     match opened::<J, R>(rt, alloc, history) {
