@@ -1,7 +1,7 @@
 //! What feeders send of their feeds, and two that send at once.
-ghost use Rattle.std.specs.Prelude.{◌≡◌, ◌×◌, [], ◌∷◌, length, IfSome};
+ghost use Rattle.std.specs.Prelude.{◌≡◌, [], ◌∷◌, length, IfSome};
 ghost use Rattle.std.specs.Thread.{IsSync, IsSend};
-ghost use Rattle.feed_queue.specs.Ends.{fresh_feeder};
+
 
 use addr_text::Addr;
 use demand_feed::{BatchFault, FeedEnd, Item, LineFault, Refusal, What};
@@ -145,17 +145,31 @@ const ROWS: &[Row] = &[
     },
 ];
 
+/// Whether the next item of the queue is this one.
+fn is_taken<N: Numbers, R: Wait>(
+    rt: &R,
+    taker: &mut Taker<N>,
+    feeder: u8,
+    number: u64,
+    want: Seen,
+) -> bool
+    ensures { taker.new.queue ≡ taker.old.queue }
+{
+    match taker.next(rt) {
+        Some(item) => {
+            item.feeder == feeder && item.number == number && seen_of(&item.what) == want
+        }
+        None => false,
+    }
+}
+
 /// Whether the next items of the queue are these, of that feeder and numbered from 0, and there is none behind them.
-fn takes<N: Numbers, R: Wait>(rt: &R, taker: &mut Taker<N>, feeder: u8, want: &[Seen]) -> bool {
+fn are_taken<N: Numbers, R: Wait>(rt: &R, taker: &mut Taker<N>, feeder: u8, want: &[Seen]) -> bool
+    ensures { taker.new.queue ≡ taker.old.queue }
+{
     let mut number = 0u64;
     for seen in want {
-        let is = match taker.next(rt) {
-            Some(item) => {
-                item.feeder == feeder && item.number == number && seen_of(&item.what) == *seen
-            }
-            None => false,
-        };
-        if !is {
+        if !is_taken(rt, taker, feeder, number, *seen) {
             return false;
         }
         number = number.saturating_add(1);
@@ -189,7 +203,7 @@ fn sends<N: Numbers, R: Wait>(rt: &R, alloc: Global, topology: &Topology, row: &
     let (mut feeder, mut taker, mut source) = (feeder, taker, source);
     let turns = row.turns.min(1_000_000);
     feeder.run(rt, topology, &mut source, turns);
-    let is = takes(rt, &mut taker, 0, row.sent);
+    let is = are_taken(rt, &mut taker, 0, row.sent);
     taker.take_back(feeder);
     is
 }
@@ -220,7 +234,7 @@ fn gives_up<R: Wait>(rt: &R, alloc: Global) -> bool {
     };
     let (mut feeder, mut taker) = (feeder, taker);
     feeder.give_up(rt);
-    takes(rt, &mut taker, 0, &[Seen::End(FeedEnd::NoMemory)])
+    are_taken(rt, &mut taker, 0, &[Seen::End(FeedEnd::NoMemory)])
 }
 
 #[test]
@@ -360,6 +374,7 @@ fn both<N: Numbers>(made: Vec<Feeder<N>>) -> Option<(Feeder<N>, Feeder<N>)>
 }
 
 /// What comes of two feeds of so many lines each, whose feeders run at once.
+#[tactic(auto, using(crate::proofs::Two::first_fresh, crate::proofs::Two::second_fresh))]
 fn both_feed<N: Numbers + Send + Sync, R: Wait + Threads + Sync>(
     rt: &R,
     alloc: Global,
@@ -369,8 +384,12 @@ fn both_feed<N: Numbers + Send + Sync, R: Wait + Threads + Sync>(
     requires groups { length topology.now.market.groups ≡ N.groups }
     requires nodes { length topology.now.market.nodes ≡ N.nodes }
 {
-    let (made, taker) = open::<N>(alloc, 2).ok()?;
-    let (first, second) = both(made)?;
+    let Ok((made, taker)) = open::<N>(alloc, 2) else {
+        return None;
+    };
+    let Some((first, second)) = both(made) else {
+        return None;
+    };
     let mut first = Reader {
         feeder: first,
         feed: shows(alloc, lines[0])?,

@@ -18,6 +18,7 @@ use topology_text::{Topology, read_topology};
 use worlds::EXAMPLE_TREE;
 
 mod looking;
+mod several;
 
 /// The proposals of these tests, as what is counted.
 struct Counted;
