@@ -41,7 +41,7 @@ impl<'f, 'o, 'm, 'l, 's, 'p, S, K, P, Q, G, D, M> Lent<
         pace: &'p mut M,
         turns: u64,
     ) -> Lent<'f, 'o, 'm, 'l, 's, 'p, S, K, P, Q, G, D, M>
-        ensures { result ≡ record { feed = feed; out = out; maps = maps; lanes = lanes; stream = stream; pace = pace; turns = turns } }
+        ensures { result ≡ record { feed = feed.entry; out = out.entry; maps = maps.entry; lanes = lanes.entry; stream = stream.entry; pace = pace.entry; turns = turns } }
     {
         Lent {
             feed,
