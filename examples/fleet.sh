@@ -257,7 +257,9 @@ cut_off() {
 base() {
     tool 1 glb-append --numbers "$work/topology1.toml" >"$work/early.toml"
     append 2 >/dev/null
-    ok 'a base that misses an entry is refused' bash -c "! ip netns exec glbfleet1 env GLB_ETCD=$(etcd_of 1) $here/tools/glb-append --base '$work/early.toml' 2>/dev/null"
+    tool 1 glb-append --base "$work/early.toml" >"$work/refused" 2>&1
+    ok 'a base that misses an entry is refused' [ $? = 1 ]
+    cat "$work/refused"
     tool 1 glb-append --numbers "$work/topology1.toml" >"$work/base.toml"
     tool 1 glb-append --base "$work/base.toml" >/dev/null
     put_base 1 2
