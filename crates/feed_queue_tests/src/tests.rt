@@ -2,7 +2,6 @@
 ghost use Rattle.std.specs.Prelude.{◌≡◌, [], ◌∷◌, length, IfSome};
 ghost use Rattle.std.specs.Thread.{IsSync, IsSend};
 
-
 use addr_text::Addr;
 use demand_feed::{BatchFault, FeedEnd, Item, LineFault, Refusal, What};
 use feed_queue::{Feeder, Numbers, Taker, open};

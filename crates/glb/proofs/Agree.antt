@@ -75,7 +75,8 @@ pub served_came : (turns : ℕ) (ask : Service) (before after : Surroundings) (w
 served_came turns ask before after w =
     let all = ended_of_octets w.topology turns w.fed.run.0 w.started.lent.feed after.stage.lent.feed
     (λ (ts : List Task). AllCame ts (scene w.first (w.first ∷ []) w.started.lent.out w.started.lent.maps w.started.lent.pace) (scene w.newest (w.first ∷ w.rest) after.stage.lent.out after.stage.lent.maps w.fed.calls)) w.fed.run.1 w.fed.run.2 in
-    (all.0, all.1, came_by turns ask before after w (tasks w.topology (lines_of true all.0)) w.fed.calls all.2)
+    let came = came_by turns ask before after w (tasks w.topology (lines_of true all.0)) w.fed.calls all.2 in
+    (all.0, all.1, came.0, came.1)
 
 -- the feed is as it was before the cell was opened
 feed_same : (turns : ℕ) (ask : Service) (before after : Surroundings) (w : IsWellServed turns ask before after) → w.started.lent.feed ≡ before.stage.lent.feed
@@ -85,7 +86,7 @@ pub serves_come : ServesCome
 serves_come turns ask before after w octets has =
     let all = served_came turns ask before after w in
     let same = octets_one before.stage.lent.feed octets all.0 has (subst (λ (f : Option Fed). MayHave f all.0) (feed_same turns ask before after w) all.1) in
-    subst (λ (o : List ℕ). (c : Course) × CameBy turns ask before after w (tasks w.topology (lines_of true o)) c) same all.2
+    subst (λ (o : List ℕ). (c : Course) × CameBy turns ask before after w (tasks w.topology (lines_of true o)) c) same (all.2, all.3)
 
 -- files that hold one text hold one topology
 one_topology : (files others : Option Shelved) (name other text : List ℕ) (t u : Plan) → Holds files name text → Holds others other text → Says topology_file files name t → Says topology_file others other u → t ≡ u

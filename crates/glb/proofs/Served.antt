@@ -51,15 +51,15 @@ any_server test P Q ask ends stream_end before after as_many as_asked lanes stre
     or_parts true y h = inl refl
     or_parts false y h = inr h
 
+    is_true : (x : Bool) → (x || false) ≡ true → x ≡ true
+    is_true true h = refl
+    is_true false h = h
+
     of_stream : (tcp : Option Listen) (e : Option Ended) → length (option_to_list e) ≡ streams_of tcp → ((x : Ended) → e ≡ Some x → test x ≡ true → Q before.stream after.stream) → list_any test (option_to_list e) ≡ true → OfStream tcp Q before.stream after.stream
     of_stream None None same f h = absurd (cc)
     of_stream None (Some x) same f h = absurd (cc)
     of_stream (Some at) None same f h = absurd (cc)
     of_stream (Some at) (Some x) same f h = f x refl (is_true (test x) h)
-
-    is_true : (x : Bool) → (x || false) ≡ true → x ≡ true
-    is_true true h = refl
-    is_true false h = h
 
 pub is_served : (turns : ℕ) (ask : Service) (first : Version) (before after : Stage) (end : FeedEnd) (places : List (Option Ended)) (stream_end : Option Ended) (result : Status)
     → (ends : List Ended) × (length ends ≡ ask.workers) × AreEnds ends places × IsDriven turns first end ends stream_end before.lent after.lent → length (option_to_list stream_end) ≡ streams_of ask.tcp

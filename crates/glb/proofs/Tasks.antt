@@ -1,14 +1,22 @@
 -- What is promised of a run of `serve`, from what it does, loads and counts.
-use Rattle.std.proofs.Common.{◌≡◌, ℕ, sym, subst}
-use Rattle.std.specs.Prelude.{Option, Some, ◌≢◌}
+use Rattle.std.proofs.Common.{◌≡◌, ℕ, ◌≤◌, List, [], ◌∷◌, ◌++◌, length, inl, inr, refl, ap, sym, subst, arith, length-append}
+use Rattle.std.proofs.lemmas.List.{append-nil}
+use Rattle.std.specs.Prelude.{Option, None, Some, ◌≢◌}
 use Rattle.outside.specs.Faults.{BothTell}
+use Rattle.outside.specs.Shelf.{Load, Shelved}
+use Rattle.outside.specs.Sink.{Written}
+use Rattle.outside.specs.Source.{Fed}
+use Rattle.outside.specs.declared.pace.PaceCall.{PaceCall}
+use Rattle.drive.specs.Done.{LaneTold, StreamLaneTold}
 use Rattle.glb.specs.declared.status.Status.{Status}
 use Rattle.glb.specs.declared.status.Status.TheVariants as status
-use Rattle.glb.specs.Words.{Service, Task, serve}
-use Rattle.glb.specs.Told.{Surroundings}
-use Rattle.glb.specs.Outcome.{AreLoaded, AreLoadsOf}
+use Rattle.glb.specs.Words.{Service, Task, say, serve, large}
+use Rattle.glb.specs.Told.{Stage, Surroundings, faults_of, stage, surroundings}
+use Rattle.glb.specs.Outcome.{AreLoaded, AreLoadsOf, Faults, HasExactCauses}
+use Rattle.glb.specs.Files.{topology_file}
 use Rattle.glb.specs.Serve.{IsServeRun, loads_of_serve}
 use Rattle.glb.specs.Program.{HasServeCauses, IsPromised}
+use Rattle.glb.proofs.Lanes.{unread_causes}
 use Rattle.glb.proofs.Left.{left_of}
 use Rattle.glb.proofs.WellServed.{well_served}
 
@@ -25,3 +33,88 @@ promised turns ask before after result run noted loaded causes = record {
 
 pub promised_task : (turns : ℕ) (task : Option Task) (ask : Service) (before after : Surroundings) (result : Status) → task ≡ Some (serve ask) → IsPromised turns (Some (serve ask)) before after result → IsPromised turns task before after result
 promised_task turns task ask before after result is run = subst (λ (t : Option Task). IsPromised turns t before after result) (sym is) run
+
+-- what is told stays
+stays : (o : Option Written) → BothTell o o (λ b a. a ≡ b)
+stays None = tt
+stays (Some w) = refl
+
+-- nothing was loaded
+unloaded : (files : Option Shelved) (due : (List ℕ → Option (List ℕ)) → List Load) → BothTell files files (AreLoadsOf due)
+unloaded None due = tt
+unloaded (Some f) due = record { files = refl; loads = (0, sym (append-nil f.loads)) }
+
+-- no count rose, and the answer is want of memory
+none_rose : (f : Faults) → HasExactCauses f f status.NoMemory
+none_rose f = record {
+  causes = record {
+    files_later = omega arith;
+    out_later = omega arith;
+    source = λ h. absurd (cc);
+    sink = λ h. absurd (cc);
+  };
+  files_stay = λ h. refl;
+  out_stays = λ h. refl;
+}
+
+-- what is promised where memory was wanting for the words, and nothing was done
+pub unread : (turns : ℕ) (task : Option Task) (s : Surroundings) → IsPromised turns task s s status.NoMemory
+unread turns None s = record {
+  run = record { run = inr (record { status = refl; puts = stays s.stage.lent.out }); rest = record { lent = refl; rest = refl } };
+  noted = unloaded s.files _;
+  loaded = λ source memory. absurd (memory refl);
+  causes = none_rose (faults_of s);
+  good = λ h. absurd (cc);
+  complete = λ sound quiet. absurd sound;
+}
+unread turns (Some (say ask)) s = record {
+  run = record { run = inr (inr (record { status = inr refl; puts = stays s.stage.lent.out })); rest = record { lent = refl; rest = refl } };
+  noted = unloaded s.files _;
+  loaded = λ source memory. absurd (memory refl);
+  causes = none_rose (faults_of s);
+  good = λ h. absurd (cc);
+  complete = λ sound quiet. inr refl;
+}
+unread turns (Some (serve ask)) s = promised turns ask s s status.NoMemory (inl (record { run = inr (inr (record { status = inr refl; puts = stays s.stage.lent.out })); rest = record { lent = refl; rest = refl } }))
+    (unloaded s.files _) (λ source memory. absurd (memory refl))
+    (record {
+      files_later = omega arith;
+      feed_later = omega arith;
+      out_later = omega arith;
+      maps_later = omega arith;
+      source = λ h. absurd (cc);
+      sink = λ h. absurd (cc);
+      files_stay = λ h. refl;
+      feed_stays = λ h. refl;
+      out_stays = λ h. refl;
+      maps_stay = λ h. refl;
+      lanes = unread_causes topology_file turns ask s.stage.lent s.stage.lent ask.topology s.files s.stage.lent.out s.stage.lent.out status.NoMemory (inr (inr (record { status = inr refl; puts = stays s.stage.lent.out })));
+    })
+unread turns (Some (large groups)) s = record {
+  run = record { run = inr (inr (record { status = inr refl; puts = stays s.stage.lent.out })); ends = inr (inr refl); files = (refl, refl); rest = record { lent = refl; rest = refl } };
+  noted = unloaded s.files _;
+  loaded = λ source memory. absurd (memory refl);
+  causes = none_rose (faults_of s);
+  good = λ h. absurd (cc);
+  complete = λ sound quiet. inr refl;
+}
+
+-- what is promised of a run is promised of the same turns, task and stages
+pub promised_over : (turns turns' : ℕ) (task task' : Option Task) (files files' : Option Shelved) (faults faults' : ℕ) (before before' after after' : Stage) (result : Status) → turns ≡ turns' → task ≡ task' → before ≡ before' → after ≡ after'
+    → IsPromised turns task (surroundings files faults before) (surroundings files' faults' after) result → IsPromised turns' task' (surroundings files faults before') (surroundings files' faults' after') result
+promised_over turns turns' task task' files files' faults faults' before before' after after' result same asked ahead behind h =
+    subst (λ (n : ℕ). IsPromised n task' (surroundings files faults before') (surroundings files' faults' after') result) same
+    (subst (λ (t : Option Task). IsPromised turns t (surroundings files faults before') (surroundings files' faults' after') result) asked
+    (subst (λ (b : Stage). IsPromised turns task (surroundings files faults b) (surroundings files' faults' after') result) ahead
+    (subst (λ (a : Stage). IsPromised turns task (surroundings files faults before) (surroundings files' faults' a) result) behind h)))
+
+-- where the front of a list is as long as all of it, nothing is behind
+pub none_behind : {A : Type 0} (all front behind : List A) → all ≡ front ++ behind → length front ≡ length all → behind ≡ []
+none_behind all front [] is same = refl
+none_behind all front (x ∷ xs) is same = absurd (omega (arith, ap length is, length-append front (x ∷ xs), same))
+
+-- stages of the same parts
+pub same_stage : (fed fed' : Option Fed) (out out' maps maps' : Option Written) (pace pace' : Option (List PaceCall)) (lanes lanes' : List LaneTold) (stream : StreamLaneTold) (feed_faults feed_faults' out_faults out_faults' maps_faults maps_faults' : ℕ)
+    → fed ≡ fed' → out ≡ out' → maps ≡ maps' → pace ≡ pace' → lanes ≡ lanes' → feed_faults ≡ feed_faults' → out_faults ≡ out_faults' → maps_faults ≡ maps_faults'
+    → stage fed out maps pace lanes stream feed_faults out_faults maps_faults ≡ stage fed' out' maps' pace' lanes' stream feed_faults' out_faults' maps_faults'
+same_stage fed fed' out out' maps maps' pace pace' lanes lanes' stream feed_faults feed_faults' out_faults out_faults' maps_faults maps_faults' a b c d e f g h = rw (a, b, c, d, e, f, g, h) refl

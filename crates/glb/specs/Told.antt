@@ -7,6 +7,7 @@ use Rattle.outside.specs.Sink.{Written}
 use Rattle.outside.specs.Source.{Fed}
 use Rattle.outside.specs.Streams.{StreamsTold}
 use Rattle.outside.specs.declared.pace.PaceCall.{PaceCall}
+use Rattle.drive.specs.declared.stream.StreamLane.{StreamLane}
 use Rattle.drive.specs.Done.{LaneTold, StreamLaneTold}
 use Rattle.drive.specs.Driven.{Lent as LentTold}
 use Rattle.drive.specs.Told.{lane_told, stream_told}
@@ -35,13 +36,13 @@ stage feed out maps pace lanes stream feed_faults out_faults maps_faults = recor
 }
 
 -- what all that is lent to a session tells
-abbrev pub stage_of : {S K P Q G D M : Type 0} → (S → Option Fed) → (S → ℕ) → (K → Option Written) → (K → ℕ) → (P → Option PortTold) → (P → ℕ) → (Q → Option StreamsTold) → (Q → ℕ) → (G → Option GateTold) → (D → ℕ) → (D → ℕ) → (D → ℕ) → (D → ℕ) → (M → Option (List PaceCall)) → Lent S K P Q G D M → Stage
-stage_of fed feed_faults written faults port port_faults streams stream_faults gate asked looks greatest door_faults paced l =
-    stage (fed l.feed.now) (written l.out.now) (written l.maps.now) (paced l.pace.now) (map (lane_told port port_faults gate asked looks greatest door_faults) l.lanes.now) (stream_told streams stream_faults gate asked looks greatest door_faults l.stream.now) (feed_faults l.feed.now) (faults l.out.now) (faults l.maps.now)
+abbrev pub stage_of : {S K P Q G D M : Type 0} → (S → Option Fed) → (S → ℕ) → (K → Option Written) → (K → ℕ) → (P → Option PortTold) → (P → ℕ) → (Q → Option StreamsTold) → (Q → ℕ) → (G → Option GateTold) → (D → ℕ) → (D → ℕ) → (D → ℕ) → (D → ℕ) → (M → Option (List PaceCall)) → Lent S K P G D M → StreamLane Q G D → Stage
+stage_of fed feed_faults written faults port port_faults streams stream_faults gate asked looks greatest door_faults paced l s =
+    stage (fed l.feed.now) (written l.out.now) (written l.maps.now) (paced l.pace.now) (map (lane_told port port_faults gate asked looks greatest door_faults) l.lanes.now) (stream_told streams stream_faults gate asked looks greatest door_faults s) (feed_faults l.feed.now) (faults l.out.now) (faults l.maps.now)
 
 -- the same things are lent
-abbrev pub IsSame : {S K P Q G D M : Type 0} → Lent S K P Q G D M → Lent S K P Q G D M → Type 0
-IsSame a b = (b.feed.ghost_name ≡ a.feed.ghost_name) × (b.out.ghost_name ≡ a.out.ghost_name) × (b.maps.ghost_name ≡ a.maps.ghost_name) × (b.lanes.ghost_name ≡ a.lanes.ghost_name) × (b.stream.ghost_name ≡ a.stream.ghost_name) × (b.pace.ghost_name ≡ a.pace.ghost_name)
+abbrev pub IsSame : {S K P G D M : Type 0} → Lent S K P G D M → Lent S K P G D M → Type 0
+IsSame a b = (b.feed.ghost_name ≡ a.feed.ghost_name) × (b.out.ghost_name ≡ a.out.ghost_name) × (b.maps.ghost_name ≡ a.maps.ghost_name) × (b.lanes.ghost_name ≡ a.lanes.ghost_name) × (b.pace.ghost_name ≡ a.pace.ghost_name)
 
 abbrev pub surroundings : Option Shelved → ℕ → Stage → Surroundings
 surroundings files files_faults stage = record { files = files; files_faults = files_faults; stage = stage }

@@ -21,7 +21,7 @@ use crate::status::Status;
 use crate::words::Service;
 use addr_text::Listen;
 use demand_feed::FeedEnd;
-use drive::{Lane, drive};
+use drive::{Lane, StreamLane, drive};
 use lane_model::Ended;
 use map_cell::{Door, EmptyHistory, Naming, OpenFault, Viewer};
 use map_model::{Proposals, Steps};
@@ -221,16 +221,17 @@ fn serve_first<
     mapper: Mapper<J>,
     viewers: Vec<Viewer<J>>,
     service: &Service<'_>,
-    lent: &mut Lent<'_, '_, '_, '_, '_, '_, S, K, P, Q, G, D, M>,
+    lent: &mut Lent<'_, '_, '_, '_, '_, S, K, P, G, D, M>,
+    stream: &mut StreamLane<Q, G, D>,
 ) -> Status
     requires serial { mapper.newest.serial ≡ 0 }
     requires viewers { (vec_len viewers ≡ lanes_of (service_asked service.now)) × All (λ v. (v.seen ≡ mapper.history) × (v.heard ≡ mapper.history)) viewers.items }
     requires workers { (service.now.workers ≤ most_workers service.now.tcp) × (service.now.workers ≤ length lent.old.lanes.now) }
     requires turns { lent.old.turns ≤ MOST_TURNS }
     ensures keeps { IsSame lent.old lent.new }
-    ensures served { IsFirstSession lent.old.turns (service_asked service.now) mapper.newest (stage_of S.told S.faults K.told K.faults P.told P.faults Q.told Q.faults G.told D.asked D.looks D.greatest D.faults M.told lent.old) (stage_of S.told S.faults K.told K.faults P.told P.faults Q.told Q.faults G.told D.asked D.looks D.greatest D.faults M.told lent.new) result }
+    ensures served { IsFirstSession lent.old.turns (service_asked service.now) mapper.newest (stage_of S.told S.faults K.told K.faults P.told P.faults Q.told Q.faults G.told D.asked D.looks D.greatest D.faults M.told lent.old stream.old) (stage_of S.told S.faults K.told K.faults P.told P.faults Q.told Q.faults G.told D.asked D.looks D.greatest D.faults M.told lent.new stream.new) result }
 {
-    match start_lanes(mapper.text(), service, lent.maps, lent.lanes, lent.stream) {
+    match start_lanes(mapper.text(), service, lent.maps, lent.lanes, stream) {
         Start::NoPort => {
             mapper.close(rt);
             Status::PortFault
@@ -251,7 +252,7 @@ fn serve_first<
                 lent.out,
                 lent.maps,
                 lent.lanes,
-                lent.stream,
+                stream,
                 lent.pace,
                 lent.turns,
             ) {
@@ -279,13 +280,14 @@ fn serve_topology<
     history: EmptyHistory,
     topology: Topology,
     service: &Service<'_>,
-    lent: &mut Lent<'_, '_, '_, '_, '_, '_, S, K, P, Q, G, D, M>,
+    lent: &mut Lent<'_, '_, '_, '_, '_, S, K, P, G, D, M>,
+    stream: &mut StreamLane<Q, G, D>,
 ) -> Status
     requires book { history ≡ J.book }
     requires workers { (service.now.workers ≤ most_workers service.now.tcp) × (service.now.workers ≤ length lent.old.lanes.now) × (1 ≤ length lent.old.lanes.now) }
     requires turns { lent.old.turns ≤ MOST_TURNS }
     ensures keeps { IsSame lent.old lent.new }
-    ensures session { IsSession lent.old.turns (service_asked service.now) topology (stage_of S.told S.faults K.told K.faults P.told P.faults Q.told Q.faults G.told D.asked D.looks D.greatest D.faults M.told lent.old) (stage_of S.told S.faults K.told K.faults P.told P.faults Q.told Q.faults G.told D.asked D.looks D.greatest D.faults M.told lent.new) result }
+    ensures session { IsSession lent.old.turns (service_asked service.now) topology (stage_of S.told S.faults K.told K.faults P.told P.faults Q.told Q.faults G.told D.asked D.looks D.greatest D.faults M.told lent.old stream.old) (stage_of S.told S.faults K.told K.faults P.told P.faults Q.told Q.faults G.told D.asked D.looks D.greatest D.faults M.told lent.new stream.new) result }
 {
     match open_mapper::<J, R, P, G, D>(
         rt,
@@ -295,7 +297,7 @@ fn serve_topology<
         lanes_of(service),
         lent.lanes,
     ) {
-        Ok((mapper, viewers)) => serve_first(rt, alloc, mapper, viewers, service, lent),
+        Ok((mapper, viewers)) => serve_first(rt, alloc, mapper, viewers, service, lent, stream),
         Err(fault) => status_of_opening(fault),
     }
 }
@@ -316,13 +318,14 @@ pub fn serve<
     alloc: Global,
     service: &Service<'_>,
     files: &mut F,
-    lent: &mut Lent<'_, '_, '_, '_, '_, '_, S, K, P, Q, G, D, M>,
+    lent: &mut Lent<'_, '_, '_, '_, '_, S, K, P, G, D, M>,
+    stream: &mut StreamLane<Q, G, D>,
 ) -> Status
     requires workers { (1 ≤ service.now.workers) × (service.now.workers ≤ most_workers service.now.tcp) }
     requires lanes { length lent.old.lanes.now ≡ 16 }
     requires turns { lent.old.turns ≤ MOST_TURNS }
     ensures keeps { IsSame lent.old lent.new }
-    ensures promised { IsPromised lent.old.turns (Some (task (service_asked service.now))) (surroundings (F.told files.old) (F.faults files.old) (stage_of S.told S.faults K.told K.faults P.told P.faults Q.told Q.faults G.told D.asked D.looks D.greatest D.faults M.told lent.old)) (surroundings (F.told files.new) (F.faults files.new) (stage_of S.told S.faults K.told K.faults P.told P.faults Q.told Q.faults G.told D.asked D.looks D.greatest D.faults M.told lent.new)) result }
+    ensures promised { IsPromised lent.old.turns (Some (task (service_asked service.now))) (surroundings (F.told files.old) (F.faults files.old) (stage_of S.told S.faults K.told K.faults P.told P.faults Q.told Q.faults G.told D.asked D.looks D.greatest D.faults M.told lent.old stream.old)) (surroundings (F.told files.new) (F.faults files.new) (stage_of S.told S.faults K.told K.faults P.told P.faults Q.told Q.faults G.told D.asked D.looks D.greatest D.faults M.told lent.new stream.new)) result }
 {
     match load_topology(alloc, files, service.topology) {
         Ok(topology) => serve_topology::<Brand, R, S, K, P, Q, G, D, M>(
@@ -332,6 +335,7 @@ pub fn serve<
             topology,
             service,
             lent,
+            stream,
         ),
         Err(stop) => finish(lent.out, Err(stop)),
     }

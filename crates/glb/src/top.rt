@@ -38,17 +38,18 @@ fn run_order<
     alloc: Global,
     order: Option<Order<'_>>,
     files: &mut F,
-    lent: &mut Lent<'_, '_, '_, '_, '_, '_, S, K, P, Q, G, D, M>,
+    lent: &mut Lent<'_, '_, '_, '_, '_, S, K, P, G, D, M>,
+    stream: &mut StreamLane<Q, G, D>,
 ) -> Status
     requires manned { IsManned order }
     requires lanes { length lent.old.lanes.now ≡ 16 }
     requires turns { (1 ≤ lent.old.turns) × (lent.old.turns ≤ 2 ^ 48) }
     ensures keeps { IsSame lent.old lent.new }
-    ensures promised { IsPromised lent.old.turns (option_map task_of order.entry) (surroundings (F.told files.old) (F.faults files.old) (stage_of S.told S.faults K.told K.faults P.told P.faults Q.told Q.faults G.told D.asked D.looks D.greatest D.faults M.told lent.old)) (surroundings (F.told files.new) (F.faults files.new) (stage_of S.told S.faults K.told K.faults P.told P.faults Q.told Q.faults G.told D.asked D.looks D.greatest D.faults M.told lent.new)) result }
+    ensures promised { IsPromised lent.old.turns (option_map task_of order.entry) (surroundings (F.told files.old) (F.faults files.old) (stage_of S.told S.faults K.told K.faults P.told P.faults Q.told Q.faults G.told D.asked D.looks D.greatest D.faults M.told lent.old stream.old)) (surroundings (F.told files.new) (F.faults files.new) (stage_of S.told S.faults K.told K.faults P.told P.faults Q.told Q.faults G.told D.asked D.looks D.greatest D.faults M.told lent.new stream.new)) result }
 {
     match order {
         Some(Order::Say(command)) => run_files(alloc, Some(command), files, lent.out),
-        Some(Order::Serve(service)) => serve(rt, alloc, &service, files, lent),
+        Some(Order::Serve(service)) => serve(rt, alloc, &service, files, lent, stream),
         Some(Order::Large { groups }) => large(rt, alloc, groups, lent.out),
         None => run_files(alloc, None, files, lent.out),
     }
@@ -86,8 +87,16 @@ pub fn glb<
 {
     match read_words(alloc, words) {
         Ok(order) => {
-            let mut lent = Lent::new(feed, out, maps, lanes, stream, pace, turns);
-            run_order(rt, alloc, order, files, &mut lent)
+            let (all, _behind) = lanes.split_at_mut(16);
+            let mut lent = Lent {
+                feed,
+                out,
+                maps,
+                lanes: all,
+                pace,
+                turns,
+            };
+            run_order(rt, alloc, order, files, &mut lent, stream)
         }
         Err(NoMemory) => Status::NoMemory,
     }

@@ -10,3 +10,9 @@ returns-in-Ok-clause-served g c =
     (g.S.Source.faults c.args.lent.now.feed.now) (g.K.Sink.faults c.args.lent.now.out.now) (g.K.Sink.faults c.args.lent.now.maps.now) (g.K.Sink.faults c.start_lanes.new.maps)
     c.text.ensures c.in-Ready.ensures.start in
     served_session _ (service_asked c.args.service.now) _ _ _ _ c.in-Ok.end.feed c.in-Ok.end.lanes c.in-Ok.end.stream _ begin (d.0, d.1 ∙ search rules, d.2, d.3) (search rules) c.status_of.ensures c.in-Ok.ensures.source c.in-Ok.ensures.source_stays c.in-Ok.ensures.sink c.in-Ok.ensures.sink_stays (search rules, search rules, search rules)
+
+pub drive-requires-clause-viewers : goal.drive-requires-clause-viewers
+drive-requires-clause-viewers g c κs within = (c.split_viewers-viewers.ensures.same c.args.mapper.history c.requires.viewers.1).0
+
+pub drive-requires-clause-listener : goal.drive-requires-clause-listener
+drive-requires-clause-listener g c κs within = (c.split_viewers-viewers.ensures.same c.args.mapper.history c.requires.viewers.1).1
