@@ -243,18 +243,8 @@ fn serve_first<
         Start::Ready => {
             let (viewers, listener) = split_viewers(viewers, &service.tcp);
             match drive(
-                rt,
-                alloc,
-                mapper,
-                viewers,
-                listener,
-                lent.feed,
-                lent.out,
-                lent.maps,
-                lent.lanes,
-                stream,
-                lent.pace,
-                lent.turns,
+                rt, alloc, mapper, viewers, listener, lent.feed, lent.out, lent.maps, lent.lanes,
+                stream, lent.pace, lent.turns,
             ) {
                 Ok(end) => status_of(end.feed, &end.lanes, end.stream),
                 Err(NoMemory) => Status::NoMemory,
