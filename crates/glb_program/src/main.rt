@@ -16,7 +16,7 @@ use edges::{
 };
 use glb::{Lane, MOST_TURNS, Status, StreamLane, glb};
 use map_cell::Door;
-use network::{tcp_lane, udp_lanes};
+use network::{Network, lanes_of};
 use no_memory::NoMemory;
 use outside::{Gate, Pace, Port, Shelf, Sink, Source, Streams};
 use std::env;
@@ -93,13 +93,17 @@ fn main(rt: HostRuntime) -> ExitCode {
     let mut feed = StreamSource::new(rt.stdin());
     let mut out = StreamSink::new(StandardStream::Output(rt.stdout()));
     let mut maps = StreamSink::new(StandardStream::Error(rt.stderr()));
-    let shared = SharedUdp::new();
+    let udp = SharedUdp::new();
+    let tcp = SharedTcp::new();
     let flag = StopFlag::new();
     let mut pace = FlagPace::new(&flag);
-    let shared_tcp = SharedTcp::new();
-    let mut stream = tcp_lane(rt.alloc(), &rt, &shared_tcp, &flag);
-    let status = match udp_lanes(rt.alloc(), &rt, &shared, &flag) {
-        Ok(mut lanes) => run_words(
+    let status = match lanes_of(rt.alloc(), &rt, &udp, &tcp, &flag) {
+        Ok(
+            Network {
+                mut lanes,
+                mut stream,
+            },
+        ) => run_words(
             &rt,
             &mut files,
             &mut feed,

@@ -1,5 +1,5 @@
-//! Lanes that serve a network: ports of UDP over one socket, and connections of TCP, gates that one flag stops, and plain
-//! doors.
+//! What serves a network: lanes over one socket of UDP, and one over connections of TCP, with gates that one flag stops and
+//! plain doors.
 ghost use Rattle.std.specs.Prelude.{◌≡◌, IfOk, replicate};
 ghost use Rattle.map_cell.specs.Doors.{unused};
 ghost use Rattle.past_log.specs.Gate.{new_gate};
@@ -44,27 +44,40 @@ pub fn udp_lanes<'a, N: Net>(
     Ok(lanes)
 }
 
-/// How many connections of TCP are held at once, and how many of one address, where those of IPv6 count as one by their
-/// first 64 bits.
+/// How many connections of TCP are held at once.
 const CONNECTIONS: usize = 256;
 
+/// How many of them those of one address are at most, where addresses of IPv6 count as one by their first 64 bits.
 const CONNECTIONS_OF_ONE: usize = 32;
 
 /// A lane for conversations over connections of TCP.
 pub type TcpLane<'a, R> = StreamLane<ManyStreams<'a, R>, FlagGate<'a>, PlainDoor>;
 
-/// The lane for conversations, which is not opened.
-pub fn tcp_lane<'a, R: Net + Clock>(
+/// All lanes: as many for datagrams as there may be workers, and one for conversations.
+#[derive(Drop)]
+pub struct Network<'a, R: Net + Clock> {
+    pub lanes: Vec<UdpLane<'a, R>>,
+    pub stream: TcpLane<'a, R>,
+}
+
+/// All lanes, none of them opened, with one flag.
+pub fn lanes_of<'a, R: Net + Clock>(
     alloc: Global,
     rt: &'a R,
-    shared: &'a SharedTcp,
+    udp: &'a SharedUdp,
+    tcp: &'a SharedTcp,
     flag: &'a StopFlag,
-) -> TcpLane<'a, R>
-    ensures { result ≡ record { streams = record { told = new_streams; faults = 0 }; gate = new_gate; door = unused; noted = 0 } }
+) -> Result<Network<'a, R>, NoMemory>
+    ensures lanes { IfOk result (λ n. n.lanes.items ≡ replicate 16 (record { port = record { told = new_port; faults = 0 }; gate = new_gate; door = unused; noted = 0 })) }
+    ensures stream { IfOk result (λ n. n.stream ≡ record { streams = record { told = new_streams; faults = 0 }; gate = new_gate; door = unused; noted = 0 }) }
 {
-    StreamLane::new(
-        ManyStreams::new(alloc, rt, shared, CONNECTIONS, CONNECTIONS_OF_ONE),
-        FlagGate::new(flag),
-        PlainDoor::new(),
-    )
+    let lanes = udp_lanes(alloc, rt, udp, flag)?;
+    Ok(Network {
+        lanes,
+        stream: StreamLane::new(
+            ManyStreams::new(alloc, rt, tcp, CONNECTIONS, CONNECTIONS_OF_ONE),
+            FlagGate::new(flag),
+            PlainDoor::new(),
+        ),
+    })
 }

@@ -1,15 +1,16 @@
-//! A client on loopback and `serve` over real ports, in one process.
+//! A client on loopback and `serve` over real ports of UDP and TCP, in one process.
 ghost use Rattle.std.specs.Prelude.{◌≡◌, IfOk, None, vec_len};
 ghost use Rattle.map_cell.specs.declared.opening.TheConstants.{MOST_VIEWERS};
 
-use crate::network::udp_lanes;
-use edges::{SharedUdp, StopFlag};
-use glb::{Lane, Status};
+use crate::network::{Network, lanes_of};
+use edges::{SharedTcp, SharedUdp, StopFlag};
+use glb::{Lane, Status, StreamLane};
 use map_cell::PlainDoor;
 use no_memory::NoMemory;
-use outside::{Gate, MemSink, MemSource, Pace, Port};
+use outside::{Gate, MemSink, MemSource, Pace, Port, Streams};
 use std::alloc::Global;
-use std::net::{IpAddr, Ipv4Addr, Net, SocketAddr, UdpSocket};
+use std::io::{Read, Write};
+use std::net::{IpAddr, Ipv4Addr, Net, SocketAddr, TcpListener, TcpStream, UdpSocket};
 use std::test::Fail;
 use std::thread::{self, join_mut};
 use std::time::Duration;
@@ -61,30 +62,68 @@ impl Pace for WordPace<'_> {
     }
 }
 
-/// The port of UDP that is served, as soon as there is one.
-fn port_of(shared: &SharedUdp) -> Option<u16> {
+/// The ports of UDP and TCP that are served, as soon as there are both.
+fn ports_of(udp: &SharedUdp, tcp: &SharedTcp) -> Option<(u16, u16)> {
     for _ in 0..LOOKS {
-        if let Some(port) = shared.port() {
-            return Some(port);
+        if let (Some(udp_port), Some(tcp_port)) = (udp.port(), tcp.port()) {
+            return Some((udp_port, tcp_port));
         }
         thread::yield_now();
     }
     None
 }
 
-/// Asks once, and gives the word. Answers whether the reply was the right one.
-fn ask(client: &UdpSocket, shared: &SharedUdp, word: SocketAddr) -> bool {
+/// A port on loopback.
+fn server_at(port: u16) -> SocketAddr {
+    SocketAddr::new(IpAddr::V4(Ipv4Addr::from_bits(0x7f00_0001)), port)
+}
+
+/// Asks by a datagram. Answers whether the reply was the right one.
+fn ask(client: &UdpSocket, port: u16) -> bool {
     let mut buffer = [0u8; 512];
-    let mut is_right = false;
-    if let Some(port) = port_of(shared) {
-        let server = SocketAddr::new(IpAddr::V4(Ipv4Addr::from_bits(0x7f00_0001)), port);
-        if client.send_to(QUERY, server).is_ok() {
-            if let Ok((len, _)) = client.recv_from(&mut buffer) {
-                is_right = len <= 512 && &buffer[..len] == REPLY;
-            }
-        }
+    if client.send_to(QUERY, server_at(port)).is_err() {
+        return false;
     }
-    client.send_to(b".", word).is_ok() && is_right
+    match client.recv_from(&mut buffer) {
+        Ok((len, _)) => len <= 512 && &buffer[..len] == REPLY,
+        Err(_) => false,
+    }
+}
+
+/// Asks in a conversation, by a message behind its length. Answers whether the reply was the right one behind its own.
+fn converse<N: Net<Listener = TcpListener, Stream = TcpStream>>(net: &N, port: u16) -> bool {
+    let Ok(mut client) = TcpStream::connect(net, server_at(port)) else {
+        return false;
+    };
+    let wait = Some(Duration::from_secs(LONGEST_WAIT));
+    let length = [0, QUERY.len() as u8];
+    if client.set_read_timeout(wait).is_err()
+        || client.write_all(&length).is_err()
+        || client.write_all(QUERY).is_err()
+    {
+        return false;
+    }
+    let mut head = [0u8; 2];
+    let mut reply = [0u8; REPLY.len()];
+    client.read_exact(&mut head).is_ok()
+        && client.read_exact(&mut reply).is_ok()
+        && head == [0, REPLY.len() as u8]
+        && reply.as_slice() == REPLY
+}
+
+/// Asks once each way, and gives the word. Answers whether both replies were the right ones.
+fn ask_both<N: Net<Listener = TcpListener, Stream = TcpStream>>(
+    net: &N,
+    client: &UdpSocket,
+    udp: &SharedUdp,
+    tcp: &SharedTcp,
+    word: SocketAddr,
+) -> bool {
+    let are_right = match ports_of(udp, tcp) {
+        Some((udp_port, tcp_port)) => ask(client, udp_port) && converse(net, tcp_port),
+        None => false,
+    };
+    client.send_to(b".", word).is_ok() && are_right
 }
 
 const WORDS: &[&str] = &[
@@ -95,14 +134,17 @@ const WORDS: &[&str] = &[
     "127.0.0.1:0",
     "--workers",
     "2",
+    "--tcp",
+    "127.0.0.1:0",
 ];
 
 /// `serve` on loopback over the region, with an empty feed.
-fn lent_of<P: Port + Drop, G: Gate + Drop, M: Pace + Drop>(
+fn lent_of<P: Port + Drop, Q: Streams + Drop, G: Gate + Drop, M: Pace + Drop>(
     alloc: Global,
     lanes: Vec<Lane<P, G, PlainDoor>>,
+    stream: StreamLane<Q, G, PlainDoor>,
     pace: M,
-) -> Result<Lent<P, G, PlainDoor, M>, NoMemory>
+) -> Result<Lent<P, Q, G, PlainDoor, M>, NoMemory>
     requires { vec_len lanes ≡ MOST_VIEWERS }
     ensures { IfOk result (λ s. vec_len s.lanes ≡ MOST_VIEWERS) }
 {
@@ -113,24 +155,25 @@ fn lent_of<P: Port + Drop, G: Gate + Drop, M: Pace + Drop>(
         out: MemSink::new(alloc, 0, Vec::new(alloc))?,
         maps: MemSink::new(alloc, 1024, Vec::new(alloc))?,
         lanes,
+        stream,
         pace,
     })
 }
 
 #[test]
 fn serves_a_client_on_loopback(rt: HostRuntime) -> Result<(), Fail> {
-    let (shared, flag) = (SharedUdp::new(), StopFlag::new());
-    let lanes = udp_lanes(rt.alloc(), &rt, &shared, &flag)?;
+    let (udp, tcp, flag) = (SharedUdp::new(), SharedTcp::new(), StopFlag::new());
+    let Network { lanes, stream } = lanes_of(rt.alloc(), &rt, &udp, &tcp, &flag)?;
     let client = socket_of(&rt).ok_or("no client")?;
     let word = socket_of(&rt).ok_or("no socket for the word")?;
     let to = word.local_addr().map_err(|_| "no address")?;
-    let mut lent = lent_of(rt.alloc(), lanes, WordPace { word, flag: &flag })?;
-    let mut asking = || ask(&client, &shared, to);
+    let mut lent = lent_of(rt.alloc(), lanes, stream, WordPace { word, flag: &flag })?;
+    let mut asking = || ask_both(&rt, &client, &udp, &tcp, to);
     let mut serving = || -> Status
         requires { vec_len lent.lanes ≡ MOST_VIEWERS }
     { run(&rt, rt.alloc(), &mut lent, 1_000_000) };
-    let (is_right, status) = join_mut(&rt, &mut asking, &mut serving);
-    assert!(rt; is_right);
+    let (are_right, status) = join_mut(&rt, &mut asking, &mut serving);
+    assert!(rt; are_right);
     assert!(rt; status == Status::Ok);
     Ok(())
 }
