@@ -1,9 +1,10 @@
 #!/usr/bin/env python3
-"""Runs each example that the documents show, and looks up each path, name and clause that they cite.
+"""Runs each example that the documents show, looks up each path, name and clause that they cite, and which functions may wait.
 
-    documents.py             both
+    documents.py             all
     documents.py examples    each `$ glb ..`, and what stands below it
     documents.py names       each path, word and clause in backquotes
+    documents.py waits       each function that takes a handle by which it may wait or start threads
 
 A path has to be there: from the top, or in a crate that the same line or heading names. A word has to stand somewhere
 in the code, the specifications or the files of examples. A clause, `x` of `f` or (`x`) in docs/PROVED.md, has to be an
@@ -30,6 +31,9 @@ PROGRAMS = {"apt-get", "dig", "dnscap", "dnstop", "echo", "ldd", "ls", "man", "m
 ELSEWHERE = {"PIPE_BUF", "net", "core", "rmem_default", "write_all"}
 # places that are made when they are used
 MADE = re.compile(r"/(run|var|etc|proc|dev|usr)(/|$)|.*/out/")
+# the crates whose functions may wait, and in the map cell, which workers use, those functions: no other does, so no reply waits
+MAY_WAIT = {"big_run", "drive", "feed_queue", "glb", "glb_program", "mapper"}
+MAY_WAIT_IN_THE_CELL = {"admit", "close", "fill", "open", "publish", "put", "put_at", "put_back", "put_shown", "show", "start"}
 # words in capitals stand for others
 STANDS_FOR_OTHERS = re.compile(r"[A-Z]+")
 
@@ -174,11 +178,29 @@ class Tally:
         return self.failed
 
 
+def waits():
+    """Looks up which functions may wait, by the bounds that they take; tests and what they stand on aside."""
+    of_tests = {name for name in CRATES if name.endswith("_tests")} | {"trial_runs", "worlds", "world_versions"}
+    told = Tally("functions that may wait")
+    signature = re.compile(r"\bfn (\w+)\s*(<[^({]*>)?\(([^{;]*?)(?=\{|;|\n +requires|\n +ensures)")
+    for path in sorted(TOP.glob("crates/*/src/**/*.rt")):
+        crate = path.relative_to(TOP).parts[1]
+        if crate in of_tests or "tests" in path.stem or "tests" in path.parts:
+            continue
+        for name, bounds, arguments in signature.findall(path.read_text().split("#[cfg(test)]")[0]):
+            if re.search(r"\b(Wait|Threads)\b", bounds + arguments):
+                may = crate in MAY_WAIT or crate == "map_cell" and name in MAY_WAIT_IN_THE_CELL
+                told.take(may, f"{path.relative_to(TOP)}: {name} may wait")
+    return told.end()
+
+
 def main():
-    asked = sys.argv[1:] or ["examples", "names"]
+    asked = sys.argv[1:] or ["examples", "names", "waits"]
     failed = run_examples() if "examples" in asked else 0
     if "names" in asked:
         failed += look_up() + clauses()
+    if "waits" in asked:
+        failed += waits()
     sys.exit(1 if failed else 0)
 
 
