@@ -113,9 +113,9 @@ def run_tool(*words):
     return subprocess.run(words, capture_output=True, text=True, timeout=30).stdout
 
 
-def ask_dig(tool, port, host="127.0.0.1"):
+def ask_dig(tool, port, host="127.0.0.1", *way):
     for name, kind, words, wanted in ROWS:
-        text = run_tool(tool, f"@{host}", "-p", str(port), *words, "+tries=1" if tool == "dig" else "+retry=0", name, kind)
+        text = run_tool(tool, f"@{host}", "-p", str(port), *way, *words, "+tries=1" if tool == "dig" else "+retry=0", name, kind)
         expect(f"{tool} @{host} {name} {kind}", parse_dig(text), wanted)
         expect(f"{tool} @{host} {name} {kind} complains", complaints(text), [])
 
@@ -143,14 +143,14 @@ def ask_subnets(port, host="127.0.0.1", answers=({A},)):
     expect("dig class CH", re.search(r"status: (\w+)", text).group(1), "REFUSED")
 
 
-def ask_drill(port, host="127.0.0.1"):
+def ask_drill(port, host="127.0.0.1", *way):
     for name, kind, _, wanted in ROWS:
-        text = run_tool("drill", "-p", str(port), name, f"@{host}", kind)
+        text = run_tool("drill", *way, "-p", str(port), name, f"@{host}", kind)
         rcode = re.search(r"rcode: (\w+)", text)
         expect(f"drill @{host} {name} {kind}", rcode and rcode.group(1), wanted[0])
 
 
-def ask_dnspython(port, host="127.0.0.1"):
+def ask_dnspython(port, host="127.0.0.1", way="udp"):
     import dns.flags
     import dns.message
     import dns.query
@@ -159,7 +159,7 @@ def ask_dnspython(port, host="127.0.0.1"):
     for name, kind, _, wanted in ROWS:
         for edns in (False, 0):
             query = dns.message.make_query(name, kind, use_edns=edns)
-            reply = dns.query.udp(query, host, timeout=10, port=port, ignore_trailing=False)
+            reply = getattr(dns.query, way)(query, host, timeout=10, port=port, ignore_trailing=False)
             data = {item.to_text() for rrset in reply.answer for item in rrset}
             authority = [item.to_text() for rrset in reply.authority for item in rrset] == [SOA]
             got = (dns.rcode.to_text(reply.rcode()), data, bool(reply.flags & dns.flags.AA), authority)

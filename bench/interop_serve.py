@@ -4,7 +4,7 @@
     apt-get update
     apt-get install bind9-dnsutils knot-dnsutils ldnsutils python3-dnspython unbound pdns-recursor
     bench/interop_serve.py                 all below
-    bench/interop_serve.py tools feed      some of: tools, raw, feed, long, resolvers
+    bench/interop_serve.py tools feed      some of: tools, raw, feed, long, tcp, resolvers
 
     tools      dig, kdig, drill, delv and dnspython ask each row of interop.py, and a server where nothing is placed
     raw        datagrams that no tool sends, one for each case of the answer table, and forged ones from port 0
@@ -12,6 +12,8 @@
     feed       the feed changes demands and capacities while queries are asked, and the replies follow
     long       answers of forty addresses at each size that a query may name, by dig, kdig, drill, delv and dnspython, and
                what dig, unbound and pdns-recursor make of one that is left out
+    tcp        the same rows over TCP, messages behind their lengths, and who asks again there: dig, kdig, drill, delv,
+               dnspython, unbound (also with TCP alone) and pdns-recursor
     resolvers  unbound and pdns-recursor in front, with client subnets: answers by group, and caching by scope
 
 GLB names the program, the built one if it is not set. Every wanted value comes from the example topology and the
@@ -126,10 +128,10 @@ def ask(host, port, octets, wait=2.0):
 class Server:
     """A running `glb serve`, with its feed and its control text."""
 
-    def __init__(self, topology, host, workers=2):
+    def __init__(self, topology, host, workers=2, tcp=False):
         self.host, self.port = host, free_port(host)
         listen = f"[{host}]:{self.port}" if ":" in host else f"{host}:{self.port}"
-        words = [GLB, "serve", topology, "--listen", listen, "--workers", str(workers)]
+        words = [GLB, "serve", topology, "--listen", listen, "--workers", str(workers)] + (["--tcp", listen] if tcp else [])
         self.process = subprocess.Popen(words, stdin=subprocess.PIPE, stdout=subprocess.PIPE, stderr=subprocess.PIPE, cwd=TOP)
         self.maps = []
         self.reader = threading.Thread(target=lambda: self.maps.extend(self.process.stderr), daemon=True)
@@ -356,8 +358,8 @@ def ask_again(host, port):
         expect(f"delv @{host} {name[:3]}", FORTY[kind] & set(text.split()), FORTY[kind] if sent else set())
 
 
-def behind_long(name, words, port):
-    """Forty addresses through a resolver, and what it says where they do not fit and there is no TCP."""
+def behind_long(name, words, port, unfit=("SERVFAIL", set())):
+    """Forty addresses through a resolver, and what it says where they do not fit into a datagram: that, if there is no TCP."""
     resolver = subprocess.Popen(words, stdout=subprocess.PIPE, stderr=subprocess.STDOUT)
     threading.Thread(target=lambda: list(resolver.stdout), daemon=True).start()
     try:
@@ -368,7 +370,7 @@ def behind_long(name, words, port):
         expect(f"{name}: forty of IPv6", ask_it(SHORT, "AAAA"), ("NOERROR", FORTY["AAAA"]))
         expect(f"{name}: forty of IPv4", ask_it(SHORT, "A"), ("NOERROR", FORTY["A"]))
         expect(f"{name}: forty of IPv4 of a long name", ask_it(LONG, "A"), ("NOERROR", FORTY["A"]))
-        expect(f"{name}: what does not fit", ask_it(LONG, "AAAA"), ("SERVFAIL", set()))
+        expect(f"{name}: what does not fit", ask_it(LONG, "AAAA"), unfit)
     finally:
         resolver.terminate()
         resolver.wait()
@@ -390,6 +392,86 @@ def long():
                     continue
                 port = free_port()
                 behind_long(name, start(work, port, server.port, APEX), port)
+
+
+def framed(*messages):
+    return b"".join(struct.pack(">H", len(message)) + message for message in messages)
+
+
+def converse(host, port, octets, count):
+    """So many replies to octets that are sent on one connection, and what stands behind them: nothing where it is closed, none where it stays."""
+    replies = []
+    with socket.create_connection((host, port), 5) as client:
+        client.sendall(octets)
+        with client.makefile("rb") as stream:
+            for _ in range(count):
+                size = struct.unpack(">H", stream.read(2))[0]
+                replies.append(stream.read(size))
+            client.settimeout(0.5)
+            try:
+                return replies, stream.read(1)
+            except ConnectionResetError:
+                # what is closed with octets that nobody read is reset
+                return replies, b""
+            except TimeoutError:
+                return replies, None
+
+
+def tcp_messages(host, port):
+    """Each case of the answer table as a message, with one behind it that has a reply; and a length past 4,096."""
+    good = head() + QUESTION
+    for what, octets, wanted in RAW:
+        if len(octets) > 4096:
+            expect(f"tcp {what} @{host}", converse(host, port, framed(good, octets), 1)[1], b"")
+            continue
+        replies, rest = converse(host, port, framed(octets, good), 1 if wanted is None else 2)
+        got = None if wanted is None else (replies[0][3] & 15, bool(replies[0][2] & 4), len(replies[0]))
+        expect(f"tcp {what} @{host}", (got, len(replies[-1]), rest), (wanted, 49, None))
+
+
+def ask_long_over_tcp(host, port):
+    """Over TCP all forty come, whatever size a query names; and who is told that they don't fit asks again there."""
+    for name, kind, size, subnet_of, _ in LONG_ROWS:
+        words = ["+noedns"] if size is None else ["+edns", f"+bufsize={size}"]
+        words += [f"+subnet={subnet_of}"] if subnet_of else []
+        for tool, once in [("dig", "+tries=1"), ("kdig", "+retry=0")]:
+            text = interop.run_tool(tool, f"@{host}", "-p", str(port), "+tcp", once, *words, name, kind)
+            expect(f"{tool} +tcp @{host} {name[:3]} {kind} {size} {subnet_of}", interop.parse_dig(text), ("NOERROR", FORTY[kind], True, False))
+    for name, kind in [(SHORT, "AAAA"), (LONG, "A"), (LONG, "AAAA")]:
+        text = interop.run_tool("dig", f"@{host}", "-p", str(port), "+tries=1", name, kind)
+        expect(f"dig @{host} {name[:3]} {kind} in the end", interop.parse_dig(text)[:2], ("NOERROR", FORTY[kind]))
+        expect(f"dig @{host} {name[:3]} {kind} asks again", "retrying in TCP mode" in text, (name, kind) == (LONG, "AAAA"))
+        text = interop.run_tool("kdig", f"@{host}", "-p", str(port), "+retry=0", "+edns", "+bufsize=1232", name, kind)
+        expect(f"kdig @{host} {name[:3]} {kind} in the end", interop.parse_dig(text)[:2], ("NOERROR", FORTY[kind]))
+        text = interop.run_tool("drill", "-t", "-p", str(port), name, f"@{host}", kind)
+        expect(f"drill -t @{host} {name[:3]} {kind}", {line.split()[4] for line in text.splitlines() if re.match(rf"[a-z.]+\t\d+\tIN\t{kind}\t", line)}, FORTY[kind])
+        text = interop.run_tool("delv", "-i", f"@{host}", "-p", str(port), name, kind)
+        expect(f"delv @{host} {name[:3]} {kind} in the end", FORTY[kind] & set(text.split()), FORTY[kind])
+
+
+def tcp():
+    for host in HOSTS:
+        with Server(FILES[0], host, tcp=True) as server:
+            interop.ask_dig("dig", server.port, host, "+tcp")
+            interop.ask_dig("kdig", server.port, host, "+tcp")
+            interop.ask_drill(server.port, host, "-t")
+            interop.ask_dnspython(server.port, host, "tcp")
+            # and over UDP as without it
+            interop.ask_dig("dig", server.port, host)
+            tcp_messages(host, server.port)
+        with tempfile.TemporaryDirectory() as work, Server(long_topology(work), host, tcp=True) as server:
+            ask_long_over_tcp(host, server.port)
+    with tempfile.TemporaryDirectory() as work, Server(long_topology(work), "127.0.0.1", tcp=True) as server:
+        for name, start, more in [("unbound", start_unbound, ""), ("unbound with TCP alone", start_unbound, "tcp-upstream: yes"), ("pdns_recursor", start_recursor, "")]:
+            if shutil.which(name.split()[0]) is None:
+                print(f"{name.split()[0]} is not installed")
+                continue
+            port = free_port()
+            words = start(work, port, server.port, APEX)
+            if more:
+                config = Path(words[-1])
+                config.write_text(config.read_text().replace("server:\n", f"server:\n    {more}\n", 1))
+            behind_long(name, words, port, ("NOERROR", FORTY["AAAA"]))
 
 
 class Between(threading.Thread):
@@ -498,7 +580,7 @@ def resolvers():
             behind(name, start(work, port, between.port), between, port)
 
 
-PARTS = {"tools": tools, "raw": raw, "feed": feed, "long": long, "resolvers": resolvers}
+PARTS = {"tools": tools, "raw": raw, "feed": feed, "long": long, "tcp": tcp, "resolvers": resolvers}
 
 
 def main():
