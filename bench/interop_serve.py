@@ -591,4 +591,5 @@ def main():
     interop.tell()
 
 
-main()
+if __name__ == "__main__":
+    main()
