@@ -1,10 +1,11 @@
 #!/usr/bin/env python3
 """Sends datagrams at full rate to a running `glb serve` on loopback while its feed changes the map, and then compares each reply with those of the maps that could have answered, by second.py.
 
-    bench/fuzz_serve.py [--seconds N] [--clients N] [--workers N] [--pause SECONDS] [--plain] [--seed N]
+    bench/fuzz_serve.py [--seconds N] [--clients N] [--workers N] [--pause SECONDS] [--plain] [--tcp] [--seed N]
 
     --plain   well-formed queries alone: a soak. Else most datagrams are mutated, random, too short or too long, and
               among them are a query with a client subnet that is cut at each octet and that has each other octet at each
+    --tcp     the same as messages of conversations, one for each client, but for those past 4,096 octets
     --pause   the seconds from one commit to the next, 0.02 if it is not given
 
 A reply may be of map S where the commit that led to S was written before the reply came, and neither a later map was
@@ -206,11 +207,37 @@ class Sent:
         self.what, self.at, self.next = array("i", [-1]) * 65536, array("Q", [0]) * 65536, 0
 
 
+class Conversation:
+    """A connection that sends and takes messages behind their lengths (RFC 1035 section 4.2.2), as a socket does datagrams."""
+
+    def __init__(self, port):
+        self.socket, self.held, self.at = socket.create_connection(("127.0.0.1", port)), bytearray(), 0
+        self.socket.setsockopt(socket.IPPROTO_TCP, socket.TCP_NODELAY, 1)
+        self.settimeout, self.setblocking = self.socket.settimeout, self.socket.setblocking
+
+    def send(self, octets):
+        self.socket.sendall(len(octets).to_bytes(2) + octets)
+
+    def recv(self, _):
+        while True:
+            behind = self.at + 2 + int.from_bytes(self.held[self.at : self.at + 2])
+            if self.at + 2 <= len(self.held) and behind <= len(self.held):
+                message, self.at = bytes(self.held[self.at + 2 : behind]), behind
+                return message
+            more = self.socket.recv(65536)
+            if not more:
+                raise ConnectionError("the conversation was closed")
+            self.held, self.at = self.held[self.at :] + more, 0
+
+
 def run_client(number, port, datagrams, options, channel):
     rng = random.Random(options.seed * 1000 + number)
     end = time.monotonic() + options.seconds
-    client = socket.socket(socket.AF_INET, socket.SOCK_DGRAM)
-    client.connect(("127.0.0.1", port))
+    if options.tcp:
+        client = Conversation(port)
+    else:
+        client = socket.socket(socket.AF_INET, socket.SOCK_DGRAM)
+        client.connect(("127.0.0.1", port))
     client.settimeout(2.0)
     silent = [is_silent(octets) for octets in datagrams]
     sent, kinds, wrong = Sent(), {}, []
@@ -312,7 +339,8 @@ class Server:
         self.folder = tempfile.TemporaryDirectory()
         topology = Path(self.folder.name) / "topology.toml"
         topology.write_bytes(TOPOLOGY)
-        words = [GLB, "serve", str(topology), "--listen", f"127.0.0.1:{self.port}", "--workers", str(options.workers)]
+        listen = f"127.0.0.1:{self.port}"
+        words = [GLB, "serve", str(topology), "--listen", listen, "--workers", str(options.workers)] + (["--tcp", listen] if options.tcp else [])
         self.process = subprocess.Popen(words, stdin=subprocess.PIPE, stdout=subprocess.PIPE, stderr=subprocess.PIPE)
         self.lines, self.times, self.maps, self.fed = [], [], [], []
         self.readers = [threading.Thread(target=self.read_lines), threading.Thread(target=self.read_maps)]
@@ -409,9 +437,12 @@ def main():
     parser.add_argument("--pause", type=float, default=0.02)
     parser.add_argument("--mutated", type=int, default=20000)
     parser.add_argument("--plain", action="store_true")
+    parser.add_argument("--tcp", action="store_true")
     parser.add_argument("--seed", type=int, default=1)
     options = parser.parse_args()
     datagrams = make_datagrams(random.Random(options.seed), options.plain, options.mutated)
+    if options.tcp:
+        datagrams = [octets for octets in datagrams if len(octets) <= 4096]
     server = Server(options)
     server.wait()
     memory = [server.memory()]
