@@ -1,7 +1,9 @@
 -- Streams of the system, as their sources and sinks hold them.
-use Rattle.std.specs.Prelude.{ℕ, Bool, List, Option, None, Some}
+use Rattle.std.specs.Prelude.{ℕ, Bool, false, List, Option, None, option_and_then}
 use Rattle.outside.specs.Sink.{Written}
 use Rattle.outside.specs.Source.{Fed}
+use Rattle.past_log.specs.Names.{new_names}
+use Rattle.past_log.specs.Source.{new_source}
 
 -- a stream that is written, how many puts failed, and what it took
 pub record Writing (W : Type 0) : Type 0 where
@@ -16,7 +18,7 @@ pub record Reading (T : Type 0) : Type 0 where
   pub faults : ℕ
   pub fed : Fed
 
--- a stream that is opened by its name, which is none before that; whether it has ended, how many calls failed, what it was asked and answered, and the names under which it was to be opened
+-- A stream that is opened by its name, and none before; whether it has ended, how many calls failed, what it was asked and answered, and the names under which it was to be opened.
 pub record Named (T : Type 0) : Type 0 where
   pub stream : Option T
   pub is_ended : Bool
@@ -24,6 +26,10 @@ pub record Named (T : Type 0) : Type 0 where
   pub fed : Fed
   pub names : List (List ℕ)
 
--- a stream that was not opened, and of which nothing was asked
-abbrev pub shut : {T : Type 0} → Named T
-shut = record { stream = None; is_ended = false; faults = 0; fed = new_source; names = new_names }
+-- one that was asked nothing
+abbrev pub unopened : {T : Type 0} → Named T
+unopened = record { stream = None; is_ended = false; faults = 0; fed = new_source; names = new_names }
+
+-- the octets that are left of a stream, where it is open and tells them
+abbrev pub left_of : {T : Type 0} → (T → Option (List ℕ)) → Option T → Option (List ℕ)
+left_of remaining stream = option_and_then remaining stream
