@@ -39,7 +39,8 @@ BLOCKS = {
         before="systemctl disable --now glb-fleet@v4 glb@v6; rm -rf /etc/glb /var/lib/glb /etc/systemd/system/*glb* /etc/systemd/system/*/*glb*; systemctl daemon-reload; userdel glb",
         last=True,
     ),
-    "mkdir -p /run/glb": Block(("ls /run/glb 2>&1", ".*No such file.*")),
+    "mkdir -p /run/glb\nmkfifo -m 600 /run/glb/feed\n": Block(("ls /run/glb 2>&1", ".*No such file.*")),
+    "mkdir -p /run/glb\nmkfifo -m 600 /run/glb/feed /run/glb/demand": Block(("ls /run/glb 2>&1", ".*No such file.*")),
     "useradd --system": Block(("sleep 1; systemctl is-active glb; " + ANSWER.format("192.0.2.53"), f"active\n{ADDRESS}"), before="cp examples/tree.toml topology.toml"),
     "echo show >/run/glb/feed": Block(("journalctl -u glb -n 1 -o cat", "show 0 placed 15 unplaced 1 full 2")),
     "mkdir -p /var/lib/glb": Block(

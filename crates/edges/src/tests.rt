@@ -13,6 +13,7 @@ use std::net::{Net, SocketAddr, UdpSocket};
 use std::thread::{Threads, join_mut};
 use std::time::Duration;
 
+mod named;
 mod tcp;
 
 /// A limit, how many octets are expected, and whether four are read whole.
