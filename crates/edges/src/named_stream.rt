@@ -1,7 +1,7 @@
 //! A file or a pipe of the system that is opened by its name, as a source.
 ghost use Rattle.std.specs.Prelude.{◌≡◌, ◌≢◌, ◌≤◌, ◌↔◌, ◌++◌, ◌∷◌, ℕ, [], Some, None, true, false, take, length, is_some};
 ghost use Rattle.std.specs.Io.KnownBytes.{Consumes, IsAtEnd, Keeps};
-ghost use Rattle.outside.specs.Faults.{BothTell, Rose};
+ghost use Rattle.outside.specs.Faults.{BothTell, Rose, raised};
 ghost use Rattle.outside.specs.NamedSource.{IsNamed};
 ghost use Rattle.outside.specs.Source.{IsRead, IsWithin};
 ghost use Rattle.edges.specs.Streams.{left_of, unopened};
@@ -82,6 +82,7 @@ impl<R: Files> Source for NamedStream<'_, R> {
         ensures later { self.old.faults ≤ self.new.faults }
         ensures cause { result ≡ Read.Failed → Rose self.old.faults self.new.faults }
         ensures stays { result ≢ Read.Failed → self.new.faults ≡ self.old.faults }
+        ensures counted { result ≡ Read.Failed → self.new.faults ≡ raised self.old.faults 1 }
         // Where it is not open it fails.
         ensures shut { self.old.stream ≡ None → (result ≡ Read.Failed) × (self.new.stream ≡ None) }
         // Where it is, it reads as a stream does: of one that tells its bytes the next ones are taken, where it has not ended; its end is answered where none is left, and from then on, without asking it; and a read that failed takes nothing.
@@ -118,6 +119,7 @@ impl<R: Files> NamedSource for NamedStream<'_, R> {
         ensures later { self.old.faults ≤ self.new.faults }
         ensures cause { result ≡ Opening.Failed → Rose self.old.faults self.new.faults }
         ensures stays { result ≢ Opening.Failed → self.new.faults ≡ self.old.faults }
+        ensures counted { result ≡ Opening.Failed → self.new.faults ≡ raised self.old.faults 1 }
         // It is opened once, and each name is noted.
         ensures ready { result ≡ Opening.Ready → (self.old.stream ≡ None) × (is_some self.new.stream ≡ true) }
         ensures failed { result ≡ Opening.Failed → self.new.stream ≡ self.old.stream }
