@@ -575,41 +575,90 @@ def apply(demand, capacity, batch):
     return demand, capacity
 
 
+class Feed:
+    """A feed's lines from 1, with the batch that is open and the lines of it that were refused."""
+
+    def __init__(self, octets):
+        self.lines, self.batch, self.refused = enumerate(lines_of(octets), 1), [], 0
+
+
+class Session:
+    """What is published, where the maps are these: their texts are taken, and found good for the numbers of the feeds."""
+
+    def __init__(self, topology, maps):
+        self.topology, self.maps, self.serial = topology, maps, 0
+        self.demand, self.capacity = topology.demand, topology.capacity
+        self.good = [verdict(topology, self.demand, self.capacity, maps[0]) == "good"]
+
+    def is_good(self):
+        return all(self.good) and len(self.maps) == self.serial + 1
+
+    def commit(self, feed):
+        batch, refused, feed.batch, feed.refused = feed.batch, feed.refused, [], 0
+        if refused:
+            return f"refused commit lines {refused}"
+        if batch:
+            self.demand, self.capacity = apply(self.demand, self.capacity, batch)
+            self.serial += 1
+            self.good.append(self.serial < len(self.maps) and verdict(self.topology, self.demand, self.capacity, self.maps[self.serial]) == "good")
+        return f"published {self.serial}"
+
+    def show(self):
+        sums = Sums(self.topology, self.maps[self.serial])
+        full = sum(load == most for load, most in zip(sums.load, self.capacity))
+        return f"show {self.serial} placed {sum(sums.placed)} unplaced {sum(self.demand) - sum(sums.placed)} full {full}"
+
+    def next_line(self, feed):
+        """What the next line of a feed that is answered says, or None where the feed ends before."""
+        for number, line in feed.lines:
+            try:
+                words = read_line(line)
+                if words[0] == "stop":
+                    feed.lines = iter(())
+                    return None
+                if words[0] == "commit":
+                    return self.commit(feed)
+                if words[0] == "show":
+                    return self.show()
+                if words[0] == "ask":
+                    got = replies(self.topology, self.maps[self.serial], words[1], words[2])
+                    return f"answer {self.serial} {'-' if got is None else got.at(0).hex()}"
+                add_change(self.topology, feed.batch, words)
+            except Refused as why:
+                feed.refused += 1
+                return f"refused {number} {why}"
+        return None
+
+
+def text_of(session, lines):
+    """The text of these lines, and whether all is as it should be with the maps."""
+    text = ""
+    try:
+        for line in lines:
+            text += f"{line}\n"
+    except IndexError:
+        session.good.append(False)
+    return text, session.is_good()
+
+
 def control_text(topology, octets, maps):
-    """What a session writes over a feed, where its maps are these: their texts are taken, and found good for the numbers of the feed. Second, whether all is as it should be with them."""
-    demand, capacity, batch, refused, serial, out = topology.demand, topology.capacity, [], 0, 0, []
-    good = [verdict(topology, demand, capacity, maps[0]) == "good"]
-    for number, line in enumerate(lines_of(octets), 1):
-        try:
-            words = read_line(line)
-            if words[0] == "stop":
-                break
-            if words[0] in ("demand", "capacity"):
-                add_change(topology, batch, words)
-            elif words[0] == "commit":
-                if refused:
-                    out.append(f"refused commit lines {refused}")
-                else:
-                    if batch:
-                        demand, capacity = apply(demand, capacity, batch)
-                        serial += 1
-                        good.append(serial < len(maps) and verdict(topology, demand, capacity, maps[serial]) == "good")
-                    out.append(f"published {serial}")
-                batch, refused = [], 0
-            elif words[0] == "show":
-                sums = Sums(topology, maps[serial])
-                full = sum(load == most for load, most in zip(sums.load, capacity))
-                out.append(f"show {serial} placed {sum(sums.placed)} unplaced {sum(demand) - sum(sums.placed)} full {full}")
-            else:
-                got = replies(topology, maps[serial], words[1], words[2])
-                out.append(f"answer {serial} {'-' if got is None else got.at(0).hex()}")
-        except Refused as why:
-            refused += 1
-            out.append(f"refused {number} {why}")
-        except IndexError:
-            good.append(False)
-            break
-    return "".join(f"{line}\n" for line in out), all(good) and len(maps) == serial + 1
+    """What a session writes over a feed, and whether all is as it should be with its maps."""
+    session, feed = Session(topology, maps), Feed(octets)
+    return text_of(session, iter(lambda: session.next_line(feed), None))
+
+
+def merged_text(topology, feeds, maps, said):
+    """The same over several feeds, in the order in which the lines of `said` take them, and to the end of each."""
+    session, read = Session(topology, maps), [Feed(octets) for octets in feeds]
+    marks = {str(number): feed for number, feed in enumerate(read, 1)}
+
+    def lines():
+        for mark in [line.partition(" ")[0] for line in said.splitlines()]:
+            yield f"{mark} {session.next_line(marks[mark]) if mark in marks else None}"
+        for mark, feed in marks.items():
+            yield from (f"{mark} {line}" for line in iter(lambda: session.next_line(feed), None))
+
+    return text_of(session, lines())
 
 
 # Replies.

@@ -97,6 +97,43 @@ maps=$(mktemp)
 said=$(printf 'demand g2 4\ncommit\nshow\nstop\n' | "$glb" serve tree.toml --listen 127.0.0.1:0 --workers 2 2>"$maps")
 if [ $? = 0 ] && [ "$said" = $'published 1\nshow 1 placed 12 unplaced 0 full 1' ] && [ "$(head -7 "$maps")" = "$(cat tree.map)" ]; then passed=$((passed + 1)); else failed=$((failed + 1)) && echo "serve: '$said'"; fi
 rm "$maps"
+
+# fed STATUS TEXT INPUT WORD..: what a server with these words is to say over that standard input
+fed() {
+    local status=$1 text=$2 input=$3 written answered
+    shift 3
+    written=$(printf "$input" | "$glb" serve tree.toml --listen 127.0.0.1:0 "$@" 2>/dev/null)
+    answered=$?
+    if [ "$answered" = "$status" ] && [ "$written" = "$text" ]; then
+        passed=$((passed + 1))
+    else
+        failed=$((failed + 1))
+        echo "glb serve .. $*: status $answered, '$written'; wanted $status, '$text'"
+    fi
+}
+
+# further feeds: one alone is feed 2; a folder opens, and cannot be read
+folder=$(mktemp -d)
+printf 'demand g2 4\ncommit\nshow\n' >"$folder/demand"
+fed 0 $'2 published 1\n2 show 1 placed 12 unplaced 0 full 1' '' --feed2 "$folder/demand"
+fed 0 $'2 published 1\n2 show 1 placed 12 unplaced 0 full 1' '' --feed4 "$folder/demand"
+fed 0 $'1 refused 1 unknown word\n1 refused commit lines 1' 'guess\ncommit\nstop\ncommit\n' --feed3 /dev/null --workers 2
+fed 3 '' 'commit\n' --feed2 "$folder/nowhere"
+fed 3 '1 published 1' 'demand g1 7\ncommit\n' --feed3 "$folder"
+fed 1 "$usage" '' --feed2 "$folder/demand" --feed2 "$folder/demand"
+fed 1 "$usage" '' --feed5 "$folder/demand"
+# two feeds in one order or the other
+said=$(printf 'demand g1 7\ncommit\n' | "$glb" serve tree.toml --listen 127.0.0.1:0 --feed2 "$folder/demand" 2>/dev/null | grep published)
+if [ "$said" = $'1 published 1\n2 published 2' ] || [ "$said" = $'2 published 1\n1 published 2' ]; then passed=$((passed + 1)); else failed=$((failed + 1)) && echo "two feeds: '$said'"; fi
+# a pipe: nobody writes when it is opened, writers come and go, and `stop` ends it
+mkfifo "$folder/pipe"
+"$glb" serve tree.toml --listen 127.0.0.1:0 --feed2 "$folder/pipe" </dev/null >"$folder/said" 2>/dev/null &
+timeout 20 bash -c 'printf "demand g1 7\ncommit\n" >"$0"' "$folder/pipe"
+sleep 0.2
+timeout 20 bash -c 'printf "show\nstop\n" >"$0"' "$folder/pipe"
+wait $!
+if [ $? = 0 ] && [ "$(cat "$folder/said")" = $'2 published 1\n2 show 1 placed 15 unplaced 0 full 2' ]; then passed=$((passed + 1)); else failed=$((failed + 1)) && echo "a pipe: '$(cat "$folder/said")'"; fi
+rm -r "$folder"
 # a full device in the place of the output
 "$glb" check flat.toml flat.map >/dev/full
 if [ $? = 4 ]; then passed=$((passed + 1)); else failed=$((failed + 1)) && echo 'a full device: wanted 4'; fi
