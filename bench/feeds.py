@@ -7,12 +7,14 @@
 Standard input, a file and two named pipes speak to one server at the same time: changes, commits, questions and lines with
 each fault. second.py says what has to come in the order in which the feeds were worked, each map is found good, and the lines
 of feeds that change nothing have to be those of each by itself. Then one feed fails, one stops, an output fails in the
-middle, and a pipe's writers come and go. `idle` prints the processor's share of a server with four feeds to which nobody
+middle, and there are too few threads (as root). `idle` prints the processor's share of a server with four feeds to which nobody
 writes, its threads, and how long a commit's answer takes. GLB names the program. The status is 0 where all is so.
 """
 
 import os
 import random
+import resource
+import shutil
 import subprocess
 import sys
 import tempfile
@@ -27,6 +29,8 @@ TOPOLOGY = TOP / "examples/tree.toml"
 READ = second.Topology(TOPOLOGY.read_bytes())
 ASKS = [f"ask 198.51.100.7 {QUERY.hex()}", f"ask 203.0.113.9 {QUERY.hex()}", "ask 192.0.2.1 00"]
 FAULTS = ["guess", "", "commit now", "ask 1.2.3 00", "ask 1.2.3.4 0", "demand g1 x", "demand g1 0", "demand g9 1", "capacity g1 1", "demand g1 4294967296", "capacity A 281474976710657", "ask", "demand g1 1\x7f", "x" * 8301]
+# somebody else, with no process
+NOBODY = 65534
 COMMIT = ["demand g1 7", "commit"]
 
 
@@ -204,11 +208,40 @@ def idle(tally):
         tally.take("threads", threads == 2 + 4 + 1, threads)
 
 
+def threads(tally):
+    """A limit on threads: a server that can't have its own ends at once, and one that can works its feeds."""
+    if os.getuid() != 0:
+        print("threads: wants root, to be somebody else")
+        return
+    with tempfile.TemporaryDirectory() as work:
+        os.chmod(work, 0o755)
+        shutil.copy(GLB, f"{work}/glb")
+        shutil.copy(TOPOLOGY, f"{work}/topology")
+        Path(f"{work}/feed").write_bytes(octets_of(COMMIT))
+        words = [f"{work}/glb", "serve", f"{work}/topology", "--listen", "127.0.0.1:0", "--workers", "2", "--feed2", f"{work}/feed"]
+
+        def status_at(limit):
+            def limited():
+                os.setgid(NOBODY)
+                os.setuid(NOBODY)
+                resource.setrlimit(resource.RLIMIT_NPROC, (limit, limit))
+
+            done = subprocess.run(words, stdin=subprocess.DEVNULL, capture_output=True, timeout=60, preexec_fn=limited)
+            return done.returncode, done.stdout
+
+        ends = [status_at(limit) for limit in range(1, 12)]
+    short = ends.count((8, b""))
+    whole = ends.count((0, b"2 published 1\n"))
+    print(f"threads: up to {short} none are had, from {short + 1} on they are")
+    tally.take("a limit on threads", 0 < short < len(ends) and ends == [(8, b"")] * short + [(0, b"2 published 1\n")] * whole, ends)
+
+
 def main():
     tally, words = Tally(), sys.argv[1:]
     if words != ["idle"]:
         rows(tally)
         together(tally, int(words[0]) if words else 10_000)
+        threads(tally)
     idle(tally)
     print(f"{tally.passed} passed, {tally.failed} failed")
     return tally.failed
