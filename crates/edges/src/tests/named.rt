@@ -89,10 +89,10 @@ fn a_pipe_without_a_writer(rt: HostRuntime) {
 
 /// The next four octets, in one piece or more.
 fn four_come(source: &mut impl Source) -> bool {
-    let mut count = 0;
+    let mut count = 0usize;
     for _ in 0..4u32 {
         match read_of(source) {
-            Read::Got(len) => count += len,
+            Read::Got(len) => count = count.saturating_add(len),
             Read::End | Read::Failed => return false,
         }
         if count >= 4 {
