@@ -19,17 +19,25 @@ repair_is_taken : asked (codes "glb" ∷ codes "repair" ∷ codes "t" ∷ codes 
 unfolding clap_on_literals
 repair_is_taken = refl
 
-serve_is_taken : asked (codes "glb" ∷ codes "serve" ∷ codes "t" ∷ codes "--listen" ∷ codes "x" ∷ codes "--workers" ∷ codes "2" ∷ []) ≡ Some (serve (codes "t") (codes "x") (Some (codes "2")) None)
+serve_is_taken : asked (codes "glb" ∷ codes "serve" ∷ codes "t" ∷ codes "--listen" ∷ codes "x" ∷ codes "--workers" ∷ codes "2" ∷ []) ≡ Some (serve (codes "t") (codes "x") (Some (codes "2")) None None None None)
 unfolding clap_on_literals
 serve_is_taken = refl
 
-serve_alone_is_taken : asked (codes "glb" ∷ codes "serve" ∷ codes "--listen" ∷ codes "x" ∷ codes "t" ∷ []) ≡ Some (serve (codes "t") (codes "x") None None)
+serve_alone_is_taken : asked (codes "glb" ∷ codes "serve" ∷ codes "--listen" ∷ codes "x" ∷ codes "t" ∷ []) ≡ Some (serve (codes "t") (codes "x") None None None None None)
 unfolding clap_on_literals
 serve_alone_is_taken = refl
 
-serve_over_tcp_is_taken : asked (codes "glb" ∷ codes "serve" ∷ codes "t" ∷ codes "--tcp" ∷ codes "y" ∷ codes "--listen" ∷ codes "x" ∷ []) ≡ Some (serve (codes "t") (codes "x") None (Some (codes "y")))
+serve_over_tcp_is_taken : asked (codes "glb" ∷ codes "serve" ∷ codes "t" ∷ codes "--tcp" ∷ codes "y" ∷ codes "--listen" ∷ codes "x" ∷ []) ≡ Some (serve (codes "t") (codes "x") None (Some (codes "y")) None None None)
 unfolding clap_on_literals
 serve_over_tcp_is_taken = refl
+
+serve_with_a_feed_more_is_taken : asked (codes "glb" ∷ codes "serve" ∷ codes "--feed3" ∷ codes "p" ∷ codes "t" ∷ codes "--listen" ∷ codes "x" ∷ []) ≡ Some (serve (codes "t") (codes "x") None None None (Some (codes "p")) None)
+unfolding clap_on_literals
+serve_with_a_feed_more_is_taken = refl
+
+serve_with_all_feeds_is_taken : asked (codes "glb" ∷ codes "serve" ∷ codes "t" ∷ codes "--listen" ∷ codes "x" ∷ codes "--feed4" ∷ codes "r" ∷ codes "--feed2" ∷ codes "p" ∷ codes "--feed3" ∷ codes "q" ∷ []) ≡ Some (serve (codes "t") (codes "x") None None (Some (codes "p")) (Some (codes "q")) (Some (codes "r")))
+unfolding clap_on_literals
+serve_with_all_feeds_is_taken = refl
 
 serve_nowhere_is_not : asked (codes "glb" ∷ codes "serve" ∷ codes "t" ∷ []) ≡ None
 unfolding clap_on_literals

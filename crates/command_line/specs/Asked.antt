@@ -13,7 +13,7 @@ pub data Ask : Type 0 where
   answer : Text → Text → Text → Text → Ask
   map_of : Text → Ask
   repair : Text → Text → Text → Ask
-  serve : Text → Text → Option Text → Option Text → Ask
+  serve : Text → Text → Option Text → Option Text → Option Text → Option Text → Option Text → Ask
   large : Text → Ask
   places : Text → Ask
 
@@ -38,7 +38,7 @@ abbrev pub repair_of : List Row → Option Ask
 repair_of rows = with_value (codes "TOPOLOGY") rows (λ t. with_value (codes "MAP") rows (λ m. with_value (codes "CHANGES") rows (λ c. Some (repair t m c))))
 
 abbrev pub serve_of : List Row → Option Ask
-serve_of rows = with_value (codes "TOPOLOGY") rows (λ t. with_value (codes "listen") rows (λ l. Some (serve t l (first_of (codes "workers") rows) (first_of (codes "tcp") rows))))
+serve_of rows = with_value (codes "TOPOLOGY") rows (λ t. with_value (codes "listen") rows (λ l. Some (serve t l (first_of (codes "workers") rows) (first_of (codes "tcp") rows) (first_of (codes "feed2") rows) (first_of (codes "feed3") rows) (first_of (codes "feed4") rows))))
 
 abbrev pub large_of : List Row → Option Ask
 large_of rows = with_value (codes "N") rows (λ n. Some (large n))

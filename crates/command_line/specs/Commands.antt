@@ -10,6 +10,6 @@ ask_of (Check topology map) = check topology.now map.now
 ask_of (Answer topology map addr hex) = answer topology.now map.now addr.now hex.now
 ask_of (Map topology) = map_of topology.now
 ask_of (Repair topology map changes) = repair topology.now map.now changes.now
-ask_of (Serve topology listen workers tcp) = serve topology.now listen.now (option_map (λ w. w.now) workers) (option_map (λ t. t.now) tcp)
+ask_of (Serve topology listen workers tcp feed2 feed3 feed4) = serve topology.now listen.now (option_map (λ w. w.now) workers) (option_map (λ t. t.now) tcp) (option_map (λ f. f.now) feed2) (option_map (λ f. f.now) feed3) (option_map (λ f. f.now) feed4)
 ask_of (Large groups) = large groups.now
 ask_of (Places topology) = places topology.now

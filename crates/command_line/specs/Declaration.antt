@@ -17,7 +17,7 @@ option_named name is_required = record (new_rule name) { long = Some name; requi
 
 -- a server's command: where it listens for datagrams has to be said
 abbrev pub serve_command : Shape
-serve_command = record (new_shape (codes "serve")) { rules = positional (codes "TOPOLOGY") ∷ option_named (codes "listen") true ∷ option_named (codes "workers") false ∷ option_named (codes "tcp") false ∷ [] }
+serve_command = record (new_shape (codes "serve")) { rules = positional (codes "TOPOLOGY") ∷ option_named (codes "listen") true ∷ option_named (codes "workers") false ∷ option_named (codes "tcp") false ∷ option_named (codes "feed2") false ∷ option_named (codes "feed3") false ∷ option_named (codes "feed4") false ∷ [] }
 
 -- the command line: no command stands without one of these behind it, and there is nothing else, nor any help
 abbrev pub declared : App

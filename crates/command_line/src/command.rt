@@ -26,6 +26,9 @@ pub enum Command<'a> {
         listen: &'a str,
         workers: Option<&'a str>,
         tcp: Option<&'a str>,
+        feed2: Option<&'a str>,
+        feed3: Option<&'a str>,
+        feed4: Option<&'a str>,
     },
     Large {
         groups: &'a str,

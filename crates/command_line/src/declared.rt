@@ -40,7 +40,10 @@ fn serve<'a>(alloc: Global) -> Result<Command<'a>, AllocError>
         .arg(positional(alloc, "TOPOLOGY"))?
         .arg(option(alloc, "listen", true))?
         .arg(option(alloc, "workers", false))?
-        .arg(option(alloc, "tcp", false))
+        .arg(option(alloc, "tcp", false))?
+        .arg(option(alloc, "feed2", false))?
+        .arg(option(alloc, "feed3", false))?
+        .arg(option(alloc, "feed4", false))
 }
 
 /// The command line, as it is declared.

@@ -1,7 +1,7 @@
 //! The words of the command line, read with `clap`.
 //!
 //! One command, `glb`, with a subcommand that has to be there. Each subcommand has so many positional words, and
-//! `serve` three options of one value. Nothing else is declared: no help and no version.
+//! `serve` six options of one value. Nothing else is declared: no help and no version.
 #![tactic(auto)]
 
 mod command;

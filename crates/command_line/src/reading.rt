@@ -67,11 +67,17 @@ fn serve<'a>(found: &ArgMatches<'a>) -> Option<Command<'a>>
     let listen = value(found, "listen")?;
     let workers = value(found, "workers");
     let tcp = value(found, "tcp");
+    let feed2 = value(found, "feed2");
+    let feed3 = value(found, "feed3");
+    let feed4 = value(found, "feed4");
     Some(Command::Serve {
         topology,
         listen,
         workers,
         tcp,
+        feed2,
+        feed3,
+        feed4,
     })
 }
 

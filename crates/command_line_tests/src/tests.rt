@@ -12,6 +12,19 @@ fn owned(alloc: Global, words: &[&str]) -> Option<Vec<String>> {
     Some(owned)
 }
 
+/// Which further feeds were given, by the numbers of their options.
+fn fed_by(feeds: &[Option<&str>; 3]) -> &'static str {
+    match feeds {
+        [None, None, None] => "none",
+        [Some("p"), None, None] => "2",
+        [None, Some("q"), None] => "3",
+        [None, None, Some("r")] => "4",
+        [Some("p"), None, Some("r")] => "2 and 4",
+        [Some("p"), Some("q"), Some("r")] => "2 to 4",
+        _ => "others",
+    }
+}
+
 /// What a command is called here.
 fn kind(command: &Command) -> &'static str {
     match command {
@@ -100,6 +113,37 @@ const ROWS: &[Row] = &[
         "usage",
     ),
     (&["glb", "map", "t", "--tcp", "y"], "usage"),
+    (
+        &["glb", "serve", "t", "--listen", "x", "--feed2", "p"],
+        "serve",
+    ),
+    (&["glb", "serve", "t", "--feed2", "p"], "usage"),
+    (&["glb", "serve", "t", "--listen", "x", "--feed2"], "usage"),
+    (
+        &["glb", "serve", "t", "--listen", "x", "--feed1", "p"],
+        "usage",
+    ),
+    (
+        &["glb", "serve", "t", "--listen", "x", "--feed5", "p"],
+        "usage",
+    ),
+    (
+        &["glb", "serve", "t", "--listen", "x", "--feed", "p"],
+        "usage",
+    ),
+    (
+        &[
+            "glb", "serve", "t", "--listen", "x", "--feed3", "p", "--feed3", "q",
+        ],
+        "usage",
+    ),
+    (
+        &[
+            "glb", "serve", "t", "--listen", "x", "--feed4", "--feed2", "p",
+        ],
+        "usage",
+    ),
+    (&["glb", "map", "t", "--feed2", "p"], "usage"),
     (&["glb", "serve", "t", "--listen"], "usage"),
     (
         &["glb", "serve", "t", "--listen", "x", "--listen", "y"],
@@ -126,6 +170,82 @@ fn first_wrong(alloc: Global, rows: &[Row]) -> Option<usize> {
         }
     }
     None
+}
+
+/// What a server's words say of its further feeds.
+fn feeds_of(alloc: Global, words: &[String]) -> &'static str {
+    match read_words(alloc, words) {
+        Ok(
+            Some(
+                Command::Serve {
+                    feed2,
+                    feed3,
+                    feed4,
+                    ..
+                },
+            ),
+        ) => fed_by(&[feed2, feed3, feed4]),
+        _ => "no server",
+    }
+}
+
+/// Words of servers, and their further feeds.
+const FEEDS: &[Row] = &[
+    (&["glb", "serve", "t", "--listen", "x"], "none"),
+    (
+        &["glb", "serve", "t", "--listen", "x", "--feed2", "p"],
+        "2",
+    ),
+    (
+        &["glb", "serve", "--feed3=q", "t", "--listen", "x"],
+        "3",
+    ),
+    (
+        &["glb", "serve", "t", "--feed4", "r", "--listen", "x"],
+        "4",
+    ),
+    (
+        &[
+            "glb", "serve", "t", "--feed4", "r", "--listen", "x", "--feed2", "p",
+        ],
+        "2 and 4",
+    ),
+    (
+        &[
+            "glb",
+            "serve",
+            "t",
+            "--listen",
+            "x",
+            "--tcp",
+            "y",
+            "--feed3",
+            "q",
+            "--workers",
+            "2",
+            "--feed2",
+            "p",
+            "--feed4",
+            "r",
+        ],
+        "2 to 4",
+    ),
+];
+
+/// The number of the first row whose feeds are others, from 0.
+fn first_other(alloc: Global, rows: &[Row]) -> Option<usize> {
+    for (i, (words, wanted)) in rows.iter().enumerate() {
+        match owned(alloc, *words) {
+            Some(words) if feeds_of(alloc, words.as_slice()) == *wanted => {}
+            _ => return Some(i),
+        }
+    }
+    None
+}
+
+#[test]
+fn feeds_are_taken(rt: HostRuntime) {
+    assert_eq!(rt; first_other(rt.alloc(), FEEDS), None);
 }
 
 #[test]

@@ -43,6 +43,22 @@ impl<T: io::Read> StreamSource<T> {
             past: SourcePast::new(),
         }
     }
+
+    /// The stream.
+    pub(crate) fn stream(&self) -> &T
+        ensures { result.now ≡ self.now.stream }
+    {
+        &self.stream
+    }
+
+    /// Goes on over another stream.
+    pub(crate) fn go_on_over(&mut self, stream: T)
+    where
+        T: Drop,
+        ensures { self.new ≡ record self.old { stream = stream } }
+    {
+        self.stream = stream;
+    }
 }
 
 impl<T: io::Read> Source for StreamSource<T> {

@@ -1,4 +1,5 @@
 pub mod Gate
+pub mod Names
 pub mod Pace
 pub mod Port
 pub mod Sink

@@ -3,6 +3,7 @@
 #![tactic(auto)]
 
 mod gate;
+mod names;
 mod pace;
 mod past;
 mod port;
@@ -11,6 +12,7 @@ mod source;
 mod streams;
 
 pub use gate::{GateEvent, GatePast, GateTelling};
+pub use names::{NameEvent, NamesPast, NamesTelling};
 pub use pace::{PaceEvent, PacePast, PaceTelling};
 pub use past::Past;
 pub use port::{PortEvent, PortPast, PortTelling};
