@@ -1,5 +1,5 @@
 -- The command line as it is declared: one command whose subcommand is required, and each subcommand's words.
-use Rattle.std.specs.Prelude.{List, [], ◌∷◌, Bool, true, false, Some, map, codes}
+use Rattle.std.specs.Prelude.{List, [], ◌∷◌, ◌++◌, Bool, true, false, Some, map, codes}
 use Rattle.clap.specs.Words.{App, Rule, Shape, Text, new_rule}
 use Rattle.clap.specs.Simple.{new_shape}
 
@@ -15,9 +15,13 @@ command name ids = record (new_shape name) { rules = map positional ids }
 abbrev pub option_named : Text → Bool → Rule
 option_named name is_required = record (new_rule name) { long = Some name; required = is_required }
 
--- a server's command: where it listens for datagrams has to be said
+-- a server's command without further feeds: where it listens for datagrams has to be said
+abbrev pub serve_one_command : Shape
+serve_one_command = record (new_shape (codes "serve")) { rules = positional (codes "TOPOLOGY") ∷ option_named (codes "listen") true ∷ option_named (codes "workers") false ∷ option_named (codes "tcp") false ∷ [] }
+
+-- a server's command
 abbrev pub serve_command : Shape
-serve_command = record (new_shape (codes "serve")) { rules = positional (codes "TOPOLOGY") ∷ option_named (codes "listen") true ∷ option_named (codes "workers") false ∷ option_named (codes "tcp") false ∷ option_named (codes "feed2") false ∷ option_named (codes "feed3") false ∷ option_named (codes "feed4") false ∷ [] }
+serve_command = record serve_one_command { rules = serve_one_command.rules ++ map (λ name. option_named name false) (codes "feed2" ∷ codes "feed3" ∷ codes "feed4" ∷ []) }
 
 -- the command line: no command stands without one of these behind it, and there is nothing else, nor any help
 abbrev pub declared : App

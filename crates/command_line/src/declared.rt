@@ -2,7 +2,7 @@
 ghost use Rattle.std.specs.Prelude.{◌≡◌, ◌∷◌, [], false, IfOk, map};
 ghost use Rattle.clap.specs.Words.{app_of, rule_of};
 ghost use Rattle.clap.specs.declared.builder.command.Command.TheViews.{out-Command as fields_of};
-ghost use Rattle.command_line.specs.Declaration.{command, declared, option_named, positional, serve_command};
+ghost use Rattle.command_line.specs.Declaration.{command, declared, option_named, positional, serve_command, serve_one_command};
 
 use clap::{Arg, Command};
 use std::alloc::{AllocError, Global};
@@ -32,15 +32,23 @@ fn option<'a>(alloc: Global, name: &'a str, required: bool) -> Arg<'a>
     Arg::new(alloc, name).long(name).required(required)
 }
 
-fn serve<'a>(alloc: Global) -> Result<Command<'a>, AllocError>
-    ensures app { IfOk result (λ c. app_of c ≡ record { top = serve_command; subs = [] }) }
+/// The command of a server with one feed.
+fn serve_one<'a>(alloc: Global) -> Result<Command<'a>, AllocError>
+    ensures app { IfOk result (λ c. app_of c ≡ record { top = serve_one_command; subs = [] }) }
     ensures local { IfOk result (λ c. (fields_of c).has_globals ≡ false) }
 {
     Command::new(alloc, "serve")
         .arg(positional(alloc, "TOPOLOGY"))?
         .arg(option(alloc, "listen", true))?
         .arg(option(alloc, "workers", false))?
-        .arg(option(alloc, "tcp", false))?
+        .arg(option(alloc, "tcp", false))
+}
+
+fn serve<'a>(alloc: Global) -> Result<Command<'a>, AllocError>
+    ensures app { IfOk result (λ c. app_of c ≡ record { top = serve_command; subs = [] }) }
+    ensures local { IfOk result (λ c. (fields_of c).has_globals ≡ false) }
+{
+    serve_one(alloc)?
         .arg(option(alloc, "feed2", false))?
         .arg(option(alloc, "feed3", false))?
         .arg(option(alloc, "feed4", false))

@@ -192,18 +192,9 @@ fn feeds_of(alloc: Global, words: &[String]) -> &'static str {
 /// Words of servers, and their further feeds.
 const FEEDS: &[Row] = &[
     (&["glb", "serve", "t", "--listen", "x"], "none"),
-    (
-        &["glb", "serve", "t", "--listen", "x", "--feed2", "p"],
-        "2",
-    ),
-    (
-        &["glb", "serve", "--feed3=q", "t", "--listen", "x"],
-        "3",
-    ),
-    (
-        &["glb", "serve", "t", "--feed4", "r", "--listen", "x"],
-        "4",
-    ),
+    (&["glb", "serve", "t", "--listen", "x", "--feed2", "p"], "2"),
+    (&["glb", "serve", "--feed3=q", "t", "--listen", "x"], "3"),
+    (&["glb", "serve", "t", "--feed4", "r", "--listen", "x"], "4"),
     (
         &[
             "glb", "serve", "t", "--feed4", "r", "--listen", "x", "--feed2", "p",
