@@ -189,3 +189,8 @@ pub named_stop : {N : Type 0} (f : N → FeedTold) (g : N → Option (List (List
 named_stop f g name names xs a b c is h =
     rw (is, map-append f a b, map-append f c b, map-append g a b, map-append g c b)
     (named_first name names (record { feeds = map f a; opens = map g a }) (record { feeds = map f c; opens = map g c }) (record { feeds = map f b; opens = map g b }) h)
+
+-- where no name is given, none of a list is among the first
+pub none_named : {N : Type 0} (names : List (List ℕ)) (front : List N) → length front ≡ length names → names ≡ [] → front ≡ []
+none_named names [] count none = refl
+none_named names (x ∷ front) count none = absurd (omega (arith, ap length none, count))
