@@ -17,8 +17,8 @@ use Rattle.published_map.specs.Version.{Version}
 use Rattle.mapper.specs.Words.{map_text}
 use Rattle.mapper.specs.Mappers.{IsFirst, IsFromScratch}
 use Rattle.drive.specs.Done.{LaneTold, StreamLaneTold}
-use Rattle.drive.specs.Driven.{AreEnds, FeedTold, IsDriven}
-use Rattle.drive.specs.Feeds.{AllStand, AnyRose, NoneFell}
+use Rattle.drive.specs.Driven.{AreEnds, IsDriven}
+use Rattle.drive.specs.Feeds.{AllStand, AnyRose, FeedTold, NoneFell}
 use Rattle.glb.specs.Causes.{AnyFeed, HasFeedFault}
 use Rattle.glb.specs.Feeds.{Named, with_feeds}
 use Rattle.glb.specs.declared.starting.Start.TheVariants as start
@@ -137,3 +137,9 @@ unopened turns ask t open_fault.CellFault fed more opens out maps pace lanes lan
   lent = refl;
   rest = refl;
 })
+
+-- stages of the same parts
+pub stages : (fed fed' : Option Fed) (more more' : List FeedTold) (opens opens' : List (Option (List (List ℕ)))) (out out' maps maps' : Option Written) (pace pace' : Option (List PaceCall)) (lanes lanes' : List LaneTold) (stream stream' : StreamLaneTold) (ff ff' of of' mf mf' : ℕ)
+    → fed ≡ fed' → more ≡ more' → opens ≡ opens' → out ≡ out' → maps ≡ maps' → pace ≡ pace' → lanes ≡ lanes' → stream ≡ stream' → ff ≡ ff' → of ≡ of' → mf ≡ mf'
+    → stage fed more opens out maps pace lanes stream ff of mf ≡ stage fed' more' opens' out' maps' pace' lanes' stream' ff' of' mf'
+stages fed fed' more more' opens opens' out out' maps maps' pace pace' lanes lanes' stream stream' ff ff' of of' mf mf' a b c d e f g h i j k = rw (a, b, c, d, e, f, g, h, i, j, k) refl

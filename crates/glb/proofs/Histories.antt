@@ -16,8 +16,7 @@ use Rattle.mapper.specs.Control.{AllCome, Comes, Course, start}
 use Rattle.mapper.specs.Feeding.{AllCame, IsFeedRun}
 use Rattle.mapper.specs.Scenes.{IsAt, IsPrinted, Scene}
 use Rattle.mapper.specs.Words.{map_text}
-use Rattle.drive.specs.Driven.{FeedTold}
-use Rattle.drive.specs.Feeds.{AreFed}
+use Rattle.drive.specs.Feeds.{AreFed, FeedTold}
 use Rattle.glb.proofs.Several.{all_work_texts, together_worked}
 
 one_texts : (task : Task) (c d : Course) → c.maps ≡ map map_text c.versions → Comes task c d → d.maps ≡ map map_text d.versions

@@ -21,8 +21,8 @@ use Rattle.mapper.specs.Words.{map_text}
 use Rattle.drive.specs.Done.{LaneTold, StreamLaneTold}
 use Rattle.outside.specs.Streams.{StreamsTold, IsOpening as AreStreamsOpened}
 use Rattle.glb.specs.Words.{Service, lanes_of}
-use Rattle.drive.specs.Driven.{FeedTold, Lent}
-use Rattle.drive.specs.Feeds.{AreFed}
+use Rattle.drive.specs.Driven.{Lent}
+use Rattle.drive.specs.Feeds.{AreFed, FeedTold}
 use Rattle.glb.specs.declared.status.Status.{Status}
 use Rattle.glb.specs.declared.status.Status.TheVariants as status
 use Rattle.glb.specs.Causes.{AnyFeed, AnyLane, AnyServer, AreSpent, HasCellFault, HasDoorFault, HasEightPortFaults, HasGiven, HasGivenMore, HasHeard, HasLaneCauses, HasPortFault, HasShown, HasTaken, IsPastMaps, OfStream}

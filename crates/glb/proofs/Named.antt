@@ -6,8 +6,7 @@ use Rattle.outside.specs.Faults.{BothTell, Rose}
 use Rattle.outside.specs.Source.{Fed}
 use Rattle.outside.specs.declared.port.Opening.{Opening}
 use Rattle.outside.specs.declared.port.Opening.TheVariants as opening
-use Rattle.drive.specs.Driven.{FeedTold}
-use Rattle.drive.specs.Feeds.{AllStand, AnyRose, NoneFell}
+use Rattle.drive.specs.Feeds.{AllStand, AnyRose, FeedTold, NoneFell}
 use Rattle.glb.specs.Causes.{AnyFeed, HasFeedFault, HasGiven, HasGivenMore}
 use Rattle.glb.specs.Feeds.{AreFeedsOpened, AreNamed, AreNoted, IsFeedOpening, Named}
 use Rattle.glb.specs.Serve.{all_ready, then_failed}
@@ -147,7 +146,7 @@ noted_then name names rs [] c b d one h k = absurd h
 noted_then name names rs (x ∷ []) [] b d one h k = absurd h
 noted_then name names rs (x ∷ z ∷ a) c b d one h k = absurd (cc)
 
-joined : Named → Named → Named
+abbrev joined : Named → Named → Named
 joined a b = record { feeds = a.feeds ++ b.feeds; opens = a.opens ++ b.opens }
 
 -- the first feed was opened, and then the others or some of them

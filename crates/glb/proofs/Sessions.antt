@@ -11,8 +11,8 @@ use Rattle.glb.specs.declared.status.Status.TheVariants as status
 use Rattle.glb.specs.Serve.{IsFirstSession, IsSession, IsServed, IsStarted, all_ends, all_ready, is_cell_fault, is_port_fault, is_spent, status_by, status_of, then_failed}
 use Rattle.glb.specs.Starting.{IsSessionLater}
 use Rattle.glb.specs.Told.{Stage}
-use Rattle.drive.specs.Driven.{FeedTold, Lent}
-use Rattle.drive.specs.Feeds.{AllStand}
+use Rattle.drive.specs.Driven.{Lent}
+use Rattle.drive.specs.Feeds.{AllStand, FeedTold}
 use Rattle.glb.proofs.Named.{failed_feed, fault_from, fell_from, opened_fell, opened_stand, stand_fell, stand_on}
 
 by_source : (p s m c : Bool) → status.SourceFault ≡ status_by p s m c → ⊥

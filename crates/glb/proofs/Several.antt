@@ -1,6 +1,6 @@
 -- Several feeds: how one of them ended, by the end of all, and what their items come to.
-use Rattle.std.proofs.Common.{◌≡◌, ◌⊎◌, inl, inr, ℕ, zero, suc, ◌+◌, ◌<◌, ◌≤◌, ◌==◌, Bool, true, false, cond, List, [], ◌∷◌, ◌++◌, length, map, refl, ap, sym, subst, ◌∙◌, arith}
-use Rattle.std.specs.Prelude.{Option, ◌||◌, if◌then◌else◌}
+use Rattle.std.proofs.Common.{◌≡◌, ◌⊎◌, inl, inr, ℕ, zero, suc, ◌+◌, ◌<◌, ◌≤◌, ◌==◌, eq-eqb, Bool, true, false, cond, List, [], ◌∷◌, ◌++◌, length, map, refl, ap, sym, subst, ◌∙◌, arith}
+use Rattle.std.specs.Prelude.{Option, Some, ◌||◌, if◌then◌else◌}
 use Rattle.std.specs.List.{filter, list_any}
 use Rattle.std.proofs.lemmas.List.{map-append}
 use Rattle.outside.specs.Source.{Fed}
@@ -20,18 +20,16 @@ use Rattle.mapper.specs.Feeding.{IsFeed}
 use Rattle.mapper.specs.Items.{AllWork, WorksAs}
 use Rattle.mapper.specs.Scenes.{Scene}
 use Rattle.mapper.specs.Words.{map_text}
-use Rattle.drive.specs.Driven.{FeedTold}
-use Rattle.drive.specs.Feeds.{AreFed, AreFedTogether, AreSent}
+use Rattle.drive.specs.Feeds.{AreFed, AreFedTogether, AreSent, FeedTold}
 use Rattle.glb.specs.Causes.{AnyFeed, HasGiven, HasGivenMore}
 
 same_number : (n : ℕ) → (n == n) ≡ true
-same_number zero = refl
-same_number (suc n) = same_number n
+same_number n = eq-eqb n n refl
 
 -- where some item is such, so is one of what some feeder sent
 one_sent : (test : What → Bool) (items : List Item) → has_one test items ≡ true → (k : ℕ) × (list_any test (sent_by k items) ≡ true)
 one_sent test [] h = absurd (cc)
-one_sent test (x ∷ xs) h = go (test x.what) refl
+one_sent test (x ∷ xs) h = go (test x.what) refl (one_sent test xs)
   where
     first : (b : Bool) → (x.feeder == x.feeder) ≡ b → b ≡ true → test x.what ≡ true → list_any test (map (λ (y : Item). y.what) (cond b (x ∷ filter (λ (y : Item). y.feeder == x.feeder) xs) (filter (λ (y : Item). y.feeder == x.feeder) xs))) ≡ true
     first true is t e = ap (λ (b : Bool). b || list_any test (map (λ (y : Item). y.what) (filter (λ (y : Item). y.feeder == x.feeder) xs))) e
@@ -45,11 +43,11 @@ one_sent test (x ∷ xs) h = go (test x.what) refl
         either false e = e
     behind k false e = e
 
-    go : (b : Bool) → test x.what ≡ b → (k : ℕ) × (list_any test (sent_by k (x ∷ xs)) ≡ true)
-    go true is = (x.feeder, first (x.feeder == x.feeder) refl (same_number x.feeder) is)
-    go false is =
+    go : (b : Bool) → test x.what ≡ b → (has_one test xs ≡ true → (k : ℕ) × (list_any test (sent_by k xs) ≡ true)) → (k : ℕ) × (list_any test (sent_by k (x ∷ xs)) ≡ true)
+    go true is others = (x.feeder, first (x.feeder == x.feeder) refl (same_number x.feeder) is)
+    go false is others =
         let rest : has_one test xs ≡ true = subst (λ (b : Bool). (b || has_one test xs) ≡ true) is h in
-        let more = one_sent test xs rest in
+        let more = others rest in
         (more.0, behind more.0 (x.feeder == more.0) more.1)
 
 -- where ends alone are such, and an end is last alone, the last one is such
@@ -88,16 +86,16 @@ is_that ends.SinkFault h = absurd (cc)
 is_that ends.NoMemory h = absurd (cc)
 
 -- a feed whose feeder sent that its turns were taken gave as many pieces
-spent_given : (t : Plan) (turns : ℕ) (fed then : Option Fed) (sent : List What) → HasSent t turns fed then sent → list_any is_spent sent ≡ true → HasGiven turns fed then
-spent_given t turns fed then sent h some = go (unfold HasSent in h)
+spent_given : (t : Plan) (turns : ℕ) (fed left : Option Fed) (sent : List What) → HasSent t turns fed left sent → list_any is_spent sent ≡ true → HasGiven turns fed left
+spent_given t turns fed left sent h some = go (unfold HasSent in h)
   where
-    go : ((end : FeedEnd) × IsSentOf t turns end fed then sent) ⊎ ((sent ≡ what.End ends.NoMemory ∷ []) × (then ≡ fed)) → HasGiven turns fed then
+    go : ((end : FeedEnd) × IsSentOf t turns end fed left sent) ⊎ ((sent ≡ what.End ends.NoMemory ∷ []) × (left ≡ fed)) → HasGiven turns fed left
     go (inl (end, s)) =
-        let last : EndsLast (s.whats ++ what.End end ∷ []) = subst EndsLast s.sent_is (runs_end_last t turns fed then sent h) in
+        let last : EndsLast (s.whats ++ what.End end ∷ []) = subst EndsLast s.sent_is (runs_end_last t turns fed left sent h) in
         let is : end ≡ ends.Spent = is_that end (last_is is_spent s.whats (what.End end) spent_ends last (subst (λ (ws : List What). list_any is_spent ws ≡ true) s.sent_is some)) in
         given end is s
       where
-        given : (e : FeedEnd) → e ≡ ends.Spent → IsSentOf t turns e fed then sent → HasGiven turns fed then
+        given : (e : FeedEnd) → e ≡ ends.Spent → IsSentOf t turns e fed left sent → HasGiven turns fed left
         given ends.Spent is r = (r.run.0, r.run.1, r.run.2.0, r.run.2.1)
         given ends.Ended is r = absurd (cc)
         given ends.SourceFault is r = absurd (cc)
@@ -106,7 +104,7 @@ spent_given t turns fed then sent h some = go (unfold HasSent in h)
     go (inr (is, same)) = let some' : list_any is_spent (what.End ends.NoMemory ∷ []) ≡ true = subst (λ (ws : List What). list_any is_spent ws ≡ true) is some in absurd (cc)
 
 -- one of these feeds gave as many pieces as there are turns
-AnyGave : ℕ → List (Option Fed) → List (Option Fed) → Type 0
+abbrev AnyGave : ℕ → List (Option Fed) → List (Option Fed) → Type 0
 AnyGave turns [] after = ⊥
 AnyGave turns (b ∷ before) (c ∷ after) = HasGiven turns b c ⊎ AnyGave turns before after
 AnyGave turns (b ∷ before) [] = ⊥
@@ -127,6 +125,12 @@ first_spent items h = go (has_one is_source_fault items) (has_one is_spent items
     go false false true h = absurd (cc)
     go false false false h = absurd (cc)
 
+-- a number is below another or not
+among : (k n : ℕ) → (k < n) ⊎ (n ≤ k)
+among k zero = inr (omega arith)
+among zero (suc n) = inl (omega arith)
+among (suc k) (suc n) = elim (among k n) [ | inl h ↦ inl (omega (arith, h)) | inr h ↦ inr (omega (arith, h)) ]
+
 -- several feeds of which one took all its turns
 together_gave : (t : Plan) (turns : ℕ) (end : FeedEnd) (before after : List (Option Fed)) (start stop : Scene) → end ≡ ends.Spent → AreFedTogether t turns end before after start stop → AnyGave turns before after
 together_gave t turns end before after start stop is f = go (elim f.run.ended [ | inl h ↦ sym is ∙ h.0 | inr h ↦ let clash : ends.Spent ≡ ends.SinkFault = sym is ∙ h.0 in absurd (cc) ])
@@ -138,14 +142,9 @@ together_gave t turns end before after start stop is f = go (elim f.run.ended [ 
       where
         by_number : (k : ℕ) → list_any is_spent (sent_by k f.items) ≡ true → AnyGave turns before after
         by_number k some = elim (among k (length before)) [
-          | inl lt ↦ any_gave t turns 0 k f.sent before after f.feeds lt (subst (λ (ws : List What). list_any is_spent ws ≡ true) (f.whole k lt) some)
+          | inl lt ↦ any_gave t turns 0 k f.sent before after f.feeds lt (subst (λ (i : ℕ). list_any is_spent (f.sent i) ≡ true) (omega arith) (subst (λ (ws : List What). list_any is_spent ws ≡ true) (f.whole k lt) some))
           | inr ge ↦ let none : list_any is_spent [] ≡ true = subst (λ (ws : List What). list_any is_spent ws ≡ true) (f.others k ge) some in absurd (cc)
         ]
-
-    among : (k n : ℕ) → (k < n) ⊎ (n ≤ k)
-    among k zero = inr (omega arith)
-    among zero (suc n) = inl (omega arith)
-    among (suc k) (suc n) = elim (among k n) [ | inl h ↦ inl (omega (arith, h)) | inr h ↦ inr (omega (arith, h)) ]
 
 any_of : (turns : ℕ) (before after : List FeedTold) → AnyGave turns (map (λ (x : FeedTold). x.fed) before) (map (λ (x : FeedTold). x.fed) after) → AnyFeed (length before) (HasGivenMore turns) before after
 any_of turns [] after h = h
@@ -168,25 +167,25 @@ works_texts mark (what.End end) c d texts h = rw h texts
 
 pub all_work_texts : (items : List Item) (c d : Course) → c.maps ≡ map map_text c.versions → AllWork items c d → d.maps ≡ map map_text d.versions
 all_work_texts [] c d texts h = rw h texts
-all_work_texts (x ∷ xs) c d texts h = all_work_texts xs h.0 d (works_texts _ x.what c h.0 texts h.1) h.2
+all_work_texts (x ∷ xs) c d texts h = all_work_texts xs h.0 d (works_texts (Some x.feeder) x.what c h.0 texts h.1) h.2
 
 -- what came of several feeds that ended
 pub together_worked : (t : Plan) (turns : ℕ) (before after : List (Option Fed)) (start stop : Scene) → (f : AreFedTogether t turns ends.Ended before after start stop) → AllWorked f.items start (record stop { pace = f.run.calls })
 together_worked t turns before after start stop f = elim f.run.ended [ | inl h ↦ h.1 | inr h ↦ let clash = h.0 in absurd (cc) ]
 
 -- what a run over a feed gave that was spent
-given_of : (t : Plan) (turns : ℕ) (end : FeedEnd) (fed then : Option Fed) (before after : Scene) → end ≡ ends.Spent → IsFeed t turns end fed then before after → HasGiven turns fed then
-given_of t turns ends.Spent fed then before after is f = (f.run.0, f.run.1, f.run.2.0, f.run.2.1)
-given_of t turns ends.Ended fed then before after is f = absurd (cc)
-given_of t turns ends.SourceFault fed then before after is f = absurd (cc)
-given_of t turns ends.SinkFault fed then before after is f = absurd (cc)
-given_of t turns ends.NoMemory fed then before after is f = absurd (cc)
+given_of : (t : Plan) (turns : ℕ) (end : FeedEnd) (fed left : Option Fed) (before after : Scene) → end ≡ ends.Spent → IsFeed t turns end fed left before after → HasGiven turns fed left
+given_of t turns ends.Spent fed left before after is f = (f.run.0, f.run.1, f.run.2.0, f.run.2.1)
+given_of t turns ends.Ended fed left before after is f = absurd (cc)
+given_of t turns ends.SourceFault fed left before after is f = absurd (cc)
+given_of t turns ends.SinkFault fed left before after is f = absurd (cc)
+given_of t turns ends.NoMemory fed left before after is f = absurd (cc)
 
 -- where turns were spent, a feed took them
-pub fed_given : (t : Plan) (turns : ℕ) (end : FeedEnd) (fed then : Option Fed) (more after : List FeedTold) (start stop : Scene) → end ≡ ends.Spent
-    → AreFed t turns end fed more then after start stop → HasGiven turns fed then ⊎ AnyFeed (length more) (HasGivenMore turns) more after
-fed_given t turns end fed then [] after start stop is h = inl (given_of t turns end fed then start stop is h.0)
-fed_given t turns end fed then (m ∷ more) after start stop is h = elim (together_gave t turns end (fed ∷ map (λ (x : FeedTold). x.fed) (m ∷ more)) (then ∷ map (λ (x : FeedTold). x.fed) after) start stop is h) [
+pub fed_given : (t : Plan) (turns : ℕ) (end : FeedEnd) (fed left : Option Fed) (more after : List FeedTold) (start stop : Scene) → end ≡ ends.Spent
+    → AreFed t turns end fed more left after start stop → HasGiven turns fed left ⊎ AnyFeed (length more) (HasGivenMore turns) more after
+fed_given t turns end fed left [] after start stop is h = inl (given_of t turns end fed left start stop is h.0)
+fed_given t turns end fed left (m ∷ more) after start stop is h = elim (together_gave t turns end (fed ∷ map (λ (x : FeedTold). x.fed) (m ∷ more)) (left ∷ map (λ (x : FeedTold). x.fed) after) start stop is h) [
   | inl own ↦ inl own
   | inr others ↦ inr (any_of turns (m ∷ more) after others)
 ]

@@ -7,7 +7,8 @@ use Rattle.demand_feed.specs.Runs.{HasRead, NoStop}
 use Rattle.mapper.specs.Scenes.{IsPrinted}
 use Rattle.addr_text.specs.declared.address.Listen.{Listen}
 use Rattle.drive.specs.Done.{LaneTold, ServerTold, StreamLaneTold}
-use Rattle.drive.specs.Driven.{FeedTold, Lent}
+use Rattle.drive.specs.Driven.{Lent}
+use Rattle.drive.specs.Feeds.{FeedTold}
 use Rattle.glb.specs.Words.{Service}
 use Rattle.glb.specs.declared.status.Status.{Status}
 use Rattle.glb.specs.declared.status.Status.TheVariants.{PortFault, Spent, CellFault}

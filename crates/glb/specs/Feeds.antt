@@ -4,7 +4,8 @@ use Rattle.outside.specs.Faults.{BothTell, Rose}
 use Rattle.outside.specs.NamedSource.{IsNamed}
 use Rattle.outside.specs.declared.port.Opening.{Opening}
 use Rattle.outside.specs.declared.port.Opening.TheVariants as opening
-use Rattle.drive.specs.Driven.{FeedTold, Lent}
+use Rattle.drive.specs.Driven.{Lent}
+use Rattle.drive.specs.Feeds.{FeedTold}
 
 -- An opening of a further feed: what it tells as a feed stays, and its count of faults rose where that failed, and else stands.
 pub record IsFeedOpening (result : Opening) (before after : FeedTold) : Type 0 where

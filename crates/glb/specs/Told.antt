@@ -9,7 +9,8 @@ use Rattle.outside.specs.Streams.{StreamsTold}
 use Rattle.outside.specs.declared.pace.PaceCall.{PaceCall}
 use Rattle.drive.specs.declared.stream.StreamLane.{StreamLane}
 use Rattle.drive.specs.Done.{LaneTold, StreamLaneTold}
-use Rattle.drive.specs.Driven.{FeedTold, Lent as LentTold}
+use Rattle.drive.specs.Driven.{Lent as LentTold}
+use Rattle.drive.specs.Feeds.{FeedTold}
 use Rattle.drive.specs.Told.{feed_told, lane_told, stream_told}
 use Rattle.glb.specs.Outcome.{Faults, Outside}
 use Rattle.glb.specs.declared.lent.Lent.{Lent}

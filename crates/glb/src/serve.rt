@@ -271,7 +271,8 @@ fn serve_first<
         }
         Start::Ready => {
             let (viewers, listener) = split_viewers(viewers, &service.tcp);
-            let (opened, _shut) = lent.more.split_at_mut(count_of(&service.more));
+            let more = &mut *lent.more;
+            let (opened, _shut) = more.split_at_mut(count_of(&service.more));
             match drive(
                 rt, alloc, mapper, viewers, listener, lent.feed, opened, lent.out, lent.maps,
                 lent.lanes, stream, lent.pace, lent.turns,

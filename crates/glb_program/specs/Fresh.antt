@@ -1,7 +1,7 @@
 -- All that the program is lent, before anything is asked of it: nothing was opened, read, put or taken, and no count has risen.
 use Rattle.std.specs.Prelude.{[], replicate, None, Some}
 use Rattle.drive.specs.Done.{LaneTold, StreamLaneTold}
-use Rattle.drive.specs.Driven.{FeedTold}
+use Rattle.drive.specs.Feeds.{FeedTold}
 use Rattle.glb.specs.Told.{Surroundings, stage, surroundings}
 use Rattle.past_log.specs.Gate.{new_gate}
 use Rattle.past_log.specs.Pace.{new_pace}
