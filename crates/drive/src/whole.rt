@@ -11,7 +11,8 @@ ghost use Rattle.drive.specs.Done.{IsDone};
 ghost use Rattle.drive.specs.Driven.{AreEnds, IsDriven};
 ghost use Rattle.drive.specs.Fed.{IsFedBy};
 ghost use Rattle.drive.specs.Streams.{AreStreamsDone};
-ghost use Rattle.drive.specs.Told.{lane_told, lent_of, stream_told};
+ghost use Rattle.drive.specs.Feeds.{AllStand, AnyRose, NoneFell};
+ghost use Rattle.drive.specs.Told.{feed_told, lane_told, lent_of, stream_told};
 
 use crate::beside::run_beside;
 use crate::joins::{close_all, close_more};
@@ -159,7 +160,8 @@ fn serve_all<
 /// `NoMemory`; nothing that was lent is touched then.
 pub fn drive<
     J: Naming + Send + Sync,
-    S: Source,
+    S: Source + Send,
+    T: Source + Send,
     K: Sink,
     P: Port + Send,
     Q: Streams + Send,
@@ -174,6 +176,7 @@ pub fn drive<
     viewers: Vec<Viewer<J>>,
     listener: Option<Viewer<J>>,
     feed: &mut S,
+    more: &mut [T],
     out: &mut K,
     maps: &mut K,
     lanes: &mut [Lane<P, G, D>],
@@ -185,20 +188,25 @@ pub fn drive<
     requires turns { turns ≤ MOST_TURNS }
     requires viewers { All (λ v. (v.seen ≡ mapper.history) × (v.heard ≡ mapper.history)) viewers.items }
     requires listener { IfSome listener (λ v. (v.seen ≡ mapper.history) × (v.heard ≡ mapper.history)) }
+    requires feeds { length more.old ≤ 3 }
     requires few { (vec_len viewers ≤ 16) × (vec_len viewers ≤ length lanes.old) }
     ensures driven { IfOk result (λ r. (ends : List Ended) × (length ends ≡ vec_len viewers) × AreEnds ends r.lanes × IsDriven turns mapper.newest r.feed ends r.stream
-        (lent_of S.told K.told M.told (lane_told P.told P.faults G.told D.asked D.looks D.greatest D.faults) (stream_told Q.told Q.faults G.told D.asked D.looks D.greatest D.faults) feed.old out.old maps.old pace.old lanes.old stream.old)
-        (lent_of S.told K.told M.told (lane_told P.told P.faults G.told D.asked D.looks D.greatest D.faults) (stream_told Q.told Q.faults G.told D.asked D.looks D.greatest D.faults) feed.new out.new maps.new pace.new lanes.new stream.new)) }
+        (lent_of S.told (feed_told T.told T.faults) K.told M.told (lane_told P.told P.faults G.told D.asked D.looks D.greatest D.faults) (stream_told Q.told Q.faults G.told D.asked D.looks D.greatest D.faults) feed.old more.old out.old maps.old pace.old lanes.old stream.old)
+        (lent_of S.told (feed_told T.told T.faults) K.told M.told (lane_told P.told P.faults G.told D.asked D.looks D.greatest D.faults) (stream_told Q.told Q.faults G.told D.asked D.looks D.greatest D.faults) feed.new more.new out.new maps.new pace.new lanes.new stream.new)) }
     ensures untouched { drop (vec_len viewers) lanes.new ≡ drop (vec_len viewers) lanes.old }
     ensures stream { IfOk result (λ r. length (option_to_list r.stream) ≡ length (option_to_list listener)) }
-    ensures no_memory { OnErr result ((feed.new ≡ feed.old) × (out.new ≡ out.old) × (maps.new ≡ maps.old) × (lanes.new ≡ lanes.old) × (stream.new ≡ stream.old) × (pace.new ≡ pace.old)) }
-    ensures later { (K.faults out.old ≤ K.faults out.new) × (K.faults maps.old ≤ K.faults maps.new) × (S.faults feed.old ≤ S.faults feed.new) }
+    ensures no_memory { OnErr result ((feed.new ≡ feed.old) × (more.new ≡ more.old) × (out.new ≡ out.old) × (maps.new ≡ maps.old) × (lanes.new ≡ lanes.old) × (stream.new ≡ stream.old) × (pace.new ≡ pace.old)) }
+    ensures later { (K.faults out.old ≤ K.faults out.new) × (K.faults maps.old ≤ K.faults maps.new) × (S.faults feed.old ≤ S.faults feed.new) × NoneFell (map (feed_told T.told T.faults) more.old) (map (feed_told T.told T.faults) more.new) }
     ensures sink { IfOk result (λ r. r.feed ≡ FeedEnd.SinkFault → Rose (K.faults out.old) (K.faults out.new) ⊎ Rose (K.faults maps.old) (K.faults maps.new)) }
     ensures sink_stays { IfOk result (λ r. r.feed ≢ FeedEnd.SinkFault → (K.faults out.new ≡ K.faults out.old) × (K.faults maps.new ≡ K.faults maps.old)) }
-    ensures source { IfOk result (λ r. r.feed ≡ FeedEnd.SourceFault → Rose (S.faults feed.old) (S.faults feed.new)) }
-    ensures source_stays { IfOk result (λ r. r.feed ≢ FeedEnd.SourceFault → S.faults feed.new ≡ S.faults feed.old) }
+    ensures source { IfOk result (λ r. r.feed ≡ FeedEnd.SourceFault → Rose (S.faults feed.old) (S.faults feed.new) ⊎ AnyRose (map (feed_told T.told T.faults) more.old) (map (feed_told T.told T.faults) more.new)) }
+    ensures source_stays { IfOk result (λ r. r.feed ≢ FeedEnd.SourceFault → (r.feed ≡ FeedEnd.SinkFault → more.old ≡ []) → (S.faults feed.new ≡ S.faults feed.old) × AllStand (map (feed_told T.told T.faults) more.old) (map (feed_told T.told T.faults) more.new)) }
 {
     let mut mapper = mapper;
+    if !more.is_empty() {
+        mapper.close(rt);
+        return Err(NoMemory);
+    }
     // tells the prover what the type keeps
     let _ = mapper.newest();
     let Ok(row) = NoteRow::new(alloc) else {

@@ -1,6 +1,8 @@
 -- What `map` and `repair` write is determined by their files, and what `serve` publishes by its topology and its feed.
-use Rattle.std.proofs.Common.{◌≡◌, ℕ, true, List, [], ◌∷◌, map, Result, Ok, None, Some, sym, ap, ◌∙◌, subst}
-use Rattle.std.specs.Prelude.{Option}
+use Rattle.std.proofs.Common.{◌≡◌, ◌⊎◌, inl, inr, ℕ, ◌<◌, ◌≤◌, true, false, List, [], ◌∷◌, ◌++◌, length, map, None, Some, append-nil, sym, ap, ◌∙◌, subst}
+use Rattle.std.specs.Prelude.{Option, take}
+use Rattle.std.specs.List.{concat}
+use Rattle.std.proofs.lemmas.List.{append_cancel_left}
 use Rattle.outside.specs.Faults.{BothTell}
 use Rattle.outside.specs.Sink.{Written}
 use Rattle.outside.specs.declared.pace.PaceCall.{PaceCall}
@@ -8,18 +10,18 @@ use Rattle.demand_feed.specs.Task.{Task, tasks}
 use Rattle.demand_feed.specs.Lines.{lines_of}
 use Rattle.published_map.specs.Version.{Version}
 use Rattle.mapper.specs.Control.{AllCome, Course, start}
-use Rattle.mapper.specs.Feeding.{AllCame}
+use Rattle.mapper.specs.Feeding.{AllCame, IsFeed}
 use Rattle.mapper.specs.Mappers.{IsFirst}
 use Rattle.mapper.specs.Scenes.{IsPrinted, scene}
 use Rattle.mapper.specs.Words.{map_text}
 use Rattle.mapper.proofs.Agree.{all_come_one, first_one}
 use Rattle.drive.specs.Driven.{Lent}
-use Rattle.demand_feed.specs.Octets.{MayHave}
-use Rattle.demand_feed.proofs.Octets.{ended_of_octets, octets_one}
-use Rattle.outside.specs.Shelf.{Shelved}
+use Rattle.drive.specs.Feeds.{AreFed}
+use Rattle.demand_feed.specs.Runs.{HasRead, IsAll, StopsLast}
+use Rattle.demand_feed.specs.declared.run.FeedEnd.TheVariants.{Ended}
+use Rattle.demand_feed.proofs.Octets.{ended_of_octets, octets_one, tasks_stopped}
 use Rattle.outside.specs.Source.{Fed}
-use Rattle.glb.specs.Files.{Says, said, topology_file}
-use Rattle.glb.specs.Laws.{CameBy, Holds, MapsAgree, RepairsAgree, ServesAgree, ServesCome}
+use Rattle.glb.specs.Laws.{AreOctetsOf, CameBy, MapsAgree, RepairsAgree, ServesAgree, ServesCome}
 use Rattle.glb.specs.Served.{IsWellServed}
 use Rattle.glb.specs.Told.{Surroundings}
 use Rattle.glb.specs.Words.{Service}
@@ -70,42 +72,56 @@ came_by turns ask before after w is calls (c, all, at) = (
   },
 )
 
--- each run with status 0 came to a course by the tasks of all octets that its feed had left
-pub served_came : (turns : ℕ) (ask : Service) (before after : Surroundings) (w : IsWellServed turns ask before after) → (octets : List ℕ) × MayHave w.started.lent.feed octets × (c : Course) × CameBy turns ask before after w (tasks w.topology (lines_of true octets)) c
-served_came turns ask before after w =
-    let all = ended_of_octets w.topology turns w.fed.run.0 w.started.lent.feed after.stage.lent.feed
-    (λ (ts : List Task). AllCame ts (scene w.first (w.first ∷ []) w.started.lent.out w.started.lent.maps w.started.lent.pace) (scene w.newest (w.first ∷ w.rest) after.stage.lent.out after.stage.lent.maps w.fed.calls)) w.fed.run.1 w.fed.run.2 in
-    let came = came_by turns ask before after w (tasks w.topology (lines_of true all.0)) w.fed.calls all.2 in
-    (all.0, all.1, came.0, came.1)
+-- with one feed, what was worked is that feed's run
+one_feed : (turns : ℕ) (ask : Service) (before after : Surroundings) (w : IsWellServed turns ask before after) → ask.more ≡ []
+    → IsFeed w.topology turns Ended w.started.lent.feed after.stage.lent.feed (scene w.first (w.first ∷ []) w.started.lent.out w.started.lent.maps w.started.lent.pace) (scene w.newest (w.first ∷ w.rest) after.stage.lent.out after.stage.lent.maps after.stage.lent.pace)
+one_feed turns ask before after w none =
+    (subst (λ (names : List (List ℕ)). AreFed w.topology turns Ended w.started.lent.feed (take (length names) w.started.lent.more) after.stage.lent.feed (take (length names) after.stage.lent.more) (scene w.first (w.first ∷ []) w.started.lent.out w.started.lent.maps w.started.lent.pace)
+    (scene w.newest (w.first ∷ w.rest) after.stage.lent.out after.stage.lent.maps after.stage.lent.pace)) none w.fed).0
 
 -- the feed is as it was before the cell was opened
 feed_same : (turns : ℕ) (ask : Service) (before after : Surroundings) (w : IsWellServed turns ask before after) → w.started.lent.feed ≡ before.stage.lent.feed
 feed_same turns ask before after w = ap (λ (l : Lent). l.feed) w.start.lent ∙ ap (λ (l : Lent). l.feed) w.place.lent
 
+-- what is said of the tasks of all pieces that were read, to a `stop` or to the end, is said of those of their octets
+ended_of_pieces : (t : Plan) (turns : ℕ) (pieces : List (List ℕ)) (before after : Option Fed) (P : List Task → Type 0)
+    → (StopsLast pieces × (length pieces ≤ turns) × P (tasks t (lines_of false (concat pieces)))) ⊎ (IsAll (concat pieces) before after × (length pieces < turns) × P (tasks t (lines_of true (concat pieces))))
+    → P (tasks t (lines_of true (concat pieces)))
+ended_of_pieces t turns pieces before after P (inl (stops, few, came)) =
+    subst P (tasks_stopped t (concat pieces) [] stops.1 ∙ ap (λ (bytes : List ℕ). tasks t (lines_of true bytes)) (append-nil (concat pieces))) came
+ended_of_pieces t turns pieces before after P (inr (whole, few, came)) = came
+
+-- pieces that were added to the same ones are the same
+added_one : (xs : List (List ℕ)) (ps qs all : List (List ℕ)) → all ≡ xs ++ ps → all ≡ xs ++ qs → qs ≡ ps
+added_one xs ps qs all p q = append_cancel_left xs qs ps (sym q ∙ p)
+
+-- whatever is said of the tasks to which a run came that ended, is said of those of the octets that its feed tells
+of_octets : (t : Plan) (turns : ℕ) (pieces : List (List ℕ)) (before after : Option Fed) (octets : List ℕ) (P : List Task → Type 0) → AreOctetsOf before after octets → BothTell before after (HasRead pieces)
+    → (StopsLast pieces × (length pieces ≤ turns) × P (tasks t (lines_of false (concat pieces)))) ⊎ (IsAll (concat pieces) before after × (length pieces < turns) × P (tasks t (lines_of true (concat pieces))))
+    → P (tasks t (lines_of true octets))
+of_octets t turns pieces None after octets P are told ended = absurd are
+of_octets t turns pieces (Some before) None octets P are told ended = absurd are
+of_octets t turns pieces (Some before) (Some after) octets P (inl has) told ended =
+    let all = ended_of_octets t turns pieces (Some before) (Some after) P told ended in
+    subst (λ (o : List ℕ). P (tasks t (lines_of true o))) (octets_one (Some before) octets all.0 has all.1) all.2
+of_octets t turns pieces (Some before) (Some after) octets P (inr (given, is, same)) told ended =
+    let one : given ≡ pieces = added_one before.pieces pieces given after.pieces told.given is in
+    subst (λ (o : List ℕ). P (tasks t (lines_of true o))) (sym (same ∙ ap concat one)) (ended_of_pieces t turns pieces (Some before) (Some after) P ended)
+
 pub serves_come : ServesCome
-serves_come turns ask before after w octets has =
-    let all = served_came turns ask before after w in
-    let same = octets_one before.stage.lent.feed octets all.0 has (subst (λ (f : Option Fed). MayHave f all.0) (feed_same turns ask before after w) all.1) in
-    subst (λ (o : List ℕ). (c : Course) × CameBy turns ask before after w (tasks w.topology (lines_of true o)) c) same (all.2, all.3)
-
--- files that hold one text hold one topology
-one_topology : (files others : Option Shelved) (name other text : List ℕ) (t u : Plan) → Holds files name text → Holds others other text → Says topology_file files name t → Says topology_file others other u → t ≡ u
-one_topology None others name other text t u h k p q = absurd h
-one_topology (Some f) None name other text t u h k p q = absurd k
-one_topology (Some f) (Some g) name other text t u h k p q =
-    let one : p.0 ≡ text = one_text (f.holds name) p.0 text p.1 h in
-    let two : q.0 ≡ text = one_text (g.holds other) q.0 text q.1 k in
-    one_answer (said topology_file text) t u (ap (said topology_file) (sym one) ∙ p.2) (ap (said topology_file) (sym two) ∙ q.2)
-  where
-    one_text : (held : Option (List ℕ)) (a b : List ℕ) → held ≡ Some a → held ≡ Some b → a ≡ b
-    one_text held a b x y = let e : Some a ≡ Some b = sym x ∙ y in cc
-
-    one_answer : (r : Result Plan (List ℕ)) (a b : Plan) → r ≡ Ok a → r ≡ Ok b → a ≡ b
-    one_answer r a b x y = let e : Ok a ≡ Ok b = sym x ∙ y in cc
+serves_come turns ask before after w octets none are =
+    let fed = one_feed turns ask before after w none in
+    let all = of_octets w.topology turns fed.run.0 w.started.lent.feed after.stage.lent.feed octets
+    (λ (ts : List Task). AllCame ts (scene w.first (w.first ∷ []) w.started.lent.out w.started.lent.maps w.started.lent.pace) (scene w.newest (w.first ∷ w.rest) after.stage.lent.out after.stage.lent.maps fed.calls))
+    (subst (λ (f : Option Fed). AreOctetsOf f after.stage.lent.feed octets) (sym (feed_same turns ask before after w)) are) fed.run.1 fed.run.2 in
+    came_by turns ask before after w (tasks w.topology (lines_of true octets)) fed.calls all
 
 pub serves_agree : ServesAgree
-serves_agree turns runs ask other before after then later x y text c d ts held also p q quiet also_quiet =
-    let same = one_topology before.files then.files ask.topology other.topology text x.topology y.topology held also x.says y.says in
+serves_agree turns runs ask other before after then later x y octets one also same are others =
+    let a = serves_come turns ask before after x octets one are in
+    let b = serves_come runs other then later y octets also others in
     let of_x : IsFirst y.topology (record { history = x.first ∷ []; newest = x.first }) = subst (λ (t : Plan). IsFirst t (record { history = x.first ∷ []; newest = x.first })) same x.is_first.0 in
     let first = first_one y.topology y.is_plan.market (record { history = x.first ∷ []; newest = x.first }) (record { history = y.first ∷ []; newest = y.first }) of_x y.is_first.0 in
-    (same, first, all_come_one ts (start y.first) c d (subst (λ (v : Version). AllCome ts (start v) c) first p.all) q.all quiet also_quiet)
+    let ts = tasks y.topology (lines_of true octets) in
+    let came : AllCome ts (start y.first) a.0 = subst (λ (v : Version). AllCome ts (start v) a.0) first (subst (λ (t : Plan). AllCome (tasks t (lines_of true octets)) (start x.first) a.0) same a.1.all) in
+    (a.0, b.0, a.1, b.1, λ quiet also_quiet. (first, all_come_one ts (start y.first) a.0 b.0 came b.1.all quiet also_quiet))

@@ -147,41 +147,44 @@ any_cell turns first rest ends before after h some =
     any_done is_cell_fault (HasCellFault (length (first ∷ rest))) turns first rest 0 ends before after (λ w b c e is d. served_cell turns first rest w b c e is d) h some
 
 -- what the answers say of the ends
-by_port : (p s c : Bool) → status.PortFault ≡ status_by p s c → p ≡ true
-by_port true s c h = refl
-by_port false true c h = absurd (cc)
-by_port false false true h = absurd (cc)
-by_port false false false h = absurd (cc)
+by_port : (p s m c : Bool) → status.PortFault ≡ status_by p s m c → p ≡ true
+by_port true s m c h = refl
+by_port false true m c h = absurd (cc)
+by_port false false true c h = absurd (cc)
+by_port false false false true h = absurd (cc)
+by_port false false false false h = absurd (cc)
 
-by_spent : (p s c : Bool) → status.Spent ≡ status_by p s c → s ≡ true
-by_spent true s c h = absurd (cc)
-by_spent false true c h = refl
-by_spent false false true h = absurd (cc)
-by_spent false false false h = absurd (cc)
+by_spent : (p s m c : Bool) → status.Spent ≡ status_by p s m c → s ≡ true
+by_spent true s m c h = absurd (cc)
+by_spent false true m c h = refl
+by_spent false false true c h = absurd (cc)
+by_spent false false false true h = absurd (cc)
+by_spent false false false false h = absurd (cc)
 
-by_cell : (p s c : Bool) → status.CellFault ≡ status_by p s c → c ≡ true
-by_cell true s c h = absurd (cc)
-by_cell false true c h = absurd (cc)
-by_cell false false true h = refl
-by_cell false false false h = absurd (cc)
+by_cell : (p s m c : Bool) → status.CellFault ≡ status_by p s m c → c ≡ true
+by_cell true s m c h = absurd (cc)
+by_cell false true m c h = absurd (cc)
+by_cell false false true c h = absurd (cc)
+by_cell false false false true h = refl
+by_cell false false false false h = absurd (cc)
 
 pub port_means : (end : FeedEnd) (p s c : Bool) → status.PortFault ≡ status_of end p s c → p ≡ true
-port_means feed.Ended p s c h = by_port p s c h
-port_means feed.Spent p s c h = by_port p true c h
+port_means feed.Ended p s c h = by_port p s false c h
+port_means feed.Spent p s c h = by_port p true false c h
 port_means feed.SourceFault p s c h = absurd (cc)
 port_means feed.SinkFault p s c h = absurd (cc)
-port_means feed.NoMemory p s c h = absurd (cc)
+port_means feed.NoMemory p s c h = by_port p s true c h
 
 pub spent_means : (end : FeedEnd) (p s c : Bool) → status.Spent ≡ status_of end p s c → (end ≡ feed.Spent) ⊎ (s ≡ true)
-spent_means feed.Ended p s c h = inr (by_spent p s c h)
+spent_means feed.Ended p s c h = inr (by_spent p s false c h)
 spent_means feed.Spent p s c h = inl refl
 spent_means feed.SourceFault p s c h = absurd (cc)
 spent_means feed.SinkFault p s c h = absurd (cc)
-spent_means feed.NoMemory p s c h = absurd (cc)
+spent_means feed.NoMemory p s c h = inr (by_spent p s true c h)
 
 pub cell_means : (end : FeedEnd) (p s c : Bool) → status.CellFault ≡ status_of end p s c → c ≡ true
-cell_means feed.Ended p s c h = by_cell p s c h
-cell_means feed.Spent p s c h = by_cell p true c h
+cell_means feed.Ended p s c h = by_cell p s false c h
+cell_means feed.Spent p s c h = by_cell p true false c h
 cell_means feed.SourceFault p s c h = absurd (cc)
 cell_means feed.SinkFault p s c h = absurd (cc)
-cell_means feed.NoMemory p s c h = absurd (cc)
+cell_means feed.NoMemory p s c h = by_cell p s true c h

@@ -1,6 +1,6 @@
 -- Sessions behind the opening of the cell.
-use Rattle.std.proofs.Common.{◌≡◌, ◌≢◌, ◌⊎◌, inl, inr, ℕ, ◌≤◌, List, length, refl, sym, subst}
-use Rattle.std.specs.Prelude.{Option}
+use Rattle.std.proofs.Common.{◌≡◌, ◌≢◌, ◌⊎◌, inl, inr, ℕ, ◌≤◌, List, [], ◌++◌, length, refl, ap, sym, subst, ◌∙◌}
+use Rattle.std.specs.Prelude.{Option, take, drop}
 use Rattle.std.specs.Option.{option_to_list}
 use Rattle.outside.specs.Faults.{Rose}
 use Rattle.outside.specs.Sink.{Written}
@@ -18,6 +18,9 @@ use Rattle.mapper.specs.Words.{map_text}
 use Rattle.mapper.specs.Mappers.{IsFirst, IsFromScratch}
 use Rattle.drive.specs.Done.{LaneTold, StreamLaneTold}
 use Rattle.drive.specs.Driven.{AreEnds, IsDriven}
+use Rattle.drive.specs.Feeds.{AllStand, AnyRose, FeedTold, NoneFell}
+use Rattle.glb.specs.Causes.{AnyFeed, HasFeedFault}
+use Rattle.glb.specs.Feeds.{Named, with_feeds}
 use Rattle.glb.specs.declared.starting.Start.TheVariants as start
 use Rattle.glb.specs.declared.status.Status.{Status}
 use Rattle.glb.specs.declared.status.Status.TheVariants as status
@@ -25,50 +28,91 @@ use Rattle.glb.specs.Serve.{IsFirstSession, IsSession, IsStarted, PlacedFirst}
 use Rattle.glb.specs.Starting.{IsAskedSome, IsStart, status_at}
 use Rattle.glb.specs.Told.{Stage, stage}
 use Rattle.glb.specs.Words.{Service, lanes_of, streams_of}
+use Rattle.std.proofs.Math.Seq.{drop-append_seam, take-append_seam}
+use Rattle.glb.proofs.Named.{all_stand_more, any_rose, fell_more}
 use Rattle.glb.proofs.Served.{is_served}
 
 -- a port failed to open
-pub shut_session : (turns : ℕ) (ask : Service) (first : Version) (text : List ℕ) (fed : Option Fed) (out maps maps' : Option Written) (pace : Option (List PaceCall)) (lanes lanes' : List LaneTold) (stream stream' : StreamLaneTold) (ff of mf mf' : ℕ)
-    → IsStart ask text start.NoPort (record { maps = maps; maps_faults = mf; lanes = lanes; stream = stream }) (record { maps = maps'; maps_faults = mf'; lanes = lanes'; stream = stream' })
-    → IsFirstSession turns ask first (stage fed out maps pace lanes stream ff of mf) (stage fed out maps' pace lanes' stream' ff of mf') status.PortFault
-shut_session turns ask first text fed out maps maps' pace lanes lanes' stream stream' ff of mf mf' h =
-    inl (record { why = refl; opened = h.0; lent = rw h.1 refl; rest = rw h.2 refl })
+pub shut_session : (turns : ℕ) (ask : Service) (first : Version) (text : List ℕ) (fed : Option Fed) (named named' : Named) (out maps maps' : Option Written) (pace : Option (List PaceCall)) (lanes lanes' : List LaneTold) (stream stream' : StreamLaneTold) (ff of mf mf' : ℕ)
+    → IsStart ask text start.NoPort (record { maps = maps; maps_faults = mf; lanes = lanes; stream = stream; named = named }) (record { maps = maps'; maps_faults = mf'; lanes = lanes'; stream = stream'; named = named' })
+    → IsFirstSession turns ask first (stage fed named.feeds named.opens out maps pace lanes stream ff of mf) (stage fed named'.feeds named'.opens out maps' pace lanes' stream' ff of mf') status.PortFault
+shut_session turns ask first text fed named named' out maps maps' pace lanes lanes' stream stream' ff of mf mf' h =
+    inl (record { why = refl; opened = h.0; lent = rw (h.1, h.2) refl; rest = rw (h.1, h.3) refl })
+
+-- a further feed failed to open
+pub unopened_session : (turns : ℕ) (ask : Service) (first : Version) (text : List ℕ) (fed : Option Fed) (named named' : Named) (out maps maps' : Option Written) (pace : Option (List PaceCall)) (lanes lanes' : List LaneTold) (stream stream' : StreamLaneTold) (ff of mf mf' : ℕ)
+    → IsStart ask text start.NoFeed (record { maps = maps; maps_faults = mf; lanes = lanes; stream = stream; named = named }) (record { maps = maps'; maps_faults = mf'; lanes = lanes'; stream = stream'; named = named' })
+    → IsFirstSession turns ask first (stage fed named.feeds named.opens out maps pace lanes stream ff of mf) (stage fed named'.feeds named'.opens out maps' pace lanes' stream' ff of mf') status.SourceFault
+unopened_session turns ask first text fed named named' out maps maps' pace lanes lanes' stream stream' ff of mf mf' h =
+    inr (inl (record { why = refl; opened = h.0; stream = h.1; named = h.2; lent = rw h.3 refl; rest = rw h.4 refl }))
 
 -- the put of the first text failed
-pub unput_session : (turns : ℕ) (ask : Service) (first : Version) (text : List ℕ) (fed : Option Fed) (out maps maps' : Option Written) (pace : Option (List PaceCall)) (lanes lanes' : List LaneTold) (stream stream' : StreamLaneTold) (ff of mf mf' : ℕ)
-    → text ≡ map_text first → IsStart ask text start.NoSink (record { maps = maps; maps_faults = mf; lanes = lanes; stream = stream }) (record { maps = maps'; maps_faults = mf'; lanes = lanes'; stream = stream' })
-    → IsFirstSession turns ask first (stage fed out maps pace lanes stream ff of mf) (stage fed out maps' pace lanes' stream' ff of mf') status.SinkFault
-unput_session turns ask first text fed out maps maps' pace lanes lanes' stream stream' ff of mf mf' is h =
-    let k = subst (λ t. IsStart ask t start.NoSink (record { maps = maps; maps_faults = mf; lanes = lanes; stream = stream }) (record { maps = maps'; maps_faults = mf'; lanes = lanes'; stream = stream' })) is h in
-    inr (inl (record { why = refl; opened = k.0; stream = k.1; cut = k.2; rose = k.3; lent = refl; rest = refl }))
+pub unput_session : (turns : ℕ) (ask : Service) (first : Version) (text : List ℕ) (fed : Option Fed) (named named' : Named) (out maps maps' : Option Written) (pace : Option (List PaceCall)) (lanes lanes' : List LaneTold) (stream stream' : StreamLaneTold) (ff of mf mf' : ℕ)
+    → text ≡ map_text first → IsStart ask text start.NoSink (record { maps = maps; maps_faults = mf; lanes = lanes; stream = stream; named = named }) (record { maps = maps'; maps_faults = mf'; lanes = lanes'; stream = stream'; named = named' })
+    → IsFirstSession turns ask first (stage fed named.feeds named.opens out maps pace lanes stream ff of mf) (stage fed named'.feeds named'.opens out maps' pace lanes' stream' ff of mf') status.SinkFault
+unput_session turns ask first text fed named named' out maps maps' pace lanes lanes' stream stream' ff of mf mf' is h =
+    let k = subst (λ t. IsStart ask t start.NoSink (record { maps = maps; maps_faults = mf; lanes = lanes; stream = stream; named = named }) (record { maps = maps'; maps_faults = mf'; lanes = lanes'; stream = stream'; named = named' })) is h in
+    inr (inr (inl (record { why = refl; opened = k.0; stream = k.1; named = k.2; cut = k.3; rose = k.4; lent = refl; rest = refl })))
 
 -- the session was started
-pub starts : (ask : Service) (first : Version) (text : List ℕ) (fed : Option Fed) (out maps maps' : Option Written) (pace : Option (List PaceCall)) (lanes lanes' : List LaneTold) (stream stream' : StreamLaneTold) (ff of mf mf' : ℕ)
-    → text ≡ map_text first → IsStart ask text start.Ready (record { maps = maps; maps_faults = mf; lanes = lanes; stream = stream }) (record { maps = maps'; maps_faults = mf'; lanes = lanes'; stream = stream' })
-    → IsStarted ask first (stage fed out maps pace lanes stream ff of mf) (stage fed out maps' pace lanes' stream' ff of mf')
-starts ask first text fed out maps maps' pace lanes lanes' stream stream' ff of mf mf' is h =
-    let k = subst (λ t. IsStart ask t start.Ready (record { maps = maps; maps_faults = mf; lanes = lanes; stream = stream }) (record { maps = maps'; maps_faults = mf'; lanes = lanes'; stream = stream' })) is h in
-    record { opened = k.0; stream = k.1; put = k.2; lent = refl; rest = rw k.3 refl }
+pub starts : (ask : Service) (first : Version) (text : List ℕ) (fed : Option Fed) (named named' : Named) (out maps maps' : Option Written) (pace : Option (List PaceCall)) (lanes lanes' : List LaneTold) (stream stream' : StreamLaneTold) (ff of mf mf' : ℕ)
+    → text ≡ map_text first → IsStart ask text start.Ready (record { maps = maps; maps_faults = mf; lanes = lanes; stream = stream; named = named }) (record { maps = maps'; maps_faults = mf'; lanes = lanes'; stream = stream'; named = named' })
+    → IsStarted ask first (stage fed named.feeds named.opens out maps pace lanes stream ff of mf) (stage fed named'.feeds named'.opens out maps' pace lanes' stream' ff of mf')
+starts ask first text fed named named' out maps maps' pace lanes lanes' stream stream' ff of mf mf' is h =
+    let k = subst (λ t. IsStart ask t start.Ready (record { maps = maps; maps_faults = mf; lanes = lanes; stream = stream; named = named }) (record { maps = maps'; maps_faults = mf'; lanes = lanes'; stream = stream'; named = named' })) is h in
+    record { opened = k.0; stream = k.1; named = k.2; put = k.3; lent = refl; rest = rw k.4 refl }
 
 -- it was started, and then memory was wanting
 pub unfed_session : (turns : ℕ) (ask : Service) (first : Version) (before started after : Stage) → IsStarted ask first before started → after ≡ started → IsFirstSession turns ask first before after status.NoMemory
-unfed_session turns ask first before started after start same = inr (inr (inl (refl, subst (IsStarted ask first before) (sym same) start)))
+unfed_session turns ask first before started after start same = inr (inr (inr (inl (refl, subst (IsStarted ask first before) (sym same) start))))
 
--- it was started and served
-pub served_session : (turns : ℕ) (ask : Service) (first : Version) (before started after : Stage) (end : FeedEnd) (places : List (Option Ended)) (stream_end : Option Ended) (result : Status) → IsStarted ask first before started
-    → (ends : List Ended) × (length ends ≡ ask.workers) × AreEnds ends places × IsDriven turns first end ends stream_end started.lent after.lent → length (option_to_list stream_end) ≡ streams_of ask.tcp
-    → result ≡ status_at end places stream_end → (end ≡ feed.SourceFault → Rose started.feed_faults after.feed_faults) → (end ≢ feed.SourceFault → after.feed_faults ≡ started.feed_faults) → (end ≡ feed.SinkFault → Rose started.out_faults after.out_faults ⊎ Rose started.maps_faults after.maps_faults)
-    → (end ≢ feed.SinkFault → (after.out_faults ≡ started.out_faults) × (after.maps_faults ≡ started.maps_faults))
-    → (started.feed_faults ≤ after.feed_faults) × (started.out_faults ≤ after.out_faults) × (started.maps_faults ≤ after.maps_faults) → IsFirstSession turns ask first before after result
-served_session turns ask first before started after end places stream_end result start driven asked answer source stays sink sink_stays later =
-    inr (inr (inr (started, start, is_served turns ask first started after end places stream_end result driven asked answer source stays sink sink_stays later)))
+-- the first of two lists one behind the other, and what is behind them
+front_is : (front behind : List FeedTold) (n : ℕ) → length front ≡ n → take n (front ++ behind) ≡ front
+front_is front behind n is = subst (λ (k : ℕ). take k (front ++ behind) ≡ front) is (take-append_seam front behind)
+
+behind_is : (front behind : List FeedTold) (n : ℕ) → length front ≡ n → drop n (front ++ behind) ≡ behind
+behind_is front behind n is = subst (λ (k : ℕ). drop k (front ++ behind) ≡ behind) is (drop-append_seam front behind)
+
+-- it was started and served, with these further feeds ahead of those that were not opened
+pub served_session : (turns : ℕ) (ask : Service) (first : Version) (before started after : Stage) (front then behind : List FeedTold) (end : FeedEnd) (places : List (Option Ended)) (stream_end : Option Ended) (result : Status) → IsStarted ask first before started
+    → started.lent.more ≡ front ++ behind → after.lent.more ≡ then ++ behind → length front ≡ length ask.more → length then ≡ length front
+    → (ends : List Ended) × (length ends ≡ ask.workers) × AreEnds ends places × IsDriven turns first end ends stream_end (record started.lent { more = front }) (record after.lent { more = then }) → length (option_to_list stream_end) ≡ streams_of ask.tcp
+    → result ≡ status_at end places stream_end → (end ≡ feed.SourceFault → Rose started.feed_faults after.feed_faults ⊎ AnyRose front then) → (end ≢ feed.SourceFault → (end ≡ feed.SinkFault → ask.more ≡ []) → (after.feed_faults ≡ started.feed_faults) × AllStand front then)
+    → (end ≡ feed.SinkFault → Rose started.out_faults after.out_faults ⊎ Rose started.maps_faults after.maps_faults) → (end ≢ feed.SinkFault → (after.out_faults ≡ started.out_faults) × (after.maps_faults ≡ started.maps_faults))
+    → (started.feed_faults ≤ after.feed_faults) × (started.out_faults ≤ after.out_faults) × (started.maps_faults ≤ after.maps_faults) × NoneFell front then → IsFirstSession turns ask first before after result
+served_session turns ask first before started after front then behind end places stream_end result start more past count same (ends, as_many, are, driven) asked answer source stays sink sink_stays later =
+    inr (inr (inr (inr (
+      started,
+      start,
+      is_served turns ask first started after end places stream_end result (ends, as_many, are, whole) untouched asked answer (λ h. elim (source h) [ inl rose ↦ inl rose | inr rose ↦ inr (some rose) ])
+      (λ h k. let s = stays h k in (s.0, subst (λ (xs : List FeedTold). AllStand xs after.lent.more) (sym more) (subst (λ (xs : List FeedTold). AllStand (front ++ behind) xs) (sym past) (all_stand_more front then behind s.1))))
+      sink sink_stays (later.0, later.1, later.2, subst (λ (xs : List FeedTold). NoneFell xs after.lent.more) (sym more) (subst (λ (xs : List FeedTold). NoneFell (front ++ behind) xs) (sym past) (fell_more front then behind later.3))),
+    ))))
+  where
+    n : ℕ
+    n = length ask.more
+
+    was : front ≡ take n started.lent.more
+    was = sym (ap (take n) more ∙ front_is front behind n count)
+
+    is : then ≡ take n after.lent.more
+    is = sym (ap (take n) past ∙ front_is then behind n (same ∙ count))
+
+    whole : IsDriven turns first end ends stream_end (with_feeds n started.lent) (with_feeds n after.lent)
+    whole = subst (λ (xs : List FeedTold). IsDriven turns first end ends stream_end (record started.lent { more = xs }) (with_feeds n after.lent)) was (subst (λ (xs : List FeedTold). IsDriven turns first end ends stream_end (record started.lent { more = front }) (record after.lent { more = xs })) is driven)
+
+    untouched : drop n after.lent.more ≡ drop n started.lent.more
+    untouched = ap (drop n) past ∙ behind_is then behind n (same ∙ count) ∙ sym (ap (drop n) more ∙ behind_is front behind n count)
+
+    some : AnyRose front then → AnyFeed n HasFeedFault started.lent.more after.lent.more
+    some rose = subst (λ (xs : List FeedTold). AnyFeed n HasFeedFault xs after.lent.more) (sym more) (subst (λ (xs : List FeedTold). AnyFeed n HasFeedFault (front ++ behind) xs) (sym past) (any_rose n front then behind behind count rose))
 
 -- a session that begins with the first map of a topology
-pub begun : (turns : ℕ) (ask : Service) (t : Plan) (m : PublisherState) (fed : Option Fed) (out maps : Option Written) (pace : Option (List PaceCall)) (lanes lanes' : List LaneTold) (stream : StreamLaneTold) (ff of mf : ℕ) (after : Stage) (result : Status)
-    → PlacedFirst (lanes_of ask) lanes lanes' → IsFirst t m → IsFromScratch t.market m.newest.lines → IsFirstSession turns ask m.newest (stage fed out maps pace lanes' stream ff of mf) after result
-    → IsSession turns ask t (stage fed out maps pace lanes stream ff of mf) after result
-begun turns ask t m fed out maps pace lanes lanes' stream ff of mf after result placed first scratch session = inr (
-  stage fed out maps pace lanes' stream ff of mf,
+pub begun : (turns : ℕ) (ask : Service) (t : Plan) (m : PublisherState) (fed : Option Fed) (more : List FeedTold) (opens : List (Option (List (List ℕ)))) (out maps : Option Written) (pace : Option (List PaceCall)) (lanes lanes' : List LaneTold) (stream : StreamLaneTold) (ff of mf : ℕ) (after : Stage) (result : Status)
+    → PlacedFirst (lanes_of ask) lanes lanes' → IsFirst t m → IsFromScratch t.market m.newest.lines → IsFirstSession turns ask m.newest (stage fed more opens out maps pace lanes' stream ff of mf) after result
+    → IsSession turns ask t (stage fed more opens out maps pace lanes stream ff of mf) after result
+begun turns ask t m fed more opens out maps pace lanes lanes' stream ff of mf after result placed first scratch session = inr (
+  stage fed more opens out maps pace lanes' stream ff of mf,
   m.newest,
   record { asked = placed; lent = refl; rest = refl },
   (record { history = refl; serial = first.serial; plan = first.plan; market = first.market; good = first.good; best = first.best }, scratch),
@@ -76,20 +120,26 @@ begun turns ask t m fed out maps pace lanes lanes' stream ff of mf after result 
 )
 
 -- a session whose map cell was not opened
-pub unopened : (turns : ℕ) (ask : Service) (t : Plan) (fault : OpenFault) (fed : Option Fed) (out maps : Option Written) (pace : Option (List PaceCall)) (lanes lanes' : List LaneTold) (stream : StreamLaneTold) (ff of mf : ℕ) (result : Status)
+pub unopened : (turns : ℕ) (ask : Service) (t : Plan) (fault : OpenFault) (fed : Option Fed) (more : List FeedTold) (opens : List (Option (List (List ℕ)))) (out maps : Option Written) (pace : Option (List PaceCall)) (lanes lanes' : List LaneTold) (stream : StreamLaneTold) (ff of mf : ℕ) (result : Status)
     → IsAskedSome (lanes_of ask) fault lanes lanes' → (fault ≡ open_fault.NoMemory → result ≡ status.NoMemory) → (fault ≡ open_fault.CellFault → result ≡ status.CellFault)
-    → IsSession turns ask t (stage fed out maps pace lanes stream ff of mf) (stage fed out maps pace lanes' stream ff of mf) result
-unopened turns ask t open_fault.NoMemory fed out maps pace lanes lanes' stream ff of mf result asked memory refused = inl (record {
+    → IsSession turns ask t (stage fed more opens out maps pace lanes stream ff of mf) (stage fed more opens out maps pace lanes' stream ff of mf) result
+unopened turns ask t open_fault.NoMemory fed more opens out maps pace lanes lanes' stream ff of mf result asked memory refused = inl (record {
   why = inl (memory refl);
   stays = λ _. asked.2 (λ same. cc);
   asked = asked.0;
   lent = refl;
   rest = refl;
 })
-unopened turns ask t open_fault.CellFault fed out maps pace lanes lanes' stream ff of mf result asked memory refused = inl (record {
+unopened turns ask t open_fault.CellFault fed more opens out maps pace lanes lanes' stream ff of mf result asked memory refused = inl (record {
   why = inr (refused refl, asked.1 refl);
   stays = λ other. absurd (other (refused refl));
   asked = asked.0;
   lent = refl;
   rest = refl;
 })
+
+-- stages of the same parts
+pub stages : (fed fed' : Option Fed) (more more' : List FeedTold) (opens opens' : List (Option (List (List ℕ)))) (out out' maps maps' : Option Written) (pace pace' : Option (List PaceCall)) (lanes lanes' : List LaneTold) (stream stream' : StreamLaneTold) (ff ff' of of' mf mf' : ℕ)
+    → fed ≡ fed' → more ≡ more' → opens ≡ opens' → out ≡ out' → maps ≡ maps' → pace ≡ pace' → lanes ≡ lanes' → stream ≡ stream' → ff ≡ ff' → of ≡ of' → mf ≡ mf'
+    → stage fed more opens out maps pace lanes stream ff of mf ≡ stage fed' more' opens' out' maps' pace' lanes' stream' ff' of' mf'
+stages fed fed' more more' opens opens' out out' maps maps' pace pace' lanes lanes' stream stream' ff ff' of of' mf mf' a b c d e f g h i j k = rw (a, b, c, d, e, f, g, h, i, j, k) refl

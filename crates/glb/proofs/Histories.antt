@@ -13,9 +13,11 @@ use Rattle.demand_feed.specs.declared.run.FeedEnd.TheVariants as feed
 use Rattle.demand_feed.proofs.Tellings.{tell_trans}
 use Rattle.published_map.specs.Version.{Version}
 use Rattle.mapper.specs.Control.{AllCome, Comes, Course, start}
-use Rattle.mapper.specs.Feeding.{AllCame, IsFeed, IsFeedRun}
-use Rattle.mapper.specs.Scenes.{IsPrinted, Scene}
+use Rattle.mapper.specs.Feeding.{AllCame, IsFeedRun}
+use Rattle.mapper.specs.Scenes.{IsAt, IsPrinted, Scene}
 use Rattle.mapper.specs.Words.{map_text}
+use Rattle.drive.specs.Feeds.{AreFed, FeedTold}
+use Rattle.glb.proofs.Several.{all_work_texts, together_worked}
 
 one_texts : (task : Task) (c d : Course) → c.maps ≡ map map_text c.versions → Comes task c d → d.maps ≡ map map_text d.versions
 one_texts (refused number why) c d texts h = rw h texts
@@ -47,13 +49,22 @@ more_printed ps qs a b c r s = record {
 tail_is : (first : Version) (rest versions : List Version) → first ∷ rest ≡ (first ∷ []) ++ versions → rest ≡ versions
 tail_is first rest versions h = cc
 
--- the first text, and those of a feed that ended
-pub texts_of : (t : Plan) (turns : ℕ) (fed then : Option Fed) (first : Version) (rest : List Version) (maps : Option Written) (before after : Scene) → before.history ≡ first ∷ [] → after.history ≡ first ∷ rest
-    → BothTell maps before.maps (IsPrinted (map_text first ∷ [])) → IsFeed t turns feed.Ended fed then before after → BothTell maps after.maps (IsPrinted (map map_text (first ∷ rest)))
-texts_of t turns fed then first rest maps before after old new put run =
-    let came = course_of t turns fed then before (record after { pace = run.calls }) run.run in
-    let c = came.1.0 in
-    let rest_is : rest ≡ c.versions = tail_is first rest c.versions (sym new ∙ came.1.2.history ∙ ap (λ h. h ++ c.versions) old) in
-    let texts : c.maps ≡ map map_text rest = all_texts came.0 (start before.newest) c refl came.1.1 ∙ ap (map map_text) (sym rest_is) in
+-- the first text, and those of a course that is told
+course_texts : (first : Version) (rest : List Version) (maps : Option Written) (before after : Scene) (c : Course) → before.history ≡ first ∷ [] → after.history ≡ first ∷ rest → BothTell maps before.maps (IsPrinted (map_text first ∷ [])) → c.maps ≡ map map_text c.versions
+    → IsAt before c after → BothTell maps after.maps (IsPrinted (map map_text (first ∷ rest)))
+course_texts first rest maps before after c old new put worked at =
+    let rest_is : rest ≡ c.versions = tail_is first rest c.versions (sym new ∙ at.history ∙ ap (λ h. h ++ c.versions) old) in
+    let texts : c.maps ≡ map map_text rest = worked ∙ ap (map map_text) (sym rest_is) in
     subst (λ ts. BothTell maps after.maps (IsPrinted (map_text first ∷ ts))) texts
-    (tell_trans maps before.maps after.maps (IsPrinted (map_text first ∷ [])) (IsPrinted c.maps) (IsPrinted (map_text first ∷ c.maps)) put came.1.2.maps (more_printed (map_text first ∷ []) c.maps))
+    (tell_trans maps before.maps after.maps (IsPrinted (map_text first ∷ [])) (IsPrinted c.maps) (IsPrinted (map_text first ∷ c.maps)) put at.maps (more_printed (map_text first ∷ []) c.maps))
+
+-- the first text, and those of feeds that ended
+pub texts_of : (t : Plan) (turns : ℕ) (fed then : Option Fed) (more past : List FeedTold) (first : Version) (rest : List Version) (maps : Option Written) (before after : Scene) → before.history ≡ first ∷ [] → after.history ≡ first ∷ rest
+    → BothTell maps before.maps (IsPrinted (map_text first ∷ [])) → AreFed t turns feed.Ended fed more then past before after → BothTell maps after.maps (IsPrinted (map map_text (first ∷ rest)))
+texts_of t turns fed then [] past first rest maps before after old new put run =
+    let came = course_of t turns fed then before (record after { pace = run.0.calls }) run.0.run in
+    let c = came.1.0 in
+    course_texts first rest maps before (record after { pace = run.0.calls }) c old new put (all_texts came.0 (start before.newest) c refl came.1.1) came.1.2
+texts_of t turns fed then (m ∷ more) past first rest maps before after old new put run =
+    let worked = together_worked t turns (fed ∷ map (λ (x : FeedTold). x.fed) (m ∷ more)) (then ∷ map (λ (x : FeedTold). x.fed) past) before after run in
+    course_texts first rest maps before (record after { pace = run.run.calls }) worked.course old new put (all_work_texts run.items (start before.newest) worked.course refl worked.works) worked.told

@@ -1,6 +1,6 @@
 -- Why a session answers a fault of its lanes, from before its opening on.
 use Rattle.std.proofs.Common.{◌≡◌, ◌⊎◌, inl, inr, ℕ, zero, suc, ◌<◌, ◌≤◌, Bool, true, false, List, [], ◌∷◌, length, refl, ap, sym, ◌∙◌, subst, arith, map}
-use Rattle.std.specs.Prelude.{Option, None, Some}
+use Rattle.std.specs.Prelude.{Option, None, Some, take}
 use Rattle.std.specs.List.{list_any}
 use Rattle.std.proofs.lemmas.List.{length-map}
 use Rattle.addr_text.specs.declared.address.Listen.{Listen}
@@ -16,22 +16,24 @@ use Rattle.published_map.specs.Version.{Version}
 use Rattle.lane_model.proofs.Runs.{tells_on}
 use Rattle.demand_feed.specs.declared.run.FeedEnd.{FeedEnd}
 use Rattle.demand_feed.specs.declared.run.FeedEnd.TheVariants as feed
-use Rattle.mapper.specs.Feeding.{IsFeed}
-use Rattle.mapper.specs.Scenes.{IsPrinted, Scene, scene}
+use Rattle.mapper.specs.Scenes.{IsPrinted, scene}
 use Rattle.mapper.specs.Words.{map_text}
 use Rattle.drive.specs.Done.{LaneTold, StreamLaneTold}
 use Rattle.outside.specs.Streams.{StreamsTold, IsOpening as AreStreamsOpened}
 use Rattle.glb.specs.Words.{Service, lanes_of}
 use Rattle.drive.specs.Driven.{Lent}
+use Rattle.drive.specs.Feeds.{AreFed, FeedTold}
 use Rattle.glb.specs.declared.status.Status.{Status}
 use Rattle.glb.specs.declared.status.Status.TheVariants as status
-use Rattle.glb.specs.Causes.{AnyLane, AnyServer, AreSpent, HasCellFault, HasDoorFault, HasEightPortFaults, HasGiven, HasHeard, HasLaneCauses, HasPortFault, HasShown, HasTaken, IsPastMaps, OfStream}
+use Rattle.glb.specs.Causes.{AnyFeed, AnyLane, AnyServer, AreSpent, HasCellFault, HasDoorFault, HasEightPortFaults, HasGiven, HasGivenMore, HasHeard, HasLaneCauses, HasPortFault, HasShown, HasTaken, IsPastMaps, OfStream}
 use Rattle.glb.specs.Outcome.{Outcome, RunsBy}
 use Rattle.glb.specs.Files.{Kind, IsRefused}
 use Rattle.glb.specs.Serve.{AreOpened, FirstDoorRose, IsFirstSession, IsOpening, IsPlaced, IsServed, IsSession, IsStarted, IsStreamReady, IsStreamShut, PlacedFirst, all_ends, all_ready, is_cell_fault, is_port_fault, is_spent, status_by, status_of, then_failed}
 use Rattle.glb.specs.Told.{Stage}
 use Rattle.glb.proofs.Loads.{tell_weaker}
 use Rattle.glb.proofs.Histories.{texts_of}
+use Rattle.glb.proofs.Named.{any_taken, given_from}
+use Rattle.glb.proofs.Several.{fed_given}
 
 -- a lane whose port and door were opened at most: no count is lower, and its port gave no answer of recv
 pub record IsBegun (x y : LaneTold) : Type 0 where
@@ -198,25 +200,22 @@ unread_causes kind turns ask before after name shelf out out' result (inr (inl c
 unread_causes kind turns ask before after name shelf out out' result (inr (inr silent)) =
     elim silent.status [ inl is ↦ other turns ask before after result (λ h. cc) (λ h. cc) (λ h. cc) | inr is ↦ other turns ask before after result (λ h. cc) (λ h. cc) (λ h. cc) ]
 
--- what a run over a feed gave that was spent
-given_of : (t : Plan) (turns : ℕ) (end : FeedEnd) (fed then : Option Fed) (before after : Scene) → end ≡ feed.Spent → IsFeed t turns end fed then before after → HasGiven turns fed then
-given_of t turns feed.Spent fed then before after is f = (f.run.0, f.run.1, f.run.2.0, f.run.2.1)
-given_of t turns feed.Ended fed then before after is f = absurd (cc)
-given_of t turns feed.SourceFault fed then before after is f = absurd (cc)
-given_of t turns feed.SinkFault fed then before after is f = absurd (cc)
-given_of t turns feed.NoMemory fed then before after is f = absurd (cc)
-
 -- a fault of the cell is answered only where the feed ended
-by_spent : (p c : Bool) → status.CellFault ≡ status_by p true c → ⊥
-by_spent true c h = cc
-by_spent false c h = cc
+by_spent : (p m c : Bool) → status.CellFault ≡ status_by p true m c → ⊥
+by_spent true m c h = cc
+by_spent false m c h = cc
+
+by_memory : (p s c : Bool) → status.CellFault ≡ status_by p s true c → ⊥
+by_memory true s c h = cc
+by_memory false true c h = cc
+by_memory false false c h = cc
 
 pub cell_ends : (end : FeedEnd) (p s c : Bool) → status.CellFault ≡ status_of end p s c → end ≡ feed.Ended
 cell_ends feed.Ended p s c h = refl
-cell_ends feed.Spent p s c h = absurd (by_spent p c h)
+cell_ends feed.Spent p s c h = absurd (by_spent p false c h)
 cell_ends feed.SourceFault p s c h = absurd (cc)
 cell_ends feed.SinkFault p s c h = absurd (cc)
-cell_ends feed.NoMemory p s c h = absurd (cc)
+cell_ends feed.NoMemory p s c h = absurd (by_memory p s c h)
 
 -- a session that was started and served
 served_causes : (turns : ℕ) (ask : Service) (first : Version) (before started after : Stage) (result : Status) → IsStarted ask first before started → IsServed turns ask first started after result → HasLaneCauses turns ask before.lent after.lent result
@@ -229,19 +228,25 @@ served_causes turns ask first before started after result start served = record 
     begun : AreAllBegun before.lent started.lent
     begun = record { lanes = opened_begun ask.listen (all_ready ask.workers) before.lent.lanes started.lent.lanes start.opened; stream = stream_begun ask.tcp before.lent.stream started.lent.stream start.stream }
 
+    count : ℕ
+    count = length ask.more
+
     same_feed : started.lent.feed ≡ before.lent.feed
     same_feed = ap (λ (l : Lent). l.feed) start.lent
 
     spent_of : (served.end ≡ feed.Spent) ⊎ AnyServer ask (HasTaken turns) (HasHeard turns) started.lent after.lent → AreSpent turns ask before.lent after.lent
-    spent_of (inl is) = inl (subst (λ (f : Option Fed). HasGiven turns f after.lent.feed) same_feed (given_of first.plan turns served.end started.lent.feed after.lent.feed _ _ is served.driven.feed))
-    spent_of (inr h) = inr (taken_from turns ask before.lent started.lent after.lent begun h)
+    spent_of (inl is) = elim (fed_given first.plan turns served.end started.lent.feed after.lent.feed (take count started.lent.more) (take count after.lent.more) _ _ is served.driven.feed) [
+      | inl given ↦ inl (subst (λ (f : Option Fed). HasGiven turns f after.lent.feed) same_feed given)
+      | inr given ↦ inr (inl (given_from turns count count before.lent.more started.lent.more after.lent.more start.named.feeds (any_taken (HasGivenMore turns) count started.lent.more after.lent.more given)))
+    ]
+    spent_of (inr h) = inr (inr (taken_from turns ask before.lent started.lent after.lent begun h))
 
     ended : result ≡ status.CellFault → served.end ≡ feed.Ended
     ended h = cell_ends served.end (list_any is_port_fault (all_ends served.ends served.stream_end)) (list_any is_spent (all_ends served.ends served.stream_end)) (list_any is_cell_fault (all_ends served.ends served.stream_end)) (sym h ∙ served.result_is)
 
     texts : served.end ≡ feed.Ended → BothTell before.lent.maps after.lent.maps (IsPrinted (map map_text (first ∷ served.driven.rest)))
-    texts is = texts_of first.plan turns started.lent.feed after.lent.feed first served.driven.rest before.lent.maps (scene first (first ∷ []) started.lent.out started.lent.maps started.lent.pace) (scene served.driven.newest (first ∷ served.driven.rest) after.lent.out after.lent.maps after.lent.pace) refl refl start.put
-        (subst (λ (e : FeedEnd). IsFeed first.plan turns e started.lent.feed after.lent.feed (scene first (first ∷ []) started.lent.out started.lent.maps started.lent.pace) (scene served.driven.newest (first ∷ served.driven.rest) after.lent.out after.lent.maps after.lent.pace)) is served.driven.feed)
+    texts is = texts_of first.plan turns started.lent.feed after.lent.feed (take count started.lent.more) (take count after.lent.more) first served.driven.rest before.lent.maps (scene first (first ∷ []) started.lent.out started.lent.maps started.lent.pace) (scene served.driven.newest (first ∷ served.driven.rest) after.lent.out after.lent.maps after.lent.pace) refl refl start.put
+        (subst (λ (e : FeedEnd). AreFed first.plan turns e started.lent.feed (take count started.lent.more) after.lent.feed (take count after.lent.more) (scene first (first ∷ []) started.lent.out started.lent.maps started.lent.pace) (scene served.driven.newest (first ∷ served.driven.rest) after.lent.out after.lent.maps after.lent.pace)) is served.driven.feed)
 
     cell_of : result ≡ status.CellFault → AnyServer ask HasDoorFault HasDoorFault started.lent after.lent ⊎ AnyServer ask (HasShown (length (first ∷ served.driven.rest))) (HasShown (length (first ∷ served.driven.rest))) started.lent after.lent
         → AnyServer ask HasDoorFault HasDoorFault before.lent after.lent ⊎ IsPastMaps ask before.lent after.lent
@@ -258,9 +263,10 @@ first_causes turns ask first before after result (inl shut) = record {
   spent = λ h. let is = shut.why in absurd (cc);
   cell = λ h. let is = shut.why in absurd (cc);
 }
-first_causes turns ask first before after result (inr (inl unput)) = let is = unput.why in other turns ask before.lent after.lent result (λ h. cc) (λ h. cc) (λ h. cc)
-first_causes turns ask first before after result (inr (inr (inl k))) = let is = k.0 in other turns ask before.lent after.lent result (λ h. cc) (λ h. cc) (λ h. cc)
-first_causes turns ask first before after result (inr (inr (inr (started, start, served)))) = served_causes turns ask first before started after result start served
+first_causes turns ask first before after result (inr (inl shut)) = let is = shut.why in other turns ask before.lent after.lent result (λ h. cc) (λ h. cc) (λ h. cc)
+first_causes turns ask first before after result (inr (inr (inl unput))) = let is = unput.why in other turns ask before.lent after.lent result (λ h. cc) (λ h. cc) (λ h. cc)
+first_causes turns ask first before after result (inr (inr (inr (inl k)))) = let is = k.0 in other turns ask before.lent after.lent result (λ h. cc) (λ h. cc) (λ h. cc)
+first_causes turns ask first before after result (inr (inr (inr (inr (started, start, served))))) = served_causes turns ask first before started after result start served
 
 -- what is so from the opened cell on is so from before it
 placed_causes : (turns : ℕ) (ask : Service) (before placed after : Stage) (result : Status) → IsPlaced ask before placed → HasLaneCauses turns ask placed.lent after.lent result → HasLaneCauses turns ask before.lent after.lent result
@@ -268,7 +274,8 @@ placed_causes turns ask before placed after result place causes = record {
   port = λ h. port_from ask before.lent placed.lent after.lent begun (causes.port h);
   spent = λ h. elim (causes.spent h) [
     | inl given ↦ inl (subst (λ (f : Option Fed). HasGiven turns f after.lent.feed) same_feed given)
-    | inr some ↦ inr (taken_from turns ask before.lent placed.lent after.lent begun some)
+    | inr (inl given) ↦ inr (inl (subst (λ (fs : List FeedTold). AnyFeed (length ask.more) (HasGivenMore turns) fs after.lent.more) (ap (λ (l : Lent). l.more) place.lent) given))
+    | inr (inr some) ↦ inr (inr (taken_from turns ask before.lent placed.lent after.lent begun some))
   ];
   cell = λ h. elim (causes.cell h) [
     | inl some ↦ inl (door_from ask before.lent placed.lent after.lent begun some)

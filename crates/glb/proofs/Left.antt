@@ -31,27 +31,20 @@ unread_left name (Some shelf) out out' result told held source sink (inl whole) 
 unread_left name (Some shelf) out out' result told held source sink (inr (inl cut)) = absurd (sink cut.status)
 unread_left name (Some shelf) out out' result told held source sink (inr (inr silent)) = elim silent.status [ inl h ↦ absurd (source h) | inr h ↦ inr (inl h) ]
 
-by_cases : (p s c : Bool) → (status_by p s c ≡ status.PortFault) ⊎ (status_by p s c ≡ status.Ok) ⊎ (status_by p s c ≡ status.Spent) ⊎ (status_by p s c ≡ status.CellFault)
-by_cases true s c = inl refl
-by_cases false true c = inr (inr (inl refl))
-by_cases false false true = inr (inr (inr refl))
-by_cases false false false = inr (inl refl)
-
-by_left : (result : Status) (p s c : Bool) → result ≡ status_by p s c → (result ≡ status.PortFault → ⊥) → (result ≡ status.Ok) ⊎ (result ≡ status.NoMemory) ⊎ (result ≡ status.Spent) ⊎ (result ≡ status.CellFault)
-by_left result p s c is port = elim (by_cases p s c) [
-  | inl h ↦ absurd (port (is ∙ h))
-  | inr (inl h) ↦ inl (is ∙ h)
-  | inr (inr (inl h)) ↦ inr (inr (inl (is ∙ h)))
-  | inr (inr (inr h)) ↦ inr (inr (inr (is ∙ h)))
-]
+by_left : (result : Status) (p s m c : Bool) → result ≡ status_by p s m c → (result ≡ status.PortFault → ⊥) → (result ≡ status.Ok) ⊎ (result ≡ status.NoMemory) ⊎ (result ≡ status.Spent) ⊎ (result ≡ status.CellFault)
+by_left result true s m c is port = absurd (port is)
+by_left result false true m c is port = inr (inr (inl is))
+by_left result false false true c is port = inr (inl is)
+by_left result false false false true is port = inr (inr (inr is))
+by_left result false false false false is port = inl is
 
 served_left : (end : FeedEnd) (p s c : Bool) (result : Status) → result ≡ status_of end p s c → (result ≡ status.SourceFault → ⊥) → (result ≡ status.SinkFault → ⊥) → (result ≡ status.PortFault → ⊥)
     → (result ≡ status.Ok) ⊎ (result ≡ status.NoMemory) ⊎ (result ≡ status.Spent) ⊎ (result ≡ status.CellFault)
 served_left feed.SourceFault p s c result is source sink port = absurd (source is)
 served_left feed.SinkFault p s c result is source sink port = absurd (sink is)
-served_left feed.NoMemory p s c result is source sink port = inr (inl is)
-served_left feed.Ended p s c result is source sink port = by_left result p s c is port
-served_left feed.Spent p s c result is source sink port = by_left result p true c is port
+served_left feed.NoMemory p s c result is source sink port = by_left result p s true c is port
+served_left feed.Ended p s c result is source sink port = by_left result p s false c is port
+served_left feed.Spent p s c result is source sink port = by_left result p true false c is port
 
 -- what is left of the answers, by their causes
 pub left_of : (turns : ℕ) (ask : Service) (before after : Surroundings) (result : Status) → IsServeRun turns ask before after result → HasServeCauses turns ask before after result → IsSome before.files → HoldsTopology ask.topology before.files
@@ -64,7 +57,7 @@ left_of turns ask before after result run causes told held quiet = elim (go run)
 ]
   where
     source : result ≡ status.SourceFault → ⊥
-    source h = elim (causes.source h) [ inl r ↦ quiet.files r | inr r ↦ quiet.feed r ]
+    source h = elim (causes.source h) [ inl r ↦ quiet.files r | inr (inl r) ↦ quiet.feed r | inr (inr r) ↦ quiet.more r ]
 
     sink : result ≡ status.SinkFault → ⊥
     sink h = elim (causes.sink h) [ inl r ↦ quiet.out r | inr r ↦ quiet.maps r ]
@@ -80,7 +73,8 @@ left_of turns ask before after result run causes told held quiet = elim (go run)
     go (inl unread) = unread_left ask.topology before.files before.stage.lent.out after.stage.lent.out result told held source sink unread.run
     go (inr (topology, plan, says, inl unopened)) = elim unopened.why [ inl h ↦ inr (inl h) | inr h ↦ inr (inr (inr h.0)) ]
     go (inr (topology, plan, says, inr (placed, first, place, is_first, inl shut))) = absurd (port shut.why)
-    go (inr (topology, plan, says, inr (placed, first, place, is_first, inr (inl unput)))) = absurd (sink unput.why)
-    go (inr (topology, plan, says, inr (placed, first, place, is_first, inr (inr (inl h))))) = inr (inl h.0)
-    go (inr (topology, plan, says, inr (placed, first, place, is_first, inr (inr (inr (started, start, served)))))) =
+    go (inr (topology, plan, says, inr (placed, first, place, is_first, inr (inl shut)))) = absurd (source shut.why)
+    go (inr (topology, plan, says, inr (placed, first, place, is_first, inr (inr (inl unput))))) = absurd (sink unput.why)
+    go (inr (topology, plan, says, inr (placed, first, place, is_first, inr (inr (inr (inl h)))))) = inr (inl h.0)
+    go (inr (topology, plan, says, inr (placed, first, place, is_first, inr (inr (inr (inr (started, start, served))))))) =
         served_left served.end (list_any is_port_fault (all_ends served.ends served.stream_end)) (list_any is_spent (all_ends served.ends served.stream_end)) (list_any is_cell_fault (all_ends served.ends served.stream_end)) result served.result_is source sink port

@@ -6,6 +6,8 @@ mod Good
 mod Scratch
 mod Opened
 mod Asked
+mod Named
+mod Several
 mod Histories
 mod Causes
 mod Served

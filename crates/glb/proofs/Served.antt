@@ -1,6 +1,6 @@
 -- What a drive comes to, as a session.
 use Rattle.std.proofs.Common.{◌≡◌, ◌≢◌, ◌⊎◌, inl, inr, ℕ, ◌≤◌, Bool, true, false, List, [], ◌∷◌, length, refl, ap, ap₂, sym, subst, ◌∙◌}
-use Rattle.std.specs.Prelude.{Option, None, Some, ◌-◌, ◌||◌}
+use Rattle.std.specs.Prelude.{Option, None, Some, ◌-◌, ◌||◌, drop}
 use Rattle.std.specs.List.{list_any}
 use Rattle.std.specs.Option.{option_to_list}
 use Rattle.addr_text.specs.declared.address.Listen.{Listen}
@@ -12,10 +12,12 @@ use Rattle.demand_feed.specs.declared.run.FeedEnd.TheVariants as feed
 use Rattle.drive.specs.Done.{LaneTold, StreamLaneTold}
 use Rattle.drive.specs.Streams.{AreStreamsDone, IsStreamDone}
 use Rattle.drive.specs.Driven.{AreEnds, IsDriven, Lent}
+use Rattle.drive.specs.Feeds.{AllStand, NoneFell}
+use Rattle.glb.specs.Feeds.{with_feeds}
 use Rattle.glb.specs.Words.{Service, streams_of}
 use Rattle.glb.specs.declared.status.Status.{Status}
 use Rattle.glb.specs.Told.{Stage}
-use Rattle.glb.specs.Causes.{AnyLane, AnyServer, HasCellFault, HasEightPortFaults, HasHeard, HasTaken, OfStream}
+use Rattle.glb.specs.Causes.{AnyFeed, AnyLane, AnyServer, HasCellFault, HasEightPortFaults, HasFeedFault, HasHeard, HasTaken, OfStream}
 use Rattle.glb.specs.Serve.{IsServed, all_ends, is_cell_fault, is_port_fault, is_spent, status_of}
 use Rattle.glb.specs.Starting.{at_place, has_any, status_at}
 use Rattle.glb.proofs.Causes.{any_cell, any_port, any_spent, cell_means, port_means, spent_means}
@@ -62,11 +64,12 @@ any_server test P Q ask ends stream_end before after as_many as_asked lanes stre
     of_stream (Some at) (Some x) same f h = f x refl (is_true (test x) h)
 
 pub is_served : (turns : ℕ) (ask : Service) (first : Version) (before after : Stage) (end : FeedEnd) (places : List (Option Ended)) (stream_end : Option Ended) (result : Status)
-    → (ends : List Ended) × (length ends ≡ ask.workers) × AreEnds ends places × IsDriven turns first end ends stream_end before.lent after.lent → length (option_to_list stream_end) ≡ streams_of ask.tcp
-    → result ≡ status_at end places stream_end → (end ≡ feed.SourceFault → Rose before.feed_faults after.feed_faults) → (end ≢ feed.SourceFault → after.feed_faults ≡ before.feed_faults) → (end ≡ feed.SinkFault → Rose before.out_faults after.out_faults ⊎ Rose before.maps_faults after.maps_faults)
+    → (ends : List Ended) × (length ends ≡ ask.workers) × AreEnds ends places × IsDriven turns first end ends stream_end (with_feeds (length ask.more) before.lent) (with_feeds (length ask.more) after.lent) → drop (length ask.more) after.lent.more ≡ drop (length ask.more) before.lent.more → length (option_to_list stream_end) ≡ streams_of ask.tcp
+    → result ≡ status_at end places stream_end → (end ≡ feed.SourceFault → Rose before.feed_faults after.feed_faults ⊎ AnyFeed (length ask.more) HasFeedFault before.lent.more after.lent.more)
+    → (end ≢ feed.SourceFault → (end ≡ feed.SinkFault → ask.more ≡ []) → (after.feed_faults ≡ before.feed_faults) × AllStand before.lent.more after.lent.more) → (end ≡ feed.SinkFault → Rose before.out_faults after.out_faults ⊎ Rose before.maps_faults after.maps_faults)
     → (end ≢ feed.SinkFault → (after.out_faults ≡ before.out_faults) × (after.maps_faults ≡ before.maps_faults))
-    → (before.feed_faults ≤ after.feed_faults) × (before.out_faults ≤ after.out_faults) × (before.maps_faults ≤ after.maps_faults) → IsServed turns ask first before after result
-is_served turns ask first before after end places stream_end result (ends, as_many, are, driven) as_asked answer source stays sink sink_stays later =
+    → (before.feed_faults ≤ after.feed_faults) × (before.out_faults ≤ after.out_faults) × (before.maps_faults ≤ after.maps_faults) × NoneFell before.lent.more after.lent.more → IsServed turns ask first before after result
+is_served turns ask first before after end places stream_end result (ends, as_many, are, driven) behind as_asked answer source stays sink sink_stays later =
     let all = all_ends ends stream_end in
     let p = list_any is_port_fault all in
     let s = list_any is_spent all in
@@ -79,6 +82,7 @@ is_served turns ask first before after end places stream_end result (ends, as_ma
       as_many = as_many;
       as_asked = as_asked;
       driven = driven;
+      behind = behind;
       result_is = is;
       source = source;
       source_stays = stays;

@@ -8,6 +8,8 @@ use Rattle.outside.specs.Sink.{Written}
 use Rattle.outside.specs.Source.{Fed}
 use Rattle.outside.specs.declared.pace.PaceCall.{PaceCall}
 use Rattle.drive.specs.Done.{LaneTold, StreamLaneTold}
+use Rattle.drive.specs.Feeds.{FeedTold}
+use Rattle.glb.proofs.Named.{fell_same}
 use Rattle.glb.specs.declared.status.Status.{Status}
 use Rattle.glb.specs.declared.status.Status.TheVariants as status
 use Rattle.glb.specs.Words.{Service, Task, say, serve, large}
@@ -80,12 +82,13 @@ unread turns (Some (serve ask)) s = promised turns ask s s status.NoMemory (inl 
     (record {
       files_later = omega arith;
       feed_later = omega arith;
+      more_later = fell_same s.stage.lent.more;
       out_later = omega arith;
       maps_later = omega arith;
       source = λ h. absurd (cc);
       sink = λ h. absurd (cc);
       files_stay = λ h. refl;
-      feed_stays = λ h. refl;
+      feed_stays = λ h one. (refl, refl);
       out_stays = λ h. refl;
       maps_stay = λ h. refl;
       lanes = unread_causes topology_file turns ask s.stage.lent s.stage.lent ask.topology s.files s.stage.lent.out s.stage.lent.out status.NoMemory (inr (inr (record { status = inr refl; puts = stays s.stage.lent.out })));
@@ -114,7 +117,7 @@ none_behind all front [] is same = refl
 none_behind all front (x ∷ xs) is same = absurd (omega (arith, ap length is, length-append front (x ∷ xs), same))
 
 -- stages of the same parts
-pub same_stage : (fed fed' : Option Fed) (out out' maps maps' : Option Written) (pace pace' : Option (List PaceCall)) (lanes lanes' : List LaneTold) (stream : StreamLaneTold) (feed_faults feed_faults' out_faults out_faults' maps_faults maps_faults' : ℕ)
-    → fed ≡ fed' → out ≡ out' → maps ≡ maps' → pace ≡ pace' → lanes ≡ lanes' → feed_faults ≡ feed_faults' → out_faults ≡ out_faults' → maps_faults ≡ maps_faults'
-    → stage fed out maps pace lanes stream feed_faults out_faults maps_faults ≡ stage fed' out' maps' pace' lanes' stream feed_faults' out_faults' maps_faults'
-same_stage fed fed' out out' maps maps' pace pace' lanes lanes' stream feed_faults feed_faults' out_faults out_faults' maps_faults maps_faults' a b c d e f g h = rw (a, b, c, d, e, f, g, h) refl
+pub same_stage : (fed fed' : Option Fed) (more more' : List FeedTold) (opens opens' : List (Option (List (List ℕ)))) (out out' maps maps' : Option Written) (pace pace' : Option (List PaceCall)) (lanes lanes' : List LaneTold) (stream : StreamLaneTold) (feed_faults feed_faults' out_faults out_faults' maps_faults maps_faults' : ℕ)
+    → fed ≡ fed' → more ≡ more' → opens ≡ opens' → out ≡ out' → maps ≡ maps' → pace ≡ pace' → lanes ≡ lanes' → feed_faults ≡ feed_faults' → out_faults ≡ out_faults' → maps_faults ≡ maps_faults'
+    → stage fed more opens out maps pace lanes stream feed_faults out_faults maps_faults ≡ stage fed' more' opens' out' maps' pace' lanes' stream feed_faults' out_faults' maps_faults'
+same_stage fed fed' more more' opens opens' out out' maps maps' pace pace' lanes lanes' stream feed_faults feed_faults' out_faults out_faults' maps_faults maps_faults' a b c d e f g h i j = rw (a, b, c, d, e, f, g, h, i, j) refl

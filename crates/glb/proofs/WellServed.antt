@@ -1,6 +1,6 @@
 -- A run of `serve` with status 0.
 use Rattle.std.proofs.Common.{◌≡◌, ◌⊎◌, inl, inr, ℕ, ◌+◌, Bool, true, false, List, [], ◌∷◌, length, refl, ap, sym, ◌∙◌, subst}
-use Rattle.std.specs.Prelude.{Option, None, Some, ◌||◌}
+use Rattle.std.specs.Prelude.{Option, None, Some, ◌||◌, take}
 use Rattle.std.specs.List.{list_any}
 use Rattle.topology_text.specs.Plan.{IsPlan, Plan}
 use Rattle.published_map.specs.Version.{Version}
@@ -11,7 +11,7 @@ use Rattle.lane_model.specs.Replies.{replies}
 use Rattle.lane_model.specs.Turns.{Turn, entries_of, tries_of}
 use Rattle.demand_feed.specs.declared.run.FeedEnd.{FeedEnd}
 use Rattle.demand_feed.specs.declared.run.FeedEnd.TheVariants as feed
-use Rattle.mapper.specs.Feeding.{IsFeed}
+use Rattle.drive.specs.Feeds.{AreFed}
 use Rattle.mapper.specs.Scenes.{IsPrinted, scene}
 use Rattle.drive.specs.Closing.{shut}
 use Rattle.drive.specs.Done.{IsDone, IsOverNewest, IsServedLog, LaneTold, ServerTold, StreamLaneTold}
@@ -147,18 +147,19 @@ both_none test ends e h = parts (list_any test ends) (list_any test (option_to_l
     parts true y h = absurd (cc)
     parts false y h = (refl, h)
 
-by_parts : (p s c : Bool) → status.Ok ≡ status_by p s c → (p ≡ false) × (s ≡ false) × (c ≡ false)
-by_parts false false false h = (refl, refl, refl)
-by_parts true s c h = absurd (cc)
-by_parts false true c h = absurd (cc)
-by_parts false false true h = absurd (cc)
+by_parts : (p s m c : Bool) → status.Ok ≡ status_by p s m c → (p ≡ false) × (s ≡ false) × (m ≡ false) × (c ≡ false)
+by_parts false false false false h = (refl, refl, refl, refl)
+by_parts true s m c h = absurd (cc)
+by_parts false true m c h = absurd (cc)
+by_parts false false true c h = absurd (cc)
+by_parts false false false true h = absurd (cc)
 
 ok_parts : (end : FeedEnd) (p s c : Bool) → status.Ok ≡ status_of end p s c → (end ≡ feed.Ended) × (p ≡ false) × (s ≡ false) × (c ≡ false)
-ok_parts feed.Ended p s c h = let parts = by_parts p s c h in (refl, parts.0, parts.1, parts.2)
-ok_parts feed.Spent p s c h = let parts = by_parts p true c h in absurd (cc)
+ok_parts feed.Ended p s c h = let parts = by_parts p s false c h in (refl, parts.0, parts.1, parts.3)
+ok_parts feed.Spent p s c h = let parts = by_parts p true false c h in absurd (cc)
 ok_parts feed.SourceFault p s c h = absurd (cc)
 ok_parts feed.SinkFault p s c h = absurd (cc)
-ok_parts feed.NoMemory p s c h = absurd (cc)
+ok_parts feed.NoMemory p s c h = let parts = by_parts p s true c h in absurd (cc)
 
 -- a session over a topology
 session_well : (turns : ℕ) (ask : Service) (topology : Plan) (before after : Surroundings) → IsPlan topology → Says topology_file before.files ask.topology topology
@@ -170,9 +171,10 @@ session_well turns ask topology before after plan says placed started first plac
     let spents = both_none is_spent served.ends served.stream_end parts.2 in
     let cells = both_none is_cell_fault served.ends served.stream_end parts.3 in
     let d = served.driven in
-    let fed : IsFeed topology turns feed.Ended started.lent.feed after.stage.lent.feed (scene first (first ∷ []) started.lent.out started.lent.maps started.lent.pace) (scene d.newest (first ∷ d.rest) after.stage.lent.out after.stage.lent.maps after.stage.lent.pace) =
-    subst (λ (t : Plan). IsFeed t turns feed.Ended started.lent.feed after.stage.lent.feed (scene first (first ∷ []) started.lent.out started.lent.maps started.lent.pace) (scene d.newest (first ∷ d.rest) after.stage.lent.out after.stage.lent.maps after.stage.lent.pace)) is_first.0.plan
-    (subst (λ (e : FeedEnd). IsFeed first.plan turns e started.lent.feed after.stage.lent.feed (scene first (first ∷ []) started.lent.out started.lent.maps started.lent.pace) (scene d.newest (first ∷ d.rest) after.stage.lent.out after.stage.lent.maps after.stage.lent.pace)) parts.0 d.feed) in
+    let count = length ask.more in
+    let fed : AreFed topology turns feed.Ended started.lent.feed (take count started.lent.more) after.stage.lent.feed (take count after.stage.lent.more) (scene first (first ∷ []) started.lent.out started.lent.maps started.lent.pace) (scene d.newest (first ∷ d.rest) after.stage.lent.out after.stage.lent.maps after.stage.lent.pace) =
+    subst (λ (t : Plan). AreFed t turns feed.Ended started.lent.feed (take count started.lent.more) after.stage.lent.feed (take count after.stage.lent.more) (scene first (first ∷ []) started.lent.out started.lent.maps started.lent.pace) (scene d.newest (first ∷ d.rest) after.stage.lent.out after.stage.lent.maps after.stage.lent.pace)) is_first.0.plan
+    (subst (λ (e : FeedEnd). AreFed first.plan turns e started.lent.feed (take count started.lent.more) after.stage.lent.feed (take count after.stage.lent.more) (scene first (first ∷ []) started.lent.out started.lent.maps started.lent.pace) (scene d.newest (first ∷ d.rest) after.stage.lent.out after.stage.lent.maps after.stage.lent.pace)) parts.0 d.feed) in
     let placed_maps : placed.lent.maps ≡ before.stage.lent.maps = ap (λ (l : Lent). l.maps) place.lent in
     record {
       topology = topology;
@@ -183,7 +185,7 @@ session_well turns ask topology before after plan says placed started first plac
       newest = d.newest;
       is_first = is_first;
       goes_on = d.goes_on;
-      texts = texts_of topology turns started.lent.feed after.stage.lent.feed first d.rest before.stage.lent.maps (scene first (first ∷ []) started.lent.out started.lent.maps started.lent.pace) (scene d.newest (first ∷ d.rest) after.stage.lent.out after.stage.lent.maps after.stage.lent.pace) refl refl
+      texts = texts_of topology turns started.lent.feed after.stage.lent.feed (take count started.lent.more) (take count after.stage.lent.more) first d.rest before.stage.lent.maps (scene first (first ∷ []) started.lent.out started.lent.maps started.lent.pace) (scene d.newest (first ∷ d.rest) after.stage.lent.out after.stage.lent.maps after.stage.lent.pace) refl refl
           (subst (λ (m : Option Written). BothTell m started.lent.maps (IsPrinted (map_text first ∷ []))) placed_maps start.put) fed;
       placed = placed;
       started = started;
@@ -206,6 +208,7 @@ well_served turns ask before after (inl unread) = absurd (not_read unread.run)
     not_read (inr (inr silent)) = elim silent.status [ inl is ↦ cc | inr is ↦ cc ]
 well_served turns ask before after (inr (topology, plan, says, inl unopened)) = elim unopened.why [ inl is ↦ absurd (cc) | inr is ↦ let fault = is.0 in absurd (cc) ]
 well_served turns ask before after (inr (topology, plan, says, inr (placed, first, place, is_first, inl shut))) = let is = shut.why in absurd (cc)
-well_served turns ask before after (inr (topology, plan, says, inr (placed, first, place, is_first, inr (inl unput)))) = let is = unput.why in absurd (cc)
-well_served turns ask before after (inr (topology, plan, says, inr (placed, first, place, is_first, inr (inr (inl h))))) = let is = h.0 in absurd (cc)
-well_served turns ask before after (inr (topology, plan, says, inr (placed, first, place, is_first, inr (inr (inr (started, start, served)))))) = session_well turns ask topology before after plan says placed started first place is_first start served
+well_served turns ask before after (inr (topology, plan, says, inr (placed, first, place, is_first, inr (inl shut)))) = let is = shut.why in absurd (cc)
+well_served turns ask before after (inr (topology, plan, says, inr (placed, first, place, is_first, inr (inr (inl unput))))) = let is = unput.why in absurd (cc)
+well_served turns ask before after (inr (topology, plan, says, inr (placed, first, place, is_first, inr (inr (inr (inl h)))))) = let is = h.0 in absurd (cc)
+well_served turns ask before after (inr (topology, plan, says, inr (placed, first, place, is_first, inr (inr (inr (inr (started, start, served))))))) = session_well turns ask topology before after plan says placed started first place is_first start served

@@ -8,6 +8,7 @@ use Rattle.mapper.specs.Scenes.{IsPrinted}
 use Rattle.addr_text.specs.declared.address.Listen.{Listen}
 use Rattle.drive.specs.Done.{LaneTold, ServerTold, StreamLaneTold}
 use Rattle.drive.specs.Driven.{Lent}
+use Rattle.drive.specs.Feeds.{FeedTold}
 use Rattle.glb.specs.Words.{Service}
 use Rattle.glb.specs.declared.status.Status.{Status}
 use Rattle.glb.specs.declared.status.Status.TheVariants.{PortFault, Spent, CellFault}
@@ -59,9 +60,23 @@ HasCellFault versions before after = HasDoorFault before after ⊎ HasShown vers
 abbrev pub HasGiven : ℕ → Option Fed → Option Fed → Type 0
 HasGiven turns before after = (pieces : List (List ℕ)) × BothTell before after (HasRead pieces) × NoStop (concat pieces) × (length pieces ≡ turns)
 
--- the feed gave as many pieces as there are turns, or one of the lanes took as many answers
+-- one of the first n further feeds is so, before and after
+abbrev pub AnyFeed : ℕ → (FeedTold → FeedTold → Type 0) → List FeedTold → List FeedTold → Type 0
+AnyFeed zero P before after = ⊥
+AnyFeed (suc n) P (b ∷ before) (c ∷ after) = P b c ⊎ AnyFeed n P before after
+AnyFeed (suc n) P _ _ = ⊥
+
+-- its count rose
+abbrev pub HasFeedFault : FeedTold → FeedTold → Type 0
+HasFeedFault before after = Rose before.faults after.faults
+
+-- it gave so many pieces
+abbrev pub HasGivenMore : ℕ → FeedTold → FeedTold → Type 0
+HasGivenMore turns before after = HasGiven turns before.fed after.fed
+
+-- a feed gave as many pieces as there are turns, or one of the lanes took as many answers
 abbrev pub AreSpent : ℕ → Service → Lent → Lent → Type 0
-AreSpent turns ask before after = HasGiven turns before.feed after.feed ⊎ AnyServer ask (HasTaken turns) (HasHeard turns) before after
+AreSpent turns ask before after = HasGiven turns before.feed after.feed ⊎ AnyFeed (length ask.more) (HasGivenMore turns) before.more after.more ⊎ AnyServer ask (HasTaken turns) (HasHeard turns) before after
 
 -- the maps got some texts, and the door of one of the lanes showed a serial beyond as many versions
 abbrev pub IsPastMaps : Service → Lent → Lent → Type 0

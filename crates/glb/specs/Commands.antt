@@ -1,7 +1,7 @@
 -- Inside this crate alone: a command of the code, as what its words ask for.
-use Rattle.std.specs.Prelude.{◌≤◌, Option, None, Some}
+use Rattle.std.specs.Prelude.{◌≤◌, map, Option, None, Some, option_map}
 use Rattle.big_world.specs.declared.TheConstants.{LARGEST_WORLD}
-use Rattle.glb.specs.Words.{Ask, Service, Task, most_workers, check, map_from, places, answer, repair, say, serve, large}
+use Rattle.glb.specs.Words.{Ask, Service, Task, given, most_workers, check, map_from, places, answer, repair, say, serve, large}
 use Rattle.glb.specs.declared.words.Command.{Command}
 use Rattle.glb.specs.declared.words.Order.{Order}
 use Rattle.glb.specs.declared.words.Service.{Service as Ordered}
@@ -18,7 +18,7 @@ ask_of (Answer topology map from octets) = answer topology.now map.now (record {
 
 -- a service, as what is asked for
 abbrev pub service_asked : Ordered → Service
-service_asked s = record { topology = s.topology.now; listen = s.listen; workers = s.workers; tcp = s.tcp }
+service_asked s = record { topology = s.topology.now; listen = s.listen; workers = s.workers; tcp = s.tcp; more = given (map (option_map (λ n. n.now)) s.more) }
 
 -- an order, as what it asks for
 abbrev pub task_of : Order → Task

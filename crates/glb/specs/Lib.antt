@@ -4,6 +4,7 @@ pub mod Commands
 pub mod Texts
 pub mod Outcome
 pub mod Told
+pub mod Feeds
 pub mod Files
 pub mod Check
 pub mod Map

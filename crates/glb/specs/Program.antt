@@ -1,5 +1,5 @@
 -- What a run of the whole program does, by what its words ask for.
-use Rattle.std.specs.Prelude.{◌≡◌, ◌≢◌, ◌⊎◌, ℕ, ◌≤◌, List, [], Option, None, Some, IsSome}
+use Rattle.std.specs.Prelude.{◌≡◌, ◌≢◌, ◌⊎◌, ℕ, ◌≤◌, List, [], length, Option, None, Some, IsSome}
 use Rattle.outside.specs.Faults.{BothTell, Rose}
 use Rattle.outside.specs.Shelf.{Load, Shelved}
 use Rattle.glb.specs.declared.status.Status.{Status}
@@ -8,7 +8,8 @@ use Rattle.glb.specs.Words.{Ask, Service, Task, say, serve, large}
 use Rattle.glb.specs.Outcome.{AreLoaded, AreLoadsOf, HasExactCauses}
 use Rattle.glb.specs.Run as short
 use Rattle.glb.specs.Serve.{IsServeRun, loads_of_serve}
-use Rattle.glb.specs.Causes.{AnyServer, AreSpent, HasDoorFault, HasLaneCauses, HasPortFault, IsPastMaps}
+use Rattle.drive.specs.Feeds.{AllStand, NoneFell}
+use Rattle.glb.specs.Causes.{AnyFeed, AnyServer, AreSpent, HasDoorFault, HasFeedFault, HasLaneCauses, HasPortFault, IsPastMaps}
 use Rattle.glb.specs.Map.{HoldsTopology}
 use Rattle.glb.specs.Large.{IsLargeRun, IsSummedRun}
 use Rattle.glb.specs.Served.{IsWellServed}
@@ -33,16 +34,17 @@ loads_of (Some (say ask)) = short.loads_of (Some ask)
 loads_of (Some (serve ask)) = loads_of_serve ask
 loads_of (Some (large groups)) = λ _. []
 
--- no count of `serve` falls, a fault of the files, the feed or an output is answered only where its count rose, and their counts stand where it is not answered; and a fault of the lanes is answered only with its cause
+-- no count of `serve` falls, a fault of the files, a feed or an output is answered only where its count rose, and their counts stand where it is not answered, those of several feeds where no output's is answered either; and a fault of the lanes is answered only with its cause
 pub record HasServeCauses (turns : ℕ) (ask : Service) (before after : Surroundings) (result : Status) : Type 0 where
   pub files_later : before.files_faults ≤ after.files_faults
   pub feed_later : before.stage.feed_faults ≤ after.stage.feed_faults
+  pub more_later : NoneFell before.stage.lent.more after.stage.lent.more
   pub out_later : before.stage.out_faults ≤ after.stage.out_faults
   pub maps_later : before.stage.maps_faults ≤ after.stage.maps_faults
-  pub source : result ≡ status.SourceFault → Rose before.files_faults after.files_faults ⊎ Rose before.stage.feed_faults after.stage.feed_faults
+  pub source : result ≡ status.SourceFault → Rose before.files_faults after.files_faults ⊎ Rose before.stage.feed_faults after.stage.feed_faults ⊎ AnyFeed (length ask.more) HasFeedFault before.stage.lent.more after.stage.lent.more
   pub sink : result ≡ status.SinkFault → Rose before.stage.out_faults after.stage.out_faults ⊎ Rose before.stage.maps_faults after.stage.maps_faults
   pub files_stay : result ≢ status.SourceFault → after.files_faults ≡ before.files_faults
-  pub feed_stays : result ≢ status.SourceFault → after.stage.feed_faults ≡ before.stage.feed_faults
+  pub feed_stays : result ≢ status.SourceFault → (result ≡ status.SinkFault → ask.more ≡ []) → (after.stage.feed_faults ≡ before.stage.feed_faults) × AllStand before.stage.lent.more after.stage.lent.more
   pub out_stays : result ≢ status.SinkFault → after.stage.out_faults ≡ before.stage.out_faults
   pub maps_stay : result ≢ status.SinkFault → after.stage.maps_faults ≡ before.stage.maps_faults
   pub lanes : HasLaneCauses turns ask before.stage.lent after.stage.lent result
@@ -61,10 +63,11 @@ IsSound (Some (say ask)) files = IsSome files × short.IsSound (Some ask) files
 IsSound (Some (serve ask)) files = IsSome files × HoldsTopology ask.topology files
 IsSound (Some (large groups)) files = Unit {0}
 
--- no count of faults rose: of the files, the feed and both outputs, of a port, the streams or a door of the lanes
+-- no count of faults rose: of the files, the feeds and both outputs, of a port, the streams or a door of the lanes
 pub record IsServeQuiet (ask : Service) (before after : Surroundings) : Type 0 where
   pub files : Rose before.files_faults after.files_faults → ⊥
   pub feed : Rose before.stage.feed_faults after.stage.feed_faults → ⊥
+  pub more : AnyFeed (length ask.more) HasFeedFault before.stage.lent.more after.stage.lent.more → ⊥
   pub out : Rose before.stage.out_faults after.stage.out_faults → ⊥
   pub maps : Rose before.stage.maps_faults after.stage.maps_faults → ⊥
   pub ports : AnyServer ask HasPortFault HasPortFault before.stage.lent after.stage.lent → ⊥
@@ -101,7 +104,7 @@ pub record IsPromised (turns : ℕ) (task : Option Task) (before after : Surroun
   pub noted : BothTell before.files after.files (AreLoadsOf (loads_of task))
   -- and all of these, unless the answer is a fault or want of memory.
   pub loaded : result ≢ status.SourceFault → result ≢ status.NoMemory → BothTell before.files after.files (AreLoaded (loads_of task))
-  -- A fault of the files, of the feed or of an output is answered only where its count rose, and their counts stand where it is not answered. Of `serve` also: a fault of a port is answered only where the count of the port of one of the first lanes rose, or that of the streams, turns were spent only where the feed or one of the lanes took all of them, and a fault of the cell is answered only where the count of the door of one of the lanes rose, or that door showed a serial past those whose texts the maps got.
+  -- A fault of the files, of a feed or of an output is answered only where its count rose, and their counts stand where it is not answered; those of several feeds where an output's fault isn't answered either. Of `serve` also: a fault of a port is answered only where the count of the port of one of the first lanes rose, or that of the streams, turns were spent only where a feed or one of the lanes took all of them, and a fault of the cell is answered only where the count of the door of one of the lanes rose, or that door showed a serial past those whose texts the maps got.
   pub causes : AreCauses turns task before after result
   -- Status 0 says that the files hold a topology; of `check`, `answer` and `repair` also that they hold a map that is good for it, and of `repair` changes; and that the output got, in one put, `good`, or of `map` the text of a map that is good for the topology and group-best, mapped from scratch, or of `places` how many units stand at each place by such a map, or of `answer` the reply of the map, or of `repair` the text of a map that is good for the changed numbers and keeps the rest. Of `serve` it says that the maps hold the texts of a history of good maps, the first one mapped from scratch, and nothing else, and that each of the first lanes, and that for conversations where it is asked for, answered from that history until its port's or its streams' end or its gate's stop. Of `large` it says that the output got the ten lines of the summary of a run.
   pub good : result ≡ status.Ok → IsGoodRun turns task before after

@@ -1,5 +1,5 @@
 -- What a run of `serve` does.
-use Rattle.std.specs.Prelude.{◌≡◌, ◌≢◌, ◌⊎◌, ℕ, ◌<◌, ◌≤◌, Bool, true, false, List, [], ◌∷◌, ◌++◌, length, replicate, if◌then◌else◌, Option, None, Some}
+use Rattle.std.specs.Prelude.{◌≡◌, ◌≢◌, ◌⊎◌, ℕ, ◌<◌, ◌≤◌, Bool, true, false, List, [], ◌∷◌, ◌++◌, length, drop, replicate, if◌then◌else◌, Option, None, Some}
 use Rattle.std.specs.List.{list_any}
 use Rattle.std.specs.Option.{option_to_list}
 use Rattle.addr_text.specs.declared.address.Listen.{Listen}
@@ -20,10 +20,12 @@ use Rattle.mapper.specs.Words.{map_text}
 use Rattle.mapper.specs.Mappers.{IsFirst, IsFromScratch}
 use Rattle.drive.specs.Done.{LaneTold, StreamLaneTold}
 use Rattle.drive.specs.Driven.{IsDriven}
+use Rattle.drive.specs.Feeds.{AllStand, NoneFell}
+use Rattle.glb.specs.Feeds.{AreNamed, Named, with_feeds}
 use Rattle.glb.specs.declared.status.Status.{Status}
 use Rattle.glb.specs.declared.status.Status.TheVariants as status
 use Rattle.glb.specs.Words.{Service, lanes_of, streams_of}
-use Rattle.glb.specs.Causes.{AnyServer, HasCellFault, HasEightPortFaults, HasHeard, HasTaken}
+use Rattle.glb.specs.Causes.{AnyFeed, AnyServer, HasFeedFault, HasCellFault, HasEightPortFaults, HasHeard, HasTaken}
 use Rattle.glb.specs.Outcome.{RunsBy}
 use Rattle.glb.specs.Told.{IsOutAlone, Stage, Surroundings}
 use Rattle.glb.specs.Files.{IsRefused, Says, only, topology_file}
@@ -48,21 +50,21 @@ is_cell_fault lane.CellFault = true
 is_cell_fault (lane.Above known newest) = true
 is_cell_fault _ = false
 
--- a port's fault comes first, then what was spent, then the cell's fault
-abbrev pub status_by : Bool → Bool → Bool → Status
-status_by port spent cell = if port then status.PortFault else (if spent then status.Spent else (if cell then status.CellFault else status.Ok))
+-- a port's fault comes first, then what was spent, then want of memory, then the cell's fault
+abbrev pub status_by : Bool → Bool → Bool → Bool → Status
+status_by port spent memory cell = if port then status.PortFault else (if spent then status.Spent else (if memory then status.NoMemory else (if cell then status.CellFault else status.Ok)))
 
 -- the ends of all lanes that were served
 abbrev pub all_ends : List Ended → Option Ended → List Ended
 all_ends ends stream_end = ends ++ option_to_list stream_end
 
--- the status of a session: the feed's own fault comes first, then what the ends of the lanes make, and whether the feed was spent
+-- the status of a session: a fault of an output or of a feed comes first, then what the ends of the lanes make, and whether a feed was spent, or had no memory
 abbrev pub status_of : FeedEnd → Bool → Bool → Bool → Status
 status_of feed.SourceFault port spent cell = status.SourceFault
 status_of feed.SinkFault port spent cell = status.SinkFault
-status_of feed.Spent port spent cell = status_by port true cell
-status_of feed.Ended port spent cell = status_by port spent cell
-status_of feed.NoMemory port spent cell = status.NoMemory
+status_of feed.Spent port spent cell = status_by port true false cell
+status_of feed.NoMemory port spent cell = status_by port spent true cell
+status_of feed.Ended port spent cell = status_by port spent false cell
 
 -- the first door was asked for k places, and may have counted faults; nothing else was asked of the lanes
 abbrev pub AskedFirst : ℕ → List LaneTold → List LaneTold → Type 0
@@ -149,45 +151,62 @@ pub record IsPortUnopened (ask : Service) (before after : Stage) (result : Statu
   pub lent : after.lent ≡ record before.lent { lanes = after.lent.lanes; stream = after.lent.stream }
   pub rest : after ≡ record before { lent = after.lent }
 
--- The ports and the streams were opened, but the put of the first map's text failed.
+-- what the further feeds tell
+abbrev pub named_of : Stage → Named
+named_of s = record { feeds = s.lent.more; opens = s.opens }
+
+-- All ports and the streams were opened, but one of the further feeds was not, and none behind it.
+pub record IsFeedUnopened (ask : Service) (before after : Stage) (result : Status) : Type 0 where
+  pub why : result ≡ status.SourceFault
+  pub opened : AreOpened ask.listen (all_ready ask.workers) before.lent.lanes after.lent.lanes
+  pub stream : IsStreamReady ask.tcp before.lent.stream after.lent.stream
+  pub named : (k : ℕ) × (k < length ask.more) × AreNamed ask.more (then_failed k) (named_of before) (named_of after)
+  pub lent : after.lent ≡ record before.lent { lanes = after.lent.lanes; stream = after.lent.stream; more = after.lent.more }
+  pub rest : after ≡ record before { lent = after.lent; opens = after.opens }
+
+-- The ports, the streams and the further feeds were opened, but the put of the first map's text failed.
 pub record IsUnput (ask : Service) (first : Version) (before after : Stage) (result : Status) : Type 0 where
   pub why : result ≡ status.SinkFault
   pub opened : AreOpened ask.listen (all_ready ask.workers) before.lent.lanes after.lent.lanes
   pub stream : IsStreamReady ask.tcp before.lent.stream after.lent.stream
+  pub named : AreNamed ask.more (all_ready (length ask.more)) (named_of before) (named_of after)
   pub cut : BothTell before.lent.maps after.lent.maps (IsCut [] (map_text first))
   pub rose : Rose before.maps_faults after.maps_faults
-  pub lent : after.lent ≡ record before.lent { lanes = after.lent.lanes; stream = after.lent.stream; maps = after.lent.maps }
-  pub rest : after ≡ record before { lent = after.lent; maps_faults = after.maps_faults }
+  pub lent : after.lent ≡ record before.lent { lanes = after.lent.lanes; stream = after.lent.stream; more = after.lent.more; maps = after.lent.maps }
+  pub rest : after ≡ record before { lent = after.lent; opens = after.opens; maps_faults = after.maps_faults }
 
--- The ports and the streams were opened, and the first map's text was put.
+-- The ports, the streams and the further feeds were opened, and the first map's text was put.
 pub record IsStarted (ask : Service) (first : Version) (before after : Stage) : Type 0 where
   pub opened : AreOpened ask.listen (all_ready ask.workers) before.lent.lanes after.lent.lanes
   pub stream : IsStreamReady ask.tcp before.lent.stream after.lent.stream
+  pub named : AreNamed ask.more (all_ready (length ask.more)) (named_of before) (named_of after)
   pub put : BothTell before.lent.maps after.lent.maps (IsPrinted (map_text first ∷ []))
-  pub lent : after.lent ≡ record before.lent { lanes = after.lent.lanes; stream = after.lent.stream; maps = after.lent.maps }
-  pub rest : after ≡ record before { lent = after.lent }
+  pub lent : after.lent ≡ record before.lent { lanes = after.lent.lanes; stream = after.lent.stream; more = after.lent.more; maps = after.lent.maps }
+  pub rest : after ≡ record before { lent = after.lent; opens = after.opens }
 
--- The feed was worked and the first lanes were served, and that for conversations where it is asked for, over one history of published maps that goes on from the first one. The status is that of their ends, and each fault came with what it is a fault of: the count of the feed, of an output or of a door, eight more on that of a port or of the streams, as many turns as there may be, or a serial that was not published. The feed's count stood where the feed did not end by its source's fault, and those of both outputs where it did not end by an output's.
+-- The feeds were worked and the first lanes were served, and that for conversations where it is asked for, over one history of published maps that goes on from the first one; further feeds that were not asked for are untouched. The status is that of their ends, and each fault came with what it is a fault of: the count of a feed, of an output or of a door, eight more on that of a port or of the streams, as many turns as there may be, or a serial that was not published. The feeds' counts stood where no source's fault is answered, but for several feeds where an output's is, and those of both outputs where no output's is answered.
 pub record IsServed (turns : ℕ) (ask : Service) (first : Version) (before after : Stage) (result : Status) : Type 0 where
   pub end : FeedEnd
   pub ends : List Ended
   pub stream_end : Option Ended
   pub as_many : length ends ≡ ask.workers
   pub as_asked : length (option_to_list stream_end) ≡ streams_of ask.tcp
-  pub driven : IsDriven turns first end ends stream_end before.lent after.lent
+  pub driven : IsDriven turns first end ends stream_end (with_feeds (length ask.more) before.lent) (with_feeds (length ask.more) after.lent)
+  pub behind : drop (length ask.more) after.lent.more ≡ drop (length ask.more) before.lent.more
   pub result_is : result ≡ status_of end (list_any is_port_fault (all_ends ends stream_end)) (list_any is_spent (all_ends ends stream_end)) (list_any is_cell_fault (all_ends ends stream_end))
-  pub source : end ≡ feed.SourceFault → Rose before.feed_faults after.feed_faults
-  pub source_stays : end ≢ feed.SourceFault → after.feed_faults ≡ before.feed_faults
+  pub source : end ≡ feed.SourceFault → Rose before.feed_faults after.feed_faults ⊎ AnyFeed (length ask.more) HasFeedFault before.lent.more after.lent.more
+  pub source_stays : end ≢ feed.SourceFault → (end ≡ feed.SinkFault → ask.more ≡ []) → (after.feed_faults ≡ before.feed_faults) × AllStand before.lent.more after.lent.more
   pub sink : end ≡ feed.SinkFault → Rose before.out_faults after.out_faults ⊎ Rose before.maps_faults after.maps_faults
   pub sink_stays : end ≢ feed.SinkFault → (after.out_faults ≡ before.out_faults) × (after.maps_faults ≡ before.maps_faults)
   pub port : result ≡ status.PortFault → AnyServer ask HasEightPortFaults HasEightPortFaults before.lent after.lent
   pub spent : result ≡ status.Spent → (end ≡ feed.Spent) ⊎ AnyServer ask (HasTaken turns) (HasHeard turns) before.lent after.lent
   pub cell : result ≡ status.CellFault → AnyServer ask (HasCellFault (length (first ∷ driven.rest))) (HasCellFault (length (first ∷ driven.rest))) before.lent after.lent
-  pub later : (before.feed_faults ≤ after.feed_faults) × (before.out_faults ≤ after.out_faults) × (before.maps_faults ≤ after.maps_faults)
+  pub later : (before.feed_faults ≤ after.feed_faults) × (before.out_faults ≤ after.out_faults) × (before.maps_faults ≤ after.maps_faults) × NoneFell before.lent.more after.lent.more
 
 -- what follows where the map cell was opened with a first version
 abbrev pub IsFirstSession : ℕ → Service → Version → Stage → Stage → Status → Type 0
 IsFirstSession turns ask first before after result = IsPortUnopened ask before after result
+    ⊎ IsFeedUnopened ask before after result
     ⊎ IsUnput ask first before after result
     ⊎ ((result ≡ status.NoMemory) × IsStarted ask first before after)
     ⊎ ((started : Stage) × IsStarted ask first before started × IsServed turns ask first started after result)

@@ -1,5 +1,5 @@
 -- What status 0 of `serve` says.
-use Rattle.std.specs.Prelude.{◌≡◌, ◌⊎◌, ℕ, zero, suc, ◌+◌, ◌≤◌, Bool, List, [], ◌∷◌, ◌++◌, Option, None, Some, fold, length, map}
+use Rattle.std.specs.Prelude.{◌≡◌, ◌⊎◌, ℕ, zero, suc, ◌+◌, ◌≤◌, Bool, List, [], ◌∷◌, ◌++◌, Option, None, Some, fold, length, map, take}
 use Rattle.std.specs.List.{flat_map, range_with_len}
 use Rattle.outside.specs.Faults.{BothTell, raised}
 use Rattle.topology_text.specs.Plan.{IsPlan, Plan}
@@ -12,11 +12,11 @@ use Rattle.lane_model.specs.Replies.{replies}
 use Rattle.lane_model.specs.Calls.{IsEnd, IsGateRun}
 use Rattle.lane_model.specs.Turns.{IsTold, Turn, entries_of, failures, port_turn, tries_of}
 use Rattle.demand_feed.specs.declared.run.FeedEnd.TheVariants as feed
-use Rattle.mapper.specs.Feeding.{IsFeed}
 use Rattle.mapper.specs.Scenes.{IsPrinted, scene}
 use Rattle.mapper.specs.Words.{map_text}
 use Rattle.drive.specs.Done.{LaneTold, StreamLaneTold, floor_behind}
 use Rattle.drive.specs.Driven.{Succeeds}
+use Rattle.drive.specs.Feeds.{AreFed}
 use Rattle.glb.specs.Words.{Service}
 use Rattle.addr_text.specs.declared.address.Listen.{Listen}
 use Rattle.outside.specs.Streams.{StreamsTold, Talk}
@@ -75,7 +75,7 @@ abbrev pub IsStreamWell : Option Listen → ℕ → List Version → ℕ → Str
 IsStreamWell None turns history w before after = after ≡ before
 IsStreamWell (Some at) turns history w before after = IsStreamWellDone turns history w before after
 
--- The file holds a topology; a history of good maps begins with the topology's own numbers, mapped from scratch, and goes on by the feed's batches; the maps got the texts of that history and nothing else; the output got what the feed's lines come to; and each of the first lanes, and that for conversations where it is asked for, was opened and answered from that history until it ended.
+-- The file holds a topology; a history of good maps begins with the topology's own numbers, mapped from scratch, and goes on by the batches of the feeds; the maps got the texts of that history and nothing else; the output got what the feed's lines come to, or the merged text of several feeds; and each of the first lanes, and that for conversations where it is asked for, was opened and answered from that history until it ended.
 pub record IsWellServed (turns : ℕ) (ask : Service) (before after : Surroundings) : Type 0 where
   pub topology : Plan
   pub is_plan : IsPlan topology
@@ -90,6 +90,6 @@ pub record IsWellServed (turns : ℕ) (ask : Service) (before after : Surroundin
   pub started : Stage
   pub place : IsPlaced ask before.stage placed
   pub start : IsStarted ask first placed started
-  pub fed : IsFeed topology turns feed.Ended started.lent.feed after.stage.lent.feed (scene first (first ∷ []) started.lent.out started.lent.maps started.lent.pace) (scene newest (first ∷ rest) after.stage.lent.out after.stage.lent.maps after.stage.lent.pace)
+  pub fed : AreFed topology turns feed.Ended started.lent.feed (take (length ask.more) started.lent.more) after.stage.lent.feed (take (length ask.more) after.stage.lent.more) (scene first (first ∷ []) started.lent.out started.lent.maps started.lent.pace) (scene newest (first ∷ rest) after.stage.lent.out after.stage.lent.maps after.stage.lent.pace)
   pub lanes : AreWellDone turns (first ∷ rest) 0 ask.workers started.lent.lanes after.stage.lent.lanes
   pub stream : IsStreamWell ask.tcp turns (first ∷ rest) ask.workers started.lent.stream after.stage.lent.stream

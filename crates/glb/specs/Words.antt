@@ -1,5 +1,5 @@
 -- What the words of a command line ask for.
-use Rattle.std.specs.Prelude.{ℕ, ◌+◌, List, Option, None, Some, option_and_then, option_map}
+use Rattle.std.specs.Prelude.{ℕ, ◌+◌, List, [], ◌∷◌, Option, None, Some, option_and_then, option_map}
 use Rattle.addr_text.specs.declared.address.Listen.{Listen}
 use Rattle.addr_text.specs.Addresses.{listen_of}
 use Rattle.big_world.specs.declared.TheConstants.{LARGEST_WORLD}
@@ -15,12 +15,13 @@ pub data Ask : Type 0 where
   answer : List ℕ → List ℕ → Datagram → Ask
   repair : List ℕ → List ℕ → List ℕ → Ask
 
--- what `serve` is asked for: the name of its topology, where to listen, how many workers, and where to take conversations, if anywhere
+-- what `serve` is asked for: the name of its topology, where to listen, how many workers, where to take conversations, if anywhere, and the names of further feeds
 pub record Service : Type 0 where
   pub topology : List ℕ
   pub listen : Listen
   pub workers : ℕ
   pub tcp : Option Listen
+  pub more : List (List ℕ)
 
 -- what a command line asks for: a command that says one text on what files say, to serve, or to run a large world of so many groups
 pub data Task : Type 0 where
@@ -43,13 +44,19 @@ abbrev pub workers_of : ℕ → Option (List ℕ) → Option ℕ
 workers_of most None = Some 1
 workers_of most (Some text) = count_of most text
 
+-- the names that are given, in the order of their options
+abbrev pub given : List (Option (List ℕ)) → List (List ℕ)
+given [] = []
+given (None ∷ names) = given names
+given (Some name ∷ names) = name ∷ given names
+
 -- a service at an address with so many workers
-abbrev pub service : List ℕ → Listen → Option Listen → ℕ → Service
-service topology listen tcp workers = record { topology = topology; listen = listen; workers = workers; tcp = tcp }
+abbrev pub service : List ℕ → List (List ℕ) → Listen → Option Listen → ℕ → Service
+service topology more listen tcp workers = record { topology = topology; listen = listen; workers = workers; tcp = tcp; more = more }
 
 -- what `serve` with these words asks for
-abbrev pub service_of : List ℕ → List ℕ → Option (List ℕ) → Option (List ℕ) → Option Service
-service_of topology listen workers tcp = option_and_then (λ at. option_and_then (λ over. option_map (service topology at over) (workers_of (most_workers over) workers)) (tcp_of tcp)) (listen_of listen)
+abbrev pub service_of : List ℕ → List (List ℕ) → List ℕ → Option (List ℕ) → Option (List ℕ) → Option Service
+service_of topology more listen workers tcp = option_and_then (λ at. option_and_then (λ over. option_map (service topology more at over) (workers_of (most_workers over) workers)) (tcp_of tcp)) (listen_of listen)
 
 -- how many lanes take conversations
 abbrev pub streams_of : Option Listen → ℕ
@@ -67,7 +74,7 @@ asked_by (line.map_of topology) = Some (say (map_from topology))
 asked_by (line.places topology) = Some (say (places topology))
 asked_by (line.answer topology map addr digits) = option_map say (option_map (answer topology map) (datagram_of addr digits))
 asked_by (line.repair topology map changes) = Some (say (repair topology map changes))
-asked_by (line.serve topology listen workers tcp) = option_map serve (service_of topology listen workers tcp)
+asked_by (line.serve topology listen workers tcp feed2 feed3 feed4) = option_map serve (service_of topology (given (feed2 ∷ feed3 ∷ feed4 ∷ [])) listen workers tcp)
 asked_by (line.large groups) = option_map large (count_of LARGEST_WORLD groups)
 
 -- What the words ask for, if they are taken: the declaration of the command line takes them, and they are in their grammars. The first is the program's name.

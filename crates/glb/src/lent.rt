@@ -2,11 +2,12 @@
 
 use drive::Lane;
 
-/// What a session is lent: its feed, both outputs, its lanes for datagrams, and the pace that is told of commits. The feed and
-/// each lane take at most so many turns.
+/// What a session is lent: its feed, the sources of further feeds, both outputs, its lanes for datagrams, and the pace that is
+/// told of commits. Each feed and each lane take at most so many turns.
 #[derive(Drop)]
-pub struct Lent<'f, 'o, 'm, 'l, 'p, S, K, P, G, D, M> {
+pub struct Lent<'f, 'n, 'o, 'm, 'l, 'p, S, N, K, P, G, D, M> {
     pub feed: &'f mut S,
+    pub more: &'n mut [N],
     pub out: &'o mut K,
     pub maps: &'m mut K,
     pub lanes: &'l mut [Lane<P, G, D>],

@@ -1,5 +1,5 @@
 //! `glb serve`: a history of maps that a feed leads on, from which lanes answer.
-ghost use Rattle.std.specs.Prelude.{◌≡◌, ◌+◌, ◌≤◌, ◌∷◌, [], All, IfErr, IfOk, IfSome, List, Some, length, map, vec_len};
+ghost use Rattle.std.specs.Prelude.{◌≡◌, ◌+◌, ◌≤◌, ◌∷◌, [], All, IfErr, IfOk, IfSome, List, Some, length, map, option_map, vec_len};
 ghost use Rattle.std.specs.List.{list_any};
 ghost use Rattle.std.specs.Option.{option_to_list};
 ghost use Rattle.published_map.specs.Version.{Version};
@@ -11,7 +11,7 @@ ghost use Rattle.glb.specs.Starting.{IsAskedSome, at_place, status_at};
 ghost use Rattle.glb.specs.Commands.{service_asked};
 ghost use Rattle.drive.specs.Told.{lane_told};
 ghost use Rattle.glb.specs.Told.{IsSame, stage_of, surroundings};
-ghost use Rattle.glb.specs.Words.{lanes_of, most_workers, serve as task, streams_of};
+ghost use Rattle.glb.specs.Words.{given, lanes_of, most_workers, serve as task, streams_of};
 
 use crate::ending::finish;
 use crate::files::load_topology;
@@ -27,7 +27,7 @@ use map_cell::{Door, EmptyHistory, Naming, OpenFault, Viewer};
 use map_model::{Proposals, Steps};
 use mapper::Mapper;
 use no_memory::NoMemory;
-use outside::{Gate, Pace, Port, Shelf, Sink, Source, Streams};
+use outside::{Gate, NamedSource, Pace, Port, Shelf, Sink, Source, Streams};
 use std::alloc::Global;
 use std::marker::Brand;
 use std::sync::Wait;
@@ -59,13 +59,15 @@ fn has_cell_fault(places: &[Option<Ended>]) -> bool
     places.iter().any(|place| matches!(place, Some(Ended::CellFault | Ended::Above { .. })))
 }
 
-fn status_by(port: bool, spent: bool, cell: bool) -> Status
-    ensures { result ≡ status_by port spent cell }
+fn status_by(port: bool, spent: bool, memory: bool, cell: bool) -> Status
+    ensures { result ≡ status_by port spent memory cell }
 {
     if port {
         Status::PortFault
     } else if spent {
         Status::Spent
+    } else if memory {
+        Status::NoMemory
     } else if cell {
         Status::CellFault
     } else {
@@ -84,9 +86,9 @@ fn status_of(end: FeedEnd, places: &[Option<Ended>], stream: Option<Ended>) -> S
     match end {
         FeedEnd::SourceFault => Status::SourceFault,
         FeedEnd::SinkFault => Status::SinkFault,
-        FeedEnd::NoMemory => Status::NoMemory,
-        FeedEnd::Spent => status_by(port, true, cell),
-        FeedEnd::Ended => status_by(port, spent, cell),
+        FeedEnd::Spent => status_by(port, true, false, cell),
+        FeedEnd::NoMemory => status_by(port, spent, true, cell),
+        FeedEnd::Ended => status_by(port, spent, false, cell),
     }
 }
 
@@ -186,6 +188,20 @@ fn lanes_of(service: &Service<'_>) -> u8
     }
 }
 
+/// How many names are given.
+fn count_of(names: &[Option<&str>]) -> usize
+    ensures count { result ≡ length (given (map (option_map (λ n. n.now)) names.now)) }
+    ensures few { result ≤ length names.now }
+{
+    let Some((first, rest)) = names.split_first() else {
+        return 0;
+    };
+    match first {
+        Some(_) => 1 + count_of(rest),
+        None => count_of(rest),
+    }
+}
+
 /// The viewers of the lanes for datagrams, and that of the lane for conversations, where there is one.
 fn split_viewers<J: Naming>(
     viewers: Vec<Viewer<J>>,
@@ -204,11 +220,12 @@ fn split_viewers<J: Naming>(
     (viewers, listener)
 }
 
-/// Opens the ports and the streams, puts the first map's text, and drives. It closes the mapper.
+/// Opens the ports, the streams and the further feeds, puts the first map's text, and drives. It closes the mapper.
 fn serve_first<
     J: Naming + Send + Sync,
     R: Threads + Wait + Sync,
-    S: Source,
+    S: Source + Send,
+    N: NamedSource + Send,
     K: Sink,
     P: Port + Send,
     Q: Streams + Send,
@@ -221,20 +238,32 @@ fn serve_first<
     mapper: Mapper<J>,
     viewers: Vec<Viewer<J>>,
     service: &Service<'_>,
-    lent: &mut Lent<'_, '_, '_, '_, '_, S, K, P, G, D, M>,
+    lent: &mut Lent<'_, '_, '_, '_, '_, '_, S, N, K, P, G, D, M>,
     stream: &mut StreamLane<Q, G, D>,
 ) -> Status
     requires serial { mapper.newest.serial ≡ 0 }
     requires viewers { (vec_len viewers ≡ lanes_of (service_asked service.now)) × All (λ v. (v.seen ≡ mapper.history) × (v.heard ≡ mapper.history)) viewers.items }
     requires workers { (service.now.workers ≤ most_workers service.now.tcp) × (service.now.workers ≤ length lent.old.lanes.now) }
     requires turns { lent.old.turns ≤ MOST_TURNS }
+    requires feeds { length lent.old.more.now ≡ 3 }
     ensures keeps { IsSame lent.old lent.new }
-    ensures served { IsFirstSession lent.old.turns (service_asked service.now) mapper.newest (stage_of S.told S.faults K.told K.faults P.told P.faults Q.told Q.faults G.told D.asked D.looks D.greatest D.faults M.told lent.old stream.old) (stage_of S.told S.faults K.told K.faults P.told P.faults Q.told Q.faults G.told D.asked D.looks D.greatest D.faults M.told lent.new stream.new) result }
+    ensures served { IsFirstSession lent.old.turns (service_asked service.now) mapper.newest (stage_of S.told S.faults N.told N.faults N.opens K.told K.faults P.told P.faults Q.told Q.faults G.told D.asked D.looks D.greatest D.faults M.told lent.old stream.old) (stage_of S.told S.faults N.told N.faults N.opens K.told K.faults P.told P.faults Q.told Q.faults G.told D.asked D.looks D.greatest D.faults M.told lent.new stream.new) result }
 {
-    match start_lanes(mapper.text(), service, lent.maps, lent.lanes, stream) {
+    match start_lanes(
+        mapper.text(),
+        service,
+        lent.more,
+        lent.maps,
+        lent.lanes,
+        stream,
+    ) {
         Start::NoPort => {
             mapper.close(rt);
             Status::PortFault
+        }
+        Start::NoFeed => {
+            mapper.close(rt);
+            Status::SourceFault
         }
         Start::NoSink => {
             mapper.close(rt);
@@ -242,9 +271,11 @@ fn serve_first<
         }
         Start::Ready => {
             let (viewers, listener) = split_viewers(viewers, &service.tcp);
+            let more = &mut *lent.more;
+            let (opened, _shut) = more.split_at_mut(count_of(&service.more));
             match drive(
-                rt, alloc, mapper, viewers, listener, lent.feed, lent.out, lent.maps, lent.lanes,
-                stream, lent.pace, lent.turns,
+                rt, alloc, mapper, viewers, listener, lent.feed, opened, lent.out, lent.maps,
+                lent.lanes, stream, lent.pace, lent.turns,
             ) {
                 Ok(end) => status_of(end.feed, &end.lanes, end.stream),
                 Err(NoMemory) => Status::NoMemory,
@@ -257,7 +288,8 @@ fn serve_first<
 fn serve_topology<
     J: Naming + Send + Sync,
     R: Threads + Wait + Sync,
-    S: Source,
+    S: Source + Send,
+    N: NamedSource + Send,
     K: Sink,
     P: Port + Send,
     Q: Streams + Send,
@@ -270,14 +302,15 @@ fn serve_topology<
     history: EmptyHistory,
     topology: Topology,
     service: &Service<'_>,
-    lent: &mut Lent<'_, '_, '_, '_, '_, S, K, P, G, D, M>,
+    lent: &mut Lent<'_, '_, '_, '_, '_, '_, S, N, K, P, G, D, M>,
     stream: &mut StreamLane<Q, G, D>,
 ) -> Status
     requires book { history ≡ J.book }
     requires workers { (service.now.workers ≤ most_workers service.now.tcp) × (service.now.workers ≤ length lent.old.lanes.now) × (1 ≤ length lent.old.lanes.now) }
     requires turns { lent.old.turns ≤ MOST_TURNS }
+    requires feeds { length lent.old.more.now ≡ 3 }
     ensures keeps { IsSame lent.old lent.new }
-    ensures session { IsSession lent.old.turns (service_asked service.now) topology (stage_of S.told S.faults K.told K.faults P.told P.faults Q.told Q.faults G.told D.asked D.looks D.greatest D.faults M.told lent.old stream.old) (stage_of S.told S.faults K.told K.faults P.told P.faults Q.told Q.faults G.told D.asked D.looks D.greatest D.faults M.told lent.new stream.new) result }
+    ensures session { IsSession lent.old.turns (service_asked service.now) topology (stage_of S.told S.faults N.told N.faults N.opens K.told K.faults P.told P.faults Q.told Q.faults G.told D.asked D.looks D.greatest D.faults M.told lent.old stream.old) (stage_of S.told S.faults N.told N.faults N.opens K.told K.faults P.told P.faults Q.told Q.faults G.told D.asked D.looks D.greatest D.faults M.told lent.new stream.new) result }
 {
     match open_mapper::<J, R, P, G, D>(
         rt,
@@ -292,11 +325,12 @@ fn serve_topology<
     }
 }
 
-/// Serves the topology of a file: publishes its first map and those that the feed leads to, beside lanes that answer from them.
+/// Serves the topology of a file: publishes its first map and those that the feeds lead to, beside lanes that answer from them.
 pub fn serve<
     R: Threads + Wait + Sync,
     F: Shelf,
-    S: Source,
+    S: Source + Send,
+    N: NamedSource + Send,
     K: Sink,
     P: Port + Send,
     Q: Streams + Send,
@@ -308,17 +342,18 @@ pub fn serve<
     alloc: Global,
     service: &Service<'_>,
     files: &mut F,
-    lent: &mut Lent<'_, '_, '_, '_, '_, S, K, P, G, D, M>,
+    lent: &mut Lent<'_, '_, '_, '_, '_, '_, S, N, K, P, G, D, M>,
     stream: &mut StreamLane<Q, G, D>,
 ) -> Status
     requires workers { (1 ≤ service.now.workers) × (service.now.workers ≤ most_workers service.now.tcp) }
     requires lanes { length lent.old.lanes.now ≡ 16 }
     requires turns { lent.old.turns ≤ MOST_TURNS }
+    requires feeds { length lent.old.more.now ≡ 3 }
     ensures keeps { IsSame lent.old lent.new }
-    ensures promised { IsPromised lent.old.turns (Some (task (service_asked service.now))) (surroundings (F.told files.old) (F.faults files.old) (stage_of S.told S.faults K.told K.faults P.told P.faults Q.told Q.faults G.told D.asked D.looks D.greatest D.faults M.told lent.old stream.old)) (surroundings (F.told files.new) (F.faults files.new) (stage_of S.told S.faults K.told K.faults P.told P.faults Q.told Q.faults G.told D.asked D.looks D.greatest D.faults M.told lent.new stream.new)) result }
+    ensures promised { IsPromised lent.old.turns (Some (task (service_asked service.now))) (surroundings (F.told files.old) (F.faults files.old) (stage_of S.told S.faults N.told N.faults N.opens K.told K.faults P.told P.faults Q.told Q.faults G.told D.asked D.looks D.greatest D.faults M.told lent.old stream.old)) (surroundings (F.told files.new) (F.faults files.new) (stage_of S.told S.faults N.told N.faults N.opens K.told K.faults P.told P.faults Q.told Q.faults G.told D.asked D.looks D.greatest D.faults M.told lent.new stream.new)) result }
 {
     match load_topology(alloc, files, service.topology) {
-        Ok(topology) => serve_topology::<Brand, R, S, K, P, Q, G, D, M>(
+        Ok(topology) => serve_topology::<Brand, R, S, N, K, P, Q, G, D, M>(
             rt,
             alloc,
             EmptyHistory::new(),

@@ -1,14 +1,15 @@
-//! The start of a session: the ports are opened, and the first map's text is put.
-ghost use Rattle.std.specs.Prelude.{◌≡◌, ◌≤◌, length, map};
+//! The start of a session: the ports and the further feeds are opened, and the first map's text is put.
+ghost use Rattle.std.specs.Prelude.{◌≡◌, ◌≤◌, ◌∷◌, [], length, map, option_map};
 ghost use Rattle.glb.specs.Commands.{service_asked};
-ghost use Rattle.glb.specs.Starting.{HasOpened, IsStart, IsStreamStart};
-ghost use Rattle.drive.specs.Told.{lane_told, stream_told};
+ghost use Rattle.glb.specs.Starting.{HasNamed, HasOpened, IsStart, IsStreamStart};
+ghost use Rattle.glb.specs.Words.{given};
+ghost use Rattle.drive.specs.Told.{feed_told, lane_told, stream_told};
 
 use crate::words::Service;
 use addr_text::Listen;
 use drive::{Lane, StreamLane};
 use map_cell::Door;
-use outside::{Gate, Opening, Port, Put, Sink, Streams};
+use outside::{Gate, NamedSource, Opening, Port, Put, Sink, Streams};
 
 /// What came of a start.
 #[derive(Clone, Copy, Debug, PartialEq, Eq)]
@@ -17,6 +18,8 @@ pub enum Start {
     Ready,
     /// A port or the streams failed to open. Nothing behind that was opened, and no text put.
     NoPort,
+    /// All ports are open, but a further feed failed to open. None behind it was opened, and no text put.
+    NoFeed,
     /// All that was to be opened is open, but the put of the text failed.
     NoSink,
 }
@@ -63,25 +66,60 @@ fn open_streams<Q: Streams, G: Gate, D: Door>(
     }
 }
 
-/// Opens the ports of the first lanes, then the streams where that is asked for, and puts the first map's text.
-pub fn start_lanes<K: Sink, P: Port, Q: Streams, G: Gate, D: Door>(
+/// Opens one further feed.
+fn open_feed<N: NamedSource>(feeds: &mut [N], name: &str) -> Opening
+    requires { length feeds.old ≡ 1 }
+    ensures same { length feeds.new ≡ length feeds.old }
+    ensures named { HasNamed (name.now ∷ []) result (record { feeds = map (feed_told N.told N.faults) feeds.old; opens = map N.opens feeds.old }) (record { feeds = map (feed_told N.told N.faults) feeds.new; opens = map N.opens feeds.new }) }
+{
+    feeds[0].open(name)
+}
+
+/// Opens the first further feeds by the names that are given, in order, up to the first that fails.
+pub fn open_feeds<N: NamedSource>(feeds: &mut [N], names: &[Option<&str>]) -> Opening
+    requires { length names.now ≤ length feeds.old }
+    ensures same { length feeds.new ≡ length feeds.old }
+    ensures named { HasNamed (given (map (option_map (λ n. n.now)) names.now)) result (record { feeds = map (feed_told N.told N.faults) feeds.old; opens = map N.opens feeds.old }) (record { feeds = map (feed_told N.told N.faults) feeds.new; opens = map N.opens feeds.new }) }
+{
+    let Some((first, rest)) = names.split_first() else {
+        return Opening::Ready;
+    };
+    let Some(name) = first else {
+        return open_feeds(feeds, rest);
+    };
+    let (one, others) = feeds.split_at_mut(1);
+    match open_feed(one, name) {
+        Opening::Ready => open_feeds(others, rest),
+        Opening::Failed => Opening::Failed,
+    }
+}
+
+/// Opens the ports of the first lanes, then the streams where that is asked for, then the further feeds, and puts the first
+/// map's text.
+pub fn start_lanes<N: NamedSource, K: Sink, P: Port, Q: Streams, G: Gate, D: Door>(
     text: &[u8],
     service: &Service<'_>,
+    feeds: &mut [N],
     maps: &mut K,
     lanes: &mut [Lane<P, G, D>],
     stream: &mut StreamLane<Q, G, D>,
 ) -> Start
-    requires { service.now.workers ≤ length lanes.old }
+    requires workers { service.now.workers ≤ length lanes.old }
+    requires feeds { length feeds.old ≡ 3 }
     ensures same { length lanes.new ≡ length lanes.old }
+    ensures feeds { length feeds.new ≡ length feeds.old }
     ensures start { IsStart (service_asked service.now) text.now result
-        (record { maps = K.told maps.old; maps_faults = K.faults maps.old; lanes = map (lane_told P.told P.faults G.told D.asked D.looks D.greatest D.faults) lanes.old; stream = stream_told Q.told Q.faults G.told D.asked D.looks D.greatest D.faults stream.old })
-        (record { maps = K.told maps.new; maps_faults = K.faults maps.new; lanes = map (lane_told P.told P.faults G.told D.asked D.looks D.greatest D.faults) lanes.new; stream = stream_told Q.told Q.faults G.told D.asked D.looks D.greatest D.faults stream.new }) }
+        (record { maps = K.told maps.old; maps_faults = K.faults maps.old; lanes = map (lane_told P.told P.faults G.told D.asked D.looks D.greatest D.faults) lanes.old; stream = stream_told Q.told Q.faults G.told D.asked D.looks D.greatest D.faults stream.old; named = record { feeds = map (feed_told N.told N.faults) feeds.old; opens = map N.opens feeds.old } })
+        (record { maps = K.told maps.new; maps_faults = K.faults maps.new; lanes = map (lane_told P.told P.faults G.told D.asked D.looks D.greatest D.faults) lanes.new; stream = stream_told Q.told Q.faults G.told D.asked D.looks D.greatest D.faults stream.new; named = record { feeds = map (feed_told N.told N.faults) feeds.new; opens = map N.opens feeds.new } }) }
 {
     if let Opening::Failed = open_ports(lanes, service.workers, &service.listen) {
         return Start::NoPort;
     }
     if let Opening::Failed = open_streams(stream, &service.tcp) {
         return Start::NoPort;
+    }
+    if let Opening::Failed = open_feeds(feeds, &service.more) {
+        return Start::NoFeed;
     }
     match maps.put(text) {
         Put::Done => Start::Ready,

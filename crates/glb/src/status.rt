@@ -11,13 +11,13 @@ pub enum Status {
     Usage = 1,
     /// A file is too long or at fault. The output got its text.
     Refused = 2,
-    /// A file could not be loaded, or the feed not be read.
+    /// A file could not be loaded, or a feed not be opened or read.
     SourceFault = 3,
     /// An output failed, and holds a beginning of what was due.
     SinkFault = 4,
     /// A port did not open, or eight calls of one failed.
     PortFault = 5,
-    /// A lane or the feed took all its turns.
+    /// A lane or a feed took all its turns.
     Spent = 6,
     /// The map is not good. The output got the verdict.
     NotGood = 7,

@@ -4,7 +4,7 @@ ghost use Rattle.demand_feed.specs.declared.limits.TheConstants.{MOST_TURNS};
 ghost use Rattle.command_line.specs.Asked.{texts};
 ghost use Rattle.glb.specs.Program.{IsPromised};
 ghost use Rattle.glb.specs.Commands.{IsManned, task_of};
-ghost use Rattle.drive.specs.Told.{lane_told, stream_told};
+ghost use Rattle.drive.specs.Told.{feed_told, lane_told, stream_told};
 ghost use Rattle.glb.specs.Told.{IsSame, stage, stage_of, surroundings};
 ghost use Rattle.glb.specs.Words.{asked};
 
@@ -17,7 +17,7 @@ use crate::words::{Order, read_words};
 use drive::{Lane, StreamLane};
 use map_cell::Door;
 use no_memory::NoMemory;
-use outside::{Gate, Pace, Port, Shelf, Sink, Source, Streams};
+use outside::{Gate, NamedSource, Pace, Port, Shelf, Sink, Source, Streams};
 use std::alloc::Global;
 use std::sync::Wait;
 use std::thread::Threads;
@@ -26,7 +26,8 @@ use std::thread::Threads;
 fn run_order<
     R: Threads + Wait + Sync,
     F: Shelf,
-    S: Source,
+    S: Source + Send,
+    N: NamedSource + Send,
     K: Sink,
     P: Port + Send,
     Q: Streams + Send,
@@ -38,14 +39,15 @@ fn run_order<
     alloc: Global,
     order: Option<Order<'_>>,
     files: &mut F,
-    lent: &mut Lent<'_, '_, '_, '_, '_, S, K, P, G, D, M>,
+    lent: &mut Lent<'_, '_, '_, '_, '_, '_, S, N, K, P, G, D, M>,
     stream: &mut StreamLane<Q, G, D>,
 ) -> Status
     requires manned { IsManned order }
     requires lanes { length lent.old.lanes.now ≡ 16 }
     requires turns { (1 ≤ lent.old.turns) × (lent.old.turns ≤ 2 ^ 48) }
+    requires feeds { length lent.old.more.now ≡ 3 }
     ensures keeps { IsSame lent.old lent.new }
-    ensures promised { IsPromised lent.old.turns (option_map task_of order.entry) (surroundings (F.told files.old) (F.faults files.old) (stage_of S.told S.faults K.told K.faults P.told P.faults Q.told Q.faults G.told D.asked D.looks D.greatest D.faults M.told lent.old stream.old)) (surroundings (F.told files.new) (F.faults files.new) (stage_of S.told S.faults K.told K.faults P.told P.faults Q.told Q.faults G.told D.asked D.looks D.greatest D.faults M.told lent.new stream.new)) result }
+    ensures promised { IsPromised lent.old.turns (option_map task_of order.entry) (surroundings (F.told files.old) (F.faults files.old) (stage_of S.told S.faults N.told N.faults N.opens K.told K.faults P.told P.faults Q.told Q.faults G.told D.asked D.looks D.greatest D.faults M.told lent.old stream.old)) (surroundings (F.told files.new) (F.faults files.new) (stage_of S.told S.faults N.told N.faults N.opens K.told K.faults P.told P.faults Q.told Q.faults G.told D.asked D.looks D.greatest D.faults M.told lent.new stream.new)) result }
 {
     match order {
         Some(Order::Say(command)) => run_files(alloc, Some(command), files, lent.out),
@@ -55,13 +57,15 @@ fn run_order<
     }
 }
 
-/// The whole program: does what the words ask for, over these files, this feed, these outputs, these 16 lanes and this lane for conversations, and answers the status.
+/// The whole program: does what the words ask for, over these files, this feed, these three sources of further feeds, these
+/// outputs, these 16 lanes and this lane for conversations, and answers the status.
 ///
-/// The first word is the program's name. Each lane and the feed take at most so many turns, 1 to 2^48.
+/// The first word is the program's name. Each lane and each feed take at most so many turns, 1 to 2^48.
 pub fn glb<
     R: Threads + Wait + Sync,
     F: Shelf,
-    S: Source,
+    S: Source + Send,
+    N: NamedSource + Send,
     K: Sink,
     P: Port + Send,
     Q: Streams + Send,
@@ -74,6 +78,7 @@ pub fn glb<
     words: &[String],
     files: &mut F,
     feed: &mut S,
+    more: &mut [N],
     out: &mut K,
     maps: &mut K,
     lanes: &mut [Lane<P, G, D>],
@@ -81,15 +86,17 @@ pub fn glb<
     pace: &mut M,
     turns: u64,
 ) -> Status
+    requires feeds { length more.old ≡ 3 }
     requires lanes { length lanes.old ≡ 16 }
     requires turns { (1 ≤ turns) × (turns ≤ 2 ^ 48) }
-    ensures { IsPromised turns (asked (texts words.now)) (surroundings (F.told files.old) (F.faults files.old) (stage (S.told feed.old) (K.told out.old) (K.told maps.old) (M.told pace.old) (map (lane_told P.told P.faults G.told D.asked D.looks D.greatest D.faults) lanes.old) (stream_told Q.told Q.faults G.told D.asked D.looks D.greatest D.faults stream.old) (S.faults feed.old) (K.faults out.old) (K.faults maps.old))) (surroundings (F.told files.new) (F.faults files.new) (stage (S.told feed.new) (K.told out.new) (K.told maps.new) (M.told pace.new) (map (lane_told P.told P.faults G.told D.asked D.looks D.greatest D.faults) lanes.new) (stream_told Q.told Q.faults G.told D.asked D.looks D.greatest D.faults stream.new) (S.faults feed.new) (K.faults out.new) (K.faults maps.new))) result }
+    ensures { IsPromised turns (asked (texts words.now)) (surroundings (F.told files.old) (F.faults files.old) (stage (S.told feed.old) (map (feed_told N.told N.faults) more.old) (map N.opens more.old) (K.told out.old) (K.told maps.old) (M.told pace.old) (map (lane_told P.told P.faults G.told D.asked D.looks D.greatest D.faults) lanes.old) (stream_told Q.told Q.faults G.told D.asked D.looks D.greatest D.faults stream.old) (S.faults feed.old) (K.faults out.old) (K.faults maps.old))) (surroundings (F.told files.new) (F.faults files.new) (stage (S.told feed.new) (map (feed_told N.told N.faults) more.new) (map N.opens more.new) (K.told out.new) (K.told maps.new) (M.told pace.new) (map (lane_told P.told P.faults G.told D.asked D.looks D.greatest D.faults) lanes.new) (stream_told Q.told Q.faults G.told D.asked D.looks D.greatest D.faults stream.new) (S.faults feed.new) (K.faults out.new) (K.faults maps.new))) result }
 {
     match read_words(alloc, words) {
         Ok(order) => {
             let (all, _behind) = lanes.split_at_mut(16);
             let mut lent = Lent {
                 feed,
+                more,
                 out,
                 maps,
                 lanes: all,

@@ -1,12 +1,12 @@
 //! The words of the command line, as a command.
-ghost use Rattle.std.specs.Prelude.{◌≡◌, ◌%◌, ◌≤◌, IfOk, IfSome, IsErr, IsSome, length, option_and_then};
+ghost use Rattle.std.specs.Prelude.{◌≡◌, ◌%◌, ◌≤◌, IfOk, IfSome, IsErr, IsSome, length, map, option_and_then};
 ghost use Rattle.std.specs.Option.{option_map};
 ghost use Rattle.addr_text.specs.Addresses.{addr_of};
 ghost use Rattle.command_line.specs.Asked.{texts};
 ghost use Rattle.command_line.specs.Commands.{ask_of as line_of};
 ghost use Rattle.text_parts.specs.Counts.{count_of};
 ghost use Rattle.big_world.specs.declared.TheConstants.{LARGEST_WORLD};
-ghost use Rattle.glb.specs.Words.{answer, asked, asked_by, large, most_workers, say, serve, service_of, tcp_of, workers_of};
+ghost use Rattle.glb.specs.Words.{answer, asked, asked_by, given, large, most_workers, say, serve, service_of, tcp_of, workers_of};
 ghost use Rattle.glb.specs.Commands.{IsManned, ask_of, task_of};
 ghost use Rattle.glb.specs.Datagram.{datagram_of};
 
@@ -18,6 +18,9 @@ use map_cell::MOST_VIEWERS;
 use no_memory::NoMemory;
 use std::alloc::Global;
 use text_parts::read_count;
+
+/// How many feeds there may be beside the first.
+pub const MOST_MORE: usize = 3;
 
 /// A command that says one text on what files say.
 #[derive(Drop)]
@@ -45,13 +48,15 @@ pub enum Command<'a> {
     },
 }
 
-/// A service: the file of its topology, where it listens, how many workers it has, and where it takes conversations.
+/// A service: the file of its topology, where it listens, how many workers it has, where it takes conversations, and the
+/// names of its further feeds.
 #[derive(Clone, Copy)]
 pub struct Service<'a> {
     pub topology: &'a str,
     pub listen: Listen,
     pub workers: u8,
     pub tcp: Option<Listen>,
+    pub more: [Option<&'a str>; MOST_MORE],
 }
 
 /// A command line that is taken.
@@ -103,8 +108,9 @@ fn read_serve<'a>(
     listen: &str,
     workers: Option<&str>,
     tcp: Option<&str>,
+    more: [Option<&'a str>; MOST_MORE],
 ) -> Option<Order<'a>>
-    ensures asked { option_map task_of result ≡ option_map serve (service_of topology.entry.now listen.now (option_map (λ t. t.now) workers.entry) (option_map (λ t. t.now) tcp.entry)) }
+    ensures asked { option_map task_of result ≡ option_map serve (service_of topology.entry.now (given (map (option_map (λ t. t.now)) more.entry)) listen.now (option_map (λ t. t.now) workers.entry) (option_map (λ t. t.now) tcp.entry)) }
     ensures manned { IsManned result }
 {
     let listen = read_listen(listen.as_bytes())?;
@@ -115,6 +121,7 @@ fn read_serve<'a>(
         listen,
         workers,
         tcp,
+        more,
     }))
 }
 
@@ -200,7 +207,16 @@ fn read_command(alloc: Global, line: Line<'_>) -> Result<Option<Order<'_>>, NoMe
             listen,
             workers,
             tcp,
-        } => Ok(read_serve(topology, listen, workers, tcp)),
+            feed2,
+            feed3,
+            feed4,
+        } => Ok(read_serve(
+            topology,
+            listen,
+            workers,
+            tcp,
+            [feed2, feed3, feed4],
+        )),
         Line::Large { groups } => Ok(read_large(groups)),
     }
 }

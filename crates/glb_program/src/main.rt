@@ -4,7 +4,7 @@
 ghost use Rattle.std.specs.Prelude.{◌≡◌, length, map};
 ghost use Rattle.std.specs.Process.{exit_status};
 ghost use Rattle.glb.specs.Outcome.{code_of};
-ghost use Rattle.drive.specs.Told.{lane_told, stream_told};
+ghost use Rattle.drive.specs.Told.{feed_told, lane_told, stream_told};
 ghost use Rattle.glb.specs.Told.{stage, surroundings};
 ghost use Rattle.glb_program.specs.Fresh.{new_surroundings};
 ghost use Rattle.glb_program.specs.Ran.{Ran};
@@ -12,13 +12,14 @@ ghost use Rattle.glb_program.specs.Ran.{Ran};
 mod network;
 
 use edges::{
-    FileShelf, FlagPace, SharedTcp, SharedUdp, StandardStream, StopFlag, StreamSink, StreamSource,
+    FileShelf, FlagPace, NamedStream, SharedTcp, SharedUdp, StandardStream, StopFlag, StreamSink,
+    StreamSource,
 };
 use glb::{Lane, MOST_TURNS, Status, StreamLane, glb};
 use map_cell::Door;
 use network::{Network, lanes_of};
 use no_memory::NoMemory;
-use outside::{Gate, Pace, Port, Shelf, Sink, Source, Streams};
+use outside::{Gate, NamedSource, Pace, Port, Shelf, Sink, Source, Streams};
 use std::env;
 use std::io::ErrorKind;
 use std::process::ExitCode;
@@ -42,11 +43,13 @@ fn exit_code(status: Status) -> ExitCode
     ExitCode::from(status.code())
 }
 
-/// All of the program behind its words, which it reads: over these files, this feed, these outputs and these lanes.
+/// All of the program behind its words, which it reads: over these files, this feed, these sources of further feeds, these
+/// outputs and these lanes.
 fn run_words<
     R: Threads + Wait + Sync + Env + AllocGlobal,
     F: Shelf,
-    S: Source,
+    S: Source + Send,
+    N: NamedSource + Send,
     K: Sink,
     P: Port + Send,
     Q: Streams + Send,
@@ -57,17 +60,19 @@ fn run_words<
     rt: &R,
     files: &mut F,
     feed: &mut S,
+    more: &mut [N],
     out: &mut K,
     maps: &mut K,
     lanes: &mut [Lane<P, G, D>],
     stream: &mut StreamLane<Q, G, D>,
     pace: &mut M,
 ) -> Status
+    requires feeds { length more.old ≡ 3 }
     requires lanes { length lanes.old ≡ 16 }
     // All of it is new: so each count of faults counts from 0 on, and what is told is all that was ever asked.
-    requires fresh { (surroundings (F.told files.old) (F.faults files.old) (stage (S.told feed.old) (K.told out.old) (K.told maps.old) (M.told pace.old) (map (lane_told P.told P.faults G.told D.asked D.looks D.greatest D.faults) lanes.old) (stream_told Q.told Q.faults G.told D.asked D.looks D.greatest D.faults stream.old) (S.faults feed.old) (K.faults out.old) (K.faults maps.old))) ≡ new_surroundings }
+    requires fresh { (surroundings (F.told files.old) (F.faults files.old) (stage (S.told feed.old) (map (feed_told N.told N.faults) more.old) (map N.opens more.old) (K.told out.old) (K.told maps.old) (M.told pace.old) (map (lane_told P.told P.faults G.told D.asked D.looks D.greatest D.faults) lanes.old) (stream_told Q.told Q.faults G.told D.asked D.looks D.greatest D.faults stream.old) (S.faults feed.old) (K.faults out.old) (K.faults maps.old))) ≡ new_surroundings }
     // Unless the words could not be read for want of memory, where nothing is touched, it is a run of what some words ask for.
-    ensures { Ran (surroundings (F.told files.old) (F.faults files.old) (stage (S.told feed.old) (K.told out.old) (K.told maps.old) (M.told pace.old) (map (lane_told P.told P.faults G.told D.asked D.looks D.greatest D.faults) lanes.old) (stream_told Q.told Q.faults G.told D.asked D.looks D.greatest D.faults stream.old) (S.faults feed.old) (K.faults out.old) (K.faults maps.old))) (surroundings (F.told files.new) (F.faults files.new) (stage (S.told feed.new) (K.told out.new) (K.told maps.new) (M.told pace.new) (map (lane_told P.told P.faults G.told D.asked D.looks D.greatest D.faults) lanes.new) (stream_told Q.told Q.faults G.told D.asked D.looks D.greatest D.faults stream.new) (S.faults feed.new) (K.faults out.new) (K.faults maps.new))) result }
+    ensures { Ran (surroundings (F.told files.old) (F.faults files.old) (stage (S.told feed.old) (map (feed_told N.told N.faults) more.old) (map N.opens more.old) (K.told out.old) (K.told maps.old) (M.told pace.old) (map (lane_told P.told P.faults G.told D.asked D.looks D.greatest D.faults) lanes.old) (stream_told Q.told Q.faults G.told D.asked D.looks D.greatest D.faults stream.old) (S.faults feed.old) (K.faults out.old) (K.faults maps.old))) (surroundings (F.told files.new) (F.faults files.new) (stage (S.told feed.new) (map (feed_told N.told N.faults) more.new) (map N.opens more.new) (K.told out.new) (K.told maps.new) (M.told pace.new) (map (lane_told P.told P.faults G.told D.asked D.looks D.greatest D.faults) lanes.new) (stream_told Q.told Q.faults G.told D.asked D.looks D.greatest D.faults stream.new) (S.faults feed.new) (K.faults out.new) (K.faults maps.new))) result }
 {
     match read_args(rt) {
         Ok(words) => glb(
@@ -76,6 +81,7 @@ fn run_words<
             words.as_slice(),
             files,
             feed,
+            more,
             out,
             maps,
             lanes,
@@ -87,10 +93,15 @@ fn run_words<
     }
 }
 
-/// Over the files of the system, standard input as the feed, standard output, standard error for the texts of maps, lanes over one socket of UDP, and one over connections of TCP, all of which stop when the feed has ended.
+/// Over the files of the system, standard input as the feed, files and pipes as further ones, standard output, standard error for the texts of maps, lanes over one socket of UDP, and one over connections of TCP, all of which stop when the feed has ended.
 fn main(rt: HostRuntime) -> ExitCode {
     let mut files = FileShelf::new(&rt);
     let mut feed = StreamSource::new(rt.stdin());
+    let mut more = [
+        NamedStream::new(&rt),
+        NamedStream::new(&rt),
+        NamedStream::new(&rt),
+    ];
     let mut out = StreamSink::new(StandardStream::Output(rt.stdout()));
     let mut maps = StreamSink::new(StandardStream::Error(rt.stderr()));
     let udp = SharedUdp::new();
@@ -107,6 +118,7 @@ fn main(rt: HostRuntime) -> ExitCode {
             &rt,
             &mut files,
             &mut feed,
+            &mut more,
             &mut out,
             &mut maps,
             lanes.as_mut_slice(),

@@ -15,7 +15,7 @@ use std::test::Fail;
 use std::thread::{self, join_mut};
 use std::time::Duration;
 use trial_runs::Held::{Missing, Topology};
-use trial_runs::{Lent, QUERY, REGION, run, shelf, words_of};
+use trial_runs::{Lent, QUERY, REGION, feeds_of, run, shelf, words_of};
 
 /// What the client gets: the header of an answer, the question, and one address of the first group's pool.
 const REPLY: &[u8] = &[
@@ -146,12 +146,13 @@ fn lent_of<P: Port + Drop, Q: Streams + Drop, G: Gate + Drop, M: Pace + Drop>(
     pace: M,
 ) -> Result<Lent<P, Q, G, PlainDoor, M>, NoMemory>
     requires { vec_len lanes ≡ MOST_VIEWERS }
-    ensures { IfOk result (λ s. vec_len s.lanes ≡ MOST_VIEWERS) }
+    ensures { IfOk result (λ s. (vec_len s.lanes ≡ MOST_VIEWERS) × (vec_len s.more ≡ 3)) }
 {
     Ok(Lent {
         words: words_of(alloc, WORDS)?,
         files: shelf(alloc, Topology(REGION), Missing)?,
         feed: MemSource::new(alloc, Vec::new(alloc), Vec::new(alloc), Vec::new(alloc))?,
+        more: feeds_of(alloc, &[])?,
         out: MemSink::new(alloc, 0, Vec::new(alloc))?,
         maps: MemSink::new(alloc, 1024, Vec::new(alloc))?,
         lanes,
@@ -170,7 +171,7 @@ fn serves_a_client_on_loopback(rt: HostRuntime) -> Result<(), Fail> {
     let mut lent = lent_of(rt.alloc(), lanes, stream, WordPace { word, flag: &flag })?;
     let mut asking = || ask_both(&rt, &client, &udp, &tcp, to);
     let mut serving = || -> Status
-        requires { vec_len lent.lanes ≡ MOST_VIEWERS }
+        requires { (vec_len lent.lanes ≡ MOST_VIEWERS) × (vec_len lent.more ≡ 3) }
     { run(&rt, rt.alloc(), &mut lent, 1_000_000) };
     let (are_right, status) = join_mut(&rt, &mut asking, &mut serving);
     assert!(rt; are_right);

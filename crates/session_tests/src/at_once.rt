@@ -15,7 +15,7 @@ use std::sync::Wait;
 use std::test::Fail;
 use std::thread::Threads;
 use trial_runs::Held::{Missing, Topology};
-use trial_runs::{Lent, REGION, SERVE_TWO, queries, run, shelf, words_of};
+use trial_runs::{Lent, REGION, SERVE_TWO, feeds_of, queries, run, shelf, words_of};
 
 /// What waits at a lane, and what is waited for at its turns.
 #[derive(Clone, Copy)]
@@ -138,13 +138,14 @@ fn no_stream(
 
 /// A feed and two lanes that hold each other by these milestones.
 fn held_lent(alloc: Global, milestones: &Milestones) -> Result<HeldLent<'_>, NoMemory>
-    ensures { IfOk result (λ l. vec_len l.lanes ≡ MOST_VIEWERS) }
+    ensures { IfOk result (λ l. (vec_len l.lanes ≡ MOST_VIEWERS) × (vec_len l.more ≡ 3)) }
 {
     let feed = Vec::from_slice(alloc, FEED)?;
     Ok(Lent {
         words: words_of(alloc, SERVE_TWO)?,
         files: shelf(alloc, Topology(REGION), Missing)?,
         feed: MemSource::new(alloc, feed, Vec::new(alloc), Vec::new(alloc))?,
+        more: feeds_of(alloc, &[])?,
         out: MemSink::new(alloc, 1024, Vec::new(alloc))?,
         maps: MemSink::new(alloc, 1024, Vec::new(alloc))?,
         lanes: held_lanes(alloc, milestones, &[FIRST_LANE, SECOND_LANE])?,

@@ -12,4 +12,6 @@ mod hostile;
 #[cfg(test)]
 mod serving;
 #[cfg(test)]
+mod several_feeds;
+#[cfg(test)]
 mod streams;

@@ -8,7 +8,7 @@ use glb::{Lane, Status, StreamLane, glb};
 use map_cell::{Door, MemDoor};
 use no_memory::NoMemory;
 use outside::{
-    Gate, MemGate, MemPace, MemPort, MemShelf, MemSink, MemSource, MemStreams, Pace, Port, Streams,
+    Gate, MemGate, MemNamedSource, MemPace, MemPort, MemShelf, MemSink, MemSource, MemStreams, Pace, Port, Streams,
 };
 use std::alloc::Global;
 use std::sync::Wait;
@@ -20,6 +20,7 @@ pub struct Lent<P, Q, G, D, M> {
     pub words: Vec<String>,
     pub files: MemShelf,
     pub feed: MemSource,
+    pub more: Vec<MemNamedSource>,
     pub out: MemSink,
     pub maps: MemSink,
     pub lanes: Vec<Lane<P, G, D>>,
@@ -39,6 +40,7 @@ pub fn run<
     D: Door + Send,
     M: Pace,
 >(rt: &R, alloc: Global, lent: &mut Lent<P, Q, G, D, M>, turns: u64) -> Status
+    requires feeds { vec_len lent.old.more ≡ 3 }
     requires lanes { vec_len lent.old.lanes ≡ 16 }
     requires turns { (1 ≤ turns) × (turns ≤ 2 ^ 48) }
 {
@@ -48,6 +50,7 @@ pub fn run<
         lent.words.as_slice(),
         &mut lent.files,
         &mut lent.feed,
+        lent.more.as_mut_slice(),
         &mut lent.out,
         &mut lent.maps,
         lent.lanes.as_mut_slice(),
@@ -64,23 +67,26 @@ pub struct Came {
     pub lent: MemLent,
 }
 
-/// These words, files, feed and outputs, and lanes by these scripts.
+/// These words, files, feeds and outputs, and lanes by these scripts.
 fn lent_of(
     alloc: Global,
     words: &[&str],
     files: MemShelf,
     feed: MemSource,
+    more: Vec<MemNamedSource>,
     out: MemSink,
     maps: MemSink,
     scripts: &[Script],
     stream: StreamScript,
 ) -> Result<MemLent, NoMemory>
-    ensures { IfOk result (λ l. vec_len l.lanes ≡ 16) }
+    requires { vec_len more ≡ 3 }
+    ensures { IfOk result (λ l. (vec_len l.lanes ≡ 16) × (vec_len l.more ≡ 3)) }
 {
     Ok(Lent {
         words: words_of(alloc, words)?,
         files,
         feed,
+        more,
         out,
         maps,
         lanes: lanes_of(alloc, scripts)?,
@@ -100,20 +106,24 @@ fn turns_of(turns: u64) -> u64
     }
 }
 
-/// Runs the program over these words, files, feed and outputs, and lanes by these scripts.
+/// Runs the program over these words, files, feeds and outputs, and lanes by these scripts.
 pub fn came_by<R: Threads + Wait + Sync + AllocGlobal>(
     rt: &R,
     words: &[&str],
     files: MemShelf,
     feed: MemSource,
+    more: Vec<MemNamedSource>,
     out: MemSink,
     maps: MemSink,
     scripts: &[Script],
     stream: StreamScript,
     turns: u64,
-) -> Result<Came, NoMemory> {
-    let mut lent = lent_of(rt.alloc(), words, files, feed, out, maps, scripts, stream)?;
-    let status = run(rt, rt.alloc(), &mut lent, turns_of(turns));
+) -> Result<Came, NoMemory>
+    requires { vec_len more ≡ 3 }
+{
+    let alloc = rt.alloc();
+    let mut lent = lent_of(alloc, words, files, feed, more, out, maps, scripts, stream)?;
+    let status = run(rt, alloc, &mut lent, turns_of(turns));
     Ok(Came { status, lent })
 }
 

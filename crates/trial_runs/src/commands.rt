@@ -1,22 +1,18 @@
 //! Commands over files and one output, with nothing on the feed and nothing at the lanes.
 use crate::came::{Came, came_by};
 use crate::fails::{Fails, NEVER};
+use crate::feeds::{feeds_of, source_of};
 use crate::files::{Held, shelf_of};
 use crate::streams::NO_TALKS;
 use glb::Status;
 use no_memory::NoMemory;
-use outside::{MemShelf, MemSink, MemSource};
+use outside::{MemShelf, MemSink};
 use std::alloc::Global;
 use std::sync::Wait;
 use std::thread::Threads;
 
 /// How many octets an output takes where it has room.
 pub const ROOM: usize = 2048;
-
-/// A feed on which there is nothing.
-fn no_feed(alloc: Global) -> Result<MemSource, NoMemory> {
-    MemSource::new(alloc, Vec::new(alloc), Vec::new(alloc), Vec::new(alloc))
-}
 
 /// A command over these files, and an output with room for so many octets, of which these puts fail.
 pub fn came_over<R: Threads + Wait + Sync + AllocGlobal>(
@@ -27,10 +23,11 @@ pub fn came_over<R: Threads + Wait + Sync + AllocGlobal>(
     room: usize,
 ) -> Result<Came, NoMemory> {
     let alloc = rt.alloc();
-    let feed = no_feed(alloc)?;
+    let feed = source_of(alloc, b"", &[], NEVER)?;
     let out = MemSink::new(alloc, room, puts.numbers(alloc)?)?;
     let maps = MemSink::new(alloc, 0, Vec::new(alloc))?;
-    came_by(rt, words, files, feed, out, maps, &[], NO_TALKS, 100)
+    let more = feeds_of(alloc, &[])?;
+    came_by(rt, words, files, feed, more, out, maps, &[], NO_TALKS, 100)
 }
 
 /// A command over what stands under these names, and an output that has room.

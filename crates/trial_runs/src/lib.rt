@@ -4,6 +4,7 @@
 mod came;
 mod commands;
 mod fails;
+mod feeds;
 mod files;
 mod lanes;
 mod sessions;
@@ -13,6 +14,7 @@ mod texts;
 pub use came::{Came, Lent, MemLent, are_joined, run};
 pub use commands::{ROOM, Row, came_of, came_over, first_wrong};
 pub use fails::{Fails, NEVER};
+pub use feeds::{EMPTY, FeedScript, feeds_of};
 pub use files::{Held, shelf, shelf_of};
 pub use lanes::{MemLane, ONE, QUERY, QUIET, Script, queries};
 pub use sessions::{PLAIN, SERVE, SERVE_TWO, Scene, session_of};

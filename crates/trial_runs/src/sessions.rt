@@ -1,12 +1,13 @@
 //! Sessions of `serve` over the region.
 use crate::came::{Came, came_by};
 use crate::fails::{Fails, NEVER};
+use crate::feeds::{FeedScript, feeds_of, source_of};
 use crate::files::{Held, shelf_of};
 use crate::lanes::Script;
 use crate::streams::{NO_TALKS, StreamScript};
 use crate::texts::REGION;
 use no_memory::NoMemory;
-use outside::{MemSink, MemSource};
+use outside::MemSink;
 use std::alloc::Global;
 use std::sync::Wait;
 use std::thread::Threads;
@@ -27,12 +28,13 @@ pub const SERVE_TWO: &[&str] = &[
     "2",
 ];
 
-/// The words of a session, the sizes of its feed's pieces, which loads, reads and puts fail, its lane for conversations, and
-/// the turns.
+/// The words of a session, the sizes of its feed's pieces, its further feeds, which loads, reads and puts fail, its lane for
+/// conversations, and the turns.
 #[derive(Clone, Copy)]
 pub struct Scene {
     pub words: &'static [&'static str],
     pub sizes: &'static [usize],
+    pub more: &'static [FeedScript],
     pub loads: Fails,
     pub reads: Fails,
     /// Of puts of the control text.
@@ -47,6 +49,7 @@ pub struct Scene {
 pub const PLAIN: Scene = Scene {
     words: SERVE,
     sizes: &[],
+    more: &[],
     loads: NEVER,
     reads: NEVER,
     lines: NEVER,
@@ -54,13 +57,6 @@ pub const PLAIN: Scene = Scene {
     stream: NO_TALKS,
     turns: 100,
 };
-
-/// The feed of a scene.
-fn feed_of(alloc: Global, scene: Scene, feed: &[u8]) -> Result<MemSource, NoMemory> {
-    let bytes = Vec::from_slice(alloc, feed)?;
-    let sizes = Vec::from_slice(alloc, scene.sizes)?;
-    MemSource::new(alloc, bytes, sizes, scene.reads.numbers(alloc)?)
-}
 
 /// An output, of which these puts fail.
 fn sink_of(alloc: Global, puts: Fails) -> Result<MemSink, NoMemory> {
@@ -76,7 +72,8 @@ pub fn session_of<R: Threads + Wait + Sync + AllocGlobal>(
 ) -> Result<Came, NoMemory> {
     let alloc = rt.alloc();
     let files = shelf_of(alloc, &[("t", Held::Topology(REGION))], scene.loads)?;
-    let feed = feed_of(alloc, scene, feed)?;
+    let feed = source_of(alloc, feed, scene.sizes, scene.reads)?;
+    let more = feeds_of(alloc, scene.more)?;
     let out = sink_of(alloc, scene.lines)?;
     let maps = sink_of(alloc, scene.maps)?;
     came_by(
@@ -84,6 +81,7 @@ pub fn session_of<R: Threads + Wait + Sync + AllocGlobal>(
         scene.words,
         files,
         feed,
+        more,
         out,
         maps,
         scripts,

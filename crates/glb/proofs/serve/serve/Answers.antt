@@ -1,4 +1,5 @@
 use Rattle.std.proofs.Common.{inl, inr, refl, rules, arith}
+use Rattle.glb.proofs.Named.{fell_same}
 use Rattle.glb.proofs.Lanes.{session_causes, unread_causes}
 use Rattle.glb.proofs.Reports.{read_whole, stopped_end, stopped_load, stopped_run}
 use Rattle.glb.proofs.Sessions.{session_later}
@@ -12,6 +13,7 @@ returns-in-Ok-clause-promised g c =
     (record {
       files_later = c.load_topology.ensures.later;
       feed_later = later.feed;
+      more_later = later.more;
       out_later = later.out;
       maps_later = later.maps;
       source = λ h. inr (later.source h);
@@ -31,12 +33,13 @@ returns-in-Err-clause-promised g c = promised _ _ _ _ _
     (record {
       files_later = c.load_topology.ensures.later;
       feed_later = omega arith;
+      more_later = fell_same _;
       out_later = c.finish.ensures.later;
       maps_later = omega arith;
       source = λ h. inl (c.load_topology.ensures.cause (stopped_load c.in-Err.stop c.load_topology.result _ c.in-Err.is refl (c.finish.ensures.source.0 h)));
       sink = λ h. inl (c.finish.ensures.cause h);
       files_stay = λ none. c.load_topology.ensures.stays (λ e. none (c.finish.ensures.source.1 (stopped_end c.in-Err.stop c.load_topology.result _ c.in-Err.is refl e)));
-      feed_stays = λ none. refl;
+      feed_stays = λ none one. (refl, refl);
       out_stays = c.finish.ensures.stays;
       maps_stay = λ none. refl;
       lanes = unread_causes _ _ _ _ _ _ _ _ _ _ (stopped_run _ _ _ _ _ c.in-Err.ensures.said c.finish.ensures.run);

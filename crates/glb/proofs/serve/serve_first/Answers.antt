@@ -1,18 +1,43 @@
-use Rattle.std.proofs.Common.{rules, ◌∙◌}
+use Rattle.std.proofs.Common.{rules, ◌≡◌, ◌++◌, map, ap, sym, ◌∙◌}
+use Rattle.std.proofs.lemmas.List.{length-map, map-append}
+use Rattle.drive.specs.Told.{feed_told, lane_told, stream_told}
 use Rattle.glb.specs.Commands.{service_asked}
-use Rattle.glb.proofs.First.{served_session, starts}
+use Rattle.glb.specs.Feeds.{Named}
+use Rattle.glb.proofs.First.{served_session, stages, starts, unfed_session}
+use Rattle.glb.proofs.Named.{none_named}
 use Rattle.glb.proofs.serve.serve_first.Goals as goal
-
-pub returns-in-Ok-clause-served : goal.returns-in-Ok-clause-served
-returns-in-Ok-clause-served g c =
-    let d = c.in-Ok.ensures.driven in
-    let begin = starts (service_asked c.args.service.now) c.args.mapper.newest c.text.result.now (g.S.Source.told c.args.lent.now.feed.now) (g.K.Sink.told c.args.lent.now.out.now) (g.K.Sink.told c.args.lent.now.maps.now) (g.K.Sink.told c.start_lanes.new.maps) (g.M.Pace.told c.args.lent.now.pace.now) _ _ _ _
-    (g.S.Source.faults c.args.lent.now.feed.now) (g.K.Sink.faults c.args.lent.now.out.now) (g.K.Sink.faults c.args.lent.now.maps.now) (g.K.Sink.faults c.start_lanes.new.maps)
-    c.text.ensures c.in-Ready.ensures.start in
-    served_session _ (service_asked c.args.service.now) _ _ _ _ c.in-Ok.end.feed c.in-Ok.end.lanes c.in-Ok.end.stream _ begin (d.0, d.1 ∙ search rules, d.2, d.3) (search rules) c.status_of.ensures c.in-Ok.ensures.source c.in-Ok.ensures.source_stays c.in-Ok.ensures.sink c.in-Ok.ensures.sink_stays (search rules, search rules, search rules)
 
 pub drive-requires-clause-viewers : goal.drive-requires-clause-viewers
 drive-requires-clause-viewers g c κs within = (c.split_viewers-viewers.ensures.same c.args.mapper.history c.requires.viewers.1).0
 
 pub drive-requires-clause-listener : goal.drive-requires-clause-listener
 drive-requires-clause-listener g c κs within = (c.split_viewers-viewers.ensures.same c.args.mapper.history c.requires.viewers.1).1
+
+pub returns-in-Err-clause-served : goal.returns-in-Err-clause-served
+returns-in-Err-clause-served g c =
+    let n = c.in-Err.ensures.no_memory in
+    let all = ap (λ xs. xs ++ c.split_at_mut-opened.result.1.now) n.1 ∙ sym c.split_at_mut-opened.ensures.value in
+    let tell = feed_told g.N.Source.told g.N.Source.faults in
+    let named : Named = record { feeds = map tell c.args.lent.now.more.now; opens = map g.N.NamedSource.opens c.args.lent.now.more.now } in
+    let open_ones : Named = record { feeds = map tell c.start_lanes.new.feeds; opens = map g.N.NamedSource.opens c.start_lanes.new.feeds } in
+    let begin = starts (service_asked c.args.service.now) c.args.mapper.newest c.text.result.now (g.S.Source.told c.args.lent.now.feed.now) named open_ones (g.K.Sink.told c.args.lent.now.out.now) (g.K.Sink.told c.args.lent.now.maps.now) (g.K.Sink.told c.start_lanes.new.maps) (g.M.Pace.told c.args.lent.now.pace.now) _ _ _ _
+    (g.S.Source.faults c.args.lent.now.feed.now) (g.K.Sink.faults c.args.lent.now.out.now) (g.K.Sink.faults c.args.lent.now.maps.now) (g.K.Sink.faults c.start_lanes.new.maps)
+    c.text.ensures c.in-Ready.ensures.start in
+    unfed_session _ (service_asked c.args.service.now) _ _ _ _ begin
+    (stages _ _ _ _ _ _ _ _ _ _ _ _ _ _ _ _ _ _ _ _ _ _ (ap g.S.Source.told n.0) (ap (map tell) all) (ap (map g.N.NamedSource.opens) all) (ap g.K.Sink.told n.2) (ap g.K.Sink.told n.3) (ap g.M.Pace.told n.6)
+    (ap (map (lane_told g.P.Port.told g.P.Port.faults g.G.Gate.told g.D.Door.asked g.D.Door.looks g.D.Door.greatest g.D.Door.faults)) n.4) (ap (stream_told g.Q.Streams.told g.Q.Streams.faults g.G.Gate.told g.D.Door.asked g.D.Door.looks g.D.Door.greatest g.D.Door.faults) n.5)
+    (ap g.S.Source.faults n.0) (ap g.K.Sink.faults n.2) (ap g.K.Sink.faults n.3))
+
+pub returns-in-Ok-clause-served : goal.returns-in-Ok-clause-served
+returns-in-Ok-clause-served g c =
+    let d = c.in-Ok.ensures.driven in
+    let tell = feed_told g.N.Source.told g.N.Source.faults in
+    let named : Named = record { feeds = map tell c.args.lent.now.more.now; opens = map g.N.NamedSource.opens c.args.lent.now.more.now } in
+    let open_ones : Named = record { feeds = map tell c.start_lanes.new.feeds; opens = map g.N.NamedSource.opens c.start_lanes.new.feeds } in
+    let begin = starts (service_asked c.args.service.now) c.args.mapper.newest c.text.result.now (g.S.Source.told c.args.lent.now.feed.now) named open_ones (g.K.Sink.told c.args.lent.now.out.now) (g.K.Sink.told c.args.lent.now.maps.now) (g.K.Sink.told c.start_lanes.new.maps) (g.M.Pace.told c.args.lent.now.pace.now) _ _ _ _
+    (g.S.Source.faults c.args.lent.now.feed.now) (g.K.Sink.faults c.args.lent.now.out.now) (g.K.Sink.faults c.args.lent.now.maps.now) (g.K.Sink.faults c.start_lanes.new.maps)
+    c.text.ensures c.in-Ready.ensures.start in
+    served_session _ (service_asked c.args.service.now) _ _ _ _ (map tell c.split_at_mut-opened.result.0.now) (map tell c.drive.new.more) (map tell c.split_at_mut-opened.result.1.now) c.in-Ok.end.feed c.in-Ok.end.lanes c.in-Ok.end.stream _ begin
+    (ap (map tell) c.split_at_mut-opened.ensures.value ∙ map-append tell _ _) (map-append tell _ _) (length-map _ tell ∙ search rules) (length-map _ tell ∙ search rules ∙ sym (length-map _ tell))
+    (d.0, d.1 ∙ search rules, d.2, d.3) (search rules) c.status_of.ensures c.in-Ok.ensures.source (λ other one. c.in-Ok.ensures.source_stays other (λ sink. none_named _ _ (search rules) (one sink))) c.in-Ok.ensures.sink c.in-Ok.ensures.sink_stays
+    (search rules, search rules, search rules, c.in-Ok.ensures.later.3)

@@ -1,5 +1,5 @@
 use Rattle.std.proofs.Common.{rules, ◌≡◌, ◌∙◌, [], ◌++◌, map, refl, ap, sym, append-nil}
-use Rattle.drive.specs.Told.{lane_told}
+use Rattle.drive.specs.Told.{feed_told, lane_told}
 use Rattle.glb.proofs.Tasks.{none_behind, promised_over, same_stage, unread}
 use Rattle.glb.proofs.top.glb.Goals as goal
 
@@ -9,13 +9,14 @@ returns-in-Ok g c =
     let none : c.split_at_mut-all.result.1.now ≡ [] = none_behind _ _ _ c.split_at_mut-all.ensures.value (c.split_at_mut-all.ensures.front_len ∙ sym c.requires.lanes) in
     let front : c.split_at_mut-all.result.0.now ≡ c.args.lanes.now = sym (c.split_at_mut-all.ensures.value ∙ ap (λ l. c.split_at_mut-all.result.0.now ++ l) none ∙ append-nil c.split_at_mut-all.result.0.now) in
     let feed : c.run_order.new.lent.feed.now ≡ c.feed-1.given.0 = search rules in
+    let more : c.run_order.new.lent.more.now ≡ c.more-1.given.0 = search rules in
     let out : c.run_order.new.lent.out.now ≡ c.out-1.given.0 = search rules in
     let maps : c.run_order.new.lent.maps.now ≡ c.maps-1.given.0 = search rules in
     let pace : c.run_order.new.lent.pace.now ≡ c.pace-1.given.0 = search rules in
     let lanes : c.run_order.new.lent.lanes.now ≡ c.all-1.given.0 ++ c.split_at_mut-all.result.1.now = search rules in
     promised_over _ _ _ _ _ _ _ _ _ _ _ _ _ refl c.in-Ok.ensures.asked
-    (same_stage _ _ _ _ _ _ _ _ _ _ _ _ _ _ _ _ _ refl refl refl refl (ap tell front) refl refl refl)
-    (same_stage _ _ _ _ _ _ _ _ _ _ _ _ _ _ _ _ _ (ap g.S.Source.told feed) (ap g.K.Sink.told out) (ap g.K.Sink.told maps) (ap g.M.Pace.told pace) (ap tell lanes) (ap g.S.Source.faults feed) (ap g.K.Sink.faults out) (ap g.K.Sink.faults maps))
+    (same_stage _ _ _ _ _ _ _ _ _ _ _ _ _ _ _ _ _ _ _ _ _ refl refl refl refl refl refl (ap tell front) refl refl refl)
+    (same_stage _ _ _ _ _ _ _ _ _ _ _ _ _ _ _ _ _ _ _ _ _ (ap g.S.Source.told feed) (ap (map (feed_told g.N.Source.told g.N.Source.faults)) more) (ap (map g.N.NamedSource.opens) more) (ap g.K.Sink.told out) (ap g.K.Sink.told maps) (ap g.M.Pace.told pace) (ap tell lanes) (ap g.S.Source.faults feed) (ap g.K.Sink.faults out) (ap g.K.Sink.faults maps))
     c.run_order.ensures.promised
 
 pub returns-in-Err : goal.returns-in-Err
