@@ -1,0 +1,4 @@
+pub mod Totals
+pub mod Cover
+pub mod Full
+pub mod Join
