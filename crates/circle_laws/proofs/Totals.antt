@@ -1,8 +1,8 @@
 -- Sums over all offers of an instance, of amounts that are a function of group and place.
-use Rattle.std.proofs.Common.{◌≡◌, ℕ, ◌+◌, ◌*◌, ◌/◌, ◌%◌, ◌<◌, ◌≤◌, ◌==◌, Bool, true, false, not, ◌&&◌, if◌then◌else◌, List, [], ◌∷◌, Option, None, Some, All, refl, sym, ap, ◌∙◌, subst, inl, inr, arith}
+use Rattle.std.proofs.Common.{◌≡◌, ℕ, suc, ◌+◌, ◌*◌, ◌/◌, ◌%◌, ◌<◌, ◌≤◌, ◌==◌, Bool, true, false, not, ◌&&◌, nat_lt, if◌then◌else◌, List, [], ◌∷◌, Option, None, Some, All, refl, sym, ap, ◌∙◌, subst, inl, inr, arith}
 use Rattle.std.specs.List.{sum_by, range_with_len}
 use Rattle.std.specs.Option.{IfSome, is_some}
-use Rattle.std.proofs.lemmas.Bool.{and_parts, and_from, cases_Bool, cases_eq, eq-eqb, eqb-true, ne_eqb, false≢true}
+use Rattle.std.proofs.lemmas.Bool.{and_parts, and_from, cases_Bool, cases_eq, eq-eqb, eqb-true, lt-ltb, ltb-true, ne_eqb, false≢true}
 use Rattle.std.proofs.lemmas.List.Sums.{sum_by-cons}
 use Rattle.map_model.specs.declared.lines.MapLine.{MapLine}
 use Rattle.map_model.specs.Allocation.{amount_at, units_of}
@@ -76,6 +76,32 @@ total-add size test a b = sum_by-add _ _ _ (λ i. one (test (i / 16) (i % 16)) (
     one : (t : Bool) (x y : ℕ) → (if t then x + y else 0) ≡ (if t then x else 0) + (if t then y else 0)
     one true x y = omega arith
     one false x y = omega arith
+
+-- a sum over the first groups and one more
+pub total-next : (size n : ℕ) (f : ℕ → ℕ → ℕ) → total size (λ h _. nat_lt h (suc n)) f ≡ total size (λ h _. nat_lt h n) f + total size (λ h _. h == n) f
+total-next size n f = omega (
+  arith,
+  total-parts size (λ h _. nat_lt h (suc n)) (λ h _. h == n) f,
+  total-wider size (λ h _. nat_lt h (suc n) && (h == n)) (λ h _. h == n) f (λ h _ e. (and_parts (nat_lt h (suc n)) (h == n) e).1),
+  total-wider size (λ h _. h == n) (λ h _. nat_lt h (suc n) && (h == n)) f (λ h _ e. and_from (nat_lt h (suc n)) (h == n) (lt-ltb h (suc n) (omega (arith, eqb-true h n e))) e),
+  total-wider size (λ h _. nat_lt h (suc n) && not (h == n)) (λ h _. nat_lt h n) f (λ h _ e. lower h (and_parts (nat_lt h (suc n)) (not (h == n)) e)),
+  total-wider size (λ h _. nat_lt h n) (λ h _. nat_lt h (suc n) && not (h == n)) f (λ h _ e. let l = ltb-true h n e in and_from (nat_lt h (suc n)) (not (h == n)) (lt-ltb h (suc n) (omega (arith, l))) (rw (ne_eqb h n (λ same. absurd (omega (arith, l, same)))) refl)),
+)
+  where
+    lower : (h : ℕ) → (nat_lt h (suc n) ≡ true) × (not (h == n) ≡ true) → nat_lt h n ≡ true
+    lower h p = elim (cases_eq h n) [
+      | inl e ↦ absurd (false≢true (sym (ap not (eq-eqb h n e)) ∙ p.1))
+      | inr ne ↦ lt-ltb h n (omega (arith, ltb-true h (suc n) p.0, ne))
+    ]
+
+-- all groups are among the first so many
+pub total-within : (count : ℕ) (f : ℕ → ℕ → ℕ) → total (count * 16) (λ _ _. true) f ≤ total (count * 16) (λ h _. nat_lt h count) f
+unfolding total
+total-within count f = sum-le _ _ (count * 16) 0 (λ i l high. one (nat_lt (i / 16) count) (f (i / 16) (i % 16)) (lt-ltb (i / 16) count (omega (arith, high))))
+  where
+    one : (t : Bool) (x : ℕ) → t ≡ true → x ≤ (if t then x else 0)
+    one true x e = omega arith
+    one false x e = absurd (false≢true e)
 
 -- a sum of nothing
 pub total-none : (size : ℕ) (test : ℕ → ℕ → Bool) (f : ℕ → ℕ → ℕ) → ((g k : ℕ) → test g k ≡ true → f g k ≡ 0) → total size test f ≡ 0
