@@ -3,3 +3,7 @@ pub mod Cover
 pub mod Full
 pub mod Join
 pub mod Groups
+pub mod First
+pub mod Refuses
+pub mod Next
+pub mod Free

@@ -150,18 +150,22 @@ total-without size test f g k c t =
     let value : (if test g k && is_offer g k g k then f g k else 0) ≡ f g k = rw (t, is_offer-itself g k) refl in
     omega (arith, total-parts size test (is_offer g k) f, one, value)
 
+-- one where a test holds
+abbrev pub one_if : Bool → ℕ
+one_if t = if t then 1 else 0
+
 -- one unit of an offer
 abbrev pub unit_of : ℕ → ℕ → ℕ → ℕ → ℕ
-unit_of g k h j = if is_offer g k h j then 1 else 0
+unit_of g k h j = one_if (is_offer g k h j)
 
 -- a unit more of it
-pub total-more : (size : ℕ) (test : ℕ → ℕ → Bool) (f : ℕ → ℕ → ℕ) (g k : ℕ) → IsCounted size g k → total size test (λ h j. f h j + unit_of g k h j) ≡ total size test f + (if test g k then 1 else 0)
+pub total-more : (size : ℕ) (test : ℕ → ℕ → Bool) (f : ℕ → ℕ → ℕ) (g k : ℕ) → IsCounted size g k → total size test (λ h j. f h j + unit_of g k h j) ≡ total size test f + one_if (test g k)
 total-more size test f g k c =
     let one = total-only size test (unit_of g k) g k c (λ h j apart t. elim (cases_Bool (is_offer g k h j)) [
       | inl e ↦ let p = is_offer-same g k h j e in absurd (apart p.0 p.1)
       | inr e ↦ rw e refl
     ]) in
-    let value : (if test g k then unit_of g k g k else 0) ≡ (if test g k then 1 else 0) = rw (is_offer-itself g k) refl in
+    let value : (if test g k then unit_of g k g k else 0) ≡ one_if (test g k) = rw (is_offer-itself g k) refl in
     omega (arith, total-add size test f (unit_of g k), one, value)
 
 -- a sum split by a function of the offer
