@@ -85,8 +85,3 @@ pub no_worse_if_free : (m : Market) → IsMarket m → (limits : ℕ → ℕ →
     → (other : List MapLine) → IsRightMap m other → ((g k : ℕ) → IsOffer m g k → amount_at other g k ≤ limits g k) → (g k : ℕ) → IsOffer m g k → placed_through other g k ≤ placed_through lines g k
 no_worse_if_free m market limits limited lines right free other also within g k o =
     best_from m market (λ h j. pool_in m market (pool_of m g k) h j (pool_there m market g k o)) lines other right also limits limited within free g k o
-
--- so with the limits of the instance it is group-best
-pub group_best_if_free : (m : Market) → IsMarket m → (lines : List MapLine) → IsRightMap m lines → IsCircleFree m (limit_of m) lines → IsGroupBest m lines
-group_best_if_free m market lines right free other form feasible stable g k o =
-    no_worse_if_free m market (limit_of m) (λ h j p. omega arith) lines right free other (record { form = form; feasible = feasible; stable = stable }) (λ h j p. feasible.limits h j p) g k o

@@ -7,3 +7,5 @@ pub mod First
 pub mod Refuses
 pub mod Next
 pub mod Free
+pub mod Best
+pub mod Nearest

@@ -1,7 +1,7 @@
 -- Offers in line for a unit more, which of them is next where a unit leaves a pool, and maps in which no circle of groups can all do better.
-use Rattle.std.specs.Prelude.{◌≡◌, ℕ, ◌<◌, Bool, true, List, IsTrue, slice_index}
+use Rattle.std.specs.Prelude.{◌≡◌, ℕ, ◌<◌, true, min, nat_lt, if◌then◌else◌, List, IsTrue, slice_index}
 use Rattle.map_model.specs.declared.lines.MapLine.{MapLine}
-use Rattle.map_model.specs.Market.{Market, capacity_of, demand_of, is_pool_at, key_of, pool_of}
+use Rattle.map_model.specs.Market.{Market, capacity_of, demand_of, is_pool_at, key_of, limit_of, pool_of}
 use Rattle.map_model.specs.Allocation.{IsOffer, amount_at, counts_at, is_under, key_le, load, placed, placed_through}
 
 -- the offer would take a unit more, and may: it is wanted, and holds less than its limit
@@ -29,3 +29,7 @@ pub record IsLastPlace (lines : List MapLine) (g k : ℕ) : Type 0 where
 pub record IsCircleFree (m : Market) (limits : ℕ → ℕ → ℕ) (lines : List MapLine) : Type 0 where
   pub numbers : List ℕ
   pub falls : (pool g k j : ℕ) → IsTrue (is_pool_at m pool) → IsNextInLine m limits lines pool g k → placed lines g ≡ demand_of m g → IsLastPlace lines g j → slice_index numbers (pool_of m g j) < slice_index numbers pool
+
+-- what offers may hold if they are to have no more than a state leaves them: before its group's pointer no more than is held there
+abbrev pub limits_below : Market → List MapLine → List ℕ → ℕ → ℕ → ℕ
+limits_below m held pointers g k = if nat_lt k (slice_index pointers g) then min (limit_of m g k) (amount_at held g k) else limit_of m g k
