@@ -2,7 +2,7 @@
 use Rattle.std.proofs.Common.{◌≡◌, ℕ, ◌+◌, ◌*◌, ◌<◌, ◌≤◌, Bool, true, false, not, ◌&&◌, List, length, Option, None, Some, refl, sym, ap, ◌∙◌, inl, inr, arith}
 use Rattle.std.specs.List.{range_with_len, sum_by}
 use Rattle.std.specs.Option.{IfSome, is_some}
-use Rattle.std.proofs.lemmas.Bool.{and_parts, and_from, cases_Bool, cases_lt, eq-eqb, eqb-true, false≢true}
+use Rattle.std.proofs.lemmas.Bool.{and_parts, and_from, cases_Bool, cases_lt, eq-eqb, eqb-true, false≢true, not-true}
 use Rattle.map_model.specs.Market.{Market, IsMarket, path, pool_of}
 use Rattle.map_model.specs.Allocation.{counts_at, is_under}
 use Rattle.map_model.proofs.Trees.{under_there}
@@ -17,10 +17,6 @@ at_from (Some t) n h = ap Some (eqb-true t n h)
 
 at_to : (o : Option ℕ) (n : ℕ) → o ≡ Some n → is_at o n ≡ true
 at_to o n e = ap (λ o. is_at o n) e ∙ eq-eqb n n refl
-
-not_is : (b : Bool) → not b ≡ true → b ≡ false
-not_is true h = absurd (false≢true h)
-not_is false h = refl
 
 module _ (m : Market) (market : IsMarket m) (pools : (g k : ℕ) → pool_of m g k < length m.nodes) (size : ℕ) (test : ℕ → ℕ → Bool) (some : ℕ → Bool) (a b : ℕ → ℕ → ℕ) where
   abbrev top : ℕ → ℕ → Option ℕ
@@ -75,7 +71,7 @@ module _ (m : Market) (market : IsMarket m) (pools : (g k : ℕ) → pool_of m g
     | inl more ↦
         let p = and_parts (test g k) (not (is_some (top g k))) e in
         let w = hangs g k p.0 more in
-        absurd (false≢true (sym (not_is (is_some (top g k)) p.1) ∙ top_some some (path m (pool_of m g k)) w.0 w.2 w.1))
+        absurd (false≢true (sym (not-true (is_some (top g k)) p.1) ∙ top_some some (path m (pool_of m g k)) w.0 w.2 w.1))
   ]
 
   pub covered : NoMoreUnder → HangsUnder → total size test a ≤ total size test b

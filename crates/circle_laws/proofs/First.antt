@@ -1,6 +1,6 @@
 -- Where some offers have a property, one of them is ahead of all others.
 use Rattle.std.proofs.Common.{◌≡◌, ℕ, zero, suc, ◌+◌, ◌<◌, ◌≤◌, Bool, true, false, not, ◌&&◌, refl, sym, ap, ◌∙◌, subst, inl, inr, arith}
-use Rattle.std.proofs.lemmas.Bool.{and_from, cases_Bool, false≢true}
+use Rattle.std.proofs.lemmas.Bool.{and_from, cases_Bool, false_from_ne_true, false≢true, not-true, not_from_false}
 use Rattle.map_model.specs.declared.instance.Key.{Key}
 use Rattle.map_model.specs.Market.{Market, key_of}
 use Rattle.map_model.specs.Allocation.{key_le}
@@ -39,16 +39,12 @@ module _ (size : ℕ) (ahead : ℕ → ℕ → ℕ → ℕ → Bool) (order : Is
   pub no_first : (P : ℕ → ℕ → Type 0) → ((g k : ℕ) → P g k → IsCounted size g k) → ((g k : ℕ) → P g k → ((h j : ℕ) → P h j → ahead g k h j ≡ false) → ⊥) → (g k : ℕ) → P g k → ⊥
   no_first P counted none g k p = from_count P counted none (suc (ahead_of g k)) g k p (omega arith)
 
-not_false : (b : Bool) → not b ≡ true → b ≡ false
-not_false true h = absurd (false≢true h)
-not_false false h = refl
+-- a test does not hold together with its denial
+pub apart : (b : Bool) → not b ≡ true → b ≡ true → ⊥
+apart b n e = false≢true (sym (not-true b n) ∙ e)
 
-not_true : (b : Bool) → (b ≡ true → ⊥) → not b ≡ true
-not_true true h = absurd (h refl)
-not_true false h = refl
-
-apart : (b : Bool) → not b ≡ true → b ≡ true → ⊥
-apart b n e = false≢true (sym (not_false b n) ∙ e)
+denied : (b : Bool) → (b ≡ true → ⊥) → not b ≡ true
+denied b no_way = not_from_false b (false_from_ne_true b no_way)
 
 -- the second is ranked higher
 abbrev pub is_higher : Market → ℕ → ℕ → ℕ → ℕ → Bool
@@ -57,8 +53,8 @@ is_higher m g k h j = not (key_le (key_of m g k) (key_of m h j))
 pub higher_order : (m : Market) → IsOrder (is_higher m)
 higher_order m = record {
   itself = λ g k e. apart (key_le (key_of m g k) (key_of m g k)) e (key_le_itself (key_of m g k));
-  trans = λ g k h j i o e f. not_true (key_le (key_of m g k) (key_of m i o)) (λ le.
-      let back : key_le (key_of m i o) (key_of m h j) ≡ true = key_le_total (key_of m h j) (key_of m i o) (not_false (key_le (key_of m h j) (key_of m i o)) f) in
+  trans = λ g k h j i o e f. denied (key_le (key_of m g k) (key_of m i o)) (λ le.
+      let back : key_le (key_of m i o) (key_of m h j) ≡ true = key_le_total (key_of m h j) (key_of m i o) (not-true (key_le (key_of m h j) (key_of m i o)) f) in
       apart (key_le (key_of m g k) (key_of m h j)) e (key_le_trans (key_of m g k) (key_of m i o) (key_of m h j) le back));
 }
 
@@ -69,7 +65,7 @@ is_lower m g k h j = not (key_le (key_of m h j) (key_of m g k))
 pub lower_order : (m : Market) → IsOrder (is_lower m)
 lower_order m = record {
   itself = λ g k e. apart (key_le (key_of m g k) (key_of m g k)) e (key_le_itself (key_of m g k));
-  trans = λ g k h j i o e f. not_true (key_le (key_of m i o) (key_of m g k)) (λ le.
-      let back : key_le (key_of m g k) (key_of m h j) ≡ true = key_le_total (key_of m h j) (key_of m g k) (not_false (key_le (key_of m h j) (key_of m g k)) e) in
+  trans = λ g k h j i o e f. denied (key_le (key_of m i o) (key_of m g k)) (λ le.
+      let back : key_le (key_of m g k) (key_of m h j) ≡ true = key_le_total (key_of m h j) (key_of m g k) (not-true (key_le (key_of m h j) (key_of m g k)) e) in
       apart (key_le (key_of m i o) (key_of m h j)) f (key_le_trans (key_of m i o) (key_of m g k) (key_of m h j) le back));
 }

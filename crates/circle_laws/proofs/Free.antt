@@ -1,6 +1,6 @@
 -- A right map without a circle is the best.
 use Rattle.std.proofs.Common.{◌≡◌, ℕ, zero, suc, ◌+◌, ◌<◌, ◌≤◌, ◌==◌, Bool, true, false, not, List, length, IsTrue, slice_index, refl, sym, ap, ◌∙◌, subst, inl, inr, arith}
-use Rattle.std.proofs.lemmas.Bool.{cases_Bool, cases_eq, cases_lt, eqb-true, false≢true}
+use Rattle.std.proofs.lemmas.Bool.{cases_Bool, cases_eq, cases_lt, eqb-true, not-false}
 use Rattle.map_model.specs.declared.lines.MapLine.{MapLine}
 use Rattle.map_model.specs.Market.{Market, IsMarket, demand_of, is_pool_at, key_of, limit_of, pool_of}
 use Rattle.map_model.specs.Allocation.{AreLines, IsOffer, amount_at, key_le, placed, placed_through}
@@ -47,12 +47,8 @@ module _ (m : Market) (market : IsMarket m) (pools : (g k : ℕ) → pool_of m g
   somebody_next pool nobody = no_first (size_of m) (is_higher m) (higher_order m) (λ h j. IsInLine m limits ours h j × MakesRoom m ours pool h j) (λ h j x. counted m market h j x.0.offer) (λ h j x first. nobody h j (record {
     in_line = x.0;
     room = x.1;
-    best = λ i o line room. not_higher (key_le (key_of m h j) (key_of m i o)) (first i o (line, room));
+    best = λ i o line room. not-false (key_le (key_of m h j) (key_of m i o)) (first i o (line, room));
   }))
-    where
-      not_higher : (b : Bool) → not b ≡ false → b ≡ true
-      not_higher true e = refl
-      not_higher false e = absurd (false≢true (sym e))
 
   -- the last place of a group that gains
   last_of : (g i : ℕ) → IsGain m ours theirs g i → (k : ℕ) × IsLastPlace ours g k

@@ -1,6 +1,6 @@
 -- Maps as sums over offers, what a refusal says, and covers by full nodes.
 use Rattle.std.proofs.Common.{◌≡◌, ℕ, ◌+◌, ◌*◌, ◌<◌, ◌≤◌, ◌==◌, Bool, true, false, not, ◌&&◌, nat_lt, List, length, All, ◌⊎◌, refl, sym, ap, ◌∙◌, subst, inl, inr, arith}
-use Rattle.std.proofs.lemmas.Bool.{and_parts, and_from, cases_Bool, cases_eq, eq-eqb, eqb-true, false≢true, lt-ltb, ltb-true, ne_eqb}
+use Rattle.std.proofs.lemmas.Bool.{and_parts, and_from, cases_Bool, cases_eq, eq-eqb, eqb-true, false≢true, lt-ltb, ltb-true, ne_eqb, not_from_true}
 use Rattle.map_model.specs.declared.lines.MapLine.{MapLine}
 use Rattle.map_model.specs.Market.{Market, IsMarket, capacity_of, demand_of, key_of, limit_of, pool_of}
 use Rattle.map_model.specs.Allocation.{AreLines, IsOffer, amount_at, counts_at, is_under, key_le, load, none_worse, placed_through, units_of}
@@ -80,13 +80,13 @@ pub record IsBelow (m : Market) (n c : ℕ) : Type 0 where
 pub IsBelow-from : (m : Market) → IsMarket m → (n c : ℕ) → is_below m n c ≡ true → IsBelow m n c
 IsBelow-from m market n c h =
     let p = and_parts (is_under m n c) (not (c == n)) h in
-    record { under = p.0; after = λ there. elim (cases_eq c n) [
-      | inl e ↦ absurd (false≢true (sym (not_true (c == n) (eq-eqb c n e)) ∙ p.1))
-      | inr ne ↦ omega (arith, under_le m market n c there p.0, ne)
-    ] }
-  where
-    not_true : (b : Bool) → b ≡ true → not b ≡ false
-    not_true b e = ap not e
+    record {
+      under = p.0;
+      after = λ there. elim (cases_eq c n) [
+        | inl e ↦ absurd (false≢true (sym (not_from_true (c == n) (eq-eqb c n e)) ∙ p.1))
+        | inr ne ↦ omega (arith, under_le m market n c there p.0, ne)
+      ];
+    }
 
 -- of two nodes over a pool the second stands over the first, or strictly below it
 pub above_or_below : (m : Market) (pool n c : ℕ) → is_under m n pool ≡ true → is_under m c pool ≡ true → (is_under m c n ≡ true) ⊎ (is_below m n c ≡ true)

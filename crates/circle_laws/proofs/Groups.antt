@@ -21,8 +21,8 @@ none_behind m lines right g i k l whole past = omega (
   right.feasible.demands g l,
   whole,
   units_of-le (λ h j. (h == g) && nat_le j i) (λ h j. (h == g) && nat_lt j k) (λ h j t.
-  let p = and_parts (h == g) (nat_le j i) t in
-  and_from (h == g) (nat_lt j k) p.0 (lt-ltb j k (omega (arith, leb-true j i p.1, past)))) lines,
+      let p = and_parts (h == g) (nat_le j i) t in
+      and_from (h == g) (nat_lt j k) p.0 (lt-ltb j k (omega (arith, leb-true j i p.1, past)))) lines,
 )
 
 -- sums over the first groups, from those of each group
@@ -95,15 +95,19 @@ module _ (m : Market) (market : IsMarket m) (pools : (g k : ℕ) → pool_of m g
   group_ge : (g : ℕ) → g < length m.groups → sum_of g (amount_at ours) ≤ sum_of g both
   group_ge g l = elim (cases_lt (sum_of g both) (sum_of g (amount_at ours))) [
     | inr le ↦ le
-    | inl less ↦ absurd (omega (arith, less, of_group m g (amount_at ours) both (no_loss g (λ i loss. omega (
+    | inl less ↦ absurd (omega (
       arith,
       less,
-      of_group m g (amount_at theirs) both (loss_keeps g i loss),
-      units_all m market theirs other.form (λ h _. h == g),
-      units_all m market ours right.form (λ h _. h == g),
-      whole_theirs g i loss,
-      right.feasible.demands g l,
-    )))))
+      of_group m g (amount_at ours) both (no_loss g (λ i loss. omega (
+        arith,
+        less,
+        of_group m g (amount_at theirs) both (loss_keeps g i loss),
+        units_all m market theirs other.form (λ h _. h == g),
+        units_all m market ours right.form (λ h _. h == g),
+        whole_theirs g i loss,
+        right.feasible.demands g l,
+      ))),
+    ))
   ]
 
   -- in all the join has no more than ours

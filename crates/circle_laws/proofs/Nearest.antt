@@ -1,7 +1,7 @@
 -- Room is made where the full node nearest to the offer's pool is left; so the next in line is the best over the nodes of a path.
 use Rattle.std.proofs.Common.{◌≡◌, ℕ, zero, suc, ◌+◌, ◌<◌, ◌≤◌, ◌==◌, Bool, true, false, not, List, [], ◌∷◌, length, Option, None, Some, if◌then◌else◌, refl, sym, ap, ◌∙◌, subst, inl, inr, arith}
 use Rattle.std.specs.List.{find, list_any}
-use Rattle.std.proofs.lemmas.Bool.{cases_Bool, eq-eqb, eqb-true, false≢true, or_cases}
+use Rattle.std.proofs.lemmas.Bool.{cases_Bool, eq-eqb, eqb-true, false≢true, not-false, or_cases}
 use Rattle.std.proofs.Math.Bool.{or-true}
 use Rattle.map_model.specs.declared.instance.NodeId.{NodeId}
 use Rattle.map_model.specs.declared.lines.MapLine.{MapLine}
@@ -110,15 +110,11 @@ next_from m market limits limited lines right pool n g k there under at least = 
     | inr e ↦
         let near = has_nearest m market limits limited lines right h j line in
         absurd (no_first (size_of m) (is_higher m) (higher_order m) (λ i o. IsInLine m limits lines i o × IsNearestFull m lines near.0 i o) (λ i o x. counted m market i o x.0.offer) (λ i o x first.
-        let best : IsBestAt m limits lines near.0 i o = record { in_line = x.0; near = x.1; best = λ a b in_line also. not_higher (key_le (key_of m i o) (key_of m a b)) (first a b (in_line, also)) } in
-        false≢true (sym e ∙ key_le_trans (key_of m g k) (key_of m i o) (key_of m h j) (least near.0 i o (room_at m lines pool near.0 h j near.1 room) best) (not_higher (key_le (key_of m i o) (key_of m h j)) (first h j (line, near.1)))))
+        let best : IsBestAt m limits lines near.0 i o = record { in_line = x.0; near = x.1; best = λ a b in_line also. not-false (key_le (key_of m i o) (key_of m a b)) (first a b (in_line, also)) } in
+        false≢true (sym e ∙ key_le_trans (key_of m g k) (key_of m i o) (key_of m h j) (least near.0 i o (room_at m lines pool near.0 h j near.1 room) best) (not-false (key_le (key_of m i o) (key_of m h j)) (first h j (line, near.1)))))
         h j (line, near.1))
   ];
 }
-  where
-    not_higher : (b : Bool) → not b ≡ false → b ≡ true
-    not_higher true e = refl
-    not_higher false e = absurd (false≢true (sym e))
 
 -- where no node of the path has an offer in line, nobody is next
 pub nobody_next : (m : Market) → IsMarket m → (limits : ℕ → ℕ → ℕ) → ((g k : ℕ) → IsOffer m g k → limits g k ≤ limit_of m g k) → (lines : List MapLine) → IsRightMap m lines → (pool : ℕ) → ((c h j : ℕ) → is_under m c pool ≡ true → IsInLine m limits lines h j → IsNearestFull m lines c h j → ⊥) → (g k : ℕ) → IsNextInLine m limits lines pool g k → ⊥

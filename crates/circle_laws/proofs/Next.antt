@@ -1,7 +1,7 @@
 -- Where a group that gains leaves its last place, some group is next in line there, and gains as well.
 use Rattle.std.proofs.Common.{◌≡◌, ℕ, ◌+◌, ◌<◌, ◌≤◌, ◌==◌, Bool, true, false, not, ◌&&◌, List, [], ◌∷◌, length, ◌⊎◌, refl, sym, ap, ◌∙◌, subst, inl, inr, arith}
 use Rattle.std.specs.List.{list_any}
-use Rattle.std.proofs.lemmas.Bool.{and_parts, and_from, cases_Bool, cases_eq, cases_lt, eq-eqb, eqb-true, false≢true, or_cases}
+use Rattle.std.proofs.lemmas.Bool.{and_parts, and_from, cases_Bool, cases_eq, cases_lt, eq-eqb, eqb-true, false≢true, not-true, or_cases}
 use Rattle.std.proofs.Math.Bool.{or-true}
 use Rattle.map_model.specs.declared.lines.MapLine.{MapLine}
 use Rattle.map_model.specs.Market.{Market, IsMarket, capacity_of, demand_of, key_of, limit_of, path, pool_of}
@@ -15,6 +15,7 @@ use Rattle.circle_laws.proofs.Totals.{total, total-among}
 use Rattle.circle_laws.proofs.Full.{IsHung, above_or_below, counted, held_by, held_by_less, is_below, offer_of, size_of, units_all}
 use Rattle.circle_laws.proofs.Join.{IsGain, IsLoss, fits, gain_is, gained, joined, loss_is}
 use Rattle.circle_laws.proofs.Groups.{total_ge}
+use Rattle.circle_laws.proofs.First.{apart}
 use Rattle.circle_laws.proofs.Refuses.{joined_offer, refuses}
 
 -- a full node of the offer's path that isn't on that of the pool
@@ -42,16 +43,12 @@ pub room_or_way : (m : Market) (lines : List MapLine) (pool g k : ℕ) → ((n :
 room_or_way m lines pool g k = elim (some_or_none (λ n. (load m lines n == capacity_of m n) && not (is_under m n pool)) (path m (pool_of m g k))) [
   | inl w ↦
       let p = and_parts (load m lines w.0 == capacity_of m w.0) (not (is_under m w.0 pool)) w.2 in
-      inl (w.0, record { on = w.1; full = eqb-true (load m lines w.0) (capacity_of m w.0) p.0; off = not_is (is_under m w.0 pool) p.1 })
+      inl (w.0, record { on = w.1; full = eqb-true (load m lines w.0) (capacity_of m w.0) p.0; off = not-true (is_under m w.0 pool) p.1 })
   | inr none ↦ inr (λ n on full. elim (cases_Bool (is_under m n pool)) [
     | inl e ↦ e
     | inr e ↦ absurd (false≢true (sym (none n on) ∙ and_from (load m lines n == capacity_of m n) (not (is_under m n pool)) (eq-eqb (load m lines n) (capacity_of m n) full) (rw e refl)))
   ])
 ]
-  where
-    not_is : (b : Bool) → not b ≡ true → b ≡ false
-    not_is true h = absurd (false≢true h)
-    not_is false h = refl
 
 module _ (m : Market) (market : IsMarket m) (pools : (g k : ℕ) → pool_of m g k < length m.nodes) (ours theirs : List MapLine) (right : IsRightMap m ours) (other : IsRightMap m theirs) (g l : ℕ) (loss : IsLoss m ours theirs g l) where
   abbrev both : ℕ → ℕ → ℕ
@@ -67,10 +64,6 @@ module _ (m : Market) (market : IsMarket m) (pools : (g k : ℕ) → pool_of m g
   fewer : both g l < amount_at ours g l
   fewer = omega (arith, loss.less, loss_is m ours theirs g l loss)
 
-  off_true : (b : Bool) → not b ≡ true → b ≡ true → ⊥
-  off_true true n e = false≢true n
-  off_true false n e = false≢true e
-
   way_hangs : (kind : ℕ → Bool) (h j : ℕ) → (n : ℕ) × IsInTheWay m ours pool h j n → ((n : ℕ) → IsInTheWay m ours pool h j n → kind n ≡ true) → IsHung m ours kind h j
   way_hangs kind h j w is = record { node = w.0; is = is w.0 w.1; there = under_there m market w.0 (pool_of m h j) (pools h j) w.1.on; full = w.1.full; on = w.1.on }
 
@@ -78,7 +71,7 @@ module _ (m : Market) (market : IsMarket m) (pools : (g k : ℕ) → pool_of m g
   pub somebody : ((h j : ℕ) → IsGain m ours theirs h j → MakesRoom m ours pool h j → ⊥) → ⊥
   somebody nobody =
       let less = held_by_less m market pools ours right.form (λ _ _. true) (λ n. not (is_under m n pool)) both (λ c e there. (λ h j on. refl, fits m market pools ours theirs right other c there)) (λ h j t more. hung h j (gained m ours theirs h j more)) g l (counted m market g l lost) refl fewer
-      (λ n e on. off_true (is_under m n pool) e on) in
+      (λ n e on. apart (is_under m n pool) e on) in
       omega (arith, less, total_ge m market pools ours theirs right other)
     where
       hung : (h j : ℕ) → IsGain m ours theirs h j → IsHung m ours (λ n. not (is_under m n pool)) h j
@@ -134,5 +127,5 @@ module _ (m : Market) (market : IsMarket m) (pools : (g k : ℕ) → pool_of m g
           let also : load m ours n ≡ capacity_of m n = omega (arith, le, all, full, right.feasible.capacities n there) in
           let under : counts_at m n g l ≡ true = next.room n on also in
           let less = held_by_less m market pools ours right.form (counts_at m n) (kind n) both (hold n) (hung n there on zero_worse) g l (counted m market g l lost) under fewer
-          (λ c e on_c. off_true (is_under m c pool) (and_parts (not (is_under m c pool)) (is_under m n c) e).0 on_c) in
+          (λ c e on_c. apart (is_under m c pool) (and_parts (not (is_under m c pool)) (is_under m n c) e).0 on_c) in
           omega (arith, less, all, full, also)

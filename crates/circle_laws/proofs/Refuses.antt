@@ -1,6 +1,6 @@
 -- What ours refuses to a group that gains nothing, the join refuses too.
 use Rattle.std.proofs.Common.{◌≡◌, ℕ, zero, suc, ◌+◌, ◌<◌, ◌≤◌, Bool, true, false, not, ◌&&◌, if◌then◌else◌, List, length, ◌⊎◌, refl, sym, ap, ◌∙◌, subst, inl, inr, arith}
-use Rattle.std.proofs.lemmas.Bool.{and_parts, and_from, cases_Bool, cases_lt, false≢true}
+use Rattle.std.proofs.lemmas.Bool.{and_parts, and_from, cases_Bool, cases_lt, false≢true, not-true}
 use Rattle.map_model.specs.declared.lines.MapLine.{MapLine}
 use Rattle.map_model.specs.Market.{Market, IsMarket, capacity_of, demand_of, key_of, limit_of, pool_of}
 use Rattle.map_model.specs.Allocation.{IsOffer, amount_at, counts_at, is_under, key_le, load, placed_through}
@@ -14,10 +14,6 @@ use Rattle.circle_laws.proofs.Full.{IsBelow, IsBelow-from, IsHung, IsRefusedAt, 
 use Rattle.circle_laws.proofs.Join.{IsGain, IsLoss, fits, gained, joined, joined_is, refused_ours, refused_theirs}
 use Rattle.circle_laws.proofs.Groups.{first_gain, total_ge}
 use Rattle.circle_laws.proofs.First.{is_lower, lower_order, no_first}
-
-not_is : (b : Bool) → not b ≡ true → b ≡ false
-not_is true h = absurd (false≢true h)
-not_is false h = refl
 
 module _ (m : Market) (market : IsMarket m) (pools : (g k : ℕ) → pool_of m g k < length m.nodes) (ours theirs : List MapLine) (right : IsRightMap m ours) (other : IsRightMap m theirs) where
   abbrev both : ℕ → ℕ → ℕ
@@ -61,7 +57,7 @@ module _ (m : Market) (market : IsMarket m) (pools : (g k : ℕ) → pool_of m g
     hold c e l =
         let p = and_parts (is_below m n c) (not (is_under m c (pool_of m h j))) e in
         let below = IsBelow-from m market n c p.0 in
-        let off : is_under m c (pool_of m h j) ≡ false = not_is (is_under m c (pool_of m h j)) p.1 in (
+        let off : is_under m c (pool_of m h j) ≡ false = not-true (is_under m c (pool_of m h j)) p.1 in (
           λ i o on. test_apart i o (under_trans m market n c (pool_of m i o) (pools i o) below.under on) (λ t.
               let q = is_offer-same h j i o t in
               false≢true (sym off ∙ subst (λ x. counts_at m c x j ≡ true) q.0 (subst (λ y. counts_at m c i y ≡ true) q.1 on))),
@@ -105,7 +101,7 @@ module _ (m : Market) (market : IsMarket m) (pools : (g k : ℕ) → pool_of m g
           | inl e ↦ let q = is_offer-same g k i o e in subst (λ x. IsHung m lines kind x o) (sym q.0) (subst (λ y. IsHung m lines kind g y) (sym q.1) hung_itself)
           | inr e ↦
               let none : unit_of g k i o ≡ 0 = ap one_if e in
-              hung_other i o p.0 (λ s. false≢true (sym (not_is (is_offer h j i o) p.1) ∙ s)) (omega (arith, more, none))
+              hung_other i o p.0 (λ s. false≢true (sym (not-true (is_offer h j i o) p.1) ∙ s)) (omega (arith, more, none))
         ]
 
     pub too_much : total (size_of m) (counts_at m n) both ≡ capacity_of m n → ⊥
@@ -154,7 +150,7 @@ module _ (m : Market) (market : IsMarket m) (pools : (g k : ℕ) → pool_of m g
     worst_of : (n h j : ℕ) → IsWorse n h j → ((i o : ℕ) → IsWorse n i o → is_lower m h j i o ≡ false) → IsWorstOf n g k h j
     worst_of n h j w first =
         let p = and_parts (counts_at m n h j) (not (key_le (key_of m h j) (key_of m g k))) w.0 in
-        let worse : key_le (key_of m h j) (key_of m g k) ≡ false = not_is (key_le (key_of m h j) (key_of m g k)) p.1 in
+        let worse : key_le (key_of m h j) (key_of m g k) ≡ false = not-true (key_le (key_of m h j) (key_of m g k)) p.1 in
         record {
           on = p.0;
           some = w.1;

@@ -2,7 +2,7 @@
 use Rattle.std.proofs.Common.{◌≡◌, ℕ, suc, ◌+◌, ◌*◌, ◌/◌, ◌%◌, ◌<◌, ◌≤◌, ◌==◌, Bool, true, false, not, ◌&&◌, nat_lt, if◌then◌else◌, List, [], ◌∷◌, Option, None, Some, All, refl, sym, ap, ◌∙◌, subst, inl, inr, arith}
 use Rattle.std.specs.List.{sum_by, range_with_len}
 use Rattle.std.specs.Option.{IfSome, is_some}
-use Rattle.std.proofs.lemmas.Bool.{and_parts, and_from, cases_Bool, cases_eq, eq-eqb, eqb-true, lt-ltb, ltb-true, ne_eqb, false≢true}
+use Rattle.std.proofs.lemmas.Bool.{and_parts, and_from, cases_Bool, cases_eq, eq-eqb, eqb-true, lt-ltb, ltb-true, ne_eqb, not_from_true, false≢true}
 use Rattle.std.proofs.lemmas.List.Sums.{sum_by-cons}
 use Rattle.map_model.specs.declared.lines.MapLine.{MapLine}
 use Rattle.map_model.specs.Allocation.{amount_at, units_of}
@@ -90,7 +90,7 @@ total-next size n f = omega (
   where
     lower : (h : ℕ) → (nat_lt h (suc n) ≡ true) × (not (h == n) ≡ true) → nat_lt h n ≡ true
     lower h p = elim (cases_eq h n) [
-      | inl e ↦ absurd (false≢true (sym (ap not (eq-eqb h n e)) ∙ p.1))
+      | inl e ↦ absurd (false≢true (sym (not_from_true (h == n) (eq-eqb h n e)) ∙ p.1))
       | inr ne ↦ lt-ltb h n (omega (arith, ltb-true h (suc n) p.0, ne))
     ]
 
