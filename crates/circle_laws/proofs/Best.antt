@@ -1,5 +1,5 @@
 -- What is the best of all maps, and of those within a state.
-use Rattle.std.proofs.Common.{◌≡◌, ℕ, ◌<◌, ◌≤◌, min, nat_lt, if◌then◌else◌, List, slice_index, arith, inl, inr}
+use Rattle.std.proofs.Common.{ℕ, ◌≤◌, nat_lt, List, slice_index, arith, inl, inr}
 use Rattle.std.proofs.lemmas.Bool.{cases_Bool, ltb-true}
 use Rattle.map_model.specs.declared.lines.MapLine.{MapLine}
 use Rattle.map_model.specs.Market.{Market, IsMarket, limit_of}

@@ -1,10 +1,9 @@
 -- A map has no more than another where it has no more under some nodes, and whatever it has more of hangs under one of these.
-use Rattle.std.proofs.Common.{◌≡◌, ℕ, ◌+◌, ◌*◌, ◌<◌, ◌≤◌, Bool, true, false, not, ◌&&◌, List, length, Option, None, Some, refl, sym, ap, ◌∙◌, inl, inr, arith}
-use Rattle.std.specs.List.{range_with_len, sum_by}
+use Rattle.std.proofs.Common.{◌≡◌, ℕ, ◌<◌, ◌≤◌, Bool, true, false, not, ◌&&◌, length, Option, None, Some, refl, sym, ap, ◌∙◌, inl, inr, arith}
 use Rattle.std.specs.Option.{IfSome, is_some}
 use Rattle.std.proofs.lemmas.Bool.{and_parts, and_from, cases_Bool, cases_lt, eq-eqb, eqb-true, false≢true, not-true}
 use Rattle.map_model.specs.Market.{Market, IsMarket, path, pool_of}
-use Rattle.map_model.specs.Allocation.{counts_at, is_under}
+use Rattle.map_model.specs.Allocation.{counts_at}
 use Rattle.map_model.proofs.Trees.{under_there}
 use Rattle.best_laws.specs.Tops.{top_of}
 use Rattle.best_laws.proofs.Sums.{is_at, sum-le}

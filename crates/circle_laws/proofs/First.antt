@@ -1,7 +1,6 @@
 -- Where some offers have a property, one of them is ahead of all others.
-use Rattle.std.proofs.Common.{◌≡◌, ℕ, zero, suc, ◌+◌, ◌<◌, ◌≤◌, Bool, true, false, not, ◌&&◌, refl, sym, ap, ◌∙◌, subst, inl, inr, arith}
+use Rattle.std.proofs.Common.{◌≡◌, ℕ, zero, suc, ◌<◌, Bool, true, false, not, ◌&&◌, refl, sym, ◌∙◌, subst, inl, inr, arith}
 use Rattle.std.proofs.lemmas.Bool.{and_from, cases_Bool, false_from_ne_true, false≢true, not-true, not_from_false}
-use Rattle.map_model.specs.declared.instance.Key.{Key}
 use Rattle.map_model.specs.Market.{Market, key_of}
 use Rattle.map_model.specs.Allocation.{key_le}
 use Rattle.map_model.proofs.Keys.{key_le_itself, key_le_total, key_le_trans}

@@ -1,10 +1,9 @@
 -- A right map without a circle is the best.
-use Rattle.std.proofs.Common.{◌≡◌, ℕ, zero, suc, ◌+◌, ◌<◌, ◌≤◌, ◌==◌, Bool, true, false, not, List, length, IsTrue, slice_index, refl, sym, ap, ◌∙◌, subst, inl, inr, arith}
-use Rattle.std.proofs.lemmas.Bool.{cases_Bool, cases_eq, cases_lt, eqb-true, not-false}
+use Rattle.std.proofs.Common.{◌≡◌, ℕ, zero, suc, ◌<◌, ◌≤◌, ◌==◌, List, length, IsTrue, slice_index, sym, ap, subst, inl, inr, arith}
+use Rattle.std.proofs.lemmas.Bool.{cases_eq, cases_lt, eqb-true, not-false}
 use Rattle.map_model.specs.declared.lines.MapLine.{MapLine}
-use Rattle.map_model.specs.Market.{Market, IsMarket, demand_of, is_pool_at, key_of, limit_of, pool_of}
+use Rattle.map_model.specs.Market.{Market, IsMarket, is_pool_at, key_of, limit_of, pool_of}
 use Rattle.map_model.specs.Allocation.{AreLines, IsOffer, amount_at, key_le, placed, placed_through}
-use Rattle.map_model.specs.Progress.{IsGroupBest}
 use Rattle.map_model.proofs.MapForm.{few_places}
 use Rattle.map_model.proofs.Paths.{pool_there}
 use Rattle.best_laws.specs.Ahead.{IsRightMap}
@@ -12,7 +11,7 @@ use Rattle.best_laws.proofs.Offers.{pool_in}
 use Rattle.circle_laws.specs.Circles.{IsCircleFree, IsInLine, IsLastPlace, IsNextInLine, MakesRoom}
 use Rattle.circle_laws.proofs.Totals.{total-none}
 use Rattle.circle_laws.proofs.Full.{counted, offer_of, size_of, units_all}
-use Rattle.circle_laws.proofs.Join.{IsGain, IsLoss}
+use Rattle.circle_laws.proofs.Join.{IsGain}
 use Rattle.circle_laws.proofs.Groups.{first_gain, last_is_loss, whole_ours}
 use Rattle.circle_laws.proofs.First.{higher_order, is_higher, no_first}
 use Rattle.circle_laws.proofs.Next.{next_gains, somebody}

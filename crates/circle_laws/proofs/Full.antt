@@ -1,5 +1,5 @@
 -- Maps as sums over offers, what a refusal says, and covers by full nodes.
-use Rattle.std.proofs.Common.{◌≡◌, ℕ, ◌+◌, ◌*◌, ◌<◌, ◌≤◌, ◌==◌, Bool, true, false, not, ◌&&◌, nat_lt, List, length, All, ◌⊎◌, refl, sym, ap, ◌∙◌, subst, inl, inr, arith}
+use Rattle.std.proofs.Common.{◌≡◌, ℕ, ◌*◌, ◌<◌, ◌≤◌, ◌==◌, Bool, true, not, ◌&&◌, nat_lt, List, length, ◌⊎◌, refl, sym, ◌∙◌, subst, inl, inr, arith}
 use Rattle.std.proofs.lemmas.Bool.{and_parts, and_from, cases_Bool, cases_eq, eq-eqb, eqb-true, false≢true, lt-ltb, ltb-true, ne_eqb, not_from_true}
 use Rattle.map_model.specs.declared.lines.MapLine.{MapLine}
 use Rattle.map_model.specs.Market.{Market, IsMarket, capacity_of, demand_of, key_of, limit_of, pool_of}
@@ -8,7 +8,7 @@ use Rattle.map_model.specs.Holding.{under_worse}
 use Rattle.map_model.proofs.MapForm.{few_places, offers-AreLines}
 use Rattle.map_model.proofs.Paths.{pool_there}
 use Rattle.map_model.proofs.Refused.{refused_either}
-use Rattle.map_model.proofs.Trees.{comparable, under_itself, under_le, under_there, under_trans}
+use Rattle.map_model.proofs.Trees.{comparable, under_itself, under_le, under_there}
 use Rattle.map_model.proofs.Units.{units_of-le}
 use Rattle.evict.proofs.Bridge.{none_worse-units_of}
 use Rattle.evict.proofs.Refusals.{refused_by, some-AreLines}

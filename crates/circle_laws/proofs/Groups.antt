@@ -1,15 +1,15 @@
 -- The join places as many units of each group as ours; a group that gains is placed whole in ours, and loses at its last place.
-use Rattle.std.proofs.Common.{◌≡◌, ℕ, zero, suc, ◌+◌, ◌*◌, ◌<◌, ◌≤◌, ◌==◌, Bool, true, false, ◌&&◌, nat_le, nat_lt, List, length, ◌⊎◌, refl, sym, ap, ◌∙◌, subst, inl, inr, arith}
+use Rattle.std.proofs.Common.{◌≡◌, ℕ, zero, suc, ◌+◌, ◌<◌, ◌≤◌, ◌==◌, true, ◌&&◌, nat_le, nat_lt, List, length, refl, sym, ap, subst, inl, inr, arith}
 use Rattle.std.proofs.lemmas.Bool.{and_parts, and_from, cases_lt, cases_order, eq-eqb, eqb-true, leb-true, lt-ltb}
 use Rattle.std.proofs.lemmas.Bool.Decides.{nat_tests}
 use Rattle.map_model.specs.declared.lines.MapLine.{MapLine}
-use Rattle.map_model.specs.Market.{Market, IsMarket, capacity_of, demand_of, pool_of}
-use Rattle.map_model.specs.Allocation.{IsOffer, amount_at, counts_at, placed, placed_through}
+use Rattle.map_model.specs.Market.{Market, IsMarket, demand_of, pool_of}
+use Rattle.map_model.specs.Allocation.{IsOffer, amount_at, placed, placed_through}
 use Rattle.map_model.proofs.Units.{none-units, placed_below, placed_through-below, placed_through-split, through-le-placed, units_of-le}
 use Rattle.best_laws.specs.Ahead.{IsRightMap}
 use Rattle.circle_laws.specs.Circles.{IsLastPlace}
 use Rattle.circle_laws.proofs.Totals.{total, total-le, total-lt, total-next, total-wider, total-within}
-use Rattle.circle_laws.proofs.Full.{IsHung, IsRefusedAt, counted, held_by, offer_of, size_of, units_all}
+use Rattle.circle_laws.proofs.Full.{counted, held_by, offer_of, size_of, units_all}
 use Rattle.circle_laws.proofs.Join.{IsGain, IsLoss, fits, gain_is, gained, joined, joined_is, refused_ours}
 
 -- behind a place up to which the whole demand is placed there is nothing

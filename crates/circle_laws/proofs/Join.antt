@@ -1,14 +1,14 @@
 -- Of two right maps one that has the other's units wherever a group gains by it, and fits each node.
-use Rattle.std.proofs.Common.{◌≡◌, ℕ, zero, suc, ◌+◌, ◌<◌, ◌≤◌, Bool, true, false, ◌&&◌, ◌||◌, nat_le, nat_lt, if◌then◌else◌, List, length, ◌⊎◌, refl, sym, ap, ◌∙◌, subst, inl, inr, arith}
+use Rattle.std.proofs.Common.{◌≡◌, ℕ, zero, suc, ◌+◌, ◌<◌, ◌≤◌, true, ◌&&◌, ◌||◌, nat_le, nat_lt, if◌then◌else◌, List, length, ◌⊎◌, refl, sym, ap, ◌∙◌, inl, inr, arith}
 use Rattle.std.proofs.lemmas.Bool.{and_parts, and_from, cases_Bool, cases_lt, false≢true, le-leb, leb-true, lt-ltb, ltb-true}
 use Rattle.map_model.specs.declared.lines.MapLine.{MapLine}
-use Rattle.map_model.specs.Market.{Market, IsMarket, capacity_of, demand_of, key_of, pool_of}
-use Rattle.map_model.specs.Allocation.{IsOffer, amount_at, counts_at, is_under, key_le, load, placed_through}
+use Rattle.map_model.specs.Market.{Market, IsMarket, capacity_of, demand_of, pool_of}
+use Rattle.map_model.specs.Allocation.{amount_at, counts_at, is_under, placed_through}
 use Rattle.map_model.proofs.Trees.{under_trans}
 use Rattle.best_laws.specs.Ahead.{IsRightMap}
 use Rattle.best_laws.proofs.Offers.{offer_one}
 use Rattle.circle_laws.proofs.Totals.{total}
-use Rattle.circle_laws.proofs.Full.{IsBelow, IsBelow-from, IsHung, IsRefusedAt, above_or_below, held_by, is_below, offer_of, ranked, refused_at, size_of, units_all}
+use Rattle.circle_laws.proofs.Full.{IsBelow-from, IsHung, IsRefusedAt, above_or_below, held_by, is_below, offer_of, ranked, refused_at, size_of, units_all}
 
 -- the other map has more of an offer that is wanted in ours
 pub record IsGain (m : Market) (ours theirs : List MapLine) (g k : ℕ) : Type 0 where

@@ -1,12 +1,12 @@
 -- Room is made where the full node nearest to the offer's pool is left; so the next in line is the best over the nodes of a path.
-use Rattle.std.proofs.Common.{◌≡◌, ℕ, zero, suc, ◌+◌, ◌<◌, ◌≤◌, ◌==◌, Bool, true, false, not, List, [], ◌∷◌, length, Option, None, Some, if◌then◌else◌, refl, sym, ap, ◌∙◌, subst, inl, inr, arith}
+use Rattle.std.proofs.Common.{◌≡◌, ℕ, zero, suc, ◌<◌, ◌≤◌, ◌==◌, Bool, true, List, [], ◌∷◌, length, Option, None, Some, if◌then◌else◌, refl, sym, ap, ◌∙◌, subst, inl, inr, arith}
 use Rattle.std.specs.List.{find, list_any}
 use Rattle.std.proofs.lemmas.Bool.{cases_Bool, eq-eqb, eqb-true, false≢true, not-false, or_cases}
 use Rattle.std.proofs.Math.Bool.{or-true}
 use Rattle.map_model.specs.declared.instance.NodeId.{NodeId}
 use Rattle.map_model.specs.declared.lines.MapLine.{MapLine}
 use Rattle.map_model.specs.Market.{Market, IsMarket, capacity_of, climb, key_of, limit_of, parent_of, path, pool_of}
-use Rattle.map_model.specs.Allocation.{IsOffer, counts_at, is_under, key_le, load}
+use Rattle.map_model.specs.Allocation.{IsOffer, is_under, key_le, load}
 use Rattle.map_model.proofs.Keys.{key_le_trans}
 use Rattle.map_model.proofs.Trees.{climb_longer, under_trans}
 use Rattle.best_laws.specs.Ahead.{IsRightMap}

@@ -1,18 +1,18 @@
 -- Where a group that gains leaves its last place, some group is next in line there, and gains as well.
-use Rattle.std.proofs.Common.{◌≡◌, ℕ, ◌+◌, ◌<◌, ◌≤◌, ◌==◌, Bool, true, false, not, ◌&&◌, List, [], ◌∷◌, length, ◌⊎◌, refl, sym, ap, ◌∙◌, subst, inl, inr, arith}
+use Rattle.std.proofs.Common.{◌≡◌, ℕ, ◌<◌, ◌≤◌, ◌==◌, Bool, true, false, not, ◌&&◌, List, [], ◌∷◌, length, ◌⊎◌, refl, sym, ◌∙◌, subst, inl, inr, arith}
 use Rattle.std.specs.List.{list_any}
-use Rattle.std.proofs.lemmas.Bool.{and_parts, and_from, cases_Bool, cases_eq, cases_lt, eq-eqb, eqb-true, false≢true, not-true, or_cases}
+use Rattle.std.proofs.lemmas.Bool.{and_parts, and_from, cases_Bool, eq-eqb, eqb-true, false≢true, not-true, or_cases}
 use Rattle.std.proofs.Math.Bool.{or-true}
 use Rattle.map_model.specs.declared.lines.MapLine.{MapLine}
-use Rattle.map_model.specs.Market.{Market, IsMarket, capacity_of, demand_of, key_of, limit_of, path, pool_of}
-use Rattle.map_model.specs.Allocation.{IsOffer, amount_at, counts_at, is_under, key_le, load, placed_through}
+use Rattle.map_model.specs.Market.{Market, IsMarket, capacity_of, key_of, limit_of, path, pool_of}
+use Rattle.map_model.specs.Allocation.{IsOffer, amount_at, counts_at, is_under, key_le, load}
 use Rattle.map_model.specs.Holding.{under_worse}
 use Rattle.map_model.proofs.Trees.{under_there, under_trans}
 use Rattle.best_laws.specs.Ahead.{IsRightMap}
 use Rattle.best_laws.proofs.Offers.{offer_one}
 use Rattle.circle_laws.specs.Circles.{IsInLine, IsNextInLine, MakesRoom}
 use Rattle.circle_laws.proofs.Totals.{total, total-among}
-use Rattle.circle_laws.proofs.Full.{IsHung, above_or_below, counted, held_by, held_by_less, is_below, offer_of, size_of, units_all}
+use Rattle.circle_laws.proofs.Full.{IsHung, above_or_below, counted, held_by, held_by_less, offer_of, size_of, units_all}
 use Rattle.circle_laws.proofs.Join.{IsGain, IsLoss, fits, gain_is, gained, joined, loss_is}
 use Rattle.circle_laws.proofs.Groups.{total_ge}
 use Rattle.circle_laws.proofs.First.{apart}

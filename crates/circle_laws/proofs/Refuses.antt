@@ -1,17 +1,17 @@
 -- What ours refuses to a group that gains nothing, the join refuses too.
-use Rattle.std.proofs.Common.{◌≡◌, ℕ, zero, suc, ◌+◌, ◌<◌, ◌≤◌, Bool, true, false, not, ◌&&◌, if◌then◌else◌, List, length, ◌⊎◌, refl, sym, ap, ◌∙◌, subst, inl, inr, arith}
+use Rattle.std.proofs.Common.{◌≡◌, ℕ, zero, suc, ◌+◌, ◌<◌, ◌≤◌, Bool, true, false, not, ◌&&◌, List, length, refl, sym, ap, ◌∙◌, subst, inl, inr, arith}
 use Rattle.std.proofs.lemmas.Bool.{and_parts, and_from, cases_Bool, cases_lt, false≢true, not-true}
 use Rattle.map_model.specs.declared.lines.MapLine.{MapLine}
 use Rattle.map_model.specs.Market.{Market, IsMarket, capacity_of, demand_of, key_of, limit_of, pool_of}
-use Rattle.map_model.specs.Allocation.{IsOffer, amount_at, counts_at, is_under, key_le, load, placed_through}
+use Rattle.map_model.specs.Allocation.{IsOffer, amount_at, counts_at, is_under, key_le, placed_through}
 use Rattle.map_model.specs.Holding.{under_worse}
 use Rattle.map_model.proofs.Keys.{key_le_itself, key_le_total, key_le_trans}
 use Rattle.map_model.proofs.Trees.{under_trans}
 use Rattle.best_laws.specs.Ahead.{IsRightMap}
 use Rattle.best_laws.proofs.Offers.{offer_one}
 use Rattle.circle_laws.proofs.Totals.{is_offer, is_offer-itself, is_offer-same, one_if, total, total-more, total-none, total-without, unit_of}
-use Rattle.circle_laws.proofs.Full.{IsBelow, IsBelow-from, IsHung, IsRefusedAt, above_or_below, counted, held_by, is_below, offer_of, ranked, refused_at, size_of, units_all}
-use Rattle.circle_laws.proofs.Join.{IsGain, IsLoss, fits, gained, joined, joined_is, refused_ours, refused_theirs}
+use Rattle.circle_laws.proofs.Full.{IsBelow-from, IsHung, IsRefusedAt, above_or_below, counted, held_by, is_below, offer_of, ranked, refused_at, size_of, units_all}
+use Rattle.circle_laws.proofs.Join.{IsGain, fits, gained, joined, joined_is, refused_ours, refused_theirs}
 use Rattle.circle_laws.proofs.Groups.{first_gain, total_ge}
 use Rattle.circle_laws.proofs.First.{is_lower, lower_order, no_first}
 
