@@ -85,8 +85,8 @@ served_session turns ask first before started after front then behind end places
       started,
       start,
       is_served turns ask first started after end places stream_end result (ends, as_many, are, whole) untouched asked answer (λ h. elim (source h) [ inl rose ↦ inl rose | inr rose ↦ inr (some rose) ])
-      (λ h k. let s = stays h k in (s.0, subst (λ (xs : List FeedTold). AllStand xs after.lent.more) (sym more) (subst (λ (xs : List FeedTold). AllStand (front ++ behind) xs) (sym past) (all_stand_more front then behind s.1))))
-      sink sink_stays (later.0, later.1, later.2, subst (λ (xs : List FeedTold). NoneFell xs after.lent.more) (sym more) (subst (λ (xs : List FeedTold). NoneFell (front ++ behind) xs) (sym past) (fell_more front then behind later.3))),
+          (λ h k. let s = stays h k in (s.0, subst (λ (xs : List FeedTold). AllStand xs after.lent.more) (sym more) (subst (λ (xs : List FeedTold). AllStand (front ++ behind) xs) (sym past) (all_stand_more front then behind s.1))))
+          sink sink_stays (later.0, later.1, later.2, subst (λ (xs : List FeedTold). NoneFell xs after.lent.more) (sym more) (subst (λ (xs : List FeedTold). NoneFell (front ++ behind) xs) (sym past) (fell_more front then behind later.3))),
     ))))
   where
     n : ℕ

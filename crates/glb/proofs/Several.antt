@@ -86,16 +86,16 @@ is_that ends.SinkFault h = absurd (cc)
 is_that ends.NoMemory h = absurd (cc)
 
 -- a feed whose feeder sent that its turns were taken gave as many pieces
-spent_given : (t : Plan) (turns : ℕ) (fed left : Option Fed) (sent : List What) → HasSent t turns fed left sent → list_any is_spent sent ≡ true → HasGiven turns fed left
-spent_given t turns fed left sent h some = go (unfold HasSent in h)
+spent_given : (t : Plan) (turns : ℕ) (fed fed' : Option Fed) (sent : List What) → HasSent t turns fed fed' sent → list_any is_spent sent ≡ true → HasGiven turns fed fed'
+spent_given t turns fed fed' sent h some = go (unfold HasSent in h)
   where
-    go : ((end : FeedEnd) × IsSentOf t turns end fed left sent) ⊎ ((sent ≡ what.End ends.NoMemory ∷ []) × (left ≡ fed)) → HasGiven turns fed left
+    go : ((end : FeedEnd) × IsSentOf t turns end fed fed' sent) ⊎ ((sent ≡ what.End ends.NoMemory ∷ []) × (fed' ≡ fed)) → HasGiven turns fed fed'
     go (inl (end, s)) =
-        let last : EndsLast (s.whats ++ what.End end ∷ []) = subst EndsLast s.sent_is (runs_end_last t turns fed left sent h) in
+        let last : EndsLast (s.whats ++ what.End end ∷ []) = subst EndsLast s.sent_is (runs_end_last t turns fed fed' sent h) in
         let is : end ≡ ends.Spent = is_that end (last_is is_spent s.whats (what.End end) spent_ends last (subst (λ (ws : List What). list_any is_spent ws ≡ true) s.sent_is some)) in
         given end is s
       where
-        given : (e : FeedEnd) → e ≡ ends.Spent → IsSentOf t turns e fed left sent → HasGiven turns fed left
+        given : (e : FeedEnd) → e ≡ ends.Spent → IsSentOf t turns e fed fed' sent → HasGiven turns fed fed'
         given ends.Spent is r = (r.run.0, r.run.1, r.run.2.0, r.run.2.1)
         given ends.Ended is r = absurd (cc)
         given ends.SourceFault is r = absurd (cc)
@@ -129,11 +129,11 @@ first_spent items h = go (has_one is_source_fault items) (has_one is_spent items
 among : (k n : ℕ) → (k < n) ⊎ (n ≤ k)
 among k zero = inr (omega arith)
 among zero (suc n) = inl (omega arith)
-among (suc k) (suc n) = elim (among k n) [ | inl h ↦ inl (omega (arith, h)) | inr h ↦ inr (omega (arith, h)) ]
+among (suc k) (suc n) = elim (among k n) [ inl h ↦ inl (omega (arith, h)) | inr h ↦ inr (omega (arith, h)) ]
 
 -- several feeds of which one took all its turns
 together_gave : (t : Plan) (turns : ℕ) (end : FeedEnd) (before after : List (Option Fed)) (start stop : Scene) → end ≡ ends.Spent → AreFedTogether t turns end before after start stop → AnyGave turns before after
-together_gave t turns end before after start stop is f = go (elim f.run.ended [ | inl h ↦ sym is ∙ h.0 | inr h ↦ let clash : ends.Spent ≡ ends.SinkFault = sym is ∙ h.0 in absurd (cc) ])
+together_gave t turns end before after start stop is f = go (elim f.run.ended [ inl h ↦ sym is ∙ h.0 | inr h ↦ let clash : ends.Spent ≡ ends.SinkFault = sym is ∙ h.0 in absurd (cc) ])
   where
     go : ends.Spent ≡ first_end f.items → AnyGave turns before after
     go h =
@@ -171,21 +171,21 @@ all_work_texts (x ∷ xs) c d texts h = all_work_texts xs h.0 d (works_texts (So
 
 -- what came of several feeds that ended
 pub together_worked : (t : Plan) (turns : ℕ) (before after : List (Option Fed)) (start stop : Scene) → (f : AreFedTogether t turns ends.Ended before after start stop) → AllWorked f.items start (record stop { pace = f.run.calls })
-together_worked t turns before after start stop f = elim f.run.ended [ | inl h ↦ h.1 | inr h ↦ let clash = h.0 in absurd (cc) ]
+together_worked t turns before after start stop f = elim f.run.ended [ inl h ↦ h.1 | inr h ↦ let clash = h.0 in absurd (cc) ]
 
 -- what a run over a feed gave that was spent
-given_of : (t : Plan) (turns : ℕ) (end : FeedEnd) (fed left : Option Fed) (before after : Scene) → end ≡ ends.Spent → IsFeed t turns end fed left before after → HasGiven turns fed left
-given_of t turns ends.Spent fed left before after is f = (f.run.0, f.run.1, f.run.2.0, f.run.2.1)
-given_of t turns ends.Ended fed left before after is f = absurd (cc)
-given_of t turns ends.SourceFault fed left before after is f = absurd (cc)
-given_of t turns ends.SinkFault fed left before after is f = absurd (cc)
-given_of t turns ends.NoMemory fed left before after is f = absurd (cc)
+given_of : (t : Plan) (turns : ℕ) (end : FeedEnd) (fed fed' : Option Fed) (before after : Scene) → end ≡ ends.Spent → IsFeed t turns end fed fed' before after → HasGiven turns fed fed'
+given_of t turns ends.Spent fed fed' before after is f = (f.run.0, f.run.1, f.run.2.0, f.run.2.1)
+given_of t turns ends.Ended fed fed' before after is f = absurd (cc)
+given_of t turns ends.SourceFault fed fed' before after is f = absurd (cc)
+given_of t turns ends.SinkFault fed fed' before after is f = absurd (cc)
+given_of t turns ends.NoMemory fed fed' before after is f = absurd (cc)
 
 -- where turns were spent, a feed took them
-pub fed_given : (t : Plan) (turns : ℕ) (end : FeedEnd) (fed left : Option Fed) (more after : List FeedTold) (start stop : Scene) → end ≡ ends.Spent
-    → AreFed t turns end fed more left after start stop → HasGiven turns fed left ⊎ AnyFeed (length more) (HasGivenMore turns) more after
-fed_given t turns end fed left [] after start stop is h = inl (given_of t turns end fed left start stop is h.0)
-fed_given t turns end fed left (m ∷ more) after start stop is h = elim (together_gave t turns end (fed ∷ map (λ (x : FeedTold). x.fed) (m ∷ more)) (left ∷ map (λ (x : FeedTold). x.fed) after) start stop is h) [
+pub fed_given : (t : Plan) (turns : ℕ) (end : FeedEnd) (fed fed' : Option Fed) (more after : List FeedTold) (start stop : Scene) → end ≡ ends.Spent
+    → AreFed t turns end fed more fed' after start stop → HasGiven turns fed fed' ⊎ AnyFeed (length more) (HasGivenMore turns) more after
+fed_given t turns end fed fed' [] after start stop is h = inl (given_of t turns end fed fed' start stop is h.0)
+fed_given t turns end fed fed' (m ∷ more) after start stop is h = elim (together_gave t turns end (fed ∷ map (λ (x : FeedTold). x.fed) (m ∷ more)) (fed' ∷ map (λ (x : FeedTold). x.fed) after) start stop is h) [
   | inl own ↦ inl own
   | inr others ↦ inr (any_of turns (m ∷ more) after others)
 ]

@@ -210,13 +210,7 @@ fn read_command(alloc: Global, line: Line<'_>) -> Result<Option<Order<'_>>, NoMe
             feed2,
             feed3,
             feed4,
-        } => Ok(read_serve(
-            topology,
-            listen,
-            workers,
-            tcp,
-            [feed2, feed3, feed4],
-        )),
+        } => Ok(read_serve(topology, listen, workers, tcp, [feed2, feed3, feed4])),
         Line::Large { groups } => Ok(read_large(groups)),
     }
 }

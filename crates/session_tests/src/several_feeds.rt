@@ -200,10 +200,7 @@ const ROWS: &[Row] = &[
         }],
         turns: 1,
         status: Status::Spent,
-        outputs: &[(
-            "2 show 0 placed 15 unplaced 1 full 2\n",
-            &[REGION_MAP],
-        )],
+        outputs: &[("2 show 0 placed 15 unplaced 1 full 2\n", &[REGION_MAP])],
         ..PLAIN
     },
 ];

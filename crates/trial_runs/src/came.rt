@@ -8,7 +8,8 @@ use glb::{Lane, Status, StreamLane, glb};
 use map_cell::{Door, MemDoor};
 use no_memory::NoMemory;
 use outside::{
-    Gate, MemGate, MemNamedSource, MemPace, MemPort, MemShelf, MemSink, MemSource, MemStreams, Pace, Port, Streams,
+    Gate, MemGate, MemNamedSource, MemPace, MemPort, MemShelf, MemSink, MemSource, MemStreams,
+    Pace, Port, Streams,
 };
 use std::alloc::Global;
 use std::sync::Wait;
