@@ -9,14 +9,15 @@ use Rattle.published_map.specs.Version.{IsVersion, Version}
 use Rattle.lane_model.specs.declared.ended.Ended.{Ended}
 use Rattle.lane_model.specs.Machine.{GoesOn}
 use Rattle.mapper.specs.Control.{IsNext}
-use Rattle.mapper.specs.Feeding.{IsFeed}
 use Rattle.mapper.specs.Scenes.{scene}
 use Rattle.drive.specs.Done.{IsDone, LaneTold, StreamLaneTold}
+use Rattle.drive.specs.Feeds.{AreFed, FeedTold}
 use Rattle.drive.specs.Streams.{AreStreamsDone}
 
--- what is told at one moment by all that a drive is lent: the feed, both outputs, the pace, the lanes, and that for conversations
+-- what is told at one moment by all that a drive is lent: the feed, the further ones, both outputs, the pace, the lanes, and that for conversations
 pub record Lent : Type 0 where
   pub feed : Option Fed
+  pub more : List FeedTold
   pub out : Option Written
   pub maps : Option Written
   pub pace : Option (List PaceCall)
@@ -33,11 +34,11 @@ AreDone turns first rest w [] before after = after ≡ before
 AreDone turns first rest w (e ∷ ends) (b ∷ before) (c ∷ after) = IsDone turns first rest w b c e × AreDone turns first rest (w + 1) ends before after
 AreDone turns first rest w (e ∷ ends) _ _ = ⊥
 
--- A drive from a first version on: the feed's run, whose versions go on from the first one, and the lanes over that history, the one for conversations behind the others.
+-- A drive from a first version on: the run of its feed, or of all feeds together, whose versions go on from the first one, and the lanes over that history, the one for conversations behind the others.
 pub record IsDriven (turns : ℕ) (first : Version) (end : FeedEnd) (ends : List Ended) (stream_end : Option Ended) (before after : Lent) : Type 0 where
   pub rest : List Version
   pub newest : Version
-  pub feed : IsFeed first.plan turns end before.feed after.feed (scene first (first ∷ []) before.out before.maps before.pace) (scene newest (first ∷ rest) after.out after.maps after.pace)
+  pub feed : AreFed first.plan turns end before.feed before.more after.feed after.more (scene first (first ∷ []) before.out before.maps before.pace) (scene newest (first ∷ rest) after.out after.maps after.pace)
   pub goes_on : GoesOn Succeeds (first ∷ []) rest
   pub lanes : AreDone turns first rest 0 ends before.lanes after.lanes
   pub stream : AreStreamsDone turns first rest (length ends) stream_end before.stream after.stream

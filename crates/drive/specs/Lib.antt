@@ -3,6 +3,7 @@ pub mod AllDone
 pub mod Closing
 pub mod Done
 pub mod Streams
+pub mod Feeds
 pub mod Driven
 pub mod Fed
 pub mod Laws
