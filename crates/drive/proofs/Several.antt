@@ -1,5 +1,5 @@
 -- Several feeds: what their feeders sent was worked, all of it, and what the end of a run says of each of them.
-use Rattle.std.proofs.Common.{◌≡◌, ◌≢◌, ◌⊎◌, inl, inr, ℕ, zero, suc, ◌+◌, ◌<◌, ◌≤◌, ◌==◌, ◌||◌, Bool, true, false, true≢false, if◌then◌else◌, cond, List, [], ◌∷◌, ◌++◌, All, map, length, Option, eq-eqb, refl, ap, sym, subst, ◌∙◌, arith}
+use Rattle.std.proofs.Common.{◌≡◌, ◌≢◌, ◌⊎◌, inl, inr, ℕ, zero, suc, ◌+◌, ◌<◌, ◌≤◌, ◌==◌, ◌||◌, Bool, true, false, true≢false, if◌then◌else◌, cond, List, [], ◌∷◌, ◌++◌, All, map, length, Option, eq-eqb, refl, ap, sym, subst, ◌∙◌, append_assoc, arith}
 use Rattle.std.proofs.lemmas.Bool.{cases_lt}
 use Rattle.std.specs.List.{list_any, range_with_len}
 use Rattle.std.proofs.lemmas.List.{length-map}
@@ -51,7 +51,17 @@ tells fed faults xs = map (feed_told fed faults) xs
 abbrev pub feds : {T : Type 0} → (T → Option Fed) → (T → ℕ) → List T → List (Option Fed)
 feds fed faults xs = map (λ (x : FeedTold). x.fed) (tells fed faults xs)
 
+all_cons : {A : Type 0} (P : A → Type 0) (x : A) (xs : List A) → P x → All P xs → All P (x ∷ xs)
+all_cons P x xs p q zero d l = p
+all_cons P x xs p q (suc k) d l = q k d (omega (arith, l))
+
+-- none of a queue's feeders has sent anything
+pub fresh_all : (queue : TableId) (k n : ℕ) → All (λ (f : FeederState). f.sent ≡ []) (map (fresh_feeder queue) (range_with_len k n))
+fresh_all queue k zero = λ i d l. absurd (omega (arith, l))
+fresh_all queue k (suc n) = all_cons (λ (f : FeederState). f.sent ≡ []) (fresh_feeder queue k) (map (fresh_feeder queue) (range_with_len (k + 1) n)) refl (fresh_all queue (k + 1) n)
+
 module _ {T : Type 0} (t : Plan) (turns : ℕ) (fed : T → Option Fed) (faults : T → ℕ) where
+  -- each has its number
   pub numbered : (queue : TableId) (k n : ℕ) (xs ys : List T) (fs gs : List FeederState) → fs ≡ map (fresh_feeder queue) (range_with_len k n) → AllRan (Reads t turns fed faults) xs ys fs gs → AreNumbered k gs
   numbered queue k zero xs ys [] [] e r = tt
   numbered queue k zero xs ys [] (g ∷ gs) e r = none xs ys r
@@ -72,6 +82,24 @@ module _ {T : Type 0} (t : Plan) (turns : ℕ) (fed : T → Option Fed) (faults 
       let rest : fs ≡ map (fresh_feeder queue) (range_with_len (k + 1) n) = cc e in
       (r.0.same.1 ∙ ap (λ (s : FeederState). s.feeder) first, numbered queue (k + 1) n xs ys fs gs rest r.1)
 
+  -- they are of one queue
+  pub queues : (queue : TableId) (k n : ℕ) (xs ys : List T) (fs gs : List FeederState) → fs ≡ map (fresh_feeder queue) (range_with_len k n) → AllRan (Reads t turns fed faults) xs ys fs gs → All (λ (g : FeederState). g.queue ≡ queue) gs
+  queues queue k n xs ys [] [] e r = λ i d l. absurd (omega (arith, l))
+  queues queue k n [] [] [] (g ∷ gs) e r = absurd r
+  queues queue k n [] (y ∷ ys) [] (g ∷ gs) e r = absurd r
+  queues queue k n (x ∷ xs) [] [] (g ∷ gs) e r = absurd r
+  queues queue k n (x ∷ xs) (y ∷ ys) [] (g ∷ gs) e r = absurd r
+  queues queue k zero xs ys (f ∷ fs) gs e r = absurd cc
+  queues queue k (suc n) [] [] (f ∷ fs) gs e r = absurd r
+  queues queue k (suc n) [] (y ∷ ys) (f ∷ fs) gs e r = absurd r
+  queues queue k (suc n) (x ∷ xs) [] (f ∷ fs) gs e r = absurd r
+  queues queue k (suc n) (x ∷ xs) (y ∷ ys) (f ∷ fs) [] e r = absurd r
+  queues queue k (suc n) (x ∷ xs) (y ∷ ys) (f ∷ fs) (g ∷ gs) e r =
+      let first : f ≡ fresh_feeder queue k = cc e in
+      let rest : fs ≡ map (fresh_feeder queue) (range_with_len (k + 1) n) = cc e in
+      all_cons (λ (x : FeederState). x.queue ≡ queue) g gs (r.0.same.0 ∙ ap (λ (s : FeederState). s.queue) first) (queues queue (k + 1) n xs ys fs gs rest r.1)
+
+  -- what each sent is told of it by its number
   pub all_sent : (k : ℕ) (sent : ℕ → List What) (xs ys : List T) (fs gs : List FeederState) → ((i : ℕ) → sent (k + i) ≡ sent_at gs i) → AllRan (Reads t turns fed faults) xs ys fs gs → AreSent t turns k sent (feds fed faults xs) (feds fed faults ys)
   all_sent k sent [] [] [] [] same r = tt
   all_sent k sent [] [] [] (g ∷ gs) same r = absurd r
@@ -87,6 +115,7 @@ module _ {T : Type 0} (t : Plan) (turns : ℕ) (fed : T → Option Fed) (faults 
         all_sent (k + 1) sent xs ys fs gs (λ i. let n : k + 1 + i ≡ k + suc i = omega arith in ap sent n ∙ same (suc i)) r.1,
       )
 
+  -- of each a beginning was taken
   pub all_begun : (taken : List Item) (xs ys : List T) (fs gs : List FeederState) → All (λ (g : FeederState). IsPrefix (sent_by g.feeder taken) g.sent) gs → AllRan (Reads t turns fed faults) xs ys fs gs → AreBegun taken gs
   all_begun taken [] [] [] [] begun r = tt
   all_begun taken [] [] [] (g ∷ gs) begun r = absurd r
@@ -98,6 +127,7 @@ module _ {T : Type 0} (t : Plan) (turns : ℕ) (fed : T → Option Fed) (faults 
   all_begun taken (x ∷ xs) (y ∷ ys) (f ∷ fs) (g ∷ gs) begun r =
       ((begun 0 g (omega arith), runs_end_last t turns (fed x) (fed y) g.sent r.0.sent), all_begun taken xs ys fs gs (λ k d l. begun (suc k) d (omega (arith, l))) r.1)
 
+  -- no count fell
   pub none_fell : (xs ys : List T) (fs gs : List FeederState) → AllRan (Reads t turns fed faults) xs ys fs gs → NoneFell (tells fed faults xs) (tells fed faults ys)
   none_fell [] [] fs gs r = refl
   none_fell [] (y ∷ ys) fs gs r = absurd r
@@ -106,6 +136,7 @@ module _ {T : Type 0} (t : Plan) (turns : ℕ) (fed : T → Option Fed) (faults 
   none_fell (x ∷ xs) (y ∷ ys) (f ∷ fs) [] r = absurd r
   none_fell (x ∷ xs) (y ∷ ys) (f ∷ fs) (g ∷ gs) r = (r.0.later, none_fell xs ys fs gs r.1)
 
+  -- each feed has its feeder
   pub lengths : (xs ys : List T) (fs gs : List FeederState) → AllRan (Reads t turns fed faults) xs ys fs gs → length gs ≡ length xs
   lengths [] [] [] [] r = refl
   lengths [] [] [] (g ∷ gs) r = absurd r
@@ -157,7 +188,7 @@ place taken k (g ∷ gs) n b (suc i) l =
 
 -- all that feeders sent was taken
 pub all_whole : (groups nodes : ℕ) (taken : List Item) (gs : List FeederState) → AreTaken groups nodes (length gs) taken → AreNumbered 0 gs → AreBegun taken gs → ends_in taken ≡ length gs → (k : ℕ) → k < length gs → sent_by k taken ≡ sent_at gs k
-all_whole groups nodes taken gs are n b all = all_is_taken groups nodes (length gs) taken (sent_at gs) are (λ k l. place taken 0 gs n b k l) all
+all_whole groups nodes taken gs are n b all = all_is_taken groups nodes (length gs) taken (sent_at gs) are (λ k l. let r = place taken 0 gs n b k l in let z : 0 + k ≡ k = omega arith in (subst (λ (j : ℕ). IsPrefix (sent_by j taken) (sent_at gs k)) z r.0, r.1)) all
 
 -- a fault of a source among what was sent
 abbrev pub has_fault : List What → Bool
@@ -192,19 +223,19 @@ is_fault (what.End ends.NoMemory) e = absurd (true≢false (sym e))
 -- among those of one feeder it is among all
 any_in : (k : ℕ) (items : List Item) → has_fault (sent_by k items) ≡ true → has_one is_source_fault items ≡ true
 any_in k [] e = e
-any_in k (x ∷ xs) e = go (x.feeder == k) e
+any_in k (x ∷ xs) e = go (any_in k xs) (x.feeder == k) e
   where
-    first : (is_source_fault x.what ≡ true) ⊎ (has_fault (sent_by k xs) ≡ true) → has_one is_source_fault (x ∷ xs) ≡ true
-    first (inl h) = or_left (is_source_fault x.what) (has_one is_source_fault xs) h
-    first (inr h) = or_right (is_source_fault x.what) (has_one is_source_fault xs) (any_in k xs h)
-    go : (b : Bool) → has_fault (map (λ (y : Item). y.what) (cond b (x ∷ only k xs) (only k xs))) ≡ true → has_one is_source_fault (x ∷ xs) ≡ true
-    go true h = first (or_one (is_source_fault x.what) (has_fault (sent_by k xs)) h)
-    go false h = or_right (is_source_fault x.what) (has_one is_source_fault xs) (any_in k xs h)
+    first : (has_fault (sent_by k xs) ≡ true → has_one is_source_fault xs ≡ true) → (is_source_fault x.what ≡ true) ⊎ (has_fault (sent_by k xs) ≡ true) → has_one is_source_fault (x ∷ xs) ≡ true
+    first rest (inl h) = or_left (is_source_fault x.what) (has_one is_source_fault xs) h
+    first rest (inr h) = or_right (is_source_fault x.what) (has_one is_source_fault xs) (rest h)
+    go : (has_fault (sent_by k xs) ≡ true → has_one is_source_fault xs ≡ true) → (b : Bool) → has_fault (map (λ (y : Item). y.what) (cond b (x ∷ only k xs) (only k xs))) ≡ true → has_one is_source_fault (x ∷ xs) ≡ true
+    go rest true h = first rest (or_one (is_source_fault x.what) (has_fault (sent_by k xs)) h)
+    go rest false h = or_right (is_source_fault x.what) (has_one is_source_fault xs) (rest h)
 
 -- among all it is among those of some feeder
 one_in : (items : List Item) → has_one is_source_fault items ≡ true → (k : ℕ) × (has_fault (sent_by k items) ≡ true)
 one_in [] e = absurd (true≢false (sym e))
-one_in (x ∷ xs) e = pick (or_one (is_source_fault x.what) (has_one is_source_fault xs) e)
+one_in (x ∷ xs) e = pick (one_in xs) (or_one (is_source_fault x.what) (has_one is_source_fault xs) e)
   where
     here : (b : Bool) → b ≡ true → is_source_fault x.what ≡ true → has_fault (map (λ (y : Item). y.what) (cond b (x ∷ only x.feeder xs) (only x.feeder xs))) ≡ true
     here true same h = or_left (is_source_fault x.what) (has_fault (sent_by x.feeder xs)) h
@@ -212,9 +243,9 @@ one_in (x ∷ xs) e = pick (or_one (is_source_fault x.what) (has_one is_source_f
     later : (k : ℕ) (b : Bool) → has_fault (sent_by k xs) ≡ true → has_fault (map (λ (y : Item). y.what) (cond b (x ∷ only k xs) (only k xs))) ≡ true
     later k true h = or_right (is_source_fault x.what) (has_fault (sent_by k xs)) h
     later k false h = h
-    pick : (is_source_fault x.what ≡ true) ⊎ (has_one is_source_fault xs ≡ true) → (k : ℕ) × (has_fault (sent_by k (x ∷ xs)) ≡ true)
-    pick (inl h) = (x.feeder, here (x.feeder == x.feeder) (eq-eqb x.feeder x.feeder refl) h)
-    pick (inr h) = let r = one_in xs h in (r.0, later r.0 (x.feeder == r.0) r.1)
+    pick : (has_one is_source_fault xs ≡ true → (k : ℕ) × (has_fault (sent_by k xs) ≡ true)) → (is_source_fault x.what ≡ true) ⊎ (has_one is_source_fault xs ≡ true) → (k : ℕ) × (has_fault (sent_by k (x ∷ xs)) ≡ true)
+    pick rest (inl h) = (x.feeder, here (x.feeder == x.feeder) (eq-eqb x.feeder x.feeder refl) h)
+    pick rest (inr h) = let r = rest h in (r.0, later r.0 (x.feeder == r.0) r.1)
 
 -- what has its end last has no fault of a source ahead of that
 fault_last : (ws : List What) → EndsLast ws → has_fault ws ≡ true → EndsWith ws ends.SourceFault
@@ -224,11 +255,11 @@ fault_last (w ∷ []) h e = one (or_one (is_source_fault w) false e)
     one : (is_source_fault w ≡ true) ⊎ (false ≡ true) → EndsWith (w ∷ []) ends.SourceFault
     one (inl f) = ([], ap (λ (v : What). v ∷ []) (is_fault w f))
     one (inr f) = absurd (true≢false (sym f))
-fault_last (w ∷ v ∷ ws) h e = one (or_one (is_source_fault w) (has_fault (v ∷ ws)) e)
+fault_last (w ∷ v ∷ ws) h e = one (fault_last (v ∷ ws) h.1) (or_one (is_source_fault w) (has_fault (v ∷ ws)) e)
   where
-    one : (is_source_fault w ≡ true) ⊎ (has_fault (v ∷ ws) ≡ true) → EndsWith (w ∷ v ∷ ws) ends.SourceFault
-    one (inl f) = absurd (true≢false (sym (ap is_end (is_fault w f)) ∙ h.0))
-    one (inr f) = let r = fault_last (v ∷ ws) h.1 f in (w ∷ r.0, ap (λ (us : List What). w ∷ us) r.1)
+    one : (has_fault (v ∷ ws) ≡ true → EndsWith (v ∷ ws) ends.SourceFault) → (is_source_fault w ≡ true) ⊎ (has_fault (v ∷ ws) ≡ true) → EndsWith (w ∷ v ∷ ws) ends.SourceFault
+    one rest (inl f) = absurd (true≢false (sym (ap is_end (is_fault w f)) ∙ h.0))
+    one rest (inr f) = let r = rest f in (w ∷ r.0, ap (λ (us : List What). w ∷ us) r.1)
 
 fault_of : (ahead : List What) → has_fault (ahead ++ what.End ends.SourceFault ∷ []) ≡ true
 fault_of [] = refl
@@ -310,7 +341,7 @@ module _ {T : Type 0} (t : Plan) (turns : ℕ) (fed : T → Option Fed) (faults 
   pub together : (end : FeedEnd) (start stop : Scene) → AreFeeds (1 + length xs) end taken start stop → (end ≢ ends.SinkFault → HasMerged taken start stop) → AreFedTogether t turns end (a ∷ feds fed faults xs) (b ∷ feds fed faults ys) start stop
   together end start stop run merged =
       let w = all_of in
-      let told : length (feds fed faults xs) ≡ length xs = length-map (λ (x : FeedTold). x.fed) (tells fed faults xs) ∙ length-map (feed_told fed faults) xs in
+      let told : length (feds fed faults xs) ≡ length xs = length-map _ _ ∙ length-map _ _ in
       let count : 1 + length xs ≡ length (a ∷ feds fed faults xs) = omega (arith, told) in record {
         sent = sent_at (g ∷ gs);
         items = taken;
@@ -344,3 +375,14 @@ are_fed t turns end feed feed_after (m ∷ more) more_after start stop some f = 
 -- an opened queue, whose first feeder stands by itself
 pub parted : (queue : TableId) (n : ℕ) (items : List FeederState) → items ≡ map (fresh_feeder queue) (range_with_len 0 (1 + n)) → items ≡ fresh_feeder queue 0 ∷ map (fresh_feeder queue) (range_with_len 1 n)
 parted queue n items e = let same : 1 + n ≡ suc n = omega arith in e ∙ ap (λ (m : ℕ). map (fresh_feeder queue) (range_with_len 0 m)) same
+
+-- a beginning of what it sent was taken
+abbrev pub Begins : List Item → FeederState → Type 0
+Begins taken f = IsPrefix (sent_by f.feeder taken) f.sent
+
+-- one more was taken back, and all
+pub back_more : (taken : List Item) (all left front done : List FeederState) (f : FeederState) → all ≡ left ++ done → left ≡ front ++ f ∷ [] → Begins taken f → All (Begins taken) done → (more : List FeederState) × (all ≡ front ++ more) × All (Begins taken) more
+back_more taken all left front done f e w b h = (f ∷ done, e ∙ ap (λ (l : List FeederState). l ++ done) w ∙ append_assoc front (f ∷ []) done, all_cons (Begins taken) f done b h)
+
+pub back_all : (taken : List Item) (all left done : List FeederState) → all ≡ left ++ done → left ≡ [] → All (Begins taken) done → All (Begins taken) all
+back_all taken all left done e none h = subst (λ (l : List FeederState). All (Begins taken) l) (sym (e ∙ ap (λ (l : List FeederState). l ++ done) none)) h

@@ -81,10 +81,7 @@ const ROWS: [Row; 5] = [
     },
     Row {
         feed: FIRST,
-        more: &[
-            b"",
-            b"\n\n\n\n\n\n\n\n\n\n\n\n\n\n\n\n\n\n\n\n\n\n\n\n\n\n\n\n\n\n\n\n\n\n\n\n\n\n\n\n\n\n\n\n\n\n\n\n\n",
-        ],
+        more: &[b"", b"demand g1 1 demand g1 2 demand g1 3 demand g1 4 demand"],
         reads_fail: &[],
         out_fails: &[],
         turns: 3,
@@ -252,27 +249,6 @@ fn first_wrong<R: Threads + Wait + Sync>(rt: &R, alloc: Global, rows: &[Row]) ->
         }
     }
     None
-}
-
-#[test]
-fn debugging(rt: HostRuntime) -> Result<(), Fail> {
-    let came = came_of(&rt, rt.alloc(), &ROWS[2]).expect(&rt, "came");
-    assert_eq!(rt; came.maps.bytes(), b"".as_slice());
-    Ok(())
-}
-
-#[test]
-fn debugging_end(rt: HostRuntime) -> Result<(), Fail> {
-    let came = came_of(&rt, rt.alloc(), &ROWS[2]).expect(&rt, "came");
-    assert_eq!(rt; came.end, FeedEnd::NoMemory);
-    Ok(())
-}
-
-#[test]
-fn debugging_out(rt: HostRuntime) -> Result<(), Fail> {
-    let came = came_of(&rt, rt.alloc(), &ROWS[2]).expect(&rt, "came");
-    assert_eq!(rt; came.out.bytes(), b"".as_slice());
-    Ok(())
 }
 
 #[test]
