@@ -13,7 +13,7 @@ use Rattle.demand_feed.specs.declared.run.FeedEnd.TheVariants as ends
 use Rattle.demand_feed.specs.declared.sent.Item.{Item}
 use Rattle.demand_feed.specs.declared.sent.What.{What}
 use Rattle.demand_feed.specs.declared.sent.What.TheVariants as what
-use Rattle.feed_queue.specs.Ends.{FeederState, fresh_feeder}
+use Rattle.feed_queue.specs.Ends.{FeederState, TakerState, fresh_feeder}
 use Rattle.feed_queue.specs.Feeder.{EndsWith, HasSent}
 use Rattle.feed_queue.specs.Items.{AreTaken, only, sent_by}
 use Rattle.feed_queue.specs.Whole.{EndsLast, ends_in, is_end}
@@ -386,3 +386,33 @@ back_more taken all left front done f e w b h = (f ∷ done, e ∙ ap (λ (l : L
 
 pub back_all : (taken : List Item) (all left done : List FeederState) → all ≡ left ++ done → left ≡ [] → All (Begins taken) done → All (Begins taken) all
 back_all taken all left done e none h = subst (λ (l : List FeederState). All (Begins taken) l) (sym (e ∙ ap (λ (l : List FeederState). l ++ done) none)) h
+
+-- what is said of several feeds behind their run
+pub record AreRun (t : Plan) (turns : ℕ) (end : FeedEnd) (a b : Option Fed) (i j : ℕ) (before after : List FeedTold) (start stop : Scene) : Type 0 where
+  pub fed : AreFedTogether t turns end (a ∷ map (λ (x : FeedTold). x.fed) before) (b ∷ map (λ (x : FeedTold). x.fed) after) start stop
+  pub source : end ≡ ends.SourceFault → Rose i j ⊎ AnyRose before after
+  pub stays : end ≢ ends.SourceFault → end ≢ ends.SinkFault → (j ≡ i) × AllStand before after
+  pub later : (i ≤ j) × NoneFell before after
+
+-- from what was lent ahead of it, and what was told by who took all and was given the feeders back
+pub several : {T : Type 0} (t p : Plan) (turns : ℕ) (fed : T → Option Fed) (faults : T → ℕ) (groups nodes : ℕ) (a b : Option Fed) (i j : ℕ) (f g : FeederState) (xs ys : List T) (fs gs : List FeederState) (opened given now : TakerState) (end : FeedEnd) (start stop : Scene)
+    → t ≡ p → given ≡ now → now.feeders ≡ opened.feeders → opened.feeders ≡ 1 + length xs → f ≡ fresh_feeder opened.queue 0 → fs ≡ map (fresh_feeder opened.queue) (range_with_len 1 (length xs))
+    → IsRead t turns a b i j f g → AllRan (Reads t turns fed faults) xs ys fs gs → AreTaken groups nodes given.feeders given.taken → Begins given.taken g → All (Begins given.taken) gs
+    → AreFeeds opened.feeders end now.taken start stop → (end ≢ ends.SinkFault → HasMerged now.taken start stop) → AreRun p turns end a b i j (tells fed faults xs) (tells fed faults ys) start stop
+several {T = T} t p turns fed faults groups nodes a b i j f g xs ys fs gs opened given now end start stop plan same count size first_is fresh first read are began begun run merged =
+    let are' : AreTaken groups nodes (1 + length xs) now.taken = subst (λ (n : ℕ). AreTaken groups nodes n now.taken) (count ∙ size) (subst (λ (x : TakerState). AreTaken groups nodes x.feeders x.taken) same are) in
+    let began' : IsPrefix (sent_by g.feeder now.taken) g.sent = subst (λ (x : TakerState). Begins x.taken g) same began in
+    let begun' : All (λ (x : FeederState). IsPrefix (sent_by x.feeder now.taken) x.sent) gs = subst (λ (x : TakerState). All (Begins x.taken) gs) same begun in
+    let run' : AreFeeds (1 + length xs) end now.taken start stop = subst (λ (n : ℕ). AreFeeds n end now.taken start stop) size run in
+    let all = together t turns fed faults groups nodes opened.queue a b i j f g xs ys fs gs now.taken first first_is read fresh are' began' begun' run'.all end start stop run' merged in
+    let all' = subst (λ (x : Plan). AreFedTogether x turns end (a ∷ feds fed faults xs) (b ∷ feds fed faults ys) start stop) plan all in record {
+      fed = all';
+      source = source_rose t turns fed faults groups nodes opened.queue a b i j f g xs ys fs gs now.taken first first_is read fresh are' began' begun' run'.all end start stop run';
+      stays = sources_stand t turns fed faults groups nodes opened.queue a b i j f g xs ys fs gs now.taken first first_is read fresh are' began' begun' run'.all end start stop run';
+      later = (first.later, none_fell t turns fed faults xs ys fs gs read);
+    }
+
+-- as many are told of as there are
+pub some_told : {T : Type 0} (tell : T → FeedTold) (xs : List T) → xs ≢ [] → map tell xs ≢ []
+some_told tell [] some e = some refl
+some_told tell (x ∷ xs) some e = cc
