@@ -37,6 +37,9 @@ returns-clause-driven g c =
     let s = c.serve_several.ensures in
     let opened = sole_history c.args.mapper.history c.args.mapper.newest c.newest.ensures.last c.requires.serial in
     let size : length c.serve_several.new.works.lanes.items ≡ vec_len c.args.prepared.works.lanes = search rules in
+    let out : c.out-1.given.0 ≡ c.serve_several.new.side.out.now = search rules in
+    let maps : c.maps-1.given.0 ≡ c.serve_several.new.side.maps.now = search rules in
+    let pace : c.pace-1.given.0 ≡ c.serve_several.new.side.pace.now = search rules in
     let driven : IsDriven c.args.line.desk.turns c.args.mapper.newest c.serve_several.new.side.end (map (λ w. w.ended) c.serve_several.new.works.lanes.items) c.end_of.result
     (lent_of g.S.Source.told (feed_told g.T.Source.told g.T.Source.faults) g.K.Sink.told g.M.Pace.told (lane_told g.P.Port.told g.P.Port.faults g.G.Gate.told g.D.Door.asked g.D.Door.looks g.D.Door.greatest g.D.Door.faults) (stream_told g.Q.Streams.told g.Q.Streams.faults g.G.Gate.told g.D.Door.asked g.D.Door.looks g.D.Door.greatest g.D.Door.faults) c.args.feed.now c.args.more.now c.args.out.now c.args.maps.now c.args.pace.now c.args.lanes.now c.args.stream.now)
     (lent_of g.S.Source.told (feed_told g.T.Source.told g.T.Source.faults) g.K.Sink.told g.M.Pace.told (lane_told g.P.Port.told g.P.Port.faults g.G.Gate.told g.D.Door.asked g.D.Door.looks g.D.Door.greatest g.D.Door.faults) (stream_told g.Q.Streams.told g.Q.Streams.faults g.G.Gate.told g.D.Door.asked g.D.Door.looks g.D.Door.greatest g.D.Door.faults) c.serve_several.new.feed c.serve_several.new.more c.serve_several.new.side.out.now c.serve_several.new.side.maps.now c.serve_several.new.side.pace.now (c.serve_several.new.lanes ++ c.split_at_mut-served.result.1.now) c.serve_several.new.stream) =
@@ -49,11 +52,14 @@ returns-clause-driven g c =
       goes_on = feeds_go_on _ _ _ _ _ c.args.mapper.newest s.done.0 s.worked.run refl opened s.done.1 s.history;
       lanes = are_done_in (lane_told g.P.Port.told g.P.Port.faults g.G.Gate.told g.D.Door.asked g.D.Door.looks g.D.Door.greatest g.D.Door.faults) (λ w. w.ended) _ _ _ _ _ _ _ _ c.split_at_mut-served.ensures.value s.done.2;
       stream = ended_as _ _ _ _ _ _ _ _ _ s.done.3 (length-map _ _ ∙ search rules) c.end_of.ensures;
-    } in (
+    } in
+    let whole : IsDriven c.args.line.desk.turns c.args.mapper.newest c.serve_several.new.side.end (map (λ w. w.ended) c.serve_several.new.works.lanes.items) c.end_of.result
+    (lent_of g.S.Source.told (feed_told g.T.Source.told g.T.Source.faults) g.K.Sink.told g.M.Pace.told (lane_told g.P.Port.told g.P.Port.faults g.G.Gate.told g.D.Door.asked g.D.Door.looks g.D.Door.greatest g.D.Door.faults) (stream_told g.Q.Streams.told g.Q.Streams.faults g.G.Gate.told g.D.Door.asked g.D.Door.looks g.D.Door.greatest g.D.Door.faults) c.args.feed.now c.args.more.now c.args.out.now c.args.maps.now c.args.pace.now c.args.lanes.now c.args.stream.now)
+    (lent_of g.S.Source.told (feed_told g.T.Source.told g.T.Source.faults) g.K.Sink.told g.M.Pace.told (lane_told g.P.Port.told g.P.Port.faults g.G.Gate.told g.D.Door.asked g.D.Door.looks g.D.Door.greatest g.D.Door.faults) (stream_told g.Q.Streams.told g.Q.Streams.faults g.G.Gate.told g.D.Door.asked g.D.Door.looks g.D.Door.greatest g.D.Door.faults) c.serve_several.new.feed c.serve_several.new.more c.out-1.given.0 c.maps-1.given.0 c.pace-1.given.0 (c.serve_several.new.lanes ++ c.split_at_mut-served.result.1.now) c.serve_several.new.stream) = rw (out, maps, pace) driven in (
       map (λ w. w.ended) c.serve_several.new.works.lanes.items,
       length-map _ _ ∙ size,
       c.ends_of.ensures,
-      search (rules, driven),
+      whole,
     )
 
 pub returns-clause-later : goal.returns-clause-later
