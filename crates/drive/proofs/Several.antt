@@ -416,3 +416,8 @@ several {T = T} t p turns fed faults groups nodes a b i j f g xs ys fs gs opened
 pub some_told : {T : Type 0} (tell : T → FeedTold) (xs : List T) → xs ≢ [] → map tell xs ≢ []
 some_told tell [] some e = some refl
 some_told tell (x ∷ xs) some e = cc
+
+-- what is left alone
+pub all_same : (xs : List FeedTold) → NoneFell xs xs
+all_same [] = refl
+all_same (x ∷ xs) = (omega arith, all_same xs)

@@ -81,7 +81,10 @@ const ROWS: [Row; 5] = [
     },
     Row {
         feed: FIRST,
-        more: &[b"", b"demand g1 1 demand g1 2 demand g1 3 demand g1 4 demand"],
+        more: &[
+            b"",
+            b"demand g1 1 demand g1 2 demand g1 3 demand g1 4 demand",
+        ],
         reads_fail: &[],
         out_fails: &[],
         turns: 3,
@@ -122,18 +125,18 @@ fn feed_of(alloc: Global, bytes: &[u8], fails: &[u64]) -> Option<MemSource> {
     MemSource::new(alloc, bytes, sizes, fails).ok()
 }
 
-/// The further feeds of a row, of the last of which some reads fail.
+/// The further feeds of a row, three at most, of the last of which some reads fail.
 fn more_of(alloc: Global, row: &Row) -> Option<Vec<MemSource>>
     ensures { IfSome result (λ v. length v.items ≤ 3) }
 {
-    let mut more = Vec::with_capacity(alloc, 3).ok()?;
-    for place in 0..row.more.len().min(3) {
-        let fails = if place + 1 == row.more.len() {
-            row.reads_fail
-        } else {
-            &[]
-        };
-        more.push_reserved(feed_of(alloc, row.more[place], fails)?);
+    let mut more = Vec::new(alloc);
+    for (place, bytes) in row.more.iter().enumerate() {
+        let is_last = place.saturating_add(1) == row.more.len();
+        let fails = if is_last { row.reads_fail } else { &[] };
+        more.push(feed_of(alloc, bytes, fails)?).ok()?;
+    }
+    if more.len() > 3 {
+        return None;
     }
     Some(more)
 }
