@@ -12,10 +12,16 @@ use Rattle.published_map.specs.Version.{IsVersion, Version}
 use Rattle.map_cell.specs.Histories.{IsHistory}
 use Rattle.lane_model.specs.Histories.{Follows}
 use Rattle.lane_model.specs.Machine.{GoesOn}
+use Rattle.demand_feed.specs.declared.sent.Item.{Item}
+use Rattle.demand_feed.specs.declared.sent.What.{What}
+use Rattle.demand_feed.specs.declared.sent.What.TheVariants as what
 use Rattle.mapper.specs.Control.{AllCome, Comes, Course, IsNext, start}
 use Rattle.mapper.specs.Feeding.{AllCame, HasEnded, IsFeed, WasCut}
+use Rattle.mapper.specs.Feeds.{AllWorked, AreFeeds, HaveEnded, WorkWasCut}
+use Rattle.mapper.specs.Items.{AllWork, WorksAs}
 use Rattle.mapper.specs.Scenes.{Scene, scene}
 use Rattle.drive.specs.Driven.{Succeeds}
+use Rattle.drive.specs.Feeds.{AreFedTogether}
 
 -- each version comes of the one before it, from an old one to the last
 abbrev pub Chain : Version → List Version → Version → Type 0
@@ -78,6 +84,33 @@ ended_grew NoMemory t turns pieces fed fed' before after p = absurd p
 pub feed_grew : (t : Plan) (turns : ℕ) (end : FeedEnd) (fed fed' : Option Fed) (before after : Scene) → IsFeed t turns end fed fed' before after → Grew before after
 feed_grew t turns end fed fed' before after f = ended_grew end t turns f.run.0 fed fed' before (record after { pace = f.calls }) f.run.2
 
+-- the same of what was taken of several feeders
+works_went : (mark : Option ℕ) (w : What) (c d : Course) → WorksAs mark w c d → Went c d
+works_went mark (what.Refused number why) c d is = stays c d (ap (λ x. x.versions) is) (ap (λ x. x.newest) is)
+works_went mark (what.Commit []) c d is = stays c d (ap (λ x. x.versions) is) (ap (λ x. x.newest) is)
+works_went mark (what.Commit (change ∷ changes)) c d (inl p) = (p.0 ∷ [], ap (λ x. x.versions) p.2, ((change ∷ changes, p.1), ap (λ x. x.newest) p.2))
+works_went mark (what.Commit (change ∷ changes)) c d (inr is) = stays c d (ap (λ x. x.versions) is) (ap (λ x. x.newest) is)
+works_went mark what.Memory c d is = stays c d (ap (λ x. x.versions) is) (ap (λ x. x.newest) is)
+works_went mark what.Empty c d is = stays c d (ap (λ x. x.versions) is) (ap (λ x. x.newest) is)
+works_went mark (what.Lines lines) c d is = stays c d (ap (λ x. x.versions) is) (ap (λ x. x.newest) is)
+works_went mark (what.Ask addr octets) c d is = stays c d (ap (λ x. x.versions) is) (ap (λ x. x.newest) is)
+works_went mark what.Show c d is = stays c d (ap (λ x. x.versions) is) (ap (λ x. x.newest) is)
+works_went mark (what.End end) c d is = stays c d (ap (λ x. x.versions) is) (ap (λ x. x.newest) is)
+
+work_went : (items : List Item) (c d : Course) → AllWork items c d → Went c d
+work_went [] c d is = stays c d (ap (λ x. x.versions) is) (ap (λ x. x.newest) is)
+work_went (x ∷ xs) c d p = goes c p.0 d (works_went (Some x.feeder) x.what c p.0 p.1) (work_went xs p.0 d p.2)
+
+work_grew : (end : FeedEnd) (items : List Item) (before after : Scene) → HaveEnded end items before after → Grew before after
+work_grew end items before after (inl p) =
+    let w = p.1 in grew before after w.course (work_went items (start before.newest) w.course w.works) w.told.newest w.told.history
+work_grew end items before after (inr p) =
+    let w = p.1 in
+    grew before after w.next (goes (start before.newest) w.course w.next (work_went w.done (start before.newest) w.course w.works) (works_went (Some w.item.feeder) w.item.what w.course w.next w.last)) w.cut.newest w.cut.history
+
+feeds_grew : (feeders : ℕ) (end : FeedEnd) (items : List Item) (before after : Scene) → AreFeeds feeders end items before after → Grew before after
+feeds_grew feeders end items before after f = work_grew end items before (record after { pace = f.calls }) f.ended
+
 last_appended : (h : List Version) (v : Version) → slice_get (h ++ v ∷ []) (length (h ++ v ∷ []) - 1) ≡ Some v
 last_appended [] v = refl
 last_appended (x ∷ h) v =
@@ -89,12 +122,18 @@ pub goes_on : (h : List Version) (old : Version) (versions : List Version) (last
 goes_on h old [] last is c all = tt
 goes_on h old (v ∷ versions) last is c all = ((old, c.0.0, is, c.0.1, all 0 v refl), goes_on (h ++ v ∷ []) v versions last (last_appended h v) c.1 (λ k x at. all (suc k) x at))
 
--- of a feed's run from the first version on
-pub feed_goes_on : (t : Plan) (turns : ℕ) (end : FeedEnd) (fed fed' : Option Fed) (before after : Scene) (first : Version) (rest : List Version) → IsFeed t turns end fed fed' before after → before.newest ≡ first → before.history ≡ first ∷ [] → after.history ≡ first ∷ rest → IsHistory after.history → GoesOn Succeeds (first ∷ []) rest
-feed_goes_on t turns end fed fed' before after first rest f newest opened history good =
-    let g = feed_grew t turns end fed fed' before after f in
+grew_on : (before after : Scene) (first : Version) (rest : List Version) → Grew before after → before.newest ≡ first → before.history ≡ first ∷ [] → after.history ≡ first ∷ rest → IsHistory after.history → GoesOn Succeeds (first ∷ []) rest
+grew_on before after first rest g newest opened history good =
     let same : g.0 ≡ rest = cc (g.1, opened, history) in
     goes_on (first ∷ []) first rest after.newest refl (subst (λ l. Chain first l after.newest) same (subst (λ v. Chain v g.0 after.newest) newest g.2)) (λ k v at. (good.at (suc k) v (subst (λ l. slice_get l (suc k) ≡ Some v) (sym history) at)).0)
+
+-- of a feed's run from the first version on
+pub feed_goes_on : (t : Plan) (turns : ℕ) (end : FeedEnd) (fed fed' : Option Fed) (before after : Scene) (first : Version) (rest : List Version) → IsFeed t turns end fed fed' before after → before.newest ≡ first → before.history ≡ first ∷ [] → after.history ≡ first ∷ rest → IsHistory after.history → GoesOn Succeeds (first ∷ []) rest
+feed_goes_on t turns end fed fed' before after first rest f newest opened history good = grew_on before after first rest (feed_grew t turns end fed fed' before after f) newest opened history good
+
+-- of several at once
+pub feeds_go_on : (feeders : ℕ) (end : FeedEnd) (items : List Item) (before after : Scene) (first : Version) (rest : List Version) → AreFeeds feeders end items before after → before.newest ≡ first → before.history ≡ first ∷ [] → after.history ≡ first ∷ rest → IsHistory after.history → GoesOn Succeeds (first ∷ []) rest
+feeds_go_on feeders end items before after first rest f newest opened history good = grew_on before after first rest (feeds_grew feeders end items before after f) newest opened history good
 
 -- what succeeds follows
 pub follow_all : (h rest : List Version) → GoesOn Succeeds h rest → GoesOn Follows h rest
@@ -106,3 +145,9 @@ pub feed_over : (t : Plan) (turns : ℕ) (end : FeedEnd) (fed fed' : Option Fed)
     → IsFeed t turns end fed fed' (scene first h out maps pace) (scene last h' out' maps' pace') → IsFeed t turns end fed fed' (scene first g out maps pace) (scene last g' out' maps' pace')
 feed_over t turns end fed fed' first last h h' g g' out maps out' maps' pace pace' same same' f =
     subst (λ (x : List Version). IsFeed t turns end fed fed' (scene first g out maps pace) (scene last x out' maps' pace')) same' (subst (λ (x : List Version). IsFeed t turns end fed fed' (scene first x out maps pace) (scene last h' out' maps' pace')) same f)
+
+-- the same of several feeds
+pub together_over : (t : Plan) (turns : ℕ) (end : FeedEnd) (feds feds' : List (Option Fed)) (first last : Version) (h h' g g' : List Version) (out maps out' maps' : Option Written) (pace pace' : Option (List PaceCall)) → h ≡ g → h' ≡ g'
+    → AreFedTogether t turns end feds feds' (scene first h out maps pace) (scene last h' out' maps' pace') → AreFedTogether t turns end feds feds' (scene first g out maps pace) (scene last g' out' maps' pace')
+together_over t turns end feds feds' first last h h' g g' out maps out' maps' pace pace' same same' f =
+    subst (λ (x : List Version). AreFedTogether t turns end feds feds' (scene first g out maps pace) (scene last x out' maps' pace')) same' (subst (λ (x : List Version). AreFedTogether t turns end feds feds' (scene first x out maps pace) (scene last h' out' maps' pace')) same f)

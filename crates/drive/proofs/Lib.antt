@@ -5,5 +5,6 @@ pub mod Noted
 pub mod Finished
 mod StreamFinished
 pub mod Growing
+mod Several
 pub mod Events
 pub mod Ends

@@ -8,8 +8,10 @@ use Rattle.outside.specs.declared.pace.PaceCall.{PaceCall}
 use Rattle.demand_feed.specs.declared.run.FeedEnd.TheVariants.{SinkFault, SourceFault}
 use Rattle.map_cell.specs.Ends.{PublisherState}
 use Rattle.mapper.specs.Feeding.{IsFeed}
+use Rattle.mapper.specs.Feeds.{AreFeeds, HasMerged}
 use Rattle.mapper.specs.Scenes.{scene}
 use Rattle.drive.specs.declared.loan.FeedLoan.{FeedLoan}
+use Rattle.drive.specs.declared.loan.TakerLoan.{TakerLoan}
 
 -- the same things are lent, for as many turns
 pub record IsSame {S K M : Type 0} (a b : FeedLoan S K M) : Type 0 where
@@ -28,3 +30,21 @@ pub record IsFedBy {S K M : Type 0} (fed : S → Option Fed) (fed_faults : S →
   pub sink_stays : b.end ≢ SinkFault → (faults b.out.now ≡ faults a.out.now) × (faults b.maps.now ≡ faults a.maps.now)
   pub source : b.end ≡ SourceFault → Rose (fed_faults a.feed.now) (fed_faults b.feed.now)
   pub source_stays : b.end ≢ SourceFault → fed_faults b.feed.now ≡ fed_faults a.feed.now
+
+-- the same things are lent
+pub record IsSameTaker {N K M : Type 0} (a b : TakerLoan N K M) : Type 0 where
+  pub taker : b.taker.ghost_name ≡ a.taker.ghost_name
+  pub out : b.out.ghost_name ≡ a.out.ghost_name
+  pub maps : b.maps.ghost_name ≡ a.maps.ghost_name
+  pub pace : b.pace.ghost_name ≡ a.pace.ghost_name
+
+-- all that was taken of several feeders was worked
+pub record AreWorked {N K M : Type 0} (told : K → Option Written) (faults : K → ℕ) (paced : M → Option (List PaceCall)) (a b : TakerLoan N K M) (m n : PublisherState) : Type 0 where
+  pub same : IsSameTaker a b
+  pub queue : (b.taker.now.queue ≡ a.taker.now.queue) × (b.taker.now.feeders ≡ a.taker.now.feeders)
+  pub run : AreFeeds a.taker.now.feeders b.end b.taker.now.taken (scene m.newest m.history (told a.out.now) (told a.maps.now) (paced a.pace.now)) (scene n.newest n.history (told b.out.now) (told b.maps.now) (paced b.pace.now))
+  pub merged : b.end ≢ SinkFault → HasMerged b.taker.now.taken (scene m.newest m.history (told a.out.now) (told a.maps.now) (paced a.pace.now)) (scene n.newest n.history (told b.out.now) (told b.maps.now) (paced b.pace.now))
+  pub kept : IsPrefix m.history n.history
+  pub later : (faults a.out.now ≤ faults b.out.now) × (faults a.maps.now ≤ faults b.maps.now)
+  pub sink : b.end ≡ SinkFault → Rose (faults a.out.now) (faults b.out.now) ⊎ Rose (faults a.maps.now) (faults b.maps.now)
+  pub sink_stays : b.end ≢ SinkFault → (faults b.out.now ≡ faults a.out.now) × (faults b.maps.now ≡ faults a.maps.now)

@@ -6,5 +6,7 @@ pub mod Streams
 pub mod Feeds
 pub mod Driven
 pub mod Fed
+pub mod Read
+pub mod Line
 pub mod Laws
 pub mod Told

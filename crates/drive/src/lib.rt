@@ -2,11 +2,14 @@
 #![tactic(auto)]
 
 mod beside;
+mod feeders;
 mod joins;
 mod lane;
 mod laws;
+mod line;
 mod loan;
 mod stream;
+mod threads;
 mod whole;
 
 pub use lane::Lane;

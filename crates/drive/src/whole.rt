@@ -1,5 +1,6 @@
 //! A drive: what it takes ahead of the first lane, its run, and its ends.
-ghost use Rattle.std.specs.Prelude.{◌≡◌, ◌≢◌, ◌⊎◌, ◌≤◌, ◌∷◌, [], List, All, IfOk, IfSome, OnErr, drop, length, map, option_map, vec_len};
+ghost use Rattle.std.specs.Prelude.{◌≡◌, ◌≢◌, ◌⊎◌, ◌+◌, ◌≤◌, ◌∷◌, [], List, All, IfOk, IfSome, OnErr, drop, length, map, option_map, vec_len};
+ghost use Rattle.std.specs.Arc.{arc_value};
 ghost use Rattle.std.specs.Option.{option_to_list};
 ghost use Rattle.outside.specs.Faults.{Rose};
 ghost use Rattle.demand_feed.specs.declared.limits.TheConstants.{MOST_TURNS};
@@ -8,18 +9,25 @@ ghost use Rattle.map_cell.specs.Histories.{IsHistory};
 ghost use Rattle.lane_model.specs.declared.ended.Ended.{Ended};
 ghost use Rattle.drive.specs.AllDone.{AllDone, AllHeld};
 ghost use Rattle.drive.specs.Done.{IsDone};
+ghost use Rattle.drive.specs.All.{AllRan};
 ghost use Rattle.drive.specs.Driven.{AreEnds, IsDriven};
-ghost use Rattle.drive.specs.Fed.{IsFedBy};
-ghost use Rattle.drive.specs.Streams.{AreStreamsDone};
+ghost use Rattle.drive.specs.Fed.{AreWorked, IsFedBy};
 ghost use Rattle.drive.specs.Feeds.{AllStand, AnyRose, NoneFell};
+ghost use Rattle.drive.specs.Line.{IsLine};
+ghost use Rattle.drive.specs.Read.{IsRead};
+ghost use Rattle.drive.specs.Streams.{AreStreamsDone};
 ghost use Rattle.drive.specs.Told.{feed_told, lane_told, lent_of, stream_told};
 
 use crate::beside::run_beside;
+use crate::feeders::run_among;
 use crate::joins::{close_all, close_more};
 use crate::lane::{Lane, LaneWorker, Workers};
-use crate::loan::{FeedLoan, Loan};
+use crate::line::{Line, all_back, open_line};
+use crate::loan::{Desk, FeedLoan, Loan, TakerLoan};
 use crate::stream::StreamLane;
+use crate::threads::can_fork;
 use demand_feed::FeedEnd;
+use feed_queue::{Feeder, Numbers};
 use lane_model::Ended;
 use map_cell::{Door, MOST_VIEWERS, Naming, NoteRow, Viewer};
 use mapper::Mapper;
@@ -27,6 +35,7 @@ use name_workers::Worker;
 use no_memory::NoMemory;
 use outside::{Gate, Pace, Port, Sink, Source, Streams};
 use std::alloc::Global;
+use std::marker::Brand;
 use std::sync::Wait;
 use std::thread::Threads;
 
@@ -102,6 +111,44 @@ fn ends_of<J: Naming>(works: &Vec<LaneWorker<J>>) -> [Option<Ended>; MOST_VIEWER
     ends
 }
 
+/// What a drive takes ahead of the first lane, but for a queue: the row of notes, and the workers.
+#[derive(Drop)]
+struct Prepared<J: Naming> {
+    row: NoteRow<J>,
+    works: Workers<LaneWorker<J>>,
+}
+
+/// Takes memory, and tries whether as many threads can be had as the lanes and so many feeders need.
+fn prepare<J: Naming, R: Threads>(
+    rt: &R,
+    alloc: Global,
+    viewers: Vec<Viewer<J>>,
+    listener: Option<Viewer<J>>,
+    feeders: usize,
+    turns: u64,
+) -> Result<Prepared<J>, NoMemory>
+    requires few { vec_len viewers ≤ 16 }
+    requires feeders { feeders ≤ 4 }
+    ensures len { IfOk result (λ r. vec_len r.works.lanes ≡ vec_len viewers) }
+    ensures held { (h : List Version) → All (λ e. (e.seen ≡ h) × (e.heard ≡ h)) viewers.items → IfOk result (λ r. AllHeld (λ i w. (w.worker.number ≡ i) × (w.worker.count ≡ 0) × (w.worker.viewer.seen ≡ h) × (w.worker.viewer.heard ≡ h) × (w.turns ≡ turns)) 0 r.works.lanes.items) }
+    ensures listener { (h : List Version) → IfSome listener (λ e. (e.seen ≡ h) × (e.heard ≡ h)) → IfOk result (λ r. IfSome r.works.stream (λ w. (w.worker.number ≡ vec_len viewers) × (w.worker.count ≡ 0) × (w.worker.viewer.seen ≡ h) × (w.worker.viewer.heard ≡ h) × (w.turns ≡ turns))) }
+    ensures same { IfOk result (λ r. length (option_to_list r.works.stream) ≡ length (option_to_list listener)) }
+{
+    let count = viewers.len();
+    let row = NoteRow::new(alloc)?;
+    let lanes = hold_all(alloc, viewers, turns)?;
+    let stream = hold_one(listener, count as u8, turns);
+    // one joins all lanes, and each lane, that for conversations and each feeder has one of its own
+    let threads = 1 + count + usize::from(stream.is_some()) + feeders;
+    if !can_fork(rt, alloc, threads) {
+        return Err(NoMemory);
+    }
+    Ok(Prepared {
+        row,
+        works: Workers { lanes, stream },
+    })
+}
+
 /// Hands on the first map's note, runs the feed beside the lanes, and then makes the closing look of each. What is lent
 /// stays lent.
 fn serve_all<
@@ -146,18 +193,295 @@ fn serve_all<
     close_more(&note, &mut works.stream, stream);
 }
 
-/// Runs a mapper's feed beside the first lanes, one for each viewer, and beside the lane for conversations where it has a
-/// listener's viewer, whose worker has the number behind the others; and then makes the closing look of each of these
-/// lanes: its worker learns of the newest map, and looks once by its lane's door. The lanes past the viewers are
-/// untouched. All memory but that of commits is taken ahead of the first lane. At the end, after a refusal too, the
-/// mapper is closed.
+/// Hands on the first map's note, runs the feeders and the mapper's side beside the lanes, and then makes the closing look
+/// of each. What is lent stays lent.
+fn serve_several<
+    J: Naming + Send + Sync,
+    N: Numbers + Send + Sync,
+    S: Source + Send,
+    T: Source + Send,
+    K: Sink,
+    P: Port + Send,
+    Q: Streams + Send,
+    G: Gate + Send,
+    D: Door + Send,
+    M: Pace,
+    R: Threads + Wait + Sync,
+>(
+    rt: &R,
+    desk: &Desk,
+    first: &mut Feeder<N>,
+    feed: &mut S,
+    feeders: &mut Vec<Feeder<N>>,
+    more: &mut [T],
+    row: &NoteRow<J>,
+    mapper: &mut Mapper<J>,
+    works: &mut Workers<LaneWorker<J>>,
+    side: &mut TakerLoan<'_, '_, '_, '_, N, K, M>,
+    lanes: &mut [Lane<P, G, D>],
+    stream: &mut StreamLane<Q, G, D>,
+)
+    requires turns { desk.now.turns ≤ MOST_TURNS }
+    requires groups { (length (arc_value desk.now.topology).market.groups ≡ N.groups) × (length mapper.old.newest.plan.market.groups ≡ N.groups) }
+    requires nodes { (length (arc_value desk.now.topology).market.nodes ≡ N.nodes) × (length mapper.old.newest.plan.market.nodes ≡ N.nodes) }
+    requires unused { (first.old.sent ≡ []) × All (λ f. f.sent ≡ []) feeders.old.items × (side.old.taker.now.taken ≡ []) }
+    requires feeds { length more.old ≡ vec_len feeders.old }
+    requires first { (mapper.old.history ≡ mapper.old.newest ∷ []) × (mapper.old.newest.serial ≡ 0) }
+    requires fresh { AllHeld (λ i w. (w.worker.number ≡ i) × (w.worker.count ≡ 0) × (w.worker.viewer.seen ≡ mapper.old.history) × (w.worker.viewer.heard ≡ mapper.old.history) × (w.turns ≡ desk.now.turns)) 0 works.old.lanes.items }
+    requires lanes { length lanes.old ≡ vec_len works.old.lanes }
+    requires listener { IfSome works.old.stream (λ w. (w.worker.number ≡ vec_len works.old.lanes) × (w.worker.count ≡ 0) × (w.worker.viewer.seen ≡ mapper.old.history) × (w.worker.viewer.heard ≡ mapper.old.history) × (w.turns ≡ desk.now.turns)) }
+    ensures first { IsRead (arc_value desk.now.topology) desk.now.turns (S.told feed.old) (S.told feed.new) (S.faults feed.old) (S.faults feed.new) first.old first.new }
+    ensures sent { AllRan (λ a b f g. IsRead (arc_value desk.now.topology) desk.now.turns (T.told a) (T.told b) (T.faults a) (T.faults b) f g) more.old more.new feeders.old.items feeders.new.items }
+    ensures worked { AreWorked K.told K.faults M.told side.old side.new mapper.old mapper.new }
+    ensures history { IsHistory mapper.new.history }
+    ensures len { vec_len works.new.lanes ≡ vec_len works.old.lanes }
+    ensures done { (rest : List Version) × (mapper.new.history ≡ mapper.old.newest ∷ rest) × AllDone (λ i l k w. IsDone desk.now.turns mapper.old.newest rest i
+        (lane_told P.told P.faults G.told D.asked D.looks D.greatest D.faults l) (lane_told P.told P.faults G.told D.asked D.looks D.greatest D.faults k) w.ended) 0 lanes.old lanes.new works.new.lanes.items
+        × AreStreamsDone desk.now.turns mapper.old.newest rest (vec_len works.old.lanes) (option_map (λ w. w.ended) works.new.stream)
+        (stream_told Q.told Q.faults G.told D.asked D.looks D.greatest D.faults stream.old) (stream_told Q.told Q.faults G.told D.asked D.looks D.greatest D.faults stream.new) }
+    ensures same { length (option_to_list works.new.stream) ≡ length (option_to_list works.old.stream) }
+{
+    let _ = row.put_at(rt, 0, mapper.note());
+    run_among(
+        rt, desk, first, feed, feeders, more, row, works, lanes, stream, mapper, side,
+    );
+    let note = mapper.note();
+    // tells the prover what the type keeps
+    let _ = note.front.len();
+    close_all(&note, &mut works.lanes, lanes);
+    close_more(&note, &mut works.stream, stream);
+}
+
+/// Drives one feed, as `drive`.
+fn drive_one<
+    J: Naming + Send + Sync,
+    S: Source,
+    T: Source,
+    K: Sink,
+    P: Port + Send,
+    Q: Streams + Send,
+    G: Gate + Send,
+    D: Door + Send,
+    M: Pace,
+    R: Threads + Wait + Sync,
+>(
+    rt: &R,
+    mapper: Mapper<J>,
+    prepared: Prepared<J>,
+    feed: &mut S,
+    out: &mut K,
+    maps: &mut K,
+    lanes: &mut [Lane<P, G, D>],
+    stream: &mut StreamLane<Q, G, D>,
+    pace: &mut M,
+    turns: u64,
+) -> DriveEnd
+    requires serial { mapper.newest.serial ≡ 0 }
+    requires turns { turns ≤ MOST_TURNS }
+    requires fresh { AllHeld (λ i w. (w.worker.number ≡ i) × (w.worker.count ≡ 0) × (w.worker.viewer.seen ≡ mapper.history) × (w.worker.viewer.heard ≡ mapper.history) × (w.turns ≡ turns)) 0 prepared.works.lanes.items }
+    requires listener { IfSome prepared.works.stream (λ w. (w.worker.number ≡ vec_len prepared.works.lanes) × (w.worker.count ≡ 0) × (w.worker.viewer.seen ≡ mapper.history) × (w.worker.viewer.heard ≡ mapper.history) × (w.turns ≡ turns)) }
+    requires few { (vec_len prepared.works.lanes ≤ 16) × (vec_len prepared.works.lanes ≤ length lanes.old) }
+    ensures driven { (ends : List Ended) × (length ends ≡ vec_len prepared.works.lanes) × AreEnds ends result.lanes × IsDriven turns mapper.newest result.feed ends result.stream
+        (lent_of S.told (feed_told T.told T.faults) K.told M.told (lane_told P.told P.faults G.told D.asked D.looks D.greatest D.faults) (stream_told Q.told Q.faults G.told D.asked D.looks D.greatest D.faults) feed.old [] out.old maps.old pace.old lanes.old stream.old)
+        (lent_of S.told (feed_told T.told T.faults) K.told M.told (lane_told P.told P.faults G.told D.asked D.looks D.greatest D.faults) (stream_told Q.told Q.faults G.told D.asked D.looks D.greatest D.faults) feed.new [] out.new maps.new pace.new lanes.new stream.new) }
+    ensures untouched { drop (vec_len prepared.works.lanes) lanes.new ≡ drop (vec_len prepared.works.lanes) lanes.old }
+    ensures stream { length (option_to_list result.stream) ≡ length (option_to_list prepared.works.stream) }
+    ensures later { (K.faults out.old ≤ K.faults out.new) × (K.faults maps.old ≤ K.faults maps.new) × (S.faults feed.old ≤ S.faults feed.new) }
+    ensures sink { result.feed ≡ FeedEnd.SinkFault → Rose (K.faults out.old) (K.faults out.new) ⊎ Rose (K.faults maps.old) (K.faults maps.new) }
+    ensures sink_stays { result.feed ≢ FeedEnd.SinkFault → (K.faults out.new ≡ K.faults out.old) × (K.faults maps.new ≡ K.faults maps.old) }
+    ensures source { result.feed ≡ FeedEnd.SourceFault → Rose (S.faults feed.old) (S.faults feed.new) }
+    ensures source_stays { result.feed ≢ FeedEnd.SourceFault → S.faults feed.new ≡ S.faults feed.old }
+{
+    let mut mapper = mapper;
+    // tells the prover what the type keeps
+    let _ = mapper.newest();
+    let Prepared { row, works } = prepared;
+    let mut works = works;
+    let count = works.lanes.len();
+    let (served, _behind) = lanes.split_at_mut(count);
+    let mut loan = Loan {
+        side: FeedLoan {
+            feed,
+            out,
+            maps,
+            pace,
+            turns,
+            end: FeedEnd::Ended,
+        },
+        lanes: served,
+    };
+    serve_all(rt, &row, &mut mapper, &mut works, &mut loan, stream);
+    mapper.close(rt);
+    DriveEnd {
+        feed: loan.side.end,
+        lanes: ends_of(&works.lanes),
+        stream: end_of(&works.stream),
+    }
+}
+
+/// Drives several feeds, as `drive`.
+fn drive_several<
+    J: Naming + Send + Sync,
+    N: Numbers + Send + Sync,
+    S: Source + Send,
+    T: Source + Send,
+    K: Sink,
+    P: Port + Send,
+    Q: Streams + Send,
+    G: Gate + Send,
+    D: Door + Send,
+    M: Pace,
+    R: Threads + Wait + Sync,
+>(
+    rt: &R,
+    line: Line<N>,
+    mapper: Mapper<J>,
+    prepared: Prepared<J>,
+    feed: &mut S,
+    more: &mut [T],
+    out: &mut K,
+    maps: &mut K,
+    lanes: &mut [Lane<P, G, D>],
+    stream: &mut StreamLane<Q, G, D>,
+    pace: &mut M,
+) -> DriveEnd
+    requires serial { mapper.newest.serial ≡ 0 }
+    requires line { IsLine N.groups N.nodes (length more.old) mapper.newest.plan line }
+    requires turns { line.desk.turns ≤ MOST_TURNS }
+    requires fresh { AllHeld (λ i w. (w.worker.number ≡ i) × (w.worker.count ≡ 0) × (w.worker.viewer.seen ≡ mapper.history) × (w.worker.viewer.heard ≡ mapper.history) × (w.turns ≡ line.desk.turns)) 0 prepared.works.lanes.items }
+    requires listener { IfSome prepared.works.stream (λ w. (w.worker.number ≡ vec_len prepared.works.lanes) × (w.worker.count ≡ 0) × (w.worker.viewer.seen ≡ mapper.history) × (w.worker.viewer.heard ≡ mapper.history) × (w.turns ≡ line.desk.turns)) }
+    requires few { (vec_len prepared.works.lanes ≤ 16) × (vec_len prepared.works.lanes ≤ length lanes.old) }
+    requires several { more.old ≢ [] }
+    ensures driven { (ends : List Ended) × (length ends ≡ vec_len prepared.works.lanes) × AreEnds ends result.lanes × IsDriven line.desk.turns mapper.newest result.feed ends result.stream
+        (lent_of S.told (feed_told T.told T.faults) K.told M.told (lane_told P.told P.faults G.told D.asked D.looks D.greatest D.faults) (stream_told Q.told Q.faults G.told D.asked D.looks D.greatest D.faults) feed.old more.old out.old maps.old pace.old lanes.old stream.old)
+        (lent_of S.told (feed_told T.told T.faults) K.told M.told (lane_told P.told P.faults G.told D.asked D.looks D.greatest D.faults) (stream_told Q.told Q.faults G.told D.asked D.looks D.greatest D.faults) feed.new more.new out.new maps.new pace.new lanes.new stream.new) }
+    ensures untouched { drop (vec_len prepared.works.lanes) lanes.new ≡ drop (vec_len prepared.works.lanes) lanes.old }
+    ensures stream { length (option_to_list result.stream) ≡ length (option_to_list prepared.works.stream) }
+    ensures later { (K.faults out.old ≤ K.faults out.new) × (K.faults maps.old ≤ K.faults maps.new) × (S.faults feed.old ≤ S.faults feed.new) × NoneFell (map (feed_told T.told T.faults) more.old) (map (feed_told T.told T.faults) more.new) }
+    ensures sink { result.feed ≡ FeedEnd.SinkFault → Rose (K.faults out.old) (K.faults out.new) ⊎ Rose (K.faults maps.old) (K.faults maps.new) }
+    ensures sink_stays { result.feed ≢ FeedEnd.SinkFault → (K.faults out.new ≡ K.faults out.old) × (K.faults maps.new ≡ K.faults maps.old) }
+    ensures source { result.feed ≡ FeedEnd.SourceFault → Rose (S.faults feed.old) (S.faults feed.new) ⊎ AnyRose (map (feed_told T.told T.faults) more.old) (map (feed_told T.told T.faults) more.new) }
+    ensures source_stays { result.feed ≢ FeedEnd.SourceFault → result.feed ≢ FeedEnd.SinkFault → (S.faults feed.new ≡ S.faults feed.old) × AllStand (map (feed_told T.told T.faults) more.old) (map (feed_told T.told T.faults) more.new) }
+{
+    let mut mapper = mapper;
+    // tells the prover what the type keeps
+    let _ = mapper.newest();
+    let Prepared { row, works } = prepared;
+    let mut works = works;
+    let Line {
+        desk,
+        first,
+        feeders,
+        taker,
+    } = line;
+    let mut first = first;
+    let mut feeders = feeders;
+    let mut taker = taker;
+    let count = works.lanes.len();
+    let (served, _behind) = lanes.split_at_mut(count);
+    let mut side = TakerLoan {
+        taker: &mut taker,
+        out,
+        maps,
+        pace,
+        end: FeedEnd::Ended,
+    };
+    serve_several(
+        rt,
+        &desk,
+        &mut first,
+        feed,
+        &mut feeders,
+        more,
+        &row,
+        &mut mapper,
+        &mut works,
+        &mut side,
+        served,
+        stream,
+    );
+    let end = side.end;
+    all_back(&mut taker, first, feeders);
+    mapper.close(rt);
+    DriveEnd {
+        feed: end,
+        lanes: ends_of(&works.lanes),
+        stream: end_of(&works.stream),
+    }
+}
+
+/// Opens a queue, and drives several feeds, as `drive`.
+fn drive_with<
+    J: Naming + Send + Sync,
+    N: Numbers + Send + Sync,
+    S: Source + Send,
+    T: Source + Send,
+    K: Sink,
+    P: Port + Send,
+    Q: Streams + Send,
+    G: Gate + Send,
+    D: Door + Send,
+    M: Pace,
+    R: Threads + Wait + Sync,
+>(
+    rt: &R,
+    alloc: Global,
+    mapper: Mapper<J>,
+    prepared: Prepared<J>,
+    feed: &mut S,
+    more: &mut [T],
+    out: &mut K,
+    maps: &mut K,
+    lanes: &mut [Lane<P, G, D>],
+    stream: &mut StreamLane<Q, G, D>,
+    pace: &mut M,
+    turns: u64,
+) -> Result<DriveEnd, NoMemory>
+    requires serial { mapper.newest.serial ≡ 0 }
+    requires groups { length mapper.newest.plan.market.groups ≡ N.groups }
+    requires nodes { length mapper.newest.plan.market.nodes ≡ N.nodes }
+    requires turns { turns ≤ MOST_TURNS }
+    requires fresh { AllHeld (λ i w. (w.worker.number ≡ i) × (w.worker.count ≡ 0) × (w.worker.viewer.seen ≡ mapper.history) × (w.worker.viewer.heard ≡ mapper.history) × (w.turns ≡ turns)) 0 prepared.works.lanes.items }
+    requires listener { IfSome prepared.works.stream (λ w. (w.worker.number ≡ vec_len prepared.works.lanes) × (w.worker.count ≡ 0) × (w.worker.viewer.seen ≡ mapper.history) × (w.worker.viewer.heard ≡ mapper.history) × (w.turns ≡ turns)) }
+    requires few { (vec_len prepared.works.lanes ≤ 16) × (vec_len prepared.works.lanes ≤ length lanes.old) }
+    requires several { (more.old ≢ []) × (length more.old ≤ 3) }
+    ensures driven { IfOk result (λ r. (ends : List Ended) × (length ends ≡ vec_len prepared.works.lanes) × AreEnds ends r.lanes × IsDriven turns mapper.newest r.feed ends r.stream
+        (lent_of S.told (feed_told T.told T.faults) K.told M.told (lane_told P.told P.faults G.told D.asked D.looks D.greatest D.faults) (stream_told Q.told Q.faults G.told D.asked D.looks D.greatest D.faults) feed.old more.old out.old maps.old pace.old lanes.old stream.old)
+        (lent_of S.told (feed_told T.told T.faults) K.told M.told (lane_told P.told P.faults G.told D.asked D.looks D.greatest D.faults) (stream_told Q.told Q.faults G.told D.asked D.looks D.greatest D.faults) feed.new more.new out.new maps.new pace.new lanes.new stream.new)) }
+    ensures untouched { drop (vec_len prepared.works.lanes) lanes.new ≡ drop (vec_len prepared.works.lanes) lanes.old }
+    ensures stream { IfOk result (λ r. length (option_to_list r.stream) ≡ length (option_to_list prepared.works.stream)) }
+    ensures no_memory { OnErr result ((feed.new ≡ feed.old) × (more.new ≡ more.old) × (out.new ≡ out.old) × (maps.new ≡ maps.old) × (lanes.new ≡ lanes.old) × (stream.new ≡ stream.old) × (pace.new ≡ pace.old)) }
+    ensures later { (K.faults out.old ≤ K.faults out.new) × (K.faults maps.old ≤ K.faults maps.new) × (S.faults feed.old ≤ S.faults feed.new) × NoneFell (map (feed_told T.told T.faults) more.old) (map (feed_told T.told T.faults) more.new) }
+    ensures sink { IfOk result (λ r. r.feed ≡ FeedEnd.SinkFault → Rose (K.faults out.old) (K.faults out.new) ⊎ Rose (K.faults maps.old) (K.faults maps.new)) }
+    ensures sink_stays { IfOk result (λ r. r.feed ≢ FeedEnd.SinkFault → (K.faults out.new ≡ K.faults out.old) × (K.faults maps.new ≡ K.faults maps.old)) }
+    ensures source { IfOk result (λ r. r.feed ≡ FeedEnd.SourceFault → Rose (S.faults feed.old) (S.faults feed.new) ⊎ AnyRose (map (feed_told T.told T.faults) more.old) (map (feed_told T.told T.faults) more.new)) }
+    ensures source_stays { IfOk result (λ r. r.feed ≢ FeedEnd.SourceFault → r.feed ≢ FeedEnd.SinkFault → (S.faults feed.new ≡ S.faults feed.old) × AllStand (map (feed_told T.told T.faults) more.old) (map (feed_told T.told T.faults) more.new)) }
+{
+    let count = more.len() as u8;
+    let Ok(line) = open_line::<N>(alloc, mapper.topology(), count, turns) else {
+        mapper.close(rt);
+        return Err(NoMemory);
+    };
+    Ok(drive_several(
+        rt, line, mapper, prepared, feed, more, out, maps, lanes, stream, pace,
+    ))
+}
+
+/// Runs a mapper's feed, or several at once, beside the first lanes, one for each viewer, and beside the lane for
+/// conversations where it has a listener's viewer, whose worker has the number behind the others; and then makes the
+/// closing look of each of these lanes: its worker learns of the newest map, and looks once by its lane's door. The lanes
+/// past the viewers are untouched. All memory but that of commits, and of what feeders read, is taken ahead of the first
+/// lane. At the end, after a refusal too, the mapper is closed.
+///
+/// Where there are further feeds, three at most, each feed is read in a thread of its own, by the feeder of its number, and
+/// the mapper's side runs in this one.
 ///
 /// A lane that its port or its gate has ended counts as ended by `CellFault` if its closing look is refused. One whose
 /// closing look shows a map past the newest one has ended `Above`.
 ///
 /// # Errors
 ///
-/// `NoMemory`; nothing that was lent is touched then.
+/// `NoMemory`, for want of memory or of threads; nothing that was lent is touched then.
 pub fn drive<
     J: Naming + Send + Sync,
     S: Source + Send,
@@ -188,8 +512,8 @@ pub fn drive<
     requires turns { turns ≤ MOST_TURNS }
     requires viewers { All (λ v. (v.seen ≡ mapper.history) × (v.heard ≡ mapper.history)) viewers.items }
     requires listener { IfSome listener (λ v. (v.seen ≡ mapper.history) × (v.heard ≡ mapper.history)) }
-    requires feeds { length more.old ≤ 3 }
     requires few { (vec_len viewers ≤ 16) × (vec_len viewers ≤ length lanes.old) }
+    requires feeds { length more.old ≤ 3 }
     ensures driven { IfOk result (λ r. (ends : List Ended) × (length ends ≡ vec_len viewers) × AreEnds ends r.lanes × IsDriven turns mapper.newest r.feed ends r.stream
         (lent_of S.told (feed_told T.told T.faults) K.told M.told (lane_told P.told P.faults G.told D.asked D.looks D.greatest D.faults) (stream_told Q.told Q.faults G.told D.asked D.looks D.greatest D.faults) feed.old more.old out.old maps.old pace.old lanes.old stream.old)
         (lent_of S.told (feed_told T.told T.faults) K.told M.told (lane_told P.told P.faults G.told D.asked D.looks D.greatest D.faults) (stream_told Q.told Q.faults G.told D.asked D.looks D.greatest D.faults) feed.new more.new out.new maps.new pace.new lanes.new stream.new)) }
@@ -202,43 +526,18 @@ pub fn drive<
     ensures source { IfOk result (λ r. r.feed ≡ FeedEnd.SourceFault → Rose (S.faults feed.old) (S.faults feed.new) ⊎ AnyRose (map (feed_told T.told T.faults) more.old) (map (feed_told T.told T.faults) more.new)) }
     ensures source_stays { IfOk result (λ r. r.feed ≢ FeedEnd.SourceFault → (r.feed ≡ FeedEnd.SinkFault → more.old ≡ []) → (S.faults feed.new ≡ S.faults feed.old) × AllStand (map (feed_told T.told T.faults) more.old) (map (feed_told T.told T.faults) more.new)) }
 {
-    let mut mapper = mapper;
-    if !more.is_empty() {
+    let count = more.len();
+    let feeders = if count == 0 { 0 } else { count + 1 };
+    let Ok(prepared) = prepare(rt, alloc, viewers, listener, feeders, turns) else {
         mapper.close(rt);
         return Err(NoMemory);
+    };
+    if count == 0 {
+        return Ok(drive_one::<J, S, T, K, P, Q, G, D, M, R>(
+            rt, mapper, prepared, feed, out, maps, lanes, stream, pace, turns,
+        ));
     }
-    // tells the prover what the type keeps
-    let _ = mapper.newest();
-    let Ok(row) = NoteRow::new(alloc) else {
-        mapper.close(rt);
-        return Err(NoMemory);
-    };
-    let count = viewers.len();
-    let Ok(held) = hold_all(alloc, viewers, turns) else {
-        mapper.close(rt);
-        return Err(NoMemory);
-    };
-    let mut works = Workers {
-        lanes: held,
-        stream: hold_one(listener, count as u8, turns),
-    };
-    let (served, _behind) = lanes.split_at_mut(count);
-    let mut loan = Loan {
-        side: FeedLoan {
-            feed,
-            out,
-            maps,
-            pace,
-            turns,
-            end: FeedEnd::Ended,
-        },
-        lanes: served,
-    };
-    serve_all(rt, &row, &mut mapper, &mut works, &mut loan, stream);
-    mapper.close(rt);
-    Ok(DriveEnd {
-        feed: loan.side.end,
-        lanes: ends_of(&works.lanes),
-        stream: end_of(&works.stream),
-    })
+    drive_with::<J, Brand, S, T, K, P, Q, G, D, M, R>(
+        rt, alloc, mapper, prepared, feed, more, out, maps, lanes, stream, pace, turns,
+    )
 }

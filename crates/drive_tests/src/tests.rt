@@ -20,6 +20,7 @@ use std::thread::Threads;
 use topology_text::{Topology, read_topology};
 use worlds::EXAMPLE_TREE;
 
+mod several;
 mod turns;
 
 /// A client of the second group.
@@ -178,8 +179,10 @@ fn drive_over<
         Err(_) => None,
         Ok((mapper, seats)) => {
             let Ends { feed, out, maps } = ends;
+            let mut none: [MemSource; 0] = [];
             drive(
-                rt, alloc, mapper, seats, None, feed, out, maps, lanes, stream, pace, 100,
+                rt, alloc, mapper, seats, None, feed, &mut none, out, maps, lanes, stream, pace,
+                100,
             )
             .ok()
         }

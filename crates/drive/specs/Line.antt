@@ -1,0 +1,17 @@
+-- Inside this crate alone: an opened queue for several feeds.
+use Rattle.std.specs.Prelude.{◌≡◌, ℕ, ◌+◌, [], length, map}
+use Rattle.std.specs.Arc.{arc_value}
+use Rattle.std.specs.List.{range_with_len}
+use Rattle.topology_text.specs.Plan.{Plan}
+use Rattle.feed_queue.specs.Ends.{fresh_feeder}
+use Rattle.drive.specs.declared.line.Line.{Line}
+
+-- one for the first feed and so many further ones, over a topology with so many groups and nodes, of which nothing was sent
+pub record IsLine {N : Type 0} (groups nodes count : ℕ) (t : Plan) (l : Line N) : Type 0 where
+  pub topology : arc_value l.desk.topology ≡ t
+  pub groups_are : length t.market.groups ≡ groups
+  pub nodes_are : length t.market.nodes ≡ nodes
+  pub first : l.first ≡ fresh_feeder l.taker.queue 0
+  pub feeders : l.feeders.items ≡ map (fresh_feeder l.taker.queue) (range_with_len 1 count)
+  pub taker : l.taker.feeders ≡ 1 + count
+  pub taken : l.taker.taken ≡ []
