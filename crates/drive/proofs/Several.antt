@@ -421,3 +421,7 @@ some_told tell (x ∷ xs) some e = cc
 pub all_same : (xs : List FeedTold) → NoneFell xs xs
 all_same [] = refl
 all_same (x ∷ xs) = (omega arith, all_same xs)
+
+pub no_more : {T : Type 0} (xs : List T) → length xs ≡ 0 → xs ≡ []
+no_more [] e = refl
+no_more (x ∷ xs) e = absurd (omega (arith, e))
