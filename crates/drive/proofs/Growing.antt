@@ -17,7 +17,7 @@ use Rattle.demand_feed.specs.declared.sent.What.{What}
 use Rattle.demand_feed.specs.declared.sent.What.TheVariants as what
 use Rattle.mapper.specs.Control.{AllCome, Comes, Course, IsNext, start}
 use Rattle.mapper.specs.Feeding.{AllCame, HasEnded, IsFeed, WasCut}
-use Rattle.mapper.specs.Feeds.{AllWorked, AreFeeds, HaveEnded, WorkWasCut}
+use Rattle.mapper.specs.Feeds.{AreFeeds, HaveEnded}
 use Rattle.mapper.specs.Items.{AllWork, WorksAs}
 use Rattle.mapper.specs.Scenes.{Scene, scene}
 use Rattle.drive.specs.Driven.{Succeeds}

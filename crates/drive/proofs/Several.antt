@@ -228,6 +228,7 @@ any_in k (x ∷ xs) e = go (any_in k xs) (x.feeder == k) e
     first : (has_fault (sent_by k xs) ≡ true → has_one is_source_fault xs ≡ true) → (is_source_fault x.what ≡ true) ⊎ (has_fault (sent_by k xs) ≡ true) → has_one is_source_fault (x ∷ xs) ≡ true
     first rest (inl h) = or_left (is_source_fault x.what) (has_one is_source_fault xs) h
     first rest (inr h) = or_right (is_source_fault x.what) (has_one is_source_fault xs) (rest h)
+
     go : (has_fault (sent_by k xs) ≡ true → has_one is_source_fault xs ≡ true) → (b : Bool) → has_fault (map (λ (y : Item). y.what) (cond b (x ∷ only k xs) (only k xs))) ≡ true → has_one is_source_fault (x ∷ xs) ≡ true
     go rest true h = first rest (or_one (is_source_fault x.what) (has_fault (sent_by k xs)) h)
     go rest false h = or_right (is_source_fault x.what) (has_one is_source_fault xs) (rest h)
@@ -240,9 +241,11 @@ one_in (x ∷ xs) e = pick (one_in xs) (or_one (is_source_fault x.what) (has_one
     here : (b : Bool) → b ≡ true → is_source_fault x.what ≡ true → has_fault (map (λ (y : Item). y.what) (cond b (x ∷ only x.feeder xs) (only x.feeder xs))) ≡ true
     here true same h = or_left (is_source_fault x.what) (has_fault (sent_by x.feeder xs)) h
     here false same h = absurd (true≢false (sym same))
+
     later : (k : ℕ) (b : Bool) → has_fault (sent_by k xs) ≡ true → has_fault (map (λ (y : Item). y.what) (cond b (x ∷ only k xs) (only k xs))) ≡ true
     later k true h = or_right (is_source_fault x.what) (has_fault (sent_by k xs)) h
     later k false h = h
+
     pick : (has_one is_source_fault xs ≡ true → (k : ℕ) × (has_fault (sent_by k xs) ≡ true)) → (is_source_fault x.what ≡ true) ⊎ (has_one is_source_fault xs ≡ true) → (k : ℕ) × (has_fault (sent_by k (x ∷ xs)) ≡ true)
     pick rest (inl h) = (x.feeder, here (x.feeder == x.feeder) (eq-eqb x.feeder x.feeder refl) h)
     pick rest (inr h) = let r = rest h in (r.0, later r.0 (x.feeder == r.0) r.1)
@@ -304,6 +307,7 @@ fault_at items gs end start stop w (inl first) is = go (cases_lt k.0 (length gs)
   where
     k : (k : ℕ) × (has_fault (sent_by k items) ≡ true)
     k = one_in items (first_fault items (sym first.0 ∙ is))
+
     go : (k.0 < length gs) ⊎ (length gs ≤ k.0) → (k : ℕ) × (k < length gs) × EndsWith (sent_at gs k) ends.SourceFault
     go (inl l) = (k.0, l, fault_last (sent_at gs k.0) (w.last k.0 l) (sym (ap has_fault (w.whole k.0 l)) ∙ k.1))
     go (inr past) = absurd (true≢false (sym k.1 ∙ ap has_fault (w.others k.0 past)))
@@ -315,20 +319,23 @@ none_at items gs end start stop w (inl first) is put k e = go (cases_lt k (lengt
   where
     has : has_fault (sent_at gs k) ≡ true
     has = ap has_fault e.1 ∙ fault_of e.0
+
     none : has_one is_source_fault items ≡ false
     none = no_fault items (λ same. is (first.0 ∙ same))
+
     past_is : (gs : List FeederState) (k : ℕ) → length gs ≤ k → sent_at gs k ≡ []
     past_is [] k l = refl
     past_is (g ∷ gs) zero l = absurd (omega (arith, l))
     past_is (g ∷ gs) (suc k) l = past_is gs k (omega (arith, l))
+
     go : (k < length gs) ⊎ (length gs ≤ k) → ⊥
     go (inl l) = true≢false (sym (any_in k items (ap has_fault (w.whole k l) ∙ has)) ∙ none)
     go (inr past) = true≢false (sym has ∙ ap has_fault (past_is gs k past))
 
 -- the first feed and further ones, each with its feeder
 module _ {T : Type 0} (t : Plan) (turns : ℕ) (fed : T → Option Fed) (faults : T → ℕ) (groups nodes : ℕ) (queue : TableId) (a b : Option Fed) (i j : ℕ) (f g : FeederState) (xs ys : List T) (fs gs : List FeederState) (taken : List Item)
-  (first : IsRead t turns a b i j f g) (first_is : f ≡ fresh_feeder queue 0) (read : AllRan (Reads t turns fed faults) xs ys fs gs) (fresh : fs ≡ map (fresh_feeder queue) (range_with_len 1 (length xs)))
-  (are : AreTaken groups nodes (1 + length xs) taken) (began : IsPrefix (sent_by g.feeder taken) g.sent) (begun : All (λ (x : FeederState). IsPrefix (sent_by x.feeder taken) x.sent) gs) (ended : ends_in taken ≡ 1 + length xs) where
+    (first : IsRead t turns a b i j f g) (first_is : f ≡ fresh_feeder queue 0) (read : AllRan (Reads t turns fed faults) xs ys fs gs) (fresh : fs ≡ map (fresh_feeder queue) (range_with_len 1 (length xs)))
+    (are : AreTaken groups nodes (1 + length xs) taken) (began : IsPrefix (sent_by g.feeder taken) g.sent) (begun : All (λ (x : FeederState). IsPrefix (sent_by x.feeder taken) x.sent) gs) (ended : ends_in taken ≡ 1 + length xs) where
   size : length (g ∷ gs) ≡ 1 + length xs
   size = let n = lengths t turns fed faults xs ys fs gs read in omega (arith, n)
 
@@ -357,6 +364,7 @@ module _ {T : Type 0} (t : Plan) (turns : ℕ) (fed : T → Option Fed) (faults 
     where
       k : (k : ℕ) × (k < length (g ∷ gs)) × EndsWith (sent_at (g ∷ gs) k) ends.SourceFault
       k = fault_at taken (g ∷ gs) end start (record stop { pace = run.calls }) all_of run.ended is
+
       go : (k : ℕ) → EndsWith (sent_at (g ∷ gs) k) ends.SourceFault → Rose i j ⊎ AnyRose (tells fed faults xs) (tells fed faults ys)
       go zero e = inl (first.source e)
       go (suc k) e = inr (any_rose t turns fed faults xs ys fs gs k e read)

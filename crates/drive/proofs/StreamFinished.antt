@@ -1,5 +1,5 @@
 -- A call of a lane for conversations and its closing look make a lane that is done.
-use Rattle.std.proofs.Common.{◌≡◌, ℕ, ◌+◌, ◌-◌, ◌<◌, ◌≤◌, List, [], ◌∷◌, ◌++◌, length, map, Option, Some, refl, sym, ap, subst, ◌∙◌, arith}
+use Rattle.std.proofs.Common.{◌≡◌, ℕ, ◌-◌, ◌<◌, ◌≤◌, List, [], ◌∷◌, length, map, Option, Some, ap, subst, ◌∙◌, arith}
 use Rattle.std.specs.List.{flat_map, range_with_len}
 use Rattle.outside.specs.Faults.{BothTell}
 use Rattle.outside.specs.Gate.{GateTold}

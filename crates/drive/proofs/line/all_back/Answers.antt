@@ -1,4 +1,4 @@
-use Rattle.std.proofs.Common.{rules, refl, ◌≡◌, ◌++◌, ◌∷◌, [], List, All, ◌∙◌, subst}
+use Rattle.std.proofs.Common.{rules, ◌≡◌, ◌++◌, ◌∷◌, [], List, All, ◌∙◌, subst}
 use mathlib.Core.List.{IsPrefix}
 use Rattle.feed_queue.specs.Ends.{FeederState, TakerState}
 use Rattle.feed_queue.specs.Items.{sent_by}
