@@ -9,6 +9,7 @@ use crate::peers::socket_addr;
 use addr_text::{Listen, Peer};
 use outside::{Arrival, LARGEST_DATAGRAM, Opening, Port, Sending};
 use past_log::{PortEvent, PortPast};
+use reuse_port::{bind_beside, widen};
 use std::marker::Model;
 use std::net::{Net, UdpSocket};
 use std::os::fd::AsRawFd;
@@ -21,6 +22,9 @@ const LONGEST_WAIT: u64 = 50;
 /// How long `send` waits where the socket's buffer is full, in milliseconds. The reply is lost then: whoever fills the
 /// buffer, with queries from neighbours that are not there, is not to hold up a lane.
 const LONGEST_SEND: u64 = 1;
+
+/// How many octets of datagrams may wait at a socket, if the system allows it.
+const ROOM: i32 = 4_194_304;
 
 /// The first descriptor that is no standard stream's.
 const FIRST_DESCRIPTOR: i32 = 3;
@@ -35,7 +39,8 @@ struct Bound {
     port: u16,
 }
 
-/// The socket that ports share. Ports are opened one after another, before they are lent to threads.
+/// Where ports are bound, and the socket of the first one. Ports are opened one after another, before they are lent to
+/// threads.
 #[derive(Drop)]
 pub struct SharedUdp {
     bound: OnceLock<Bound>,
@@ -55,15 +60,22 @@ impl SharedUdp {
     }
 }
 
-/// A port of UDP over a shared socket, as what it was asked and answered, and a count of the calls that failed. The
-/// first one that is opened binds the
-/// socket, and the others share it. What a datagram brings about is no failure: a reply that the system refuses counts
+/// The socket of a port: the first one, or one of its own beside it.
+#[derive(Drop)]
+enum Seat<'a> {
+    First(&'a UdpSocket),
+    Beside(UdpSocket),
+}
+
+/// A port of UDP, as what it was asked and answered, and a count of the calls that failed. The
+/// first one that is opened binds a
+/// socket, and each other one a socket of its own beside it. What a datagram brings about is no failure: a reply that the system refuses counts
 /// as lost.
 #[derive(Drop)]
 pub struct UdpPort<'a, N: Net> {
     net: &'a N,
     shared: &'a SharedUdp,
-    socket: Option<&'a UdpSocket>,
+    seat: Option<Seat<'a>>,
     faults: u64,
     past: PortPast,
 }
@@ -86,11 +98,21 @@ impl<'a, N: Net> UdpPort<'a, N> {
         UdpPort {
             net,
             shared,
-            socket: None,
+            seat: None,
             faults: 0,
             past: PortPast::new(),
         }
     }
+}
+
+/// Limits how long a socket waits, and makes room for what waits at it.
+fn limit(socket: &UdpSocket) -> Option<()> {
+    let wait = Some(Duration::from_millis(LONGEST_WAIT));
+    socket.set_read_timeout(wait).ok()?;
+    let send = Some(Duration::from_millis(LONGEST_SEND));
+    socket.set_write_timeout(send).ok()?;
+    let _ = widen(socket, ROOM);
+    Some(())
 }
 
 /// Binds a socket there, whose `recv` waits for a while. Where a standard stream was closed at the start, the system may
@@ -100,10 +122,7 @@ fn bind<N: Net>(net: &N, listen: Listen) -> Option<Bound> {
     if socket.as_raw_fd() < FIRST_DESCRIPTOR {
         return None;
     }
-    let wait = Some(Duration::from_millis(LONGEST_WAIT));
-    socket.set_read_timeout(wait).ok()?;
-    let send = Some(Duration::from_millis(LONGEST_SEND));
-    socket.set_write_timeout(send).ok()?;
+    limit(&socket)?;
     let port = socket.local_addr().ok()?.port();
     Some(Bound {
         socket,
@@ -112,17 +131,29 @@ fn bind<N: Net>(net: &N, listen: Listen) -> Option<Bound> {
     })
 }
 
-/// The shared socket. It is bound there if it was not bound yet; there is none where it is bound elsewhere.
-fn join<'a, N: Net>(net: &N, shared: &'a SharedUdp, listen: Listen) -> Option<&'a UdpSocket> {
+/// A seat there. The first one is bound there if none was yet; there is none where it is bound elsewhere.
+fn join<'a, N: Net>(net: &N, shared: &'a SharedUdp, listen: Listen) -> Option<Seat<'a>> {
     if shared.bound.get().is_none() {
         let bound = bind(net, listen)?;
         let _ = shared.bound.try_set(bound);
+        return Some(Seat::First(&shared.bound.get()?.socket));
     }
     let bound = shared.bound.get()?;
     if bound.listen == listen {
-        Some(&bound.socket)
+        let socket = bind_beside(net, &bound.socket).ok()?;
+        limit(&socket)?;
+        Some(Seat::Beside(socket))
     } else {
         None
+    }
+}
+
+/// The socket of a seat.
+fn socket_of<'s>(seat: &'s Option<Seat<'_>>) -> Option<&'s UdpSocket> {
+    match seat {
+        Some(Seat::First(socket)) => Some(*socket),
+        Some(Seat::Beside(socket)) => Some(socket),
+        None => None,
     }
 }
 
@@ -165,8 +196,8 @@ impl<N: Net> Port for UdpPort<'_, N> {
 
     fn open(&mut self, listen: &Listen) -> Opening {
         self.past.note(&PortEvent::Opened(*listen));
-        self.socket = join(self.net, self.shared, *listen);
-        if self.socket.is_some() {
+        self.seat = join(self.net, self.shared, *listen);
+        if self.seat.is_some() {
             Opening::Ready
         } else {
             self.faults = self.faults.saturating_add(1);
@@ -175,7 +206,7 @@ impl<N: Net> Port for UdpPort<'_, N> {
     }
 
     fn recv(&mut self, known: u64, buffer: &mut [u8]) -> Arrival {
-        let arrival = take_next(self.socket, buffer);
+        let arrival = take_next(socket_of(&self.seat), buffer);
         self.past.note(&PortEvent::Received(known, buffer, arrival));
         if let Arrival::Failed = arrival {
             self.faults = self.faults.saturating_add(1);
@@ -184,7 +215,7 @@ impl<N: Net> Port for UdpPort<'_, N> {
     }
 
     fn send(&mut self, octets: &[u8], peer: Peer, serial: u64) -> Sending {
-        let sending = match self.socket {
+        let sending = match socket_of(&self.seat) {
             Some(socket) => {
                 sending_of(socket.send_to(octets, socket_addr(peer.addr, peer.port)))
             }
