@@ -1,4 +1,4 @@
-//! A port of UDP over one socket that lanes share.
+//! A port of UDP over a socket of its own, at an address and port that lanes share.
 ghost use Rattle.std.specs.Prelude.{◌≡◌, ◌≢◌, ◌≤◌, ℕ, Some, length};
 ghost use Rattle.outside.specs.Port.{IsShort};
 ghost use Rattle.past_log.specs.Port.{new_port};
@@ -9,7 +9,7 @@ use crate::peers::socket_addr;
 use addr_text::{Listen, Peer};
 use outside::{Arrival, LARGEST_DATAGRAM, Opening, Port, Sending};
 use past_log::{PortEvent, PortPast};
-use reuse_port::{bind_beside, widen};
+use reuse_port::{bind_beside, grow_receive_buffer};
 use std::marker::Model;
 use std::net::{Net, UdpSocket};
 use std::os::fd::AsRawFd;
@@ -23,13 +23,13 @@ const LONGEST_WAIT: u64 = 50;
 /// buffer, with queries from neighbours that are not there, is not to hold up a lane.
 const LONGEST_SEND: u64 = 1;
 
-/// How many octets of datagrams may wait at a socket, if the system allows it.
-const ROOM: i32 = 4_194_304;
+/// How many octets of datagrams may wait at a socket, where the system allows it: some 11,000 queries.
+const RECEIVE_BUFFER: i32 = 4_194_304;
 
 /// The first descriptor that is no standard stream's.
 const FIRST_DESCRIPTOR: i32 = 3;
 
-/// A socket that is bound.
+/// The first socket that was bound.
 #[derive(Drop)]
 struct Bound {
     socket: UdpSocket,
@@ -39,8 +39,8 @@ struct Bound {
     port: u16,
 }
 
-/// Where ports are bound, and the socket of the first one. Ports are opened one after another, before they are lent to
-/// threads.
+/// The address and port that ports share, with the first socket that was bound there. Ports are opened one after another,
+/// before they are lent to threads.
 #[derive(Drop)]
 pub struct SharedUdp {
     bound: OnceLock<Bound>,
@@ -54,28 +54,29 @@ impl SharedUdp {
         }
     }
 
-    /// The UDP port of the socket. There is none exactly where nothing is bound.
+    /// The UDP port of all sockets. There is none exactly where nothing is bound.
     pub fn port(&self) -> Option<u16> {
         Some(self.bound.get()?.port)
     }
 }
 
-/// The socket of a port: the first one, or one of its own beside it.
+/// The socket of a port.
 #[derive(Drop)]
-enum Seat<'a> {
+enum PortSocket<'a> {
+    /// The first one that was bound.
     First(&'a UdpSocket),
-    Beside(UdpSocket),
+    /// One that was bound beside it.
+    Own(UdpSocket),
 }
 
-/// A port of UDP, as what it was asked and answered, and a count of the calls that failed. The
-/// first one that is opened binds a
-/// socket, and each other one a socket of its own beside it. What a datagram brings about is no failure: a reply that the system refuses counts
-/// as lost.
+/// A port of UDP, as what it was asked and answered, and a count of the calls that failed. The first one that is opened
+/// binds a socket, and each later one a socket of its own beside it. What a datagram brings about is no failure: a reply
+/// that the system refuses counts as lost.
 #[derive(Drop)]
 pub struct UdpPort<'a, N: Net> {
     net: &'a N,
     shared: &'a SharedUdp,
-    seat: Option<Seat<'a>>,
+    socket: Option<PortSocket<'a>>,
     faults: u64,
     past: PortPast,
 }
@@ -91,38 +92,38 @@ impl<'a, N: Net> Model for UdpPort<'a, N> {
 }
 
 impl<'a, N: Net> UdpPort<'a, N> {
-    /// One over this socket, which is not open, without a fault so far.
+    /// One at what these ports share, which is not open, without a fault so far.
     pub fn new(net: &'a N, shared: &'a SharedUdp) -> UdpPort<'a, N>
         ensures { result ≡ record { told = new_port; faults = 0 } }
     {
         UdpPort {
             net,
             shared,
-            seat: None,
+            socket: None,
             faults: 0,
             past: PortPast::new(),
         }
     }
 }
 
-/// Limits how long a socket waits, and makes room for what waits at it.
-fn limit(socket: &UdpSocket) -> Option<()> {
+/// Limits how long the calls of a socket wait, and lets many datagrams wait at it, where the system does.
+fn set_up(socket: &UdpSocket) -> Option<()> {
     let wait = Some(Duration::from_millis(LONGEST_WAIT));
     socket.set_read_timeout(wait).ok()?;
     let send = Some(Duration::from_millis(LONGEST_SEND));
     socket.set_write_timeout(send).ok()?;
-    let _ = widen(socket, ROOM);
+    let _ = grow_receive_buffer(socket, RECEIVE_BUFFER);
     Some(())
 }
 
-/// Binds a socket there, whose `recv` waits for a while. Where a standard stream was closed at the start, the system may
+/// Binds the first socket there, where no other one is. Where a standard stream was closed at the start, the system may
 /// give the socket its descriptor, and datagrams would be read as a feed: such a socket is given up.
 fn bind<N: Net>(net: &N, listen: Listen) -> Option<Bound> {
     let socket = UdpSocket::bind(net, socket_addr(listen.addr, listen.port)).ok()?;
     if socket.as_raw_fd() < FIRST_DESCRIPTOR {
         return None;
     }
-    limit(&socket)?;
+    set_up(&socket)?;
     let port = socket.local_addr().ok()?.port();
     Some(Bound {
         socket,
@@ -131,28 +132,35 @@ fn bind<N: Net>(net: &N, listen: Listen) -> Option<Bound> {
     })
 }
 
-/// A seat there. The first one is bound there if none was yet; there is none where it is bound elsewhere.
-fn join<'a, N: Net>(net: &N, shared: &'a SharedUdp, listen: Listen) -> Option<Seat<'a>> {
-    if shared.bound.get().is_none() {
+/// A socket there: the first one, if none was bound yet, and else a further one beside it. A port that has one there keeps
+/// it. There is none where the first one is bound elsewhere.
+fn join<'a, N: Net>(
+    net: &N,
+    shared: &'a SharedUdp,
+    held: Option<PortSocket<'a>>,
+    listen: Listen,
+) -> Option<PortSocket<'a>> {
+    let Some(first) = shared.bound.get() else {
         let bound = bind(net, listen)?;
         let _ = shared.bound.try_set(bound);
-        return Some(Seat::First(&shared.bound.get()?.socket));
+        return Some(PortSocket::First(&shared.bound.get()?.socket));
+    };
+    if first.listen != listen {
+        return None;
     }
-    let bound = shared.bound.get()?;
-    if bound.listen == listen {
-        let socket = bind_beside(net, &bound.socket).ok()?;
-        limit(&socket)?;
-        Some(Seat::Beside(socket))
-    } else {
-        None
+    if held.is_some() {
+        return held;
     }
+    let socket = bind_beside(net, &first.socket).ok()?;
+    set_up(&socket)?;
+    Some(PortSocket::Own(socket))
 }
 
-/// The socket of a seat.
-fn socket_of<'s>(seat: &'s Option<Seat<'_>>) -> Option<&'s UdpSocket> {
-    match seat {
-        Some(Seat::First(socket)) => Some(*socket),
-        Some(Seat::Beside(socket)) => Some(socket),
+/// The socket, where there is one.
+fn socket_of<'s>(socket: &'s Option<PortSocket<'_>>) -> Option<&'s UdpSocket> {
+    match socket {
+        Some(PortSocket::First(socket)) => Some(*socket),
+        Some(PortSocket::Own(socket)) => Some(socket),
         None => None,
     }
 }
@@ -196,8 +204,9 @@ impl<N: Net> Port for UdpPort<'_, N> {
 
     fn open(&mut self, listen: &Listen) -> Opening {
         self.past.note(&PortEvent::Opened(*listen));
-        self.seat = join(self.net, self.shared, *listen);
-        if self.seat.is_some() {
+        let held = self.socket.take();
+        self.socket = join(self.net, self.shared, held, *listen);
+        if self.socket.is_some() {
             Opening::Ready
         } else {
             self.faults = self.faults.saturating_add(1);
@@ -206,7 +215,7 @@ impl<N: Net> Port for UdpPort<'_, N> {
     }
 
     fn recv(&mut self, known: u64, buffer: &mut [u8]) -> Arrival {
-        let arrival = take_next(socket_of(&self.seat), buffer);
+        let arrival = take_next(socket_of(&self.socket), buffer);
         self.past.note(&PortEvent::Received(known, buffer, arrival));
         if let Arrival::Failed = arrival {
             self.faults = self.faults.saturating_add(1);
@@ -215,7 +224,7 @@ impl<N: Net> Port for UdpPort<'_, N> {
     }
 
     fn send(&mut self, octets: &[u8], peer: Peer, serial: u64) -> Sending {
-        let sending = match socket_of(&self.seat) {
+        let sending = match socket_of(&self.socket) {
             Some(socket) => {
                 sending_of(socket.send_to(octets, socket_addr(peer.addr, peer.port)))
             }

@@ -112,3 +112,6 @@ pub fn grow_receive_buffer(socket: &UdpSocket, octets: i32) -> Result<()> {
     }
     Ok(())
 }
+
+#[cfg(test)]
+mod tests;
