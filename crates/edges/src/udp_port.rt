@@ -7,6 +7,7 @@ ghost use Rattle.outside.specs.declared.limits.TheConstants.{LARGEST_DATAGRAM};
 use crate::judged::{arrival_of, sending_of};
 use crate::peers::socket_addr;
 use addr_text::{Listen, Peer};
+use handed_in::{handed_in, take_udp};
 use outside::{Arrival, LARGEST_DATAGRAM, Opening, Port, Sending};
 use past_log::{PortEvent, PortPast};
 use reuse_port::{bind_beside, grow_receive_buffer};
@@ -14,6 +15,8 @@ use std::marker::Model;
 use std::net::{Net, UdpSocket};
 use std::os::fd::AsRawFd;
 use std::sync::OnceLock;
+use std::sync::atomic::AtomicU32;
+use std::sync::atomic::Ordering::SeqCst;
 use std::time::Duration;
 
 /// How long `recv` waits for a datagram, in milliseconds. So long may a lane take to see that it is to stop.
@@ -37,6 +40,8 @@ struct Bound {
     listen: Listen,
     /// The port that it has, also where the system chose it.
     port: u16,
+    /// Whether it was handed in.
+    is_handed: bool,
 }
 
 /// The address and port that ports share, with the first socket that was bound there. Ports are opened one after another,
@@ -44,6 +49,8 @@ struct Bound {
 #[derive(Drop)]
 pub struct SharedUdp {
     bound: OnceLock<Bound>,
+    /// The number of the next socket that was handed in, of which none was looked at from there on.
+    next: AtomicU32,
 }
 
 impl SharedUdp {
@@ -51,6 +58,7 @@ impl SharedUdp {
     pub fn new() -> SharedUdp {
         SharedUdp {
             bound: OnceLock::new(),
+            next: AtomicU32::new(0),
         }
     }
 
@@ -70,8 +78,9 @@ enum PortSocket<'a> {
 }
 
 /// A port of UDP, as what it was asked and answered, and a count of the calls that failed. The first one that is opened
-/// binds a socket, and each later one a socket of its own beside it. What a datagram brings about is no failure: a reply
-/// that the system refuses counts as lost.
+/// binds a socket, and each later one a socket of its own beside it. Where sockets at that place were handed in, each port
+/// takes the next one of these, and ports for which none is left use the first one. What a datagram brings about is no
+/// failure: a reply that the system refuses counts as lost.
 #[derive(Drop)]
 pub struct UdpPort<'a, N: Net> {
     net: &'a N,
@@ -116,6 +125,44 @@ fn set_up(socket: &UdpSocket) -> Option<()> {
     Some(())
 }
 
+/// The next socket there that was handed in, if one is left.
+fn next_handed<N: Net>(net: &N, shared: &SharedUdp, listen: Listen) -> Option<UdpSocket> {
+    let place = socket_addr(listen.addr, listen.port);
+    for number in shared.next.load(SeqCst)..handed_in() {
+        shared.next.store(number.saturating_add(1), SeqCst);
+        let socket = take_udp(net, number, place);
+        if socket.is_some() {
+            return socket;
+        }
+    }
+    None
+}
+
+/// The first socket there: the first one that was handed in, or else one that is bound.
+fn bind_first<N: Net>(net: &N, shared: &SharedUdp, listen: Listen) -> Option<Bound> {
+    let Some(socket) = next_handed(net, shared, listen) else {
+        return bind(net, listen);
+    };
+    set_up(&socket)?;
+    Some(Bound {
+        socket,
+        listen,
+        port: listen.port,
+        is_handed: true,
+    })
+}
+
+/// A further socket there.
+fn further<N: Net>(net: &N, shared: &SharedUdp, first: &Bound) -> Option<UdpSocket> {
+    if !first.is_handed {
+        return bind_beside(net, &first.socket).ok();
+    }
+    match next_handed(net, shared, first.listen) {
+        Some(socket) => Some(socket),
+        None => first.socket.try_clone().ok(),
+    }
+}
+
 /// Binds the first socket there, where no other one is. Where a standard stream was closed at the start, the system may
 /// give the socket its descriptor, and datagrams would be read as a feed: such a socket is given up.
 fn bind<N: Net>(net: &N, listen: Listen) -> Option<Bound> {
@@ -129,6 +176,7 @@ fn bind<N: Net>(net: &N, listen: Listen) -> Option<Bound> {
         socket,
         listen,
         port,
+        is_handed: false,
     })
 }
 
@@ -141,7 +189,7 @@ fn join<'a, N: Net>(
     listen: Listen,
 ) -> Option<PortSocket<'a>> {
     let Some(first) = shared.bound.get() else {
-        let bound = bind(net, listen)?;
+        let bound = bind_first(net, shared, listen)?;
         let _ = shared.bound.try_set(bound);
         return Some(PortSocket::First(&shared.bound.get()?.socket));
     };
@@ -151,7 +199,7 @@ fn join<'a, N: Net>(
     if held.is_some() {
         return held;
     }
-    let socket = bind_beside(net, &first.socket).ok()?;
+    let socket = further(net, shared, first)?;
     set_up(&socket)?;
     Some(PortSocket::Own(socket))
 }
