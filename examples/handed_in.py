@@ -16,6 +16,7 @@ import time
 from pathlib import Path
 
 TOP = Path(__file__).resolve().parent.parent
+TOPOLOGY = TOP / "examples/tree.toml"
 GLB = sys.argv[1] if len(sys.argv) > 1 else str(TOP / "crates/glb_program/out/glb_program")
 QUERY = struct.pack(">HHHHHH", 0x1234, 0x0100, 1, 0, 0, 0) + b"\3www\3cdn\7example\0" + struct.pack(">HH", 1, 1)
 passed = failed = 0
@@ -56,7 +57,7 @@ class Server:
 
     def __init__(self, handed, port, workers=2, tcp=False, pid=None, at="127.0.0.1"):
         feed, self.feed = os.pipe()
-        words = [GLB, "serve", str(TOP / "examples/tree.toml"), "--listen", f"{at}:{port}", "--workers", str(workers)]
+        words = [GLB, "serve", str(TOPOLOGY), "--listen", f"{at}:{port}", "--workers", str(workers)]
         words += ["--tcp", f"{at}:{port}"] if tcp else []
         self.pid = os.fork()
         if self.pid == 0:
@@ -141,44 +142,49 @@ def over_restarts(handed, port, times, workers=2, each=20):
     return count
 
 
-# a socket for each worker
-handed, port = datagrams(2)
-server = Server(handed, port)
-expect("two sockets, two workers", ask(port), 64)
-server.kill()
-expect("what came while none ran, over thirty restarts", over_restarts(handed, port, 30), 600)
-server = Server(handed, port, workers=3)
-expect("two sockets, three workers", ask(port), 64)
-expect("the end of the feed", server.end(), 0)
-# one socket
-handed, port = datagrams(1)
-expect("one socket, two workers", over_restarts(handed, port, 2), 40)
-# what is none of UDP that is bound there is left alone
-other, elsewhere = datagrams(1)
-handed, port = datagrams(2)
-with open("/dev/null", "rb") as file:
-    server = Server([file, *other, handed[0], listener(port), handed[1]], port)
-    expect("two sockets among others", ask(port), 64)
+def main():
+    # a socket for each worker
+    handed, port = datagrams(2)
+    server = Server(handed, port)
+    expect("two sockets, two workers", ask(port), 64)
     server.kill()
-probe, port = datagrams(1)
-probe[0].close()
-server = Server(other, port)
-expect("a socket of another port", is_up(port), True)
-server.kill()
-six, port = datagrams(1, family=socket.AF_INET6, host="::")
-expect("a socket of the other family has the port", Server(six, port).end(), 5)
-handed, port = datagrams(1)
-expect("handed to another process", Server(handed, port, pid=1).end(), 5)
-# a listener
-handed, port = datagrams(2)
-waiting = listener(port)
-server = Server([*handed, waiting], port, tcp=True)
-expect("by TCP", ask_tcp(socket.create_connection(("127.0.0.1", port), 5)), True)
-server.kill()
-connection = socket.create_connection(("127.0.0.1", port), 5)
-server = Server([*handed, waiting], port, tcp=True)
-expect("a connection that came while none ran", ask_tcp(connection), True)
-expect("by UDP beside it", ask(port), 64)
-server.kill()
-print(f"{passed} passed, {failed} failed")
-sys.exit(failed != 0)
+    expect("what came while none ran, over thirty restarts", over_restarts(handed, port, 30), 600)
+    server = Server(handed, port, workers=3)
+    expect("two sockets, three workers", ask(port), 64)
+    expect("the end of the feed", server.end(), 0)
+    # one socket
+    handed, port = datagrams(1)
+    expect("one socket, two workers", over_restarts(handed, port, 2), 40)
+    # what is none of UDP that is bound there is left alone
+    other, elsewhere = datagrams(1)
+    handed, port = datagrams(2)
+    with open("/dev/null", "rb") as file:
+        server = Server([file, *other, handed[0], listener(port), handed[1]], port)
+        expect("two sockets among others", ask(port), 64)
+        server.kill()
+    probe, port = datagrams(1)
+    probe[0].close()
+    server = Server(other, port)
+    expect("a socket of another port", is_up(port), True)
+    server.kill()
+    six, port = datagrams(1, family=socket.AF_INET6, host="::")
+    expect("a socket of the other family has the port", Server(six, port).end(), 5)
+    handed, port = datagrams(1)
+    expect("handed to another process", Server(handed, port, pid=1).end(), 5)
+    # a listener
+    handed, port = datagrams(2)
+    waiting = listener(port)
+    server = Server([*handed, waiting], port, tcp=True)
+    expect("by TCP", ask_tcp(socket.create_connection(("127.0.0.1", port), 5)), True)
+    server.kill()
+    connection = socket.create_connection(("127.0.0.1", port), 5)
+    server = Server([*handed, waiting], port, tcp=True)
+    expect("a connection that came while none ran", ask_tcp(connection), True)
+    expect("by UDP beside it", ask(port), 64)
+    server.kill()
+    print(f"{passed} passed, {failed} failed")
+    sys.exit(failed != 0)
+
+
+if __name__ == "__main__":
+    main()

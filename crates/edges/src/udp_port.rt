@@ -1,4 +1,4 @@
-//! A port of UDP over a socket of its own, at an address and port that lanes share.
+//! A port of UDP over a socket of its own, at an address and port that all ports have.
 ghost use Rattle.std.specs.Prelude.{◌≡◌, ◌≢◌, ◌≤◌, ℕ, Some, length};
 ghost use Rattle.outside.specs.Port.{IsShort};
 ghost use Rattle.past_log.specs.Port.{new_port};
@@ -73,7 +73,7 @@ impl SharedUdp {
 enum PortSocket<'a> {
     /// The first one that was bound.
     First(&'a UdpSocket),
-    /// One that was bound beside it.
+    /// One of its own.
     Own(UdpSocket),
 }
 

@@ -84,3 +84,6 @@ pub fn take_tcp<N: Net>(_net: &N, number: u32, place: SocketAddr) -> Option<TcpL
     let _ = listener.into_raw_fd();
     None
 }
+
+#[cfg(test)]
+mod tests;
