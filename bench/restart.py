@@ -92,18 +92,13 @@ def main():
         topology = f"{work}/topology"
         subprocess.run([sys.executable, str(TOP / "bench/generate.py"), str(GROUPS), "2048", "1", "1000", topology], capture_output=True, check=True)
         print(f"{GROUPS} groups, {RATE} queries a second, load {os.getloadavg()[0]:.1f}")
-        print("| Sockets | Buffer of each, as the system counts it | Sent | Late | Lost | Seconds to the first answer |\n|---|---|---|---|---|---|")
+        print("| Sockets | Sent | Late | Lost | Seconds to the first answer |\n|---|---|---|---|---|")
         probe, port = hands.datagrams(1)
         probe[0].close()
-        rows = [("its own", [], port, None)]
-        for octets in (106_496, 4 << 20):
-            handed, at = hands.datagrams(2)
-            for one in handed:
-                one.setsockopt(1, 8, octets)
-            rows.append(("two handed in", handed, at, handed[0].getsockopt(1, 8)))
-        for name, handed, at, octets in rows:
+        handed, at = hands.datagrams(2)
+        for name, handed, at in [("its own", [], port), ("two handed in", handed, at)]:
             sent, late, lost, gap = measure(topology, handed, at)
-            print(f"| {name} | {octets or ''} | {sent} | {late} | {lost} | {gap:.1f} |", flush=True)
+            print(f"| {name} | {sent} | {late} | {lost} | {gap:.1f} |", flush=True)
 
 
 main()

@@ -1,5 +1,5 @@
 #!/usr/bin/env python3
-"""Starts `glb serve` with sockets that it is handed in, as systemd would (LISTEN_FDS, LISTEN_PID), and asks it.
+"""Starts `glb serve` with sockets that it is handed in, as systemd would (LISTEN_FDS, LISTEN_PID), and with its own, and asks it.
 
     examples/handed_in.py [GLB]     the built program if it is not given
 
@@ -171,6 +171,14 @@ def main():
     expect("a socket of the other family has the port", Server(six, port).end(), 5)
     handed, port = datagrams(1)
     expect("handed to another process", Server(handed, port, pid=1).end(), 5)
+    # sockets of its own
+    probe, port = datagrams(1)
+    probe[0].close()
+    server = Server([], port)
+    expect("sockets of its own", is_up(port) and ask(port), 64)
+    expect("another server at their place", Server([], port, workers=1).end(), 5)
+    expect("asked beside that", ask(port), 64)
+    server.kill()
     # a listener
     handed, port = datagrams(2)
     waiting = listener(port)
