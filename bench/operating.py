@@ -48,6 +48,11 @@ BLOCKS = {
         ("printf 'demand g1 9\\ncommit\\nstop\\ndemand g2 6\\ncommit\\n' >>/var/lib/glb/changes.log; sleep 2; journalctl -u glb -n 2 -o cat; systemctl is-active glb", "published 1\npublished 2\nactive"),
         ("kill -9 $(systemctl show --value -p MainPID glb); sleep 4; systemctl is-active glb glb-feed; journalctl -u glb -n 2 -o cat", "active\nactive\npublished 1\npublished 2"),
     ),
+    "install -m 644 examples/glb.socket": Block(
+        ("sleep 2; systemctl is-active glb.socket glb; ss -lunH 'sport = :53' | wc -l; " + ANSWER.format("192.0.2.53"), f"active\nactive\n4\n{ADDRESS}"),
+        ("systemctl kill -s KILL glb; sleep 0.2; " + ANSWER.format("192.0.2.53"), ADDRESS),
+        ("systemctl disable --now glb.socket 2>/dev/null; systemctl restart glb; sleep 2; systemctl is-active glb.socket glb; " + ANSWER.format("192.0.2.53"), f"inactive\nactive\n{ADDRESS}"),
+    ),
     "systemctl disable --now glb": Block(("sleep 2; " + FOUR, "active\n" * 3 + "active"), (ANSWER.format("192.0.2.53"), ADDRESS), (ANSWER.format("2001:db8::53"), ADDRESS)),
     "flock": Block(("sleep 1; journalctl -u glb@v4 -n 1 -o cat; journalctl -u glb@v6 -n 1 -o cat", "published 3\npublished 3")),
     "nft add table": Block(("nft list ruleset | grep -c 'limit rate over 200/second burst 400 packets'; nft delete table inet glb", "2")),

@@ -154,9 +154,9 @@ def syscalls(server):
     print(f"syscalls of {server.name}: {counts}")
 
 
-def glb(workers):
+def glb(workers, program=GLB):
     port = free_port()
-    words = [GLB, "serve", str(WORK / "topology"), "--listen", f"127.0.0.1:{port}", "--workers", str(workers)]
+    words = [program, "serve", str(WORK / "topology"), "--listen", f"127.0.0.1:{port}", "--workers", str(workers)]
     return Server(f"glb, {workers}", words, port)
 
 
@@ -245,13 +245,18 @@ def while_published(server, rate):
     print(f"{server.name} at {rate // 2:,} queries a second: {100 * lost[0]:.3f} % lost, {100 * lost[1]:.3f} % while {server.lines - lines} maps were published")
 
 
-def main():
+def make_world():
+    """Writes topology, map and queries. Answers what read_world does."""
     text = subprocess.run([sys.executable, str(HERE / "large_world.py"), str(GROUPS)], capture_output=True, text=True, check=True).stdout
     (WORK / "topology").write_text(re.sub(r"capacity = (\d+)", lambda found: f"capacity = {16 * int(found.group(1))}", text))
     with (WORK / "map").open("w") as file:
         subprocess.run([GLB, "map", str(WORK / "topology")], stdout=file, check=True)
     write_queries()
-    default, nets = read_world()
+    return read_world()
+
+
+def main():
+    default, nets = make_world()
     print(f"{GROUPS} groups, {SECONDS} s a row, load {os.getloadavg()[0]:.1f} at the start")
     print("| Server, threads | Queries | a second | lost | user, µs | system, µs | both, µs |\n|---|---|---|---|---|---|---|")
     starts, counted = [], []
@@ -272,4 +277,5 @@ def main():
     print("from start to first answer: " + "; ".join(starts))
 
 
-main()
+if __name__ == "__main__":
+    main()

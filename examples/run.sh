@@ -144,6 +144,8 @@ if [ $? = 5 ]; then passed=$((passed + 1)); else failed=$((failed + 1)) && echo 
 if [ $? = 5 ]; then passed=$((passed + 1)); else failed=$((failed + 1)) && echo 'no standard output: wanted 5'; fi
 "$glb" serve tree.toml --listen 127.0.0.1:0 </dev/null >/dev/null 2>&-
 if [ $? = 5 ]; then passed=$((passed + 1)); else failed=$((failed + 1)) && echo 'no standard error: wanted 5'; fi
+# with sockets of its own, and with some that it is handed in
+if said=$(python3 handed_in.py "$glb"); then passed=$((passed + 1)); else failed=$((failed + 1)) && echo "$said"; fi
 # what is written of a map is good for the same topology
 map=$(mktemp)
 for topology in flat.toml tree.toml; do

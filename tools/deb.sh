@@ -32,7 +32,7 @@ install -D -m 644 "$top/docs/glb.1" "$root/usr/share/man/man1/glb.1"
 gzip -9n "$root/usr/share/man/man1/glb.1"
 for tool in glb-append glb-follow glb-fleet; do echo '.so man1/glb.1' | gzip -9n >"$root/usr/share/man/man1/$tool.1.gz"; done
 install -D -m 644 -t "$root/usr/share/doc/glb" "$top"/README.md "$top"/docs/{FORMATS,OPERATING,PROVED,DECISIONS}.md
-install -D -m 644 -t "$root/usr/share/doc/glb/examples" "$top"/examples/*.toml "$top"/examples/*.map "$top"/examples/*.changes "$top"/examples/*.yml "$top"/examples/queries.txt
+install -D -m 644 -t "$root/usr/share/doc/glb/examples" "$top"/examples/*.toml "$top"/examples/*.map "$top"/examples/*.changes "$top"/examples/*.yml "$top"/examples/*.socket "$top"/examples/queries.txt
 printf 'glb (%s) unstable; urgency=medium\n\n  * Made by tools/deb.sh.\n\n -- %s  %s\n' "$version" "$maintainer" "$(date -R)" | gzip -9n >"$root/usr/share/doc/glb/changelog.gz"
 printf 'glb: its program is proved by and built with the Rattle kit.\nThe C library that it is linked with is under the LGPL, /usr/share/common-licenses/LGPL-2.1.\n\nCopyright 2026 The engineers of glb\n' >"$root/usr/share/doc/glb/copyright"
 install -d -m 755 "$root/etc/glb"
@@ -69,7 +69,7 @@ cat >"$root/DEBIAN/prerm" <<'SCRIPT'
 set -e
 # an upgrade leaves the servers as they are: start them again when it suits, one after another
 if [ "$1" = remove ] && [ -d /run/systemd/system ]; then
-    systemctl stop 'glb*.service' 'glb*.timer' || true
+    systemctl stop 'glb*.socket' 'glb*.service' 'glb*.timer' || true
 fi
 # what Python keeps of the tools that were run
 rm -rf /usr/lib/glb/__pycache__
@@ -80,7 +80,7 @@ set -e
 if [ "$1" = purge ]; then
     rm -rf /etc/glb /var/lib/glb
     # units that were enabled
-    rm -f /etc/systemd/system/*.wants/glb*.service /etc/systemd/system/*.wants/glb*.timer
+    rm -f /etc/systemd/system/*.wants/glb*.service /etc/systemd/system/*.wants/glb*.timer /etc/systemd/system/*.wants/glb*.socket
     rmdir /etc/systemd/system/glb*.wants 2>/dev/null || true
     if command -v deluser >/dev/null; then deluser --system --quiet glb || true; fi
 fi

@@ -7,6 +7,7 @@ use crate::places::{Wanted, least, place_for};
 use crate::room::Room;
 use crate::seat::{Seat, leave};
 use addr_text::{Listen, Peer};
+use handed_in::{handed_in, take_tcp};
 use mio::net::{TcpListener, TcpStream};
 use mio::{Events, Interest, Poll, Token};
 use std::io::ErrorKind;
@@ -54,10 +55,21 @@ fn next_of(knock: Knock, has_room: bool) -> Next
     }
 }
 
+/// The listener there that was handed in, or else one that is bound.
+fn listener_at<N: Net>(net: &N, listen: Listen) -> Option<TcpListener> {
+    let place = socket_addr(listen.addr, listen.port);
+    for number in 0..handed_in() {
+        if let Some(listener) = take_tcp(net, number, place) {
+            return Some(TcpListener::from_std(listener));
+        }
+    }
+    TcpListener::bind(net, place).ok()
+}
+
 /// Listens there. Where a standard stream was closed at the start, the system may give its descriptor away, and a
 /// connection would be read as a feed: such a listener is given up.
 pub(crate) fn bind<N: Net>(net: &N, listen: Listen, events: Events) -> Option<Ears> {
-    let mut listener = TcpListener::bind(net, socket_addr(listen.addr, listen.port)).ok()?;
+    let mut listener = listener_at(net, listen)?;
     let poll = Poll::new(net).ok()?;
     if listener.as_raw_fd() < FIRST_DESCRIPTOR || poll.as_raw_fd() < FIRST_DESCRIPTOR {
         return None;

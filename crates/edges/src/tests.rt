@@ -241,7 +241,7 @@ fn lengths(rt: HostRuntime) {
     assert!(rt; all_come(&rt) == Some(true));
 }
 
-/// Whether the first of two ports binds the socket that they share, and the second one opens at its place alone.
+/// Whether the first of two ports binds a socket, and the second one is opened at its place alone.
 fn open_in_turn<N: Net>(
     shared: &SharedUdp,
     first: &mut UdpPort<'_, N>,
@@ -257,31 +257,81 @@ fn open_in_turn<N: Net>(
         && first.open(&LOCAL) == Opening::Ready
         && second.open(&elsewhere) == Opening::Failed
         && second.open(&LOCAL) == Opening::Ready
+        && first.open(&LOCAL) == Opening::Ready
 }
 
-/// Whether a datagram comes at one of two ports, and then at none.
-fn comes_once<N: Net>(one: &mut UdpPort<'_, N>, other: &mut UdpPort<'_, N>) -> bool {
+/// Sends one datagram from each of so many clients. Answers how many went.
+fn send_from_each<N: Net>(net: &N, to: SocketAddr, clients: u32) -> u32 {
+    let mut count = 0u32;
+    for _ in 0..clients {
+        if let Some(client) = client_at(net, "127.0.0.1:0") {
+            if client.send_to(QUESTION, to).is_ok() {
+                count = count.saturating_add(1);
+            }
+        }
+    }
+    count
+}
+
+/// How many datagrams wait at a port, up to a hundred.
+fn waiting<N: Net>(port: &mut UdpPort<'_, N>) -> u32 {
     let mut buffer = [0u8; 4_096];
-    matches!(one.recv(0, &mut buffer), Arrival::Arrived(8, _))
-        && other.recv(0, &mut buffer) == Arrival::Idle
+    let mut count = 0u32;
+    for _ in 0..100u32 {
+        if port.recv(0, &mut buffer) == Arrival::Idle {
+            return count;
+        }
+        count = count.saturating_add(1);
+    }
+    count
 }
 
-fn share<N: Net>(net: &N) -> Option<bool> {
+/// How many of a number of datagrams, each from a client of its own, come to each of two ports of one place.
+fn shared_out<N: Net>(net: &N, clients: u32) -> Option<(u32, u32)> {
     let shared = SharedUdp::new();
     let mut first = UdpPort::new(net, &shared);
     let mut second = UdpPort::new(net, &shared);
     if !open_in_turn(&shared, &mut first, &mut second) {
-        return Some(false);
+        return None;
     }
-    let client = client_at(net, "127.0.0.1:0")?;
-    client.send_to(QUESTION, reached(&shared)?).ok()?;
-    Some(comes_once(&mut second, &mut first))
+    if send_from_each(net, reached(&shared)?, clients) != clients {
+        return None;
+    }
+    Some((waiting(&mut first), waiting(&mut second)))
 }
 
-/// The shared socket is bound by the first opening, and no port is opened elsewhere.
+/// Each datagram comes to one port, and with that many clients no port has none.
 #[test]
-fn shares_one_socket(rt: HostRuntime) {
-    assert!(rt; share(&rt) == Some(true));
+fn ports_have_sockets_of_their_own(rt: HostRuntime) {
+    let (first, second) = shared_out(&rt, 64).expect(&rt, "two ports");
+    assert_eq!(rt; first.saturating_add(second), 64);
+    assert!(rt; first > 0 && second > 0);
+}
+
+/// What comes of opening a port of another server at a place that one port has, and then two.
+fn taken_place<N: Net>(net: &N) -> Option<(Opening, Opening)> {
+    let shared = SharedUdp::new();
+    let mut first = UdpPort::new(net, &shared);
+    let mut second = UdpPort::new(net, &shared);
+    if first.open(&LOCAL) != Opening::Ready {
+        return None;
+    }
+    let place = Listen {
+        addr: LOCAL.addr,
+        port: shared.port()?,
+    };
+    let (one, two) = (SharedUdp::new(), SharedUdp::new());
+    let beside_one = UdpPort::new(net, &one).open(&place);
+    if second.open(&LOCAL) != Opening::Ready {
+        return None;
+    }
+    Some((beside_one, UdpPort::new(net, &two).open(&place)))
+}
+
+/// No other server comes to a place, though this one has several sockets there.
+#[test]
+fn a_place_is_one_servers(rt: HostRuntime) {
+    assert_eq!(rt; taken_place(&rt), Some((Opening::Failed, Opening::Failed)));
 }
 
 /// Takes a datagram, and replies to a port 0, which the system refuses.
@@ -454,7 +504,7 @@ fn both_open<N: Net>(first: &mut UdpPort<'_, N>, second: &mut UdpPort<'_, N>) ->
     first.open(&LOCAL) == Opening::Ready && second.open(&LOCAL) == Opening::Ready
 }
 
-/// Two lanes in two threads and a client in a third, over one socket.
+/// Two lanes in two threads and a client in a third, at one place.
 #[test]
 fn two_lanes_at_once(rt: HostRuntime) {
     let (shared, flag) = (SharedUdp::new(), StopFlag::new());
@@ -488,7 +538,7 @@ struct TestLane<P, G> {
     gate: G,
 }
 
-/// Sixteen lanes over one socket.
+/// Sixteen lanes at one place.
 fn sixteen<'a, N: Net>(
     net: &'a N,
     alloc: Global,

@@ -1,4 +1,4 @@
-//! A port of UDP over one socket that lanes share.
+//! A port of UDP over a socket of its own, at an address and port that all ports have.
 ghost use Rattle.std.specs.Prelude.{◌≡◌, ◌≢◌, ◌≤◌, ℕ, Some, length};
 ghost use Rattle.outside.specs.Port.{IsShort};
 ghost use Rattle.past_log.specs.Port.{new_port};
@@ -7,12 +7,16 @@ ghost use Rattle.outside.specs.declared.limits.TheConstants.{LARGEST_DATAGRAM};
 use crate::judged::{arrival_of, sending_of};
 use crate::peers::socket_addr;
 use addr_text::{Listen, Peer};
+use handed_in::{handed_in, take_udp};
 use outside::{Arrival, LARGEST_DATAGRAM, Opening, Port, Sending};
 use past_log::{PortEvent, PortPast};
+use reuse_port::{bind_beside, grow_receive_buffer};
 use std::marker::Model;
 use std::net::{Net, UdpSocket};
 use std::os::fd::AsRawFd;
 use std::sync::OnceLock;
+use std::sync::atomic::AtomicU32;
+use std::sync::atomic::Ordering::SeqCst;
 use std::time::Duration;
 
 /// How long `recv` waits for a datagram, in milliseconds. So long may a lane take to see that it is to stop.
@@ -22,10 +26,13 @@ const LONGEST_WAIT: u64 = 50;
 /// buffer, with queries from neighbours that are not there, is not to hold up a lane.
 const LONGEST_SEND: u64 = 1;
 
+/// How many octets of datagrams may wait at a socket, where the system allows it: some 11,000 queries.
+const RECEIVE_BUFFER: i32 = 4_194_304;
+
 /// The first descriptor that is no standard stream's.
 const FIRST_DESCRIPTOR: i32 = 3;
 
-/// A socket that is bound.
+/// The first socket that was bound.
 #[derive(Drop)]
 struct Bound {
     socket: UdpSocket,
@@ -33,12 +40,17 @@ struct Bound {
     listen: Listen,
     /// The port that it has, also where the system chose it.
     port: u16,
+    /// Whether it was handed in.
+    is_handed: bool,
 }
 
-/// The socket that ports share. Ports are opened one after another, before they are lent to threads.
+/// The address and port that ports share, with the first socket that was bound there. Ports are opened one after another,
+/// before they are lent to threads.
 #[derive(Drop)]
 pub struct SharedUdp {
     bound: OnceLock<Bound>,
+    /// The number of the next socket that was handed in, of which none was looked at from there on.
+    next: AtomicU32,
 }
 
 impl SharedUdp {
@@ -46,24 +58,34 @@ impl SharedUdp {
     pub fn new() -> SharedUdp {
         SharedUdp {
             bound: OnceLock::new(),
+            next: AtomicU32::new(0),
         }
     }
 
-    /// The UDP port of the socket. There is none exactly where nothing is bound.
+    /// The UDP port of all sockets. There is none exactly where nothing is bound.
     pub fn port(&self) -> Option<u16> {
         Some(self.bound.get()?.port)
     }
 }
 
-/// A port of UDP over a shared socket, as what it was asked and answered, and a count of the calls that failed. The
-/// first one that is opened binds the
-/// socket, and the others share it. What a datagram brings about is no failure: a reply that the system refuses counts
-/// as lost.
+/// The socket of a port.
+#[derive(Drop)]
+enum PortSocket<'a> {
+    /// The first one that was bound.
+    First(&'a UdpSocket),
+    /// One of its own.
+    Own(UdpSocket),
+}
+
+/// A port of UDP, as what it was asked and answered, and a count of the calls that failed. The first one that is opened
+/// binds a socket, and each later one a socket of its own beside it. Where sockets at that place were handed in, each port
+/// takes the next one of these, and ports for which none is left use the first one. What a datagram brings about is no
+/// failure: a reply that the system refuses counts as lost.
 #[derive(Drop)]
 pub struct UdpPort<'a, N: Net> {
     net: &'a N,
     shared: &'a SharedUdp,
-    socket: Option<&'a UdpSocket>,
+    socket: Option<PortSocket<'a>>,
     faults: u64,
     past: PortPast,
 }
@@ -79,7 +101,7 @@ impl<'a, N: Net> Model for UdpPort<'a, N> {
 }
 
 impl<'a, N: Net> UdpPort<'a, N> {
-    /// One over this socket, which is not open, without a fault so far.
+    /// One at what these ports share, which is not open, without a fault so far.
     pub fn new(net: &'a N, shared: &'a SharedUdp) -> UdpPort<'a, N>
         ensures { result ≡ record { told = new_port; faults = 0 } }
     {
@@ -93,36 +115,101 @@ impl<'a, N: Net> UdpPort<'a, N> {
     }
 }
 
-/// Binds a socket there, whose `recv` waits for a while. Where a standard stream was closed at the start, the system may
+/// Limits how long the calls of a socket wait, and lets many datagrams wait at it, where the system does.
+fn set_up(socket: &UdpSocket) -> Option<()> {
+    let wait = Some(Duration::from_millis(LONGEST_WAIT));
+    socket.set_read_timeout(wait).ok()?;
+    let send = Some(Duration::from_millis(LONGEST_SEND));
+    socket.set_write_timeout(send).ok()?;
+    let _ = grow_receive_buffer(socket, RECEIVE_BUFFER);
+    Some(())
+}
+
+/// The next socket there that was handed in, if one is left.
+fn next_handed<N: Net>(net: &N, shared: &SharedUdp, listen: Listen) -> Option<UdpSocket> {
+    let place = socket_addr(listen.addr, listen.port);
+    for number in shared.next.load(SeqCst)..handed_in() {
+        shared.next.store(number.saturating_add(1), SeqCst);
+        let socket = take_udp(net, number, place);
+        if socket.is_some() {
+            return socket;
+        }
+    }
+    None
+}
+
+/// The first socket there: the first one that was handed in, or else one that is bound.
+fn bind_first<N: Net>(net: &N, shared: &SharedUdp, listen: Listen) -> Option<Bound> {
+    let Some(socket) = next_handed(net, shared, listen) else {
+        return bind(net, listen);
+    };
+    set_up(&socket)?;
+    Some(Bound {
+        socket,
+        listen,
+        port: listen.port,
+        is_handed: true,
+    })
+}
+
+/// A further socket there.
+fn further<N: Net>(net: &N, shared: &SharedUdp, first: &Bound) -> Option<UdpSocket> {
+    if !first.is_handed {
+        return bind_beside(net, &first.socket).ok();
+    }
+    match next_handed(net, shared, first.listen) {
+        Some(socket) => Some(socket),
+        None => first.socket.try_clone().ok(),
+    }
+}
+
+/// Binds the first socket there, where no other one is. Where a standard stream was closed at the start, the system may
 /// give the socket its descriptor, and datagrams would be read as a feed: such a socket is given up.
 fn bind<N: Net>(net: &N, listen: Listen) -> Option<Bound> {
     let socket = UdpSocket::bind(net, socket_addr(listen.addr, listen.port)).ok()?;
     if socket.as_raw_fd() < FIRST_DESCRIPTOR {
         return None;
     }
-    let wait = Some(Duration::from_millis(LONGEST_WAIT));
-    socket.set_read_timeout(wait).ok()?;
-    let send = Some(Duration::from_millis(LONGEST_SEND));
-    socket.set_write_timeout(send).ok()?;
+    set_up(&socket)?;
     let port = socket.local_addr().ok()?.port();
     Some(Bound {
         socket,
         listen,
         port,
+        is_handed: false,
     })
 }
 
-/// The shared socket. It is bound there if it was not bound yet; there is none where it is bound elsewhere.
-fn join<'a, N: Net>(net: &N, shared: &'a SharedUdp, listen: Listen) -> Option<&'a UdpSocket> {
-    if shared.bound.get().is_none() {
-        let bound = bind(net, listen)?;
+/// A socket there: the first one, if none was bound yet, and else a further one beside it. A port that has one there keeps
+/// it. There is none where the first one is bound elsewhere.
+fn join<'a, N: Net>(
+    net: &N,
+    shared: &'a SharedUdp,
+    held: Option<PortSocket<'a>>,
+    listen: Listen,
+) -> Option<PortSocket<'a>> {
+    let Some(first) = shared.bound.get() else {
+        let bound = bind_first(net, shared, listen)?;
         let _ = shared.bound.try_set(bound);
+        return Some(PortSocket::First(&shared.bound.get()?.socket));
+    };
+    if first.listen != listen {
+        return None;
     }
-    let bound = shared.bound.get()?;
-    if bound.listen == listen {
-        Some(&bound.socket)
-    } else {
-        None
+    if held.is_some() {
+        return held;
+    }
+    let socket = further(net, shared, first)?;
+    set_up(&socket)?;
+    Some(PortSocket::Own(socket))
+}
+
+/// The socket, where there is one.
+fn socket_of<'s>(socket: &'s Option<PortSocket<'_>>) -> Option<&'s UdpSocket> {
+    match socket {
+        Some(PortSocket::First(socket)) => Some(*socket),
+        Some(PortSocket::Own(socket)) => Some(socket),
+        None => None,
     }
 }
 
@@ -165,7 +252,8 @@ impl<N: Net> Port for UdpPort<'_, N> {
 
     fn open(&mut self, listen: &Listen) -> Opening {
         self.past.note(&PortEvent::Opened(*listen));
-        self.socket = join(self.net, self.shared, *listen);
+        let held = self.socket.take();
+        self.socket = join(self.net, self.shared, held, *listen);
         if self.socket.is_some() {
             Opening::Ready
         } else {
@@ -175,7 +263,7 @@ impl<N: Net> Port for UdpPort<'_, N> {
     }
 
     fn recv(&mut self, known: u64, buffer: &mut [u8]) -> Arrival {
-        let arrival = take_next(self.socket, buffer);
+        let arrival = take_next(socket_of(&self.socket), buffer);
         self.past.note(&PortEvent::Received(known, buffer, arrival));
         if let Arrival::Failed = arrival {
             self.faults = self.faults.saturating_add(1);
@@ -184,7 +272,7 @@ impl<N: Net> Port for UdpPort<'_, N> {
     }
 
     fn send(&mut self, octets: &[u8], peer: Peer, serial: u64) -> Sending {
-        let sending = match self.socket {
+        let sending = match socket_of(&self.socket) {
             Some(socket) => {
                 sending_of(socket.send_to(octets, socket_addr(peer.addr, peer.port)))
             }

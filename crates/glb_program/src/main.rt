@@ -93,7 +93,7 @@ fn run_words<
     }
 }
 
-/// Over the files of the system, standard input as the feed, files and pipes as further ones, standard output, standard error for the texts of maps, lanes over one socket of UDP, and one over connections of TCP, all of which stop when the feed has ended.
+/// Over the files of the system, standard input as the feed, files and pipes as further ones, standard output, standard error for the texts of maps, lanes over sockets of UDP at one place, and one over connections of TCP, all of which stop when the feed has ended.
 fn main(rt: HostRuntime) -> ExitCode {
     let mut files = FileShelf::new(&rt);
     let mut feed = StreamSource::new(rt.stdin());

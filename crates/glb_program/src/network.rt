@@ -1,4 +1,4 @@
-//! What serves a network: lanes over one socket of UDP, and one over connections of TCP, with gates that one flag stops and
+//! What serves a network: lanes over sockets of UDP at one place, and one over connections of TCP, with gates that one flag stops and
 //! plain doors.
 ghost use Rattle.std.specs.Prelude.{◌≡◌, IfOk, replicate};
 ghost use Rattle.map_cell.specs.Doors.{unused};
@@ -28,7 +28,7 @@ fn udp_lane<'a, N: Net>(net: &'a N, shared: &'a SharedUdp, flag: &'a StopFlag) -
     )
 }
 
-/// As many of them as there are lanes, over one socket and with one flag.
+/// As many of them as there are lanes, at one place and with one flag.
 pub fn udp_lanes<'a, N: Net>(
     alloc: Global,
     net: &'a N,

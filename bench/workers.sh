@@ -1,0 +1,11 @@
+#!/usr/bin/env bash
+# Queries a second, and processor time a query, of `glb serve` with one, two and three workers, beside another build of it
+# (GLB_OTHER, if given) and gdnsd, each pinned to as many processors as it has workers. Needs four processors, and
+#
+#     apt-get update
+#     apt-get install gcc libc6-dev gdnsd
+#
+#     bench/workers.sh [GROUPS [SECONDS [ROUNDS]]]       1,024 groups, 10 seconds a row and three rounds if they are not given
+. "$(dirname "$0")/set-up.sh"
+"${CC:-cc}" -O2 -Wall -Wextra -pthread -o "$work/flood" "$here/flood.c"
+GLB=$glb python3 "$here/workers.py" "$work" "$@"

@@ -1,0 +1,89 @@
+//! Sockets that were handed in by who started the process, as systemd does it (LISTEN_FDS and LISTEN_PID, sd_listen_fds(3)).
+//! They outlive the process: what comes while none runs waits in their buffers.
+//!
+//! Proved is that no other descriptors are looked at than those that may have been handed in, and that the calls are made as
+//! the C library wants them. That a descriptor is what the environment says of it has to be trusted.
+#![tactic(auto)]
+
+ghost use Rattle.std.specs.Prelude.{◌≡◌, ◌+◌, ◌≤◌, ◌≤ℤ◌, IfSome, pos};
+
+use libc::net as c;
+use os::FromRawFd;
+use std::net::{Net, SocketAddr, TcpListener, UdpSocket};
+use std::os::fd::IntoRawFd;
+
+/// The descriptor of the first one.
+const FIRST: i32 = 3;
+
+/// How many are taken at most.
+pub const MOST_HANDED: u32 = 64;
+
+/// The number that a variable of the environment has.
+fn number_of(name: &[u8]) -> Option<u32> {
+    let mut text = [0u8; 16];
+    let len = os::env(name, &mut text);
+    str::from_utf8(&text[..len]).ok()?.parse().ok()
+}
+
+/// How many descriptors were handed in. There are none where the environment means another process, from which this one
+/// has it.
+pub fn handed_in() -> u32
+    ensures { result ≤ 64 }
+{
+    match (number_of(b"LISTEN_PID"), number_of(b"LISTEN_FDS")) {
+        (Some(pid), Some(count)) if i64::from(pid) == i64::from(libc::getpid()) => {
+            count.min(MOST_HANDED)
+        }
+        _ => 0,
+    }
+}
+
+/// The descriptor of that number, if it was handed in.
+fn descriptor(number: u32) -> Option<i32>
+    ensures place { IfSome result (λ fd. fd ≡ pos (3 + number)) }
+    ensures valid { IfSome result (λ fd. pos 0 ≤ℤ fd) }
+{
+    if number < handed_in() {
+        Some(FIRST + number as i32)
+    } else {
+        None
+    }
+}
+
+/// Whether a descriptor is a socket of TCP: only there the option can be read.
+fn is_tcp(fd: i32) -> bool {
+    let mut value = [0u8; 16];
+    let mut len = 4u32;
+    let answer = unsafe { c::getsockopt(fd, c::IPPROTO_TCP, c::TCP_NODELAY, &mut value, &mut len) };
+    answer >= 0
+}
+
+/// Takes the socket of that number, if it is one of UDP that is bound there; any other descriptor is left as it is. Take
+/// each number once.
+pub fn take_udp<N: Net>(_net: &N, number: u32, place: SocketAddr) -> Option<UdpSocket> {
+    let fd = descriptor(number)?;
+    let socket = unsafe { UdpSocket::from_raw_fd(fd) };
+    if !is_tcp(fd) && socket.local_addr().ok() == Some(place) {
+        return Some(socket);
+    }
+    let _ = socket.into_raw_fd();
+    None
+}
+
+/// Takes the listener of that number, if it is one of TCP that is bound there, and lets it wait for nothing; any other
+/// descriptor is left as it is. Take each number once.
+pub fn take_tcp<N: Net>(_net: &N, number: u32, place: SocketAddr) -> Option<TcpListener> {
+    let fd = descriptor(number)?;
+    let listener = unsafe { TcpListener::from_raw_fd(fd) };
+    if is_tcp(fd)
+        && listener.local_addr().ok() == Some(place)
+        && listener.set_nonblocking(true).is_ok()
+    {
+        return Some(listener);
+    }
+    let _ = listener.into_raw_fd();
+    None
+}
+
+#[cfg(test)]
+mod tests;
