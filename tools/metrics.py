@@ -4,7 +4,7 @@
     glb serve .. | metrics.py FILE.prom [SERVER]
     journalctl -u glb -f -n 0 -o cat | metrics.py FILE.prom [SERVER]
 
-It reads the lines of standard output: `published`, `refused` and `show`. The file is written whole and put in its
+It reads the lines of standard output: `published`, `refused` and `show`, of one feed or of several, and counts the lines of all. The file is written whole and put in its
 place at once, at most once a second, and at the end. `show` says how much is placed: somebody has to ask for it (the
 timer examples/glb-show.timer does). With SERVER each series has the label `server`. It ends with its input, needs
 Python 3.11 alone, and is no part of the proved program.
@@ -23,6 +23,8 @@ PUBLISHED = re.compile(r"published (\d+)")
 SHOWN = re.compile(r"show (\d+) placed (\d+) unplaced (\d+) full (\d+)")
 DROPPED = re.compile(r"refused commit (lines|memory)\b")
 REFUSED = re.compile(r"refused (\d+) ")
+# the number of a feed, where there are several
+FEED = re.compile(r"[1-4] ")
 HELP = {
     "glb_serial": ("gauge", "Serial of the newest map that was said, 0 the one from scratch"),
     "glb_last_publish_timestamp_seconds": ("gauge", "When a commit was answered by `published` the last time"),
@@ -43,6 +45,8 @@ class Metrics:
 
     def take(self, line, now):
         """Whether the line says something."""
+        if mark := FEED.match(line):
+            line = line[mark.end() :]
         if found := PUBLISHED.fullmatch(line):
             self.set(glb_serial=int(found[1]), glb_last_publish_timestamp_seconds=now)
         elif found := SHOWN.fullmatch(line):

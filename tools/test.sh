@@ -132,6 +132,14 @@ glb_refused_batches_total{why="lines",server="east"} 1
 glb_refused_batches_total{why="memory",server="east"} 1
 glb_refused_lines_total{server="east"} 2' bash -c "grep -v -e '^#' -e timestamp $work/glb.prom"
 expect 0 2 grep -c '^glb.*timestamp' "$work/glb.prom"
+printf '2 published 1\n1 show 1 placed 12 unplaced 3 full 2\n3 refused 3 bad number\n' | tools/metrics.py "$work/several.prom"
+expect 0 'glb_serial 1
+glb_placed_units 12
+glb_unplaced_units 3
+glb_full_nodes 2
+glb_refused_batches_total{why="lines"} 0
+glb_refused_batches_total{why="memory"} 0
+glb_refused_lines_total 1' bash -c "grep -v -e '^#' -e timestamp $work/several.prom"
 tools/metrics.py "$work/none.prom" </dev/null
 expect 0 'glb_refused_batches_total{why="lines"} 0
 glb_refused_batches_total{why="memory"} 0
