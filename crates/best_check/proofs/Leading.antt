@@ -1,5 +1,5 @@
 -- Where a unit leads on that leaves a node.
-use Rattle.std.proofs.Common.{◌≡◌, ℕ, ◌<◌, true, List, length, Option, None, Some, IfSome, slice_index, slice_index_or, rules, false, sym, ap, ◌∙◌, subst, inl, inr, arith}
+use Rattle.std.proofs.Common.{◌≡◌, ℕ, ◌<◌, true, List, length, Option, None, Some, IfSome, slice_index, rules, false, sym, ap, ◌∙◌, subst, inl, inr, arith}
 use Rattle.std.proofs.lemmas.Bool.{cases_lt, false≢true}
 use Rattle.std.proofs.lemmas.List.{get_or_past}
 use Rattle.map_model.specs.declared.instance.Node.{Node}
@@ -38,9 +38,11 @@ pool_inside m n pool = elim (cases_lt n (length m.nodes)) [
 
 -- numbers that fall along the chains of leads tell that there is no circle
 pub free_of_circles : (m : Market) (lines : List MapLine) (leads : List (Option NodeId)) (numbers : List ℕ) → AreLeads m lines leads → length leads ≡ length m.nodes → FallAlong leads numbers → IsCircleFree m (limit_of m) lines
-free_of_circles m lines leads numbers are size fall = record { numbers = numbers; falls = λ n g k j pool next whole last.
-    let there : n < length leads = omega (arith, pool_inside m n pool, size) in
-    subst (λ o. IfSome o (λ (p : NodeId). slice_index numbers p.0 < slice_index numbers n)) (are.leads_on n g k j there next whole last) (fall n there)
+free_of_circles m lines leads numbers are size fall = record {
+  numbers = numbers;
+  falls = λ n g k j pool next whole last.
+      let there : n < length leads = omega (arith, pool_inside m n pool, size) in
+      subst (λ o. IfSome o (λ (p : NodeId). slice_index numbers p.0 < slice_index numbers n)) (are.leads_on n g k j there next whole last) (fall n there);
 }
 
 -- places that are found

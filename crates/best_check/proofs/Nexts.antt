@@ -1,10 +1,10 @@
 -- Who is next in line where a unit leaves a node, from who is at the node above it.
-use Rattle.std.proofs.Common.{◌≡◌, ◌⊎◌, ℕ, ◌<◌, true, List, length, Option, None, Some, IfSome, MatchOption, slice_index_or, sym, ap, ◌∙◌, subst, inl, inr, refl, arith}
+use Rattle.std.proofs.Common.{◌≡◌, ◌⊎◌, ℕ, ◌<◌, true, List, length, Option, None, Some, IfSome, MatchOption, slice_index_or, sym, ◌∙◌, subst, inl, inr, refl, arith}
 use Rattle.map_model.specs.declared.instance.NodeId.{NodeId}
 use Rattle.map_model.specs.declared.instance.Offer.{Offer}
 use Rattle.map_model.specs.declared.lines.MapLine.{MapLine}
 use Rattle.map_model.specs.Market.{Market, IsMarket, key_of, limit_of, parent_of}
-use Rattle.map_model.specs.Allocation.{IsOffer, is_under, key_le}
+use Rattle.map_model.specs.Allocation.{is_under, key_le}
 use Rattle.map_model.proofs.Keys.{key_le_trans}
 use Rattle.map_model.proofs.Paths.{parent_there}
 use Rattle.map_model.proofs.Trees.{above_alone, above_parent, above_split, under_itself}

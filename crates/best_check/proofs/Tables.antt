@@ -96,10 +96,13 @@ pub record IsBetter (m : Market) (old : Option Offer) (g k : ℕ) (new : Offer) 
   pub of_both : IfSome old (λ o. key_le (key_of m new.group.0 new.place) (key_of m o.group.0 o.place) ≡ true)
 
 entry_noted : (m : Market) (lines : List MapLine) (g k n : ℕ) (old : Option Offer) (new : Offer) → IsEntry m lines g k n old → IsWaitingAt m lines n g k → IsBetter m old g k new → IsBestBefore m lines g (k + 1) n new.group.0 new.place
-entry_noted m lines g k n old new entry waiting better = record { waiting = here better.either entry; best = λ h j before w. elim (before_next g k h j before) [
-  | inl b ↦ above old entry better.of_both h j b w
-  | inr e ↦ subst (λ x. key_le (key_of m new.group.0 new.place) (key_of m x j) ≡ true) (sym e.0) (subst (λ x. key_le (key_of m new.group.0 new.place) (key_of m g x) ≡ true) (sym e.1) better.best)
-] }
+entry_noted m lines g k n old new entry waiting better = record {
+  waiting = here better.either entry;
+  best = λ h j before w. elim (before_next g k h j before) [
+    | inl b ↦ above old entry better.of_both h j b w
+    | inr e ↦ subst (λ x. key_le (key_of m new.group.0 new.place) (key_of m x j) ≡ true) (sym e.0) (subst (λ x. key_le (key_of m new.group.0 new.place) (key_of m g x) ≡ true) (sym e.1) better.best)
+  ];
+}
   where
     here : (new ≡ record { group = record { 0 = g }; place = k }) ⊎ (old ≡ Some new) → IsEntry m lines g k n old → IsWaitingAt m lines n new.group.0 new.place
     here (inl e) entry = subst (λ (o : Offer). IsWaitingAt m lines n o.group.0 o.place) (sym e) waiting
@@ -115,11 +118,14 @@ one_node m market lines n c g k there a b = above_le m market n c there (b.near.
 
 -- an offer is noted at its node
 pub noted : (m : Market) → IsMarket m → (lines : List MapLine) (g k n : ℕ) (table : List (Option Offer)) (new : Offer) → n < length m.nodes → IsTable m lines g k table → IsWaitingAt m lines n g k → IsBetter m (slice_index_or table n None) g k new → IsTable m lines g (k + 1) (slice_set table n (Some new))
-noted m market lines g k n table new there t waiting better = record { size = search (rules, t.size); entries = λ c l. elim (cases_eq c n) [
-  | inl e ↦ subst (λ o. IsEntry m lines g (k + 1) c o) (sym (ap (λ x. slice_index_or (slice_set table n (Some new)) x None) e ∙ get_or-set_same table n (Some new) None (omega (arith, there, t.size))))
-    (subst (λ x. IsBestBefore m lines g (k + 1) x new.group.0 new.place) (sym e) (entry_noted m lines g k n (slice_index_or table n None) new (t.entries n there) waiting better))
-  | inr apart ↦ subst (λ o. IsEntry m lines g (k + 1) c o) (sym (other c apart)) (entry_on m lines g k g (k + 1) c (slice_index_or table c None) (t.entries c l) (less_by_one m lines g k c (λ w. apart (one_node m market lines n c g k there waiting w))))
-] }
+noted m market lines g k n table new there t waiting better = record {
+  size = search (rules, t.size);
+  entries = λ c l. elim (cases_eq c n) [
+    | inl e ↦ subst (λ o. IsEntry m lines g (k + 1) c o) (sym (ap (λ x. slice_index_or (slice_set table n (Some new)) x None) e ∙ get_or-set_same table n (Some new) None (omega (arith, there, t.size))))
+        (subst (λ x. IsBestBefore m lines g (k + 1) x new.group.0 new.place) (sym e) (entry_noted m lines g k n (slice_index_or table n None) new (t.entries n there) waiting better))
+    | inr apart ↦ subst (λ o. IsEntry m lines g (k + 1) c o) (sym (other c apart)) (entry_on m lines g k g (k + 1) c (slice_index_or table c None) (t.entries c l) (less_by_one m lines g k c (λ w. apart (one_node m market lines n c g k there waiting w))))
+  ];
+}
   where
     other : (c : ℕ) → (c ≡ n → ⊥) → slice_index_or (slice_set table n (Some new)) c None ≡ slice_index_or table c None
     other c apart = get_or-set_other table n c (Some new) None apart

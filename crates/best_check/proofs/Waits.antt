@@ -1,5 +1,5 @@
 -- Where an offer waits: at the first full node of its path.
-use Rattle.std.proofs.Common.{◌≡◌, ℕ, ◌<◌, ◌==◌, Bool, true, List, Option, None, Some, MatchOption, slice_index, sym, ap, ◌∙◌, arith}
+use Rattle.std.proofs.Common.{◌≡◌, ℕ, ◌<◌, ◌==◌, List, Option, None, Some, MatchOption, sym, ◌∙◌}
 use Rattle.std.specs.List.{find}
 use Rattle.std.specs.Option.{option_map}
 use Rattle.std.proofs.lemmas.Bool.{eq-eqb, lt-ltb, ltb-true}
@@ -8,7 +8,6 @@ use Rattle.map_model.specs.declared.lines.MapLine.{MapLine}
 use Rattle.map_model.specs.Market.{Market, capacity_of, demand_of, limit_of, path, pool_of}
 use Rattle.map_model.specs.Allocation.{IsOffer, amount_at, load, placed_through}
 use Rattle.evict.specs.Standing.{IsPastWanted}
-use Rattle.circle_laws.specs.Nearest.{IsNearestFull}
 use Rattle.circle_laws.proofs.Nearest.{nearest_found, not_found}
 use Rattle.best_check.specs.Tables.{IsWaitingAt}
 

@@ -15,11 +15,7 @@ use no_memory::NoMemory;
 use std::alloc::Global;
 
 /// The pool to which each node leads on.
-fn leads(
-    alloc: Global,
-    instance: &Instance,
-    state: &State,
-) -> Result<Vec<Option<NodeId>>, NoMemory>
+fn leads(alloc: Global, instance: &Instance, state: &State) -> Result<Vec<Option<NodeId>>, NoMemory>
     requires ready { IsReady instance.now state.now }
     requires past { ArePastWanted instance.now state.now }
     ensures size { IfOk result (λ leads. length leads.items ≡ length instance.now.nodes) }

@@ -1,8 +1,6 @@
-use Rattle.std.proofs.Common.{◌≡◌, ◌++◌, ◌+◌, ◌<◌, [], ◌∷◌, ℕ, List, length, Option, None, IfSome, slice_index_or, subst, sym, ap, ◌∙◌, arith, rules}
+use Rattle.std.proofs.Common.{◌≡◌, ◌++◌, ◌+◌, ◌<◌, [], ◌∷◌, ℕ, length, IfSome, subst, sym, arith, rules}
 use Rattle.map_model.specs.declared.instance.NodeId.{NodeId}
-use Rattle.map_model.specs.declared.instance.Offer.{Offer}
 use Rattle.map_model.specs.Market.{Market}
-use Rattle.best_check.specs.Tables.{IsNextAt}
 use Rattle.best_check.proofs.Leading.{IsLead, lead_is}
 use Rattle.best_check.proofs.Pushed.{pushed}
 use Rattle.best_check.proofs.leads.leads_of.Goals as goal

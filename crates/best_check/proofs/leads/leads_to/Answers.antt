@@ -1,5 +1,4 @@
-use Rattle.std.proofs.Common.{◌≡◌, ℕ, None, Some, IfSome, sym, ap, ◌∙◌, subst}
-use Rattle.map_model.specs.declared.instance.NodeId.{NodeId}
+use Rattle.std.proofs.Common.{◌≡◌, ℕ, Some, IfSome, sym, ap, ◌∙◌, subst}
 use Rattle.map_model.specs.declared.instance.Offer.{Offer}
 use Rattle.map_model.specs.Market.{Market, demand_of, pool_of, choice_at}
 use Rattle.map_model.specs.Allocation.{placed}

@@ -1,12 +1,11 @@
-use Rattle.std.proofs.Common.{◌≡◌, List, length, Option, None, replicate, arith, ap, ◌∙◌, subst, sym}
-use Rattle.map_model.specs.declared.instance.Offer.{Offer}
+use Rattle.std.proofs.Common.{◌≡◌, length, None, replicate, arith, ap, ◌∙◌, subst, sym, rules}
 use Rattle.best_check.specs.Tables.{IsTable}
 use Rattle.best_check.proofs.Tables.{groups_done, table_of_none}
 use Rattle.best_check.proofs.table.best_waiting.Goals as goal
 
 pub loop-g-init : goal.loop-g-init
 loop-g-init c =
-    let none : c.in_ok-table.table.items ≡ replicate (length c.args.instance.now.nodes) None = c.in_ok-table.ensures.items_if_clones_equal ? ∙ ap (λ n. replicate n None) c.nodes.ensures.count in
+    let none : c.in_ok-table.table.items ≡ replicate (length c.args.instance.now.nodes) None = c.in_ok-table.ensures.items_if_clones_equal (λ y e. search rules) ∙ ap (λ n. replicate n None) c.nodes.ensures.count in
     subst (IsTable c.args.instance.now c.args.state.now.lines 0 0) (sym none) (table_of_none c.args.instance.now c.args.state.now.lines)
 
 pub returns : goal.returns

@@ -1,4 +1,3 @@
-use Rattle.std.proofs.Common.{arith}
 use Rattle.map_model.specs.Market.{Market}
 use Rattle.best_check.proofs.Nexts.{above_from, all_seen_none, all_seen_some, next_none, next_some}
 use Rattle.best_check.proofs.table.next_at.Goals as goal

@@ -1,8 +1,5 @@
 use Rattle.std.proofs.Common.{◌<◌, length, arith}
-use Rattle.map_model.specs.Market.{Market, pool_of}
-use Rattle.map_model.proofs.Paths.{pool_there}
-use Rattle.map_model.proofs.Trees.{under_there}
-use Rattle.best_check.specs.Tables.{IsWaitingAt}
+use Rattle.map_model.specs.Market.{Market}
 use Rattle.best_check.proofs.Tables.{noted, skipped, waits_inside}
 use Rattle.best_check.proofs.table.note_offer.Goals as goal
 
