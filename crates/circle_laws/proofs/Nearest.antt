@@ -73,7 +73,7 @@ nearest_found m lines n g k e =
       nearest = λ c on full. let w = r.nearest c on (eq-eqb (load m lines c) (capacity_of m c) full) in climb_longer m w.0 8 (Some (record { 0 = n })) c w.1 w.2;
     }
 
-not_found : (test : ℕ → Bool) (ns : List ℕ) (n : ℕ) → find test ns ≡ None → list_any (λ x. x == n) ns ≡ true → test n ≡ true → ⊥
+pub not_found : (test : ℕ → Bool) (ns : List ℕ) (n : ℕ) → find test ns ≡ None → list_any (λ x. x == n) ns ≡ true → test n ≡ true → ⊥
 not_found test [] n e on pass = false≢true on
 not_found test (x ∷ ns) n e on pass = elim (cases_Bool (test x)) [
   | inl t ↦ some_none x (ap (λ b. if b then Some x else find test ns) (sym t) ∙ e)

@@ -16,7 +16,7 @@ use std::test::Fail;
 const EACH: u64 = 20;
 
 /// Prime, so that its multiples go through all numbers of a kind.
-const STRIDE: u64 = 1_000_003;
+pub const STRIDE: u64 = 1_000_003;
 
 /// A world with a good map.
 #[derive(Drop)]
@@ -52,7 +52,7 @@ impl Tally {
 }
 
 /// The map of an instance from scratch.
-fn mapped(alloc: Global, instance: &Instance) -> Result<MapLines, NoMemory> {
+pub fn mapped(alloc: Global, instance: &Instance) -> Result<MapLines, NoMemory> {
     let mut state = State::fresh(alloc, instance)?;
     let mut steps: Steps<Proposals> = Steps::new();
     run(alloc, instance, &mut state, &mut steps)?;

@@ -3,7 +3,9 @@ ghost use Rattle.std.specs.Prelude.{◌<◌};
 
 use crate::tests::definitions::{Side, has, units};
 use crate::tests::smallest::{Digits, Kind, Numbers, Place};
-use map_model::MapLine;
+use map_model::{By, GroupId, MapLine, MapLines, NameLine, NodeId};
+use no_memory::NoMemory;
+use std::alloc::Global;
 
 /// The most places that such a world has: three groups at two pools, or two at three.
 const MOST_PLACES: usize = 6;
@@ -125,17 +127,60 @@ impl<'a> Held<'a> {
         false
     }
 
+    /// Whether a node refuses a place under it.
+    fn is_refused_at(&self, node: u32, place: &Place) -> bool {
+        self.load(node) == self.numbers.capacity(node) && !self.has_worse(node, place)
+    }
+
     /// Whether some node refuses a place.
     fn is_turned_away(&self, place: &Place) -> bool {
         for node in 0..self.kind.size() {
-            if is_over(self.kind, node, place.pool)
-                && self.load(node) == self.numbers.capacity(node)
-                && !self.has_worse(node, place)
-            {
+            if is_over(self.kind, node, place.pool) && self.is_refused_at(node, place) {
                 return true;
             }
         }
         false
+    }
+
+    /// What refuses a place: its limit, or else the node nearest to its pool that does.
+    fn refuser(&self, place: &Place, amount: u32) -> By {
+        if amount == place.limit {
+            return By::Limit;
+        }
+        let mut at = place.pool;
+        for _ in 0..3usize {
+            if self.is_refused_at(at, place) {
+                break;
+            }
+            at = self.kind.parent(at).unwrap_or(at);
+        }
+        By::Node(NodeId(at))
+    }
+
+    /// The map of these units, if they are those of a feasible and stable one.
+    fn map(&self, alloc: Global) -> Result<MapLines, NoMemory> {
+        let mut map = MapLines {
+            lines: Vec::new(alloc),
+            names: Vec::new(alloc),
+        };
+        for (place, amount) in self.places.iter().zip(&self.amounts) {
+            let group = GroupId(place.group);
+            if *amount > 0 {
+                map.lines.push(MapLine {
+                    group,
+                    place: place.place,
+                    amount: *amount,
+                })?;
+            }
+            if self.through(place.group, place.place) < self.numbers.demand(place.group) {
+                map.names.push(NameLine {
+                    group,
+                    place: place.place,
+                    by: self.refuser(place, *amount),
+                })?;
+            }
+        }
+        Ok(map)
     }
 
     /// Whether no group has more than its demand, no place more than its limit, and no node more than its capacity.
@@ -271,6 +316,39 @@ impl<'a> Held<'a> {
         }
         true
     }
+}
+
+/// The units of a map of a world.
+fn units_in<'a>(
+    kind: &'a Kind,
+    places: &'a [Place],
+    numbers: Numbers,
+    lines: &[MapLine],
+) -> Held<'a> {
+    Held {
+        kind,
+        places,
+        numbers,
+        amounts: amounts_in(places, lines),
+    }
+}
+
+/// The next feasible and stable map of a world, from a number on, with its own number.
+pub fn next_right(
+    alloc: Global,
+    kind: &Kind,
+    places: &[Place],
+    numbers: Numbers,
+    from: u64,
+) -> Result<Option<(u64, MapLines)>, NoMemory> {
+    let none = units_in(kind, places, numbers, &[]);
+    for number in from..count(places) {
+        let units = none.with(number);
+        if units.is_right() {
+            return Ok(Some((number, units.map(alloc)?)));
+        }
+    }
+    Ok(None)
 }
 
 /// How many feasible and stable maps a world has, if a map is one of them and none places more of any group at its places

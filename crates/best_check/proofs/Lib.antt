@@ -1,0 +1,5 @@
+pub mod Tables
+pub mod Nexts
+pub mod Waits
+pub mod Leading
+pub mod Pushed

@@ -1,0 +1,10 @@
+//! Whether the map of a state is the group-best one: it is, if no circle of groups can all do better.
+#![tactic(auto)]
+
+mod chains;
+mod checking;
+mod leads;
+mod table;
+mod waiting;
+
+pub use checking::is_best;
