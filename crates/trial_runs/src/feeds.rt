@@ -35,8 +35,13 @@ pub fn source_of(
     MemSource::new(alloc, bytes, sizes, reads.numbers(alloc)?)
 }
 
-/// A further feed by its script.
-fn named_of(alloc: Global, script: FeedScript) -> Result<MemNamedSource, NoMemory> {
+/// A further feed by the script of that number, or an empty one where there is none.
+fn named_of(
+    alloc: Global,
+    scripts: &[FeedScript],
+    number: usize,
+) -> Result<MemNamedSource, NoMemory> {
+    let script = scripts.get(number).copied().unwrap_or(EMPTY);
     let source = source_of(alloc, script.text, script.sizes, script.reads)?;
     MemNamedSource::new(alloc, source, script.opens.numbers(alloc)?)
 }
@@ -46,9 +51,8 @@ pub fn feeds_of(alloc: Global, scripts: &[FeedScript]) -> Result<Vec<MemNamedSou
     ensures { IfOk result (λ v. vec_len v ≡ 3) }
 {
     let mut feeds = Vec::with_capacity(alloc, 3)?;
-    for k in 0..3usize {
-        let script = scripts.get(k).copied().unwrap_or(EMPTY);
-        feeds.push(named_of(alloc, script)?)?;
-    }
+    feeds.push(named_of(alloc, scripts, 0)?)?;
+    feeds.push(named_of(alloc, scripts, 1)?)?;
+    feeds.push(named_of(alloc, scripts, 2)?)?;
     Ok(feeds)
 }
