@@ -20,7 +20,6 @@ use std::thread::Threads;
 use topology_text::{Topology, read_topology};
 use worlds::EXAMPLE_TREE;
 
-mod several;
 mod turns;
 
 /// A client of the second group.
