@@ -3,14 +3,19 @@
 
     fail_alloc.py SHIM [COMMAND ..] [--processes N] [--state FILE] [--alone]
 
-The commands are check, map, answer, repair, large and serve, all of them if none is given. Allowed ends:
+The commands are check, map, answer, repair, large, serve and feeds, which is serve over two feeds, all of them if none is
+given. Allowed ends:
 
-    without serve   status 8 with nothing written, or status 0 with all that is due
+    the first five  status 8 with nothing written, or status 0 with all that is due
     serve           status 8 (or 9) with no line of control text, no map's text but the first, and no reply to a client
                     that asks without rest; or status 0 with replies, where each commit either published its map, or was
                     answered `refused commit memory` and left nothing behind; or status 0 without replies, which is
                     what a join does where the system makes no thread: its two sides come one behind the other, the
                     feed first
+    feeds           status 8 (or 9) with no map's text but the first, and no line; or status 0 with a line of each feed,
+                    `published` or `refused commit memory`, and the texts of the maps that these make; or status 8
+                    with such lines, but for a feed that there was no memory to read; or it waits, where the
+                    thread of a feeder is refused behind the try of all threads (docs/OPERATING.md)
 
 It says at which number it stands, and with --state it goes on there after a break. The last line counts.
 """
@@ -103,6 +108,45 @@ def run_serve(shim, number, count, told=""):
     return process.returncode, out, maps, replied
 
 
+# the batch of each of two feeds, and the map behind those that were published
+FEEDS = [b"demand g2 4\ncommit\n", b"demand g1 7\ncommit\n"]
+BEHIND = {(1,): SECOND, (2,): OTHER, (1, 2): THIRD, (2, 1): THIRD}
+
+
+def run_feeds(shim, number, count, told=""):
+    """Status, control text and texts of maps."""
+    with tempfile.NamedTemporaryFile() as second:
+        second.write(FEEDS[1])
+        second.flush()
+        words = [GLB, "serve", "tree.toml", "--listen", f"127.0.0.1:{FIRST_PORT + number}", "--feed2", second.name]
+        try:
+            done = subprocess.run(words, cwd=FILES, env=environment(shim, number, count, told), input=FEEDS[0], capture_output=True, timeout=60)
+        except subprocess.TimeoutExpired:
+            return "hangs", b"", b""
+        return done.returncode, done.stdout, done.stderr
+
+
+def judge_feeds(shim, number, count):
+    status, out, maps = run_feeds(shim, number, count)
+    if status == "hangs":
+        return "waits for a feeder without a thread", None
+    if status in (8, 9) and out == b"" and maps in (b"", FIRST):
+        return str(status) + (" with the first map" if maps else ""), None
+    said, published, due = [], [], FIRST
+    for line in out.splitlines():
+        feed, text = int(line[:1]), line[2:]
+        said.append(feed)
+        if text == b"published %d" % (len(published) + 1):
+            published.append(feed)
+            due += BEHIND[tuple(published)]
+        elif text + b"\n" != REFUSED:
+            said.append(0)
+    fits = maps == due and len(set(said)) == len(said) and set(said) <= {1, 2}
+    if fits and (status, len(said)) in ((0, 2), (8, 1)):
+        return f"{status}, {len(said)} lines, {len(published)} published", None
+    return "wrong", ("feeds", number, count, status, out, maps)
+
+
 def judge_command(shim, command, number, count):
     """What end it was, or what is wrong with it."""
     status, out, err = run_command(shim, command, number, count)
@@ -126,7 +170,9 @@ def judge_serve(shim, number, count):
 
 def judge(job):
     shim, command, number, count = job
-    return judge_serve(shim, number, count) if command == "serve" else judge_command(shim, command, number, count)
+    if command == "serve":
+        return judge_serve(shim, number, count)
+    return judge_feeds(shim, number, count) if command == "feeds" else judge_command(shim, command, number, count)
 
 
 def count_allocations(shim, command):
@@ -136,6 +182,9 @@ def count_allocations(shim, command):
         if command == "serve":
             status, out, maps, replied = run_serve(shim, 0, 0, told)
             good = status == 0 and replied and (out, maps) == SESSIONS[0]
+        elif command == "feeds":
+            status, out, _ = run_feeds(shim, 0, 0, told)
+            good = status == 0 and out.count(b" published ") == 2
         else:
             status, out, _ = run_command(shim, command, 0, 0, told)
             GOOD[command] = GOOD[command] or out
@@ -148,7 +197,7 @@ def count_allocations(shim, command):
 def sweep(shim, command, count, options, state, pool):
     """Each number in turn. The ends by how many there were, and what is wrong."""
     # threads ask in an order of their own, so a few numbers past the last one too
-    last = count_allocations(shim, command) + (8 if command == "serve" else 1)
+    last = count_allocations(shim, command) + (8 if command in ("serve", "feeds") else 1)
     key = f"{command} {'alone' if count == 1 else 'and all behind'}"
     kept = state.setdefault(key, {"next": 1, "ends": {}, "wrong": []})
     while kept["next"] <= last:
@@ -176,7 +225,7 @@ def main():
     state = json.loads(Path(options.state).read_text()) if options.state and Path(options.state).exists() else {}
     wrong = 0
     with concurrent.futures.ThreadPoolExecutor(options.processes) as pool:
-        for command in options.commands or [*WORDS, "serve"]:
+        for command in options.commands or [*WORDS, "serve", "feeds"]:
             for count in [1] if options.alone else [1, 2**62]:
                 wrong += sweep(options.shim, command, count, options, state, pool)
     print(f"{wrong} ends that are not allowed")
