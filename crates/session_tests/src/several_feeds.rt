@@ -230,10 +230,18 @@ fn are_named(came: &Came, names: &[&str; 3]) -> bool {
     true
 }
 
+/// Whether both outputs got one of these.
+fn has_put_one(came: &Came, all: &[Outputs]) -> bool {
+    for outputs in all {
+        if has_put(came, outputs) {
+            return true;
+        }
+    }
+    false
+}
+
 fn is_right(came: &Came, row: &Row) -> bool {
-    came.status == row.status
-        && row.outputs.iter().any(|outputs| has_put(came, outputs))
-        && are_named(came, &row.names)
+    came.status == row.status && has_put_one(came, row.outputs) && are_named(came, &row.names)
 }
 
 /// The number of the first row of which something else comes, of as many runs of each.
