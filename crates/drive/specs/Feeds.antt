@@ -24,7 +24,7 @@ AreSent t turns k sent [] [] = Unit {0}
 AreSent t turns k sent (b ∷ before) (c ∷ after) = HasSent t turns b c (sent k) × AreSent t turns (k + 1) sent before after
 AreSent t turns k sent _ _ = ⊥
 
--- Several feeds, each of which a feeder of its own read: what each sent of its feed; all that was sent was worked, and nothing else; and what it came to.
+-- Several feeds, each of which a feeder of its own read: what each sent of its feed; all of that was taken, and nothing else, and worked up to a put that failed; and what it came to.
 pub record AreFedTogether (t : Plan) (turns : ℕ) (end : FeedEnd) (before after : List (Option Fed)) (start stop : Scene) : Type 0 where
   pub sent : ℕ → List What
   pub items : List Item
