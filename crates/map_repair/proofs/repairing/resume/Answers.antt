@@ -8,7 +8,7 @@ use Rattle.reopen.specs.Rolling.{CanRollBack, IsRolledBack}
 use Rattle.map_repair.specs.Marks.{is_on}
 use Rattle.map_repair.proofs.Agree.{resumed_is}
 use Rattle.map_repair.proofs.Listing.{listing_shape}
-use Rattle.map_repair.proofs.Middle.{IsMiddle, can_roll_back, kept, state_of}
+use Rattle.map_repair.proofs.Middle.{IsMiddle, IsReopened, can_roll_back, kept, reopened_back, state_of}
 use Rattle.map_repair.proofs.Spread.{stays_local, stays_within}
 use Rattle.map_repair.proofs.repairing.resume.Given.{Over}
 use Rattle.map_repair.proofs.repairing.resume.Goals.{After-cut_and_trim, After-roll_back}
@@ -31,6 +31,9 @@ middle g c = record {
 rolled : (g : Over) (c : After-roll_back g) → IsRolledBack c.args.new.now c.in_ok-marks.marks.items c.cut_and_trim.new.state c.roll_back.new.state
 rolled g c = subst (λ (ms : List Bool). IsRolledBack c.args.new.now ms c.cut_and_trim.new.state c.roll_back.new.state) c.as_slice.ensures.value c.roll_back.ensures
 
+opened : (g : Over) (c : After-roll_back g) → IsReopened c.args.new.now c.in_ok-marks.marks.items c.cut_and_trim.new.state c.roll_back.new.state
+opened g c = reopened_back c.args.old.now c.args.new.now c.args.state.now c.cut_and_trim.new.state c.in_ok-marks.marks.items (middle g c.After-cut_and_trim) c.roll_back.new.state (rolled g c)
+
 pub cut_and_trim-requires : goal.cut_and_trim-requires
 cut_and_trim-requires g c =
     let ready = c.requires.of_map.ready in
@@ -48,17 +51,17 @@ roll_back-requires g c = subst (λ (ms : List Bool). CanRollBack c.args.new.now 
 pub returns-clause-of_map : goal.returns-clause-of_map
 returns-clause-of_map g c =
     let at = goal.at.returns-clause-of_map g c in
-    on_two c.run.result (λ h. h) (on_two c.run.result (state_of _ _ _ _ _ (middle g at.After-cut_and_trim) _ (rolled g at.After-roll_back) c.run.new.state) c.run.ensures.run c.run.ensures.ended) c.run.ensures.wanted
+    on_two c.run.result (λ h. h) (on_two c.run.result (state_of _ _ _ _ _ (middle g at.After-cut_and_trim) _ (opened g at.After-roll_back) c.run.new.state) c.run.ensures.run c.run.ensures.ended) c.run.ensures.wanted
 
 pub returns-clause-kept : goal.returns-clause-kept
 returns-clause-kept g c =
     let at = goal.at.returns-clause-kept g c in
-    on_ok_weaker c.run.result (kept _ _ _ _ _ (middle g at.After-cut_and_trim) _ (rolled g at.After-roll_back) c.run.new.state) c.run.ensures.run
+    on_ok_weaker c.run.result (kept _ _ _ _ _ (middle g at.After-cut_and_trim) _ (opened g at.After-roll_back) c.run.new.state) c.run.ensures.run
 
 pub returns-clause-local : goal.returns-clause-local
 returns-clause-local g c =
     let at = goal.at.returns-clause-local g c in
-    on_two c.run.result (stays_local _ _ _ _ _ (middle g at.After-cut_and_trim) _ (rolled g at.After-roll_back) c.run.new.state c.args.steps.now c.run.new.steps) c.run.ensures.run c.run.ensures.inside
+    on_two c.run.result (stays_local _ _ _ _ _ (middle g at.After-cut_and_trim) _ (opened g at.After-roll_back) c.run.new.state c.args.steps.now c.run.new.steps) c.run.ensures.run c.run.ensures.inside
 
 pub returns-clause-counted : goal.returns-clause-counted
 returns-clause-counted g c =
@@ -78,7 +81,7 @@ returns-clause-counted g c =
 pub returns-clause-steps : goal.returns-clause-steps
 returns-clause-steps g c =
     let at = goal.at.returns-clause-steps g c in
-    on_ok_weaker c.run.result (stays_within _ _ _ _ _ (middle g at.After-cut_and_trim) _ (rolled g at.After-roll_back) c.run.new.state c.args.steps.now c.run.new.steps) c.run.ensures.inside
+    on_ok_weaker c.run.result (stays_within _ _ _ _ _ (middle g at.After-cut_and_trim) _ (opened g at.After-roll_back) c.run.new.state c.args.steps.now c.run.new.steps) c.run.ensures.inside
 
 pub returns-in_err-marks-clause-asked : goal.returns-in_err-marks-clause-asked
 returns-in_err-marks-clause-asked g c = listing_shape c.args.old.now c.args.new.now c.requires.shape c.args.asked.now c.requires.asked
