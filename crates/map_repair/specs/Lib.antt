@@ -4,3 +4,5 @@ pub mod Repaired
 pub mod Resumed
 pub mod Determined
 pub mod Laws
+pub mod Ways
+pub mod StandIn

@@ -6,6 +6,8 @@ mod laws;
 mod marks;
 mod reaching;
 mod repairing;
+mod stand_in;
+mod trying;
 
 pub use asked::Asked;
 pub use laws::repairs_agree;
