@@ -4,7 +4,7 @@ ghost use Rattle.std.specs.Prelude.{◌≡◌, ℕ, ◌<◌, ◌⊎◌, ◌++◌
 ghost use Rattle.map_model.specs.Allocation.{IsOffer};
 ghost use Rattle.map_model.specs.Progress.{root_of};
 ghost use Rattle.evict.specs.Standing.{IsReady};
-ghost use Rattle.map_repair.specs.Asked.{AreAllListed, AreListed, IsListed, listed_at};
+ghost use Rattle.move_up.specs.Asked.{AreAllListed, AreListed, IsListed, listed_at};
 
 use evict::State;
 use map_model::{GroupId, Instance, NodeId, Offer};
@@ -140,7 +140,7 @@ impl Asked {
     }
 
     /// The offers in the tree of a root.
-    pub(crate) fn in_tree(&self, root: NodeId) -> &[Offer]
+    pub fn in_tree(&self, root: NodeId) -> &[Offer]
         requires { root.0 < length self.now }
         ensures { result.now ≡ listed_at self.now root.0 }
     {

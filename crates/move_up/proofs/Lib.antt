@@ -1,0 +1,2 @@
+pub mod InTrees
+pub mod Listing
