@@ -2,9 +2,15 @@
 #![tactic(auto)]
 
 mod asked;
-mod moving;
+mod looking;
+mod moves;
 mod node_set;
+mod offers;
+mod opening;
+mod settling;
+mod turns;
 
 pub use asked::Asked;
-pub use moving::{full_nodes, move_up};
 pub use node_set::NodeSet;
+pub use opening::full_nodes;
+pub use turns::move_up;
