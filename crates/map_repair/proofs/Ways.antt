@@ -5,13 +5,12 @@ use Rattle.map_model.specs.declared.lines.MapLine.{MapLine}
 use Rattle.map_model.specs.Market.{Market}
 use Rattle.map_model.specs.Allocation.{IsStable, names_of}
 use Rattle.map_model.specs.Progress.{IsGroupBest, tree_of}
-use Rattle.map_repair.specs.StandIn.{IsOpen}
-use Rattle.evict.specs.Standing.{IsReady, Standing}
+use Rattle.evict.specs.Standing.{IsOpen, IsReady, Standing}
 use Rattle.reopen.specs.Rolling.{CanRollBack, IsRolledBack}
 use Rattle.deferred_accept.specs.Runs.{HasProposed, WantsBefore}
 use Rattle.deferred_accept.specs.Spreading.{HoldsWork, StaysInside}
 use Rattle.deferred_accept.proofs.Finished.{finished}
-use Rattle.map_repair.specs.StandIn.{IsMoved}
+use Rattle.move_up.specs.Moved.{IsMoved}
 use Rattle.map_repair.specs.Marks.{is_on}
 use Rattle.map_repair.specs.Repaired.{IsStateOf}
 use Rattle.map_repair.specs.Resumed.{HasGoneBack, HasMovedUp, HasResumed}

@@ -10,7 +10,7 @@ use Rattle.best_laws.specs.Ahead.{IsWithin}
 use Rattle.reopen.specs.Rolling.{CanRollBack, IsRolledBack, is_marked}
 use Rattle.deferred_accept.specs.Runs.{AreProposals}
 use Rattle.agree_laws.proofs.Within.{later_many}
-use Rattle.map_repair.specs.StandIn.{IsMoved}
+use Rattle.move_up.specs.Moved.{IsMoved}
 use Rattle.map_repair.proofs.Middle.{leb-from}
 
 -- an offer before the pointer of a group that went back holds what it held

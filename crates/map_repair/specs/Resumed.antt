@@ -7,7 +7,7 @@ use Rattle.evict.specs.Standing.{IsReady, Standing}
 use Rattle.deferred_accept.specs.Runs.{HasProposed}
 use Rattle.reopen.specs.Cutting.{IsCut}
 use Rattle.reopen.specs.Rolling.{CanRollBack, IsRolledBack}
-use Rattle.map_repair.specs.StandIn.{IsMoved}
+use Rattle.move_up.specs.Moved.{IsMoved}
 use Rattle.map_repair.specs.Repaired.{IsStateOf}
 
 -- Groups went back to their first places in marked trees, and so many proposals lead from there to the later state as a counter rose by.

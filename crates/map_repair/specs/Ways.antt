@@ -7,7 +7,7 @@ use Rattle.evict.specs.Standing.{Standing}
 use Rattle.deferred_accept.specs.Runs.{HasProposed, HasRun, WantsBefore}
 use Rattle.deferred_accept.specs.Spreading.{HoldsWork, StaysInside}
 use Rattle.reopen.specs.Cutting.{IsCut}
-use Rattle.map_repair.specs.StandIn.{IsMoved}
+use Rattle.move_up.specs.Moved.{IsMoved}
 use Rattle.map_repair.specs.Determined.{IsRepairedOf}
 use Rattle.map_repair.specs.Repaired.{IsKept, IsLocal, IsStateOf, IsWithinSpread}
 use Rattle.map_repair.specs.Resumed.{HasResumed}

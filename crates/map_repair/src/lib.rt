@@ -1,7 +1,6 @@
 //! A good map repaired for changed demands and capacities.
 #![tactic(auto)]
 
-mod asked;
 mod laws;
 mod marks;
 mod reaching;
@@ -9,6 +8,5 @@ mod repairing;
 mod stand_in;
 mod trying;
 
-pub use asked::Asked;
 pub use laws::repairs_agree;
 pub use repairing::{repair, resume};

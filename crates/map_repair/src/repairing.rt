@@ -4,17 +4,17 @@ ghost use Rattle.std.specs.Prelude.{◌≡◌, ◌≤◌, IfOk, OnOk};
 ghost use Rattle.map_model.specs.Market.{IsSameShape};
 ghost use Rattle.map_model.specs.Allocation.{IsGood};
 ghost use Rattle.map_model.specs.Progress.{IsEnded};
-ghost use Rattle.map_repair.specs.Asked.{AreAllListed};
+ghost use Rattle.move_up.specs.Asked.{AreAllListed};
 ghost use Rattle.map_repair.specs.Determined.{IsRepairedOf};
 ghost use Rattle.map_repair.specs.Repaired.{IsKept, IsLocal, IsStateOf, IsWithinSpread};
 ghost use Rattle.map_repair.specs.Resumed.{HasRepaired, HasResumed};
 
-use crate::asked::Asked;
 use crate::reaching::reached;
 use crate::trying::{go_back, tried_or_anew};
 use deferred_accept::finish;
 use evict::State;
 use map_model::{Instance, MapLines, Steps};
+use move_up::Asked;
 use no_memory::NoMemory;
 use std::alloc::Global;
 

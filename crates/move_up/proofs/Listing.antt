@@ -9,7 +9,7 @@ use Rattle.map_model.specs.Market.{Market, IsSameShape}
 use Rattle.map_model.specs.Allocation.{IsOffer}
 use Rattle.map_model.specs.Progress.{tree_of}
 use Rattle.map_model.proofs.Shapes.{IsOffer-shape, shape_sym, tree_of-shape}
-use Rattle.map_repair.specs.Asked.{AreAllListed, AreListed, IsListed, listed_at, offer_of}
+use Rattle.move_up.specs.Asked.{AreAllListed, AreListed, IsListed, listed_at, offer_of}
 
 no_offer : {o : Offer} → Contains [] o → ⊥
 no_offer (i, l, e) = absurd (omega (arith, l))
