@@ -16,7 +16,8 @@ use Rattle.agree_laws.proofs.Cuts.{cut_one}
 use Rattle.agree_laws.proofs.Ends.{best_below, best_below_from, best_below_one, right_of}
 use Rattle.circle_laws.proofs.Best.{best_below_if_best}
 use Rattle.map_repair.specs.Determined.{IsRepairedOf}
-use Rattle.map_repair.proofs.Within.{moved_within, rolled_back_is}
+use Rattle.map_repair.proofs.Back.{rolled_back_exists}
+use Rattle.map_repair.proofs.Below.{within_back}
 use Rattle.map_repair.specs.Resumed.{HasRepaired, HasResumed}
 
 both_true : (b c : Bool) → (b ≡ true → c ≡ true) → (c ≡ true → b ≡ true) → b ≡ c
@@ -60,9 +61,9 @@ pub resumed_is : (old : Market) (lines : List MapLine) (new : Market) (to : Stan
 resumed_is old lines new to before after r stable = elim r.way [
   | inl w ↦ is_of w.back w.rolled_back (best_below new w.proposed.count w.back to w.rolled_back.ready w.proposed.proposals stable)
   | inr w ↦
-      let b : (back : Standing) × IsRolledBack new r.marks r.cut back = rolled_back_is new r.marks r.cut r.can_go_back in
+      let b : (back : Standing) × IsRolledBack new r.marks r.cut back = rolled_back_exists new r.marks r.cut r.can_go_back in
       let right : IsRightMap new to.lines = right_of new to (ready_many new w.proposed.count w.moved to w.ready w.proposed.proposals) stable in
-      is_of b.0 b.1 (best_below_if_best new b.0.lines b.0.pointers to.lines right (moved_within new r.marks r.cut b.0 w.moved to w.proposed.count b.1 w.is_moved w.ready w.proposed.proposals) w.best)
+      is_of b.0 b.1 (best_below_if_best new b.0.lines b.0.pointers to.lines right (within_back new r.marks r.cut w.moved b.0 w.is_moved b.1 to before after w.ready w.proposed) w.best)
 ]
   where
     is_of : (back : Standing) → IsRolledBack new r.marks r.cut back → IsBestBelow new back.lines back.pointers to.lines → IsRepairedOf old lines new to.lines

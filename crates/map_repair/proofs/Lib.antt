@@ -1,6 +1,7 @@
 pub mod Marking
 pub mod Middle
 pub mod Spread
+pub mod Back
+pub mod Below
 pub mod Agree
-pub mod Within
 pub mod Ways
