@@ -1,13 +1,16 @@
 -- Both ways to the new map come to what is promised.
-use Rattle.std.proofs.Common.{◌≡◌, ◌⊎◌, ℕ, ◌<◌, ◌≤◌, ◌==◌, ◌&&◌, ◌^◌, ◌+◌, ◌-◌, nat_lt, if◌then◌else◌, Bool, true, false, List, slice_index, refl, sym, ap, ◌∙◌, subst, inl, inr, arith}
+use Rattle.std.proofs.Common.{◌≡◌, ◌⊎◌, ℕ, ◌<◌, ◌≤◌, ◌==◌, ◌&&◌, ◌^◌, ◌+◌, ◌-◌, nat_lt, if◌then◌else◌, Bool, true, false, List, OnOk, Result, Ok, Err, slice_index, refl, sym, ap, ◌∙◌, subst, inl, inr, arith}
 use Rattle.std.proofs.lemmas.Bool.{cases_lt, le-ltb, lt-ltb}
 use Rattle.map_model.specs.declared.lines.MapLine.{MapLine}
-use Rattle.map_model.specs.Market.{Market}
+use Rattle.map_model.specs.Market.{Market, IsMarket, IsSameShape}
 use Rattle.map_model.specs.Allocation.{IsStable, names_of}
-use Rattle.map_model.specs.Progress.{IsGroupBest, tree_of}
+use Rattle.map_model.specs.Progress.{IsEnded, IsGroupBest, tree_of}
+use Rattle.map_model.proofs.Shapes.{shape_trans}
 use Rattle.evict.specs.Standing.{IsOpen, IsReady, Standing}
+use Rattle.evict.proofs.Shaped.{AreLines-shape}
+use Rattle.reopen.specs.Cutting.{CanCut}
 use Rattle.reopen.specs.Rolling.{CanRollBack, IsRolledBack}
-use Rattle.deferred_accept.specs.Runs.{HasProposed, WantsBefore}
+use Rattle.deferred_accept.specs.Runs.{HasProposed, HasRun, WantsBefore}
 use Rattle.deferred_accept.specs.Spreading.{HoldsWork, StaysInside}
 use Rattle.deferred_accept.proofs.Finished.{finished}
 use Rattle.move_up.specs.Moved.{IsMoved}
@@ -18,6 +21,16 @@ use Rattle.map_repair.specs.Ways.{HasRunOut, IsResumed}
 use Rattle.map_repair.proofs.Agree.{resumed_is}
 use Rattle.map_repair.proofs.Middle.{IsMiddle, IsReopened, can_roll_back, kept, reopened_back, state_of}
 use Rattle.map_repair.proofs.Spread.{stays_local, stays_within}
+
+-- a state of a good map may be cut for other numbers
+pub can_cut : (old new : Market) (s : Standing) → IsMarket new → IsSameShape old new → IsStateOf old s → CanCut new s
+can_cut old new s market shape of = record {
+  market = market;
+  whole = of.ready.whole;
+  shape = shape_trans s.market old new of.ready.shape shape;
+  form = AreLines-shape old new shape s.lines of.ready.resumable.form;
+  count = of.ready.resumable.free_for ∙ sym shape.groups;
+}
 
 -- a state that may be rolled back is an open one
 pub open_of_can : (m : Market) (marks : List Bool) (s : Standing) → CanRollBack m marks s → IsOpen m s
@@ -46,6 +59,12 @@ reopened_moved m marks from to moved ready wanted = record {
     | inl less ↦ absurd (omega (arith, moved.back g (slice_index to.pointers g) l less (λ j low. off j (omega (arith, low, less)))))
   ];
 }
+
+-- what a run says where memory was not wanting
+pub run_out : {X E : Type 0} (r : Result X E) (m : Market) (from to : Standing) (before after : ℕ) → OnOk r (HasRun m from to) → OnOk r (IsEnded m to.pointers to.free) → OnOk r (WantsBefore m from → WantsBefore m to) → OnOk r (HasProposed m from to before after)
+    → OnOk r ((trees : ℕ → Bool) → HoldsWork m trees from → StaysInside m trees from to before after) → OnOk r (HasRunOut m from to before after)
+run_out (Ok x) m from to before after run ended wanted proposed inside = record { run = run; ended = ended; wanted = wanted; proposed = proposed; inside = inside }
+run_out (Err e) m from to before after run ended wanted proposed inside = tt
 
 -- a counter that rose by so much, unless it stands still
 abbrev risen : ℕ → ℕ → ℕ
