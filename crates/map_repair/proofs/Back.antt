@@ -2,7 +2,6 @@
 use Rattle.std.proofs.Common.{◌≡◌, ℕ, zero, suc, ◌+◌, ◌-◌, ◌<◌, ◌≤◌, ◌==◌, Bool, true, false, ◌&&◌, ◌||◌, nat_le, if◌then◌else◌, List, [], ◌∷◌, length, get_or, slice_index, All, cond, map, refl, sym, ap, ◌∙◌, subst, inl, inr, arith}
 use Rattle.std.specs.List.{filter, range_with_len}
 use Rattle.std.proofs.lemmas.Bool.{and_from, and_parts, cases_Bool, cases_lt, lt-ltb}
-use Rattle.std.proofs.lemmas.Bool.Decides.{nat_tests}
 use Rattle.std.proofs.lemmas.List.Elements.{All-filter}
 use Rattle.std.proofs.lemmas.List.FromFn.{get_or-map-range_with_len, length-map-range_with_len}
 use Rattle.std.proofs.lemmas.List.Sums.{sum_by-cons}
@@ -13,19 +12,20 @@ use Rattle.map_model.proofs.MapForm.{few_places, no_line, offers-AreLines}
 use Rattle.map_model.proofs.Rising.{Rises, Rises-at, Rises-lower, before_by_rank, first_or}
 use Rattle.map_model.proofs.Units.{units_of-le}
 use Rattle.evict.specs.Standing.{Standing}
+use Rattle.reopen.specs.Cutting.{KeepsSums}
 use Rattle.reopen.specs.Rolling.{CanRollBack, IsBackAt, IsRolledBack, is_marked}
-use Rattle.reopen.proofs.Removing.{IsRolling, can_cut, rolled_back}
+use Rattle.reopen.proofs.Removing.{IsRolling, rolled_back}
 use Rattle.agree_laws.proofs.Same.{IsSome_line, rank_of, rising_lines}
 
 -- elements that are left out leave ranks that rise
 rises_filter : {X : Type 0} (rank : X → ℕ) (In : X → Type 0) (p : X → Bool) (from : ℕ) (xs : List X) → Rises rank In from xs → Rises rank In from (filter p xs)
 rises_filter rank In p from [] r = tt
 rises_filter rank In p from (x ∷ xs) r = elim (cases_Bool (p x)) [
-  | inl y ↦ rw y (r.0, r.1, rises_filter rank In p (rank x + 1) xs r.2)
+  | inl y ↦ subst (λ b. Rises rank In from (cond b (x ∷ filter p xs) (filter p xs))) (sym y) (r.0, r.1, rises_filter rank In p (rank x + 1) xs r.2)
   | inr n ↦
       let start : from ≤ rank x = r.0 in
       let rest : Rises rank In from (filter p xs) = Rises-lower rank In from (rank x + 1) (filter p xs) (omega (arith, start)) (rises_filter rank In p (rank x + 1) xs r.2) in
-      rw n rest
+      subst (λ b. Rises rank In from (cond b (x ∷ filter p xs) (filter p xs))) (sym n) rest
 ]
 
 -- and lines in the form of a map
@@ -80,58 +80,69 @@ back_place m marks g (suc n) =
           let clear : (k : ℕ) → k < n → is_marked m marks g k ≡ false = λ k l. b.before k (omega (arith, l, all)) in
           elim (cases_Bool (is_marked m marks g n)) [
             | inl y ↦ (n, record { within = omega arith; before = clear; at = λ l. y })
-            | inr no ↦ (suc n, record {
-              within = omega arith;
-              before = λ k l. elim (cases_lt k n) [ inl low ↦ clear k low | inr high ↦ let e : n ≡ k = omega (arith, l, high) in subst (λ x. is_marked m marks g x ≡ false) e no ];
-              at = λ l. absurd (omega (arith, l));
-            })
+            | inr off ↦ (
+              suc n,
+              record {
+                within = omega arith;
+                before = λ k l. elim (cases_lt k n) [ inl low ↦ clear k low | inr high ↦ let e : n ≡ k = omega (arith, l, high) in subst (λ x. is_marked m marks g x ≡ false) e off ];
+                at = λ l. absurd (omega (arith, l));
+              },
+            )
           ]
     ]
 
--- A state that may be rolled back has a rolled-back one.
-pub rolled_back_exists : (m : Market) (marks : List Bool) (s : Standing) → CanRollBack m marks s → (back : Standing) × IsRolledBack m marks s back
-rolled_back_exists m marks s can = (back, rolled_back m marks n s back can rolling (omega arith))
-  where
-    n : ℕ
-    n = length m.groups
+module _ (m : Market) (marks : List Bool) (s : Standing) (can : CanRollBack m marks s) where
+  abbrev count : ℕ
+  count = length m.groups
 
-    place : ℕ → ℕ
-    place g = (back_place m marks g (slice_index s.pointers g)).0
+  abbrev place : ℕ → ℕ
+  place g = (back_place m marks g (slice_index s.pointers g)).0
 
-    pointers : List ℕ
-    pointers = map place (range_with_len 0 n)
+  abbrev pointers : List ℕ
+  pointers = map place (range_with_len 0 count)
 
-    stays : ℕ → ℕ → Bool
-    stays g k = nat_le n g || nat_le k (slice_index pointers g)
+  -- an offer keeps its units
+  abbrev stays : ℕ → ℕ → Bool
+  stays g k = nat_le count g || nat_le k (slice_index pointers g)
 
-    lines : List MapLine
-    lines = filter (λ (l : MapLine). stays l.group.0 l.place) s.lines
+  abbrev lines : List MapLine
+  lines = filter (λ (l : MapLine). stays l.group.0 l.place) s.lines
 
-    free_of : ℕ → ℕ
-    free_of g = (placed s.lines g + slice_index s.free g) - placed lines g
+  abbrev free_of : ℕ → ℕ
+  free_of g = (placed s.lines g + slice_index s.free g) - placed lines g
 
-    free : List ℕ
-    free = map free_of (range_with_len 0 n)
+  abbrev back : Standing
+  back = record { market = s.market; lines = lines; pointers = pointers; free = map free_of (range_with_len 0 count); is_whole = s.is_whole }
 
-    back : Standing
-    back = record { market = s.market; lines = lines; pointers = pointers; free = free; is_whole = s.is_whole }
+  held : (test : ℕ → ℕ → Bool) → units_of test lines ≡ units_of (λ g k. test g k && stays g k) s.lines
+  held test = units_filter stays test s.lines
 
-    units : (test : ℕ → ℕ → Bool) → units_of test lines ≡ units_of (λ g k. test g k && stays g k) s.lines
-    units test = units_filter stays test s.lines
+  fewer : (g : ℕ) → placed lines g ≤ placed s.lines g
+  fewer g = omega (arith, held (λ h _. h == g), units_of-le (λ h k. (h == g) && stays h k) (λ h _. h == g) (λ h k t. (and_parts (h == g) (stays h k) t).0) s.lines)
 
-    fewer : (g : ℕ) → placed lines g ≤ placed s.lines g
-    fewer g = omega (arith, units (λ h _. h == g), units_of-le (λ h k. (h == g) && stays h k) (λ h _. h == g) (λ h k t. (and_parts (h == g) (stays h k) t).0) s.lines)
+  at_back : (g : ℕ) → g < length m.groups → IsBackAt m marks g (slice_index s.pointers g) (slice_index pointers g)
+  at_back g l =
+      let here : slice_index pointers g ≡ place g = get_or-map-range_with_len place 0 count g g 0 l (omega arith) in
+      subst (λ p. IsBackAt m marks g (slice_index s.pointers g) p) (sym here) (back_place m marks g (slice_index s.pointers g)).1
 
-    rolling : IsRolling m marks n s back
-    rolling = record {
-      can = record { market = can.market; whole = can.whole; shape = can.shape; form = lines_filter m can.market (λ (l : MapLine). stays l.group.0 l.place) s.lines can.form; count = length-map-range_with_len free_of 0 n };
-      market = refl;
-      count = length-map-range_with_len place 0 n;
-      frees = length-map-range_with_len free_of 0 n ∙ sym can.free_for;
-      done = λ h l low. subst (λ p. IsBackAt m marks h (slice_index s.pointers h) p) (sym (get_or-map-range_with_len place 0 n h h 0 l (omega arith))) (back_place m marks h (slice_index s.pointers h)).1;
-      to_do = λ h l high. absurd (omega (arith, l, high));
-      units = units;
-      sums = λ g l.
-          let at : slice_index free g ≡ free_of g = get_or-map-range_with_len free_of 0 n g g 0 (omega (arith, l, can.free_for)) (omega arith) in
-          omega (arith, at, fewer g);
-    }
+  sums : KeepsSums s back
+  sums g l =
+      let there : g < count = omega (arith, l, can.free_for) in
+      let at : slice_index back.free g ≡ free_of g = get_or-map-range_with_len free_of 0 count g g 0 there (omega arith) in
+      omega (arith, at, fewer g)
+
+  rolling : IsRolling m marks count s back
+  rolling = record {
+    can = record { market = can.market; whole = can.whole; shape = can.shape; form = lines_filter m can.market (λ (l : MapLine). stays l.group.0 l.place) s.lines can.form; count = length-map-range_with_len free_of 0 count };
+    market = refl;
+    count = length-map-range_with_len place 0 count;
+    frees = length-map-range_with_len free_of 0 count ∙ sym can.free_for;
+    done = λ h l low. at_back h l;
+    to_do = λ h l high. absurd (omega (arith, l, high));
+    units = held;
+    sums = sums;
+  }
+
+  -- A state that may be rolled back has a rolled-back one.
+  pub rolled_back_exists : (back : Standing) × IsRolledBack m marks s back
+  rolled_back_exists = (back, rolled_back m marks count s back can rolling (omega arith))

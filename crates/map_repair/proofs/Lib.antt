@@ -3,5 +3,5 @@ pub mod Listing
 pub mod Middle
 pub mod Spread
 pub mod Agree
-mod Back
-mod Below
+pub mod Back
+pub mod Below
