@@ -2,7 +2,6 @@
 use Rattle.std.proofs.Common.{◌≡◌, ℕ, zero, suc, ◌+◌, ◌-◌, ◌<◌, ◌≤◌, ◌==◌, Bool, true, false, ◌&&◌, ◌||◌, nat_le, if◌then◌else◌, List, [], ◌∷◌, length, get_or, slice_index, All, cond, map, refl, sym, ap, ◌∙◌, subst, inl, inr, arith}
 use Rattle.std.specs.List.{filter, range_with_len}
 use Rattle.std.proofs.lemmas.Bool.{and_from, and_parts, cases_Bool, cases_lt, lt-ltb}
-use Rattle.std.proofs.lemmas.Bool.Decides.{nat_tests}
 use Rattle.std.proofs.lemmas.List.Elements.{All-filter}
 use Rattle.std.proofs.lemmas.List.FromFn.{get_or-map-range_with_len, length-map-range_with_len}
 use Rattle.std.proofs.lemmas.List.Sums.{sum_by-cons}
@@ -81,11 +80,11 @@ back_place m marks g (suc n) =
           let clear : (k : ℕ) → k < n → is_marked m marks g k ≡ false = λ k l. b.before k (omega (arith, l, all)) in
           elim (cases_Bool (is_marked m marks g n)) [
             | inl y ↦ (n, record { within = omega arith; before = clear; at = λ l. y })
-            | inr no ↦ (
+            | inr off ↦ (
               suc n,
               record {
                 within = omega arith;
-                before = λ k l. elim (cases_lt k n) [ inl low ↦ clear k low | inr high ↦ let e : n ≡ k = omega (arith, l, high) in subst (λ x. is_marked m marks g x ≡ false) e no ];
+                before = λ k l. elim (cases_lt k n) [ inl low ↦ clear k low | inr high ↦ let e : n ≡ k = omega (arith, l, high) in subst (λ x. is_marked m marks g x ≡ false) e off ];
                 at = λ l. absurd (omega (arith, l));
               },
             )

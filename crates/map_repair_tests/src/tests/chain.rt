@@ -143,9 +143,21 @@ fn linked(
     let mut capacities = link.capacities.clone()?;
     let mut demands = link.demands.clone()?;
     apply_all(capacities.as_mut_slice(), demands.as_mut_slice(), batch);
-    let amounts = plain(alloc, spots, link, capacities.as_slice(), demands.as_slice())?;
+    let amounts = plain(
+        alloc,
+        spots,
+        link,
+        capacities.as_slice(),
+        demands.as_slice(),
+    )?;
     let instance = changed(alloc, &link.instance, batch)?;
-    let map = repaired(alloc, &link.instance, &link.map, &instance, &mut Steps::new())?;
+    let map = repaired(
+        alloc,
+        &link.instance,
+        &link.map,
+        &instance,
+        &mut Steps::new(),
+    )?;
     let made = Link {
         instance,
         map,
@@ -153,7 +165,11 @@ fn linked(
         demands,
         amounts,
     };
-    Ok(if is_plain(spots, &made) { Some(made) } else { None })
+    Ok(if is_plain(spots, &made) {
+        Some(made)
+    } else {
+        None
+    })
 }
 
 /// Whether the map is what the plain program holds.

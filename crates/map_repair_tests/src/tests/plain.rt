@@ -176,7 +176,9 @@ impl Sight<'_> {
 
     /// The number of a group's place.
     fn spot_at(&self, group: u32, place: u8) -> Option<usize> {
-        self.spots.iter().position(|spot| spot.group == group && spot.place == place)
+        self.spots
+            .iter()
+            .position(|spot| spot.group == group && spot.place == place)
     }
 
     /// The number of the held place under a node that is ranked lowest there.
