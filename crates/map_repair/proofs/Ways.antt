@@ -1,5 +1,5 @@
 -- Both ways to the new map come to what is promised.
-use Rattle.std.proofs.Common.{◌≡◌, ◌⊎◌, ℕ, ◌<◌, ◌≤◌, ◌==◌, ◌&&◌, ◌^◌, ◌+◌, ◌-◌, nat_lt, if◌then◌else◌, Bool, true, false, List, OnOk, Result, Ok, Err, slice_index, refl, sym, ap, ◌∙◌, subst, inl, inr, arith}
+use Rattle.std.proofs.Common.{◌≡◌, ◌⊎◌, ℕ, ◌<◌, ◌≤◌, ◌==◌, ◌&&◌, ◌^◌, ◌+◌, ◌-◌, nat_lt, if◌then◌else◌, Bool, true, false, List, MatchOption, OnOk, Option, None, Result, Ok, Err, slice_index, refl, sym, ap, ◌∙◌, subst, inl, inr, arith}
 use Rattle.std.proofs.lemmas.Bool.{cases_lt, le-ltb, lt-ltb}
 use Rattle.map_model.specs.declared.lines.MapLine.{MapLine}
 use Rattle.map_model.specs.Market.{Market, IsMarket, IsSameShape}
@@ -21,6 +21,10 @@ use Rattle.map_repair.specs.Ways.{HasRunOut, IsResumed}
 use Rattle.map_repair.proofs.Agree.{resumed_is}
 use Rattle.map_repair.proofs.Middle.{IsMiddle, IsReopened, can_roll_back, kept, reopened_back, state_of}
 use Rattle.map_repair.proofs.Spread.{stays_local, stays_within}
+
+-- what holds where there is none
+pub when_none : {X A : Type 0} (B : X → Type 0) (o : Option X) → o ≡ None → MatchOption o A B → A
+when_none {A = A} B o none m = subst (λ t. MatchOption t A B) none m
 
 -- a state of a good map may be cut for other numbers
 pub can_cut : (old new : Market) (s : Standing) → IsMarket new → IsSameShape old new → IsStateOf old s → CanCut new s
