@@ -4,9 +4,10 @@ use Rattle.std.proofs.Math.ListN.{length-set}
 use Rattle.std.proofs.lemmas.Bool.{and_parts, cases_Bool, cases_eq, cases_lt, eq-eqb, eqb-true, false≢true, ne_eqb}
 use Rattle.map_model.specs.Market.{Market, IsMarket, IsSameShape, capacity_of, choices_of, demand_of, limit_of, pool_of}
 use Rattle.map_model.specs.Allocation.{AreLines, IsOffer, amount_at, counts_at, is_under, load, placed, units_of}
-use Rattle.evict.specs.Standing.{IsGranted, IsOpen, IsReleased, Standing}
+use Rattle.map_model.proofs.Shapes.{IsOffer-shape, limit_of-shape, shape_sym, shape_trans}
+use Rattle.evict.specs.Standing.{IsGranted, IsOpen, IsReady, IsReleased, Standing}
 use Rattle.evict.proofs.Shaped.{AreLines-shape}
-use Rattle.reopen.specs.Cutting.{CanCut}
+use Rattle.reopen.specs.Cutting.{CanCut, IsCut}
 use Rattle.reopen.specs.Rolling.{IsBackAt, is_marked}
 use Rattle.reopen.proofs.Lessening.{sums_released}
 use Rattle.move_up.specs.Moved.{IsMoved}
@@ -152,3 +153,20 @@ moved_back m marks s g first place v there lower at upto past = record {
       | inl l ↦ l
       | inr h ↦ absurd (false≢true (sym (none first (omega (arith, h))) ∙ at.at (omega (arith, lower, upto))))
     ]
+
+-- a resumable state that was cut for other numbers is open for them
+pub open_of_cut : (old new : Market) (s mid : Standing) → IsReady old s → IsMarket new → IsSameShape old new → IsCut new s mid → IsOpen new mid
+open_of_cut old new s mid r market shape cut = record {
+  market = market;
+  whole = cut.less.whole;
+  shape = subst (λ (x : Market). IsSameShape x new) (sym cut.less.market) (shape_trans s.market old new r.shape shape);
+  form = cut.less.form;
+  pointers_for = ap length cut.less.pointers ∙ r.resumable.pointers_for ∙ sym shape.groups;
+  free_for = cut.less.count ∙ r.resumable.free_for ∙ sym shape.groups;
+  capacities = cut.capacities;
+  limits = λ g k o. omega (arith, cut.less.fewer (λ h j. (h == g) && (j == k)), r.resumable.limits g k (IsOffer-shape new old (shape_sym old new shape) g k o), limit_of-shape old new shape g k);
+  totals = cut.totals;
+  in_list = λ g l. let p : slice_index mid.pointers g ≡ slice_index s.pointers g = ap (λ (xs : List ℕ). slice_index xs g) cut.less.pointers in
+      omega (arith, p, ap length (shape.lists g), r.resumable.in_list g (omega (arith, l, shape.groups)));
+  none_past = λ g k o lt. omega (arith, cut.less.fewer (λ h j. (h == g) && (j == k)), r.resumable.none_past g k (IsOffer-shape new old (shape_sym old new shape) g k o) (subst (λ (xs : List ℕ). slice_index xs g < k) cut.less.pointers lt));
+}

@@ -9,7 +9,7 @@ ghost use Rattle.move_up.specs.Asked.{AreAllListed, AreListed, IsListed, listed_
 
 use crate::offers::is_offer;
 use evict::State;
-use map_model::{GroupId, Instance, NodeId, Offer};
+use map_model::{GroupId, Instance, Key, NodeId, Offer};
 use no_memory::NoMemory;
 use std::alloc::Global;
 use std::marker::Model;
@@ -89,51 +89,56 @@ impl Offers {
     }
 }
 
+/// The key of an offer.
+fn key_at(instance: &Instance, offer: Offer) -> Option<Key> {
+    if is_offer(instance, offer) {
+        Some(instance.key(offer))
+    } else {
+        None
+    }
+}
+
 /// Where an offer stands among those of its tree: by pool, score and group.
 fn rank_of(instance: &Instance, offer: Offer) -> u128 {
-    if !is_offer(instance, offer) {
-        return 0;
+    match key_at(instance, offer) {
+        Some(key) => {
+            (u128::from(key.pool.0) << 64) | (u128::from(key.score) << 32) | u128::from(key.group.0)
+        }
+        None => 0,
     }
-    let key = instance.key(offer);
-    (u128::from(key.pool.0) << 64) | (u128::from(key.score) << 32) | u128::from(key.group.0)
 }
 
 /// The score of each of some offers.
 fn scores_of(alloc: Global, instance: &Instance, offers: &[Offer]) -> Result<Vec<u32>, NoMemory> {
     let mut scores = Vec::new(alloc);
     for offer in offers {
-        scores.push(rank_score(rank_of(instance, *offer)))?;
+        let score = match key_at(instance, *offer) {
+            Some(key) => key.score,
+            None => 0,
+        };
+        scores.push(score)?;
     }
     Ok(scores)
 }
 
-/// The pool of a rank.
-fn rank_pool(rank: u128) -> u32 {
-    (rank >> 64) as u32
-}
-
-/// The score of a rank.
-fn rank_score(rank: u128) -> u32 {
-    (rank >> 32) as u32
+/// The pool of an offer of some place in a list.
+fn pool_in(instance: &Instance, offers: &[Offer], at: usize) -> Option<NodeId> {
+    let offer = offers.get(at)?;
+    let key = key_at(instance, *offer)?;
+    Some(key.pool)
 }
 
 /// Where the offers to each pool stand in a list by pool.
 fn runs_of(alloc: Global, instance: &Instance, offers: &[Offer]) -> Result<Vec<Run>, NoMemory> {
     let mut runs = Vec::new(alloc);
     let mut from = 0;
-    for (at, offer) in offers.iter().enumerate() {
-        let pool = rank_pool(rank_of(instance, *offer));
+    for at in 0..offers.len() {
         let until = at + 1;
-        let next = match offers.get(until) {
-            Some(next) => Some(rank_pool(rank_of(instance, *next))),
-            None => None,
-        };
-        if next != Some(pool) {
-            runs.push(Run {
-                pool: NodeId(pool),
-                from,
-                until,
-            })?;
+        let here = pool_in(instance, offers, at);
+        if here != pool_in(instance, offers, until) {
+            if let Some(pool) = here {
+                runs.push(Run { pool, from, until })?;
+            }
             from = until;
         }
     }

@@ -82,7 +82,7 @@ fn first_from(instance: &Instance, state: &State, scores: &[u32], run: Run) -> u
 }
 
 /// The offer of a place, with its score.
-fn scored(offers: &Offers, at: usize) -> Option<Scored> {
+fn offer_at(offers: &Offers, at: usize) -> Option<Scored> {
     let offer = *offers.as_slice().get(at)?;
     let score = *offers.scores().get(at)?;
     Some(Scored { score, offer })
@@ -99,7 +99,7 @@ fn better_in_run(
     requires { IsOpen instance.now state.now }
 {
     for at in first_from(instance, state, offers.scores(), run)..run.until {
-        let Some(found) = scored(offers, at) else {
+        let Some(found) = offer_at(offers, at) else {
             return best;
         };
         if !found.is_better(best) {
