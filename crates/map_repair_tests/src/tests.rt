@@ -4,9 +4,12 @@ ghost use Rattle.map_model.specs.Market.{IsSameShape};
 ghost use Rattle.map_model.specs.Allocation.{IsGood};
 
 mod best;
+mod chain;
 mod definitions;
 mod every_change;
 mod listed;
+mod plain;
+mod rings;
 mod smallest;
 
 use map_model::Change::{Capacity, Demand};

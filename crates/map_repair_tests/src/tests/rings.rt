@@ -1,0 +1,120 @@
+//! Changes behind which units can't simply move up: a ring of groups in which single moves would take thousands of millions of turns, and two groups that have each other's first place.
+ghost use Rattle.std.specs.Prelude.{◌≡◌};
+
+use super::{changed, is_good, repaired};
+use map_model::Change::Capacity;
+use map_model::{Change, MapLines, NodeId, Steps};
+use std::alloc::Global;
+use std::test::Fail;
+use worlds::{NameAt, Placed, World, map_of};
+
+/// Six pools in a ring and a group of a thousand million units for each, which asks it and then the next one. Each pool ranks the group of the one before it higher, and each group stands at its second place.
+const RING: World = World {
+    name: "ring",
+    nodes: &[
+        (1_000_000_000, None, true),
+        (1_000_000_000, None, true),
+        (1_000_000_000, None, true),
+        (1_000_000_000, None, true),
+        (1_000_000_000, None, true),
+        (1_000_000_000, None, true),
+    ],
+    groups: &[
+        (1_000_000_000, &[(0, 2), (1, 1)]),
+        (1_000_000_000, &[(1, 2), (2, 1)]),
+        (1_000_000_000, &[(2, 2), (3, 1)]),
+        (1_000_000_000, &[(3, 2), (4, 1)]),
+        (1_000_000_000, &[(4, 2), (5, 1)]),
+        (1_000_000_000, &[(5, 2), (0, 1)]),
+    ],
+    lines: &[
+        (0, 1, 1_000_000_000),
+        (1, 1, 1_000_000_000),
+        (2, 1, 1_000_000_000),
+        (3, 1, 1_000_000_000),
+        (4, 1, 1_000_000_000),
+        (5, 1, 1_000_000_000),
+    ],
+    names: &[
+        (0, 0, 0),
+        (1, 0, 1),
+        (2, 0, 2),
+        (3, 0, 3),
+        (4, 0, 4),
+        (5, 0, 5),
+    ],
+};
+
+/// The first two groups have each other's second place, or third. The third group fills a pool that the first and the last want too.
+const CROSSED: World = World {
+    name: "crossed beside a full pool",
+    nodes: &[(1, None, true), (1, None, true), (1, None, true)],
+    groups: &[
+        (1, &[(2, 3), (0, 2), (1, 1)]),
+        (1, &[(1, 2), (0, 1)]),
+        (1, &[(2, 1)]),
+        (1, &[(2, 2)]),
+    ],
+    lines: &[(0, 2, 1), (1, 1, 1), (2, 0, 1)],
+    names: &[(0, 0, 2), (0, 1, 0), (1, 0, 1), (3, 0, 2)],
+};
+
+/// A change of a world, the repaired map, and how many proposals that takes at most.
+struct Repair {
+    change: Change,
+    lines: &'static [Placed],
+    names: &'static [NameAt],
+    most: u64,
+}
+
+/// Room for one unit in the first pool: group by group, every unit comes to its first place.
+const ROOM: Repair = Repair {
+    change: Capacity {
+        node: NodeId(0),
+        capacity: 1_000_000_001,
+    },
+    lines: &[
+        (0, 0, 1_000_000_000),
+        (1, 0, 1_000_000_000),
+        (2, 0, 1_000_000_000),
+        (3, 0, 1_000_000_000),
+        (4, 0, 1_000_000_000),
+        (5, 0, 1_000_000_000),
+    ],
+    names: &[],
+    most: 6,
+};
+
+/// Room for the last group in the full pool: it is all that moves up by itself. But the first two groups want places in trees that this reaches, so they go back, and each has its better place.
+const BESIDE: Repair = Repair {
+    change: Capacity {
+        node: NodeId(2),
+        capacity: 2,
+    },
+    lines: &[(0, 1, 1), (1, 0, 1), (2, 0, 1), (3, 0, 1)],
+    names: &[(0, 0, 2)],
+    most: 4,
+};
+
+/// Whether the repaired map of a world is as told.
+fn is_repaired_so(alloc: Global, world: &World, repair: &Repair) -> Result<bool, Fail> {
+    let old = world.instance(alloc)?.ok_or("no instance")?;
+    let map = world.map(alloc)?;
+    let new = changed(alloc, &old, &[repair.change])?;
+    let mut steps = Steps::new();
+    let made = repaired(alloc, &old, &map, &new, &mut steps)?;
+    let told: MapLines = map_of(alloc, repair.lines, repair.names)?;
+    Ok(made == told && steps.count() <= repair.most && is_good(alloc, &new, &made)?)
+}
+
+#[test]
+fn repairs_a_ring_of_large_groups(rt: HostRuntime) -> Result<(), Fail> {
+    assert!(rt; is_repaired_so(rt.alloc(), &RING, &ROOM)?);
+    Ok(())
+}
+
+#[test]
+fn repairs_a_circle_that_nothing_comes_to(rt: HostRuntime) -> Result<(), Fail> {
+    assert!(rt; is_repaired_so(rt.alloc(), &CROSSED, &BESIDE)?);
+    Ok(())
+}
