@@ -3,3 +3,4 @@ pub mod Nexts
 pub mod Waits
 pub mod Leading
 pub mod Pushed
+pub mod Open

@@ -1,2 +1,3 @@
 pub mod Tables
 pub mod Leads
+pub mod Open

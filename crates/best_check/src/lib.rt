@@ -4,7 +4,9 @@
 mod chains;
 mod checking;
 mod leads;
+mod resumable;
 mod table;
 mod waiting;
 
 pub use checking::is_best;
+pub use resumable::is_resumable;
