@@ -7,7 +7,7 @@ use Rattle.map_model.specs.Allocation.{is_under, load}
 use Rattle.map_model.proofs.Trees.{above_alone, above_parent, above_split, under_itself}
 use Rattle.circle_laws.specs.Nearest.{IsNearestFull}
 use Rattle.best_check.specs.Fullness.{FirstFull, IsFirstFull}
-use Rattle.best_check.proofs.Parents.{IsAbove}
+use Rattle.best_check.proofs.Above.{IsAbove}
 
 module _ (m : Market) (market : IsMarket m) (lines : List MapLine) (n : ℕ) (there : n < length m.nodes) where
   -- a full node is the nearest one to itself

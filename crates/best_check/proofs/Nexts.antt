@@ -13,7 +13,7 @@ use Rattle.circle_laws.specs.Nearest.{IsNearestFull}
 use Rattle.circle_laws.proofs.Nearest.{has_nearest, room_at, room_from}
 use Rattle.best_check.specs.declared.ranked.Ranked.{Ranked}
 use Rattle.best_check.specs.Tables.{AreNextAt, AreRanked, IsBestBefore, IsEntry, IsNextAt, IsRanked, IsWaitingAt}
-use Rattle.best_check.proofs.Parents.{from_above}
+use Rattle.best_check.proofs.Above.{from_above}
 
 -- who is next in line at the node above a node
 abbrev pub IsNextAbove : Market → List MapLine → ℕ → Option Ranked → Type 0

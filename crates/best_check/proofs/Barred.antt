@@ -1,20 +1,21 @@
 -- The rank from which on a node refuses, from its worst offer and from the node above.
-use Rattle.std.proofs.Common.{◌≡◌, ◌⊎◌, ◌==◌, ◌&&◌, ℕ, ◌<◌, true, List, length, Option, None, Some, IfSome, IsSome, refl, sym, ap, ◌∙◌, subst, inl, inr}
+use Rattle.std.proofs.Common.{◌≡◌, ◌⊎◌, ◌==◌, ◌&&◌, ℕ, ◌<◌, true, List, length, Option, None, Some, IfSome, IsSome, refl, sym, ap, ◌∙◌, subst, inl, inr, slice_index_or, arith}
 use Rattle.std.proofs.lemmas.Bool.{and_from, eq-eqb}
 use Rattle.map_model.specs.declared.instance.Key.{Key}
 use Rattle.map_model.specs.declared.instance.NodeId.{NodeId}
 use Rattle.map_model.specs.declared.lines.MapLine.{MapLine}
 use Rattle.map_model.specs.Market.{Market, IsMarket, IsSameShape, capacity_of, key_of, parent_of, pool_of}
-use Rattle.map_model.specs.Allocation.{AreLines, key_le, load, none_worse, refuser_of}
+use Rattle.map_model.specs.Allocation.{AreLines, IsOffer, key_le, load, none_worse, refuser_of}
 use Rattle.map_model.specs.Holding.{IsWorst}
+use Rattle.map_model.proofs.Paths.{pool_there}
 use Rattle.map_model.proofs.Refused.{refused_node}
 use Rattle.map_model.proofs.Shapes.{key_of-shape, shape_sym}
 use Rattle.map_model.proofs.Trees.{above_parent, under_itself}
 use Rattle.evict.proofs.Refusals.{refused_at}
 use Rattle.evict.proofs.Shaped.{AreLines-shape}
 use Rattle.evict.proofs.Worst.{worst_key, worst_none}
-use Rattle.best_check.specs.Open.{IsBar}
-use Rattle.best_check.proofs.Parents.{IsAbove}
+use Rattle.best_check.specs.Open.{IsBar, IsBarTable}
+use Rattle.best_check.proofs.Above.{IsAbove}
 
 -- what a full node holds, in a state of another instance of the same shape
 module _ (from m : Market) (shape : IsSameShape from m) (lines : List MapLine) (form : AreLines m lines) (n : ℕ) (full : load m lines n ≡ capacity_of m n) where
@@ -55,3 +56,10 @@ bar_either m lines n one other bar a b (inr e) = subst (λ x. IfSome x (λ (k : 
 -- an offer that is one of those from the key at its pool on is refused
 pub refused_behind : (m : Market) (lines : List MapLine) (g k : ℕ) (bar : Key) → IsBar m lines (pool_of m g k) bar → key_le bar (key_of m g k) ≡ true → IsSome (refuser_of m lines g k)
 refused_behind m lines g k bar b le = refused_node m lines g k (refused_at m lines g k b.node b.on (b.refuses (key_of m g k) le))
+
+-- found in a table of keys by the offer's own
+pub refused_in_table : (m : Market) → IsMarket m → (lines : List MapLine) (g k : ℕ) → IsOffer m g k → (bars : List (Option Key)) → IsBarTable m lines bars → (key : Key) → key ≡ key_of m g k → (b : Key) × (slice_index_or bars key.pool.0 None ≡ Some b) × (key_le b key ≡ true) → IsSome (refuser_of m lines g k)
+refused_in_table m market lines g k offer bars table key is x =
+    let at : key.pool.0 ≡ pool_of m g k = ap (λ (y : Key). y.pool.0) is in
+    let bar : IsBar m lines key.pool.0 x.0 = subst (λ e. IfSome e (λ (b : Key). IsBar m lines key.pool.0 b)) x.1 (table.bars_at key.pool.0 (omega (arith, at, pool_there m market g k offer, table.size))) in
+    refused_behind m lines g k x.0 (subst (λ p. IsBar m lines p x.0) at bar) (subst (λ y. key_le x.0 y ≡ true) is x.2)
