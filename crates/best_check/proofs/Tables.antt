@@ -3,6 +3,7 @@ use Rattle.std.proofs.Common.{◌≡◌, ◌⊎◌, ℕ, ◌+◌, ◌<◌, ◌�
 use Rattle.std.proofs.lemmas.Bool.{cases_eq, lt-ltb, ltb-true}
 use Rattle.std.proofs.lemmas.List.{get_or-replicate, get_or-set_other, length-replicate}
 use Rattle.map_model.specs.declared.instance.Key.{Key}
+use Rattle.map_model.specs.declared.instance.NodeId.{NodeId}
 use Rattle.map_model.specs.declared.lines.MapLine.{MapLine}
 use Rattle.map_model.specs.Market.{Market, IsMarket, demand_of, key_of, limit_of, pool_of}
 use Rattle.map_model.specs.Allocation.{IsOffer, amount_at, key_le, placed_through}
@@ -12,7 +13,7 @@ use Rattle.map_model.proofs.Trees.{above_le, under_there}
 use Rattle.evict.specs.Standing.{IsPastWanted, IsReady, Standing}
 use Rattle.best_laws.specs.Ahead.{IsRightMap}
 use Rattle.best_check.specs.declared.ranked.Ranked.{Ranked}
-use Rattle.best_check.specs.Fullness.{FirstFull, IsFirstFull}
+use Rattle.best_check.specs.Fullness.{FirstFull, IsFirstFull, IsFullTable}
 use Rattle.best_check.specs.Tables.{AreRanked, ArePastWanted, IsBefore, IsBestBefore, IsEntry, IsRanked, IsTable, IsWaitingAt}
 use Rattle.best_check.proofs.Fullness.{near_offer}
 
@@ -87,12 +88,19 @@ waits_alone : (m : Market) → IsMarket m → (lines : List MapLine) (g k f n : 
 waits_alone m market lines g k f n first w = above_le m market f n (first_there m market lines g k f first w.in_line.offer) (w.near.nearest f first.on first.full) (first.nearest n w.near.on w.near.full)
 
 -- an offer at its limit, or one that is no better than what is noted at its node, changes nothing
-pub passed_other : (m : Market) → IsMarket m → (lines : List MapLine) (g k f : ℕ) (table : List (Option Ranked)) → IsTable m lines g k table → IsFirstFull m lines (pool_of m g k) f → (limit_of m g k ≤ amount_at lines g k) ⊎ ((o : Ranked) × (slice_index_or table f None ≡ Some o) × (key_le o.key (key_of m g k) ≡ true)) → IsTable m lines g (k + 1) table
-passed_other m market lines g k f table t first (inl full) = passed m lines g k table t (λ n w. absurd (omega (arith, w.in_line.room, full)))
-passed_other m market lines g k f table t first (inr x) = passed m lines g k table t (λ n w. (x.0, ap (λ c. slice_index_or table c None) (waits_alone m market lines g k f n first w) ∙ x.1, x.2))
+pub passed_other : (m : Market) → IsMarket m → (lines : List MapLine) (g k f : ℕ) (table : List (Option Ranked)) (key : Key) → IsTable m lines g k table → IsFirstFull m lines (pool_of m g k) f → key ≡ key_of m g k → (limit_of m g k ≤ amount_at lines g k) ⊎ ((o : Ranked) × (slice_index_or table f None ≡ Some o) × (key_le o.key key ≡ true)) → IsTable m lines g (k + 1) table
+passed_other m market lines g k f table key t first is (inl full) = passed m lines g k table t (λ n w. absurd (omega (arith, w.in_line.room, full)))
+passed_other m market lines g k f table key t first is (inr x) =
+    passed m lines g k table t (λ n w. (x.0, ap (λ c. slice_index_or table c None) (waits_alone m market lines g k f n first w) ∙ x.1, subst (λ y. key_le x.0.key y ≡ true) is x.2))
+
+-- the full node nearest to an offer's pool, as a table says it
+pub first_at : (m : Market) → IsMarket m → (lines : List MapLine) (g k : ℕ) → IsOffer m g k → (nearest : List (Option NodeId)) → IsFullTable m lines nearest → (key : Key) → key ≡ key_of m g k → FirstFull m lines (pool_of m g k) (slice_index_or nearest key.pool.0 None)
+first_at m market lines g k o nearest table key is =
+    let at : key.pool.0 ≡ pool_of m g k = ap (λ (x : Key). x.pool.0) is in
+    subst (λ p. FirstFull m lines p (slice_index_or nearest key.pool.0 None)) at (table.first key.pool.0 (omega (arith, at, pool_there m market g k o, table.size)))
 
 -- where its group's wanted places are done, the group is
-pub group_done : (m : Market) (lines : List MapLine) (g p at : ℕ) (table : List (Option Offer)) → IsPastWanted m lines g p → p ≤ at → IsTable m lines g at table → IsTable m lines (g + 1) 0 table
+pub group_done : (m : Market) (lines : List MapLine) (g p at : ℕ) (table : List (Option Ranked)) → IsPastWanted m lines g p → p ≤ at → IsTable m lines g at table → IsTable m lines (g + 1) 0 table
 group_done m lines g p at table past done t = table_on m lines g at (g + 1) 0 table t less
   where
     less : (n h j : ℕ) → IsBefore (g + 1) 0 h j → IsWaitingAt m lines n h j → IsBefore g at h j
@@ -105,7 +113,7 @@ group_done m lines g p at table past done t = table_on m lines g at (g + 1) 0 ta
     ]
 
 -- where all groups are done, all offers are
-pub groups_done : (m : Market) (lines : List MapLine) (g : ℕ) (table : List (Option Offer)) → length m.groups ≤ g → IsTable m lines g 0 table → IsTable m lines (length m.groups) 0 table
+pub groups_done : (m : Market) (lines : List MapLine) (g : ℕ) (table : List (Option Ranked)) → length m.groups ≤ g → IsTable m lines g 0 table → IsTable m lines (length m.groups) 0 table
 groups_done m lines g table done t = table_on m lines g 0 (length m.groups) 0 table t (λ n h j before w. inl (omega (arith, done, w.in_line.offer.group)))
 
 -- the entries are offers with their keys
