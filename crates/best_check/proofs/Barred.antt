@@ -1,10 +1,9 @@
 -- The rank from which on a node refuses, from its worst offer and from the node above.
-use Rattle.std.proofs.Common.{◌≡◌, ◌⊎◌, ◌==◌, ◌&&◌, ℕ, ◌<◌, true, List, length, Option, None, Some, IfSome, IsSome, refl, sym, ap, ◌∙◌, subst, inl, inr, slice_index_or, arith}
+use Rattle.std.proofs.Common.{◌≡◌, ◌⊎◌, ◌==◌, ℕ, ◌<◌, true, List, length, Option, None, Some, IfSome, IsSome, refl, sym, ap, ◌∙◌, subst, inl, inr, slice_index_or, arith}
 use Rattle.std.proofs.lemmas.Bool.{and_from, eq-eqb}
 use Rattle.map_model.specs.declared.instance.Key.{Key}
-use Rattle.map_model.specs.declared.instance.NodeId.{NodeId}
 use Rattle.map_model.specs.declared.lines.MapLine.{MapLine}
-use Rattle.map_model.specs.Market.{Market, IsMarket, IsSameShape, capacity_of, key_of, parent_of, pool_of}
+use Rattle.map_model.specs.Market.{Market, IsMarket, IsSameShape, capacity_of, key_of, pool_of}
 use Rattle.map_model.specs.Allocation.{AreLines, IsOffer, key_le, load, none_worse, refuser_of}
 use Rattle.map_model.specs.Holding.{IsWorst}
 use Rattle.map_model.proofs.Paths.{pool_there}

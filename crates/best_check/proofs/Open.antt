@@ -1,10 +1,10 @@
 -- Places before pointers that are wanted and refused make an open state resumable.
-use Rattle.std.proofs.Common.{◌≡◌, ◌==◌, ◌&&◌, ℕ, ◌+◌, ◌<◌, ◌≤◌, true, nat_lt, nat_le, List, length, IsSome, slice_index, arith}
-use Rattle.std.proofs.lemmas.Bool.{and_parts, lt-ltb}
+use Rattle.std.proofs.Common.{◌==◌, ◌&&◌, ℕ, ◌+◌, ◌<◌, ◌≤◌, nat_lt, nat_le, List, length, slice_index, arith}
+use Rattle.std.proofs.lemmas.Bool.{lt-ltb}
 use Rattle.std.proofs.lemmas.Bool.Decides.{nat_tests}
 use Rattle.map_model.specs.declared.lines.MapLine.{MapLine}
 use Rattle.map_model.specs.Market.{Market, demand_of}
-use Rattle.map_model.specs.Allocation.{IsOffer, amount_at, placed, placed_through, refuser_of}
+use Rattle.map_model.specs.Allocation.{amount_at, placed, placed_through}
 use Rattle.map_model.proofs.Units.{placed_through-split, through-le-placed, units_of-le}
 use Rattle.evict.specs.Standing.{IsReady, Standing}
 use Rattle.best_check.specs.Open.{AreRefused, AreWanted, IsOpen}

@@ -1,4 +1,4 @@
-use Rattle.std.proofs.Common.{◌≡◌, ◌==◌, sym, ap, ◌∙◌}
+use Rattle.std.proofs.Common.{◌==◌, sym, ap, ◌∙◌}
 use Rattle.map_model.specs.Market.{Market}
 use Rattle.map_model.specs.Allocation.{load}
 use Rattle.evict.proofs.Shaped.{load-shape}

@@ -1,6 +1,6 @@
 use Rattle.std.proofs.Common.{◌≡◌, ◌++◌, [], ◌∷◌, subst, sym, rules}
 use Rattle.map_model.specs.Market.{Market}
-use Rattle.best_check.specs.Fullness.{AreFirstFull, FirstFull}
+use Rattle.best_check.specs.Fullness.{FirstFull}
 use Rattle.best_check.proofs.Pushed.{pushed}
 use Rattle.best_check.proofs.nearest.nearest_full.Goals as goal
 

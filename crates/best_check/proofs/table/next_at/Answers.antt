@@ -1,6 +1,5 @@
-use Rattle.std.proofs.Common.{◌≡◌, ◌⊎◌, Option, Some, IfSome, length, subst, sym, inl, inr, arith}
-use Rattle.map_model.specs.Market.{Market, key_of}
-use Rattle.best_check.specs.declared.ranked.Ranked.{Ranked}
+use Rattle.std.proofs.Common.{IfSome, length, subst, arith}
+use Rattle.map_model.specs.Market.{Market}
 use Rattle.best_check.specs.Tables.{IsEntry, IsRanked}
 use Rattle.best_check.proofs.Nexts.{above_from, above_ranked, either_ranked, keys_of, next_none, next_some, nobody_waits}
 use Rattle.best_check.proofs.table.next_at.Goals as goal

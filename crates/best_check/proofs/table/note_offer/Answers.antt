@@ -1,7 +1,7 @@
-use Rattle.std.proofs.Common.{◌≡◌, ℕ, Some, subst, arith}
+use Rattle.std.proofs.Common.{ℕ, subst, arith}
 use Rattle.map_model.specs.Market.{Market, pool_of}
 use Rattle.best_check.specs.Fullness.{FirstFull}
-use Rattle.best_check.proofs.Tables.{first_at, first_there, noted, passed_other, passed_room}
+use Rattle.best_check.proofs.Tables.{first_at, first_there, noted, passed_other}
 use Rattle.best_check.proofs.table.note_offer.Goals as goal
 
 pub slice_copy_out-goes_before : goal.slice_copy_out-goes_before
