@@ -14,8 +14,8 @@ given. Allowed ends:
                     feed first
     feeds           status 8 (or 9) with no map's text but the first, and no line; or status 0 with a line of each feed,
                     `published` or `refused commit memory`, and the texts of the maps that these make; or status 8
-                    with such lines, but for a feed that there was no memory to read; or it waits, where the
-                    thread of a feeder is refused behind the try of all threads (docs/OPERATING.md)
+                    with such lines, but for a feed that there was no memory to read, or with no line and the first
+                    map's text, where the thread of a feeder is refused behind the try of all threads
 
 It says at which number it stands, and with --state it goes on there after a break. The last line counts.
 """
@@ -128,8 +128,6 @@ def run_feeds(shim, number, count, told=""):
 
 def judge_feeds(shim, number, count):
     status, out, maps = run_feeds(shim, number, count)
-    if status == "hangs":
-        return "waits for a feeder without a thread", None
     if status in (8, 9) and out == b"" and maps in (b"", FIRST):
         return str(status) + (" with the first map" if maps else ""), None
     said, published, due = [], [], FIRST

@@ -13,10 +13,11 @@ use Rattle.demand_feed.specs.declared.run.FeedEnd.TheVariants as ends
 use Rattle.demand_feed.specs.declared.sent.Item.{Item}
 use Rattle.demand_feed.specs.declared.sent.What.{What}
 use Rattle.demand_feed.specs.declared.sent.What.TheVariants as what
-use Rattle.feed_queue.specs.Ends.{FeederState, TakerState, fresh_feeder}
+use Rattle.feed_queue.specs.Ends.{FeederState, TakerState, fresh_feeder, with_item}
 use Rattle.feed_queue.specs.Feeder.{EndsWith, HasSent}
 use Rattle.feed_queue.specs.Items.{AreTaken, only, sent_by}
 use Rattle.feed_queue.specs.Whole.{EndsLast, ends_in, is_end}
+use Rattle.feed_queue.proofs.Sendings.{has_sent_none}
 use Rattle.feed_queue.proofs.Wholes.{all_is_taken, runs_end_last}
 use Rattle.mapper.specs.Feeds.{AreFeeds, HasMerged, HaveEnded, first_end, has_one, is_no_memory, is_source_fault, is_spent}
 use Rattle.mapper.specs.Scenes.{Scene}
@@ -50,6 +51,22 @@ tells fed faults xs = map (feed_told fed faults) xs
 
 abbrev pub feds : {T : Type 0} → (T → Option Fed) → (T → ℕ) → List T → List (Option Fed)
 feds fed faults xs = map (λ (x : FeedTold). x.fed) (tells fed faults xs)
+
+-- a feed that was given up: nothing was read of it, and its feeder sent this end alone
+pub given_up : (t : Plan) (turns : ℕ) (fed : Option Fed) (faults : ℕ) (f : FeederState) → f.sent ≡ [] → IsRead t turns fed fed faults faults f (with_item f (what.End ends.NoMemory))
+given_up t turns fed faults f unused =
+    let is : f.sent ++ what.End ends.NoMemory ∷ [] ≡ what.End ends.NoMemory ∷ [] = ap (λ (ws : List What). ws ++ what.End ends.NoMemory ∷ []) unused in record {
+      same = (refl, refl);
+      sent = has_sent_none t turns fed (f.sent ++ what.End ends.NoMemory ∷ []) is;
+      source = λ e. absurd (no_fault e.0 (sym is ∙ e.1));
+      later = omega arith;
+      stays = λ none. refl;
+    }
+  where
+    no_fault : (ahead : List What) → what.End ends.NoMemory ∷ [] ≡ ahead ++ what.End ends.SourceFault ∷ [] → ⊥
+    no_fault [] e = cc
+    no_fault (w ∷ []) e = cc
+    no_fault (w ∷ v ∷ ws) e = cc
 
 all_cons : {A : Type 0} (P : A → Type 0) (x : A) (xs : List A) → P x → All P xs → All P (x ∷ xs)
 all_cons P x xs p q zero d l = p

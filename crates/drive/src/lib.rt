@@ -3,11 +3,13 @@
 
 mod beside;
 mod feeders;
+mod fork;
 mod joins;
 mod lane;
 mod laws;
 mod line;
 mod loan;
+mod start;
 mod stream;
 mod threads;
 mod whole;

@@ -6,6 +6,7 @@ ghost use Rattle.feed_queue.specs.Items.{AreTaken, sent_by};
 ghost use Rattle.drive.specs.Line.{IsLine};
 
 use crate::loan::Desk;
+use crate::start::Start;
 use feed_queue::{Feeder, Numbers, Taker, open};
 use no_memory::NoMemory;
 use std::alloc::Global;
@@ -39,7 +40,11 @@ pub(crate) fn open_line<N: Numbers>(
     let mut feeders = made;
     let first = feeders.remove(0);
     Ok(Line {
-        desk: Desk { topology, turns },
+        desk: Desk {
+            topology,
+            turns,
+            start: Start::new(),
+        },
         first,
         feeders,
         taker,

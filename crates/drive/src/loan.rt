@@ -1,7 +1,8 @@
 //! All that a drive is lent: one value, made once, which goes through its functions.
 
 use crate::beside::Feeds;
-use crate::feeders::{Fresh, Sends};
+use crate::feeders::{Fresh, Sends, Starts};
+use crate::start::Start;
 use demand_feed::FeedEnd;
 use feed_queue::{Feeder, Numbers, Taker};
 use map_cell::{Naming, NoteRow};
@@ -45,11 +46,18 @@ impl<J: Naming, S: Source, K: Sink, M: Pace> Feeds<NoteRow<J>, Mapper<J>>
     }
 }
 
-/// What all feeders share: the topology, and for how many turns each reads its feed.
+/// What all feeders share: the topology, for how many turns each reads its feed, and where they wait for one another.
 #[derive(Drop)]
 pub(crate) struct Desk {
     pub topology: Arc<Topology>,
     pub turns: u64,
+    pub start: Start,
+}
+
+impl Starts for Desk {
+    fn start<R: Wait>(&self, rt: &R) {
+        self.start.open(rt);
+    }
 }
 
 impl<N: Numbers> Fresh for Feeder<N> {
@@ -68,8 +76,13 @@ impl<N: Numbers, S: Source> Sends<Desk, Feeder<N>> for S {
 
     ghost sent = { λ desk a b f g. IsRead (arc_value desk.topology) desk.turns (S.told a) (S.told b) (S.faults a) (S.faults b) f g };
 
-    fn send<R: Wait>(&mut self, rt: &R, desk: &Desk, feeder: &mut Feeder<N>) {
-        feeder.run(rt, &desk.topology, self, desk.turns);
+    #[tactic(auto, using(crate::proofs::Several::given_up))]
+    fn send<R: Wait>(&mut self, rt: &R, desk: &Desk, feeder: &mut Feeder<N>, alone: bool) {
+        if desk.start.may_read(rt, alone) {
+            feeder.run(rt, &desk.topology, self, desk.turns);
+        } else {
+            feeder.give_up(rt);
+        }
     }
 }
 

@@ -474,7 +474,8 @@ fn drive_with<
 /// lane. At the end, after a refusal too, the mapper is closed.
 ///
 /// Where there are further feeds, three at most, each feed is read in a thread of its own, by the feeder of its number, and
-/// the mapper's side runs in this one.
+/// the mapper's side runs in this one. Where one of them gets none, though there were enough ahead of that, no feed is read:
+/// each feeder gives its feed up, and the feeds end by `NoMemory`.
 ///
 /// A lane that its port or its gate has ended counts as ended by `CellFault` if its closing look is refused. One whose
 /// closing look shows a map past the newest one has ended `Above`.
