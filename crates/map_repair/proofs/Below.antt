@@ -1,8 +1,8 @@
 -- A map that a try comes to is within what the rolled-back state leaves.
-use Rattle.std.proofs.Common.{◌≡◌, ℕ, ◌<◌, ◌≤◌, ◌==◌, Bool, true, false, ◌&&◌, nat_le, List, length, slice_index, refl, sym, ap, ◌∙◌, inl, inr, arith}
+use Rattle.std.proofs.Common.{◌≡◌, ℕ, ◌<◌, ◌==◌, Bool, true, false, ◌&&◌, nat_le, List, slice_index, refl, sym, ap, ◌∙◌, inl, inr, arith}
 use Rattle.std.proofs.lemmas.Bool.{and_parts, cases_Bool, eqb-true, le-leb}
 use Rattle.map_model.specs.Market.{Market}
-use Rattle.map_model.specs.Allocation.{IsOffer, amount_at, units_of}
+use Rattle.map_model.specs.Allocation.{IsOffer, amount_at}
 use Rattle.evict.specs.Standing.{IsReady, Standing}
 use Rattle.evict.proofs.Shaped.{units_of-same}
 use Rattle.best_laws.specs.Ahead.{IsWithin}

@@ -7,12 +7,8 @@ use Rattle.std.proofs.lemmas.List.Elements.{All-push, Contains-append_left, Cont
 use Rattle.std.proofs.lemmas.List.Sums.{sum_by-set}
 use Rattle.map_model.specs.declared.instance.NodeId.{NodeId}
 use Rattle.map_model.specs.declared.lines.MapLine.{MapLine}
-use Rattle.map_model.specs.Market.{Market, choice_at, pool_of}
-use Rattle.map_model.specs.Progress.{root_of, tree_of}
-use Rattle.map_model.specs.Allocation.{IsOffer}
-use Rattle.map_model.proofs.Paths.{pool_there}
-use Rattle.map_model.proofs.Roots.{root-there}
-use Rattle.map_model.proofs.Shapes.{root_of-shape}
+use Rattle.map_model.specs.Market.{Market}
+use Rattle.map_model.specs.Progress.{tree_of}
 use Rattle.evict.specs.Standing.{IsReady, Standing}
 use Rattle.reopen.specs.Cutting.{CanCut}
 use Rattle.map_repair.specs.Marks.{AreDone, HoldsInMarked, IsClosedForAll, IsMarking, IsPending, IsSettled, Marking, is_on, left_of, unmarked}

@@ -1,10 +1,9 @@
 -- Both ways to the new map come to what is promised.
-use Rattle.std.proofs.Common.{◌≡◌, ◌⊎◌, ℕ, ◌<◌, ◌≤◌, ◌==◌, ◌&&◌, ◌^◌, ◌+◌, ◌-◌, nat_lt, if◌then◌else◌, Bool, true, false, List, MatchOption, OnOk, Option, None, Result, Ok, Err, slice_index, refl, sym, ap, ◌∙◌, subst, inl, inr, arith}
-use Rattle.std.proofs.lemmas.Bool.{cases_lt, le-ltb, lt-ltb}
-use Rattle.map_model.specs.declared.lines.MapLine.{MapLine}
+use Rattle.std.proofs.Common.{◌≡◌, ◌⊎◌, ℕ, Bool, List, MatchOption, OnOk, Option, None, Result, Ok, Err, slice_index, refl, sym, ◌∙◌, subst, inl, inr, arith}
+use Rattle.std.proofs.lemmas.Bool.{cases_lt}
 use Rattle.map_model.specs.Market.{Market, IsMarket, IsSameShape}
 use Rattle.map_model.specs.Allocation.{IsStable, names_of}
-use Rattle.map_model.specs.Progress.{IsEnded, IsGroupBest, tree_of}
+use Rattle.map_model.specs.Progress.{IsEnded, IsGroupBest}
 use Rattle.map_model.proofs.Shapes.{shape_trans}
 use Rattle.evict.specs.Standing.{IsOpen, IsReady, Standing}
 use Rattle.evict.proofs.Shaped.{AreLines-shape}
@@ -69,52 +68,6 @@ pub run_out : {X E : Type 0} (r : Result X E) (m : Market) (from to : Standing) 
     → OnOk r ((trees : ℕ → Bool) → HoldsWork m trees from → StaysInside m trees from to before after) → OnOk r (HasRunOut m from to before after)
 run_out (Ok x) m from to before after run ended wanted proposed inside = record { run = run; ended = ended; wanted = wanted; proposed = proposed; inside = inside }
 run_out (Err e) m from to before after run ended wanted proposed inside = tt
-
--- a counter that rose by so much, unless it stands still
-abbrev risen : ℕ → ℕ → ℕ
-risen before n = if nat_lt (before + n) (2 ^ 64) then before + n else 2 ^ 64 - 1
-
-below : (before n : ℕ) → before + n < 2 ^ 64 → risen before n ≡ before + n
-below before n l = ap (λ b. if b then before + n else 2 ^ 64 - 1) (lt-ltb (before + n) (2 ^ 64) l)
-
-at_end : (before n : ℕ) → 2 ^ 64 ≤ before + n → risen before n ≡ 2 ^ 64 - 1
-at_end before n l = ap (λ b. if b then before + n else 2 ^ 64 - 1) (le-ltb (before + n) (2 ^ 64) l)
-
--- steps that were counted apart and then added are counted
-added_apart : (before own count after : ℕ) → own ≡ risen 0 count → after ≡ risen before own → after ≡ risen before count
-added_apart before own count after apart added = elim (cases_lt count (2 ^ 64)) [
-  | inl small ↦
-      let is : own ≡ count = apart ∙ below 0 count (omega (arith, small)) ∙ omega arith in
-      added ∙ ap (λ n. risen before n) is
-  | inr large ↦
-      let is : own ≡ 2 ^ 64 - 1 = apart ∙ at_end 0 count (omega (arith, large)) in
-      let full : risen before count ≡ 2 ^ 64 - 1 = at_end before count (omega (arith, large)) in
-      elim (cases_lt (before + own) (2 ^ 64)) [
-        | inl room ↦ omega (arith, added, below before own room, room, is, full)
-        | inr none ↦ omega (arith, added, at_end before own none, full)
-      ]
-]
-
-added_most : (before own after : ℕ) → after ≡ risen before own → after ≤ before + own
-added_most before own after added = elim (cases_lt (before + own) (2 ^ 64)) [
-  | inl room ↦ omega (arith, added, below before own room)
-  | inr none ↦ omega (arith, added, at_end before own none, none)
-]
-
--- a run whose steps were counted apart, once they are added
-pub run_added : (m : Market) (from to : Standing) (own before after : ℕ) → HasRunOut m from to 0 own → after ≡ risen before own → HasRunOut m from to before after
-run_added m from to own before after r added = record {
-  run = r.run;
-  ended = r.ended;
-  wanted = r.wanted;
-  proposed =
-      let p : HasProposed m from to 0 own = r.proposed in
-      let apart : own ≡ risen 0 p.count = p.counted (omega arith) in
-      record { count = p.count; proposals = p.proposals; counted = λ in_range. added_apart before own p.count after apart added };
-  inside = λ trees holds.
-      let i : StaysInside m trees from to 0 own = r.inside trees holds in
-      record { outside = i.outside; units = i.units; steps = omega (arith, added_most before own after added, i.steps) };
-}
 
 module _ (old new : Market) (s mid : Standing) (marks : List Bool) (k : IsMiddle old new s mid marks) (final : Standing) (before after : ℕ) where
   counted_by : HasGoneBack new marks mid final before after ⊎ HasMovedUp new marks mid final before after → HasResumed old s.lines new final before after

@@ -1,5 +1,5 @@
 -- Inside this crate alone: what a try by moves gives, what a run gives, and all that is promised of a resumed state.
-use Rattle.std.specs.Prelude.{◌≡◌, ℕ, Bool, List}
+use Rattle.std.specs.Prelude.{ℕ, Bool, List}
 use Rattle.map_model.specs.declared.lines.MapLine.{MapLine}
 use Rattle.map_model.specs.Market.{Market}
 use Rattle.map_model.specs.Progress.{IsEnded}

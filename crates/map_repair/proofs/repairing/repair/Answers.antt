@@ -1,7 +1,6 @@
 use Rattle.std.proofs.Common.{List, OnOk, Result, Ok, Err, sym, subst}
 use Rattle.std.proofs.lemmas.Result.{IfOk-weaker}
 use Rattle.map_model.specs.declared.lines.MapLine.{MapLine}
-use Rattle.evict.specs.Standing.{Standing}
 use Rattle.map_repair.specs.Determined.{IsRepairedOf}
 use Rattle.map_repair.specs.Repaired.{IsKept, IsWithinSpread}
 use Rattle.map_repair.specs.Resumed.{HasResumed}

@@ -1,4 +1,4 @@
-use Rattle.std.proofs.Common.{◌≡◌, ℕ, List, subst}
+use Rattle.std.proofs.Common.{ℕ, List, subst}
 use Rattle.map_model.specs.declared.lines.MapLine.{MapLine}
 use Rattle.move_up.proofs.Listing.{listing_shape}
 use Rattle.map_repair.specs.Repaired.{IsKept, IsWithinSpread}

@@ -1,4 +1,3 @@
-use Rattle.std.proofs.Common.{sym, ◌∙◌}
 use Rattle.std.proofs.lemmas.Result.{on_ok_weaker}
 use Rattle.map_repair.proofs.Middle.{IsMiddle, can_roll_back}
 use Rattle.map_repair.proofs.Ways.{can_cut, open_of_can}

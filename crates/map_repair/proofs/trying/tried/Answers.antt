@@ -1,4 +1,3 @@
-use Rattle.std.proofs.Common.{sym, ◌∙◌}
 use Rattle.map_repair.specs.Ways.{IsCutAndMoved}
 use Rattle.map_repair.proofs.Middle.{IsMiddle}
 use Rattle.map_repair.proofs.Ways.{resumed_moved}
