@@ -1,5 +1,4 @@
 pub mod Marking
-pub mod Listing
 pub mod Middle
 pub mod Spread
 pub mod Agree

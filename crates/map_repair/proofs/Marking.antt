@@ -20,16 +20,6 @@ use Rattle.map_repair.specs.Marks.{AreDone, HoldsInMarked, IsClosedForAll, IsMar
 pub can_of_ready : (m : Market) (s : Standing) → IsReady m s → CanCut m s
 can_of_ready m s ready = record { market = ready.market; whole = ready.whole; shape = ready.shape; form = ready.resumable.form; count = ready.resumable.free_for }
 
--- the root of a node, as a state tells it
-pub root_in : (m : Market) (s : Standing) → IsReady m s → (n r : ℕ) → n < length m.nodes → r ≡ root_of s.market n → (r ≡ root_of m n) × (r < length m.nodes)
-root_in m s ready n r there is =
-    let at : r ≡ root_of m n = is ∙ sym (root_of-shape s.market m ready.shape n) in
-    (at, omega (arith, at, root-there m ready.market n there))
-
--- and the root of an offer's pool
-pub tree_in : (m : Market) (s : Standing) → IsReady m s → (g k : ℕ) (pool : NodeId) (r : ℕ) → IsOffer m g k → pool ≡ (choice_at m g k).pool → r ≡ root_of s.market pool.0 → (r ≡ tree_of m g k) × (r < length m.nodes)
-tree_in m s ready g k pool r o at is = root_in m s ready (pool_of m g k) r (pool_there m ready.market g k o) (is ∙ ap (λ (p : NodeId). root_of s.market p.0) at)
-
 -- no mark came
 pub marking_none : (a : Marking) → IsMarking a a
 marking_none a = record { count = refl; kept = λ n on. on; came = λ n on. inl on; waits = λ n p. p; fewer = omega arith }

@@ -1,5 +1,4 @@
 pub mod Marks
-pub mod Asked
 pub mod Repaired
 pub mod Resumed
 pub mod Determined

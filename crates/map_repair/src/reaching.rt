@@ -5,14 +5,14 @@ ghost use Rattle.map_model.specs.Market.{IsSameShape, capacity_of, demand_of};
 ghost use Rattle.map_model.specs.Allocation.{IsOffer, amount_at};
 ghost use Rattle.map_model.specs.Progress.{HoldsIn, IsClosedUnderRepair, root_of, tree_of};
 ghost use Rattle.evict.specs.Standing.{IsReady};
-ghost use Rattle.map_repair.specs.Asked.{AreAllListed};
+ghost use Rattle.move_up.specs.Asked.{AreAllListed};
 ghost use Rattle.map_repair.specs.Repaired.{IsStateOf};
 ghost use Rattle.map_repair.specs.Marks.{AreDone, AreReached, HoldsInMarked, IsClosedFor, IsClosedForAll, IsMarking, IsPending, IsSettled, IsWithin, is_on};
 
-use crate::asked::Asked;
 use crate::marks::Marks;
 use evict::State;
 use map_model::{GroupId, Instance, NodeId, Offer};
+use move_up::Asked;
 use no_memory::NoMemory;
 use std::alloc::Global;
 

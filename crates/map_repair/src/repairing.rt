@@ -4,16 +4,16 @@ ghost use Rattle.std.specs.Prelude.{◌≤◌, IfOk, OnOk};
 ghost use Rattle.map_model.specs.Market.{IsSameShape};
 ghost use Rattle.map_model.specs.Allocation.{IsGood};
 ghost use Rattle.map_model.specs.Progress.{IsEnded};
-ghost use Rattle.map_repair.specs.Asked.{AreAllListed};
+ghost use Rattle.move_up.specs.Asked.{AreAllListed};
 ghost use Rattle.map_repair.specs.Determined.{IsRepairedOf};
 ghost use Rattle.map_repair.specs.Repaired.{IsKept, IsLocal, IsStateOf, IsWithinSpread};
 ghost use Rattle.map_repair.specs.Resumed.{HasRepaired, HasResumed};
 
-use crate::asked::Asked;
 use crate::reaching::reached;
 use deferred_accept::{finish, run};
 use evict::State;
 use map_model::{Instance, MapLines, Steps};
+use move_up::Asked;
 use no_memory::NoMemory;
 use reopen::{cut_and_trim, roll_back};
 use std::alloc::Global;

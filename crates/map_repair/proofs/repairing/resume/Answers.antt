@@ -7,7 +7,7 @@ use Rattle.deferred_accept.proofs.Finished.{finished}
 use Rattle.reopen.specs.Rolling.{CanRollBack, IsRolledBack}
 use Rattle.map_repair.specs.Marks.{is_on}
 use Rattle.map_repair.proofs.Agree.{resumed_is}
-use Rattle.map_repair.proofs.Listing.{listing_shape}
+use Rattle.move_up.proofs.Listing.{listing_shape}
 use Rattle.map_repair.proofs.Middle.{IsMiddle, can_roll_back, kept, state_of}
 use Rattle.map_repair.proofs.Spread.{stays_local, stays_within}
 use Rattle.map_repair.proofs.repairing.resume.Given.{Over}

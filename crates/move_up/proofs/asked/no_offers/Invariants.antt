@@ -1,6 +1,6 @@
 use Rattle.std.proofs.Common.{◌≡◌, ℕ, [], length}
-use Rattle.map_repair.specs.Asked.{listed_at}
-use Rattle.map_repair.proofs.asked.no_offers.Given as goal
+use Rattle.move_up.specs.Asked.{listed_at}
+use Rattle.move_up.proofs.asked.no_offers.Given as goal
 
 abbrev pub invariant-loop-node : goal.invariant-loop-node
 invariant-loop-node l = record {

@@ -3,13 +3,15 @@ use Rattle.std.proofs.Common.{◌≡◌, ℕ, ◌<◌, List, [], ◌∷◌, ◌+
 use Rattle.std.proofs.Math.ListN.{length-set}
 use Rattle.std.proofs.lemmas.Bool.{cases_eq}
 use Rattle.std.proofs.lemmas.List.{get_or_default}
+use Rattle.std.specs.List.Sorted.{IsPermutation}
 use Rattle.std.proofs.lemmas.List.Elements.{Contains-append_left, Contains-push, Contains-push_cases}
+use Rattle.std.proofs.lemmas.List.Sorted.{Contains-permutation, IsPermutation-sym}
 use Rattle.map_model.specs.declared.instance.Offer.{Offer}
 use Rattle.map_model.specs.Market.{Market, IsSameShape}
 use Rattle.map_model.specs.Allocation.{IsOffer}
 use Rattle.map_model.specs.Progress.{tree_of}
 use Rattle.map_model.proofs.Shapes.{IsOffer-shape, shape_sym, tree_of-shape}
-use Rattle.map_repair.specs.Asked.{AreAllListed, AreListed, IsListed, listed_at, offer_of}
+use Rattle.move_up.specs.Asked.{AreAllListed, AreListed, IsListed, listed_at, offer_of}
 
 no_offer : {o : Offer} → Contains [] o → ⊥
 no_offer (i, l, e) = absurd (omega (arith, l))
@@ -79,3 +81,31 @@ listing_shape m m' s lists are = record {
   offers = λ n o h. IsOffer-shape m m' s o.group.0 o.place (are.offers n o h);
   trees = λ n o h. tree_of-shape m m' s o.group.0 o.place ∙ are.trees n o h;
 }
+
+-- one list is brought into another order
+pub listing_ranked : (m : Market) (lists : List (List Offer)) (at : ℕ) (list new : List Offer) → at < length lists → list ≡ listed_at lists at → IsPermutation list new → AreAllListed m lists → AreAllListed m (slice_set lists at new)
+listing_ranked m lists at list new there same moved are = record {
+  count = length-set lists at new ∙ are.count;
+  listed = λ g k o t. to (tree_of m g k) (offer_of g k) (are.listed g k o t);
+  offers = λ n o h. are.offers n o (from n o h);
+  trees = λ n o h. are.trees n o (from n o h);
+}
+  where
+    here : listed_at (slice_set lists at new) at ≡ new
+    here = get_or-set_same lists at new [] there
+
+    to : (n : ℕ) (o : Offer) → Contains (listed_at lists n) o → Contains (listed_at (slice_set lists at new) n) o
+    to n o h = elim (cases_eq n at) [
+      | inl e ↦
+          let was : Contains list o = subst (λ (xs : List Offer). Contains xs o) (sym same) (subst (λ x. Contains (listed_at lists x) o) e h) in
+          subst (λ x. Contains (listed_at (slice_set lists at new) x) o) (sym e) (subst (λ (xs : List Offer). Contains xs o) (sym here) (Contains-permutation list new o moved was))
+      | inr ne ↦ subst (λ (xs : List Offer). Contains xs o) (sym (get_or-set_other lists at n new [] ne)) h
+    ]
+
+    from : (n : ℕ) (o : Offer) → Contains (listed_at (slice_set lists at new) n) o → Contains (listed_at lists n) o
+    from n o h = elim (cases_eq n at) [
+      | inl e ↦
+          let is : Contains new o = subst (λ (xs : List Offer). Contains xs o) here (subst (λ x. Contains (listed_at (slice_set lists at new) x) o) e h) in
+          subst (λ x. Contains (listed_at lists x) o) (sym e) (subst (λ (xs : List Offer). Contains xs o) same (Contains-permutation new list o (IsPermutation-sym list new moved) is))
+      | inr ne ↦ subst (λ (xs : List Offer). Contains xs o) (get_or-set_other lists at n new [] ne) h
+    ]

@@ -1,7 +1,7 @@
 use Rattle.std.proofs.Common.{inl, inr, arith}
 use Rattle.std.proofs.lemmas.Bool.{cases_eq}
-use Rattle.map_repair.proofs.Listing.{listing_none, listing_said}
-use Rattle.map_repair.proofs.asked.list_all.Goals as goal
+use Rattle.move_up.proofs.Listing.{listing_none, listing_said}
+use Rattle.move_up.proofs.asked.list_all.Goals as goal
 
 pub loop-g-init : goal.loop-g-init
 loop-g-init c = listing_none c.args.instance.now c.args.lists.now c.requires.count c.requires.empty
