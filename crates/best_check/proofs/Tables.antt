@@ -75,10 +75,6 @@ entry_passed m lines g k n (Some o) some over = record {
 passed : (m : Market) (lines : List MapLine) (g k : ℕ) (table : List (Option Ranked)) → IsTable m lines g k table → ((n : ℕ) → IsAtLeast m lines g k n (slice_index_or table n None)) → IsTable m lines g (k + 1) table
 passed m lines g k table t over = record { size = t.size; entries = λ n l. entry_passed m lines g k n (slice_index_or table n None) (t.entries n l) (over n) }
 
--- nor does one over whose pool no node is full
-pub passed_room : (m : Market) (lines : List MapLine) (g k : ℕ) (table : List (Option Ranked)) → IsTable m lines g k table → FirstFull m lines (pool_of m g k) None → IsTable m lines g (k + 1) table
-passed_room m lines g k table t none = passed m lines g k table t (λ n w. absurd (none n w.near.on w.near.full))
-
 -- the full node nearest to an offer's pool is a node of the instance
 pub first_there : (m : Market) → IsMarket m → (lines : List MapLine) (g k f : ℕ) → IsFirstFull m lines (pool_of m g k) f → IsOffer m g k → f < length m.nodes
 first_there m market lines g k f first o = under_there m market f (pool_of m g k) (pool_there m market g k o) first.on

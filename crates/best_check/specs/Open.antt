@@ -1,24 +1,10 @@
 -- Inside this crate alone: what places before a group's pointer are in a state that is resumable, and the ranks from which on offers are refused.
-use Rattle.std.specs.Prelude.{◌≡◌, ℕ, ◌+◌, ◌<◌, ◌≤◌, true, List, length, Option, None, IfSome, IsSome, IsTrue, slice_index, slice_index_or}
+use Rattle.std.specs.Prelude.{◌≡◌, ℕ, ◌<◌, true, List, length, Option, None, IfSome, IsSome, slice_index, slice_index_or}
 use Rattle.map_model.specs.declared.instance.Key.{Key}
 use Rattle.map_model.specs.declared.lines.MapLine.{MapLine}
-use Rattle.map_model.specs.Market.{Market, IsMarket, IsSameShape, capacity_of, choices_of, demand_of, limit_of}
-use Rattle.map_model.specs.Allocation.{AreLines, IsOffer, amount_at, is_full_of_better, is_under, is_wanted, key_le, load, placed, refuser_of}
+use Rattle.map_model.specs.Market.{Market}
+use Rattle.map_model.specs.Allocation.{is_full_of_better, is_under, is_wanted, key_le, refuser_of}
 use Rattle.evict.specs.Standing.{Standing}
-
--- All that a resumable state has, but that places before a pointer need not be refused.
-pub record IsOpen (m : Market) (state : Standing) : Type 0 where
-  pub market : IsMarket m
-  pub whole : IsTrue state.is_whole
-  pub shape : IsSameShape state.market m
-  pub form : AreLines m state.lines
-  pub pointers_for : length state.pointers ≡ length m.groups
-  pub free_for : length state.free ≡ length m.groups
-  pub capacities : (n : ℕ) → n < length m.nodes → load m state.lines n ≤ capacity_of m n
-  pub limits : (g k : ℕ) → IsOffer m g k → amount_at state.lines g k ≤ limit_of m g k
-  pub totals : (g : ℕ) → g < length m.groups → placed state.lines g + slice_index state.free g ≡ demand_of m g
-  pub in_list : (g : ℕ) → g < length m.groups → slice_index state.pointers g ≤ length (choices_of m g)
-  pub none_past : (g k : ℕ) → IsOffer m g k → slice_index state.pointers g < k → amount_at state.lines g k ≡ 0
 
 -- each offer before a group's pointer is refused
 abbrev pub AreRefused : Market → Standing → ℕ → Type 0

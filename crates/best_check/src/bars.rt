@@ -1,7 +1,8 @@
 //! The rank from which on offers are refused at each node, for all nodes at once.
 
 ghost use Rattle.std.specs.Prelude.{◌≡◌, ◌⊎◌, ◌<◌, length, IfOk, IfSome};
-ghost use Rattle.best_check.specs.Open.{AreBars, IsBar, IsBarTable, IsOpen};
+ghost use Rattle.evict.specs.Standing.{IsOpen};
+ghost use Rattle.best_check.specs.Open.{AreBars, IsBar, IsBarTable};
 
 use crate::nearest::is_full;
 use crate::parents::entry_above;

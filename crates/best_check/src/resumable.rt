@@ -4,8 +4,8 @@ ghost use Rattle.std.specs.Prelude.{◌≡◌, ℕ, ◌<◌, Some, true, length,
 ghost use Rattle.std.specs.Bool.{OnTrue};
 ghost use Rattle.map_model.specs.declared.instance.Key.{Key};
 ghost use Rattle.map_model.specs.Allocation.{IsOffer, amount_at, is_at_limit, is_wanted, key_le, refuser_of};
-ghost use Rattle.evict.specs.Standing.{IsReady};
-ghost use Rattle.best_check.specs.Open.{AreRefused, AreWanted, IsBarTable, IsOpen};
+ghost use Rattle.evict.specs.Standing.{IsOpen, IsReady};
+ghost use Rattle.best_check.specs.Open.{AreRefused, AreWanted, IsBarTable};
 
 use crate::bars::bars_of;
 use evict::State;

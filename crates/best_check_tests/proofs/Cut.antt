@@ -4,10 +4,9 @@ use Rattle.map_model.specs.declared.instance.Choice.{Choice}
 use Rattle.map_model.specs.Market.{Market, IsMarket, IsSameShape, choices_of, limit_of}
 use Rattle.map_model.specs.Allocation.{IsOffer, amount_at}
 use Rattle.map_model.proofs.Shapes.{IsOffer-shape, limit_of-shape, shape_sym, shape_trans}
-use Rattle.evict.specs.Standing.{IsReady, Standing}
+use Rattle.evict.specs.Standing.{IsOpen, IsReady, Standing}
 use Rattle.evict.proofs.Shaped.{AreLines-shape}
 use Rattle.reopen.specs.Cutting.{CanCut, IsCut}
-use Rattle.best_check.specs.Open.{IsOpen}
 
 module _ (old new : Market) (market : IsMarket new) (shape : IsSameShape old new) (from : Standing) (ready : IsReady old from) where
   shape_from : IsSameShape from.market new
