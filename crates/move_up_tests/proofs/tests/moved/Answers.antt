@@ -1,4 +1,3 @@
-use Rattle.std.proofs.Common.{sym}
 use Rattle.move_up.proofs.Listing.{listing_shape}
 use Rattle.move_up.proofs.Moving.{open_of_cut}
 use Rattle.move_up_tests.proofs.tests.moved.Goals as goal
