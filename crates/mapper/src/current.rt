@@ -19,8 +19,8 @@ use demand_feed::{Batch, apply};
 use evict::State;
 use map_model::{Instance, MapLines, Steps};
 use map_repair::resume;
-use move_up::Asked;
 use map_text::write_map;
+use move_up::Asked;
 use no_memory::NoMemory;
 use std::alloc::Global;
 use topology_text::Topology;
@@ -99,7 +99,10 @@ fn repaired<L>(
         steps,
     )?;
     let proposals = steps.count() - before;
-    kept.proposals = kept.proposals.saturating_add(proposals).saturating_add(turns);
+    kept.proposals = kept
+        .proposals
+        .saturating_add(proposals)
+        .saturating_add(turns);
     ended_map(alloc, new, &kept.state)
 }
 
