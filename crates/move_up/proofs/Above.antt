@@ -1,9 +1,9 @@
 -- Whether a node is among those of a path.
-use Rattle.std.proofs.Common.{◌≡◌, ℕ, zero, suc, ◌+◌, ◌-◌, ◌<◌, ◌≤◌, ◌==◌, Bool, true, false, List, Option, Some, None, refl, sym, ap, ◌∙◌, arith}
+use Rattle.std.proofs.Common.{◌≡◌, ℕ, ◌+◌, ◌-◌, ◌<◌, ◌≤◌, ◌==◌, true, false, Option, Some, None, refl, sym, ap, ◌∙◌, arith}
 use Rattle.std.specs.List.{list_any}
 use Rattle.std.proofs.lemmas.Bool.{eq-eqb, ne_eqb}
 use Rattle.map_model.specs.declared.instance.NodeId.{NodeId}
-use Rattle.map_model.specs.Market.{Market, IsMarket, climb, parent_of}
+use Rattle.map_model.specs.Market.{Market, climb, parent_of}
 use Rattle.map_model.proofs.Paths.{climb_none, climb_step}
 
 pub any_here : (m : Market) (i n : ℕ) (p : NodeId) (at : Option NodeId) → i < 8 → at ≡ Some p → p.0 ≡ n → list_any (λ x. x == n) (climb (8 - i) m at) ≡ true

@@ -2,8 +2,8 @@
 use Rattle.std.proofs.Common.{◌≡◌, ℕ, ◌+◌, ◌-◌, ◌<◌, ◌≤◌, ◌==◌, Bool, true, false, ◌&&◌, if◌then◌else◌, List, length, slice_index, slice_set, get_or-set_same, get_or-set_other, refl, sym, ap, ◌∙◌, subst, inl, inr, ◌⊎◌, arith}
 use Rattle.std.proofs.Math.ListN.{length-set}
 use Rattle.std.proofs.lemmas.Bool.{and_parts, cases_Bool, cases_eq, cases_lt, eq-eqb, eqb-true, false≢true, ne_eqb}
-use Rattle.map_model.specs.Market.{Market, IsMarket, IsSameShape, capacity_of, choices_of, demand_of, limit_of, pool_of}
-use Rattle.map_model.specs.Allocation.{AreLines, IsOffer, amount_at, counts_at, is_under, load, placed, units_of}
+use Rattle.map_model.specs.Market.{Market, IsMarket, IsSameShape, capacity_of, choices_of, demand_of, limit_of}
+use Rattle.map_model.specs.Allocation.{IsOffer, amount_at, counts_at, load, placed}
 use Rattle.map_model.proofs.Shapes.{IsOffer-shape, limit_of-shape, shape_sym, shape_trans}
 use Rattle.evict.specs.Standing.{IsGranted, IsOpen, IsReady, IsReleased, Standing}
 use Rattle.evict.proofs.Shaped.{AreLines-shape}

@@ -1,7 +1,8 @@
 //! Cut states of small worlds; each state that follows was worked out by hand.
-ghost use Rattle.std.specs.Prelude.{◌≡◌, true, IfOk};
+ghost use Rattle.std.specs.Prelude.{◌≡◌, ◌<◌, true, length, IfOk};
 ghost use Rattle.map_model.specs.Market.{IsSameShape};
 ghost use Rattle.map_model.specs.Allocation.{IsGood};
+ghost use Rattle.evict.specs.Standing.{IsOpen};
 
 use evict::State;
 use map_model::Change::{Capacity, Demand};
@@ -282,6 +283,7 @@ fn moved(
     turns: u64,
 ) -> Result<State, Fail>
     requires { IsSameShape old.now new.now }
+    ensures { IfOk result (λ state. IsOpen new.now state) }
 {
     if !is_good(alloc, old, map)? {
         return Err(Fail::from("the old map is not good"));
@@ -295,18 +297,26 @@ fn moved(
     Ok(state)
 }
 
+/// Whether a group has such a pointer and free units.
+fn stands_as_told(instance: &Instance, state: &State, case: &Case, g: u32) -> bool
+    requires is_open { IsOpen instance.now state.now }
+    requires group { g < length instance.now.groups }
+{
+    let group = GroupId(g);
+    case.pointers.get(g as usize) == Some(&state.pointer(group))
+        && case.free.get(g as usize) == Some(&state.free(group))
+}
+
 /// Whether a state holds so much, and has such pointers and free units.
-fn is_as_told(alloc: Global, state: &State, case: &Case) -> Result<bool, Fail> {
-    if state.lines(alloc)? != map_of(alloc, case.moved, &[])?.lines {
-        return Ok(false);
-    }
-    for (g, (pointer, free)) in case.pointers.iter().zip(case.free).enumerate() {
-        let group = GroupId(u32::try_from(g).unwrap_or(u32::MAX));
-        if state.pointer(group) != *pointer || state.free(group) != *free {
+fn is_as_told(alloc: Global, instance: &Instance, state: &State, case: &Case) -> Result<bool, Fail>
+    requires { IsOpen instance.now state.now }
+{
+    for g in 0..instance.groups() {
+        if !stands_as_told(instance, state, case, g) {
             return Ok(false);
         }
     }
-    Ok(true)
+    Ok(state.lines(alloc)? == map_of(alloc, case.moved, &[])?.lines)
 }
 
 /// Whether the units of a case move up as it says.
@@ -317,7 +327,7 @@ fn moves_as_told(alloc: Global, case: &Case) -> Result<bool, Fail> {
     let map = map_of(alloc, case.lines, case.names)?;
     let new = changed(alloc, &old, case.changes)?;
     let state = moved(alloc, &old, &map, &new, case.marked, case.turns)?;
-    is_as_told(alloc, &state, case)
+    is_as_told(alloc, &new, &state, case)
 }
 
 /// The name of the first case that goes otherwise than it says.

@@ -1,4 +1,3 @@
-use Rattle.std.proofs.Common.{◌≡◌, length}
 use Rattle.move_up.specs.Asked.{AreAllListed}
 use Rattle.move_up.proofs.asked.rank_all.Given as goal
 

@@ -1,4 +1,4 @@
-use Rattle.std.proofs.Common.{◌≡◌, true, sym, ◌∙◌, rules, arith}
+use Rattle.std.proofs.Common.{◌≡◌, true, sym, ◌∙◌, arith}
 use Rattle.reopen.specs.Rolling.{is_marked}
 use Rattle.move_up.proofs.Moving.{moved_granted}
 use Rattle.move_up.proofs.moves.grant_marked.Goals as goal

@@ -1,4 +1,4 @@
-use Rattle.std.proofs.Common.{◌≡◌, true, sym, ◌∙◌, rules, arith}
+use Rattle.std.proofs.Common.{◌≡◌, true, sym, ◌∙◌}
 use Rattle.reopen.specs.Rolling.{is_marked}
 use Rattle.move_up.proofs.Moving.{moved_released}
 use Rattle.move_up.proofs.moves.release_marked.Goals as goal
