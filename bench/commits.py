@@ -23,7 +23,7 @@ import sys
 import tempfile
 from pathlib import Path
 
-from start import GLB, TOP, megabytes, processor
+from start import GLB, TOP, megabytes
 
 OTHER = os.environ.get("GLB_OTHER")
 SIZES = (1, 4, 64, 4096)
@@ -67,6 +67,11 @@ def batches(text, commits):
     yield "it comes back", [f"capacity {name} {number}\n"]
 
 
+def milliseconds(pid):
+    """What its threads have taken of the processors."""
+    return sum(int(task.read_text().split()[0]) for task in Path(f"/proc/{pid}/task").glob("*/schedstat")) / 1e6
+
+
 class Server:
     def __init__(self, program, topology, maps):
         self.maps = open(maps, "wb")
@@ -76,11 +81,11 @@ class Server:
 
     def commit(self, lines, last="commit\n"):
         """Milliseconds of processor up to the answer, and the answer."""
-        before = processor(self.process.pid)
+        before = milliseconds(self.process.pid)
         self.process.stdin.write((lines + last).encode())
         self.process.stdin.flush()
         said = self.process.stdout.readline().decode()
-        return (processor(self.process.pid) - before) * 1000, said
+        return milliseconds(self.process.pid) - before, said
 
     def end(self):
         self.process.communicate(b"stop\n")
@@ -102,7 +107,7 @@ def measure(groups, percent, scores, commits):
                     row.append(spent)
                 if len({said for _, said in answers}) != 1:
                     sys.exit(f"{kind}: {answers}")
-            rows = [f"{sorted(row)[len(row) // 2]:.0f} ({max(row):.0f} at most)" for row in times]
+            rows = [f"{sorted(row)[len(row) // 2]:.1f} ({max(row):.1f} at most)" for row in times]
             print(f"    {kind:14} {'; the other '.join(rows)} ms", flush=True)
         after = [megabytes(server.process.pid, "VmRSS") for server in servers]
         for server in servers:
