@@ -41,10 +41,11 @@ enum Look {
 fn look_at(instance: &Instance, state: &State, offer: Offer) -> Look
     requires { IsOpen instance.now state.now }
 {
-    if !is_offer(instance, offer) {
+    // most offers stand past their pointers, and to ask that is quick
+    if offer.group.0 >= instance.groups() || offer.place >= state.pointer(offer.group) {
         return Look::Other;
     }
-    if offer.place >= state.pointer(offer.group) {
+    if !is_offer(instance, offer) {
         return Look::Other;
     }
     match state.refuser(instance, offer) {
