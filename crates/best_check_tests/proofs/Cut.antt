@@ -1,8 +1,8 @@
 -- What is left of a resumable state that was cut for another instance is open.
-use Rattle.std.proofs.Common.{◌≡◌, ◌==◌, ◌&&◌, ℕ, ◌<◌, ◌≤◌, List, length, slice_index, sym, ap, ◌∙◌, subst, arith}
+use Rattle.std.proofs.Common.{◌==◌, ◌&&◌, ℕ, ◌<◌, ◌≤◌, List, length, slice_index, sym, ap, ◌∙◌, subst, arith}
 use Rattle.map_model.specs.declared.instance.Choice.{Choice}
-use Rattle.map_model.specs.Market.{Market, IsMarket, IsSameShape, choices_of, limit_of}
-use Rattle.map_model.specs.Allocation.{IsOffer, amount_at}
+use Rattle.map_model.specs.Market.{Market, IsMarket, IsSameShape, choices_of}
+use Rattle.map_model.specs.Allocation.{IsOffer}
 use Rattle.map_model.proofs.Shapes.{IsOffer-shape, limit_of-shape, shape_sym, shape_trans}
 use Rattle.evict.specs.Standing.{IsOpen, IsReady, Standing}
 use Rattle.evict.proofs.Shaped.{AreLines-shape}
