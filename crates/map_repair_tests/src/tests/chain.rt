@@ -1,4 +1,5 @@
-//! Several hundred batches of one to four changes in a small world that is tight, one after another: each repaired map is that of the plain program.
+//! Several hundred batches of one to four changes in a small world that is tight, one after another: each repaired map
+//! is that of the plain program.
 ghost use Rattle.std.specs.Prelude.{◌≡◌};
 ghost use Rattle.map_model.specs.Market.{IsSameShape};
 
@@ -239,7 +240,8 @@ fn first(alloc: Global, spots: &[Spot]) -> Result<Link, Fail> {
     })
 }
 
-/// How a chain came out: the number of the first batch after which the repaired map is another, if there is one, and behind
+/// How a chain came out: the number of the first batch after which the repaired map is another, if there is one, and
+/// behind
 /// how many batches units moved up.
 #[derive(Clone, Copy)]
 struct Came {

@@ -1,4 +1,5 @@
-//! A plain program of cut, roll back and run over any world: what is held stands in one list, and each node and each place is looked at anew at every step.
+//! A plain program of cut, roll back and run over any world: what is held stands in one list, and each node and each
+//! place is looked at anew at every step.
 use map_model::MapLine;
 use no_memory::NoMemory;
 use std::alloc::Global;

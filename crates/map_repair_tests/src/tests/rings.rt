@@ -1,4 +1,5 @@
-//! Changes behind which units can't simply move up: a ring of groups in which single moves would take thousands of millions of turns, and two groups that have each other's first place.
+//! Changes behind which units can't simply move up: a ring of groups in which single moves would take thousands of
+//! millions of turns, and two groups that have each other's first place.
 ghost use Rattle.std.specs.Prelude.{◌≡◌};
 
 use super::{changed, is_good, repaired, turns_of};
@@ -8,7 +9,8 @@ use std::alloc::Global;
 use std::test::Fail;
 use worlds::{NameAt, Placed, World, map_of};
 
-/// Six pools in a ring and a group of a thousand million units for each, which asks it and then the next one. Each pool ranks the group of the one before it higher, and each group stands at its second place.
+/// Six pools in a ring and a group of a thousand million units for each, which asks it and then the next one. Each pool
+/// ranks the group of the one before it higher, and each group stands at its second place.
 const RING: World = World {
     name: "ring",
     nodes: &[
@@ -58,7 +60,8 @@ const SMALL_RING: World = World {
     names: &[(0, 0, 0), (1, 0, 1), (2, 0, 2)],
 };
 
-/// The first two groups have each other's second place, or third. The third group fills a pool that the first and the last want too.
+/// The first two groups have each other's second place, or third. The third group fills a pool that the first and the
+/// last want too.
 const CROSSED: World = World {
     name: "crossed beside a full pool",
     nodes: &[(1, None, true), (1, None, true), (1, None, true)],
@@ -112,7 +115,8 @@ const SMALL_ROOM: Repair = Repair {
     proposals: 0,
 };
 
-/// Room for the last group in the full pool: it is all that moves up by itself. But the first two groups want places in trees that this reaches, so they go back, and each has its better place.
+/// Room for the last group in the full pool: it is all that moves up by itself. But the first two groups want places in
+/// trees that this reaches, so they go back, and each has its better place.
 const BESIDE: Repair = Repair {
     change: Capacity {
         node: NodeId(2),
