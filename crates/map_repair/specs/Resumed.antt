@@ -24,7 +24,7 @@ pub record HasMovedUp (m : Market) (marks : List Bool) (cut to : Standing) (befo
   pub proposed : HasProposed m moved to before after
   pub best : IsGroupBest m to.lines
 
--- From the lines of a good map to a later state: a state that holds them was cut for the new numbers, with the reached trees marked, and it came to the later state in one of two ways. It might have gone back; that it did or did not makes no other map.
+-- From the lines of a good map to a later state, as a counter rose: a state that holds the lines was cut for the new numbers, and with the reached trees marked it came to the later state in one of two ways. Whichever it took, it could have gone back.
 pub record HasResumed (old : Market) (lines : List MapLine) (new : Market) (to : Standing) (before after : ℕ) : Type 0 where
   pub from : Standing
   pub of_map : IsStateOf old from
