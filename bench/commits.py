@@ -7,7 +7,8 @@ another.
 Worlds of generate.py: lists of sixteen, 2,048 pools, paths of eight nodes. The feed of `glb serve` gets commits of 1, 4, 64
 and 4,096 changes (changes.py's kinds: seven of groups to one of a pool, each by up to a fifth up or down), and at last a
 pool that fails and comes back. Both programs get the same lines, and their maps and lines have to be the same. A row has the
-middle and the greatest of the commits' milliseconds of processor, text of the map and all, of each program.
+middle and the greatest of the commits' milliseconds of processor, text of the map and all, of each program, and the last one
+the memory that they held.
 
     --scores N    scores are drawn from 1 to N in place of all 32 bits: many are alike
     GLB           the program, the built one if it is not set
@@ -22,7 +23,7 @@ import sys
 import tempfile
 from pathlib import Path
 
-from start import GLB, TOP, processor
+from start import GLB, TOP, megabytes
 
 OTHER = os.environ.get("GLB_OTHER")
 SIZES = (1, 4, 64, 4096)
@@ -66,6 +67,11 @@ def batches(text, commits):
     yield "it comes back", [f"capacity {name} {number}\n"]
 
 
+def milliseconds(pid):
+    """What its threads have taken of the processors."""
+    return sum(int(task.read_text().split()[0]) for task in Path(f"/proc/{pid}/task").glob("*/schedstat")) / 1e6
+
+
 class Server:
     def __init__(self, program, topology, maps):
         self.maps = open(maps, "wb")
@@ -75,11 +81,11 @@ class Server:
 
     def commit(self, lines, last="commit\n"):
         """Milliseconds of processor up to the answer, and the answer."""
-        before = processor(self.process.pid)
+        before = milliseconds(self.process.pid)
         self.process.stdin.write((lines + last).encode())
         self.process.stdin.flush()
         said = self.process.stdout.readline().decode()
-        return (processor(self.process.pid) - before) * 1000, said
+        return milliseconds(self.process.pid) - before, said
 
     def end(self):
         self.process.communicate(b"stop\n")
@@ -92,6 +98,7 @@ def measure(groups, percent, scores, commits):
         programs = [GLB] + ([OTHER] if OTHER else [])
         servers = [Server(program, topology, Path(folder) / f"maps{at}") for at, program in enumerate(programs)]
         print(f"{groups} groups, {percent} % at the roots" + (f", scores up to {scores}" if scores else ""))
+        before = [megabytes(server.process.pid, "VmRSS") for server in servers]
         for kind, found in batches(text, commits):
             times = [[] for _ in servers]
             for lines in found:
@@ -100,15 +107,17 @@ def measure(groups, percent, scores, commits):
                     row.append(spent)
                 if len({said for _, said in answers}) != 1:
                     sys.exit(f"{kind}: {answers}")
-            rows = [f"{sorted(row)[len(row) // 2]:.0f} ({max(row):.0f} at most)" for row in times]
+            rows = [f"{sorted(row)[len(row) // 2]:.1f} ({max(row):.1f} at most)" for row in times]
             print(f"    {kind:14} {'; the other '.join(rows)} ms", flush=True)
+        after = [megabytes(server.process.pid, "VmRSS") for server in servers]
         for server in servers:
             server.end()
         texts = [(Path(folder) / f"maps{at}").read_bytes() for at in range(len(servers))]
         # the first lines say the form of a map, which another program may have another of
         if len({re.sub(rb"^glb map \d+$", b"", one, flags=re.M) for one in texts}) != 1:
             sys.exit("their maps differ")
-        print(f"    {texts[0].count(b'end' + bytes([10]))} maps" + (", the same of both" if OTHER else ""))
+        held = "; the other ".join(f"{one} MB ahead of them and {two} behind" for one, two in zip(before, after))
+        print(f"    {texts[0].count(b'end' + bytes([10]))} maps" + (", the same of both; " if OTHER else "; ") + held)
 
 
 def main():

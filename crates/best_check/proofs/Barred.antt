@@ -27,7 +27,7 @@ module _ (from m : Market) (shape : IsSameShape from m) (lines : List MapLine) (
     node = n;
     on = under_itself m n;
     refuses = λ key le. and_from (load m lines n == capacity_of m n) (none_worse m lines n key) (eq-eqb (load m lines n) (capacity_of m n) full)
-      (worst_key from m shape lines n (key_of from h j) key form_from (h, j, units, worst, refl) ∙ subst (λ (x : Key). key_le x key ≡ true) (key_of-shape from m shape h j) le);
+        (worst_key from m shape lines n (key_of from h j) key form_from (h, j, units, worst, refl) ∙ subst (λ (x : Key). key_le x key ≡ true) (key_of-shape from m shape h j) le);
   }
 
   -- and all, if it holds nothing

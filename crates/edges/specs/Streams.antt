@@ -11,6 +11,16 @@ pub record Writing (W : Type 0) : Type 0 where
   pub faults : ℕ
   pub written : Written
 
+-- what a stream that is read keeps of its reads: whether it has ended, how many failed, and what it was asked and answered
+pub record Hearing : Type 0 where
+  pub is_ended : Bool
+  pub faults : ℕ
+  pub fed : Fed
+
+-- of none so far
+abbrev pub unheard : Hearing
+unheard = record { is_ended = false; faults = 0; fed = new_source }
+
 -- a stream that is read, whether it has ended, how many reads failed, and what it was asked and answered
 pub record Reading (T : Type 0) : Type 0 where
   pub stream : T

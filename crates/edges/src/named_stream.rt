@@ -6,9 +6,10 @@ ghost use Rattle.outside.specs.NamedSource.{IsNamed};
 ghost use Rattle.outside.specs.Source.{IsRead, IsWithin};
 ghost use Rattle.edges.specs.Streams.{left_of, unopened};
 
+use crate::heard::Heard;
 use crate::pieces::read_piece;
 use outside::{NamedSource, Opening, Read, Source};
-use past_log::{NameEvent, NamesPast, SourceEvent, SourcePast};
+use past_log::{NameEvent, NamesPast};
 use std::fs::{self, OpenOptions};
 use std::io;
 use std::marker::Model;
@@ -20,9 +21,7 @@ use std::rt::Files;
 pub struct NamedStream<'a, R: Files> {
     rt: &'a R,
     stream: Option<R::File>,
-    is_ended: bool,
-    faults: u64,
-    past: SourcePast,
+    heard: Heard,
     names: NamesPast,
 }
 
@@ -32,9 +31,9 @@ impl<'a, R: Files> Model for NamedStream<'a, R> {
 
     ghost Value = { Named R.File };
 
-    ghost view = { λ s. record { stream = s.stream; is_ended = s.is_ended; faults = s.faults; fed = s.past.told; names = s.names.told } };
+    ghost view = { λ s. record { stream = s.stream; is_ended = s.heard.is_ended; faults = s.heard.faults; fed = s.heard.fed; names = s.names.told } };
 
-    ghost invariant = { λ s. (s.past.told.left ≡ None) × (s.past.told.is_ended ≡ s.is_ended) × (s.stream ≡ None → s.is_ended ≡ false) };
+    ghost invariant = { λ s. s.stream ≡ None → s.heard.is_ended ≡ false };
 }
 
 impl<'a, R: Files> NamedStream<'a, R> {
@@ -45,9 +44,7 @@ impl<'a, R: Files> NamedStream<'a, R> {
         NamedStream {
             rt,
             stream: None,
-            is_ended: false,
-            faults: 0,
-            past: SourcePast::new(),
+            heard: Heard::new(),
             names: NamesPast::new(),
         }
     }
@@ -96,16 +93,10 @@ impl<R: Files> Source for NamedStream<'_, R> {
     {
         let read = match &mut self.stream {
             None => Read::Failed,
-            Some(_) if self.is_ended => Read::End,
+            Some(_) if self.heard.is_ended() => Read::End,
             Some(stream) => read_piece(stream, buffer),
         };
-        if read == Read::End {
-            self.is_ended = true;
-        }
-        if read == Read::Failed {
-            self.faults = self.faults.saturating_add(1);
-        }
-        self.past.note(&SourceEvent { buffer, read });
+        self.heard.note(buffer, read);
         read
     }
 }
@@ -133,7 +124,7 @@ impl<R: Files> NamedSource for NamedStream<'_, R> {
                 return Opening::Ready;
             }
         }
-        self.faults = self.faults.saturating_add(1);
+        self.heard.count_fault();
         Opening::Failed
     }
 }

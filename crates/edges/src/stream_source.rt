@@ -5,9 +5,9 @@ ghost use Rattle.outside.specs.Faults.{BothTell, Rose};
 ghost use Rattle.outside.specs.Source.{IsRead, IsWithin};
 ghost use Rattle.past_log.specs.Source.{new_source};
 
+use crate::heard::Heard;
 use crate::pieces::read_piece;
 use outside::{Read, Source};
-use past_log::{SourceEvent, SourcePast};
 use std::io;
 use std::marker::Model;
 
@@ -15,20 +15,15 @@ use std::marker::Model;
 #[derive(Drop)]
 pub struct StreamSource<T: io::Read> {
     stream: T,
-    is_ended: bool,
-    faults: u64,
-    past: SourcePast,
+    heard: Heard,
 }
 
 impl<T: io::Read> Model for StreamSource<T> {
-    ghost use Rattle.std.specs.Prelude.{◌≡◌, None};
     ghost use Rattle.edges.specs.Streams.{Reading};
 
     ghost Value = { Reading T };
 
-    ghost view = { λ s. record { stream = s.stream; is_ended = s.is_ended; faults = s.faults; fed = s.past.told } };
-
-    ghost invariant = { λ s. (s.past.told.left ≡ None) × (s.past.told.is_ended ≡ s.is_ended) };
+    ghost view = { λ s. record { stream = s.stream; is_ended = s.heard.is_ended; faults = s.heard.faults; fed = s.heard.fed } };
 }
 
 impl<T: io::Read> StreamSource<T> {
@@ -38,9 +33,7 @@ impl<T: io::Read> StreamSource<T> {
     {
         StreamSource {
             stream,
-            is_ended: false,
-            faults: 0,
-            past: SourcePast::new(),
+            heard: Heard::new(),
         }
     }
 
@@ -80,18 +73,12 @@ impl<T: io::Read> Source for StreamSource<T> {
         ensures ended { (result ≡ Read.End) ↔ (self.new.is_ended ≡ true) }
         ensures unasked { self.old.is_ended ≡ true → (result ≡ Read.End) × (self.new.stream ≡ self.old.stream) × (self.new.faults ≡ self.old.faults) }
     {
-        let read = if self.is_ended {
+        let read = if self.heard.is_ended() {
             Read::End
         } else {
             read_piece(&mut self.stream, buffer)
         };
-        if read == Read::End {
-            self.is_ended = true;
-        }
-        if read == Read::Failed {
-            self.faults = self.faults.saturating_add(1);
-        }
-        self.past.note(&SourceEvent { buffer, read });
+        self.heard.note(buffer, read);
         read
     }
 }

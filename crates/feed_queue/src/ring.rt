@@ -1,4 +1,6 @@
 //! What both ends of a queue share, and how they wait for one another.
+ghost use Rattle.std.specs.Prelude.{◌≡◌, if◌then◌else◌};
+
 use crate::rule::{Line, Numbers};
 use std::sync::Wait;
 use std::thread;
@@ -36,7 +38,9 @@ impl<N: Numbers> Ring<N> {
     }
 
     /// Wakes all feeders that sleep, where an item was taken. Answers how often none was found since the last one.
-    pub fn wake_behind(&self, was_taken: bool, tries: u32) -> u32 {
+    pub fn wake_behind(&self, was_taken: bool, tries: u32) -> u32
+        ensures { result ≡ (if was_taken then 0 else tries) }
+    {
         if !was_taken {
             return tries;
         }

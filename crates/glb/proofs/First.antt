@@ -137,9 +137,3 @@ unopened turns ask t open_fault.CellFault fed more opens out maps pace lanes lan
   lent = refl;
   rest = refl;
 })
-
--- stages of the same parts
-pub stages : (fed fed' : Option Fed) (more more' : List FeedTold) (opens opens' : List (Option (List (List ℕ)))) (out out' maps maps' : Option Written) (pace pace' : Option (List PaceCall)) (lanes lanes' : List LaneTold) (stream stream' : StreamLaneTold) (ff ff' of of' mf mf' : ℕ)
-    → fed ≡ fed' → more ≡ more' → opens ≡ opens' → out ≡ out' → maps ≡ maps' → pace ≡ pace' → lanes ≡ lanes' → stream ≡ stream' → ff ≡ ff' → of ≡ of' → mf ≡ mf'
-    → stage fed more opens out maps pace lanes stream ff of mf ≡ stage fed' more' opens' out' maps' pace' lanes' stream' ff' of' mf'
-stages fed fed' more more' opens opens' out out' maps maps' pace pace' lanes lanes' stream stream' ff ff' of of' mf mf' a b c d e f g h i j k = rw (a, b, c, d, e, f, g, h, i, j, k) refl

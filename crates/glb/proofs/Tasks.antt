@@ -117,7 +117,7 @@ none_behind all front [] is same = refl
 none_behind all front (x ∷ xs) is same = absurd (omega (arith, ap length is, length-append front (x ∷ xs), same))
 
 -- stages of the same parts
-pub same_stage : (fed fed' : Option Fed) (more more' : List FeedTold) (opens opens' : List (Option (List (List ℕ)))) (out out' maps maps' : Option Written) (pace pace' : Option (List PaceCall)) (lanes lanes' : List LaneTold) (stream : StreamLaneTold) (feed_faults feed_faults' out_faults out_faults' maps_faults maps_faults' : ℕ)
-    → fed ≡ fed' → more ≡ more' → opens ≡ opens' → out ≡ out' → maps ≡ maps' → pace ≡ pace' → lanes ≡ lanes' → feed_faults ≡ feed_faults' → out_faults ≡ out_faults' → maps_faults ≡ maps_faults'
-    → stage fed more opens out maps pace lanes stream feed_faults out_faults maps_faults ≡ stage fed' more' opens' out' maps' pace' lanes' stream feed_faults' out_faults' maps_faults'
-same_stage fed fed' more more' opens opens' out out' maps maps' pace pace' lanes lanes' stream feed_faults feed_faults' out_faults out_faults' maps_faults maps_faults' a b c d e f g h i j = rw (a, b, c, d, e, f, g, h, i, j) refl
+pub same_stage : (fed fed' : Option Fed) (more more' : List FeedTold) (opens opens' : List (Option (List (List ℕ)))) (out out' maps maps' : Option Written) (pace pace' : Option (List PaceCall)) (lanes lanes' : List LaneTold) (stream stream' : StreamLaneTold) (ff ff' of of' mf mf' : ℕ)
+    → fed ≡ fed' → more ≡ more' → opens ≡ opens' → out ≡ out' → maps ≡ maps' → pace ≡ pace' → lanes ≡ lanes' → stream ≡ stream' → ff ≡ ff' → of ≡ of' → mf ≡ mf'
+    → stage fed more opens out maps pace lanes stream ff of mf ≡ stage fed' more' opens' out' maps' pace' lanes' stream' ff' of' mf'
+same_stage fed fed' more more' opens opens' out out' maps maps' pace pace' lanes lanes' stream stream' ff ff' of of' mf mf' a b c d e f g h i j k = rw (a, b, c, d, e, f, g, h, i, j, k) refl

@@ -5,7 +5,6 @@ mod laws;
 mod marks;
 mod reaching;
 mod repairing;
-mod stand_in;
 mod trying;
 
 pub use laws::repairs_agree;

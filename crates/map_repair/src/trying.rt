@@ -12,8 +12,7 @@ ghost use Rattle.map_repair.specs.Marks.{AreReached};
 ghost use Rattle.map_repair.specs.Repaired.{IsStateOf};
 ghost use Rattle.map_repair.specs.Ways.{HasRunOut, IsCutAndMoved, IsResumed};
 
-use crate::stand_in::is_resumable;
-use best_check::is_best;
+use best_check::{is_best, is_resumable};
 use deferred_accept::run;
 use evict::State;
 use map_model::{Instance, MapLines, Steps};

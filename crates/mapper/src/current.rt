@@ -99,7 +99,10 @@ fn repaired<L>(
         steps,
     )?;
     let proposals = steps.count() - before;
-    kept.proposals = kept.proposals.saturating_add(proposals).saturating_add(turns);
+    kept.proposals = kept
+        .proposals
+        .saturating_add(proposals)
+        .saturating_add(turns);
     ended_map(alloc, new, &kept.state)
 }
 

@@ -23,12 +23,12 @@ type DemandAt = (u32, u32);
 /// A node and its new capacity.
 type CapacityAt = (u32, u64);
 
-/// A good map, limits of its offers, new demands and capacities, and whether the state that they leave is resumable.
+/// A good map, limits of its offers, a new demand and a new capacity, if there are such, and whether the state that they leave is resumable.
 type Row = (
     World,
     &'static [LimitAt],
-    &'static [DemandAt],
-    &'static [CapacityAt],
+    Option<DemandAt>,
+    Option<CapacityAt>,
     bool,
 );
 
@@ -64,74 +64,60 @@ const LIMITED_TO_ONE: World = World {
 
 const ROWS: &[Row] = &[
     // as it was
-    (EXAMPLE, &[], &[], &[], true),
-    (FULL_REGION, &[], &[], &[], true),
-    (REFUSER_NO_LONGER_FULL, &[], &[], &[], true),
-    (EMPTY_POOL, &[], &[], &[], true),
+    (EXAMPLE, &[], None, None, true),
+    (FULL_REGION, &[], None, None, true),
+    (REFUSER_NO_LONGER_FULL, &[], None, None, true),
+    (EMPTY_POOL, &[], None, None, true),
     // a unit has room at a place before a pointer: of the first group, and of the last one alone
-    (THREE_IN_A_CIRCLE, &[], &[], &[(0, 2)], false),
-    (THREE_IN_A_CIRCLE, &[], &[], &[(2, 2)], false),
+    (THREE_IN_A_CIRCLE, &[], None, Some((0, 2)), false),
+    (THREE_IN_A_CIRCLE, &[], None, Some((2, 2)), false),
     // a closed pool holds nothing, and refuses all
-    (THREE_IN_A_CIRCLE, &[], &[], &[(0, 0)], true),
+    (THREE_IN_A_CIRCLE, &[], None, Some((0, 0)), true),
     // a group asks for more: at its pointer, and with no place left
-    (THREE_IN_A_CIRCLE, &[], &[(1, 5)], &[], true),
-    (UNIT_FREE, &[], &[(0, 3)], &[], true),
+    (THREE_IN_A_CIRCLE, &[], Some((1, 5)), None, true),
+    (UNIT_FREE, &[], Some((0, 3)), None, true),
     // a limit refuses, where the pool has room; a group that asks for less does not want what it is refused
-    (LIMITED_TO_ONE, &[(0, 0, 1)], &[], &[], true),
-    (LIMITED_TO_ONE, &[(0, 0, 1)], &[(0, 1)], &[], false),
+    (LIMITED_TO_ONE, &[(0, 0, 1)], None, None, true),
+    (LIMITED_TO_ONE, &[(0, 0, 1)], Some((0, 1)), None, false),
     // the pool has room, and the region is full: of worse units, and of better ones
-    (WORSE_IN_THE_REGION, &[], &[(0, 1)], &[(0, 2)], false),
-    (BETTER_IN_THE_REGION, &[], &[(0, 1)], &[(0, 2)], true),
+    (WORSE_IN_THE_REGION, &[], Some((0, 1)), Some((0, 2)), false),
+    (BETTER_IN_THE_REGION, &[], Some((0, 1)), Some((0, 2)), true),
 ];
 
 /// Gives a group a new demand, where there is one and it is some.
-fn set_demand(instance: &mut Instance, group: u32, demand: u32)
+fn set_demand(instance: &mut Instance, demand: Option<DemandAt>)
     ensures { IsSameShape instance.old instance.new }
 {
-    if group < instance.groups() && demand > 0 {
-        instance.set_demand(GroupId(group), demand);
+    if let Some((group, demand)) = demand {
+        if group < instance.groups() && demand > 0 {
+            instance.set_demand(GroupId(group), demand);
+        }
     }
 }
 
 /// Gives a node a new capacity, where there is one and it is not too large.
-fn set_capacity(instance: &mut Instance, node: u32, capacity: u64)
+fn set_capacity(instance: &mut Instance, capacity: Option<CapacityAt>)
     ensures { IsSameShape instance.old instance.new }
 {
-    if node < instance.nodes() && capacity <= MOST_CAPACITY {
-        instance.set_capacity(NodeId(node), capacity);
+    if let Some((node, capacity)) = capacity {
+        if node < instance.nodes() && capacity <= MOST_CAPACITY {
+            instance.set_capacity(NodeId(node), capacity);
+        }
     }
 }
 
-/// Gives groups new demands.
-fn set_demands(instance: &mut Instance, demands: &[DemandAt])
-    ensures { IsSameShape instance.old instance.new }
-{
-    for &(group, demand) in demands {
-        set_demand(instance, group, demand);
-    }
-}
-
-/// Gives nodes new capacities.
-fn set_capacities(instance: &mut Instance, capacities: &[CapacityAt])
-    ensures { IsSameShape instance.old instance.new }
-{
-    for &(node, capacity) in capacities {
-        set_capacity(instance, node, capacity);
-    }
-}
-
-/// The instance with new demands and capacities.
+/// The instance with a new demand and a new capacity.
 fn changed(
     alloc: Global,
     instance: &Instance,
-    demands: &[DemandAt],
-    capacities: &[CapacityAt],
+    demand: Option<DemandAt>,
+    capacity: Option<CapacityAt>,
 ) -> Result<Instance, NoMemory>
     ensures { IfOk result (λ new. IsSameShape instance.now new) }
 {
     let mut new = instance.try_clone()?;
-    set_demands(&mut new, demands);
-    set_capacities(&mut new, capacities);
+    set_demand(&mut new, demand);
+    set_capacity(&mut new, capacity);
     Ok(new)
 }
 
@@ -145,6 +131,8 @@ fn is_resumable_after(
     requires good { IsGood instance.now map.now.lines.items map.now.names.items }
     requires shape { IsSameShape instance.now new.now }
 {
+    // Tells the prover that this is an instance.
+    let _count = new.nodes();
     let mut state = State::of_map(alloc, instance, map)?;
     cut_and_trim(new, &mut state);
     is_resumable(alloc, new, &state)
@@ -152,7 +140,7 @@ fn is_resumable_after(
 
 /// Whether the check says of what a row leaves what was told.
 fn says_as_told(alloc: Global, row: &Row) -> Result<bool, Fail> {
-    let (world, limits, demands, capacities, told) = *row;
+    let (world, limits, demand, capacity, told) = *row;
     let instance = limited_instance_of(alloc, world.nodes, world.groups, limits)?.ok_or(
         "no instance",
     )?;
@@ -160,7 +148,7 @@ fn says_as_told(alloc: Global, row: &Row) -> Result<bool, Fail> {
     if !is_good(alloc, &instance, &map)? {
         return Err(Fail::from("the map is not good"));
     }
-    let new = changed(alloc, &instance, demands, capacities)?;
+    let new = changed(alloc, &instance, demand, capacity)?;
     Ok(is_resumable_after(alloc, &instance, &map, &new)? == told)
 }
 

@@ -2,7 +2,7 @@
 ghost use Rattle.std.specs.Prelude.{◌≡◌};
 ghost use Rattle.map_model.specs.Market.{IsSameShape};
 
-use super::{changed, is_good, repaired};
+use super::{changed, repaired, turns_of};
 use crate::tests::every_change::mapped;
 use crate::tests::plain::{Rows, Sight, Spot, spots_of};
 use crate::tests::smallest::Digits;
@@ -54,6 +54,8 @@ struct Link {
     capacities: Vec<u64>,
     demands: Vec<u32>,
     amounts: Vec<u32>,
+    /// In how many turns units moved up to it.
+    turns: u64,
 }
 
 /// A number drawn from another.
@@ -151,6 +153,7 @@ fn linked(
         demands.as_slice(),
     )?;
     let instance = changed(alloc, &link.instance, batch)?;
+    let turns = turns_of(alloc, &link.instance, &link.map, &instance)?;
     let map = repaired(
         alloc,
         &link.instance,
@@ -164,6 +167,7 @@ fn linked(
         capacities,
         demands,
         amounts,
+        turns,
     };
     Ok(if is_plain(spots, &made) {
         Some(made)
@@ -231,31 +235,49 @@ fn first(alloc: Global, spots: &[Spot]) -> Result<Link, Fail> {
         capacities,
         demands,
         amounts,
+        turns: 0,
     })
 }
 
-/// The number of the first batch after which the repaired map is another, if there is one.
-fn first_wrong(alloc: Global, commits: u64) -> Result<Option<u64>, Fail> {
+/// How a chain came out: the number of the first batch after which the repaired map is another, if there is one, and behind
+/// how many batches units moved up.
+#[derive(Clone, Copy)]
+struct Came {
+    wrong: Option<u64>,
+    moved: u64,
+}
+
+/// How a chain of so many batches comes out.
+fn came_of(alloc: Global, commits: u64) -> Result<Came, Fail> {
     let spots = spots_of(alloc, TIGHT)?;
     let mut link = first(alloc, spots.as_slice())?;
-    if !is_plain(spots.as_slice(), &link) {
-        return Ok(Some(0));
-    }
+    let mut moved: u64 = 0;
     let mut seed: u64 = 1;
     for i in 0..commits {
         seed = drawn(seed);
         let batch = batch_of(alloc, seed)?;
         match linked(alloc, spots.as_slice(), &link, batch.as_slice())? {
             Some(next) => link = next,
-            None => return Ok(Some(i.saturating_add(1))),
+            None => {
+                return Ok(Came {
+                    wrong: Some(i),
+                    moved,
+                });
+            }
         }
+        moved = moved.saturating_add(u64::from(link.turns > 0));
     }
-    Ok(None)
+    Ok(Came { wrong: None, moved })
 }
 
 #[test]
 fn repairs_hundreds_of_batches_as_the_plain_program(rt: HostRuntime) -> Result<(), Fail> {
-    let wrong = first_wrong(rt.alloc(), COMMITS)?;
-    assert!(rt; wrong.is_none(), "batch {}", wrong.unwrap_or(0));
+    let came = came_of(rt.alloc(), COMMITS)?;
+    assert!(rt;
+        came.wrong.is_none() && came.moved > 100,
+        "batch {}, {} moved",
+        came.wrong.unwrap_or(u64::MAX),
+        came.moved
+    );
     Ok(())
 }

@@ -1,7 +1,7 @@
 //! Changes behind which units can't simply move up: a ring of groups in which single moves would take thousands of millions of turns, and two groups that have each other's first place.
 ghost use Rattle.std.specs.Prelude.{◌≡◌};
 
-use super::{changed, is_good, repaired};
+use super::{changed, is_good, repaired, turns_of};
 use map_model::Change::Capacity;
 use map_model::{Change, MapLines, NodeId, Steps};
 use std::alloc::Global;
@@ -45,6 +45,19 @@ const RING: World = World {
     ],
 };
 
+/// The same with three pools, and groups of two units.
+const SMALL_RING: World = World {
+    name: "small ring",
+    nodes: &[(2, None, true), (2, None, true), (2, None, true)],
+    groups: &[
+        (2, &[(0, 2), (1, 1)]),
+        (2, &[(1, 2), (2, 1)]),
+        (2, &[(2, 2), (0, 1)]),
+    ],
+    lines: &[(0, 1, 2), (1, 1, 2), (2, 1, 2)],
+    names: &[(0, 0, 0), (1, 0, 1), (2, 0, 2)],
+};
+
 /// The first two groups have each other's second place, or third. The third group fills a pool that the first and the last want too.
 const CROSSED: World = World {
     name: "crossed beside a full pool",
@@ -59,12 +72,13 @@ const CROSSED: World = World {
     names: &[(0, 0, 2), (0, 1, 0), (1, 0, 1), (3, 0, 2)],
 };
 
-/// A change of a world, the repaired map, and how many proposals that takes at most.
+/// A change of a world, the repaired map, whether units move up to it, and how many proposals it takes.
 struct Repair {
     change: Change,
     lines: &'static [Placed],
     names: &'static [NameAt],
-    most: u64,
+    moves_up: bool,
+    proposals: u64,
 }
 
 /// Room for one unit in the first pool: group by group, every unit comes to its first place.
@@ -82,7 +96,20 @@ const ROOM: Repair = Repair {
         (5, 0, 1_000_000_000),
     ],
     names: &[],
-    most: 6,
+    moves_up: false,
+    proposals: 6,
+};
+
+/// The same in the small ring: unit by unit they move up.
+const SMALL_ROOM: Repair = Repair {
+    change: Capacity {
+        node: NodeId(0),
+        capacity: 3,
+    },
+    lines: &[(0, 0, 2), (1, 0, 2), (2, 0, 2)],
+    names: &[],
+    moves_up: true,
+    proposals: 0,
 };
 
 /// Room for the last group in the full pool: it is all that moves up by itself. But the first two groups want places in trees that this reaches, so they go back, and each has its better place.
@@ -93,7 +120,8 @@ const BESIDE: Repair = Repair {
     },
     lines: &[(0, 1, 1), (1, 0, 1), (2, 0, 1), (3, 0, 1)],
     names: &[(0, 0, 2)],
-    most: 4,
+    moves_up: false,
+    proposals: 4,
 };
 
 /// Whether the repaired map of a world is as told.
@@ -101,15 +129,27 @@ fn is_repaired_so(alloc: Global, world: &World, repair: &Repair) -> Result<bool,
     let old = world.instance(alloc)?.ok_or("no instance")?;
     let map = world.map(alloc)?;
     let new = changed(alloc, &old, &[repair.change])?;
+    let moves_up = turns_of(alloc, &old, &map, &new)? > 0;
     let mut steps = Steps::new();
     let made = repaired(alloc, &old, &map, &new, &mut steps)?;
     let told: MapLines = map_of(alloc, repair.lines, repair.names)?;
-    Ok(made == told && steps.count() <= repair.most && is_good(alloc, &new, &made)?)
+    Ok(
+        made == told
+            && moves_up == repair.moves_up
+            && steps.count() == repair.proposals
+            && is_good(alloc, &new, &made)?,
+    )
 }
 
 #[test]
 fn repairs_a_ring_of_large_groups(rt: HostRuntime) -> Result<(), Fail> {
     assert!(rt; is_repaired_so(rt.alloc(), &RING, &ROOM)?);
+    Ok(())
+}
+
+#[test]
+fn repairs_a_ring_of_small_groups(rt: HostRuntime) -> Result<(), Fail> {
+    assert!(rt; is_repaired_so(rt.alloc(), &SMALL_RING, &SMALL_ROOM)?);
     Ok(())
 }
 

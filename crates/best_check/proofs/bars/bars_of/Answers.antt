@@ -13,5 +13,5 @@ loop-n-preserved c =
     record {
       size = search (rules, i.size, more);
       bars_at = pushed (λ n bar. IfSome bar (λ (b : Key). IsBar m c.args.state.now.lines n b)) c.loop-n.bars.items c.push.new.self.items c.bar_at-bar.result more i.bars_at
-        (subst (λ n. IfSome c.bar_at-bar.result (λ (b : Key). IsBar m c.args.state.now.lines n b)) (sym i.size) c.bar_at-bar.ensures);
+          (subst (λ n. IfSome c.bar_at-bar.result (λ (b : Key). IsBar m c.args.state.now.lines n b)) (sym i.size) c.bar_at-bar.ensures);
     }

@@ -3,7 +3,8 @@ use Rattle.std.proofs.lemmas.List.{length-map, map-append}
 use Rattle.drive.specs.Told.{feed_told, lane_told, stream_told}
 use Rattle.glb.specs.Commands.{service_asked}
 use Rattle.glb.specs.Feeds.{Named}
-use Rattle.glb.proofs.First.{served_session, stages, starts, unfed_session}
+use Rattle.glb.proofs.First.{served_session, starts, unfed_session}
+use Rattle.glb.proofs.Tasks.{same_stage}
 use Rattle.glb.proofs.Named.{none_named}
 use Rattle.glb.proofs.serve.serve_first.Goals as goal
 
@@ -24,7 +25,7 @@ returns-in-Err-clause-served g c =
     (g.S.Source.faults c.args.lent.now.feed.now) (g.K.Sink.faults c.args.lent.now.out.now) (g.K.Sink.faults c.args.lent.now.maps.now) (g.K.Sink.faults c.start_lanes.new.maps)
     c.text.ensures c.in-Ready.ensures.start in
     unfed_session _ (service_asked c.args.service.now) _ _ _ _ begin
-    (stages _ _ _ _ _ _ _ _ _ _ _ _ _ _ _ _ _ _ _ _ _ _ (ap g.S.Source.told n.0) (ap (map tell) all) (ap (map g.N.NamedSource.opens) all) (ap g.K.Sink.told n.2) (ap g.K.Sink.told n.3) (ap g.M.Pace.told n.6)
+    (same_stage _ _ _ _ _ _ _ _ _ _ _ _ _ _ _ _ _ _ _ _ _ _ (ap g.S.Source.told n.0) (ap (map tell) all) (ap (map g.N.NamedSource.opens) all) (ap g.K.Sink.told n.2) (ap g.K.Sink.told n.3) (ap g.M.Pace.told n.6)
     (ap (map (lane_told g.P.Port.told g.P.Port.faults g.G.Gate.told g.D.Door.asked g.D.Door.looks g.D.Door.greatest g.D.Door.faults)) n.4) (ap (stream_told g.Q.Streams.told g.Q.Streams.faults g.G.Gate.told g.D.Door.asked g.D.Door.looks g.D.Door.greatest g.D.Door.faults) n.5)
     (ap g.S.Source.faults n.0) (ap g.K.Sink.faults n.2) (ap g.K.Sink.faults n.3))
 
