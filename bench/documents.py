@@ -6,10 +6,12 @@
     documents.py names       each path, word and clause in backquotes
     documents.py waits       each function that takes a handle by which it may wait or start threads
 
-A path has to be there: from the top, or in a crate that the same line or heading names. A word has to stand somewhere
-in the code, the specifications or the files of examples. A clause, `x` of `f` or (`x`) in docs/PROVED.md, has to be an
-`ensures` or a field of a record, in a crate that the line names, or a field of a record that `f` promises. GLB names
-the program, the built one if it is not set.
+A path has to be there: from the top, or in a crate that the same line or heading names, of a table's row also the words
+in bold above the table. A word has to stand somewhere in the code, the specifications or the files of examples. A clause,
+`x` of `f` or (`x`) in docs/PROVED.md, has to be an `ensures` or a field of a record, in a crate that the line, or of a row
+the words in bold, names, or a field of a record that `f` promises. What stands in the last cell of a row, under `Where`,
+has to be a clause of such a crate, a condition, a field, a definition or a function. GLB names the program, the built one
+if it is not set.
 The status is 0 where all is found and each example writes what is shown.
 """
 
@@ -100,6 +102,14 @@ def crates_in(line):
     return [crate for crate in CRATES if re.search(rf"\b{crate}\b", line)]
 
 
+def with_bold(lines):
+    """The lines by their numbers, each row of a table with the words in bold with which a line above begins."""
+    bold = ""
+    for number, line in enumerate(lines, 1):
+        bold = line.split("**")[1] if line.startswith("**") else "" if line.startswith("#") else bold
+        yield number, line, bold if line.startswith("|") else ""
+
+
 def cited_in(line):
     """What stands in backquotes, cut into paths and words."""
     for cited in re.findall(r"`([^`]+)`", line):
@@ -118,9 +128,9 @@ def look_up():
     told = Tally("paths and words")
     for path in DOCUMENTS:
         heading = ""
-        for number, line in enumerate((TOP / path).read_text().splitlines(), 1):
+        for number, line, bold in with_bold((TOP / path).read_text().splitlines()):
             heading = line if line.startswith("#") else heading
-            crates = crates_in(f"{heading} {line}") or CRATES
+            crates = crates_in(f"{heading} {bold} {line}") or CRATES
             for kind, cited in cited_in(line):
                 if any(STANDS_FOR_OTHERS.fullmatch(part) for part in re.split(r"[./]", cited)) and kind == "file" or MADE.match(cited):
                     continue
@@ -142,12 +152,18 @@ def is_part(name, owned, code):
 
 
 def clauses():
-    """The clauses that docs/PROVED.md cites: `x` of `f`, and (`x`) in a paragraph of a crate."""
+    """The clauses that docs/PROVED.md cites: `x` of `f`, (`x`) in a paragraph of a crate, and what stands under `Where`."""
     files, _ = sources()
     code = {file: (TOP / file).read_text() for file in files if file.startswith("crates/") and file.endswith((".rt", ".antt"))}
     told = Tally("clauses")
-    for number, line in enumerate((TOP / "docs/PROVED.md").read_text().splitlines(), 1):
-        crates = crates_in(line) or CRATES
+    is_where = False
+    for number, line, bold in with_bold((TOP / "docs/PROVED.md").read_text().splitlines()):
+        crates = crates_in(f"{bold} {line}") or CRATES
+        is_where = line.endswith("| Where |") or is_where and line.startswith("|")
+        for name in re.findall(r"`(\w+)`", line.split("|")[-2]) if is_where else []:
+            form = rf"\b(ensures|requires) {name} |\b(abbrev|unfoldable|record|data|type|struct|enum|trait|const|fn|pub)\s+(pub\s+)?{name}\b"
+            is_there = any(name in text and re.search(form, text) for file, text in code.items() if file.split("/")[1] in crates)
+            told.take(is_there, f"docs/PROVED.md:{number}: no {name} in {', '.join(crates)}")
         cited = [(name, "") for inside in re.findall(r"\((`[^()]*`)\)", line) for name in re.findall(r"`(\w+)`", inside)]
         cited += [(name, owner) for some, owner in re.findall(r"((?:`\w+`(?:, | and )?)+) of `(?:\w+::)*(\w+)`", line) for name in re.findall(r"`(\w+)`", some)]
         for name, owner in cited:
@@ -155,7 +171,7 @@ def clauses():
             form = rf"\b(abbrev|unfoldable|record|data|type|struct|enum|trait|fn|pub)\s+(pub\s+)?{name}\b" if is_definition else rf"\bensures {name} |\b(fn|pub) {name}\b"
             owned = rf"\b(fn|struct|trait|enum|impl) {owner}\b|\bfor {owner}\b" if owner else ""
             inside = [file for file in code if is_definition or owner or file.split("/")[1] in crates]
-            is_there = any(re.search(form, code[file]) and re.search(owned, code[file]) for file in inside) or owner and is_part(name, owned, code)
+            is_there = any(name in code[file] and re.search(form, code[file]) and re.search(owned, code[file]) for file in inside) or owner and is_part(name, owned, code)
             told.take(is_there, f"docs/PROVED.md:{number}: no {name}" + (f" of {owner}" if owner else f" in {', '.join(crates)}"))
     return told.end()
 

@@ -69,6 +69,13 @@ BLOCKS = {
         ("python3 -c 'import urllib.request; print(urllib.request.urlopen(\"http://127.0.0.1:9100/metrics\").read().decode().count(\"\\nglb_shown_timestamp_seconds{\"))'", "2"),
     ),
     "tail -n +1 -f": Block(("journalctl -u glb -n 3 -o cat; systemctl disable --now glb 2>/dev/null; systemctl start glb@v4; sleep 1; systemctl is-active glb@v4", "published 1\npublished 2\npublished 3\nactive"), before="systemctl stop glb@v4; systemctl disable glb-feed; sed -i '/^stop$/d' /var/lib/glb/changes.log; systemctl start glb; sleep 1", seconds=3),
+    # its feed has ended already, so it opens both, and ends
+    "glb serve /etc/glb/topology.toml --listen 192.0.2.53:53 --tcp": Block(
+        ("glb serve /etc/glb/topology.toml --listen 192.0.2.53:53 --tcp 192.0.2.53:53 --workers 4 </dev/null 2>/dev/null; echo $?", "0"),
+        ("systemctl start glb@v4; sleep 1; systemctl is-active glb@v4", "active"),
+        before="systemctl stop glb@v4",
+        seconds=5,
+    ),
     "apt-get install etcd": Block(
         ("tr '\\0' ' ' </proc/$(systemctl show --value -p MainPID glb-follow@v4)/cmdline", ".*glb-follow --name .*"),
         ("sleep 2; glb-fleet", r"(?s)the log ends at entry 1\n\S*-v4: there, entry 1 .*"),
@@ -167,4 +174,5 @@ def main():
     sys.exit(1 if tally.failed else 0)
 
 
-main()
+if __name__ == "__main__":
+    main()

@@ -4,12 +4,12 @@ use Rattle.std.proofs.lemmas.Bool.{cases_lt, false≢true}
 use Rattle.std.proofs.lemmas.List.{get_or_past}
 use Rattle.map_model.specs.declared.instance.Node.{Node}
 use Rattle.map_model.specs.declared.instance.NodeId.{NodeId}
-use Rattle.map_model.specs.declared.instance.Offer.{Offer}
 use Rattle.map_model.specs.declared.lines.MapLine.{MapLine}
 use Rattle.map_model.specs.Market.{Market, IsMarket, demand_of, is_pool_at, limit_of, pool_of}
 use Rattle.map_model.specs.Allocation.{IsOffer, placed}
 use Rattle.circle_laws.specs.Circles.{IsCircleFree, IsLastPlace, IsNextInLine}
 use Rattle.circle_laws.proofs.Nearest.{next_one}
+use Rattle.best_check.specs.declared.ranked.Ranked.{Ranked}
 use Rattle.best_check.specs.Leads.{AreLeads, FallAlong}
 use Rattle.best_check.specs.Tables.{IsNextAt}
 
@@ -18,15 +18,15 @@ abbrev pub IsLead : Market → List MapLine → ℕ → Option NodeId → Type 0
 IsLead m lines n lead = (g k j : ℕ) → IsNextInLine m (limit_of m) lines n g k → placed lines g ≡ demand_of m g → IsLastPlace lines g j → lead ≡ Some (record { 0 = pool_of m g j })
 
 -- the offer that is next in line is one
-pub next_offer : (m : Market) (lines : List MapLine) (n : ℕ) (next : Option Offer) → IsNextAt m lines n next → IfSome next (λ o. IsOffer m o.group.0 o.place)
+pub next_offer : (m : Market) (lines : List MapLine) (n : ℕ) (next : Option Ranked) → IsNextAt m lines n next → IfSome next (λ o. IsOffer m o.offer.group.0 o.offer.place)
 next_offer m lines n None none = search rules
 next_offer m lines n (Some o) next = next.in_line.offer
 
 -- what is so of the one that is next in line, is so of each
-pub lead_is : (m : Market) → IsMarket m → (lines : List MapLine) (n : ℕ) (next : Option Offer) (lead : Option NodeId) → IsNextAt m lines n next → IfSome next (λ o. (j : ℕ) → placed lines o.group.0 ≡ demand_of m o.group.0 → IsLastPlace lines o.group.0 j → lead ≡ Some (record { 0 = pool_of m o.group.0 j })) → IsLead m lines n lead
+pub lead_is : (m : Market) → IsMarket m → (lines : List MapLine) (n : ℕ) (next : Option Ranked) (lead : Option NodeId) → IsNextAt m lines n next → IfSome next (λ o. (j : ℕ) → placed lines o.offer.group.0 ≡ demand_of m o.offer.group.0 → IsLastPlace lines o.offer.group.0 j → lead ≡ Some (record { 0 = pool_of m o.offer.group.0 j })) → IsLead m lines n lead
 lead_is m market lines n None lead none leads = λ g k j next whole last. absurd (none g k next.in_line next.room)
 lead_is m market lines n (Some o) lead is leads = λ g k j next whole last.
-    let e = next_one m market (limit_of m) lines n o.group.0 o.place g k is next in
+    let e = next_one m market (limit_of m) lines n o.offer.group.0 o.offer.place g k is next in
     subst (λ x. placed lines x ≡ demand_of m x → IsLastPlace lines x j → lead ≡ Some (record { 0 = pool_of m x j })) e.0 (leads j) whole last
 
 -- a pool is a node of the instance

@@ -1,2 +1,4 @@
+pub mod Fullness
 pub mod Tables
 pub mod Leads
+pub mod Open

@@ -8,6 +8,7 @@ ghost use Rattle.circle_laws.specs.Circles.{IsLastPlace};
 ghost use Rattle.best_check.specs.Leads.{AreLeads};
 ghost use Rattle.best_check.specs.Tables.{AreNextAt};
 
+use crate::ranked::Ranked;
 use evict::State;
 use map_model::{GroupId, Instance, NodeId, Offer};
 use no_memory::NoMemory;
@@ -30,13 +31,13 @@ fn last_place(instance: &Instance, state: &State, group: GroupId) -> Option<u8>
 }
 
 /// The pool that loses a unit where the offer that is next in line gets one more; none where its group has units free.
-fn leads_to(instance: &Instance, state: &State, next: Option<Offer>) -> Option<NodeId>
+fn leads_to(instance: &Instance, state: &State, next: Option<Ranked>) -> Option<NodeId>
     requires ready { IsReady instance.now state.now }
-    requires offer { IfSome next (λ o. IsOffer instance.now o.group.0 o.place) }
+    requires offer { IfSome next (λ o. IsOffer instance.now o.offer.group.0 o.offer.place) }
     ensures inside { IfSome result (λ p. p.0 < length instance.now.nodes) }
-    ensures leads { IfSome next (λ o. (j : ℕ) → placed state.now.lines o.group.0 ≡ demand_of instance.now o.group.0 → IsLastPlace state.now.lines o.group.0 j → result ≡ Some (record { 0 = pool_of instance.now o.group.0 j })) }
+    ensures leads { IfSome next (λ o. (j : ℕ) → placed state.now.lines o.offer.group.0 ≡ demand_of instance.now o.offer.group.0 → IsLastPlace state.now.lines o.offer.group.0 j → result ≡ Some (record { 0 = pool_of instance.now o.offer.group.0 j })) }
 {
-    let group = next?.group;
+    let group = next?.offer.group;
     if state.free(group) > 0 {
         return None;
     }
@@ -49,7 +50,7 @@ pub fn leads_of(
     alloc: Global,
     instance: &Instance,
     state: &State,
-    nexts: &[Option<Offer>],
+    nexts: &[Option<Ranked>],
 ) -> Result<Vec<Option<NodeId>>, NoMemory>
     requires ready { IsReady instance.now state.now }
     requires size { length nexts.now ≡ length instance.now.nodes }

@@ -2,6 +2,8 @@
 ghost use Rattle.std.specs.Prelude.{true, ◌≡◌, IfOk};
 ghost use Rattle.map_model.specs.Allocation.{IsGood};
 
+mod resumable;
+
 use best_check::is_best;
 use evict::State;
 use map_model::{Instance, MapLines};

@@ -22,7 +22,7 @@ use Rattle.feed_queue.proofs.Wholes.{all_is_taken, runs_end_last}
 use Rattle.mapper.specs.Feeds.{AreFeeds, HasMerged, HaveEnded, first_end, has_one, is_no_memory, is_source_fault, is_spent}
 use Rattle.mapper.specs.Scenes.{Scene}
 use Rattle.drive.specs.All.{AllRan}
-use Rattle.drive.specs.Feeds.{AllStand, AnyRose, AreFed, AreFedTogether, AreSent, FeedTold, NoneFell}
+use Rattle.drive.specs.Feeds.{AllStand, AnyRose, AreFed, AreFedTogether, AreSent, AreTied, FeedTold, NoneFell}
 use Rattle.drive.specs.Read.{IsRead}
 use Rattle.drive.specs.Told.{feed_told}
 
@@ -152,6 +152,21 @@ module _ {T : Type 0} (t : Plan) (turns : ℕ) (fed : T → Option Fed) (faults 
   none_fell (x ∷ xs) (y ∷ ys) [] gs r = absurd r
   none_fell (x ∷ xs) (y ∷ ys) (f ∷ fs) [] r = absurd r
   none_fell (x ∷ xs) (y ∷ ys) (f ∷ fs) (g ∷ gs) r = (r.0.later, none_fell xs ys fs gs r.1)
+
+  -- each end that is a fault of its source is tied to its own count
+  pub all_tied : (k : ℕ) (sent : ℕ → List What) (xs ys : List T) (fs gs : List FeederState) → ((i : ℕ) → sent (k + i) ≡ sent_at gs i) → AllRan (Reads t turns fed faults) xs ys fs gs → AreTied k sent (tells fed faults xs) (tells fed faults ys)
+  all_tied k sent [] [] fs gs same r = refl
+  all_tied k sent [] (y ∷ ys) fs gs same r = absurd r
+  all_tied k sent (x ∷ xs) [] fs gs same r = absurd r
+  all_tied k sent (x ∷ xs) (y ∷ ys) [] gs same r = absurd r
+  all_tied k sent (x ∷ xs) (y ∷ ys) (f ∷ fs) [] same r = absurd r
+  all_tied k sent (x ∷ xs) (y ∷ ys) (f ∷ fs) (g ∷ gs) same r =
+      let here : k ≡ k + 0 = omega arith in
+      let first : sent k ≡ g.sent = ap sent here ∙ same 0 in (
+        λ e. r.0.source (subst (λ (ws : List What). EndsWith ws ends.SourceFault) first e),
+        λ none. r.0.stays (λ e. none (subst (λ (ws : List What). EndsWith ws ends.SourceFault) (sym first) e)),
+        all_tied (k + 1) sent xs ys fs gs (λ i. let n : k + 1 + i ≡ k + suc i = omega arith in ap sent n ∙ same (suc i)) r.1,
+      )
 
   -- each feed has its feeder
   pub lengths : (xs ys : List T) (fs gs : List FeederState) → AllRan (Reads t turns fed faults) xs ys fs gs → length gs ≡ length xs
@@ -362,7 +377,7 @@ module _ {T : Type 0} (t : Plan) (turns : ℕ) (fed : T → Option Fed) (faults 
       whole_of groups nodes taken (g ∷ gs) (subst (λ (n : ℕ). AreTaken groups nodes n taken) (sym size) are) (zero_is, numbered t turns fed faults queue 1 (length xs) xs ys fs gs fresh read)
       ((began, runs_end_last t turns a b g.sent first.sent), all_begun t turns fed faults taken xs ys fs gs begun read) (ended ∙ sym size)
 
-  pub together : (end : FeedEnd) (start stop : Scene) → AreFeeds (1 + length xs) end taken start stop → (end ≢ ends.SinkFault → HasMerged taken start stop) → AreFedTogether t turns end (a ∷ feds fed faults xs) (b ∷ feds fed faults ys) start stop
+  pub together : (end : FeedEnd) (start stop : Scene) → AreFeeds (1 + length xs) end taken start stop → (end ≢ ends.SinkFault → HasMerged taken start stop) → AreFedTogether t turns end a b (tells fed faults xs) (tells fed faults ys) start stop
   together end start stop run merged =
       let w = all_of in
       let told : length (feds fed faults xs) ≡ length xs = length-map _ _ ∙ length-map _ _ in
@@ -370,6 +385,7 @@ module _ {T : Type 0} (t : Plan) (turns : ℕ) (fed : T → Option Fed) (faults 
         sent = sent_at (g ∷ gs);
         items = taken;
         feeds = (first.sent, all_sent t turns fed faults 1 (sent_at (g ∷ gs)) xs ys fs gs (λ k. let n : 1 + k ≡ suc k = omega arith in ap (sent_at (g ∷ gs)) n) read);
+        tied = all_tied t turns fed faults 1 (sent_at (g ∷ gs)) xs ys fs gs (λ k. let n : 1 + k ≡ suc k = omega arith in ap (sent_at (g ∷ gs)) n) read;
         run = subst (λ (n : ℕ). AreFeeds n end taken start stop) count run;
         merged = merged;
         whole = λ k l. w.whole k (omega (arith, l, count, size));
@@ -393,7 +409,7 @@ module _ {T : Type 0} (t : Plan) (turns : ℕ) (fed : T → Option Fed) (faults 
 
 -- one feed more than none
 pub are_fed : (t : Plan) (turns : ℕ) (end : FeedEnd) (feed feed_after : Option Fed) (more more_after : List FeedTold) (start stop : Scene) → more ≢ []
-    → AreFedTogether t turns end (feed ∷ map (λ (x : FeedTold). x.fed) more) (feed_after ∷ map (λ (x : FeedTold). x.fed) more_after) start stop → AreFed t turns end feed more feed_after more_after start stop
+    → AreFedTogether t turns end feed feed_after more more_after start stop → AreFed t turns end feed more feed_after more_after start stop
 are_fed t turns end feed feed_after [] more_after start stop some f = absurd (some refl)
 are_fed t turns end feed feed_after (m ∷ more) more_after start stop some f = f
 
@@ -414,7 +430,7 @@ back_all taken all left done e none h = subst (λ (l : List FeederState). All (B
 
 -- what is said of several feeds behind their run
 pub record AreRun (t : Plan) (turns : ℕ) (end : FeedEnd) (a b : Option Fed) (i j : ℕ) (before after : List FeedTold) (start stop : Scene) : Type 0 where
-  pub fed : AreFedTogether t turns end (a ∷ map (λ (x : FeedTold). x.fed) before) (b ∷ map (λ (x : FeedTold). x.fed) after) start stop
+  pub fed : AreFedTogether t turns end a b before after start stop
   pub source : end ≡ ends.SourceFault → Rose i j ⊎ AnyRose before after
   pub stays : end ≢ ends.SourceFault → end ≢ ends.SinkFault → (j ≡ i) × AllStand before after
   pub later : (i ≤ j) × NoneFell before after
@@ -430,7 +446,7 @@ several {T = T} t p turns fed faults groups nodes a b i j f g xs ys fs gs opened
     let begun' : All (λ (x : FeederState). IsPrefix (sent_by x.feeder now.taken) x.sent) gs = subst (λ (x : TakerState). All (Begins x.taken) gs) same begun in
     let run' : AreFeeds (1 + length xs) end now.taken start stop = subst (λ (n : ℕ). AreFeeds n end now.taken start stop) size run in
     let all = together t turns fed faults groups nodes opened.queue a b i j f g xs ys fs gs now.taken first first_is read fresh are' began' begun' run'.all end start stop run' merged in
-    let all' = subst (λ (x : Plan). AreFedTogether x turns end (a ∷ feds fed faults xs) (b ∷ feds fed faults ys) start stop) plan all in record {
+    let all' = subst (λ (x : Plan). AreFedTogether x turns end a b (tells fed faults xs) (tells fed faults ys) start stop) plan all in record {
       fed = all';
       source = source_rose t turns fed faults groups nodes opened.queue a b i j f g xs ys fs gs now.taken first first_is read fresh are' began' begun' run'.all end start stop run';
       stays = sources_stand t turns fed faults groups nodes opened.queue a b i j f g xs ys fs gs now.taken first first_is read fresh are' began' begun' run'.all end start stop run';

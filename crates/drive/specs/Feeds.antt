@@ -4,10 +4,10 @@ use Rattle.outside.specs.Faults.{Rose}
 use Rattle.outside.specs.Source.{Fed}
 use Rattle.topology_text.specs.Plan.{Plan}
 use Rattle.demand_feed.specs.declared.run.FeedEnd.{FeedEnd}
-use Rattle.demand_feed.specs.declared.run.FeedEnd.TheVariants.{SinkFault}
+use Rattle.demand_feed.specs.declared.run.FeedEnd.TheVariants.{SinkFault, SourceFault}
 use Rattle.demand_feed.specs.declared.sent.Item.{Item}
 use Rattle.demand_feed.specs.declared.sent.What.{What}
-use Rattle.feed_queue.specs.Feeder.{HasSent}
+use Rattle.feed_queue.specs.Feeder.{EndsWith, HasSent}
 use Rattle.feed_queue.specs.Items.{sent_by}
 use Rattle.mapper.specs.Feeding.{IsFeed}
 use Rattle.mapper.specs.Feeds.{AreFeeds, HasMerged}
@@ -24,21 +24,31 @@ AreSent t turns k sent [] [] = Unit {0}
 AreSent t turns k sent (b ∷ before) (c ∷ after) = HasSent t turns b c (sent k) × AreSent t turns (k + 1) sent before after
 AreSent t turns k sent _ _ = ⊥
 
--- Several feeds, each of which a feeder of its own read: what each sent of its feed; all that was sent was worked, and nothing else; and what it came to.
-pub record AreFedTogether (t : Plan) (turns : ℕ) (end : FeedEnd) (before after : List (Option Fed)) (start stop : Scene) : Type 0 where
+-- Of the further feeds, by their numbers from k on: a feed was broken off only where a read of it failed, and where it was not, none did.
+abbrev pub AreTied : ℕ → (ℕ → List What) → List FeedTold → List FeedTold → Type 0
+AreTied k sent [] after = after ≡ []
+AreTied k sent (b ∷ before) (c ∷ after) = (EndsWith (sent k) SourceFault → Rose b.faults c.faults) × ((EndsWith (sent k) SourceFault → ⊥) → c.faults ≡ b.faults) × AreTied (k + 1) sent before after
+AreTied k sent (b ∷ before) [] = ⊥
+
+-- all feeds, by their numbers
+abbrev pub feeds_of : Option Fed → List FeedTold → List (Option Fed)
+feeds_of feed more = feed ∷ map (λ (x : FeedTold). x.fed) more
+
+-- Several feeds, each of which a feeder of its own read: what each sent of its feed, and that each further one which was broken off had failed; all of that was taken, and nothing else, and worked up to a put that failed; and what it came to.
+pub record AreFedTogether (t : Plan) (turns : ℕ) (end : FeedEnd) (feed feed_after : Option Fed) (more more_after : List FeedTold) (start stop : Scene) : Type 0 where
   pub sent : ℕ → List What
   pub items : List Item
-  pub feeds : AreSent t turns 0 sent before after
-  pub run : AreFeeds (length before) end items start stop
+  pub feeds : AreSent t turns 0 sent (feeds_of feed more) (feeds_of feed_after more_after)
+  pub tied : AreTied 1 sent more more_after
+  pub run : AreFeeds (length (feeds_of feed more)) end items start stop
   pub merged : end ≢ SinkFault → HasMerged items start stop
-  pub whole : (k : ℕ) → k < length before → sent_by k items ≡ sent k
-  pub others : (k : ℕ) → length before ≤ k → sent_by k items ≡ []
+  pub whole : (k : ℕ) → k < length (feeds_of feed more) → sent_by k items ≡ sent k
+  pub others : (k : ℕ) → length (feeds_of feed more) ≤ k → sent_by k items ≡ []
 
 -- one feed by itself, or together with further ones
 abbrev pub AreFed : Plan → ℕ → FeedEnd → Option Fed → List FeedTold → Option Fed → List FeedTold → Scene → Scene → Type 0
 AreFed t turns end feed [] feed_after more_after start stop = IsFeed t turns end feed feed_after start stop × (more_after ≡ [])
-AreFed t turns end feed (m ∷ more) feed_after more_after start stop =
-    AreFedTogether t turns end (feed ∷ map (λ (x : FeedTold). x.fed) (m ∷ more)) (feed_after ∷ map (λ (x : FeedTold). x.fed) more_after) start stop
+AreFed t turns end feed (m ∷ more) feed_after more_after start stop = AreFedTogether t turns end feed feed_after (m ∷ more) more_after start stop
 
 -- the count of one of these rose
 abbrev pub AnyRose : List FeedTold → List FeedTold → Type 0

@@ -1,5 +1,5 @@
 //! The octets of a connection: those that came and are to be handed over, and those of replies that are to go.
-ghost use Rattle.std.specs.Prelude.{◌≡◌, ◌≤◌, ◌++◌, ℕ, List, length, take, drop, true, false, []};
+ghost use Rattle.std.specs.Prelude.{◌≡◌, ◌⊎◌, ◌≤◌, ◌++◌, length, take, drop, true, false, []};
 ghost use Rattle.tcp_frames.specs.Split.{AreWhole, HasNoMessage, IsOverlong};
 
 use arrayvec::ArrayVec;
@@ -72,9 +72,9 @@ impl Room {
         self.going.try_extend_from_slice(reply).is_ok()
     }
 
-    /// Takes octets that came, as far as there is room for them.
+    /// Takes octets that came, if there is room for them.
     pub(crate) fn take_in(&mut self, piece: &[u8])
-        ensures came { (more : List ℕ) × (self.new.coming.items ≡ self.old.coming.items ++ more) }
+        ensures came { (self.new.coming.items ≡ self.old.coming.items ++ piece.now) ⊎ (self.new.coming.items ≡ self.old.coming.items) }
         ensures going { self.new.going.items ≡ self.old.going.items }
     {
         let _ = self.coming.try_extend_from_slice(piece);

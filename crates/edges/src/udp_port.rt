@@ -11,6 +11,7 @@ use handed_in::{handed_in, take_udp};
 use outside::{Arrival, LARGEST_DATAGRAM, Opening, Port, Sending};
 use past_log::{PortEvent, PortPast};
 use reuse_port::{bind_beside, grow_receive_buffer};
+use std::io::ErrorKind;
 use std::marker::Model;
 use std::net::{Net, UdpSocket};
 use std::os::fd::AsRawFd;
@@ -115,14 +116,17 @@ impl<'a, N: Net> UdpPort<'a, N> {
     }
 }
 
-/// Limits how long the calls of a socket wait, and lets many datagrams wait at it, where the system does.
+/// Limits how long the calls of a socket wait, and lets many datagrams wait at it, where the system does. A process without a
+/// standard stream, whose descriptor the next thing that is opened would get, gets none.
 fn set_up(socket: &UdpSocket) -> Option<()> {
     let wait = Some(Duration::from_millis(LONGEST_WAIT));
     socket.set_read_timeout(wait).ok()?;
     let send = Some(Duration::from_millis(LONGEST_SEND));
     socket.set_write_timeout(send).ok()?;
-    let _ = grow_receive_buffer(socket, RECEIVE_BUFFER);
-    Some(())
+    match grow_receive_buffer(socket, RECEIVE_BUFFER) {
+        Err(error) if error.kind() == ErrorKind::InvalidInput => None,
+        _ => Some(()),
+    }
 }
 
 /// The next socket there that was handed in, if one is left.

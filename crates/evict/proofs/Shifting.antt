@@ -13,6 +13,7 @@ use Rattle.offer_pool.specs.Holdings.{Holdings}
 use Rattle.evict.specs.Putting.{AgreesWith, IsSound}
 use Rattle.evict.proofs.Placing.{agrees-put}
 use Rattle.evict.proofs.Relieving.{agrees-take}
+use Rattle.evict.proofs.Sound.{grant_placed}
 
 -- each line has fewer than 2^32 units
 few_units : (test : ℕ → ℕ → Bool) (lines : List MapLine) → All (λ l. l.amount ≤ 2 ^ 32) lines → units_of test lines ≤ length lines * 2 ^ 32
@@ -64,3 +65,11 @@ sound_shift held held' held'' tree tree' tree'' free totals g from to units pool
       sums = λ h l. omega (arith, takes (λ x _. x == h), puts (λ x _. x == h), sound.sums h l);
       small = sound.small;
     }
+
+-- there is room for granted units at each node
+pub grant_room : (held held' : Holdings) (tree : Loads) (free totals : List ℕ) (g k units n : ℕ) → IsSound held tree free totals → held'.market ≡ held.market → AreLines held'.market held'.lines → Puts held.lines held'.lines g k units → g < length free → units ≤ slice_index free g
+    → n < length tree.trees.nodes → slice_index tree.units n + units < 2 ^ 64
+grant_room held held' tree free totals g k units n sound same form puts within some l =
+    let form' : AreLines held.market held'.lines = subst (λ (x : Market). AreLines x held'.lines) same form in
+    let few = units_bound held.market sound.market held'.lines form' (λ h lh. grant_placed held held' tree free totals g k units sound puts within some h (omega (arith, lh, sound.groups))) (counts_at held.market n) in
+    omega (arith, few, puts (counts_at held.market n), sound.agrees.loads n (omega (arith, sound.agrees.trees.nodes)), sound.sums g within, sound.small g within)

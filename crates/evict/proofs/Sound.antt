@@ -1,11 +1,11 @@
 -- Whole states, after a put and after a release.
-use Rattle.std.proofs.Common.{◌≡◌, ℕ, ◌+◌, ◌<◌, ◌≤◌, ◌^◌, ◌==◌, true, if◌then◌else◌, List, length, slice_index, slice_set, get_or-set_same, get_or-set_other, refl, sym, ap, ◌∙◌, subst, inl, inr, arith}
+use Rattle.std.proofs.Common.{◌≡◌, ℕ, ◌+◌, ◌-◌, ◌<◌, ◌≤◌, ◌^◌, ◌==◌, true, if◌then◌else◌, List, length, slice_index, slice_set, get_or-set_same, get_or-set_other, refl, sym, ap, ◌∙◌, subst, inl, inr, arith}
 use Rattle.std.proofs.Math.ListN.{length-set}
 use Rattle.std.proofs.lemmas.Bool.{cases_eq, eq-eqb, ne_eqb}
-use Rattle.capacity_tree.specs.Loads.{Loads, TakesUnits}
+use Rattle.capacity_tree.specs.Loads.{AddsUnits, Loads, TakesUnits}
 use Rattle.map_model.specs.Market.{Market, IsMarket, pool_of}
 use Rattle.map_model.specs.Allocation.{IsOffer, amount_at, is_under, placed}
-use Rattle.map_model.specs.Holding.{Takes}
+use Rattle.map_model.specs.Holding.{Puts, Takes}
 use Rattle.map_model.proofs.Shapes.{shape_sym}
 use Rattle.map_model.proofs.Paths.{pool_there}
 use Rattle.map_model.proofs.Units.{amount-le-placed}
@@ -14,6 +14,7 @@ use Rattle.evict.specs.declared.freed.Eviction.{Eviction}
 use Rattle.evict.specs.Evictions.{freed_units}
 use Rattle.evict.specs.Putting.{AgreesWith, IsRelieved, IsSound}
 use Rattle.evict.proofs.Done.{agrees-shape}
+use Rattle.evict.proofs.Placing.{agrees-put}
 use Rattle.evict.proofs.Relieving.{agrees-take, taken_fits}
 
 -- a whole state after a put
@@ -66,4 +67,45 @@ sound_release held held' tree tree' free totals g k units pool now sound same ta
           let none : (if g == h then units else 0) ≡ 0 = rw (ne_eqb g h ne) refl in
           let at : slice_index (slice_set free g now) h ≡ slice_index free h = get_or-set_other free g h now 0 (λ e. ne (sym e)) in
           omega (arith, takes (λ x _. x == h), sound.sums h l)
+    ]
+
+-- there is room for free units of a group beside what it holds
+pub grant_held : (held : Holdings) (tree : Loads) (free totals : List ℕ) (g k units : ℕ) → IsSound held tree free totals → g < length free → units ≤ slice_index free g → amount_at held.lines g k + units < 2 ^ 32
+grant_held held tree free totals g k units sound within some = omega (arith, sound.sums g within, sound.small g within, amount-le-placed held.lines g k)
+
+-- what a group holds with some of its free units is still few
+pub grant_placed : (held held' : Holdings) (tree : Loads) (free totals : List ℕ) (g k units : ℕ) → IsSound held tree free totals → Puts held.lines held'.lines g k units → g < length free → units ≤ slice_index free g → (h : ℕ) → h < length free → placed held'.lines h < 2 ^ 32
+grant_placed held held' tree free totals g k units sound puts within some h l = elim (cases_eq g h) [
+  | inl e ↦
+      let one : (if g == h then units else 0) ≡ units = rw (eq-eqb g h e) refl in
+      omega (arith, puts (λ x _. x == h), one, ap (slice_index free) e, sound.sums h l, sound.small h l)
+  | inr ne ↦
+      let none : (if g == h then units else 0) ≡ 0 = rw (ne_eqb g h ne) refl in
+      omega (arith, puts (λ x _. x == h), none, sound.sums h l, sound.small h l)
+]
+
+-- a whole state after a grant
+pub sound_grant : (held held' : Holdings) (tree tree' : Loads) (free totals : List ℕ) (g k units pool now : ℕ) → IsSound held tree free totals → held'.market ≡ held.market → Puts held.lines held'.lines g k units → pool ≡ pool_of held.market g k → AddsUnits tree tree' pool units
+    → g < length free → units ≤ slice_index free g → now ≡ slice_index free g - units → IsSound held' tree' (slice_set free g now) totals
+sound_grant held held' tree tree' free totals g k units pool now sound same puts is added within some made = record {
+  market = subst (λ (x : Market). IsMarket x) (sym same) sound.market;
+  agrees = subst (λ (x : Market). AgreesWith x held'.lines tree') (sym same)
+      (agrees-put held.market held.lines held'.lines tree tree' g k units sound.agrees puts (subst (λ x. AddsUnits tree tree' x units) is added));
+  groups = ap (λ (x : Market). length x.groups) same ∙ sound.groups ∙ sym (length-set free g now);
+  count = sound.count ∙ sym (length-set free g now);
+  sums = λ h l. sum h (omega (arith, length-set free g now));
+  small = λ h l. sound.small h (omega (arith, length-set free g now));
+}
+  where
+    sum : (h : ℕ) → h < length free → placed held'.lines h + slice_index (slice_set free g now) h ≡ slice_index totals h
+    sum h l = elim (cases_eq g h) [
+      | inl e ↦
+          let one : (if g == h then units else 0) ≡ units = rw (eq-eqb g h e) refl in
+          let at : slice_index (slice_set free g now) h ≡ now = ap (slice_index (slice_set free g now)) (sym e) ∙ get_or-set_same free g now 0 within in
+          let was : slice_index free g ≡ slice_index free h = ap (slice_index free) e in
+          omega (arith, puts (λ x _. x == h), sound.sums h l)
+      | inr ne ↦
+          let none : (if g == h then units else 0) ≡ 0 = rw (ne_eqb g h ne) refl in
+          let at : slice_index (slice_set free g now) h ≡ slice_index free h = get_or-set_other free g h now 0 (λ e. ne (sym e)) in
+          omega (arith, puts (λ x _. x == h), sound.sums h l)
     ]

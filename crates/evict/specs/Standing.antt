@@ -1,10 +1,10 @@
 -- States, and what each of their calls asks and gives.
-use Rattle.std.specs.Prelude.{◌≡◌, ℕ, ◌+◌, ◌<◌, ◌≤◌, ◌^◌, Bool, nat_lt, ◌==◌, if◌then◌else◌, List, [], length, All, IsSome, IsTrue, slice_index, slice_set}
+use Rattle.std.specs.Prelude.{◌≡◌, ℕ, ◌+◌, ◌-◌, ◌<◌, ◌≤◌, ◌^◌, Bool, nat_lt, ◌==◌, if◌then◌else◌, List, [], length, All, IsSome, IsTrue, slice_index, slice_set}
 use Rattle.map_model.specs.declared.instance.Key.{Key}
 use Rattle.map_model.specs.declared.lines.MapLine.{MapLine}
-use Rattle.map_model.specs.Market.{Market, IsMarket, IsSameShape, capacity_of, choices_of, limit_of}
-use Rattle.map_model.specs.Allocation.{AreLines, IsOffer, amount_at, counts_at, is_full_of_better, is_under, is_wanted, load, refusing_node, units_of}
-use Rattle.map_model.specs.Holding.{IsWorst, Takes}
+use Rattle.map_model.specs.Market.{Market, IsMarket, IsSameShape, capacity_of, choices_of, demand_of, limit_of}
+use Rattle.map_model.specs.Allocation.{AreLines, IsOffer, amount_at, counts_at, is_full_of_better, is_under, is_wanted, load, placed, refusing_node, units_of}
+use Rattle.map_model.specs.Holding.{IsWorst, Puts, Takes}
 use Rattle.map_model.specs.Progress.{IsResumable}
 use Rattle.evict.specs.declared.freed.Eviction.{Eviction}
 use Rattle.evict.specs.declared.rival.Rival.{Rival}
@@ -24,6 +24,20 @@ pub record IsReady (m : Market) (state : Standing) : Type 0 where
   pub whole : IsTrue state.is_whole
   pub shape : IsSameShape state.market m
   pub resumable : IsResumable m state.lines state.pointers state.free
+
+-- All that a resumable state has, but that places before a pointer need not be refused.
+pub record IsOpen (m : Market) (state : Standing) : Type 0 where
+  pub market : IsMarket m
+  pub whole : IsTrue state.is_whole
+  pub shape : IsSameShape state.market m
+  pub form : AreLines m state.lines
+  pub pointers_for : length state.pointers ≡ length m.groups
+  pub free_for : length state.free ≡ length m.groups
+  pub capacities : (n : ℕ) → n < length m.nodes → load m state.lines n ≤ capacity_of m n
+  pub limits : (g k : ℕ) → IsOffer m g k → amount_at state.lines g k ≤ limit_of m g k
+  pub totals : (g : ℕ) → g < length m.groups → placed state.lines g + slice_index state.free g ≡ demand_of m g
+  pub in_list : (g : ℕ) → g < length m.groups → slice_index state.pointers g ≤ length (choices_of m g)
+  pub none_past : (g k : ℕ) → IsOffer m g k → slice_index state.pointers g < k → amount_at state.lines g k ≡ 0
 
 -- who refuses an offer may be asked: the state is whole, and the instance differs from its own in demands and capacities alone
 pub record CanAsk (m : Market) (state : Standing) (g k : ℕ) : Type 0 where
@@ -118,4 +132,20 @@ pub record IsReleased (old new : Standing) (g k units : ℕ) : Type 0 where
   pub form : AreLines new.market new.lines
   pub lines : Takes old.lines new.lines g k units
   pub free : new.free ≡ slice_set old.free g (slice_index old.free g + units)
+  pub pointers : new.pointers ≡ old.pointers
+
+-- free units of a group may be held at a place of its list: the state is whole, and the group has them free
+pub record CanGrant (state : Standing) (g k units : ℕ) : Type 0 where
+  pub whole : IsTrue state.is_whole
+  pub offer : IsOffer state.market g k
+  pub group : g < length state.free
+  pub free : units ≤ slice_index state.free g
+
+-- free units of a group are held at a place, and nothing else changed
+pub record IsGranted (old new : Standing) (g k units : ℕ) : Type 0 where
+  pub market : new.market ≡ old.market
+  pub whole : IsTrue new.is_whole
+  pub form : AreLines new.market new.lines
+  pub lines : Puts old.lines new.lines g k units
+  pub free : new.free ≡ slice_set old.free g (slice_index old.free g - units)
   pub pointers : new.pointers ≡ old.pointers

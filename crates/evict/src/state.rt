@@ -5,7 +5,7 @@ ghost use Rattle.map_model.specs.Market.{demand_of};
 ghost use Rattle.map_model.specs.Progress.{root_of};
 ghost use Rattle.map_model.specs.Allocation.{AreLines, IsGood, IsOffer, amount_at, load, placed, refuser_of};
 ghost use Rattle.map_model.specs.Holding.{IsWorst};
-ghost use Rattle.evict.specs.Standing.{CanAsk, CanPut, CanRelease, CanShift, HasNoRival, IsFresh, IsOfMap, IsPut, IsReleased, IsRival, IsShifted, Standing};
+ghost use Rattle.evict.specs.Standing.{CanAsk, CanGrant, CanPut, CanRelease, CanShift, HasNoRival, IsFresh, IsGranted, IsOfMap, IsPut, IsReleased, IsRival, IsShifted, Standing};
 
 use crate::freed::Freed;
 use crate::loading::{load_lines, wanted_counts};
@@ -257,6 +257,24 @@ impl State {
         self.held.take(offer, units);
         self.tree.take(pool, units);
         self.free[offer.group.0 as usize] += units;
+    }
+
+    /// Holds free units of a group at a place of its list, whatever the capacities.
+    ///
+    /// # Errors
+    ///
+    /// `NoMemory`; the state is not whole then.
+    pub fn grant(&mut self, offer: Offer, units: Units) -> Result<(), NoMemory>
+        requires { CanGrant self.old offer.group.0 offer.place units }
+        ensures { OnOk result (IsGranted self.old self.new offer.group.0 offer.place units) }
+    {
+        let pool = self.held.pool_at(offer);
+        self.whole = false;
+        self.held.put(offer, units)?;
+        self.tree.add(pool, units);
+        self.free[offer.group.0 as usize] -= units;
+        self.whole = true;
+        Ok(())
     }
 
     /// Moves held units of an offer to another place of its group's list, whatever the capacities.

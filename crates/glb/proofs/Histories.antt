@@ -66,5 +66,5 @@ texts_of t turns fed then [] past first rest maps before after old new put run =
     let c = came.1.0 in
     course_texts first rest maps before (record after { pace = run.0.calls }) c old new put (all_texts came.0 (start before.newest) c refl came.1.1) came.1.2
 texts_of t turns fed then (m ∷ more) past first rest maps before after old new put run =
-    let worked = together_worked t turns (fed ∷ map (λ (x : FeedTold). x.fed) (m ∷ more)) (then ∷ map (λ (x : FeedTold). x.fed) past) before after run in
+    let worked = together_worked t turns fed then (m ∷ more) past before after run in
     course_texts first rest maps before (record after { pace = run.run.calls }) worked.course old new put (all_work_texts run.items (start before.newest) worked.course refl worked.works) worked.told

@@ -20,7 +20,7 @@ use Rattle.mapper.specs.Feeding.{IsFeed}
 use Rattle.mapper.specs.Items.{AllWork, WorksAs}
 use Rattle.mapper.specs.Scenes.{Scene}
 use Rattle.mapper.specs.Words.{map_text}
-use Rattle.drive.specs.Feeds.{AreFed, AreFedTogether, AreSent, FeedTold}
+use Rattle.drive.specs.Feeds.{AreFed, AreFedTogether, AreSent, FeedTold, feeds_of}
 use Rattle.glb.specs.Causes.{AnyFeed, HasGiven, HasGivenMore}
 
 same_number : (n : ℕ) → (n == n) ≡ true
@@ -132,17 +132,17 @@ among zero (suc n) = inl (omega arith)
 among (suc k) (suc n) = elim (among k n) [ inl h ↦ inl (omega (arith, h)) | inr h ↦ inr (omega (arith, h)) ]
 
 -- several feeds of which one took all its turns
-together_gave : (t : Plan) (turns : ℕ) (end : FeedEnd) (before after : List (Option Fed)) (start stop : Scene) → end ≡ ends.Spent → AreFedTogether t turns end before after start stop → AnyGave turns before after
-together_gave t turns end before after start stop is f = go (elim f.run.ended [ inl h ↦ sym is ∙ h.0 | inr h ↦ let clash : ends.Spent ≡ ends.SinkFault = sym is ∙ h.0 in absurd (cc) ])
+together_gave : (t : Plan) (turns : ℕ) (end : FeedEnd) (fed fed' : Option Fed) (more after : List FeedTold) (start stop : Scene) → end ≡ ends.Spent → AreFedTogether t turns end fed fed' more after start stop → AnyGave turns (feeds_of fed more) (feeds_of fed' after)
+together_gave t turns end fed fed' more after start stop is f = go (elim f.run.ended [ inl h ↦ sym is ∙ h.0 | inr h ↦ let clash : ends.Spent ≡ ends.SinkFault = sym is ∙ h.0 in absurd (cc) ])
   where
-    go : ends.Spent ≡ first_end f.items → AnyGave turns before after
+    go : ends.Spent ≡ first_end f.items → AnyGave turns (feeds_of fed more) (feeds_of fed' after)
     go h =
         let one = one_sent is_spent f.items (first_spent f.items h) in
         by_number one.0 one.1
       where
-        by_number : (k : ℕ) → list_any is_spent (sent_by k f.items) ≡ true → AnyGave turns before after
-        by_number k some = elim (among k (length before)) [
-          | inl lt ↦ any_gave t turns 0 k f.sent before after f.feeds lt (subst (λ (i : ℕ). list_any is_spent (f.sent i) ≡ true) (omega arith) (subst (λ (ws : List What). list_any is_spent ws ≡ true) (f.whole k lt) some))
+        by_number : (k : ℕ) → list_any is_spent (sent_by k f.items) ≡ true → AnyGave turns (feeds_of fed more) (feeds_of fed' after)
+        by_number k some = elim (among k (length (feeds_of fed more))) [
+          | inl lt ↦ any_gave t turns 0 k f.sent (feeds_of fed more) (feeds_of fed' after) f.feeds lt (subst (λ (i : ℕ). list_any is_spent (f.sent i) ≡ true) (omega arith) (subst (λ (ws : List What). list_any is_spent ws ≡ true) (f.whole k lt) some))
           | inr ge ↦ let none : list_any is_spent [] ≡ true = subst (λ (ws : List What). list_any is_spent ws ≡ true) (f.others k ge) some in absurd (cc)
         ]
 
@@ -170,8 +170,8 @@ all_work_texts [] c d texts h = rw h texts
 all_work_texts (x ∷ xs) c d texts h = all_work_texts xs h.0 d (works_texts (Some x.feeder) x.what c h.0 texts h.1) h.2
 
 -- what came of several feeds that ended
-pub together_worked : (t : Plan) (turns : ℕ) (before after : List (Option Fed)) (start stop : Scene) → (f : AreFedTogether t turns ends.Ended before after start stop) → AllWorked f.items start (record stop { pace = f.run.calls })
-together_worked t turns before after start stop f = elim f.run.ended [ inl h ↦ h.1 | inr h ↦ let clash = h.0 in absurd (cc) ]
+pub together_worked : (t : Plan) (turns : ℕ) (fed fed' : Option Fed) (more after : List FeedTold) (start stop : Scene) → (f : AreFedTogether t turns ends.Ended fed fed' more after start stop) → AllWorked f.items start (record stop { pace = f.run.calls })
+together_worked t turns fed fed' more after start stop f = elim f.run.ended [ inl h ↦ h.1 | inr h ↦ let clash = h.0 in absurd (cc) ]
 
 -- what a run over a feed gave that was spent
 given_of : (t : Plan) (turns : ℕ) (end : FeedEnd) (fed fed' : Option Fed) (before after : Scene) → end ≡ ends.Spent → IsFeed t turns end fed fed' before after → HasGiven turns fed fed'
@@ -185,7 +185,7 @@ given_of t turns ends.NoMemory fed fed' before after is f = absurd (cc)
 pub fed_given : (t : Plan) (turns : ℕ) (end : FeedEnd) (fed fed' : Option Fed) (more after : List FeedTold) (start stop : Scene) → end ≡ ends.Spent
     → AreFed t turns end fed more fed' after start stop → HasGiven turns fed fed' ⊎ AnyFeed (length more) (HasGivenMore turns) more after
 fed_given t turns end fed fed' [] after start stop is h = inl (given_of t turns end fed fed' start stop is h.0)
-fed_given t turns end fed fed' (m ∷ more) after start stop is h = elim (together_gave t turns end (fed ∷ map (λ (x : FeedTold). x.fed) (m ∷ more)) (fed' ∷ map (λ (x : FeedTold). x.fed) after) start stop is h) [
+fed_given t turns end fed fed' (m ∷ more) after start stop is h = elim (together_gave t turns end fed fed' (m ∷ more) after start stop is h) [
   | inl own ↦ inl own
   | inr others ↦ inr (any_of turns (m ∷ more) after others)
 ]

@@ -109,6 +109,7 @@ stream_well_done turns first rest w b c e d well =
       ended = d.served;
       shown = d.shown;
       runs = λ s none. let r = d.runs s none in (r.0, r.1, r.2, subst (λ h. IsStreamRun stream_replies h w 0 0 r.0 (entries_of stream_replies.way (lane_of d.log)) (tries_of (lane_of d.log))) newest.same r.3);
+      rules = d.rules;
       told = d.line.told;
       notes = d.line.notes;
       noted = newest.noted;

@@ -20,10 +20,10 @@ use Rattle.drive.specs.Feeds.{AreFed}
 use Rattle.glb.specs.Words.{Service}
 use Rattle.addr_text.specs.declared.address.Listen.{Listen}
 use Rattle.outside.specs.Streams.{StreamsTold, Talk}
-use Rattle.tcp_lane.specs.Calls.{IsStreamEnd}
+use Rattle.tcp_lane.specs.Calls.{AreRuled, IsStreamEnd}
 use Rattle.tcp_lane.specs.Replies.{stream_replies}
 use Rattle.tcp_lane.specs.Stream.{IsStreamRun}
-use Rattle.tcp_lane.specs.Turns.{StreamTurn, closing_if, lane_of, lead_of, stream_turn}
+use Rattle.tcp_lane.specs.Turns.{Line, StreamTurn, closing_if, lane_of, lead_of, no_line, stream_turn}
 use Rattle.glb.specs.Told.{Stage, Surroundings}
 use Rattle.glb.specs.Files.{Says, topology_file}
 use Rattle.glb.specs.Serve.{IsFirstOf, IsPlaced, IsStarted}
@@ -51,7 +51,7 @@ AreWellDone turns history w zero before after = after ≡ before
 AreWellDone turns history w (suc n) (b ∷ before) (c ∷ after) = IsWellDone turns history w b c × AreWellDone turns history (w + 1) n before after
 AreWellDone turns history w (suc n) _ _ = ⊥
 
--- A lane for conversations that ended well: in each turn its gate was asked and then its streams, whose count of faults rose by at least as many as their calls failed, and stands where none did; whatever the streams told before, the conversations that they tell of by then are a stream run over the history, from versions no older than what the lane had used or was told of; it was given the notes of the first versions, as many as the lane tells, in their order, each once; what its gate was shown last is no less than what was known by then; and it went on until its streams' end or its gate's stop.
+-- A lane for conversations that ended well: in each turn its gate was asked and then its streams, whose count of faults rose by at least as many as their calls failed, and stands where none did; whatever the streams told before, the conversations that they tell of by then are a stream run over the history, from versions no older than what the lane had used or was told of; its turns follow the rules of conversations, by which each message that was read is taken, and has its reply, but behind a write that failed; it was given the notes of the first versions, as many as the lane tells, in their order, each once; what its gate was shown last is no less than what was known by then; and it went on until its streams' end or its gate's stop.
 pub record IsStreamWellDone (turns : ℕ) (history : List Version) (w : ℕ) (before after : StreamLaneTold) : Type 0 where
   pub log : List StreamTurn
   pub closes : Bool
@@ -59,6 +59,7 @@ pub record IsStreamWellDone (turns : ℕ) (history : List Version) (w : ℕ) (be
   pub shown : ℕ
   pub runs : (b : StreamsTold) → b.current ≡ None
       → (talks : List Talk) × ((closing_if closes (fold stream_turn b log)).closed ≡ b.closed ++ talks) × ((closing_if closes (fold stream_turn b log)).current ≡ None) × IsStreamRun stream_replies history w 0 0 talks (entries_of stream_replies.way (lane_of log)) (tries_of (lane_of log))
+  pub rules : (line : Line) × AreRuled no_line log line × (closes ≡ line.is_open)
   pub told : IsTold 0 (lane_of log)
   pub notes : flat_map (λ t. t.notes) (lane_of log) ≡ range_with_len 0 after.noted
   pub noted : after.noted ≤ length history

@@ -5,7 +5,7 @@
 //! the C library wants them. That a descriptor is what the environment says of it has to be trusted.
 #![tactic(auto)]
 
-ghost use Rattle.std.specs.Prelude.{◌≡◌, ◌+◌, ◌≤◌, ◌≤ℤ◌, IfSome, pos};
+ghost use Rattle.std.specs.Prelude.{◌≡◌, ◌+◌, ◌<◌, ◌≤◌, ◌≤ℤ◌, IfSome, pos};
 
 use libc::net as c;
 use os::FromRawFd;
@@ -41,6 +41,7 @@ pub fn handed_in() -> u32
 /// The descriptor of that number, if it was handed in.
 fn descriptor(number: u32) -> Option<i32>
     ensures place { IfSome result (λ fd. fd ≡ pos (3 + number)) }
+    ensures few { IfSome result (λ fd. number < 64) }
     ensures valid { IfSome result (λ fd. pos 0 ≤ℤ fd) }
 {
     if number < handed_in() {

@@ -1,5 +1,5 @@
 -- A repaired map is determined by the old instance, the old map and the new instance.
-use Rattle.std.proofs.Common.{◌≡◌, ℕ, ◌<◌, Bool, true, false, List, length, refl, slice_index, slice_index_or, sym, ap, ◌∙◌, subst, inl, inr}
+use Rattle.std.proofs.Common.{◌≡◌, ℕ, ◌<◌, Bool, true, false, List, length, slice_index, slice_index_or, sym, ap, ◌∙◌, subst, inl, inr}
 use Rattle.std.proofs.lemmas.Bool.{cases_Bool}
 use Rattle.map_model.specs.declared.lines.MapLine.{MapLine}
 use Rattle.map_model.specs.declared.lines.NameLine.{NameLine}
@@ -7,12 +7,17 @@ use Rattle.map_model.specs.Market.{Market}
 use Rattle.map_model.specs.Allocation.{IsGood, IsStable, names_of}
 use Rattle.map_model.specs.Progress.{IsReached, tree_of}
 use Rattle.evict.specs.Standing.{IsPastWanted, Standing}
+use Rattle.best_laws.specs.Ahead.{IsRightMap}
+use Rattle.reopen.specs.Rolling.{IsRolledBack}
+use Rattle.deferred_accept.proofs.Many.{ready_many}
 use Rattle.agree_laws.specs.Below.{IsBestBelow}
 use Rattle.agree_laws.proofs.Backs.{MarkSame, back_lines_one, backs_one, past_one}
 use Rattle.agree_laws.proofs.Cuts.{cut_one}
-use Rattle.agree_laws.proofs.Ends.{best_below, best_below_from, best_below_one}
+use Rattle.agree_laws.proofs.Ends.{best_below, best_below_from, best_below_one, right_of}
+use Rattle.circle_laws.proofs.Best.{best_below_if_best}
 use Rattle.map_repair.specs.Determined.{IsRepairedOf}
-use Rattle.map_repair.specs.Repaired.{IsStateOf}
+use Rattle.map_repair.proofs.Back.{rolled_back_exists}
+use Rattle.map_repair.proofs.Below.{within_back}
 use Rattle.map_repair.specs.Resumed.{HasRepaired, HasResumed}
 
 both_true : (b c : Bool) → (b ≡ true → c ≡ true) → (c ≡ true → b ≡ true) → b ≡ c
@@ -51,28 +56,36 @@ repaired_of_one old lines new a b groups x y = best_below_one new y.rolled_back.
     moved : IsBestBelow new y.back.lines y.back.pointers a
     moved = best_below_from new x.back.lines y.back.lines x.back.pointers y.back.pointers a (back_lines_one new x.marks y.marks x.cut y.cut x.back y.back marks cut places x.rolled_back y.rolled_back) (backs_one new x.marks y.marks x.cut y.cut x.back y.back marks places x.rolled_back y.rolled_back) x.best
 
--- what a resumed state holds is that map
-pub resumed_is : (old : Market) (from : Standing) (new : Market) (to : Standing) (before after : ℕ) → IsStateOf old from → HasResumed old from new to before after → IsStable new to.lines → IsRepairedOf old from.lines new to.lines
-resumed_is old from new to before after of_map r stable = record {
-  from = from;
-  of_map = of_map;
-  holds = refl;
-  marks = r.marks;
-  reached = r.reached;
-  all_reached = r.all_reached;
-  cut = r.cut;
-  is_cut = r.is_cut;
-  back = r.back;
-  rolled_back = r.rolled_back;
-  best = best_below new r.proposed.count r.back to r.rolled_back.ready r.proposed.proposals stable;
-}
+-- What a resumed state holds is that map: a group-best one is the best of those within the state that groups would go back to.
+pub resumed_is : (old : Market) (lines : List MapLine) (new : Market) (to : Standing) (before after : ℕ) → HasResumed old lines new to before after → IsStable new to.lines → IsRepairedOf old lines new to.lines
+resumed_is old lines new to before after r stable = elim r.way [
+  | inl w ↦ is_of w.back w.rolled_back (best_below new w.proposed.count w.back to w.rolled_back.ready w.proposed.proposals stable)
+  | inr w ↦
+      let b : (back : Standing) × IsRolledBack new r.marks r.cut back = rolled_back_exists new r.marks r.cut r.can_go_back in
+      let right : IsRightMap new to.lines = right_of new to (ready_many new w.proposed.count w.moved to w.ready w.proposed.proposals) stable in
+      is_of b.0 b.1 (best_below_if_best new b.0.lines b.0.pointers to.lines right (within_back new r.marks r.cut w.moved b.0 w.is_moved b.1 to before after w.ready w.proposed) w.best)
+]
+  where
+    is_of : (back : Standing) → IsRolledBack new r.marks r.cut back → IsBestBelow new back.lines back.pointers to.lines → IsRepairedOf old lines new to.lines
+    is_of back rolled_back best = record {
+      from = r.from;
+      of_map = r.of_map;
+      holds = r.holds;
+      marks = r.marks;
+      reached = r.reached;
+      all_reached = r.all_reached;
+      cut = r.cut;
+      is_cut = r.is_cut;
+      back = back;
+      rolled_back = rolled_back;
+      best = best;
+    }
 
 -- what a repair comes to is that map
 pub repaired_is : (old : Market) (lines : List MapLine) (new : Market) (repaired : List MapLine) (before after : ℕ) → HasRepaired old lines new repaired before after → IsStable new repaired → IsRepairedOf old lines new repaired
 repaired_is old lines new repaired before after x stable =
     let to : IsStable new x.to.lines = subst (λ (ls : List MapLine). IsStable new ls) (sym x.makes) stable in
-    let held : IsRepairedOf old x.from.lines new x.to.lines = resumed_is old x.from new x.to before after x.of_map x.resumed to in
-    subst (λ (ls : List MapLine). IsRepairedOf old ls new repaired) x.holds (subst (λ (ls : List MapLine). IsRepairedOf old x.from.lines new ls) x.makes held)
+    subst (λ (ls : List MapLine). IsRepairedOf old lines new ls) x.makes (resumed_is old lines new x.to before after x.resumed to)
 
 -- so two repairs of one map for the same numbers, in whatever order offers were made, come to the same lines and names
 pub repaired_one : (old : Market) (lines : List MapLine) (new : Market) (a b : List MapLine) (of_a of_b : List NameLine) (before after was now : ℕ) → length new.groups ≡ length old.groups → HasRepaired old lines new a before after → HasRepaired old lines new b was now

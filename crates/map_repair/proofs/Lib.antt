@@ -1,5 +1,7 @@
 pub mod Marking
-pub mod Listing
 pub mod Middle
 pub mod Spread
+pub mod Back
+pub mod Below
 pub mod Agree
+pub mod Ways

@@ -7,28 +7,15 @@ use Rattle.std.proofs.lemmas.List.Elements.{All-push, Contains-append_left, Cont
 use Rattle.std.proofs.lemmas.List.Sums.{sum_by-set}
 use Rattle.map_model.specs.declared.instance.NodeId.{NodeId}
 use Rattle.map_model.specs.declared.lines.MapLine.{MapLine}
-use Rattle.map_model.specs.Market.{Market, choice_at, pool_of}
+use Rattle.map_model.specs.Market.{Market, IsMarket, pool_of}
 use Rattle.map_model.specs.Progress.{root_of, tree_of}
-use Rattle.map_model.specs.Allocation.{IsOffer}
 use Rattle.map_model.proofs.Paths.{pool_there}
-use Rattle.map_model.proofs.Roots.{root-there}
-use Rattle.map_model.proofs.Shapes.{root_of-shape}
 use Rattle.evict.specs.Standing.{IsReady, Standing}
 use Rattle.reopen.specs.Cutting.{CanCut}
-use Rattle.map_repair.specs.Marks.{AreDone, HoldsInMarked, IsClosedForAll, IsMarking, IsPending, IsSettled, Marking, is_on, left_of, unmarked}
+use Rattle.map_repair.specs.Marks.{AreDone, AreMarkedTo, HoldsInMarked, IsClosedForAll, IsMarking, IsPending, IsSettled, Marking, is_on, left_of, unmarked}
 
 pub can_of_ready : (m : Market) (s : Standing) → IsReady m s → CanCut m s
 can_of_ready m s ready = record { market = ready.market; whole = ready.whole; shape = ready.shape; form = ready.resumable.form; count = ready.resumable.free_for }
-
--- the root of a node, as a state tells it
-pub root_in : (m : Market) (s : Standing) → IsReady m s → (n r : ℕ) → n < length m.nodes → r ≡ root_of s.market n → (r ≡ root_of m n) × (r < length m.nodes)
-root_in m s ready n r there is =
-    let at : r ≡ root_of m n = is ∙ sym (root_of-shape s.market m ready.shape n) in
-    (at, omega (arith, at, root-there m ready.market n there))
-
--- and the root of an offer's pool
-pub tree_in : (m : Market) (s : Standing) → IsReady m s → (g k : ℕ) (pool : NodeId) (r : ℕ) → IsOffer m g k → pool ≡ (choice_at m g k).pool → r ≡ root_of s.market pool.0 → (r ≡ tree_of m g k) × (r < length m.nodes)
-tree_in m s ready g k pool r o at is = root_in m s ready (pool_of m g k) r (pool_there m ready.market g k o) (is ∙ ap (λ (p : NodeId). root_of s.market p.0) at)
 
 -- no mark came
 pub marking_none : (a : Marking) → IsMarking a a
@@ -119,6 +106,14 @@ closed_all m s a none all g l k j ok before on oj some = elim (all (tree_of m g 
   where
     nothing : {x : NodeId} → Contains [] x → ⊥
     nothing (i, l, e) = absurd (omega (arith, l))
+
+-- so are marks at each tree
+pub closed_whole : (m : Market) (s : Standing) (on : List Bool) → IsMarket m → AreMarkedTo m on (length m.nodes) → IsClosedForAll m s (λ n. is_on on n)
+closed_whole m s on market all g l k j ok before there oj some = all (pool_of m g j) (pool_there m market g j oj)
+
+-- marks at the trees of the nodes before one stay as marks come
+pub marked_on : (m : Market) (a b : Marking) (end : ℕ) → IsMarking a b → AreMarkedTo m a.on end → AreMarkedTo m b.on end
+marked_on m a b end marking all n l = marking.kept (root_of m n) (all n l)
 
 -- the next one to be looked at is taken out
 pub pending_rest : (ps rest : List NodeId) (r : NodeId) (n : ℕ) → ps ≡ rest ++ r ∷ [] → Contains ps (record { 0 = n }) → Contains rest (record { 0 = n }) ⊎ (n ≡ r.0)

@@ -66,6 +66,13 @@ pub record IsMiddle (old new : Market) (s mid : Standing) (marks : List Bool) : 
   pub reached : AreReached old s.lines new marks
   pub cut : IsCut new s mid
 
+-- A state was opened in marked trees alone: it is resumable, and each place before a pointer is wanted. In all other trees offers hold what they held, and a group with no place in a marked tree before its pointer keeps that.
+pub record IsReopened (m : Market) (marks : List Bool) (from to : Standing) : Type 0 where
+  pub ready : IsReady m to
+  pub wanted : WantsBefore m to
+  pub units : (test : ℕ → ℕ → Bool) → ((g k : ℕ) → IsOffer m g k → test g k ≡ true → is_on marks (tree_of m g k) ≡ false) → units_of test to.lines ≡ units_of test from.lines
+  pub pointers : (g : ℕ) → g < length m.groups → ((k : ℕ) → k < slice_index from.pointers g → is_on marks (tree_of m g k) ≡ false) → slice_index to.pointers g ≡ slice_index from.pointers g
+
 module _ (old new : Market) (s mid : Standing) (marks : List Bool) (k0 : IsMiddle old new s mid marks) where
   back : IsSameShape new old
   back = shape_sym old new k0.shape
@@ -141,32 +148,11 @@ module _ (old new : Market) (s mid : Standing) (marks : List Bool) (k0 : IsMiddl
       }
 
   module _ (rolled : Standing) (rb : IsRolledBack new marks mid rolled) where
-    -- a group with no marked place before its pointer keeps its pointer
-    stays_at : (g : ℕ) → g < length old.groups → ((k : ℕ) → IsOffer old g k → k < slice_index s.pointers g → is_on marks (tree_of old g k) ≡ true → ⊥) → slice_index rolled.pointers g ≡ slice_index s.pointers g
-    stays_at g l off =
-        let b = rb.pointers g (omega (arith, l, k0.shape.groups)) in
-        elim (cases_lt (slice_index rolled.pointers g) (slice_index mid.pointers g)) [
-          | inr kept ↦ omega (arith, kept, b.within, pointer_same g)
-          | inl less ↦
-              let p : ℕ = slice_index rolled.pointers g in
-              let before : p < slice_index s.pointers g = omega (arith, less, pointer_same g) in
-              let o : IsOffer old g p = record { group = l; place = omega (arith, before, k0.of.ready.resumable.in_list g l) } in
-              absurd (off p o before (ap (is_on marks) (sym (same_tree g p)) ∙ b.at less))
-        ]
-
     fewer : (test : ℕ → ℕ → Bool) → units_of test rolled.lines ≤ units_of test s.lines
     fewer test = omega (arith, rb.units test, units_of-le (λ g k. test g k && nat_le k (slice_index rolled.pointers g)) test (λ g k t. (and_parts (test g k) (nat_le k (slice_index rolled.pointers g)) t).0) mid.lines, k0.cut.less.fewer test)
 
-    -- A group with no old wanted place in a reached tree is not moved up.
-    pub kept : (final : Standing) → HasRun new rolled final → IsKept old s.lines new final.lines
-    kept final run g k o unreached wanted =
-        let p = k0.of.pointers g o.group in
-        let before : k < slice_index s.pointers g = ltb-true k (slice_index s.pointers g) (sym (p.wanted k o) ∙ wanted) in
-        let at = stays_at g o.group (λ j oj bj on. unreached j oj (wanted_before g j oj bj) (k0.reached.least (tree_of old g j) on)) in
-        omega (arith, run.through g k (to_new g k o) (omega (arith, before, at)), fewer (λ h j. (h == g) && nat_le j k))
-
     -- each place before a pointer is still wanted
-    pub wants_rolled : WantsBefore new rolled
+    wants_rolled : WantsBefore new rolled
     wants_rolled g k o below =
         let ok : IsOffer old g k = to_old g k o in
         let b = rb.pointers g o.group in
@@ -193,9 +179,80 @@ module _ (old new : Market) (s mid : Standing) (marks : List Bool) (k0 : IsMiddl
               absurd (false≢true (sym off ∙ ap (is_on marks) (same_tree g x.place) ∙ k0.reached.closed.lowered g (tree_of old g x.place) og.group less (x.place, og, refl, held)))
         ]
 
+    -- in trees that are not marked all offers hold what they held: a group that went back held units in marked trees alone
+    units_off : (test : ℕ → ℕ → Bool) → ((g k : ℕ) → IsOffer new g k → test g k ≡ true → is_on marks (tree_of new g k) ≡ false) → units_of test rolled.lines ≡ units_of test mid.lines
+    units_off test off =
+        rb.units test
+        ∙ units-agree (λ g k. test g k && nat_le k (slice_index rolled.pointers g)) test mid.lines (λ i d l. agree (get_or mid.lines i d) (offers-AreLines new mid.lines k0.cut.less.form i d l) (line-some new mid.lines k0.cut.less.form i d l))
+      where
+        low : (g k : ℕ) → IsOffer new g k → is_on marks (tree_of new g k) ≡ false → 0 < amount_at mid.lines g k → k ≤ slice_index rolled.pointers g
+        low g k o clear some =
+            let b = rb.pointers g o.group in
+            let p : ℕ = slice_index rolled.pointers g in
+            elim (cases_lt p (slice_index mid.pointers g)) [
+              | inl less ↦
+                  let op : IsOffer new g p = record { group = o.group; place = omega (arith, less, can_roll_back.in_list g o.group) } in
+                  absurd (false≢true (sym clear ∙ can_roll_back.closed g p k op less (b.at less) o some))
+              | inr kept ↦ elim (cases_lt (slice_index mid.pointers g) k) [
+                | inr l ↦ omega (arith, l, kept)
+                | inl past ↦ absurd (omega (arith, some, can_roll_back.none_past g k o past))
+              ]
+            ]
+
+        agree : (x : MapLine) → IsOffer new x.group.0 x.place → 0 < amount_at mid.lines x.group.0 x.place → (test x.group.0 x.place && nat_le x.place (slice_index rolled.pointers x.group.0)) ≡ test x.group.0 x.place
+        agree x o some = elim (cases_Bool (test x.group.0 x.place)) [
+          | inr n ↦ rw n refl
+          | inl y ↦
+              let within : nat_le x.place (slice_index rolled.pointers x.group.0) ≡ true = leb-from x.place (slice_index rolled.pointers x.group.0) (low x.group.0 x.place o (off x.group.0 x.place o y) some) in
+              rw (y, within) refl
+        ]
+
+    -- What is rolled back is opened in marked trees alone.
+    pub reopened_back : IsReopened new marks mid rolled
+    reopened_back = record {
+      ready = rb.ready;
+      wanted = wants_rolled;
+      units = λ test off. units_off test off;
+      pointers = λ g l off.
+          let b = rb.pointers g l in
+          elim (cases_lt (slice_index rolled.pointers g) (slice_index mid.pointers g)) [
+            | inr kept ↦ omega (arith, kept, b.within)
+            | inl less ↦ absurd (false≢true (sym (off (slice_index rolled.pointers g) less) ∙ b.at less))
+          ];
+    }
+
+  module _ (opened : Standing) (ro : IsReopened new marks mid opened) where
+    -- a group with no marked place before its pointer keeps its pointer
+    stays_at : (g : ℕ) → g < length old.groups → ((k : ℕ) → IsOffer old g k → k < slice_index s.pointers g → is_on marks (tree_of old g k) ≡ true → ⊥) → slice_index opened.pointers g ≡ slice_index s.pointers g
+    stays_at g l off = ro.pointers g (omega (arith, l, k0.shape.groups)) (λ k below. clear k (omega (arith, below, pointer_same g))) ∙ pointer_same g
+      where
+        clear : (k : ℕ) → k < slice_index s.pointers g → is_on marks (tree_of new g k) ≡ false
+        clear k below = elim (cases_Bool (is_on marks (tree_of old g k))) [
+          | inr n ↦ ap (is_on marks) (same_tree g k) ∙ n
+          | inl y ↦ absurd (off k (record { group = l; place = omega (arith, below, k0.of.ready.resumable.in_list g l) }) below y)
+        ]
+
+    -- A group with no old wanted place in a reached tree is not moved up.
+    pub kept : (final : Standing) → HasRun new opened final → IsKept old s.lines new final.lines
+    kept final run g k o unreached wanted =
+        let before : k < slice_index s.pointers g = ltb-true k (slice_index s.pointers g) (sym ((k0.of.pointers g o.group).wanted k o) ∙ wanted) in
+        let off : (j : ℕ) → IsOffer old g j → j < slice_index s.pointers g → is_on marks (tree_of old g j) ≡ true → ⊥ = λ j oj bj on. unreached j oj (wanted_before g j oj bj) (k0.reached.least (tree_of old g j) on) in
+        let at = stays_at g o.group off in
+        omega (arith, run.through g k (to_new g k o) (omega (arith, before, at)), same before off, k0.cut.less.fewer (λ h j. (h == g) && nat_le j k))
+      where
+        same : k < slice_index s.pointers g → ((j : ℕ) → IsOffer old g j → j < slice_index s.pointers g → is_on marks (tree_of old g j) ≡ true → ⊥) → placed_through opened.lines g k ≡ placed_through mid.lines g k
+        same before off = ro.units (λ h j. (h == g) && nat_le j k) (λ h j oh t.
+            let p = and_parts (h == g) (nat_le j k) t in
+            let e : h ≡ g = eqb-true h g p.0 in
+            let oj : IsOffer old g j = subst (λ x. IsOffer old x j) e (to_old h j oh) in
+            elim (cases_Bool (is_on marks (tree_of old g j))) [
+              | inr n ↦ ap (λ x. is_on marks (tree_of new x j)) e ∙ ap (is_on marks) (same_tree g j) ∙ n
+              | inl y ↦ absurd (off j oj (omega (arith, leb-true j k p.1, before)) y)
+            ])
+
     -- A run that ends from there leaves a state of its own map.
-    pub state_of : (final : Standing) → HasRun new rolled final → IsEnded new final.pointers final.free → (WantsBefore new rolled → WantsBefore new final) → IsStateOf new final
-    state_of final run ended wanted = record { ready = run.ready; pointers = past_of_ended new final run.ready ended (wanted wants_rolled) }
+    pub state_of : (final : Standing) → HasRun new opened final → IsEnded new final.pointers final.free → (WantsBefore new opened → WantsBefore new final) → IsStateOf new final
+    state_of final run ended wanted = record { ready = run.ready; pointers = past_of_ended new final run.ready ended (wanted ro.wanted) }
 
     module _ (trees : ℕ → Bool) (spread : IsClosedUnderSpread old s.lines new trees) where
       off_marks : (root : ℕ) → trees root ≡ false → is_on marks root ≡ false
@@ -205,34 +262,20 @@ module _ (old new : Market) (s mid : Standing) (marks : List Bool) (k0 : IsMiddl
       all_out : (g k j : ℕ) → IsOffer old g k → IsOffer old g j → trees (tree_of old g k) ≡ false → trees (tree_of old g j) ≡ false
       all_out g k j ok oj out = elim (cases_Bool (trees (tree_of old g j))) [ inr n ↦ n | inl y ↦ absurd (false≢true (sym out ∙ spread.lists g j k oj ok y)) ]
 
-      pointer_out : (g k : ℕ) → IsOffer old g k → trees (tree_of old g k) ≡ false → slice_index rolled.pointers g ≡ slice_index s.pointers g
+      pointer_out : (g k : ℕ) → IsOffer old g k → trees (tree_of old g k) ≡ false → slice_index opened.pointers g ≡ slice_index s.pointers g
       pointer_out g k o out = stays_at g o.group (λ j oj bj on. false≢true (sym (off_marks (tree_of old g j) (all_out g k j o oj out)) ∙ on))
 
       -- offers outside hold what they held
-      rolled_units : (test : ℕ → ℕ → Bool) → ((g k : ℕ) → IsOffer old g k → test g k ≡ true → trees (tree_of old g k) ≡ false) → units_of test rolled.lines ≡ units_of test s.lines
-      rolled_units test out =
-          rb.units test
-          ∙ units-agree (λ g k. test g k && nat_le k (slice_index rolled.pointers g)) test mid.lines (λ i d l. agree (get_or mid.lines i d) (to_old _ _ (offers-AreLines new mid.lines k0.cut.less.form i d l)) (line-some new mid.lines k0.cut.less.form i d l))
+      opened_units : (test : ℕ → ℕ → Bool) → ((g k : ℕ) → IsOffer old g k → test g k ≡ true → trees (tree_of old g k) ≡ false) → units_of test opened.lines ≡ units_of test s.lines
+      opened_units test out =
+          ro.units test (λ g k o t. ap (is_on marks) (same_tree g k) ∙ off_marks (tree_of old g k) (out g k (to_old g k o) t))
           ∙ still test (λ g k o t. off_marks (tree_of old g k) (out g k o t))
-        where
-          agree : (x : MapLine) → IsOffer old x.group.0 x.place → 0 < amount_at mid.lines x.group.0 x.place → (test x.group.0 x.place && nat_le x.place (slice_index rolled.pointers x.group.0)) ≡ test x.group.0 x.place
-          agree x o some = elim (cases_Bool (test x.group.0 x.place)) [
-            | inr n ↦ rw n refl
-            | inl y ↦
-                let at = pointer_out x.group.0 x.place o (out x.group.0 x.place o y) in
-                let low : x.place ≤ slice_index rolled.pointers x.group.0 = elim (cases_lt (slice_index s.pointers x.group.0) x.place) [
-                  | inr l ↦ omega (arith, l, at)
-                  | inl past ↦ absurd (omega (arith, some, can_roll_back.none_past x.group.0 x.place (to_new x.group.0 x.place o) (omega (arith, past, pointer_same x.group.0))))
-                ] in
-                let within : nat_le x.place (slice_index rolled.pointers x.group.0) ≡ true = leb-from x.place (slice_index rolled.pointers x.group.0) low in
-                rw (y, within) refl
-          ]
 
       first_offer : (g : ℕ) → g < length old.groups → IsOffer old g 0
       first_offer g l = record { group = l; place = omega (arith, (k0.of.ready.market.groups g (record { demand = 0; choices = [] }) l).asks) }
 
       -- the trees hold the work of the run to come
-      pub holds_work : HoldsWork new trees rolled
+      pub holds_work : HoldsWork new trees opened
       holds_work = record {
         lists = λ g k o.
             let ok : IsOffer old g k = to_old g k o in
@@ -247,7 +290,7 @@ module _ (old new : Market) (s mid : Standing) (marks : List Bool) (k0 : IsMiddl
             elim (cases_Bool (trees (tree_of old g 0))) [
               | inl y ↦ ap trees (same_tree g 0) ∙ y
               | inr out ↦
-                  let all : units_of (λ h _. h == g) rolled.lines ≡ units_of (λ h _. h == g) s.lines = rolled_units (λ h _. h == g) (λ h j o t.
+                  let all : units_of (λ h _. h == g) opened.lines ≡ units_of (λ h _. h == g) s.lines = opened_units (λ h _. h == g) (λ h j o t.
                   let e : h ≡ g = eqb-true h g t in
                   subst (λ x. trees (tree_of old x j) ≡ false) (sym e) (all_out g 0 j o0 (subst (λ x. IsOffer old x j) e o) out)) in
                   let p : ℕ = slice_index s.pointers g in
@@ -256,12 +299,12 @@ module _ (old new : Market) (s mid : Standing) (marks : List Bool) (k0 : IsMiddl
                   let unwanted : is_wanted old s.lines g p ≡ nat_lt p p = (k0.of.pointers g l).wanted p op in
                   let held : demand_of old g ≤ placed_through s.lines g p = ltb-false (placed_through s.lines g p) (demand_of old g) (unwanted ∙ ltb-itself p) in
                   let lower : demand_of new g ≤ demand_of old g = elim (cases_lt (demand_of old g) (demand_of new g)) [ inr le ↦ le | inl raised ↦ absurd (false≢true (sym out ∙ spread.raised g 0 o0 raised)) ] in
-                  absurd (omega (arith, all, held, lower, through-le-placed s.lines g p, rb.ready.resumable.totals g w.group, w.free))
+                  absurd (omega (arith, all, held, lower, through-le-placed s.lines g p, ro.ready.resumable.totals g w.group, w.free))
             ];
       }
 
       -- Groups outside keep their lines and names.
-      pub local : (final : Standing) (before after : ℕ) → IsReady new final → StaysInside new trees rolled final before after → IsLocalOutside old s.lines new final.lines trees
+      pub local : (final : Standing) (before after : ℕ) → IsReady new final → StaysInside new trees opened final before after → IsLocalOutside old s.lines new final.lines trees
       local final before after ready inside = record {
         amounts = λ g k o out. final_units (λ h j. (h == g) && (j == k)) (λ h j oh t.
             let p = and_parts (h == g) (j == k) t in
@@ -270,7 +313,7 @@ module _ (old new : Market) (s mid : Standing) (marks : List Bool) (k0 : IsMiddl
       }
         where
           final_units : (test : ℕ → ℕ → Bool) → ((g k : ℕ) → IsOffer old g k → test g k ≡ true → trees (tree_of old g k) ≡ false) → units_of test final.lines ≡ units_of test s.lines
-          final_units test out = inside.units test (λ g k o t. ap trees (same_tree g 0) ∙ all_out g k 0 (to_old g k o) (first_offer g (to_old g k o).group) (out g k (to_old g k o) t)) ∙ rolled_units test out
+          final_units test out = inside.units test (λ g k o t. ap trees (same_tree g 0) ∙ all_out g k 0 (to_old g k o) (first_offer g (to_old g k o).group) (out g k (to_old g k o) t)) ∙ opened_units test out
 
           named : (g k : ℕ) → IsOffer old g k → trees (tree_of old g k) ≡ false → name_of new final.lines (record { group = record { 0 = g }; place = k }) ≡ name_of old s.lines (record { group = record { 0 = g }; place = k })
           named g k o out =
@@ -307,8 +350,8 @@ module _ (old new : Market) (s mid : Standing) (marks : List Bool) (k0 : IsMiddl
               refuses = refuser-same old new k0.shape k0.of.ready.market s.lines final.lines k0.of.ready.resumable.form ready.resumable.form g k o (λ n l e. capacity_same n l (ap (is_on marks) e ∙ off_marks (tree_of old g k) out)) (λ test only. final_units test (λ h j oh t. ap trees (only h j oh t) ∙ out))
 
       -- The proposals are within those that groups inside may make.
-      pub bounded : (final : Standing) (before after : ℕ) → StaysInside new trees rolled final before after → after ≤ before + most_inside new trees
-      bounded final before after inside = omega (arith, inside.steps, sum-le (λ g. if is_inside new trees g then proposals_of new rolled.pointers g else 0) (λ g. if trees (tree_of new g 0) then length (choices_of new g) * (demand_of new g + 1) else 0) (length new.groups) 0 (λ g low high. each (is_inside new trees g) (length (choices_of new g)) (slice_index rolled.pointers g) (demand_of new g + 1)))
+      pub bounded : (final : Standing) (before after : ℕ) → StaysInside new trees opened final before after → after ≤ before + most_inside new trees
+      bounded final before after inside = omega (arith, inside.steps, sum-le (λ g. if is_inside new trees g then proposals_of new opened.pointers g else 0) (λ g. if trees (tree_of new g 0) then length (choices_of new g) * (demand_of new g + 1) else 0) (length new.groups) 0 (λ g low high. each (is_inside new trees g) (length (choices_of new g)) (slice_index opened.pointers g) (demand_of new g + 1)))
         where
           each : (b : Bool) (n p d : ℕ) → (if b then (n - p) * d else 0) ≤ (if b then n * d else 0)
           each true n p d = mul-le-mul_right d (let l : n - p ≤ n = omega arith in l)

@@ -11,12 +11,11 @@ use Rattle.map_model.proofs.Paths.{pool_there}
 use Rattle.map_model.proofs.Roots.{root-there}
 use Rattle.map_repair.specs.Marks.{AreReached, is_on, unmarked}
 use Rattle.evict.specs.Standing.{Standing}
-use Rattle.reopen.specs.Rolling.{IsRolledBack}
 use Rattle.deferred_accept.specs.Runs.{HasRun}
 use Rattle.deferred_accept.specs.Spreading.{HoldsWork, StaysInside}
 use Rattle.best_laws.proofs.Sums.{sum-le}
 use Rattle.map_repair.specs.Repaired.{IsLocal, IsWithinSpread, most_inside}
-use Rattle.map_repair.proofs.Middle.{IsLocalOutside, IsMiddle, bounded, holds_work, local}
+use Rattle.map_repair.proofs.Middle.{IsLocalOutside, IsMiddle, IsReopened, bounded, holds_work, local}
 use Rattle.map_repair.proofs.Marking.{on_from_set, on_set}
 
 -- whether something is so of a number below a bound, where that can be told of each
@@ -145,16 +144,16 @@ within_spread old lines new before after market shape marks are each = λ trees 
     one true false n h = absurd (false≢true (h refl))
     one false c n h = omega arith
 
--- A run from what was rolled back changes nothing outside the spread trees, and its proposals are within those of the groups there.
-module _ (old new : Market) (s mid : Standing) (marks : List Bool) (k : IsMiddle old new s mid marks) (rolled : Standing) (rb : IsRolledBack new marks mid rolled) (final : Standing) (before after : ℕ) where
+-- A run from what was opened in marked trees alone changes nothing outside the spread trees, and its proposals are within those of the groups there.
+module _ (old new : Market) (s mid : Standing) (marks : List Bool) (k : IsMiddle old new s mid marks) (opened : Standing) (ro : IsReopened new marks mid opened) (final : Standing) (before after : ℕ) where
   abbrev Stays : Type 0
-  Stays = (trees : ℕ → Bool) → HoldsWork new trees rolled → StaysInside new trees rolled final before after
+  Stays = (trees : ℕ → Bool) → HoldsWork new trees opened → StaysInside new trees opened final before after
 
-  stays : Stays → (trees : ℕ → Bool) → IsClosedUnderSpread old s.lines new trees → StaysInside new trees rolled final before after
-  stays inside trees spread = inside trees (holds_work old new s mid marks k rolled rb trees spread)
+  stays : Stays → (trees : ℕ → Bool) → IsClosedUnderSpread old s.lines new trees → StaysInside new trees opened final before after
+  stays inside trees spread = inside trees (holds_work old new s mid marks k opened ro trees spread)
 
-  pub stays_local : HasRun new rolled final → Stays → IsLocal old s.lines new final.lines
-  stays_local run inside = local_spread old s.lines new final.lines k.of.ready.market marks k.reached (λ trees spread. local old new s mid marks k rolled rb trees spread final before after run.ready (stays inside trees spread))
+  pub stays_local : HasRun new opened final → Stays → IsLocal old s.lines new final.lines
+  stays_local run inside = local_spread old s.lines new final.lines k.of.ready.market marks k.reached (λ trees spread. local old new s mid marks k opened ro trees spread final before after run.ready (stays inside trees spread))
 
   pub stays_within : Stays → IsWithinSpread old s.lines new before after
-  stays_within inside = within_spread old s.lines new before after k.of.ready.market k.shape marks k.reached (λ trees spread. bounded old new s mid marks k rolled rb trees spread final before after (stays inside trees spread))
+  stays_within inside = within_spread old s.lines new before after k.of.ready.market k.shape marks k.reached (λ trees spread. bounded old new s mid marks k opened ro trees spread final before after (stays inside trees spread))

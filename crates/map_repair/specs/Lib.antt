@@ -1,6 +1,6 @@
 pub mod Marks
-pub mod Asked
 pub mod Repaired
 pub mod Resumed
 pub mod Determined
 pub mod Laws
+pub mod Ways

@@ -4,7 +4,7 @@ use Rattle.map_model.specs.declared.instance.NodeId.{NodeId}
 use Rattle.map_model.specs.declared.lines.MapLine.{MapLine}
 use Rattle.map_model.specs.Market.{Market}
 use Rattle.map_model.specs.Allocation.{IsOffer, amount_at}
-use Rattle.map_model.specs.Progress.{IsClosedUnderRepair, IsReached, tree_of}
+use Rattle.map_model.specs.Progress.{IsClosedUnderRepair, IsReached, root_of, tree_of}
 use Rattle.evict.specs.Standing.{Standing}
 
 -- whether a node is marked
@@ -43,6 +43,10 @@ IsWithin marks trees = (n : ℕ) → is_on marks n ≡ true → trees n ≡ true
 -- each tree in which a group holds units is marked
 abbrev pub HoldsInMarked : Market → List MapLine → List Bool → ℕ → Type 0
 HoldsInMarked m lines on g = (k : ℕ) → IsOffer m g k → 0 < amount_at lines g k → is_on on (tree_of m g k) ≡ true
+
+-- the tree of each node before one is marked
+abbrev pub AreMarkedTo : Market → List Bool → ℕ → Type 0
+AreMarkedTo m on end = (n : ℕ) → n < end → is_on on (root_of m n) ≡ true
 
 -- groups that are done hold units in marked trees alone
 abbrev pub AreDone : Market → List MapLine → List Bool → List Bool → Type 0

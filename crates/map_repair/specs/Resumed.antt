@@ -1,30 +1,44 @@
--- How a repair comes to its map: what is given up, who goes back, and the proposals from there.
-use Rattle.std.specs.Prelude.{◌≡◌, ℕ, Bool, true, false, List, slice_index_or}
+-- How a repair comes to its map: what is given up, which trees are opened and how, and the proposals from there.
+use Rattle.std.specs.Prelude.{◌≡◌, ◌⊎◌, ℕ, Bool, true, false, List, slice_index_or}
 use Rattle.map_model.specs.declared.lines.MapLine.{MapLine}
 use Rattle.map_model.specs.Market.{Market}
-use Rattle.map_model.specs.Progress.{IsReached}
-use Rattle.evict.specs.Standing.{Standing}
+use Rattle.map_model.specs.Progress.{IsGroupBest, IsReached}
+use Rattle.evict.specs.Standing.{IsReady, Standing}
 use Rattle.deferred_accept.specs.Runs.{HasProposed}
 use Rattle.reopen.specs.Cutting.{IsCut}
-use Rattle.reopen.specs.Rolling.{IsRolledBack}
+use Rattle.reopen.specs.Rolling.{CanRollBack, IsRolledBack}
+use Rattle.move_up.specs.Moved.{IsMoved}
 use Rattle.map_repair.specs.Repaired.{IsStateOf}
 
--- A state was cut for the new numbers, groups went back to their first places in reached trees, and so many proposals lead from there to the later state as a counter rose by.
-pub record HasResumed (old : Market) (from : Standing) (new : Market) (to : Standing) (before after : ℕ) : Type 0 where
-  pub marks : List Bool
-  pub reached : (root : ℕ) → slice_index_or marks root false ≡ true → IsReached old from.lines new root
-  pub all_reached : (root : ℕ) → IsReached old from.lines new root → slice_index_or marks root false ≡ true
-  pub cut : Standing
-  pub is_cut : IsCut new from cut
+-- Groups went back to their first places in marked trees, and so many proposals lead from there to the later state as a counter rose by.
+pub record HasGoneBack (m : Market) (marks : List Bool) (cut to : Standing) (before after : ℕ) : Type 0 where
   pub back : Standing
-  pub rolled_back : IsRolledBack new marks cut back
-  pub proposed : HasProposed new back to before after
+  pub rolled_back : IsRolledBack m marks cut back
+  pub proposed : HasProposed m back to before after
 
--- the same from the lines of a good map to other lines: from a state that holds the ones, to a state that holds the others
-pub record HasRepaired (old : Market) (lines : List MapLine) (new : Market) (repaired : List MapLine) (before after : ℕ) : Type 0 where
+-- Units were moved within marked trees alone, to a resumable state; so many proposals lead from there to the later state as a counter rose by, and the later state holds the group-best map.
+pub record HasMovedUp (m : Market) (marks : List Bool) (cut to : Standing) (before after : ℕ) : Type 0 where
+  pub moved : Standing
+  pub is_moved : IsMoved m marks cut moved
+  pub ready : IsReady m moved
+  pub proposed : HasProposed m moved to before after
+  pub best : IsGroupBest m to.lines
+
+-- From the lines of a good map to a later state, as a counter rose: a state that holds the lines was cut for the new numbers, and with the reached trees marked it came to the later state in one of two ways. Whichever it took, it could have gone back.
+pub record HasResumed (old : Market) (lines : List MapLine) (new : Market) (to : Standing) (before after : ℕ) : Type 0 where
   pub from : Standing
   pub of_map : IsStateOf old from
   pub holds : from.lines ≡ lines
+  pub marks : List Bool
+  pub reached : (root : ℕ) → slice_index_or marks root false ≡ true → IsReached old lines new root
+  pub all_reached : (root : ℕ) → IsReached old lines new root → slice_index_or marks root false ≡ true
+  pub cut : Standing
+  pub is_cut : IsCut new from cut
+  pub can_go_back : CanRollBack new marks cut
+  pub way : HasGoneBack new marks cut to before after ⊎ HasMovedUp new marks cut to before after
+
+-- the same to other lines: to a state that holds them
+pub record HasRepaired (old : Market) (lines : List MapLine) (new : Market) (repaired : List MapLine) (before after : ℕ) : Type 0 where
   pub to : Standing
-  pub resumed : HasResumed old from new to before after
+  pub resumed : HasResumed old lines new to before after
   pub makes : to.lines ≡ repaired

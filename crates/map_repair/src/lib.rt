@@ -1,12 +1,11 @@
 //! A good map repaired for changed demands and capacities.
 #![tactic(auto)]
 
-mod asked;
 mod laws;
 mod marks;
 mod reaching;
 mod repairing;
+mod trying;
 
-pub use asked::Asked;
 pub use laws::repairs_agree;
 pub use repairing::{repair, resume};

@@ -52,6 +52,14 @@ impl Marks {
         Ok(())
     }
 
+    /// Whether a node is marked.
+    pub fn is_on(&self, node: NodeId) -> bool
+        requires { node.0 < length self.now.on }
+        ensures { result ≡ is_on self.now.on node.0 }
+    {
+        self.on[node.0 as usize]
+    }
+
     /// A marked root that is still to be looked at, and is so no longer; none exactly where there is none.
     pub fn next(&mut self) -> Option<NodeId>
         ensures on { self.new.on ≡ self.old.on }

@@ -1,18 +1,18 @@
 //! The trees that lose units, or may hold the old wanted place of a group that loses some.
 
-ghost use Rattle.std.specs.Prelude.{◌≡◌, ◌≢◌, ℕ, ◌<◌, Bool, true, false, length, Contains, slice_index, IfOk, OnOk};
+ghost use Rattle.std.specs.Prelude.{◌≡◌, ◌≢◌, ◌⊎◌, ◌++◌, ℕ, ◌<◌, ◌≤◌, Bool, true, false, [], ◌∷◌, length, Contains, slice_index, IfOk, MatchOption, OnOk};
 ghost use Rattle.map_model.specs.Market.{IsSameShape, capacity_of, demand_of};
 ghost use Rattle.map_model.specs.Allocation.{IsOffer, amount_at};
 ghost use Rattle.map_model.specs.Progress.{HoldsIn, IsClosedUnderRepair, root_of, tree_of};
 ghost use Rattle.evict.specs.Standing.{IsReady};
-ghost use Rattle.map_repair.specs.Asked.{AreAllListed};
+ghost use Rattle.move_up.specs.Asked.{AreAllListed};
 ghost use Rattle.map_repair.specs.Repaired.{IsStateOf};
-ghost use Rattle.map_repair.specs.Marks.{AreDone, AreReached, HoldsInMarked, IsClosedFor, IsClosedForAll, IsMarking, IsPending, IsSettled, IsWithin, is_on};
+ghost use Rattle.map_repair.specs.Marks.{AreDone, AreMarkedTo, AreReached, HoldsInMarked, IsClosedFor, IsClosedForAll, IsMarking, IsPending, IsSettled, IsWithin, is_on};
 
-use crate::asked::Asked;
 use crate::marks::Marks;
 use evict::State;
 use map_model::{GroupId, Instance, NodeId, Offer};
+use move_up::Asked;
 use no_memory::NoMemory;
 use std::alloc::Global;
 
@@ -114,7 +114,42 @@ fn look_at(
     Ok(())
 }
 
-/// Looks at each marked tree, until none is left to be looked at.
+/// The first node, from one on, whose tree is not marked, or else the number of nodes.
+fn unmarked_from(old: &Instance, state: &State, marks: &Marks, from: u32) -> u32
+    requires ready { IsReady old.now state.now }
+    requires size { length marks.now.on ≡ length old.now.nodes }
+    requires from { from ≤ length old.now.nodes }
+    requires before { AreMarkedTo old.now marks.now.on from }
+    ensures within { result ≤ length old.now.nodes }
+    ensures marked { AreMarkedTo old.now marks.now.on result }
+{
+    for n in from..old.nodes() {
+        if !marks.is_on(state.root(NodeId(n))) {
+            return n;
+        }
+    }
+    old.nodes()
+}
+
+/// The next marked tree that is to be looked at: none where none is left, or where each tree is marked.
+fn next_tree(old: &Instance, state: &State, marks: &mut Marks, ahead: &mut u32) -> Option<NodeId>
+    requires ready { IsReady old.now state.now }
+    requires size { length marks.old.on ≡ length old.now.nodes }
+    requires ahead { ahead.old ≤ length old.now.nodes }
+    requires marked { AreMarkedTo old.now marks.old.on ahead.old }
+    ensures on { marks.new.on ≡ marks.old.on }
+    ensures ahead { ahead.new ≤ length old.now.nodes }
+    ensures marked { AreMarkedTo old.now marks.new.on ahead.new }
+    ensures pending { MatchOption result ((marks.old.pending ≡ []) ⊎ AreMarkedTo old.now marks.new.on (length old.now.nodes)) (λ root. (root.0 < length marks.old.on) × (is_on marks.old.on root.0 ≡ true) × (marks.old.pending ≡ marks.new.pending ++ root ∷ [])) }
+{
+    *ahead = unmarked_from(old, state, marks, *ahead);
+    if *ahead == old.nodes() {
+        return None;
+    }
+    marks.next()
+}
+
+/// Looks at each marked tree, until none is left to be looked at, or each tree is marked.
 fn spread(
     old: &Instance,
     state: &State,
@@ -133,7 +168,8 @@ fn spread(
     ensures closed { OnOk result (IsClosedForAll old.now state.now (λ n. is_on marks.new.on n)) }
     ensures within { OnOk result ((trees : ℕ → Bool) → IsClosedForAll old.now state.now trees → IsWithin marks.old.on trees → IsWithin marks.new.on trees) }
 {
-    while let Some(root) = marks.next() {
+    let mut ahead = 0;
+    while let Some(root) = next_tree(old, state, marks, &mut ahead) {
         look_at(old, state, asked, marks, done, root)?;
     }
     Ok(())
@@ -186,8 +222,8 @@ fn mark_lowered(
     Ok(())
 }
 
-/// Marks the reached trees, at their roots. The state is that of the old map. It looks at each tree once,
-/// and at the places of each group at most twice.
+/// Marks the reached trees, at their roots. The state is that of the old map. It looks at each tree at most
+/// once and at the places of each group at most twice, and at no further tree once all are marked.
 pub fn reached(
     alloc: Global,
     old: &Instance,

@@ -1,25 +1,28 @@
 //! Repairing a good map, or a state of one that is kept.
 
-ghost use Rattle.std.specs.Prelude.{◌≤◌, IfOk, OnOk};
+ghost use Rattle.std.specs.Prelude.{◌≡◌, ◌≤◌, IfOk, OnOk};
 ghost use Rattle.map_model.specs.Market.{IsSameShape};
 ghost use Rattle.map_model.specs.Allocation.{IsGood};
 ghost use Rattle.map_model.specs.Progress.{IsEnded};
-ghost use Rattle.map_repair.specs.Asked.{AreAllListed};
+ghost use Rattle.move_up.specs.Asked.{AreAllListed};
 ghost use Rattle.map_repair.specs.Determined.{IsRepairedOf};
 ghost use Rattle.map_repair.specs.Repaired.{IsKept, IsLocal, IsStateOf, IsWithinSpread};
 ghost use Rattle.map_repair.specs.Resumed.{HasRepaired, HasResumed};
 
-use crate::asked::Asked;
 use crate::reaching::reached;
-use deferred_accept::{finish, run};
+use crate::trying::{go_back, tried_or_anew};
+use deferred_accept::finish;
 use evict::State;
 use map_model::{Instance, MapLines, Steps};
+use move_up::Asked;
 use no_memory::NoMemory;
-use reopen::{cut_and_trim, roll_back};
 use std::alloc::Global;
 
-/// Changes a state of a good map to one of a good map for an instance that differs in demands and
-/// capacities alone. It may be kept for the next change.
+/// Changes a state of a good map to one of a good map for an instance that differs in demands and capacities alone. It may
+/// be kept for the next change. In how many turns units moved up is the result.
+///
+/// Units move up first, and what comes of that is looked at: where it is not the group-best map, or can't be told to be, the
+/// state is made anew of the old map, and groups go back and offer again.
 ///
 /// # Errors
 ///
@@ -27,12 +30,15 @@ use std::alloc::Global;
 pub fn resume<L>(
     alloc: Global,
     old: &Instance,
+    map: &MapLines,
     new: &Instance,
     asked: &Asked,
     state: &mut State,
     steps: &mut Steps<L>,
-) -> Result<(), NoMemory>
+) -> Result<u64, NoMemory>
     requires of_map { IsStateOf old.now state.old }
+    requires good { IsGood old.now map.now.lines.items map.now.names.items }
+    requires holds { state.old.lines ≡ map.now.lines.items }
     requires asked { AreAllListed old.now asked.now }
     requires shape { IsSameShape old.now new.now }
     ensures asked { AreAllListed new.now asked.now }
@@ -41,16 +47,17 @@ pub fn resume<L>(
     ensures kept { OnOk result (IsKept old.now state.old.lines new.now state.new.lines) }
     ensures local { OnOk result (IsLocal old.now state.old.lines new.now state.new.lines) }
     ensures determined { OnOk result (IsRepairedOf old.now state.old.lines new.now state.new.lines) }
-    ensures counted { OnOk result (HasResumed old.now state.old new.now state.new steps.old steps.new) }
+    ensures counted { OnOk result (HasResumed old.now state.old.lines new.now state.new steps.old steps.new) }
     ensures steps { OnOk result (IsWithinSpread old.now state.old.lines new.now steps.old steps.new) }
     ensures later { steps.old ≤ steps.new }
 {
-    // tells the prover what the type keeps
-    let _groups = new.groups();
     let marks = reached(alloc, old, new, asked, state)?;
-    cut_and_trim(new, state);
-    roll_back(new, state, marks.as_slice());
-    run(alloc, new, state, steps)
+    let marked = marks.as_slice();
+    if let Some(turns) = tried_or_anew(alloc, old, map, new, asked, state, marked, steps)? {
+        return Ok(turns);
+    }
+    go_back(alloc, old, new, state, marked, steps)?;
+    Ok(0)
 }
 
 /// Repairs a good map for an instance that differs in demands and capacities alone. The new map is good.
@@ -81,6 +88,6 @@ pub fn repair<L>(
 {
     let mut state = State::of_map(alloc, old, map)?;
     let asked = Asked::build(alloc, old, &state)?;
-    resume(alloc, old, new, &asked, &mut state, steps)?;
+    resume(alloc, old, map, new, &asked, &mut state, steps)?;
     finish(alloc, new, state)
 }

@@ -4,14 +4,19 @@ ghost use Rattle.map_model.specs.Market.{IsSameShape};
 ghost use Rattle.map_model.specs.Allocation.{IsGood};
 
 mod best;
+mod chain;
 mod definitions;
 mod every_change;
 mod listed;
+mod plain;
+mod rings;
 mod smallest;
 
+use evict::State;
 use map_model::Change::{Capacity, Demand};
 use map_model::{Change, GroupId, Instance, MapLines, NodeId, Proposals, Steps};
-use map_repair::repair;
+use map_repair::{repair, resume};
+use move_up::Asked;
 use no_memory::NoMemory;
 use stable_check::{CheckRoom, Verdict, check};
 use std::alloc::Global;
@@ -38,7 +43,7 @@ const REGION: &[Batch] = &[
         }],
         lines: &[(0, 0, 3), (1, 0, 7)],
         names: &[(0, 0, 1), (1, 0, 0)],
-        proposals: 2,
+        proposals: 1,
     },
     Batch {
         changes: &[Capacity {
@@ -47,7 +52,7 @@ const REGION: &[Batch] = &[
         }],
         lines: &[(0, 0, 8), (1, 0, 2)],
         names: &[(1, 0, 0)],
-        proposals: 1,
+        proposals: 0,
     },
     // A pool that may hold nothing.
     Batch {
@@ -57,7 +62,7 @@ const REGION: &[Batch] = &[
         }],
         lines: &[(1, 0, 8)],
         names: &[(0, 0, 1)],
-        proposals: 2,
+        proposals: 1,
     },
     // A tree that empties.
     Batch {
@@ -67,7 +72,7 @@ const REGION: &[Batch] = &[
         }],
         lines: &[],
         names: &[(0, 0, 1), (1, 0, 0)],
-        proposals: 2,
+        proposals: 1,
     },
     Batch {
         changes: &[
@@ -82,7 +87,7 @@ const REGION: &[Batch] = &[
         ],
         lines: &[(0, 0, 8), (1, 0, 2)],
         names: &[(1, 0, 0)],
-        proposals: 2,
+        proposals: 0,
     },
     // One group is named three times: the last number counts.
     Batch {
@@ -102,7 +107,7 @@ const REGION: &[Batch] = &[
         ],
         lines: &[(0, 0, 4), (1, 0, 6)],
         names: &[(1, 0, 0)],
-        proposals: 1,
+        proposals: 0,
     },
     Batch {
         changes: &[Demand {
@@ -111,7 +116,7 @@ const REGION: &[Batch] = &[
         }],
         lines: &[(0, 0, 1), (1, 0, 8)],
         names: &[],
-        proposals: 1,
+        proposals: 0,
     },
     Batch {
         changes: &[Demand {
@@ -129,7 +134,7 @@ const REGION: &[Batch] = &[
         }],
         lines: &[(0, 0, 8), (1, 0, 2)],
         names: &[(1, 0, 0)],
-        proposals: 1,
+        proposals: 0,
     },
 ];
 
@@ -162,7 +167,7 @@ const CROSSED: &[Batch] = &[
         }],
         lines: &[(0, 0, 1), (1, 0, 1), (2, 0, 2)],
         names: &[],
-        proposals: 2,
+        proposals: 0,
     },
 ];
 
@@ -220,6 +225,27 @@ fn repaired(
         return Err(Fail::from("the old map is not good"));
     }
     Ok(repair(alloc, old, map, new, steps)?)
+}
+
+/// In how many turns units move up in the repair of a good map: in none where groups go back.
+fn turns(alloc: Global, old: &Instance, map: &MapLines, new: &Instance) -> Result<u64, NoMemory>
+    requires good { IsGood old.now map.now.lines.items map.now.names.items }
+    requires shape { IsSameShape old.now new.now }
+{
+    let mut steps: Steps<Proposals> = Steps::new();
+    let mut state = State::of_map(alloc, old, map)?;
+    let asked = Asked::build(alloc, old, &state)?;
+    resume(alloc, old, map, new, &asked, &mut state, &mut steps)
+}
+
+/// The same, where the old map is good.
+fn turns_of(alloc: Global, old: &Instance, map: &MapLines, new: &Instance) -> Result<u64, Fail>
+    requires { IsSameShape old.now new.now }
+{
+    if !is_good(alloc, old, map)? {
+        return Err(Fail::from("the old map is not good"));
+    }
+    Ok(turns(alloc, old, map, new)?)
 }
 
 /// Whether the repairs of so many batches, one after another and from the first again after the last,

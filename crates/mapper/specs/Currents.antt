@@ -4,7 +4,7 @@ use Rattle.map_model.specs.declared.change.Change.{Change}
 use Rattle.map_model.specs.declared.lines.MapLine.{MapLine}
 use Rattle.map_model.specs.Market.{Market}
 use Rattle.topology_text.specs.Plan.{Plan}
-use Rattle.map_repair.specs.Asked.{AreAllListed}
+use Rattle.move_up.specs.Asked.{AreAllListed}
 use Rattle.map_repair.specs.Repaired.{IsStateOf}
 use Rattle.published_map.specs.Changes.{after, is_within}
 use Rattle.published_map.specs.Version.{IsVersion, Version}

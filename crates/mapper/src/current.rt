@@ -5,7 +5,7 @@ ghost use Rattle.map_model.specs.Market.{IsSameShape, Market};
 ghost use Rattle.map_model.specs.Allocation.{IsGood};
 ghost use Rattle.map_model.specs.Batch.{IsApplied, IsBatch};
 ghost use Rattle.map_model.specs.Progress.{IsEnded};
-ghost use Rattle.map_repair.specs.Asked.{AreAllListed};
+ghost use Rattle.move_up.specs.Asked.{AreAllListed};
 ghost use Rattle.map_repair.specs.Repaired.{IsKept, IsLocal, IsStateOf, IsWithinSpread};
 ghost use Rattle.map_repair.specs.Resumed.{HasRepaired};
 ghost use Rattle.evict.specs.Standing.{IsReady};
@@ -18,8 +18,9 @@ use deferred_accept::{ended_map, run};
 use demand_feed::{Batch, apply};
 use evict::State;
 use map_model::{Instance, MapLines, Steps};
-use map_repair::{Asked, resume};
+use map_repair::resume;
 use map_text::write_map;
+use move_up::Asked;
 use no_memory::NoMemory;
 use std::alloc::Global;
 use topology_text::Topology;
@@ -33,12 +34,12 @@ pub(crate) struct Current {
     pub totals: Totals,
 }
 
-/// How many proposals for each group a state takes before it is made anew. Each may file its offer once more in the queues
-/// of the nodes above it, and an offer that was emptied since leaves its old seats there unless they are the worst.
+/// How many proposals and turns for each group a state takes before it is made anew. Each may file its offer once more in the
+/// queues of the nodes above it, and an offer that was emptied since leaves its old seats there unless they are the worst.
 const PROPOSALS_KEPT: u64 = 8;
 
 /// A state of the newest map, from which the next repair goes on, the offers by the trees of their pools, and how many
-/// proposals repairs have made on the state.
+/// proposals repairs have made on the state, with the turns in which units moved up.
 #[derive(Drop)]
 pub(crate) struct Kept {
     pub state: State,
@@ -77,6 +78,7 @@ fn repaired<L>(
     steps: &mut Steps<L>,
 ) -> Result<MapLines, NoMemory>
     requires kept { IsKeptFor old.now.instance old.now.map.lines.items kept.old }
+    requires good { IsGood old.now.instance old.now.map.lines.items old.now.map.names.items }
     requires shape { IsSameShape old.now.instance new.now }
     ensures state { IfOk result (λ map. IsKeptFor new.now map.lines.items kept.new) }
     ensures good { IfOk result (λ map. IsGood new.now map.lines.items map.names.items) }
@@ -87,15 +89,20 @@ fn repaired<L>(
     ensures later { steps.old ≤ steps.new }
 {
     let before = steps.count();
-    resume(
+    let turns = resume(
         alloc,
         &old.instance,
+        &old.map,
         new,
         &kept.asked,
         &mut kept.state,
         steps,
     )?;
-    kept.proposals = kept.proposals.saturating_add(steps.count() - before);
+    let proposals = steps.count() - before;
+    kept.proposals = kept
+        .proposals
+        .saturating_add(proposals)
+        .saturating_add(turns);
     ended_map(alloc, new, &kept.state)
 }
 
@@ -197,6 +204,7 @@ pub(crate) fn next_of<L>(
     steps: &mut Steps<L>,
 ) -> Result<Current, NoMemory>
     requires kept { IsKeptFor old.now.instance old.now.map.lines.items kept.old }
+    requires good { IsGood old.now.instance old.now.map.lines.items old.now.map.names.items }
     requires ids { IsBatch old.now.instance batch.now }
     requires shape { IsSameShape topology.now.market old.now.instance }
     ensures makes { IfOk result (Makes topology.now old.now batch.now) }

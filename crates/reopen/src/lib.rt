@@ -5,4 +5,4 @@ mod cutting;
 mod rolling;
 
 pub use cutting::cut_and_trim;
-pub use rolling::roll_back;
+pub use rolling::{back_place, is_marked, roll_back};

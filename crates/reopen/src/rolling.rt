@@ -10,7 +10,7 @@ use evict::State;
 use map_model::{GroupId, Instance, Offer};
 
 /// Whether the tree of an offer's pool is marked.
-fn is_marked(instance: &Instance, state: &State, marks: &[bool], offer: Offer) -> bool
+pub fn is_marked(instance: &Instance, state: &State, marks: &[bool], offer: Offer) -> bool
     requires can { CanCut instance.now state.now }
     requires size { length marks.now ≡ length instance.now.nodes }
     requires offer { IsOffer instance.now offer.group.0 offer.place }
@@ -21,7 +21,7 @@ fn is_marked(instance: &Instance, state: &State, marks: &[bool], offer: Offer) -
 }
 
 /// The first place before a group's pointer whose tree is marked, or the pointer.
-fn back_place(instance: &Instance, state: &State, marks: &[bool], group: GroupId) -> u8
+pub fn back_place(instance: &Instance, state: &State, marks: &[bool], group: GroupId) -> u8
     requires can { CanCut instance.now state.now }
     requires size { length marks.now ≡ length instance.now.nodes }
     requires group { group.0 < length instance.now.groups }

@@ -1,9 +1,8 @@
 use Rattle.std.proofs.Common.{◌≡◌, ◌++◌, [], ◌∷◌, List, IfSome, subst, sym, rules}
-use Rattle.map_model.specs.declared.instance.Offer.{Offer}
+use Rattle.best_check.specs.declared.ranked.Ranked.{Ranked}
 use Rattle.map_model.specs.declared.lines.MapLine.{MapLine}
 use Rattle.map_model.specs.Market.{Market}
-use Rattle.map_model.specs.Allocation.{IsOffer}
-use Rattle.best_check.specs.Tables.{AreNextAt, IsNextAt, IsWhole}
+use Rattle.best_check.specs.Tables.{AreNextAt, IsNextAt, IsRanked, IsWhole}
 use Rattle.best_check.proofs.Pushed.{pushed}
 use Rattle.best_check.proofs.table.nexts_of.Goals as goal
 
@@ -15,6 +14,6 @@ loop-n-preserved c =
     let all : (lines : List MapLine) → IsWhole m lines c.args.table.now → AreNextAt m lines c.loop-n.nexts.items → IsNextAt m lines c.loop-n.n c.next_at-next.result = subst (λ xs. (lines : List MapLine) → IsWhole m lines c.args.table.now → AreNextAt m lines xs → IsNextAt m lines c.loop-n.n c.next_at-next.result) c.as_slice.ensures.value c.next_at-next.ensures.next in
     record {
       size = search (rules, i.size, more);
-      offers = pushed (λ n o. IfSome o (λ (x : Offer). IsOffer m x.group.0 x.place)) c.loop-n.nexts.items c.push.new.self.items c.next_at-next.result more i.offers c.next_at-next.ensures.offer;
+      offers = pushed (λ n o. IfSome o (λ (x : Ranked). IsRanked m x)) c.loop-n.nexts.items c.push.new.self.items c.next_at-next.result more i.offers c.next_at-next.ensures.offer;
       nexts = λ lines whole. pushed (λ n o. IsNextAt m lines n o) c.loop-n.nexts.items c.push.new.self.items c.next_at-next.result more (i.nexts lines whole) (subst (λ n. IsNextAt m lines n c.next_at-next.result) (sym i.size) (all lines whole (i.nexts lines whole)));
     }

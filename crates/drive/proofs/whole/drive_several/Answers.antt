@@ -48,7 +48,7 @@ returns-clause-driven g c =
     record {
       rest = s.done.0;
       newest = c.serve_several.new.mapper.newest;
-      feed = are_fed _ _ _ _ _ _ _ _ _ (some_told (feed_told g.T.Source.told g.T.Source.faults) c.args.more.now c.requires.several) (together_over _ _ _ _ _ _ _ _ _ _ _ _ _ _ _ _ _ opened s.done.1 run.fed);
+      feed = are_fed _ _ _ _ _ _ _ _ _ (some_told (feed_told g.T.Source.told g.T.Source.faults) c.args.more.now c.requires.several) (together_over _ _ _ _ _ _ _ _ _ _ _ _ _ _ _ _ _ _ _ opened s.done.1 run.fed);
       goes_on = feeds_go_on _ _ _ _ _ c.args.mapper.newest s.done.0 s.worked.run refl opened s.done.1 s.history;
       lanes = are_done_in (lane_told g.P.Port.told g.P.Port.faults g.G.Gate.told g.D.Door.asked g.D.Door.looks g.D.Door.greatest g.D.Door.faults) (λ w. w.ended) _ _ _ _ _ _ _ _ c.split_at_mut-served.ensures.value s.done.2;
       stream = ended_as _ _ _ _ _ _ _ _ _ s.done.3 (length-map _ _ ∙ search rules) c.end_of.ensures;

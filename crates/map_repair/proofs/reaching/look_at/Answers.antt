@@ -4,9 +4,9 @@ use Rattle.std.proofs.lemmas.List.{get_or_default}
 use Rattle.map_model.specs.declared.instance.Offer.{Offer}
 use Rattle.map_model.specs.Market.{Market}
 use Rattle.map_model.specs.Progress.{tree_of}
-use Rattle.map_repair.specs.Asked.{listed_at, offer_of}
+use Rattle.move_up.specs.Asked.{listed_at, offer_of}
 use Rattle.map_repair.specs.Marks.{HoldsInMarked}
-use Rattle.map_repair.proofs.Listing.{listed_there}
+use Rattle.move_up.proofs.Listing.{listed_there}
 use Rattle.map_repair.proofs.Marking.{marking_none, marking_trans}
 use Rattle.map_repair.proofs.reaching.look_at.Goals as goal
 

@@ -1,6 +1,6 @@
 use Rattle.std.proofs.Common.{◌≡◌, ◌<◌, ℕ, Bool, true, length, slice_index, slice_index_or}
 use Rattle.map_model.specs.declared.instance.Offer.{Offer}
-use Rattle.map_repair.specs.Asked.{listed_at}
+use Rattle.move_up.specs.Asked.{listed_at}
 use Rattle.map_repair.specs.Marks.{AreDone, HoldsInMarked, IsClosedForAll, IsMarking, IsWithin}
 use Rattle.map_repair.proofs.reaching.look_at.Given as goal
 

@@ -3,7 +3,8 @@ use Rattle.std.proofs.lemmas.Bool.{cases_eq}
 use Rattle.map_model.specs.Market.{Market, capacity_of}
 use Rattle.map_model.specs.Progress.{root_of}
 use Rattle.map_repair.specs.Marks.{IsMarking, Marking, is_on}
-use Rattle.map_repair.proofs.Marking.{marking_none, marking_trans, on_from_set, root_in}
+use Rattle.move_up.proofs.InTrees.{root_in}
+use Rattle.map_repair.proofs.Marking.{marking_none, marking_trans, on_from_set}
 use Rattle.map_repair.proofs.reaching.mark_capacities.Goals as goal
 use Rattle.map_repair.proofs.reaching.mark_capacities.Goals.{then-capacity+in_ok-mark, else-capacity}
 
@@ -13,7 +14,7 @@ loop-n-init c = record { marking = marking_none c.args.marks.now; all = λ x l. 
 pub mark-requires : goal.mark-requires
 mark-requires c =
     let there : c.loop-n.n < length c.args.old.now.nodes = omega (arith, c.loop-n-test.true, c.nodes-n-end.ensures.count) in
-    let at = root_in c.args.old.now c.args.state.now c.requires.ready c.loop-n.n c.root-root.result.0 there c.root-root.ensures in
+    let at = root_in c.args.old.now c.args.state.now c.requires.ready.market c.requires.ready.shape c.loop-n.n c.root-root.result.0 there c.root-root.ensures in
     omega (arith, at.1, c.loop-n.invariant.marking.count, c.requires.size)
 
 pub loop-n-preserved : goal.loop-n-preserved
@@ -25,7 +26,7 @@ loop-n-preserved c =
     elim c.if-capacity.branch [
       | then-capacity+in_ok-mark w ↦
           let root = root_of m n in
-          let at = root_in m c.args.state.now c.requires.ready n w.root-root.result.0 there w.root-root.ensures in
+          let at = root_in m c.args.state.now c.requires.ready.market c.requires.ready.shape n w.root-root.result.0 there w.root-root.ensures in
           let e = w.in_ok-mark.ensures in
           let bound : root < length c.loop-n.marks.on = omega (arith, at.0, at.1, i.marking.count, c.requires.size) in
           record {

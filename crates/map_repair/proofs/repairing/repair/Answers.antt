@@ -1,9 +1,9 @@
-use Rattle.std.proofs.Common.{List, OnOk, Result, Ok, Err, slice_index, sym, subst}
+use Rattle.std.proofs.Common.{List, OnOk, Result, Ok, Err, sym, subst}
 use Rattle.std.proofs.lemmas.Result.{IfOk-weaker}
 use Rattle.map_model.specs.declared.lines.MapLine.{MapLine}
-use Rattle.evict.specs.Standing.{IsOfMap, IsPastWanted, Standing}
 use Rattle.map_repair.specs.Determined.{IsRepairedOf}
 use Rattle.map_repair.specs.Repaired.{IsKept, IsWithinSpread}
+use Rattle.map_repair.specs.Resumed.{HasResumed}
 use Rattle.map_repair.proofs.repairing.repair.Goals as goal
 
 whenever : {X E P : Type 0} (r : Result X E) → P → OnOk r P
@@ -17,18 +17,8 @@ returns-clause-kept g c =
 
 pub returns-clause-counted : goal.returns-clause-counted
 returns-clause-counted g c =
-    let s : Standing = c.in_ok-state.state in
-    let of : IsOfMap c.args.old.now c.args.map.now.lines.items s = c.in_ok-state.ensures in
-    IfOk-weaker c.finish.result _ _
-    (λ m e. record {
-      from = s;
-      of_map = record { ready = of.ready; pointers = λ h l. subst (λ (ls : List MapLine). IsPastWanted c.args.old.now ls h (slice_index s.pointers h)) (sym of.lines) (of.pointers h l) };
-      holds = of.lines;
-      to = c.resume.new.state;
-      resumed = c.in_ok-resume.ensures.counted;
-      makes = sym e;
-    })
-    c.finish.ensures.lines
+    let resumed = subst (λ (ls : List MapLine). HasResumed c.args.old.now ls c.args.new.now c.resume.new.state c.args.steps.now c.resume.new.steps) c.in_ok-state.ensures.lines c.in_ok-resume.ensures.counted in
+    IfOk-weaker c.finish.result _ _ (λ m e. record { to = c.resume.new.state; resumed = resumed; makes = sym e }) c.finish.ensures.lines
 
 pub returns-clause-steps : goal.returns-clause-steps
 returns-clause-steps g c = whenever c.finish.result (subst (λ (ls : List MapLine). IsWithinSpread c.args.old.now ls c.args.new.now c.args.steps.now c.resume.new.steps) c.in_ok-state.ensures.lines c.in_ok-resume.ensures.steps)

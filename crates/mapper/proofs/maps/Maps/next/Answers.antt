@@ -14,6 +14,9 @@ use Rattle.mapper.proofs.maps.Maps.next.Given.{Over}
 use Rattle.mapper.proofs.maps.Maps.next.Goals.{In_ok-delta}
 use Rattle.mapper.proofs.maps.Maps.next.Goals as goal
 
+pub next_of-requires-clause-good : goal.next_of-requires-clause-good
+next_of-requires-clause-good g c = good_of c.self.inside.publisher.newest c.self.inside.current c.self.invariant.0 c.self.invariant.2
+
 pub between-requires-clause-old : goal.between-requires-clause-old
 between-requires-clause-old g c =
     let old = c.self.inside.current in

@@ -1,9 +1,0 @@
-use Rattle.std.proofs.Common.{◌≡◌, ℕ, [], length}
-use Rattle.map_repair.specs.Asked.{listed_at}
-use Rattle.map_repair.proofs.asked.no_offers.Given as goal
-
-abbrev pub invariant-loop-node : goal.invariant-loop-node
-invariant-loop-node l = record {
-  len : length l.lists.items ≡ l._node;
-  empty : (n : ℕ) → listed_at l.lists.items n ≡ [];
-}

@@ -1,0 +1,4 @@
+pub mod Above
+pub mod InTrees
+pub mod Listing
+pub mod Moving

@@ -1,0 +1,302 @@
+//! Moving units up, one offer after another.
+
+ghost use Rattle.std.specs.Prelude.{◌≡◌, ◌<◌, ◌≤◌, length, IfOk, IsTrue, OnOk};
+ghost use Rattle.map_model.specs.Market.{IsMarket, IsSameShape};
+ghost use Rattle.map_model.specs.Allocation.{IsOffer};
+ghost use Rattle.evict.specs.Standing.{IsOpen};
+ghost use Rattle.move_up.specs.Asked.{AreAllListed};
+ghost use Rattle.move_up.specs.Moved.{IsMoved};
+
+use crate::asked::Asked;
+use crate::looking::best_under;
+use crate::moves::{grant_marked, release_marked, set_back};
+use crate::node_set::NodeSet;
+use crate::offers::{above, is_above, is_offer, room_of};
+use crate::opening::{close_path, open_path, opened};
+use crate::settling::{settle, settle_lowered};
+use evict::State;
+use map_model::{Instance, LEVELS, NodeId, Offer, Units};
+use no_memory::NoMemory;
+
+/// Units of a group that may move up: free ones, or those of a place past the one that they go to.
+#[derive(Clone, Copy, Debug)]
+struct Source {
+    units: Units,
+    place: Option<Offer>,
+}
+
+/// What a group may move up to an offer: its free units, or those of the last place past it at which it holds some.
+fn source_of(instance: &Instance, state: &State, offer: Offer) -> Option<Source>
+    requires is_open { IsOpen instance.now state.now }
+    requires offer { IsOffer instance.now offer.group.0 offer.place }
+{
+    let free = state.free(offer.group);
+    if free > 0 {
+        return Some(Source {
+            units: free,
+            place: None,
+        });
+    }
+    let mut last = None;
+    for place in offer.place + 1..instance.list_len(offer.group) {
+        let past = Offer {
+            group: offer.group,
+            place,
+        };
+        let units = state.units(past);
+        if units > 0 {
+            last = Some(Source {
+                units,
+                place: Some(past),
+            });
+        }
+    }
+    last
+}
+
+/// Whether units of a source stand under a node.
+fn is_from_under(instance: &Instance, source: Source, node: NodeId) -> bool {
+    match source.place {
+        Some(place) if is_offer(instance, place) => {
+            is_above(instance, node, instance.pool_at(place))
+        }
+        _ => false,
+    }
+}
+
+/// How many units of a source may come to an offer: they fit under its limit.
+fn most_from(instance: &Instance, state: &State, offer: Offer, source: Source) -> Units
+    requires is_open { IsOpen instance.now state.now }
+    requires offer { IsOffer instance.now offer.group.0 offer.place }
+{
+    let limit = u64::from(instance.limit(offer.group, offer.place));
+    let left = limit.saturating_sub(state.units(offer));
+    source.units.min(left)
+}
+
+/// How many of some units the nodes of an offer's path have room for that do not hold them yet.
+fn room_for(instance: &Instance, state: &State, offer: Offer, source: Source, units: Units) -> Units
+    requires is_open { IsOpen instance.now state.now }
+    requires offer { IsOffer instance.now offer.group.0 offer.place }
+{
+    let mut room = units;
+    let mut at = Some(instance.pool_at(offer));
+    for _step in 0..LEVELS {
+        if let Some(node) = at {
+            if is_from_under(instance, source, node) {
+                return room;
+            }
+            room = room.min(room_of(instance, state, node));
+            at = above(instance, node);
+        }
+    }
+    room
+}
+
+/// Makes held units free. The full nodes above them are open then.
+fn give_up(
+    instance: &Instance,
+    state: &mut State,
+    marks: &[bool],
+    open: &mut NodeSet,
+    offer: Offer,
+    units: Units,
+)
+    requires is_open { IsOpen instance.now state.old }
+    requires size { length marks.now ≡ length instance.now.nodes }
+    ensures { IsMoved instance.now marks.now state.old state.new }
+{
+    if is_offer(instance, offer) {
+        open_path(instance, state, open, instance.pool_at(offer));
+        release_marked(instance, state, marks, offer, units);
+    }
+}
+
+/// Makes room for units at an offer: where a full node of its path does not hold them yet, the worst offer there gives up as
+/// many.
+fn make_room(
+    instance: &Instance,
+    state: &mut State,
+    marks: &[bool],
+    open: &mut NodeSet,
+    offer: Offer,
+    source: Source,
+    units: Units,
+)
+    requires is_open { IsOpen instance.now state.old }
+    requires size { length marks.now ≡ length instance.now.nodes }
+    requires offer { IsOffer instance.now offer.group.0 offer.place }
+    ensures { IsMoved instance.now marks.now state.old state.new }
+{
+    let Some(rival) = state.rival(instance, offer) else {
+        return;
+    };
+    if !is_from_under(instance, source, rival.node) {
+        give_up(
+            instance,
+            state,
+            marks,
+            open,
+            rival.offer,
+            rival.units.min(units),
+        );
+    }
+}
+
+/// Makes units of a source free, where they are not.
+fn free_source(
+    instance: &Instance,
+    state: &mut State,
+    marks: &[bool],
+    open: &mut NodeSet,
+    source: Source,
+    units: Units,
+)
+    requires is_open { IsOpen instance.now state.old }
+    requires size { length marks.now ≡ length instance.now.nodes }
+    ensures { IsMoved instance.now marks.now state.old state.new }
+{
+    if let Some(place) = source.place {
+        give_up(instance, state, marks, open, place, units);
+    }
+}
+
+/// Lets an offer hold free units of its group, and settles the group. Says whether it holds more than before.
+fn take_up(
+    instance: &Instance,
+    state: &mut State,
+    marks: &[bool],
+    open: &mut NodeSet,
+    offer: Offer,
+    units: Units,
+) -> Result<bool, NoMemory>
+    requires is_open { IsOpen instance.now state.old }
+    requires size { length marks.now ≡ length instance.now.nodes }
+    requires offer { IsOffer instance.now offer.group.0 offer.place }
+    ensures { OnOk result (IsMoved instance.now marks.now state.old state.new) }
+{
+    let granted = grant_marked(instance, state, marks, offer, units)?;
+    close_path(instance, state, open, instance.pool_at(offer));
+    settle(instance, state, marks, offer.group);
+    Ok(granted > 0)
+}
+
+/// Moves units of a source to an offer. Says whether any moved.
+fn shift_up(
+    instance: &Instance,
+    state: &mut State,
+    marks: &[bool],
+    open: &mut NodeSet,
+    offer: Offer,
+    source: Source,
+) -> Result<bool, NoMemory>
+    requires is_open { IsOpen instance.now state.old }
+    requires size { length marks.now ≡ length instance.now.nodes }
+    requires offer { IsOffer instance.now offer.group.0 offer.place }
+    ensures { OnOk result (IsMoved instance.now marks.now state.old state.new) }
+{
+    let most = most_from(instance, state, offer, source);
+    make_room(instance, state, marks, open, offer, source, most);
+    let room = room_for(instance, state, offer, source, most);
+    free_source(instance, state, marks, open, source, room);
+    take_up(instance, state, marks, open, offer, room)
+}
+
+/// Moves units of a group up to an offer. Where it has none to move, its pointer goes back. Says whether something changed.
+fn step(
+    instance: &Instance,
+    state: &mut State,
+    marks: &[bool],
+    open: &mut NodeSet,
+    offer: Offer,
+) -> Result<bool, NoMemory>
+    requires is_open { IsOpen instance.now state.old }
+    requires size { length marks.now ≡ length instance.now.nodes }
+    requires offer { IsOffer instance.now offer.group.0 offer.place }
+    ensures { OnOk result (IsMoved instance.now marks.now state.old state.new) }
+{
+    match source_of(instance, state, offer) {
+        Some(source) => shift_up(instance, state, marks, open, offer, source),
+        None => {
+            set_back(instance, state, marks, offer.group, offer.place);
+            Ok(state.pointer(offer.group) == offer.place)
+        }
+    }
+}
+
+/// A step at the best loose offer under a node. Says whether something changed.
+fn step_under(
+    instance: &Instance,
+    state: &mut State,
+    marks: &[bool],
+    open: &mut NodeSet,
+    asked: &Asked,
+    node: NodeId,
+) -> Result<bool, NoMemory>
+    requires is_open { IsOpen instance.now state.old }
+    requires size { length marks.now ≡ length instance.now.nodes }
+    ensures { OnOk result (IsMoved instance.now marks.now state.old state.new) }
+{
+    if room_of(instance, state, node) == 0 {
+        return Ok(false);
+    }
+    match best_under(instance, state, asked, node) {
+        Some(offer) if is_offer(instance, offer) => step(instance, state, marks, open, offer),
+        _ => Ok(false),
+    }
+}
+
+/// One turn: a step under an open node, or the node is open no longer.
+fn turn(
+    instance: &Instance,
+    state: &mut State,
+    marks: &[bool],
+    open: &mut NodeSet,
+    asked: &Asked,
+    node: NodeId,
+) -> Result<(), NoMemory>
+    requires is_open { IsOpen instance.now state.old }
+    requires size { length marks.now ≡ length instance.now.nodes }
+    ensures { OnOk result (IsMoved instance.now marks.now state.old state.new) }
+{
+    if !step_under(instance, state, marks, open, asked, node)? {
+        open.remove(node);
+    }
+    Ok(())
+}
+
+/// Moves units of a state that was cut up to places whose nodes have room again, in marked trees alone: one offer after
+/// another, the best first under the topmost node, in at most so many turns. `full` are the nodes that were full before the
+/// cut. How many turns it made is the result.
+///
+/// No clause says that the state is resumable then.
+///
+/// # Errors
+///
+/// `NoMemory`; the state is only to be dropped then.
+pub fn move_up(
+    old: &Instance,
+    new: &Instance,
+    state: &mut State,
+    marks: &[bool],
+    full: &NodeSet,
+    asked: &Asked,
+    turns: u64,
+) -> Result<u64, NoMemory>
+    requires is_open { IsOpen new.now state.old }
+    requires shape { IsSameShape old.now new.now }
+    requires size { length marks.now ≡ length new.now.nodes }
+    requires asked { AreAllListed new.now asked.now }
+    ensures moved { OnOk result (IsMoved new.now marks.now state.old state.new) }
+    ensures few { IfOk result (λ made. made ≤ turns) }
+{
+    settle_lowered(old, new, state, marks);
+    let mut open = opened(new, state, full);
+    for made in 0..turns {
+        let Some(node) = open.first() else {
+            return Ok(made);
+        };
+        turn(new, state, marks, &mut open, asked, node)?;
+    }
+    Ok(turns)
+}

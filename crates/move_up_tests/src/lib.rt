@@ -1,0 +1,5 @@
+//! Tests of units that move up, in a crate of their own, so that they are proved without proving the library again.
+#![tactic(auto)]
+
+#[cfg(test)]
+mod tests;
