@@ -53,12 +53,12 @@ abbrev pub feds : {T : Type 0} → (T → Option Fed) → (T → ℕ) → List T
 feds fed faults xs = map (λ (x : FeedTold). x.fed) (tells fed faults xs)
 
 -- a feed that was given up: nothing was read of it, and its feeder sent this end alone
-pub given_up : (t : Plan) (turns : ℕ) (fed : Option Fed) (faults : ℕ) (f : FeederState) → f.sent ≡ [] → IsRead t turns fed fed faults faults f (with_item f (what.End ends.NoMemory))
-given_up t turns fed faults f unused =
-    let is : f.sent ++ what.End ends.NoMemory ∷ [] ≡ what.End ends.NoMemory ∷ [] = ap (λ (ws : List What). ws ++ what.End ends.NoMemory ∷ []) unused in record {
-      same = (refl, refl);
-      sent = has_sent_none t turns fed (f.sent ++ what.End ends.NoMemory ∷ []) is;
-      source = λ e. absurd (no_fault e.0 (sym is ∙ e.1));
+pub given_up : (t : Plan) (turns : ℕ) (fed : Option Fed) (faults : ℕ) (f g : FeederState) → f.sent ≡ [] → g ≡ with_item f (what.End ends.NoMemory) → IsRead t turns fed fed faults faults f g
+given_up t turns fed faults f g unused is =
+    let sent : g.sent ≡ what.End ends.NoMemory ∷ [] = ap (λ (s : FeederState). s.sent) is ∙ ap (λ (ws : List What). ws ++ what.End ends.NoMemory ∷ []) unused in record {
+      same = (ap (λ (s : FeederState). s.queue) is, ap (λ (s : FeederState). s.feeder) is);
+      sent = has_sent_none t turns fed g.sent sent;
+      source = λ e. absurd (no_fault e.0 (sym sent ∙ e.1));
       later = omega arith;
       stays = λ none. refl;
     }

@@ -76,7 +76,6 @@ impl<N: Numbers, S: Source> Sends<Desk, Feeder<N>> for S {
 
     ghost sent = { λ desk a b f g. IsRead (arc_value desk.topology) desk.turns (S.told a) (S.told b) (S.faults a) (S.faults b) f g };
 
-    #[tactic(auto, using(crate::proofs::Several::given_up))]
     fn send<R: Wait>(&mut self, rt: &R, desk: &Desk, feeder: &mut Feeder<N>, alone: bool) {
         if desk.start.may_read(rt, alone) {
             feeder.run(rt, &desk.topology, self, desk.turns);
