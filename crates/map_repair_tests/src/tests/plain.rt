@@ -118,6 +118,16 @@ fn mark(marks: &mut [bool], node: u32) {
 }
 
 impl Sight<'_> {
+    /// How many nodes there are.
+    fn size(&self) -> u32 {
+        u32::try_from(self.nodes.len()).unwrap_or(0)
+    }
+
+    /// How many groups there are.
+    fn groups(&self) -> u32 {
+        u32::try_from(self.demands.len()).unwrap_or(0)
+    }
+
     fn capacity(&self, node: u32) -> u64 {
         self.capacities.get(node as usize).copied().unwrap_or(0)
     }
@@ -226,8 +236,8 @@ impl Sight<'_> {
 
     /// Each node gives up what is over its capacity, the lowest nodes first.
     fn cut(&self, amounts: &mut [u32]) {
-        for n in (0..self.nodes.len()).rev() {
-            self.relieve(amounts, &mut [], n as u32);
+        for n in (0..self.size()).rev() {
+            self.relieve(amounts, &mut [], n);
         }
     }
 
@@ -238,7 +248,7 @@ impl Sight<'_> {
 
     /// Marks the trees in which a capacity or a lowered group's units stand.
     fn mark_changed(&self, new: &Sight<'_>, amounts: &[u32], marks: &mut [bool]) {
-        for n in 0..self.nodes.len() as u32 {
+        for n in 0..self.size() {
             if self.capacity(n) != new.capacity(n) {
                 mark(marks, self.root(n));
             }
@@ -290,7 +300,7 @@ impl Sight<'_> {
 
     /// The number of the place at which a group with free units offers next.
     fn waiting(&self, amounts: &[u32], pointers: &[u8]) -> Option<usize> {
-        for group in 0..self.demands.len() as u32 {
+        for group in 0..self.groups() {
             if self.through(amounts, group, u8::MAX) < self.demand(group) {
                 let next = self.spot_at(group, pointer_of(pointers, group));
                 if next.is_some() {
@@ -312,9 +322,9 @@ impl Sight<'_> {
             return;
         }
         give(amounts, i, units);
-        for n in (0..self.nodes.len()).rev() {
-            if self.is_over(n as u32, spot.pool) {
-                self.relieve(amounts, pointers, n as u32);
+        for n in (0..self.size()).rev() {
+            if self.is_over(n, spot.pool) {
+                self.relieve(amounts, pointers, n);
             }
         }
     }
@@ -356,7 +366,7 @@ impl Sight<'_> {
     /// Where each group goes back to.
     fn backs(&self, alloc: Global, amounts: &[u32], marks: &[bool]) -> Result<Vec<u8>, NoMemory> {
         let mut pointers = Vec::new(alloc);
-        for group in 0..self.demands.len() as u32 {
+        for group in 0..self.groups() {
             pointers.push(self.back(amounts, marks, group))?;
         }
         Ok(pointers)
