@@ -21,10 +21,11 @@ use no_memory::NoMemory;
 use reopen::{cut_and_trim, roll_back};
 use std::alloc::Global;
 
-/// How many turns units may take to move up: an eighth as many as there are groups, which in large worlds take about as long
-/// as the way back. Without a bound a unit of room could move each unit of a ring of groups once for each place.
+/// How many turns units may take to move up: half as many as there are groups, which in large worlds take a few times as long
+/// as the way back, and are not needed by thousands of changes. Without a bound a unit of room could move each unit of a ring
+/// of groups once for each place.
 fn most_turns(instance: &Instance) -> u64 {
-    u64::from(instance.groups() / 8).max(64)
+    u64::from(instance.groups() / 2).max(64)
 }
 
 /// Cuts a state for the new numbers, and moves units up in marked trees. In how many turns is the result.
