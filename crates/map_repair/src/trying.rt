@@ -100,8 +100,8 @@ fn tried<L>(
     Ok(Some(turns))
 }
 
-/// Tries to come to the new map by units that move up, where some tree is marked. In how many turns they did is the result;
-/// if there is none, the state is one of the old map.
+/// Tries to come to the new map by units that move up. In how many turns they did is the result; if there is none, the state
+/// is one of the old map.
 pub fn tried_or_anew<L>(
     alloc: Global,
     old: &Instance,
@@ -121,9 +121,6 @@ pub fn tried_or_anew<L>(
     ensures tried { IfOk result (λ turns. MatchOption turns (IsStateOf old.now state.new × (state.new.lines ≡ state.old.lines) × (steps.new ≡ steps.old)) (λ n. IsResumed old.now state.old.lines new.now state.new steps.old steps.new)) }
     ensures later { steps.old ≤ steps.new }
 {
-    if !marks.contains(&true) {
-        return Ok(None);
-    }
     if let Some(turns) = tried(alloc, old, new, asked, state, marks, steps)? {
         return Ok(Some(turns));
     }
