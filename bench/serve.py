@@ -49,8 +49,9 @@ def write_queries():
 
 
 def first_answer(port):
-    """Waits until the port answers."""
-    while True:
+    """Waits until the port answers, twenty seconds at most."""
+    end = time.monotonic() + 20
+    while time.monotonic() < end:
         with socket.socket(socket.AF_INET, socket.SOCK_DGRAM) as client:
             client.settimeout(0.02)
             try:
@@ -61,6 +62,7 @@ def first_answer(port):
                     return
             except OSError:
                 time.sleep(0.001)
+    raise SystemExit(f"nobody answers at port {port}")
 
 
 def free_port():
@@ -120,7 +122,7 @@ class Server:
 
 
 def load(server, queries, seconds=SECONDS, rate=None):
-    """Queries a second, the share that was lost, and microseconds of user and system time a query."""
+    """Queries a second, the share that was lost, microseconds of user and system time a query, and how many were answered."""
     before = processor(server.process.pid)
     words = ["dnsperf", "-s", "127.0.0.1", "-p", str(server.port), "-B", "-d", str(WORK / queries), "-l", str(seconds), "-T", "2", "-c", "8", "-q", "200", "-t", "1"]
     text = subprocess.run(words + (["-Q", str(rate)] if rate else []), capture_output=True, text=True).stdout
@@ -131,27 +133,28 @@ def load(server, queries, seconds=SECONDS, rate=None):
     if not re.search(rf"NOERROR {done}\b", text):
         print(f"not all replies of {server.name} are answers:", re.findall(r"Response codes:.*", text))
     user, system = ((b - a) * 1e6 / max(done, 1) for a, b in zip(before, after))
-    return done / elapsed, 1 - done / sent, user, system
+    return done / elapsed, 1 - done / sent, user, system, done
 
 
 def row(server, queries):
-    rate, lost, user, system = load(server, queries)
+    rate, lost, user, system, _ = load(server, queries)
     print(f"| {server.name} | {queries} | {rate:,.0f} | {100 * lost:.2f} % | {user:.2f} | {system:.2f} | {user + system:.2f} |", flush=True)
     return rate
 
 
 def syscalls(server):
-    """Syscalls while queries wait, by strace."""
+    """Syscalls a query while queries wait, by strace."""
     if shutil.which("strace") is None:
         return
     pids = [word for pid in family_of(server.process.pid) for word in ("-p", str(pid))]
     trace = subprocess.Popen(["strace", "-f", "-c", "-U", "name,calls", *pids, "-o", str(WORK / "strace")], stderr=subprocess.DEVNULL)
     time.sleep(0.5)
-    load(server, "subnets", 3)
+    done = load(server, "subnets", 3)[4]
     trace.terminate()
     trace.wait()
-    counts = dict(re.findall(r"^(\w+)\s+(\d+)$", (WORK / "strace").read_text(), re.M))
-    print(f"syscalls of {server.name}: {counts}")
+    counts = [(name, int(count)) for name, count in re.findall(r"^(\w+)\s+(\d+)$", (WORK / "strace").read_text(), re.M) if name != "total"]
+    each = ", ".join(f"{name} {count / done:.3f}" for name, count in counts if count * 1000 >= done)
+    print(f"syscalls of {server.name}: {sum(count for _, count in counts) / done:.3f} a query, over {done:,} queries ({each})")
 
 
 def glb(workers, program=GLB):
@@ -260,7 +263,7 @@ def main():
     print(f"{GROUPS} groups, {SECONDS} s a row, load {os.getloadavg()[0]:.1f} at the start")
     print("| Server, threads | Queries | a second | lost | user, µs | system, µs | both, µs |\n|---|---|---|---|---|---|---|")
     starts, counted = [], []
-    for workers in (1, 2):
+    for workers in (1, 2, 3):
         makers = [lambda: glb(workers)]
         makers += [lambda: gdnsd(workers, default, nets)] if shutil.which("gdnsd") else []
         makers += [lambda: knot(workers, default, nets)] if shutil.which("knotd") else []

@@ -1,5 +1,5 @@
 #!/usr/bin/env python3
-"""What workers.sh runs: `glb serve` with one, two and three workers, beside another build of it and gdnsd, in turns.
+"""What workers.sh runs: `glb serve` with one, two and three workers, beside another build of it, gdnsd and Knot, in turns.
 
     workers.py WORK [GROUPS [SECONDS [ROUNDS]]]      with the program in GLB, another one in GLB_OTHER, flood in WORK
 
@@ -41,6 +41,7 @@ def main():
     makers = [("glb", lambda n: serve.glb(n))]
     makers += [("the other", lambda n: serve.glb(n, other))] if other else []
     makers += [("gdnsd", lambda n: serve.gdnsd(n, default, nets))] if shutil.which("gdnsd") else []
+    makers += [("knot", lambda n: serve.knot(n, default, nets))] if shutil.which("knotd") else []
     rows = {}
     for _ in range(ROUNDS):
         for workers in (1, 2, 3):

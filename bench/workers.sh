@@ -1,9 +1,9 @@
 #!/usr/bin/env bash
 # Queries a second, and processor time a query, of `glb serve` with one, two and three workers, beside another build of it
-# (GLB_OTHER, if given) and gdnsd, each pinned to as many processors as it has workers. Needs four processors, and
+# (GLB_OTHER, if given), gdnsd and Knot, each pinned to as many processors as it has workers. Needs four processors, and
 #
 #     apt-get update
-#     apt-get install gcc libc6-dev gdnsd
+#     apt-get install gcc libc6-dev gdnsd knot knot-module-geoip
 #
 #     bench/workers.sh [GROUPS [SECONDS [ROUNDS]]]       1,024 groups, 10 seconds a row and three rounds if they are not given
 . "$(dirname "$0")/set-up.sh"

@@ -10,7 +10,7 @@ use Rattle.circle_laws.specs.Circles.{IsLastPlace, IsNextInLine}
 abbrev pub LeadInside : List (Option NodeId) → Type 0
 LeadInside leads = (n : ℕ) → n < length leads → IfSome (slice_index_or leads n None) (λ p. p.0 < length leads)
 
--- Where a unit leaves a node and the group next in line there is placed whole, the node leads to the pool of the group's last place: there a unit is left in turn.
+-- Where a unit leaves a node and the group next in line there is placed whole, the node leads to the pool of the group's last place: there a unit leaves in turn.
 pub record AreLeads (m : Market) (lines : List MapLine) (leads : List (Option NodeId)) : Type 0 where
   pub inside : LeadInside leads
   pub leads_on : (n g k j : ℕ) → n < length leads → IsNextInLine m (limit_of m) lines n g k → placed lines g ≡ demand_of m g → IsLastPlace lines g j → slice_index_or leads n None ≡ Some (record { 0 = pool_of m g j })

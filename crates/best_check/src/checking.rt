@@ -28,9 +28,9 @@ fn leads(alloc: Global, instance: &Instance, state: &State) -> Result<Vec<Option
 
 /// Whether the map of a state is the group-best one, where that can be told: it is, if this says yes. A no says nothing.
 ///
-/// The state is one of a good map, as a run ends in: each pointer is the number of its group's wanted places. It says yes
-/// where no circle of groups can all do better, each by the unit that the one before it leaves. Each offer before a
-/// pointer is looked at once, and each node a few times.
+/// The state is one of a good map, as a run ends in: each pointer is the number of its group's wanted places. It looks
+/// for a circle of groups that can all do better, each by the unit that the one before it leaves, and says yes where it can
+/// show that there is none. Each offer before a pointer is looked at once, and each node a few times.
 ///
 /// # Errors
 ///

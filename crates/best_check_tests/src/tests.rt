@@ -108,7 +108,41 @@ const AT_ITS_LIMIT: World = World {
     names: &[(0, 0, LIMIT), (1, 0, 1)],
 };
 
+/// Two groups would exchange units, of which one may have one unit alone at its first choice.
+const LIMITED_CIRCLE: World = World {
+    name: "a circle under a limit",
+    nodes: &[(2, None, POOL), (2, None, POOL)],
+    groups: &[(2, &[(0, 2), (1, 1)]), (2, &[(1, 2), (0, 1)])],
+    lines: &[(0, 1, 2), (1, 1, 2)],
+    names: &[(0, 0, 0), (1, 0, 1)],
+};
+
+/// The same once that unit was exchanged.
+const LIMITED_CIRCLE_BETTER: World = World {
+    name: "a circle under a limit, better",
+    lines: &[(0, 0, 1), (0, 1, 1), (1, 0, 1), (1, 1, 1)],
+    names: &[(0, 0, LIMIT), (1, 0, 1)],
+    ..LIMITED_CIRCLE
+};
+
+/// A closed node above the first choice: it holds nothing, is full, and refuses all.
+const CLOSED_REGION: World = World {
+    name: "a closed region",
+    nodes: &[
+        (5, None, INNER),
+        (0, Some(0), INNER),
+        (9, Some(1), POOL),
+        (1, None, POOL),
+    ],
+    groups: &[(1, &[(2, 1), (3, 1)]), (1, &[(3, 2)])],
+    lines: &[(0, 1, 1)],
+    names: &[(0, 0, 1), (1, 0, 3)],
+};
+
 const ROWS: &[Row] = &[
+    (LIMITED_CIRCLE, &[(0, 0, 1)], false),
+    (LIMITED_CIRCLE_BETTER, &[(0, 0, 1)], true),
+    (CLOSED_REGION, &[], true),
     (TWO_GOOD_MAPS, &[], false),
     (BETTER_OF_TWO, &[], true),
     (THREE_IN_A_CIRCLE, &[], false),

@@ -30,6 +30,6 @@ pub record IsCircleFree (m : Market) (limits : ℕ → ℕ → ℕ) (lines : Lis
   pub numbers : List ℕ
   pub falls : (pool g k j : ℕ) → IsTrue (is_pool_at m pool) → IsNextInLine m limits lines pool g k → placed lines g ≡ demand_of m g → IsLastPlace lines g j → slice_index numbers (pool_of m g j) < slice_index numbers pool
 
--- what offers may hold if they are to have no more than a state leaves them: before its group's pointer no more than is held there
+-- what offers may hold if they are to have no more than a state leaves them: before its group's pointer no more than is held there, and nowhere more than their limits
 abbrev pub limits_below : Market → List MapLine → List ℕ → ℕ → ℕ → ℕ
 limits_below m held pointers g k = if nat_lt k (slice_index pointers g) then min (limit_of m g k) (amount_at held g k) else limit_of m g k

@@ -1,15 +1,18 @@
 -- An ended state gives a good map.
-use Rattle.std.proofs.Common.{◌≡◌, ℕ, ◌+◌, ◌<◌, ◌≤◌, ◌==◌, Bool, true, false, ◌&&◌, nat_le, if◌then◌else◌, List, [], ◌∷◌, ◌++◌, append_assoc, Option, None, Some, All, slice_index, refl, sym, ap, ◌∙◌, subst, inl, inr, arith}
+use Rattle.std.proofs.Common.{◌≡◌, ℕ, zero, suc, ◌+◌, ◌-◌, ◌<◌, ◌≤◌, ◌==◌, Bool, true, false, ◌&&◌, nat_le, nat_lt, if◌then◌else◌, List, [], ◌∷◌, ◌++◌, length, append_assoc, Option, None, Some, All, slice_index, refl, sym, ap, ◌∙◌, subst, inl, inr, arith}
 use Rattle.std.specs.List.{cons_option}
 use Rattle.std.proofs.lemmas.List.Elements.{All-head, All-tail}
-use Rattle.std.proofs.lemmas.Bool.{cases_lt, eq-eqb, eqb-true, ltb-true, leb-false}
+use Rattle.std.proofs.lemmas.Bool.{cases_Bool, cases_lt, eq-eqb, eqb-true, ltb-true, leb-false}
 use Rattle.std.proofs.lemmas.List.Sums.{sum_by-cons}
 use Rattle.map_model.specs.declared.lines.MapLine.{MapLine}
 use Rattle.map_model.specs.declared.lines.NameLine.{NameLine}
-use Rattle.map_model.specs.Market.{Market, demand_of}
-use Rattle.map_model.specs.Allocation.{IsGood, IsOffer, amount_at, placed_through, names_of, placed}
+use Rattle.map_model.specs.Market.{Market, choices_of, demand_of}
+use Rattle.map_model.specs.Allocation.{IsGood, IsOffer, amount_at, is_wanted, name_of, placed_through, names_of, placed}
 use Rattle.map_model.specs.Progress.{IsEnded}
 use Rattle.map_model.proofs.MapForm.{offers-AreLines}
+use Rattle.map_model.proofs.Units.{placed_through-below, placed_through-split}
+use Rattle.stable_check.specs.Due.{due}
+use Rattle.stable_check.proofs.Names.{due_done, due_step}
 use Rattle.evict.specs.Standing.{IsReady, Standing}
 
 -- where a group holds nothing at places after one, all its units stand up to there
@@ -59,3 +62,27 @@ push_turn names here next all due_now name so_far is some = append_assoc names (
 -- and where none is due, they stay
 pub skip_turn : (names here next all : List NameLine) (due_now : Option NameLine) → names ++ here ≡ all → here ≡ cons_option due_now next → due_now ≡ None → names ++ next ≡ all
 skip_turn names here next all due_now so_far is none = ap (λ ys. names ++ ys) (sym (is ∙ ap (λ o. cons_option o next) none)) ∙ so_far
+
+not_less : (a b : ℕ) → b ≤ a → nat_lt a b ≡ false
+not_less a b le = elim (cases_Bool (nat_lt a b)) [ inr n ↦ n | inl y ↦ absurd (omega (arith, ltb-true a b y, le)) ]
+
+no_name : (wanted : Bool) (name : Option NameLine) → wanted ≡ false → (if wanted then name else None) ≡ None
+no_name wanted name is = rw is refl
+
+-- an offer that is not wanted has no name
+unwanted : (m : Market) (lines : List MapLine) (g k : ℕ) → demand_of m g ≤ placed_through lines g k → name_of m lines (record { group = record { 0 = g }; place = k }) ≡ None
+unwanted m lines g k met = no_name (is_wanted m lines g k) _ (not_less (placed_through lines g k) (demand_of m g) met)
+
+-- from a place on up to which a group has all that it asks for, no name is due
+pub due_met : (m : Market) (lines : List MapLine) (g k : ℕ) → demand_of m g ≤ placed_through lines g k → due m lines g k ≡ []
+due_met m lines g k met = go (length (choices_of m g) - k) k (omega arith) met
+  where
+    go : (n k : ℕ) → length (choices_of m g) ≤ k + n → demand_of m g ≤ placed_through lines g k → due m lines g k ≡ []
+    go zero k end met = due_done m lines g k (omega arith)
+    go (suc n) k end met = elim (cases_lt k (length (choices_of m g))) [
+      | inl within ↦
+          due_step m lines g k within
+          ∙ ap (λ o. cons_option o (due m lines g (k + 1))) (unwanted m lines g k met)
+          ∙ go n (k + 1) (omega arith) (omega (arith, met, placed_through-below lines g k, placed_through-split lines g (k + 1)))
+      | inr past ↦ due_done m lines g k past
+    ]

@@ -22,3 +22,4 @@ pub mod Turned
 pub mod Traces
 pub mod Made
 pub mod Courses
+pub mod Barred

@@ -1,52 +1,58 @@
 //! The map of an ended state.
 
 ghost use Rattle.std.specs.Prelude.{◌≡◌, ◌++◌, ◌<◌, IfOk, OnOk, length};
-ghost use Rattle.map_model.specs.Allocation.{IsGood, placed_through, name_of, names_of};
+ghost use Rattle.map_model.specs.Market.{demand_of};
+ghost use Rattle.map_model.specs.Allocation.{IsGood, IsOffer, placed_through, name_of, names_of};
 ghost use Rattle.map_model.specs.Progress.{IsEnded, IsGroupBest};
 ghost use Rattle.best_laws.specs.Ahead.{IsAhead};
 ghost use Rattle.stable_check.specs.Due.{due};
-ghost use Rattle.evict.specs.Standing.{CanAsk, IsReady};
+ghost use Rattle.evict.specs.Standing.{IsReady};
+ghost use Rattle.deferred_accept.specs.Bars.{IsBarTable};
 
+use crate::bars::{Bar, bars_of, refuser};
 use evict::State;
-use map_model::{GroupId, Instance, MapLines, NameLine, Offer, Units};
+use map_model::{GroupId, Instance, MapLines, NameLine, Offer};
 use no_memory::NoMemory;
 use std::alloc::Global;
 
-/// The name of an offer, if it is wanted: what refuses it. The group has that many units there and at
-/// better places.
-fn name(instance: &Instance, state: &State, offer: Offer, through: Units) -> Option<NameLine>
-    requires asked { CanAsk instance.now state.now offer.group.0 offer.place }
-    requires through { through ≡ placed_through state.now.lines offer.group.0 offer.place }
+/// The name of a wanted offer: what refuses it, if anything does.
+fn name(instance: &Instance, state: &State, bars: &[Option<Bar>], offer: Offer) -> Option<NameLine>
+    requires ready { IsReady instance.now state.now }
+    requires bars { IsBarTable instance.now state.now.lines bars.now }
+    requires offer { IsOffer instance.now offer.group.0 offer.place }
+    requires wanted { placed_through state.now.lines offer.group.0 offer.place < demand_of instance.now offer.group.0 }
     ensures { result ≡ name_of instance.now state.now.lines offer }
 {
-    if through < u64::from(instance.demand(offer.group)) {
-        let by = state.refuser(instance, offer)?;
-        Some(NameLine {
-            group: offer.group,
-            place: offer.place,
-            by,
-        })
-    } else {
-        None
-    }
+    let by = refuser(instance, state, bars, offer)?;
+    Some(NameLine {
+        group: offer.group,
+        place: offer.place,
+        by,
+    })
 }
 
-/// Adds the names of a group's wanted offers, the best place first.
+/// Adds the names of a group's wanted offers, the best place first: behind the first place that is not wanted none is.
 fn add_names_of(
     instance: &Instance,
     state: &State,
+    bars: &[Option<Bar>],
     group: GroupId,
     names: &mut Vec<NameLine>,
 ) -> Result<(), NoMemory>
     requires ready { IsReady instance.now state.now }
+    requires bars { IsBarTable instance.now state.now.lines bars.now }
     requires group { group.0 < length instance.now.groups }
     ensures { OnOk result (names.new.items ≡ names.old.items ++ due instance.now state.now.lines group.0 0) }
 {
+    let demand = u64::from(instance.demand(group));
     let mut through = 0;
     for place in 0..instance.list_len(group) {
         let offer = Offer { group, place };
         through += state.units(offer);
-        if let Some(name) = name(instance, state, offer, through) {
+        if through >= demand {
+            return Ok(());
+        }
+        if let Some(name) = name(instance, state, bars, offer) {
             names.push(name)?;
         }
     }
@@ -58,9 +64,10 @@ fn all_names(alloc: Global, instance: &Instance, state: &State) -> Result<Vec<Na
     requires { IsReady instance.now state.now }
     ensures { IfOk result (λ names. names.items ≡ names_of instance.now state.now.lines) }
 {
+    let bars = bars_of(alloc, instance, state)?;
     let mut names = Vec::new(alloc);
     for g in 0..instance.groups() {
-        add_names_of(instance, state, GroupId(g), &mut names)?;
+        add_names_of(instance, state, bars.as_slice(), GroupId(g), &mut names)?;
     }
     Ok(names)
 }

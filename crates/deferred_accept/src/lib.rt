@@ -1,6 +1,7 @@
 //! Deferred acceptance: groups offer their free units place by place until no offer is left.
 #![tactic(auto)]
 
+mod bars;
 mod circle;
 mod finishing;
 mod pace;

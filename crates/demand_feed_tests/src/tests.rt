@@ -10,7 +10,7 @@ use demand_feed::{
 use outside::MemSource;
 use std::alloc::Global;
 use topology_text::{Topology, TopologyFault, read_topology};
-use worlds::EXAMPLE_TREE;
+use worlds::{EXAMPLE_FEED, EXAMPLE_TREE};
 
 /// What is read, with no word on it: the checks of those who call this are short.
 fn topology_of(alloc: Global, text: &str) -> Result<Topology, TopologyFault> {
@@ -224,25 +224,6 @@ fn comes(
     }
 }
 
-const FEED: &[u8] = b"demand g2 4
-commit
-
-demand nobody 3
-demand g1 0
-capacity A 281474976710657
-commit
-commit
-ask 198.51.100.7 1234
-show\xff
-commit now
-show
-capacity B 7
-commit
-demand g1 3
-capacity A 281474976710656
-commit
-show";
-
 const CAME: &[Seen] = &[
     Seen::Batch(1),
     Seen::Refused(3, Refusal::Line(LineFault::UnknownWord)),
@@ -263,8 +244,8 @@ const CAME: &[Seen] = &[
 /// Whether the same comes of the feed in pieces of each size.
 fn comes_by_any_size(alloc: Global, topology: &Topology, want: &[Seen]) -> bool {
     for size in 1..71usize {
-        let pieces = FEED.len().div_ceil(size);
-        if !comes(alloc, topology, FEED, size, want, pieces) {
+        let pieces = EXAMPLE_FEED.len().div_ceil(size);
+        if !comes(alloc, topology, EXAMPLE_FEED, size, want, pieces) {
             return false;
         }
     }

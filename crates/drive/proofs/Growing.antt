@@ -111,7 +111,7 @@ work_grew end items before after (inr p) =
 feeds_grew : (feeders : ℕ) (end : FeedEnd) (items : List Item) (before after : Scene) → AreFeeds feeders end items before after → Grew before after
 feeds_grew feeders end items before after f = work_grew end items before (record after { pace = f.calls }) f.ended
 
-last_appended : (h : List Version) (v : Version) → slice_get (h ++ v ∷ []) (length (h ++ v ∷ []) - 1) ≡ Some v
+pub last_appended : (h : List Version) (v : Version) → slice_get (h ++ v ∷ []) (length (h ++ v ∷ []) - 1) ≡ Some v
 last_appended [] v = refl
 last_appended (x ∷ h) v =
     let size : length (x ∷ h ++ v ∷ []) - 1 ≡ suc (length (h ++ v ∷ []) - 1) = omega (arith, length-append h (v ∷ [])) in

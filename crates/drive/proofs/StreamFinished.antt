@@ -9,7 +9,7 @@ use Rattle.published_map.specs.Version.{Version}
 use Rattle.lane_model.specs.declared.ended.Ended.{Ended}
 use Rattle.lane_model.specs.Turns.{AreGiven, entries_of, tries_of}
 use Rattle.lane_model.specs.Calls.{Eyes}
-use Rattle.tcp_lane.specs.Calls.{AreRuled, IsStreamCall, IsStreamEnd, StreamMoment, inner}
+use Rattle.tcp_lane.specs.Calls.{AreRuled, IsStreamCall, IsStreamEnd, StreamMoment, inner, stream_refusals}
 use Rattle.tcp_lane.specs.Replies.{stream_replies}
 use Rattle.tcp_lane.specs.Stream.{IsStreamRun}
 use Rattle.tcp_lane.specs.Turns.{Line, lane_of, lead_of, no_line}
@@ -48,8 +48,8 @@ stream_of turns first rest w m m' f served e n n' j k asked seen heard count fre
         r.0,
         r.1,
         r.2,
-        stream_run_longer stream_replies m'.eyes.seen line.0.over w 0 0 r.0 (entries_of stream_replies.way (lane_of c.log)) (tries_of (lane_of c.log)) line.1
-            (subst (λ (x : ℕ). IsStreamRun stream_replies m'.eyes.seen w x 0 r.0 (entries_of stream_replies.way (lane_of c.log)) (tries_of (lane_of c.log))) count r.3),
+        stream_run_longer stream_replies m'.eyes.seen line.0.over w 0 0 (stream_refusals c.log) r.0 (entries_of stream_replies.way (lane_of c.log)) (tries_of (lane_of c.log)) line.1
+            (subst (λ (x : ℕ). IsStreamRun stream_replies m'.eyes.seen w x 0 (stream_refusals c.log) r.0 (entries_of stream_replies.way (lane_of c.log)) (tries_of (lane_of c.log))) count r.3),
       );
       rules = (c.rules.0, subst (λ (x : Line). AreRuled x c.log c.rules.0) fresh c.rules.1, c.rules.2);
       ending = c.ending;

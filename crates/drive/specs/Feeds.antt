@@ -13,7 +13,7 @@ use Rattle.mapper.specs.Feeding.{IsFeed}
 use Rattle.mapper.specs.Feeds.{AreFeeds, HasMerged}
 use Rattle.mapper.specs.Scenes.{Scene}
 
--- a further feed at one moment: what it tells, and how often a read of it has failed
+-- a further feed at one moment: what it tells, and how often an opening or a read of it has failed
 pub record FeedTold : Type 0 where
   pub fed : Option Fed
   pub faults : ℕ

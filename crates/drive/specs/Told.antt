@@ -38,7 +38,7 @@ stream_told streams stream_faults gate asked looks greatest door_faults lane = r
   noted = lane.noted;
 }
 
--- a further feed, by what it tells and how often a read of it has failed
+-- a further feed, by what it tells and how often an opening or a read of it has failed
 abbrev pub feed_told : {T : Type 0} → (T → Option Fed) → (T → ℕ) → T → FeedTold
 feed_told fed faults feed = record { fed = fed feed; faults = faults feed }
 

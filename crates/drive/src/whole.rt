@@ -138,7 +138,8 @@ fn prepare<J: Naming, R: Threads>(
     let row = NoteRow::new(alloc)?;
     let lanes = hold_all(alloc, viewers, turns)?;
     let stream = hold_one(listener, count as u8, turns);
-    // one joins all lanes, and each lane, that for conversations and each feeder has one of its own
+    // each lane has a thread, which forks that of the lanes before it, so the first lane's forks one that finds none; and
+    // that for conversations and each feeder has one of its own
     let threads = 1 + count + usize::from(stream.is_some()) + feeders;
     if !can_fork(rt, alloc, threads) {
         return Err(NoMemory);

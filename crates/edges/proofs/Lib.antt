@@ -1,3 +1,5 @@
 pub mod Ports
 pub mod Puts
 pub mod Leasts
+pub mod Found
+pub mod Told

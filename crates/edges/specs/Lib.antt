@@ -4,3 +4,4 @@ pub mod Streams
 pub mod Pasts
 pub mod Places
 pub mod Rooms
+pub mod Halls

@@ -1,7 +1,8 @@
 -- Which connection has a place, gives way, or is handed over next.
-use Rattle.std.specs.Prelude.{◌≡◌, ℕ, ◌≤◌, ◌⊎◌, ◌/◌, ◌^◌, ◌==◌, ◌&&◌, ◌||◌, Bool, false, not, nat_lt, List, All, Option, None, Some, is_some, if◌then◌else◌, slice_get}
+use Rattle.std.specs.Prelude.{◌≡◌, ℕ, ◌≤◌, ◌/◌, ◌^◌, ◌==◌, ◌&&◌, ◌||◌, Bool, true, false, not, nat_le, nat_lt, List, All, count_by, position, Option, None, Some, is_some, MatchBool, MatchOption, if◌then◌else◌, slice_get}
 use Rattle.addr_text.specs.declared.address.Addr.{Addr}
 use Rattle.addr_text.specs.declared.address.Addr.TheVariants.{V4, V6}
+use Rattle.addr_text.specs.declared.address.Peer.{Peer}
 use Rattle.edges.specs.declared.places.Found.{Found}
 use Rattle.edges.specs.declared.places.Wanted.{Wanted}
 use Rattle.edges.specs.declared.places.Wanted.TheVariants.{Oldest, OldestOf, FirstInTurn}
@@ -33,6 +34,31 @@ abbrev pub IsLeastSoFar : Wanted → List Seat → Option Found → Type 0
 IsLeastSoFar wanted seats None = All (λ s. key_of wanted s ≡ None) seats
 IsLeastSoFar wanted seats (Some least) = (seat : Seat) × (slice_get seats least.place ≡ Some seat) × (key_of wanted seat ≡ Some least.key) × All (λ s. (k : ℕ) → key_of wanted s ≡ Some k → least.key ≤ k) seats
 
--- a place that is free, or whose connection does not wait to be handed over
-abbrev pub MayBeTaken : List Seat → ℕ → Type 0
-MayBeTaken seats i = (seat : Seat) × (slice_get seats i ≡ Some seat) × ((is_some seat.stream ≡ false) ⊎ (seat.turn ≡ 0))
+-- the place of the one that is looked for, and None only where there is none
+abbrev pub IsFound : Wanted → List Seat → Option ℕ → Type 0
+IsFound wanted seats None = All (λ s. key_of wanted s ≡ None) seats
+IsFound wanted seats (Some i) = IsLeast wanted seats i
+
+-- a place has no connection
+abbrev pub is_free : Seat → Bool
+is_free seat = not (is_some seat.stream)
+
+-- The place for a connection of an address that comes: where there are as many of its address as there may be, that of the oldest of these; else the first that is free, and where none is, that of the oldest of all.
+abbrev pub IsPlaceFor : List Seat → Addr → ℕ → Option ℕ → Type 0
+IsPlaceFor seats addr most found = MatchBool (nat_le most (count_by (is_of addr) seats)) (IsFound (OldestOf addr) seats found) (MatchOption (position is_free seats) (IsFound Oldest seats found) (λ i. found ≡ Some i))
+
+-- the place whose connection is handed over next, and that connection's peer
+abbrev pub IsNextTalk : List Seat → ℕ → Peer → Type 0
+IsNextTalk seats i peer = (seat : Seat) × (slice_get seats i ≡ Some seat) × (peer ≡ seat.peer) × IsLeast FirstInTurn seats i
+
+-- nothing is at a place, so nothing waits there
+abbrev pub IsVacant : Seat → Type 0
+IsVacant seat = (is_free seat ≡ true) × (seat.turn ≡ 0)
+
+-- a place has a connection of a peer, which came at that time, and does not wait
+abbrev pub IsTaken : Peer → ℕ → Seat → Type 0
+IsTaken peer now seat = (is_free seat ≡ false) × (seat.peer ≡ peer) × (seat.since ≡ now) × (seat.turn ≡ 0)
+
+-- a place has the connection that it had, if any, which waits as before
+abbrev pub IsSameSeat : Seat → Seat → Type 0
+IsSameSeat seat seat' = (is_free seat' ≡ is_free seat) × (seat'.peer ≡ seat.peer) × (seat'.since ≡ seat.since) × (seat'.turn ≡ seat.turn)

@@ -1,11 +1,13 @@
 //! A listener of TCP, and what waits for it and for its connections.
-ghost use Rattle.std.specs.Prelude.{◌≡◌, ◌↔◌};
+ghost use Rattle.std.specs.Prelude.{◌≡◌, ◌⊎◌, ◌↔◌, ℕ, true, false, Some};
+ghost use Rattle.edges.specs.Places.{IsLeast, IsPlaceFor, IsTaken, IsVacant};
+ghost use Rattle.edges.specs.Rooms.{IsChangedAt, IsEmpty};
 
 use crate::judged::{Knock, knock_of};
 use crate::peers::{peer_of, socket_addr};
 use crate::places::{Wanted, least, place_for};
 use crate::room::Room;
-use crate::seat::{Seat, leave};
+use crate::seat::{Seat, put_at};
 use addr_text::{Listen, Peer};
 use handed_in::{handed_in, take_tcp};
 use mio::net::{TcpListener, TcpStream};
@@ -115,11 +117,10 @@ impl Ears {
         peer: Peer,
         most_of_one: usize,
         now: u64,
-    ) {
+    )
+        ensures { ((seats.new ≡ seats.old) × (rooms.new ≡ rooms.old)) ⊎ ((i : ℕ) × IsPlaceFor seats.old peer.addr most_of_one (Some i) × IsChangedAt (λ _ seat. IsTaken peer now seat) i seats.old seats.new × IsChangedAt (λ _ room. IsEmpty room) i rooms.old rooms.new) }
+    {
         let Some(i) = place_for(seats, peer.addr, most_of_one) else {
-            return;
-        };
-        let (Some(seat), Some(room)) = (seats.get_mut(i), rooms.get_mut(i)) else {
             return;
         };
         let mut stream = stream;
@@ -132,8 +133,7 @@ impl Ears {
             .register(&mut stream, token, wanted)
             .is_ok()
         {
-            leave(seat, room);
-            *seat = Seat::taken(stream, peer, now);
+            let _ = put_at(seats, rooms, i, Seat::taken(stream, peer, now));
         }
     }
 
@@ -188,13 +188,12 @@ fn note_all(events: &Events, seats: &mut [Seat], is_knocked: &mut bool) {
 }
 
 /// Leaves the connection that is idle for the longest time. Answers whether there was one.
-fn make_room(seats: &mut [Seat], rooms: &mut [Room]) -> bool {
-    let Some(i) = least(seats, Wanted::Oldest) else {
-        return false;
-    };
-    let (Some(seat), Some(room)) = (seats.get_mut(i), rooms.get_mut(i)) else {
-        return false;
-    };
-    leave(seat, room);
-    true
+fn make_room(seats: &mut [Seat], rooms: &mut [Room]) -> bool
+    ensures left { result ≡ true → (i : ℕ) × IsLeast Wanted.Oldest seats.old i × IsChangedAt (λ _ seat. IsVacant seat) i seats.old seats.new × IsChangedAt (λ _ room. IsEmpty room) i rooms.old rooms.new }
+    ensures none { result ≡ false → (seats.new ≡ seats.old) × (rooms.new ≡ rooms.old) }
+{
+    match least(seats, Wanted::Oldest) {
+        Some(i) => put_at(seats, rooms, i, Seat::free()),
+        None => false,
+    }
 }

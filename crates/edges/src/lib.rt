@@ -13,6 +13,7 @@
 
 mod ears;
 mod file_shelf;
+mod hall;
 mod heard;
 mod judged;
 mod many_streams;

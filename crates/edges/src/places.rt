@@ -1,10 +1,10 @@
 //! Which connection has a place, gives way, or is handed over next.
-ghost use Rattle.std.specs.Prelude.{◌≡◌, ◌≤◌, ◌∷◌, [], ◌++◌, List, length, IfNone, IfSome, All};
-ghost use Rattle.edges.specs.Places.{IsLeast, IsLeastSoFar, MayBeTaken, is_of, is_same, key_of};
+ghost use Rattle.std.specs.Prelude.{◌≡◌, ◌∷◌, [], ◌++◌, List, length, IfNone, IfSome, All, count_by, position};
+ghost use Rattle.edges.specs.Places.{IsFound, IsLeastSoFar, IsNextTalk, IsPlaceFor, is_free, is_of, is_same, key_of};
 ghost use Rattle.edges.specs.declared.seat.Seat.{Seat};
 
 use crate::seat::Seat;
-use addr_text::Addr;
+use addr_text::{Addr, Peer};
 
 /// How many addresses of IPv6 one network of one owner has.
 const HOSTS: u128 = 1 << 64;
@@ -80,8 +80,7 @@ fn lesser(seat: &Seat, place: usize, wanted: Wanted, found: Option<Found>) -> Op
 
 /// The place of the connection that is looked for, the first of those that are alike.
 pub(crate) fn least(seats: &[Seat], wanted: Wanted) -> Option<usize>
-    ensures some { IfSome result (λ i. IsLeast wanted seats.now i) }
-    ensures none { IfNone result (All (λ s. key_of wanted s ≡ None) seats.now) }
+    ensures { IsFound wanted seats.now result }
 {
     let mut found = None;
     for (i, seat) in seats.iter().enumerate() {
@@ -94,20 +93,39 @@ pub(crate) fn least(seats: &[Seat], wanted: Wanted) -> Option<usize>
 }
 
 /// How many connections of an address there are.
-fn count_of(seats: &[Seat], addr: Addr) -> usize {
+fn count_of(seats: &[Seat], addr: Addr) -> usize
+    ensures { result ≡ count_by (is_of addr) seats.now }
+{
     seats.iter().filter(|seat| is_of(seat, addr)).count()
 }
 
-/// The place that a connection of an address may take: a free one, or that of the one that is idle for the longest time;
+/// The first place that is free.
+fn first_free(seats: &[Seat]) -> Option<usize>
+    ensures { result ≡ position is_free seats.now }
+{
+    seats.iter().position(|seat| seat.stream.is_none())
+}
+
+/// The place for a connection of an address that comes: a free one, or that of the one that is idle for the longest time;
 /// where there are as many of its address as there may be, of the one of these. None that waits to be handed over gives way.
 pub(crate) fn place_for(seats: &[Seat], addr: Addr, most_of_one: usize) -> Option<usize>
-    ensures { IfSome result (MayBeTaken seats.now) }
+    ensures { IsPlaceFor seats.now addr most_of_one result }
 {
     if count_of(seats, addr) >= most_of_one {
         return least(seats, Wanted::OldestOf(addr));
     }
-    match seats.iter().position(|seat| seat.stream.is_none()) {
+    match first_free(seats) {
         Some(i) => Some(i),
         None => least(seats, Wanted::Oldest),
     }
+}
+
+/// The place whose connection is handed over next, the one that has waited longest, and its peer.
+pub(crate) fn next_talk(seats: &[Seat]) -> Option<(usize, Peer)>
+    ensures some { IfSome result (λ next. IsNextTalk seats.now next.0 next.1) }
+    ensures none { IfNone result (All (λ s. key_of Wanted.FirstInTurn s ≡ None) seats.now) }
+{
+    let i = least(seats, Wanted::FirstInTurn)?;
+    let seat = seats.get(i)?;
+    Some((i, seat.peer))
 }

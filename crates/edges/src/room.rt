@@ -1,6 +1,6 @@
 //! The octets of a connection: those that came and are to be handed over, and those of replies that are to go.
-ghost use Rattle.std.specs.Prelude.{◌≡◌, ◌⊎◌, ◌≤◌, ◌++◌, length, take, drop, true, false, []};
-ghost use Rattle.tcp_frames.specs.Split.{AreWhole, HasNoMessage, IsOverlong};
+ghost use Rattle.std.specs.Prelude.{◌≡◌, ◌⊎◌, ◌++◌, drop, true, false, [], IfNone, IfSome};
+ghost use Rattle.edges.specs.Rooms.{IsChangedAt, IsEmpty, IsHandingOver, IsKeeping};
 
 use arrayvec::ArrayVec;
 use tcp_frames::{Batch, LARGEST_FRAME, LARGEST_REPLY_FRAME, MOST_MESSAGES, batch_of};
@@ -29,7 +29,7 @@ pub(crate) fn behind<const N: usize>(octets: &ArrayVec<u8, N>, len: usize) -> Ar
 impl Room {
     /// One without octets.
     pub(crate) fn new() -> Room
-        ensures { (result.coming.items ≡ []) × (result.going.items ≡ []) }
+        ensures { IsEmpty result }
     {
         Room {
             coming: ArrayVec::new(),
@@ -39,7 +39,7 @@ impl Room {
 
     /// Forgets all octets.
     pub(crate) fn clear(&mut self)
-        ensures { (self.new.coming.items ≡ []) × (self.new.going.items ≡ []) }
+        ensures { IsEmpty self.new }
     {
         self.coming.clear();
         self.going.clear();
@@ -48,13 +48,7 @@ impl Room {
     /// Hands over what stands at the front of what has come: moves it to the front of a buffer, and answers how many
     /// octets these are. They are whole messages, or the length that is too great for one.
     pub(crate) fn hand_over(&mut self, buffer: &mut [u8]) -> Batch
-        ensures within { result.len ≤ length buffer.old }
-        ensures buffer { length buffer.new ≡ length buffer.old }
-        ensures handed { self.old.coming.items ≡ take result.len buffer.new ++ self.new.coming.items }
-        ensures going { self.new.going.items ≡ self.old.going.items }
-        ensures whole { result.is_faulty ≡ false → AreWhole (take result.len buffer.new) }
-        ensures faulty { result.is_faulty ≡ true → (result.len ≡ 2) × IsOverlong self.old.coming.items }
-        ensures none { LARGEST_FRAME ≤ length buffer.old → result.len ≡ 0 → HasNoMessage self.old.coming.items }
+        ensures { IsHandingOver buffer.old buffer.new result self.old self.new }
     {
         let most = buffer.len().min(self.coming.len());
         let batch = batch_of(&self.coming.as_slice()[..most]);
@@ -65,9 +59,7 @@ impl Room {
 
     /// Keeps a reply behind those that are to go, where there is room for it. It answers whether there was.
     pub(crate) fn keep(&mut self, reply: &[u8]) -> bool
-        ensures kept { result ≡ true → self.new.going.items ≡ self.old.going.items ++ reply.now }
-        ensures full { result ≡ false → self.new.going.items ≡ self.old.going.items }
-        ensures coming { self.new.coming.items ≡ self.old.coming.items }
+        ensures { IsKeeping reply.now result self.old self.new }
     {
         self.going.try_extend_from_slice(reply).is_ok()
     }
@@ -87,4 +79,23 @@ impl Room {
     {
         self.going = behind(&self.going, len);
     }
+}
+
+/// Hands over what stands at the front of what has come to the room of a place, if there is such a place.
+pub(crate) fn hand_over_at(rooms: &mut [Room], i: usize, buffer: &mut [u8]) -> Option<Batch>
+    ensures some { IfSome result (λ batch. IsChangedAt (IsHandingOver buffer.old buffer.new batch) i rooms.old rooms.new) }
+    ensures none { IfNone result (rooms.new ≡ rooms.old) }
+{
+    if i >= rooms.len() {
+        return None;
+    }
+    Some(rooms[i].hand_over(buffer))
+}
+
+/// Keeps a reply in the room of a place, where there is room for it. It answers whether there was.
+pub(crate) fn keep_at(rooms: &mut [Room], i: usize, reply: &[u8]) -> bool
+    ensures kept { result ≡ true → IsChangedAt (IsKeeping reply.now true) i rooms.old rooms.new }
+    ensures full { result ≡ false → (rooms.new ≡ rooms.old) ⊎ IsChangedAt (IsKeeping reply.now false) i rooms.old rooms.new }
+{
+    i < rooms.len() && rooms[i].keep(reply)
 }

@@ -1,6 +1,7 @@
 //! A place for a connection: whether it is taken, and what goes on with it.
-ghost use Rattle.std.specs.Prelude.{◌≡◌, []};
-ghost use Rattle.edges.specs.Rooms.{IsFilled, IsFlushed, IsSettled};
+ghost use Rattle.std.specs.Prelude.{◌≡◌, ◌⊎◌, true, false};
+ghost use Rattle.edges.specs.Places.{IsSameSeat, IsTaken, IsVacant};
+ghost use Rattle.edges.specs.Rooms.{IsChangedAt, IsEmpty, IsFilled, IsFlushed, IsSettled};
 
 use crate::room::Room;
 use addr_text::{Addr, Peer};
@@ -35,7 +36,9 @@ pub(crate) struct Seat {
 
 impl Seat {
     /// A place that is free.
-    pub(crate) fn free() -> Seat {
+    pub(crate) fn free() -> Seat
+        ensures { IsVacant result }
+    {
         Seat {
             stream: None,
             peer: Peer {
@@ -52,7 +55,9 @@ impl Seat {
     }
 
     /// A place that a connection takes.
-    pub(crate) fn taken(stream: TcpStream, peer: Peer, now: u64) -> Seat {
+    pub(crate) fn taken(stream: TcpStream, peer: Peer, now: u64) -> Seat
+        ensures { IsTaken peer now result }
+    {
         Seat {
             stream: Some(stream),
             peer,
@@ -77,7 +82,8 @@ fn meet(error: &Error, may_go_on: &mut bool, is_over: &mut bool) {
 
 /// Reads once.
 fn fill_once(seat: &mut Seat, room: &mut Room)
-    ensures { IsFilled room.old.coming.items room.new.coming.items room.old.going.items room.new.going.items }
+    ensures octets { IsFilled room.old.coming.items room.new.coming.items room.old.going.items room.new.going.items }
+    ensures seat { IsSameSeat seat.old seat.new }
 {
     let Some(stream) = &mut seat.stream else {
         return;
@@ -103,7 +109,8 @@ fn fill_once(seat: &mut Seat, room: &mut Room)
 
 /// Reads what is there.
 fn fill(seat: &mut Seat, room: &mut Room)
-    ensures { IsFilled room.old.coming.items room.new.coming.items room.old.going.items room.new.going.items }
+    ensures octets { IsFilled room.old.coming.items room.new.coming.items room.old.going.items room.new.going.items }
+    ensures seat { IsSameSeat seat.old seat.new }
 {
     for _ in 0..MOST_CALLS {
         if !seat.is_readable || seat.is_over || room.coming.is_full() {
@@ -115,7 +122,8 @@ fn fill(seat: &mut Seat, room: &mut Room)
 
 /// Writes once.
 fn flush_once(seat: &mut Seat, room: &mut Room)
-    ensures { IsFlushed room.old.coming.items room.new.coming.items room.old.going.items room.new.going.items }
+    ensures octets { IsFlushed room.old.coming.items room.new.coming.items room.old.going.items room.new.going.items }
+    ensures seat { IsSameSeat seat.old seat.new }
 {
     let Some(stream) = &mut seat.stream else {
         return;
@@ -128,7 +136,8 @@ fn flush_once(seat: &mut Seat, room: &mut Room)
 
 /// Writes what goes.
 fn flush(seat: &mut Seat, room: &mut Room)
-    ensures { IsFlushed room.old.coming.items room.new.coming.items room.old.going.items room.new.going.items }
+    ensures octets { IsFlushed room.old.coming.items room.new.coming.items room.old.going.items room.new.going.items }
+    ensures seat { IsSameSeat seat.old seat.new }
 {
     for _ in 0..MOST_CALLS {
         if !seat.is_writable || seat.is_over || room.going.is_empty() {
@@ -149,7 +158,8 @@ fn is_left(seat: &Seat, room: &Room, now: u64) -> bool {
 
 /// Leaves a connection.
 pub(crate) fn leave(seat: &mut Seat, room: &mut Room)
-    ensures { (room.new.coming.items ≡ []) × (room.new.going.items ≡ []) }
+    ensures seat { IsVacant seat.new }
+    ensures room { IsEmpty room.new }
 {
     *seat = Seat::free();
     room.clear();
@@ -158,7 +168,8 @@ pub(crate) fn leave(seat: &mut Seat, room: &mut Room)
 /// Writes and reads what goes and comes at once, and has the connection wait to be handed over where it has whole messages
 /// and no reply of it is to go. `turns` counts those that waited.
 pub(crate) fn settle(seat: &mut Seat, room: &mut Room, now: u64, turns: &mut u64)
-    ensures { IsSettled room.old.coming.items room.new.coming.items room.old.going.items room.new.going.items }
+    ensures octets { IsSettled room.old.coming.items room.new.coming.items room.old.going.items room.new.going.items }
+    ensures seat { IsVacant seat.new ⊎ ((seat.new.peer ≡ seat.old.peer) × (seat.new.since ≡ seat.old.since)) }
 {
     if seat.stream.is_none() {
         return;
@@ -171,5 +182,28 @@ pub(crate) fn settle(seat: &mut Seat, room: &mut Room, now: u64, turns: &mut u64
     }
     if is_left(seat, room, now) {
         leave(seat, room);
+    }
+}
+
+/// Has a place hold this, and no octets. Answers whether there is such a place.
+pub(crate) fn put_at(seats: &mut [Seat], rooms: &mut [Room], i: usize, seat: Seat) -> bool
+    ensures seat { result ≡ true → IsChangedAt (λ _ new. new ≡ seat) i seats.old seats.new }
+    ensures room { result ≡ true → IsChangedAt (λ _ new. IsEmpty new) i rooms.old rooms.new }
+    ensures none { result ≡ false → (seats.new ≡ seats.old) × (rooms.new ≡ rooms.old) }
+{
+    if i >= seats.len() || i >= rooms.len() {
+        return false;
+    }
+    seats[i] = seat;
+    rooms[i].clear();
+    true
+}
+
+/// Notes that the connection of a place is of no use any more.
+pub(crate) fn end_at(seats: &mut [Seat], i: usize)
+    ensures { (seats.new ≡ seats.old) ⊎ IsChangedAt IsSameSeat i seats.old seats.new }
+{
+    if i < seats.len() {
+        seats[i].is_over = true;
     }
 }

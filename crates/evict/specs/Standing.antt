@@ -10,7 +10,7 @@ use Rattle.evict.specs.declared.freed.Eviction.{Eviction}
 use Rattle.evict.specs.declared.rival.Rival.{Rival}
 use Rattle.evict.specs.Evictions.{IsEviction, freed_units, gave_up}
 
--- A state of deferred acceptance: the instance on whose lists and trees it rests, what is held, the pointer and the free units of each group, and whether it is whole. Want of memory in the middle of a put leaves one that is not whole: no call that changes its loads or tells them takes it, and it is only to be dropped.
+-- A state of deferred acceptance: the instance on whose lists and trees it rests, what is held, the pointer and the free units of each group, and whether it is whole. Want of memory in the middle of a put, a grant or a shift leaves one that is not whole: no call that changes its loads or tells them takes it, and it is only to be dropped.
 pub record Standing : Type 0 where
   pub market : Market
   pub lines : List MapLine

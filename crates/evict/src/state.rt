@@ -21,7 +21,7 @@ use std::alloc::Global;
 use std::marker::Model;
 
 /// A state of deferred acceptance: the units that offers hold, and for each group the place that it asks at next and its
-/// free units. A put or a shift that met want of memory on its way leaves a state that is not whole: no call that
+/// free units. A put, a grant or a shift that met want of memory on its way leaves a state that is not whole: no call that
 /// changes its loads or tells them takes it, and all that is left to do is drop it.
 #[derive(Debug, Drop)]
 pub struct State {

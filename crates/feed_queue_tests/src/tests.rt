@@ -12,7 +12,7 @@ use std::sync::Wait;
 use std::test::Fail;
 use std::thread::{Threads, join_mut};
 use topology_text::{Topology, TopologyFault, read_topology};
-use worlds::EXAMPLE_TREE;
+use worlds::{EXAMPLE_FEED, EXAMPLE_TREE};
 
 /// What is read, with no word on it: the checks of those who call this are short.
 fn topology_of(alloc: Global, text: &str) -> Result<Topology, TopologyFault> {
@@ -53,25 +53,6 @@ fn feed_of(alloc: Global, text: &[u8], size: usize, fails: &[u64]) -> Option<Mem
     MemSource::new(alloc, bytes, sizes, fails).ok()
 }
 
-const FEED: &[u8] = b"demand g2 4
-commit
-
-demand nobody 3
-demand g1 0
-capacity A 281474976710657
-commit
-commit
-ask 198.51.100.7 1234
-show\xff
-commit now
-show
-capacity B 7
-commit
-demand g1 3
-capacity A 281474976710656
-commit
-show";
-
 const SENT: &[Seen] = &[
     Seen::Commit(1),
     Seen::Refused(3, Refusal::Line(LineFault::UnknownWord)),
@@ -101,14 +82,14 @@ struct Row {
 
 const ROWS: &[Row] = &[
     Row {
-        feed: FEED,
+        feed: EXAMPLE_FEED,
         size: 1,
         fails: &[],
         turns: 1_000_000,
         sent: SENT,
     },
     Row {
-        feed: FEED,
+        feed: EXAMPLE_FEED,
         size: 1_000,
         fails: &[],
         turns: 1_000_000,

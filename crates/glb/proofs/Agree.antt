@@ -1,6 +1,6 @@
 -- What `map` and `repair` write is determined by their files, and what `serve` publishes by its topology and its feed.
-use Rattle.std.proofs.Common.{◌≡◌, ◌⊎◌, inl, inr, ℕ, ◌<◌, ◌≤◌, true, false, List, [], ◌∷◌, ◌++◌, length, map, None, Some, append-nil, sym, ap, ◌∙◌, subst}
-use Rattle.std.specs.Prelude.{Option, take}
+use Rattle.std.proofs.Common.{◌≡◌, ◌⊎◌, inl, inr, ℕ, ◌-◌, ◌<◌, ◌≤◌, true, false, List, [], ◌∷◌, ◌++◌, length, map, None, Some, append-nil, refl, sym, ap, ◌∙◌, subst}
+use Rattle.std.specs.Prelude.{Option, slice_get, take}
 use Rattle.std.specs.List.{concat}
 use Rattle.std.proofs.lemmas.List.{append_cancel_left}
 use Rattle.outside.specs.Faults.{BothTell}
@@ -9,19 +9,22 @@ use Rattle.outside.specs.declared.pace.PaceCall.{PaceCall}
 use Rattle.demand_feed.specs.Task.{Task, tasks}
 use Rattle.demand_feed.specs.Lines.{lines_of}
 use Rattle.published_map.specs.Version.{Version}
-use Rattle.mapper.specs.Control.{AllCome, Course, start}
+use Rattle.mapper.specs.Control.{AllCome, Course, IsNext, start}
 use Rattle.mapper.specs.Feeding.{AllCame, IsFeed}
 use Rattle.mapper.specs.Mappers.{IsFirst}
 use Rattle.mapper.specs.Scenes.{IsPrinted, scene}
 use Rattle.mapper.specs.Words.{map_text}
-use Rattle.mapper.proofs.Agree.{all_come_one, first_one}
-use Rattle.drive.specs.Driven.{Lent}
+use Rattle.mapper.specs.Merged.{Publishes}
+use Rattle.mapper.proofs.Agree.{all_come_one, first_one, versions_one}
+use Rattle.lane_model.specs.Machine.{GoesOn}
+use Rattle.drive.specs.Driven.{Lent, Succeeds}
+use Rattle.drive.proofs.Growing.{last_appended}
 use Rattle.drive.specs.Feeds.{AreFed}
 use Rattle.demand_feed.specs.Runs.{HasRead, IsAll, StopsLast}
 use Rattle.demand_feed.specs.declared.run.FeedEnd.TheVariants.{Ended}
 use Rattle.demand_feed.proofs.Octets.{ended_of_octets, octets_one, tasks_stopped}
 use Rattle.outside.specs.Source.{Fed}
-use Rattle.glb.specs.Laws.{AreOctetsOf, CameBy, MapsAgree, RepairsAgree, ServesAgree, ServesCome}
+use Rattle.glb.specs.Laws.{AreOctetsOf, CameBy, MapsAgree, RepairsAgree, ServesAgree, ServesCome, ServesPublish, ServesRepeat}
 use Rattle.glb.specs.Served.{IsWellServed}
 use Rattle.glb.specs.Told.{Surroundings}
 use Rattle.glb.specs.Words.{Service}
@@ -116,12 +119,35 @@ serves_come turns ask before after w octets none are =
     (subst (λ (f : Option Fed). AreOctetsOf f after.stage.lent.feed octets) (sym (feed_same turns ask before after w)) are) fed.run.1 fed.run.2 in
     came_by turns ask before after w (tasks w.topology (lines_of true octets)) fed.calls all
 
+-- two runs over one topology have the same first version
+first_same : (turns runs : ℕ) (ask other : Service) (before after then later : Surroundings) (x : IsWellServed turns ask before after) (y : IsWellServed runs other then later) → x.topology ≡ y.topology → x.first ≡ y.first
+first_same turns runs ask other before after then later x y same =
+    first_one y.topology y.is_plan.market (record { history = x.first ∷ []; newest = x.first }) (record { history = y.first ∷ []; newest = y.first }) (subst (λ (t : Plan). IsFirst t (record { history = x.first ∷ []; newest = x.first })) same x.is_first.0) y.is_first.0
+
 pub serves_agree : ServesAgree
 serves_agree turns runs ask other before after then later x y octets one also same are others =
     let a = serves_come turns ask before after x octets one are in
     let b = serves_come runs other then later y octets also others in
-    let of_x : IsFirst y.topology (record { history = x.first ∷ []; newest = x.first }) = subst (λ (t : Plan). IsFirst t (record { history = x.first ∷ []; newest = x.first })) same x.is_first.0 in
-    let first = first_one y.topology y.is_plan.market (record { history = x.first ∷ []; newest = x.first }) (record { history = y.first ∷ []; newest = y.first }) of_x y.is_first.0 in
+    let first = first_same turns runs ask other before after then later x y same in
     let ts = tasks y.topology (lines_of true octets) in
     let came : AllCome ts (start y.first) a.0 = subst (λ (v : Version). AllCome ts (start v) a.0) first (subst (λ (t : Plan). AllCome (tasks t (lines_of true octets)) (start x.first) a.0) same a.1.all) in
     (a.0, b.0, a.1, b.1, λ quiet also_quiet. (first, all_come_one ts (start y.first) a.0 b.0 came b.1.all quiet also_quiet))
+
+some_one : (v w : Version) → Some v ≡ Some w → v ≡ w
+some_one v w e = cc
+
+-- a history that goes on is what some batches lead to
+published_by : (h : List Version) (last : Version) (rest : List Version) → slice_get h (length h - 1) ≡ Some last → GoesOn Succeeds h rest → (batches : List (List Change)) × Publishes last batches rest
+published_by h last [] at on = ([], tt)
+published_by h last (v ∷ rest) at (next, on) =
+    let more = published_by (h ++ v ∷ []) v rest (last_appended h v) on in
+    let old : next.0 ≡ last = some_one next.0 last (sym next.2 ∙ at) in
+    (next.1 ∷ more.0, (subst (λ (o : Version). IsNext o next.1 v) old next.3, more.1))
+
+pub serves_publish : ServesPublish
+serves_publish turns ask before after w = published_by (w.first ∷ []) w.first w.rest refl w.goes_on
+
+pub serves_repeat : ServesRepeat
+serves_repeat turns runs ask other before after then later x y batches same one also =
+    let first : x.first ≡ y.first = first_same turns runs ask other before after then later x y same in
+    (first, versions_one y.first batches x.rest y.rest (subst (λ (v : Version). Publishes v batches x.rest) first one) also)

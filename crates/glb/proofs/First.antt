@@ -70,21 +70,25 @@ unfed_session turns ask first before started after start same = inr (inr (inr (i
 front_is : (front behind : List FeedTold) (n : ℕ) → length front ≡ n → take n (front ++ behind) ≡ front
 front_is front behind n is = subst (λ (k : ℕ). take k (front ++ behind) ≡ front) is (take-append_seam front behind)
 
-behind_is : (front behind : List FeedTold) (n : ℕ) → length front ≡ n → drop n (front ++ behind) ≡ behind
+behind_is : {A : Type 0} (front behind : List A) (n : ℕ) → length front ≡ n → drop n (front ++ behind) ≡ behind
 behind_is front behind n is = subst (λ (k : ℕ). drop k (front ++ behind) ≡ behind) is (drop-append_seam front behind)
+
+-- what is behind as many others is the same
+pub behind_same : {A : Type 0} (n : ℕ) (before after front then behind : List A) → before ≡ front ++ behind → after ≡ then ++ behind → length front ≡ n → length then ≡ length front → drop n after ≡ drop n before
+behind_same n before after front then behind was is count same = ap (drop n) is ∙ behind_is then behind n (same ∙ count) ∙ sym (ap (drop n) was ∙ behind_is front behind n count)
 
 -- it was started and served, with these further feeds ahead of those that were not opened
 pub served_session : (turns : ℕ) (ask : Service) (first : Version) (before started after : Stage) (front then behind : List FeedTold) (end : FeedEnd) (places : List (Option Ended)) (stream_end : Option Ended) (result : Status) → IsStarted ask first before started
-    → started.lent.more ≡ front ++ behind → after.lent.more ≡ then ++ behind → length front ≡ length ask.more → length then ≡ length front
+    → started.lent.more ≡ front ++ behind → after.lent.more ≡ then ++ behind → length front ≡ length ask.more → length then ≡ length front → drop (length ask.more) after.opens ≡ drop (length ask.more) started.opens
     → (ends : List Ended) × (length ends ≡ ask.workers) × AreEnds ends places × IsDriven turns first end ends stream_end (record started.lent { more = front }) (record after.lent { more = then }) → length (option_to_list stream_end) ≡ streams_of ask.tcp
     → result ≡ status_at end places stream_end → (end ≡ feed.SourceFault → Rose started.feed_faults after.feed_faults ⊎ AnyRose front then) → (end ≢ feed.SourceFault → (end ≡ feed.SinkFault → ask.more ≡ []) → (after.feed_faults ≡ started.feed_faults) × AllStand front then)
     → (end ≡ feed.SinkFault → Rose started.out_faults after.out_faults ⊎ Rose started.maps_faults after.maps_faults) → (end ≢ feed.SinkFault → (after.out_faults ≡ started.out_faults) × (after.maps_faults ≡ started.maps_faults))
     → (started.feed_faults ≤ after.feed_faults) × (started.out_faults ≤ after.out_faults) × (started.maps_faults ≤ after.maps_faults) × NoneFell front then → IsFirstSession turns ask first before after result
-served_session turns ask first before started after front then behind end places stream_end result start more past count same (ends, as_many, are, driven) asked answer source stays sink sink_stays later =
+served_session turns ask first before started after front then behind end places stream_end result start more past count same opens (ends, as_many, are, driven) asked answer source stays sink sink_stays later =
     inr (inr (inr (inr (
       started,
       start,
-      is_served turns ask first started after end places stream_end result (ends, as_many, are, whole) untouched asked answer (λ h. elim (source h) [ inl rose ↦ inl rose | inr rose ↦ inr (some rose) ])
+      is_served turns ask first started after end places stream_end result (ends, as_many, are, whole) untouched opens asked answer (λ h. elim (source h) [ inl rose ↦ inl rose | inr rose ↦ inr (some rose) ])
           (λ h k. let s = stays h k in (s.0, subst (λ (xs : List FeedTold). AllStand xs after.lent.more) (sym more) (subst (λ (xs : List FeedTold). AllStand (front ++ behind) xs) (sym past) (all_stand_more front then behind s.1))))
           sink sink_stays (later.0, later.1, later.2, subst (λ (xs : List FeedTold). NoneFell xs after.lent.more) (sym more) (subst (λ (xs : List FeedTold). NoneFell (front ++ behind) xs) (sym past) (fell_more front then behind later.3))),
     ))))
@@ -102,7 +106,7 @@ served_session turns ask first before started after front then behind end places
     whole = subst (λ (xs : List FeedTold). IsDriven turns first end ends stream_end (record started.lent { more = xs }) (with_feeds n after.lent)) was (subst (λ (xs : List FeedTold). IsDriven turns first end ends stream_end (record started.lent { more = front }) (record after.lent { more = xs })) is driven)
 
     untouched : drop n after.lent.more ≡ drop n started.lent.more
-    untouched = ap (drop n) past ∙ behind_is then behind n (same ∙ count) ∙ sym (ap (drop n) more ∙ behind_is front behind n count)
+    untouched = behind_same n started.lent.more after.lent.more front then behind more past count same
 
     some : AnyRose front then → AnyFeed n HasFeedFault started.lent.more after.lent.more
     some rose = subst (λ (xs : List FeedTold). AnyFeed n HasFeedFault xs after.lent.more) (sym more) (subst (λ (xs : List FeedTold). AnyFeed n HasFeedFault (front ++ behind) xs) (sym past) (any_rose n front then behind behind count rose))

@@ -18,8 +18,10 @@ use Rattle.drive.specs.Done.{IsDone, IsOverNewest, IsServedLog, LaneTold, Server
 use Rattle.drive.specs.Streams.{AreStreamsDone, IsStreamDone}
 use Rattle.addr_text.specs.declared.address.Listen.{Listen}
 use Rattle.tcp_lane.specs.Replies.{stream_replies}
+use Rattle.tcp_lane.specs.Calls.{stream_refusals}
 use Rattle.tcp_lane.specs.Stream.{IsStreamRun}
-use Rattle.tcp_lane.specs.Turns.{lane_of}
+use Rattle.tcp_lane.specs.Turns.{lane_of, no_line}
+use Rattle.tcp_lane.proofs.Ends.{none_refused}
 use Rattle.std.proofs.lemmas.List.Folds.{list_any-append}
 use Rattle.std.specs.Option.{option_to_list}
 use Rattle.drive.specs.Driven.{AreDone}
@@ -99,16 +101,29 @@ well_done turns first rest w b c e d well =
       well = subst (λ (x : Ended). (x ≡ lane.Stopped) ⊎ (x ≡ lane.PortEnd)) newest.ended_is well;
     }
 
+-- no look of a lane that ended well was refused
+not_blind : (e : Ended) → (e ≡ lane.Stopped) ⊎ (e ≡ lane.PortEnd) → e ≡ lane.CellFault → ⊥
+not_blind e (inl h) is = cc
+not_blind e (inr h) is = cc
+
 -- the same of the lane for conversations
 stream_well_done : (turns : ℕ) (first : Version) (rest : List Version) (w : ℕ) (b c : StreamLaneTold) (e : Ended) → IsStreamDone turns first rest w b c e → (e ≡ lane.Stopped) ⊎ (e ≡ lane.PortEnd) → IsStreamWellDone turns (first ∷ rest) w b c
 stream_well_done turns first rest w b c e d well =
     let newest = over_newest stream_replies first rest w (lane_of d.log) d.served e d.shown b c d.line well in
+    let served = subst (λ (x : Ended). (x ≡ lane.Stopped) ⊎ (x ≡ lane.PortEnd)) newest.ended_is well in
+    let none : stream_refusals d.log ≡ 0 = none_refused turns d.log no_line d.rules.0 d.served d.rules.1 d.ending (not_blind d.served served) in
     record {
       log = d.log;
       closes = d.closes;
       ended = d.served;
       shown = d.shown;
-      runs = λ s none. let r = d.runs s none in (r.0, r.1, r.2, subst (λ h. IsStreamRun stream_replies h w 0 0 r.0 (entries_of stream_replies.way (lane_of d.log)) (tries_of (lane_of d.log))) newest.same r.3);
+      runs = λ s fresh. let r = d.runs s fresh in (
+        r.0,
+        r.1,
+        r.2,
+        subst (λ (k : ℕ). IsStreamRun stream_replies (first ∷ rest) w 0 0 k r.0 (entries_of stream_replies.way (lane_of d.log)) (tries_of (lane_of d.log))) none
+            (subst (λ h. IsStreamRun stream_replies h w 0 0 (stream_refusals d.log) r.0 (entries_of stream_replies.way (lane_of d.log)) (tries_of (lane_of d.log))) newest.same r.3),
+      );
       rules = d.rules;
       told = d.line.told;
       notes = d.line.notes;
@@ -119,7 +134,7 @@ stream_well_done turns first rest w b c e d well =
       port_faults = d.line.port_faults;
       port_stays = d.line.port_stays;
       ending = d.ending;
-      well = subst (λ (x : Ended). (x ≡ lane.Stopped) ⊎ (x ≡ lane.PortEnd)) newest.ended_is well;
+      well = served;
     }
 
 stream_well : (turns : ℕ) (first : Version) (rest : List Version) (w : ℕ) (tcp : Option Listen) (e : Option Ended) (b c : StreamLaneTold) → length (option_to_list e) ≡ streams_of tcp → AreStreamsDone turns first rest w e b c

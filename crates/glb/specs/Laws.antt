@@ -12,6 +12,7 @@ use Rattle.demand_feed.specs.Task.{Task, tasks}
 use Rattle.map_text.specs.Reading.{Mapped}
 use Rattle.mapper.specs.Control.{Course, start}
 use Rattle.mapper.specs.Laws.{LackedMemory}
+use Rattle.mapper.specs.Merged.{Publishes}
 use Rattle.mapper.specs.Control.{AllCome}
 use Rattle.mapper.specs.Scenes.{IsPrinted}
 use Rattle.mapper.specs.Words.{map_text}
@@ -56,3 +57,12 @@ ServesAgree = (turns runs : ℕ) (ask other : Service) (before after then later 
     → ask.more ≡ [] → other.more ≡ [] → x.topology ≡ y.topology → AreOctetsOf before.stage.lent.feed after.stage.lent.feed octets → AreOctetsOf then.stage.lent.feed later.stage.lent.feed octets
     → (c : Course) × (d : Course) × CameBy turns ask before after x (tasks x.topology (lines_of true octets)) c × CameBy runs other then later y (tasks y.topology (lines_of true octets)) d
     × ((LackedMemory c → ⊥) → (LackedMemory d → ⊥) → (x.first ≡ y.first) × (c ≡ d))
+
+-- Each run of `serve` with status 0 published what some batches lead to from its first version, one after another.
+abbrev pub ServesPublish : Type 0
+ServesPublish = (turns : ℕ) (ask : Service) (before after : Surroundings) (w : IsWellServed turns ask before after) → (batches : List (List Change)) × Publishes w.first batches w.rest
+
+-- Two such runs over one topology that published what the same batches lead to published the same versions, whichever feeds the batches came by.
+abbrev pub ServesRepeat : Type 0
+ServesRepeat = (turns runs : ℕ) (ask other : Service) (before after then later : Surroundings) (x : IsWellServed turns ask before after) (y : IsWellServed runs other then later) (batches : List (List Change))
+    → x.topology ≡ y.topology → Publishes x.first batches x.rest → Publishes y.first batches y.rest → (x.first ≡ y.first) × (x.rest ≡ y.rest)

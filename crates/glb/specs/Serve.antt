@@ -184,7 +184,7 @@ pub record IsStarted (ask : Service) (first : Version) (before after : Stage) : 
   pub lent : after.lent ≡ record before.lent { lanes = after.lent.lanes; stream = after.lent.stream; more = after.lent.more; maps = after.lent.maps }
   pub rest : after ≡ record before { lent = after.lent; opens = after.opens }
 
--- The feeds were worked and the first lanes were served, and that for conversations where it is asked for, over one history of published maps that goes on from the first one; further feeds that were not asked for are untouched. The status is that of their ends, and each fault came with what it is a fault of: the count of a feed, of an output or of a door, eight more on that of a port or of the streams, as many turns as there may be, or a serial that was not published. The feeds' counts stood where no source's fault is answered, but for several feeds where an output's is, and those of both outputs where no output's is answered.
+-- The feeds were worked and the first lanes were served, and that for conversations where it is asked for, over one history of published maps that goes on from the first one; further feeds that were not asked for are untouched, and so are their openings. The status is that of their ends, and each fault came with what it is a fault of: the count of a feed, of an output or of a door, eight more on that of a port or of the streams, as many turns as there may be, or a serial that was not published. The feeds' counts stood where no source's fault is answered, but for several feeds where an output's is, and those of both outputs where no output's is answered.
 pub record IsServed (turns : ℕ) (ask : Service) (first : Version) (before after : Stage) (result : Status) : Type 0 where
   pub end : FeedEnd
   pub ends : List Ended
@@ -193,6 +193,7 @@ pub record IsServed (turns : ℕ) (ask : Service) (first : Version) (before afte
   pub as_asked : length (option_to_list stream_end) ≡ streams_of ask.tcp
   pub driven : IsDriven turns first end ends stream_end (with_feeds (length ask.more) before.lent) (with_feeds (length ask.more) after.lent)
   pub behind : drop (length ask.more) after.lent.more ≡ drop (length ask.more) before.lent.more
+  pub opens : drop (length ask.more) after.opens ≡ drop (length ask.more) before.opens
   pub result_is : result ≡ status_of end (list_any is_port_fault (all_ends ends stream_end)) (list_any is_spent (all_ends ends stream_end)) (list_any is_cell_fault (all_ends ends stream_end))
   pub source : end ≡ feed.SourceFault → Rose before.feed_faults after.feed_faults ⊎ AnyFeed (length ask.more) HasFeedFault before.lent.more after.lent.more
   pub source_stays : end ≢ feed.SourceFault → (end ≡ feed.SinkFault → ask.more ≡ []) → (after.feed_faults ≡ before.feed_faults) × AllStand before.lent.more after.lent.more

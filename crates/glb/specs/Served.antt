@@ -51,14 +51,14 @@ AreWellDone turns history w zero before after = after ≡ before
 AreWellDone turns history w (suc n) (b ∷ before) (c ∷ after) = IsWellDone turns history w b c × AreWellDone turns history (w + 1) n before after
 AreWellDone turns history w (suc n) _ _ = ⊥
 
--- A lane for conversations that ended well: in each turn its gate was asked and then its streams, whose count of faults rose by at least as many as their calls failed, and stands where none did; whatever the streams told before, the conversations that they tell of by then are a stream run over the history, from versions no older than what the lane had used or was told of; its turns follow the rules of conversations, by which each message that was read is taken, and has its reply, but behind a write that failed; it was given the notes of the first versions, as many as the lane tells, in their order, each once; what its gate was shown last is no less than what was known by then; and it went on until its streams' end or its gate's stop.
+-- A lane for conversations that ended well: in each turn its gate was asked and then its streams, whose count of faults rose by at least as many as their calls failed, and stands where none did; whatever the streams told before, if no conversation was open, those that they tell of behind those are a stream run over the history, from versions no older than what the lane had used or was told of, in which no look is refused, so each whole message that was read is taken, and has its reply unless it is silent, but behind a write that failed; its turns follow the rules of conversations, by which each is closed; it was given the notes of the first versions, as many as the lane tells, in their order, each once; what its gate was shown last is no less than what was known by then; and it went on until its streams' end or its gate's stop.
 pub record IsStreamWellDone (turns : ℕ) (history : List Version) (w : ℕ) (before after : StreamLaneTold) : Type 0 where
   pub log : List StreamTurn
   pub closes : Bool
   pub ended : Ended
   pub shown : ℕ
   pub runs : (b : StreamsTold) → b.current ≡ None
-      → (talks : List Talk) × ((closing_if closes (fold stream_turn b log)).closed ≡ b.closed ++ talks) × ((closing_if closes (fold stream_turn b log)).current ≡ None) × IsStreamRun stream_replies history w 0 0 talks (entries_of stream_replies.way (lane_of log)) (tries_of (lane_of log))
+      → (talks : List Talk) × ((closing_if closes (fold stream_turn b log)).closed ≡ b.closed ++ talks) × ((closing_if closes (fold stream_turn b log)).current ≡ None) × IsStreamRun stream_replies history w 0 0 0 talks (entries_of stream_replies.way (lane_of log)) (tries_of (lane_of log))
   pub rules : (line : Line) × AreRuled no_line log line × (closes ≡ line.is_open)
   pub told : IsTold 0 (lane_of log)
   pub notes : flat_map (λ t. t.notes) (lane_of log) ≡ range_with_len 0 after.noted

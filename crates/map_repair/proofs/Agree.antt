@@ -36,50 +36,38 @@ marks_one old lines new m marks others reached all also also_all g k =
 pub repaired_of_one : (old : Market) (lines : List MapLine) (new : Market) (a b : List MapLine) → length new.groups ≡ length old.groups → IsRepairedOf old lines new a → IsRepairedOf old lines new b → a ≡ b
 repaired_of_one old lines new a b groups x y = best_below_one new y.rolled_back.ready.market y.back.lines y.back.pointers a b moved y.best
   where
-    held : x.from.lines ≡ y.from.lines
-    held = x.holds ∙ sym y.holds
+    held : x.begun.from.lines ≡ y.begun.from.lines
+    held = x.begun.holds ∙ sym y.begun.holds
 
-    places : (g : ℕ) → g < length new.groups → slice_index x.cut.pointers g ≡ slice_index y.cut.pointers g
+    places : (g : ℕ) → g < length new.groups → slice_index x.begun.cut.pointers g ≡ slice_index y.begun.cut.pointers g
     places g l =
         let there : g < length old.groups = subst (λ n. g < n) groups l in
-        let was : IsPastWanted old y.from.lines g (slice_index x.from.pointers g) = subst (λ (ls : List MapLine). IsPastWanted old ls g (slice_index x.from.pointers g)) held (x.of_map.pointers g there) in
-        ap (λ ps. slice_index ps g) x.is_cut.less.pointers
-        ∙ past_one old y.from.lines g (slice_index x.from.pointers g) (slice_index y.from.pointers g) there was (y.of_map.pointers g there)
-        ∙ sym (ap (λ ps. slice_index ps g) y.is_cut.less.pointers)
+        let was : IsPastWanted old y.begun.from.lines g (slice_index x.begun.from.pointers g) = subst (λ (ls : List MapLine). IsPastWanted old ls g (slice_index x.begun.from.pointers g)) held (x.begun.of_map.pointers g there) in
+        ap (λ ps. slice_index ps g) x.begun.is_cut.less.pointers
+        ∙ past_one old y.begun.from.lines g (slice_index x.begun.from.pointers g) (slice_index y.begun.from.pointers g) there was (y.begun.of_map.pointers g there)
+        ∙ sym (ap (λ ps. slice_index ps g) y.begun.is_cut.less.pointers)
 
-    marks : MarkSame new x.marks y.marks
-    marks = marks_one old lines new new x.marks y.marks x.reached x.all_reached y.reached y.all_reached
+    marks : MarkSame new x.begun.marks y.begun.marks
+    marks = marks_one old lines new new x.begun.marks y.begun.marks x.begun.reached x.begun.all_reached y.begun.reached y.begun.all_reached
 
-    cut : x.cut.lines ≡ y.cut.lines
-    cut = cut_one new y.rolled_back.ready.market x.from y.from x.cut y.cut held x.is_cut y.is_cut
+    cut : x.begun.cut.lines ≡ y.begun.cut.lines
+    cut = cut_one new y.rolled_back.ready.market x.begun.from y.begun.from x.begun.cut y.begun.cut held x.begun.is_cut y.begun.is_cut
 
     moved : IsBestBelow new y.back.lines y.back.pointers a
-    moved = best_below_from new x.back.lines y.back.lines x.back.pointers y.back.pointers a (back_lines_one new x.marks y.marks x.cut y.cut x.back y.back marks cut places x.rolled_back y.rolled_back) (backs_one new x.marks y.marks x.cut y.cut x.back y.back marks places x.rolled_back y.rolled_back) x.best
+    moved = best_below_from new x.back.lines y.back.lines x.back.pointers y.back.pointers a (back_lines_one new x.begun.marks y.begun.marks x.begun.cut y.begun.cut x.back y.back marks cut places x.rolled_back y.rolled_back) (backs_one new x.begun.marks y.begun.marks x.begun.cut y.begun.cut x.back y.back marks places x.rolled_back y.rolled_back) x.best
 
 -- What a resumed state holds is that map: a group-best one is the best of those within the state that groups would go back to.
 pub resumed_is : (old : Market) (lines : List MapLine) (new : Market) (to : Standing) (before after : ℕ) → HasResumed old lines new to before after → IsStable new to.lines → IsRepairedOf old lines new to.lines
 resumed_is old lines new to before after r stable = elim r.way [
   | inl w ↦ is_of w.back w.rolled_back (best_below new w.proposed.count w.back to w.rolled_back.ready w.proposed.proposals stable)
   | inr w ↦
-      let b : (back : Standing) × IsRolledBack new r.marks r.cut back = rolled_back_exists new r.marks r.cut r.can_go_back in
+      let b : (back : Standing) × IsRolledBack new r.begun.marks r.begun.cut back = rolled_back_exists new r.begun.marks r.begun.cut r.can_go_back in
       let right : IsRightMap new to.lines = right_of new to (ready_many new w.proposed.count w.moved to w.ready w.proposed.proposals) stable in
-      is_of b.0 b.1 (best_below_if_best new b.0.lines b.0.pointers to.lines right (within_back new r.marks r.cut w.moved b.0 w.is_moved b.1 to before after w.ready w.proposed) w.best)
+      is_of b.0 b.1 (best_below_if_best new b.0.lines b.0.pointers to.lines right (within_back new r.begun.marks r.begun.cut w.moved b.0 w.is_moved b.1 to before after w.ready w.proposed) w.best)
 ]
   where
-    is_of : (back : Standing) → IsRolledBack new r.marks r.cut back → IsBestBelow new back.lines back.pointers to.lines → IsRepairedOf old lines new to.lines
-    is_of back rolled_back best = record {
-      from = r.from;
-      of_map = r.of_map;
-      holds = r.holds;
-      marks = r.marks;
-      reached = r.reached;
-      all_reached = r.all_reached;
-      cut = r.cut;
-      is_cut = r.is_cut;
-      back = back;
-      rolled_back = rolled_back;
-      best = best;
-    }
+    is_of : (back : Standing) → IsRolledBack new r.begun.marks r.begun.cut back → IsBestBelow new back.lines back.pointers to.lines → IsRepairedOf old lines new to.lines
+    is_of back rolled_back best = record { begun = r.begun; back = back; rolled_back = rolled_back; best = best }
 
 -- what a repair comes to is that map
 pub repaired_is : (old : Market) (lines : List MapLine) (new : Market) (repaired : List MapLine) (before after : ℕ) → HasRepaired old lines new repaired before after → IsStable new repaired → IsRepairedOf old lines new repaired

@@ -127,16 +127,16 @@ module _ (m : Market) (marks : List Bool) (s : Standing) (can : CanRollBack m ma
 
   sums : KeepsSums s back
   sums g l =
-      let there : g < count = omega (arith, l, can.free_for) in
+      let there : g < count = omega (arith, l, can.is_open.free_for) in
       let at : slice_index back.free g ≡ free_of g = get_or-map-range_with_len free_of 0 count g g 0 there (omega arith) in
       omega (arith, at, fewer g)
 
   rolling : IsRolling m marks count s back
   rolling = record {
-    can = record { market = can.market; whole = can.whole; shape = can.shape; form = lines_filter m can.market (λ (l : MapLine). stays l.group.0 l.place) s.lines can.form; count = length-map-range_with_len free_of 0 count };
+    can = record { market = can.is_open.market; whole = can.is_open.whole; shape = can.is_open.shape; form = lines_filter m can.is_open.market (λ (l : MapLine). stays l.group.0 l.place) s.lines can.is_open.form; count = length-map-range_with_len free_of 0 count };
     market = refl;
     count = length-map-range_with_len place 0 count;
-    frees = length-map-range_with_len free_of 0 count ∙ sym can.free_for;
+    frees = length-map-range_with_len free_of 0 count ∙ sym can.is_open.free_for;
     done = λ h l low. at_back h l;
     to_do = λ h l high. absurd (omega (arith, l, high));
     units = held;

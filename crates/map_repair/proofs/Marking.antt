@@ -111,6 +111,10 @@ closed_all m s a none all g l k j ok before on oj some = elim (all (tree_of m g 
 pub closed_whole : (m : Market) (s : Standing) (on : List Bool) → IsMarket m → AreMarkedTo m on (length m.nodes) → IsClosedForAll m s (λ n. is_on on n)
 closed_whole m s on market all g l k j ok before there oj some = all (pool_of m g j) (pool_there m market g j oj)
 
+-- and then each tree is settled
+pub settled_whole : (m : Market) (s : Standing) (on : List Bool) (root : ℕ) → IsMarket m → AreMarkedTo m on (length m.nodes) → IsSettled m s on root
+settled_whole m s on root market all g k o at before j oj some = all (pool_of m g j) (pool_there m market g j oj)
+
 -- marks at the trees of the nodes before one stay as marks come
 pub marked_on : (m : Market) (a b : Marking) (end : ℕ) → IsMarking a b → AreMarkedTo m a.on end → AreMarkedTo m b.on end
 marked_on m a b end marking all n l = marking.kept (root_of m n) (all n l)

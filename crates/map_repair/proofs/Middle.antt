@@ -121,20 +121,22 @@ module _ (old new : Market) (s mid : Standing) (marks : List Bool) (k0 : IsMiddl
   can_roll_back =
       let r = k0.of.ready.resumable in
       record {
-        market = k0.market;
-        whole = k0.cut.less.whole;
-        shape = subst (λ (x : Market). IsSameShape x new) (sym k0.cut.less.market) (shape_trans s.market old new k0.of.ready.shape k0.shape);
+        is_open = record {
+          market = k0.market;
+          whole = k0.cut.less.whole;
+          shape = subst (λ (x : Market). IsSameShape x new) (sym k0.cut.less.market) (shape_trans s.market old new k0.of.ready.shape k0.shape);
+          form = k0.cut.less.form;
+          pointers_for = ap length k0.cut.less.pointers ∙ r.pointers_for ∙ sym k0.shape.groups;
+          free_for = k0.cut.less.count ∙ r.free_for ∙ sym k0.shape.groups;
+          capacities = k0.cut.capacities;
+          limits = λ g k o.
+              let was = r.limits g k (to_old g k o) in
+              omega (arith, k0.cut.less.fewer (λ h j. (h == g) && (j == k)), was, limit_of-shape old new k0.shape g k);
+          totals = k0.cut.totals;
+          in_list = λ g l. omega (arith, pointer_same g, r.in_list g (omega (arith, l, k0.shape.groups)), ap length (k0.shape.lists g));
+          none_past = λ g k o past. omega (arith, k0.cut.less.fewer (λ h j. (h == g) && (j == k)), r.none_past g k (to_old g k o) (omega (arith, past, pointer_same g)));
+        };
         marks_for = k0.reached.size ∙ sym k0.shape.nodes;
-        form = k0.cut.less.form;
-        pointers_for = ap length k0.cut.less.pointers ∙ r.pointers_for ∙ sym k0.shape.groups;
-        free_for = k0.cut.less.count ∙ r.free_for ∙ sym k0.shape.groups;
-        capacities = k0.cut.capacities;
-        limits = λ g k o.
-            let was = r.limits g k (to_old g k o) in
-            omega (arith, k0.cut.less.fewer (λ h j. (h == g) && (j == k)), was, limit_of-shape old new k0.shape g k);
-        totals = k0.cut.totals;
-        in_list = λ g l. omega (arith, pointer_same g, r.in_list g (omega (arith, l, k0.shape.groups)), ap length (k0.shape.lists g));
-        none_past = λ g k o past. omega (arith, k0.cut.less.fewer (λ h j. (h == g) && (j == k)), r.none_past g k (to_old g k o) (omega (arith, past, pointer_same g)));
         refused = λ g k o before off.
             let was : IsSome (refuser_of old s.lines g k) = r.refused g k (to_old g k o) (omega (arith, before, pointer_same g)) in
             let clear : is_on marks (tree_of old g k) ≡ false = ap (is_on marks) (sym (same_tree g k)) ∙ off in
@@ -191,11 +193,11 @@ module _ (old new : Market) (s mid : Standing) (marks : List Bool) (k0 : IsMiddl
             let p : ℕ = slice_index rolled.pointers g in
             elim (cases_lt p (slice_index mid.pointers g)) [
               | inl less ↦
-                  let op : IsOffer new g p = record { group = o.group; place = omega (arith, less, can_roll_back.in_list g o.group) } in
+                  let op : IsOffer new g p = record { group = o.group; place = omega (arith, less, can_roll_back.is_open.in_list g o.group) } in
                   absurd (false≢true (sym clear ∙ can_roll_back.closed g p k op less (b.at less) o some))
               | inr kept ↦ elim (cases_lt (slice_index mid.pointers g) k) [
                 | inr l ↦ omega (arith, l, kept)
-                | inl past ↦ absurd (omega (arith, some, can_roll_back.none_past g k o past))
+                | inl past ↦ absurd (omega (arith, some, can_roll_back.is_open.none_past g k o past))
               ]
             ]
 

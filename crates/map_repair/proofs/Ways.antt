@@ -1,20 +1,20 @@
 -- Both ways to the new map come to what is promised.
-use Rattle.std.proofs.Common.{◌≡◌, ◌⊎◌, ℕ, Bool, List, MatchOption, OnOk, Option, None, Result, Ok, Err, slice_index, refl, sym, ◌∙◌, subst, inl, inr, arith}
+use Rattle.std.proofs.Common.{◌≡◌, ◌⊎◌, ℕ, Bool, List, IfSome, MatchOption, OnOk, Option, None, Some, Result, Ok, Err, slice_index, refl, sym, ◌∙◌, subst, inl, inr, arith}
 use Rattle.std.proofs.lemmas.Bool.{cases_lt}
 use Rattle.map_model.specs.Market.{Market, IsMarket, IsSameShape}
 use Rattle.map_model.specs.Allocation.{IsStable, names_of}
 use Rattle.map_model.specs.Progress.{IsEnded, IsGroupBest}
 use Rattle.map_model.proofs.Shapes.{shape_trans}
-use Rattle.evict.specs.Standing.{IsOpen, IsReady, Standing}
+use Rattle.evict.specs.Standing.{IsReady, Standing}
 use Rattle.evict.proofs.Shaped.{AreLines-shape}
 use Rattle.reopen.specs.Cutting.{CanCut}
-use Rattle.reopen.specs.Rolling.{CanRollBack, IsRolledBack}
+use Rattle.reopen.specs.Rolling.{IsRolledBack}
 use Rattle.deferred_accept.specs.Runs.{HasProposed, HasRun, WantsBefore}
 use Rattle.deferred_accept.specs.Spreading.{HoldsWork, StaysInside}
 use Rattle.deferred_accept.proofs.Finished.{finished}
 use Rattle.move_up.specs.Moved.{IsMoved}
 use Rattle.map_repair.specs.Marks.{is_on}
-use Rattle.map_repair.specs.Repaired.{IsStateOf}
+use Rattle.map_repair.specs.Repaired.{IsStateOf, IsWithinSpread}
 use Rattle.map_repair.specs.Resumed.{HasGoneBack, HasMovedUp, HasResumed}
 use Rattle.map_repair.specs.Ways.{HasRunOut, IsResumed}
 use Rattle.map_repair.proofs.Agree.{resumed_is}
@@ -25,6 +25,10 @@ use Rattle.map_repair.proofs.Spread.{stays_local, stays_within}
 pub when_none : {X A : Type 0} (B : X → Type 0) (o : Option X) → o ≡ None → MatchOption o A B → A
 when_none {A = A} B o none m = subst (λ t. MatchOption t A B) none m
 
+-- what holds of the one that there is
+pub when_some : {X : Type 0} (P : X → Type 0) (o : Option X) (x : X) → o ≡ Some x → IfSome o P → P x
+when_some P o x some holds = subst (λ t. IfSome t P) some holds
+
 -- a state of a good map may be cut for other numbers
 pub can_cut : (old new : Market) (s : Standing) → IsMarket new → IsSameShape old new → IsStateOf old s → CanCut new s
 can_cut old new s market shape of = record {
@@ -33,22 +37,6 @@ can_cut old new s market shape of = record {
   shape = shape_trans s.market old new of.ready.shape shape;
   form = AreLines-shape old new shape s.lines of.ready.resumable.form;
   count = of.ready.resumable.free_for ∙ sym shape.groups;
-}
-
--- a state that may be rolled back is an open one
-pub open_of_can : (m : Market) (marks : List Bool) (s : Standing) → CanRollBack m marks s → IsOpen m s
-open_of_can m marks s can = record {
-  market = can.market;
-  whole = can.whole;
-  shape = can.shape;
-  form = can.form;
-  pointers_for = can.pointers_for;
-  free_for = can.free_for;
-  capacities = can.capacities;
-  limits = can.limits;
-  totals = can.totals;
-  in_list = can.in_list;
-  none_past = can.none_past;
 }
 
 -- What was moved is opened in marked trees alone.
@@ -72,14 +60,16 @@ run_out (Err e) m from to before after run ended wanted proposed inside = tt
 module _ (old new : Market) (s mid : Standing) (marks : List Bool) (k : IsMiddle old new s mid marks) (final : Standing) (before after : ℕ) where
   counted_by : HasGoneBack new marks mid final before after ⊎ HasMovedUp new marks mid final before after → HasResumed old s.lines new final before after
   counted_by way = record {
-    from = s;
-    of_map = k.of;
-    holds = refl;
-    marks = marks;
-    reached = λ root on. k.reached.least root on;
-    all_reached = λ root is. is (λ n. is_on marks n) k.reached.closed;
-    cut = mid;
-    is_cut = k.cut;
+    begun = record {
+      from = s;
+      of_map = k.of;
+      holds = refl;
+      marks = marks;
+      reached = λ root on. k.reached.least root on;
+      all_reached = λ root is. is (λ n. is_on marks n) k.reached.closed;
+      cut = mid;
+      is_cut = k.cut;
+    };
     can_go_back = can_roll_back old new s mid marks k;
     way = way;
   }
@@ -102,6 +92,10 @@ module _ (old new : Market) (s mid : Standing) (marks : List Bool) (k : IsMiddle
   -- groups went back
   pub resumed_back : (back : Standing) → IsRolledBack new marks mid back → HasRunOut new back final before after → IsResumed old s.lines new final before after
   resumed_back back rb r = resumed_by back (reopened_back old new s mid marks k back rb) r (inl (record { back = back; rolled_back = rb; proposed = r.proposed }))
+
+  -- units moved up and a run from there was in vain: its proposals are within the bound
+  pub within_moved : (moved : Standing) → IsMoved new marks mid moved → IsReady new moved → WantsBefore new moved → HasRunOut new moved final before after → IsWithinSpread old s.lines new before after
+  within_moved moved is_moved ready wanted r = stays_within old new s mid marks k moved (reopened_moved new marks mid moved is_moved ready wanted) final before after r.inside
 
   -- units moved up
   pub resumed_moved : (moved : Standing) → IsMoved new marks mid moved → IsReady new moved → WantsBefore new moved → HasRunOut new moved final before after → IsGroupBest new final.lines → IsResumed old s.lines new final before after

@@ -9,8 +9,8 @@ use Rattle.reopen.specs.Rolling.{IsRolledBack}
 use Rattle.agree_laws.specs.Below.{IsBestBelow}
 use Rattle.map_repair.specs.Repaired.{IsStateOf}
 
--- The repaired map of a good map for new numbers: its state is cut for them, groups go back to their first places in reached trees, and of all feasible and stable maps that move no group up past what it then has, these lines are the best for every group.
-pub record IsRepairedOf (old : Market) (lines : List MapLine) (new : Market) (repaired : List MapLine) : Type 0 where
+-- What both ways to a repaired map begin with: a state that holds the lines of the good map was cut for the new numbers, and the reached trees are marked.
+pub record IsCutFor (old : Market) (lines : List MapLine) (new : Market) : Type 0 where
   pub from : Standing
   pub of_map : IsStateOf old from
   pub holds : from.lines ≡ lines
@@ -19,6 +19,10 @@ pub record IsRepairedOf (old : Market) (lines : List MapLine) (new : Market) (re
   pub all_reached : (root : ℕ) → IsReached old lines new root → slice_index_or marks root false ≡ true
   pub cut : Standing
   pub is_cut : IsCut new from cut
+
+-- The repaired map of a good map for new numbers: its state is cut for them, each group goes back to the first place before its pointer in a reached tree, and of all feasible and stable maps that move no group up past what it then has, these lines are the best for every group.
+pub record IsRepairedOf (old : Market) (lines : List MapLine) (new : Market) (repaired : List MapLine) : Type 0 where
+  pub begun : IsCutFor old lines new
   pub back : Standing
-  pub rolled_back : IsRolledBack new marks cut back
+  pub rolled_back : IsRolledBack new begun.marks begun.cut back
   pub best : IsBestBelow new back.lines back.pointers repaired

@@ -25,10 +25,10 @@ pub record IsLocal (old : Market) (lines : List MapLine) (new : Market) (repaire
   pub amounts : (g k : ℕ) → IsOffer old g k → (IsSpread old lines new (tree_of old g k) → ⊥) → amount_at repaired g k ≡ amount_at lines g k
   pub names : (g k : ℕ) → IsOffer old g k → (IsSpread old lines new (tree_of old g k) → ⊥) → name_of new repaired (record { group = record { 0 = g }; place = k }) ≡ name_of old lines (record { group = record { 0 = g }; place = k })
 
--- how often groups with pools in a set of trees may offer: once for each unit of their demand and once more, at each place
+-- how often groups may offer whose first pool stands in a set of trees: once for each unit of their demand and once more, at each place
 abbrev pub most_inside : Market → (ℕ → Bool) → ℕ
 most_inside m trees = sum_by (λ g. if trees (tree_of m g 0) then length (choices_of m g) * (demand_of m g + 1) else 0) (range_with_len 0 (length m.groups))
 
--- a number of proposals is within those of the groups with a pool in a spread tree: within those of the groups with a pool in a set of trees, for each set that holds all spread trees
+-- a number of proposals is within those of the groups with a pool in a spread tree: within those of the groups whose first pool stands in a set of trees, for each set that holds all spread trees; of these a group's list has all or none
 abbrev pub IsWithinSpread : Market → List MapLine → Market → ℕ → ℕ → Type 0
 IsWithinSpread old lines new before after = (trees : ℕ → Bool) → ((root : ℕ) → IsSpread old lines new root → IsTrue (trees root)) → after ≤ before + most_inside new trees

@@ -1,16 +1,15 @@
 -- How a repair comes to its map: what is given up, which trees are opened and how, and the proposals from there.
-use Rattle.std.specs.Prelude.{◌≡◌, ◌⊎◌, ℕ, Bool, true, false, List, slice_index_or}
+use Rattle.std.specs.Prelude.{◌≡◌, ◌⊎◌, ℕ, ◌/◌, max, Bool, List, length}
 use Rattle.map_model.specs.declared.lines.MapLine.{MapLine}
 use Rattle.map_model.specs.Market.{Market}
-use Rattle.map_model.specs.Progress.{IsGroupBest, IsReached}
+use Rattle.map_model.specs.Progress.{IsGroupBest}
 use Rattle.evict.specs.Standing.{IsReady, Standing}
 use Rattle.deferred_accept.specs.Runs.{HasProposed}
-use Rattle.reopen.specs.Cutting.{IsCut}
 use Rattle.reopen.specs.Rolling.{CanRollBack, IsRolledBack}
 use Rattle.move_up.specs.Moved.{IsMoved}
-use Rattle.map_repair.specs.Repaired.{IsStateOf}
+use Rattle.map_repair.specs.Determined.{IsCutFor}
 
--- Groups went back to their first places in marked trees, and so many proposals lead from there to the later state as a counter rose by.
+-- Groups went back, each to the first place before its pointer in a marked tree, and so many proposals lead from there to the later state as a counter rose by.
 pub record HasGoneBack (m : Market) (marks : List Bool) (cut to : Standing) (before after : ℕ) : Type 0 where
   pub back : Standing
   pub rolled_back : IsRolledBack m marks cut back
@@ -24,18 +23,15 @@ pub record HasMovedUp (m : Market) (marks : List Bool) (cut to : Standing) (befo
   pub proposed : HasProposed m moved to before after
   pub best : IsGroupBest m to.lines
 
+-- in how many turns units may move up: half as many as there are groups, but 64 in small worlds
+abbrev pub most_turns : Market → ℕ
+most_turns m = max (length m.groups / 2) 64
+
 -- From the lines of a good map to a later state, as a counter rose: a state that holds the lines was cut for the new numbers, and with the reached trees marked it came to the later state in one of two ways. Whichever it took, it could have gone back.
 pub record HasResumed (old : Market) (lines : List MapLine) (new : Market) (to : Standing) (before after : ℕ) : Type 0 where
-  pub from : Standing
-  pub of_map : IsStateOf old from
-  pub holds : from.lines ≡ lines
-  pub marks : List Bool
-  pub reached : (root : ℕ) → slice_index_or marks root false ≡ true → IsReached old lines new root
-  pub all_reached : (root : ℕ) → IsReached old lines new root → slice_index_or marks root false ≡ true
-  pub cut : Standing
-  pub is_cut : IsCut new from cut
-  pub can_go_back : CanRollBack new marks cut
-  pub way : HasGoneBack new marks cut to before after ⊎ HasMovedUp new marks cut to before after
+  pub begun : IsCutFor old lines new
+  pub can_go_back : CanRollBack new begun.marks begun.cut
+  pub way : HasGoneBack new begun.marks begun.cut to before after ⊎ HasMovedUp new begun.marks begun.cut to before after
 
 -- the same to other lines: to a state that holds them
 pub record HasRepaired (old : Market) (lines : List MapLine) (new : Market) (repaired : List MapLine) (before after : ℕ) : Type 0 where

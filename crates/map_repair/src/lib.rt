@@ -8,4 +8,4 @@ mod repairing;
 mod trying;
 
 pub use laws::repairs_agree;
-pub use repairing::{repair, resume};
+pub use repairing::{Effort, repair, resume};

@@ -57,63 +57,6 @@ fn mark_held(
     Ok(())
 }
 
-/// Where an offer stands before its group's pointer, marks each tree in which the group holds units.
-/// That is done once for each group.
-fn follow(
-    old: &Instance,
-    state: &State,
-    marks: &mut Marks,
-    done: &mut [bool],
-    offer: Offer,
-) -> Result<(), NoMemory>
-    requires ready { IsReady old.now state.now }
-    requires size { length marks.old.on ≡ length old.now.nodes }
-    requires groups { length done.old ≡ length old.now.groups }
-    requires offer { IsOffer old.now offer.group.0 offer.place }
-    requires done { AreDone old.now state.now.lines marks.old.on done.old }
-    ensures marking { OnOk result (IsMarking marks.old marks.new) }
-    ensures done { OnOk result (AreDone old.now state.now.lines marks.new.on done.new) }
-    ensures followed { OnOk result (offer.place < slice_index state.now.pointers offer.group.0 → HoldsInMarked old.now state.now.lines marks.new.on offer.group.0) }
-    ensures within { OnOk result ((trees : ℕ → Bool) → IsClosedFor old.now state.now offer.group.0 trees → trees (tree_of old.now offer.group.0 offer.place) ≡ true → IsWithin marks.old.on trees → IsWithin marks.new.on trees) }
-{
-    if offer.place >= state.pointer(offer.group) {
-        return Ok(());
-    }
-    let g = offer.group.0 as usize;
-    if done[g] {
-        return Ok(());
-    }
-    mark_held(old, state, marks, offer.group)?;
-    done[g] = true;
-    Ok(())
-}
-
-/// Follows each offer in the tree of a root.
-fn look_at(
-    old: &Instance,
-    state: &State,
-    asked: &Asked,
-    marks: &mut Marks,
-    done: &mut [bool],
-    root: NodeId,
-) -> Result<(), NoMemory>
-    requires ready { IsReady old.now state.now }
-    requires asked { AreAllListed old.now asked.now }
-    requires size { length marks.old.on ≡ length old.now.nodes }
-    requires groups { length done.old ≡ length old.now.groups }
-    requires root { root.0 < length old.now.nodes }
-    requires done { AreDone old.now state.now.lines marks.old.on done.old }
-    ensures marking { OnOk result (IsMarking marks.old marks.new) }
-    ensures done { OnOk result (AreDone old.now state.now.lines marks.new.on done.new) }
-    ensures settled { OnOk result (IsSettled old.now state.now marks.new.on root.0) }
-    ensures within { OnOk result ((trees : ℕ → Bool) → IsClosedForAll old.now state.now trees → trees root.0 ≡ true → IsWithin marks.old.on trees → IsWithin marks.new.on trees) }
-{
-    for offer in asked.in_tree(root) {
-        follow(old, state, marks, done, *offer)?;
-    }
-    Ok(())
-}
-
 /// The first node, from one on, whose tree is not marked, or else the number of nodes.
 fn unmarked_from(old: &Instance, state: &State, marks: &Marks, from: u32) -> u32
     requires ready { IsReady old.now state.now }
@@ -129,6 +72,77 @@ fn unmarked_from(old: &Instance, state: &State, marks: &Marks, from: u32) -> u32
         }
     }
     old.nodes()
+}
+
+/// Where an offer stands before its group's pointer, marks each tree in which the group holds units, and looks how far the trees
+/// are marked then. That is done once for each group.
+fn follow(
+    old: &Instance,
+    state: &State,
+    marks: &mut Marks,
+    done: &mut [bool],
+    ahead: &mut u32,
+    offer: Offer,
+) -> Result<(), NoMemory>
+    requires ready { IsReady old.now state.now }
+    requires size { length marks.old.on ≡ length old.now.nodes }
+    requires groups { length done.old ≡ length old.now.groups }
+    requires offer { IsOffer old.now offer.group.0 offer.place }
+    requires done { AreDone old.now state.now.lines marks.old.on done.old }
+    requires ahead { ahead.old ≤ length old.now.nodes }
+    requires marked { AreMarkedTo old.now marks.old.on ahead.old }
+    ensures marking { OnOk result (IsMarking marks.old marks.new) }
+    ensures done { OnOk result (AreDone old.now state.now.lines marks.new.on done.new) }
+    ensures ahead { OnOk result (ahead.new ≤ length old.now.nodes) }
+    ensures marked { OnOk result (AreMarkedTo old.now marks.new.on ahead.new) }
+    ensures followed { OnOk result (offer.place < slice_index state.now.pointers offer.group.0 → HoldsInMarked old.now state.now.lines marks.new.on offer.group.0) }
+    ensures within { OnOk result ((trees : ℕ → Bool) → IsClosedFor old.now state.now offer.group.0 trees → trees (tree_of old.now offer.group.0 offer.place) ≡ true → IsWithin marks.old.on trees → IsWithin marks.new.on trees) }
+{
+    if offer.place >= state.pointer(offer.group) {
+        return Ok(());
+    }
+    let g = offer.group.0 as usize;
+    if done[g] {
+        return Ok(());
+    }
+    mark_held(old, state, marks, offer.group)?;
+    done[g] = true;
+    *ahead = unmarked_from(old, state, marks, *ahead);
+    Ok(())
+}
+
+/// Follows each offer in the tree of a root, until each tree is marked.
+fn look_at(
+    old: &Instance,
+    state: &State,
+    asked: &Asked,
+    marks: &mut Marks,
+    done: &mut [bool],
+    ahead: &mut u32,
+    root: NodeId,
+) -> Result<(), NoMemory>
+    requires ready { IsReady old.now state.now }
+    requires asked { AreAllListed old.now asked.now }
+    requires size { length marks.old.on ≡ length old.now.nodes }
+    requires groups { length done.old ≡ length old.now.groups }
+    requires root { root.0 < length old.now.nodes }
+    requires done { AreDone old.now state.now.lines marks.old.on done.old }
+    requires ahead { ahead.old ≤ length old.now.nodes }
+    requires marked { AreMarkedTo old.now marks.old.on ahead.old }
+    ensures marking { OnOk result (IsMarking marks.old marks.new) }
+    ensures done { OnOk result (AreDone old.now state.now.lines marks.new.on done.new) }
+    ensures ahead { OnOk result (ahead.new ≤ length old.now.nodes) }
+    ensures marked { OnOk result (AreMarkedTo old.now marks.new.on ahead.new) }
+    ensures settled { OnOk result (IsSettled old.now state.now marks.new.on root.0) }
+    ensures within { OnOk result ((trees : ℕ → Bool) → IsClosedForAll old.now state.now trees → trees root.0 ≡ true → IsWithin marks.old.on trees → IsWithin marks.new.on trees) }
+{
+    for offer in asked.in_tree(root) {
+        if *ahead == old.nodes() {
+            return Ok(());
+        }
+        follow(old, state, marks, done, ahead, *offer)?;
+    }
+    Ok(())
 }
 
 /// The next marked tree that is to be looked at: none where none is left, or where each tree is marked.
@@ -170,7 +184,7 @@ fn spread(
 {
     let mut ahead = 0;
     while let Some(root) = next_tree(old, state, marks, &mut ahead) {
-        look_at(old, state, asked, marks, done, root)?;
+        look_at(old, state, asked, marks, done, &mut ahead, root)?;
     }
     Ok(())
 }

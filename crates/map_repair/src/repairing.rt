@@ -7,10 +7,10 @@ ghost use Rattle.map_model.specs.Progress.{IsEnded};
 ghost use Rattle.move_up.specs.Asked.{AreAllListed};
 ghost use Rattle.map_repair.specs.Determined.{IsRepairedOf};
 ghost use Rattle.map_repair.specs.Repaired.{IsKept, IsLocal, IsStateOf, IsWithinSpread};
-ghost use Rattle.map_repair.specs.Resumed.{HasRepaired, HasResumed};
+ghost use Rattle.map_repair.specs.Resumed.{HasRepaired, HasResumed, most_turns};
 
 use crate::reaching::reached;
-use crate::trying::{go_back, tried_or_anew};
+use crate::trying::{Tried, go_back, tried_or_anew};
 use deferred_accept::finish;
 use evict::State;
 use map_model::{Instance, MapLines, Steps};
@@ -18,8 +18,17 @@ use move_up::Asked;
 use no_memory::NoMemory;
 use std::alloc::Global;
 
+/// What a resume took beside the proposals that lead to its map.
+#[derive(Clone, Copy, Debug, PartialEq, Eq)]
+pub struct Effort {
+    /// In how many turns units moved up to the new map; 0 where groups went back.
+    pub turns: u64,
+    /// How many proposals were made by a try whose map was not taken.
+    pub thrown: u64,
+}
+
 /// Changes a state of a good map to one of a good map for an instance that differs in demands and capacities alone. It may
-/// be kept for the next change. In how many turns units moved up is the result.
+/// be kept for the next change. What that took is the result.
 ///
 /// Units move up first, and what comes of that is looked at: where it is not the group-best map, or can't be told to be, the
 /// state is made anew of the old map, and groups go back and offer again.
@@ -35,7 +44,7 @@ pub fn resume<L>(
     asked: &Asked,
     state: &mut State,
     steps: &mut Steps<L>,
-) -> Result<u64, NoMemory>
+) -> Result<Effort, NoMemory>
     requires of_map { IsStateOf old.now state.old }
     requires good { IsGood old.now map.now.lines.items map.now.names.items }
     requires holds { state.old.lines ≡ map.now.lines.items }
@@ -49,15 +58,18 @@ pub fn resume<L>(
     ensures determined { OnOk result (IsRepairedOf old.now state.old.lines new.now state.new.lines) }
     ensures counted { OnOk result (HasResumed old.now state.old.lines new.now state.new steps.old steps.new) }
     ensures steps { OnOk result (IsWithinSpread old.now state.old.lines new.now steps.old steps.new) }
+    ensures thrown { IfOk result (λ effort. IsWithinSpread old.now state.old.lines new.now 0 effort.thrown) }
+    ensures few { IfOk result (λ effort. effort.turns ≤ most_turns new.now) }
     ensures later { steps.old ≤ steps.new }
 {
     let marks = reached(alloc, old, new, asked, state)?;
     let marked = marks.as_slice();
-    if let Some(turns) = tried_or_anew(alloc, old, map, new, asked, state, marked, steps)? {
-        return Ok(turns);
+    let Tried { turns, thrown } = tried_or_anew(alloc, old, map, new, asked, state, marked, steps)?;
+    if let Some(turns) = turns {
+        return Ok(Effort { turns, thrown });
     }
     go_back(alloc, old, new, state, marked, steps)?;
-    Ok(0)
+    Ok(Effort { turns: 0, thrown })
 }
 
 /// Repairs a good map for an instance that differs in demands and capacities alone. The new map is good.

@@ -1,15 +1,15 @@
 //! The two ways from a state of the old map to one of the new map: units move up, and what comes of that is looked at; or
 //! groups go back, and offer again.
 
-ghost use Rattle.std.specs.Prelude.{◌≡◌, ◌≤◌, true, false, IfOk, MatchOption, OnOk};
+ghost use Rattle.std.specs.Prelude.{◌≡◌, ◌≤◌, None, IfOk, IfSome, MatchOption, OnOk};
 ghost use Rattle.map_model.specs.Market.{IsSameShape};
 ghost use Rattle.map_model.specs.Allocation.{IsGood};
 ghost use Rattle.map_model.specs.Progress.{IsGroupBest};
 ghost use Rattle.evict.specs.Standing.{IsReady};
 ghost use Rattle.deferred_accept.specs.Runs.{WantsBefore};
-ghost use Rattle.move_up.specs.Asked.{AreAllListed};
 ghost use Rattle.map_repair.specs.Marks.{AreReached};
-ghost use Rattle.map_repair.specs.Repaired.{IsStateOf};
+ghost use Rattle.map_repair.specs.Repaired.{IsStateOf, IsWithinSpread};
+ghost use Rattle.map_repair.specs.Resumed.{most_turns};
 ghost use Rattle.map_repair.specs.Ways.{HasRunOut, IsCutAndMoved, IsResumed};
 
 use best_check::{is_best, is_resumable};
@@ -21,10 +21,21 @@ use no_memory::NoMemory;
 use reopen::{cut_and_trim, roll_back};
 use std::alloc::Global;
 
+/// What came of a try.
+#[derive(Clone, Copy, Debug)]
+pub(crate) struct Tried {
+    /// In how many turns units moved up to the new map; none where what came of it is not that, or can't be told to be.
+    pub turns: Option<u64>,
+    /// How many proposals were made in vain.
+    pub thrown: u64,
+}
+
 /// How many turns units may take to move up: half as many as there are groups, which in large worlds take a few times as long
 /// as the way back, and are not needed by thousands of changes. Without a bound a unit of room could move each unit of a ring
 /// of groups once for each place.
-fn most_turns(instance: &Instance) -> u64 {
+fn most_turns(instance: &Instance) -> u64
+    ensures { result ≡ most_turns instance.now }
+{
     u64::from(instance.groups() / 2).max(64)
 }
 
@@ -37,10 +48,10 @@ fn moved(
     marks: &[bool],
 ) -> Result<u64, NoMemory>
     requires of_map { IsStateOf old.now state.old }
-    requires asked { AreAllListed new.now asked.now }
     requires shape { IsSameShape old.now new.now }
     requires marks { AreReached old.now state.old.lines new.now marks.now }
-    ensures { OnOk result (IsCutAndMoved new.now marks.now state.old state.new) }
+    ensures moved { OnOk result (IsCutAndMoved new.now marks.now state.old state.new) }
+    ensures few { IfOk result (λ turns. turns ≤ most_turns new.now) }
 {
     // tells the prover what the type keeps
     let _groups = new.groups();
@@ -49,32 +60,32 @@ fn moved(
     move_up(old, new, state, marks, &full, asked, most_turns(new))
 }
 
-/// Runs a state to its end. Whether that holds the group-best map: only then the steps are counted.
-fn runs_to_best<L>(
+/// Runs a state to its end. Where that does not hold the group-best map, or can't be told to, the result is how many proposals
+/// it took; else there is none, and they are counted.
+fn run_to_best<L>(
     alloc: Global,
     new: &Instance,
     state: &mut State,
     steps: &mut Steps<L>,
-) -> Result<bool, NoMemory>
+) -> Result<Option<u64>, NoMemory>
     requires ready { IsReady new.now state.old }
     requires wanted { WantsBefore new.now state.old }
-    ensures run { IfOk result (λ yes. yes ≡ true → HasRunOut new.now state.old state.new steps.old steps.new) }
-    ensures best { IfOk result (λ yes. yes ≡ true → IsGroupBest new.now state.new.lines) }
-    ensures not { IfOk result (λ yes. yes ≡ false → steps.new ≡ steps.old) }
+    ensures run { IfOk result (λ vain. vain ≡ None → HasRunOut new.now state.old state.new steps.old steps.new) }
+    ensures best { IfOk result (λ vain. vain ≡ None → IsGroupBest new.now state.new.lines) }
+    ensures vain { IfOk result (λ vain. IfSome vain (λ n. (steps.new ≡ steps.old) × HasRunOut new.now state.old state.new 0 n)) }
     ensures later { steps.old ≤ steps.new }
 {
     let mut own: Steps<L> = Steps::new();
     run(alloc, new, state, &mut own)?;
     if !is_best(alloc, new, state)? {
-        return Ok(false);
+        return Ok(Some(own.count()));
     }
     steps.add(own.count());
-    Ok(true)
+    Ok(None)
 }
 
-/// Tries to come to the new map by units that move up. In how many turns they did is the result; none where what comes of it
-/// is not the new map, or can't be told to be. The state is only to be dropped then.
-fn tried<L>(
+/// Tries to come to the new map by units that move up. Where there are no turns in the result, the state is only to be dropped.
+fn try_moves<L>(
     alloc: Global,
     old: &Instance,
     new: &Instance,
@@ -82,26 +93,35 @@ fn tried<L>(
     state: &mut State,
     marks: &[bool],
     steps: &mut Steps<L>,
-) -> Result<Option<u64>, NoMemory>
+) -> Result<Tried, NoMemory>
     requires of_map { IsStateOf old.now state.old }
-    requires asked { AreAllListed new.now asked.now }
     requires shape { IsSameShape old.now new.now }
     requires marks { AreReached old.now state.old.lines new.now marks.now }
-    ensures tried { IfOk result (λ turns. MatchOption turns (steps.new ≡ steps.old) (λ n. IsResumed old.now state.old.lines new.now state.new steps.old steps.new)) }
+    ensures tried { IfOk result (λ t. MatchOption t.turns (steps.new ≡ steps.old) (λ n. IsResumed old.now state.old.lines new.now state.new steps.old steps.new)) }
+    ensures few { IfOk result (λ t. IfSome t.turns (λ n. n ≤ most_turns new.now)) }
+    ensures thrown { IfOk result (λ t. IsWithinSpread old.now state.old.lines new.now 0 t.thrown) }
     ensures later { steps.old ≤ steps.new }
 {
     let turns = moved(old, new, asked, state, marks)?;
     if !is_resumable(alloc, new, state)? {
-        return Ok(None);
+        return Ok(Tried {
+            turns: None,
+            thrown: 0,
+        });
     }
-    if !runs_to_best(alloc, new, state, steps)? {
-        return Ok(None);
+    match run_to_best(alloc, new, state, steps)? {
+        None => Ok(Tried {
+            turns: Some(turns),
+            thrown: 0,
+        }),
+        Some(thrown) => Ok(Tried {
+            turns: None,
+            thrown,
+        }),
     }
-    Ok(Some(turns))
 }
 
-/// Tries to come to the new map by units that move up. In how many turns they did is the result; if there is none, the state
-/// is one of the old map.
+/// Tries to come to the new map by units that move up. Where there are no turns in the result, the state is one of the old map.
 pub fn tried_or_anew<L>(
     alloc: Global,
     old: &Instance,
@@ -111,21 +131,22 @@ pub fn tried_or_anew<L>(
     state: &mut State,
     marks: &[bool],
     steps: &mut Steps<L>,
-) -> Result<Option<u64>, NoMemory>
+) -> Result<Tried, NoMemory>
     requires of_map { IsStateOf old.now state.old }
     requires good { IsGood old.now map.now.lines.items map.now.names.items }
     requires holds { state.old.lines ≡ map.now.lines.items }
-    requires asked { AreAllListed new.now asked.now }
     requires shape { IsSameShape old.now new.now }
     requires marks { AreReached old.now state.old.lines new.now marks.now }
-    ensures tried { IfOk result (λ turns. MatchOption turns (IsStateOf old.now state.new × (state.new.lines ≡ state.old.lines) × (steps.new ≡ steps.old)) (λ n. IsResumed old.now state.old.lines new.now state.new steps.old steps.new)) }
+    ensures tried { IfOk result (λ t. MatchOption t.turns (IsStateOf old.now state.new × (state.new.lines ≡ state.old.lines) × (steps.new ≡ steps.old)) (λ n. IsResumed old.now state.old.lines new.now state.new steps.old steps.new)) }
+    ensures few { IfOk result (λ t. IfSome t.turns (λ n. n ≤ most_turns new.now)) }
+    ensures thrown { IfOk result (λ t. IsWithinSpread old.now state.old.lines new.now 0 t.thrown) }
     ensures later { steps.old ≤ steps.new }
 {
-    if let Some(turns) = tried(alloc, old, new, asked, state, marks, steps)? {
-        return Ok(Some(turns));
+    let tried = try_moves(alloc, old, new, asked, state, marks, steps)?;
+    if tried.turns.is_none() {
+        *state = State::of_map(alloc, old, map)?;
     }
-    *state = State::of_map(alloc, old, map)?;
-    Ok(None)
+    Ok(tried)
 }
 
 /// Cuts a state for the new numbers, sends groups back to their first places in marked trees, and lets them offer again.

@@ -235,7 +235,7 @@ fn turns(alloc: Global, old: &Instance, map: &MapLines, new: &Instance) -> Resul
     let mut steps: Steps<Proposals> = Steps::new();
     let mut state = State::of_map(alloc, old, map)?;
     let asked = Asked::build(alloc, old, &state)?;
-    resume(alloc, old, map, new, &asked, &mut state, &mut steps)
+    Ok(resume(alloc, old, map, new, &asked, &mut state, &mut steps)?.turns)
 }
 
 /// The same, where the old map is good.

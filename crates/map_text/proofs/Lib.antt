@@ -5,3 +5,4 @@ mod Forms
 mod Rows
 mod Spelled
 mod Again
+mod Copied

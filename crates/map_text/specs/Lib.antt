@@ -4,3 +4,4 @@ pub mod Lines
 pub mod Reading
 pub mod Reader
 pub mod Writing
+pub mod Named

@@ -6,10 +6,12 @@
 #![tactic(auto)]
 
 mod fault;
+mod lexicon;
 mod line;
 mod number;
 mod offer;
 mod read;
+mod word;
 mod words;
 mod write;
 

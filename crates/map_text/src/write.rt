@@ -4,8 +4,12 @@ ghost use Rattle.std.specs.List.{flat_map};
 ghost use Rattle.map_model.specs.Allocation.{AreLines, AreNames, IsMapForm, IsOffer, is_by};
 ghost use Rattle.map_model.specs.Market.{pool_of};
 ghost use Rattle.map_text.specs.Reading.{map_of};
+ghost use Rattle.map_text.specs.Named.{HasWords};
 ghost use Rattle.map_text.specs.Writing.{ended, four, mapped, name_at, name_row, place_row, text_of_map, three};
 
+use crate::lexicon::{Lexicon, group_word, node_word, pool_word};
+use crate::word::{Row, Word};
+use itoa::Buffer;
 use map_model::{By, MapLine, MapLines, NameLine, Offer};
 use no_memory::NoMemory;
 use std::alloc::Global;
@@ -23,31 +27,50 @@ pub fn pool_name(topology: &Topology, offer: Offer) -> &[u8]
 /// Four words with a space between two of them, and the end of their line.
 fn push_row(
     text: &mut Vec<u8>,
-    keyword: &[u8],
-    group: &[u8],
-    pool: &[u8],
-    last: &[u8],
+    row: &mut Row,
+    keyword: &Word,
+    group: &Word,
+    pool: &Word,
+    last: &Word,
 ) -> Result<(), NoMemory>
     ensures { IfOk result (λ _. text.new.items ≡ text.old.items ++ ended (four keyword.now group.now pool.now last.now)) }
 {
-    text.extend_from_slice(keyword)?;
-    text.push(b' ')?;
-    text.extend_from_slice(group)?;
-    text.push(b' ')?;
-    text.extend_from_slice(pool)?;
-    text.push(b' ')?;
-    text.extend_from_slice(last)?;
-    text.push(b'\n')?;
+    row.clear();
+    row.add(keyword, b' ');
+    row.add(group, b' ');
+    row.add(pool, b' ');
+    row.add(last, b'\n');
+    text.extend_from_slice(row.as_slice())?;
+    Ok(())
+}
+
+/// Three words with a space between two of them, and the end of their line.
+fn push_three(
+    text: &mut Vec<u8>,
+    row: &mut Row,
+    keyword: &Word,
+    group: &Word,
+    pool: &Word,
+) -> Result<(), NoMemory>
+    ensures { IfOk result (λ _. text.new.items ≡ text.old.items ++ ended (three keyword.now group.now pool.now)) }
+{
+    row.clear();
+    row.add(keyword, b' ');
+    row.add(group, b' ');
+    row.add(pool, b'\n');
+    text.extend_from_slice(row.as_slice())?;
     Ok(())
 }
 
 fn push_place(
-    alloc: Global,
     text: &mut Vec<u8>,
+    row: &mut Row,
     topology: &Topology,
+    lexicon: &Lexicon,
     line: MapLine,
 ) -> Result<(), NoMemory>
-    requires { IsOffer topology.now.market line.group.0 line.place }
+    requires words { HasWords topology.now lexicon.now }
+    requires offer { IsOffer topology.now.market line.group.0 line.place }
     ensures text { IfOk result (λ _. text.new.items ≡ text.old.items ++ ended (place_row topology.now line)) }
     ensures fits { line.amount < 2 ^ 32 }
 {
@@ -56,66 +79,68 @@ fn push_place(
         place,
         amount,
     } = line;
-    let pool = pool_name(topology, Offer { group, place });
-    let amount = amount.to_string(alloc)?;
-    push_row(
-        text,
-        b"place",
-        topology.group_name(group),
-        pool,
-        amount.as_bytes(),
-    )
+    let pool = pool_word(topology, lexicon, Offer { group, place });
+    let group = group_word(topology, lexicon, group);
+    let mut digits = Buffer::new();
+    let amount = Word::of(digits.format(amount).as_bytes());
+    push_row(text, row, &Word::of(b"place"), group, pool, &amount)
 }
 
-/// Three words with a space between two of them, and the end of their line.
-fn push_three(text: &mut Vec<u8>, keyword: &[u8], group: &[u8], pool: &[u8]) -> Result<(), NoMemory>
-    ensures { IfOk result (λ _. text.new.items ≡ text.old.items ++ ended (three keyword.now group.now pool.now)) }
-{
-    text.extend_from_slice(keyword)?;
-    text.push(b' ')?;
-    text.extend_from_slice(group)?;
-    text.push(b' ')?;
-    text.extend_from_slice(pool)?;
-    text.push(b'\n')?;
-    Ok(())
-}
-
-fn push_name(text: &mut Vec<u8>, topology: &Topology, name: NameLine) -> Result<(), NoMemory>
+fn push_name(
+    text: &mut Vec<u8>,
+    row: &mut Row,
+    topology: &Topology,
+    lexicon: &Lexicon,
+    name: NameLine,
+) -> Result<(), NoMemory>
+    requires words { HasWords topology.now lexicon.now }
     requires offer { IsOffer topology.now.market name.group.0 name.place }
     requires by { IsTrue (is_by topology.now.market name.by) }
     ensures { IfOk result (λ _. text.new.items ≡ text.old.items ++ ended (name_row topology.now name)) }
 {
     let NameLine { group, place, by } = name;
-    let pool = pool_name(topology, Offer { group, place });
-    let group = topology.group_name(group);
+    let pool = pool_word(topology, lexicon, Offer { group, place });
+    let group = group_word(topology, lexicon, group);
     match by {
-        By::Limit => push_three(text, b"limit", group, pool),
-        By::Node(node) => push_row(text, b"full", group, pool, topology.node_name(node)),
+        By::Limit => push_three(text, row, &Word::of(b"limit"), group, pool),
+        By::Node(node) => {
+            let node = node_word(topology, lexicon, node);
+            push_row(text, row, &Word::of(b"full"), group, pool, node)
+        }
     }
 }
 
 fn push_places(
-    alloc: Global,
     text: &mut Vec<u8>,
     topology: &Topology,
+    lexicon: &Lexicon,
     lines: &[MapLine],
 ) -> Result<(), NoMemory>
-    requires { AreLines topology.now.market lines.now }
+    requires words { HasWords topology.now lexicon.now }
+    requires lines { AreLines topology.now.market lines.now }
     ensures text { IfOk result (λ _. text.new.items ≡ text.old.items ++ flat_map (λ x. ended (place_row topology.now x)) lines.now) }
     ensures fits { IfOk result (λ _. All (λ x. x.amount < 2 ^ 32) lines.now) }
 {
+    let mut row = Row::new();
     for line in lines {
-        push_place(alloc, text, topology, *line)?;
+        push_place(text, &mut row, topology, lexicon, *line)?;
     }
     Ok(())
 }
 
-fn push_names(text: &mut Vec<u8>, topology: &Topology, names: &[NameLine]) -> Result<(), NoMemory>
-    requires { AreNames topology.now.market names.now }
+fn push_names(
+    text: &mut Vec<u8>,
+    topology: &Topology,
+    lexicon: &Lexicon,
+    names: &[NameLine],
+) -> Result<(), NoMemory>
+    requires words { HasWords topology.now lexicon.now }
+    requires names { AreNames topology.now.market names.now }
     ensures { IfOk result (λ _. text.new.items ≡ text.old.items ++ flat_map (λ x. ended (name_row topology.now x)) names.now) }
 {
+    let mut row = Row::new();
     for name in names {
-        push_name(text, topology, *name)?;
+        push_name(text, &mut row, topology, lexicon, *name)?;
     }
     Ok(())
 }
@@ -134,9 +159,10 @@ pub fn write_map(alloc: Global, topology: &Topology, map: &MapLines) -> Result<V
 {
     // What each topology keeps: its names are distinct words. The proof of `again` takes it from here.
     let _instance = topology.instance();
+    let lexicon = Lexicon::build(alloc, topology)?;
     let mut text = Vec::from_slice(alloc, b"glb map 2\n")?;
-    push_places(alloc, &mut text, topology, map.lines.as_slice())?;
-    push_names(&mut text, topology, map.names.as_slice())?;
+    push_places(&mut text, topology, &lexicon, map.lines.as_slice())?;
+    push_names(&mut text, topology, &lexicon, map.names.as_slice())?;
     text.extend_from_slice(b"end\n")?;
     Ok(text)
 }

@@ -17,6 +17,7 @@ use Rattle.map_cell.specs.Ends.{PublisherState}
 use Rattle.mapper.specs.Control.{AllCome, Comes, Course, IsNext, before_commit, start, with_version}
 use Rattle.mapper.specs.Laws.{LackedMemory}
 use Rattle.mapper.specs.Mappers.{IsFirst}
+use Rattle.mapper.specs.Merged.{Publishes}
 use Rattle.mapper.specs.Texts as text
 
 version_is : (x y : Version) → x.serial ≡ y.serial → x.market ≡ y.market → x.lines ≡ y.lines → x.names ≡ y.names → x.plan ≡ y.plan → x ≡ y
@@ -36,6 +37,18 @@ next_one old a b changes x y = version_is a b (x.serial ∙ sym y.serial) market
 
     lines : a.lines ≡ b.lines
     lines = repaired_of_one old.market old.lines b.market a.lines b.lines y.applied.shape.groups (subst (λ (m : Market). IsRepairedOf old.market old.lines m a.lines) market x.repaired) y.repaired
+
+-- and so are the versions that batches lead to
+pub versions_one : (old : Version) (batches : List (List Change)) (vs ws : List Version) → Publishes old batches vs → Publishes old batches ws → vs ≡ ws
+versions_one old [] [] [] x y = refl
+versions_one old [] [] (w ∷ ws) x y = absurd y
+versions_one old [] (v ∷ vs) ws x y = absurd x
+versions_one old (changes ∷ batches) [] ws x y = absurd x
+versions_one old (changes ∷ batches) (v ∷ vs) [] x y = absurd y
+versions_one old (changes ∷ batches) (v ∷ vs) (w ∷ ws) x y =
+    let e : v ≡ w = next_one old v w changes x.0 y.0 in
+    let rest : vs ≡ ws = versions_one w batches vs ws (subst (λ (u : Version). Publishes u batches vs) e x.1) y.1 in
+    ap (λ (u : Version). u ∷ vs) e ∙ ap (λ (us : List Version). w ∷ us) rest
 
 -- the line that memory was wanting stays
 said_still : (task : Task) (c d : Course) → Comes task c d → LackedMemory c → LackedMemory d

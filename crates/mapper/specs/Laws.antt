@@ -1,5 +1,6 @@
 -- Mappers over one topology and the same tasks agree; what items of several feeds come to.
 use Rattle.std.specs.Prelude.{◌≡◌, List, ◌++◌, Contains, map}
+use Rattle.map_model.specs.declared.change.Change.{Change}
 use Rattle.map_model.specs.Market.{IsMarket}
 use Rattle.topology_text.specs.Plan.{Plan}
 use Rattle.demand_feed.specs.Task.{Task}
@@ -8,7 +9,7 @@ use Rattle.map_cell.specs.Ends.{PublisherState}
 use Rattle.published_map.specs.Version.{Version}
 use Rattle.mapper.specs.Given.{AreGiven}
 use Rattle.mapper.specs.Items.{AllWork}
-use Rattle.mapper.specs.Merged.{Entry, IsMerged, spoken}
+use Rattle.mapper.specs.Merged.{Entry, IsMerged, Publishes, spoken}
 use Rattle.mapper.specs.Control.{AllCome, Course, start}
 use Rattle.mapper.specs.Mappers.{IsFirst}
 use Rattle.mapper.specs.Texts as text
@@ -20,6 +21,10 @@ LackedMemory c = Contains c.out text.memory
 -- Two mappers were opened for one topology, and the same tasks came to a course of each. Where neither said that memory was wanting, the courses are the same: the same versions, the same texts of maps, the same lines and the same calls of the pace.
 abbrev pub CoursesAgree : Type 0
 CoursesAgree = (t : Plan) → IsMarket t.market → (a b : PublisherState) (tasks : List Task) (c d : Course) → IsFirst t a → IsFirst t b → AllCome tasks (start a.newest) c → AllCome tasks (start b.newest) d → (LackedMemory c → ⊥) → (LackedMemory d → ⊥) → c ≡ d
+
+-- Versions that the same batches lead to from one version are the same.
+abbrev pub VersionsAgree : Type 0
+VersionsAgree = (old : Version) (batches : List (List Change)) (vs ws : List Version) → Publishes old batches vs → Publishes old batches ws → vs ≡ ws
 
 -- What items come to one after another is a merged text of their lines.
 abbrev pub TextsAreMerged : Type 0

@@ -89,7 +89,7 @@ fn repaired<L>(
     ensures later { steps.old ≤ steps.new }
 {
     let before = steps.count();
-    let turns = resume(
+    let effort = resume(
         alloc,
         &old.instance,
         &old.map,
@@ -102,7 +102,7 @@ fn repaired<L>(
     kept.proposals = kept
         .proposals
         .saturating_add(proposals)
-        .saturating_add(turns);
+        .saturating_add(effort.turns);
     ended_map(alloc, new, &kept.state)
 }
 

@@ -1,10 +1,15 @@
 //! Laws of mappers.
-ghost use Rattle.mapper.specs.Laws.{BatchesAreGiven, CoursesAgree, TextsAreMerged};
+ghost use Rattle.mapper.specs.Laws.{BatchesAreGiven, CoursesAgree, TextsAreMerged, VersionsAgree};
 
 /// Mappers that were opened for one topology and took the same tasks have published the same maps and said the same, where
 /// neither said that memory was wanting: first maps and repaired maps are determined.
 pub fn courses_agree()
     ensures { CoursesAgree }
+{}
+
+/// What a version and some batches lead to is determined, whichever feeds the batches came by.
+pub fn versions_agree()
+    ensures { VersionsAgree }
 {}
 
 /// What items of several feeds come to one after another is a merged control text.

@@ -15,6 +15,6 @@ mod noted;
 mod runner;
 mod saying;
 
-pub use laws::{batches_are_given, courses_agree, texts_are_merged};
+pub use laws::{batches_are_given, courses_agree, texts_are_merged, versions_agree};
 pub use mapper::Mapper;
 pub use saying::{LINE_ROOM, Saying, Spoken, Totals, write_saying};

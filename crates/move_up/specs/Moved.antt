@@ -5,7 +5,7 @@ use Rattle.map_model.specs.Allocation.{IsOffer, units_of}
 use Rattle.evict.specs.Standing.{IsOpen, Standing}
 use Rattle.reopen.specs.Rolling.{is_marked}
 
--- Units were moved within marked trees alone: in the others all offers hold what they held. No pointer is higher than before, and none is before the first place of its group's list whose tree is marked.
+-- Units were moved within marked trees alone: in the others all offers hold what they held. No pointer is higher than before, and none went back past the first place of its group's list whose tree is marked. The new state is open, over the same lists and trees.
 pub record IsMoved (m : Market) (marks : List Bool) (old new : Standing) : Type 0 where
   pub is_open : IsOpen m new
   pub market : new.market ≡ old.market

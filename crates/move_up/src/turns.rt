@@ -286,7 +286,6 @@ pub fn move_up(
     requires is_open { IsOpen new.now state.old }
     requires shape { IsSameShape old.now new.now }
     requires size { length marks.now ≡ length new.now.nodes }
-    requires asked { AreAllListed new.now asked.now }
     ensures moved { OnOk result (IsMoved new.now marks.now state.old state.new) }
     ensures few { IfOk result (λ made. made ≤ turns) }
 {

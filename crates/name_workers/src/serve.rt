@@ -15,7 +15,7 @@ use answer_core::Way;
 use arrayvec::ArrayVec;
 use lane_model::Ended;
 use map_cell::{CellFault, Door, Naming, Note};
-use outside::{Arrival, Gate, LARGEST_DATAGRAM, Notes, Port, Sending, Turning};
+use outside::{Arrival, Gate, LARGEST_DATAGRAM, LARGEST_REPLY, Notes, Port, Sending, Turning};
 
 /// The room for a datagram: one octet more than the longest that is answered, so that a port sees a longer one without a
 /// copy of its own.
@@ -30,13 +30,14 @@ pub(crate) enum Fared {
     Failed,
 }
 
-/// Answers the datagram that was taken last.
+/// Answers the datagram that was taken last. `out` is room for the reply.
 fn answer_one<J: Naming, P: Port, D: Door>(
     worker: &mut Worker<J>,
     port: &mut P,
     door: &mut D,
     octets: &[u8],
     from: Peer,
+    out: &mut ArrayVec<u8, LARGEST_REPLY>,
 ) -> Fared
     requires due { IfSome (P.told port.old) HasDue }
     ensures fared { IsFared worker.old.number worker.old.count (record { octets = octets.now; from = from }) result
@@ -46,8 +47,7 @@ fn answer_one<J: Naming, P: Port, D: Door>(
     ensures count { (worker.new.count ≡ following worker.old.count) × (worker.new.number ≡ worker.old.number) }
     ensures asked { D.asked door.new ≡ D.asked door.old }
 {
-    let mut out = ArrayVec::new();
-    match worker.answer(door, from.addr, octets, Way::Datagram, &mut out) {
+    match worker.answer(door, from.addr, octets, Way::Datagram, out) {
         Err(CellFault) => Fared::Refused,
         Ok(None) => Fared::Silent,
         Ok(Some(serial)) => match port.send(out.as_slice(), from, serial) {
@@ -75,6 +75,7 @@ fn take_one<J: Naming, P: Port, D: Door>(
     port: &mut P,
     door: &mut D,
     buffer: &mut [u8; BUFFER],
+    out: &mut ArrayVec<u8, LARGEST_REPLY>,
 ) -> Step
     ensures taken { IsTaken worker.old.number worker.old.count worker.new.count result
         (eyes_of D.looks D.greatest D.faults worker.old.viewer door.old)
@@ -85,7 +86,7 @@ fn take_one<J: Naming, P: Port, D: Door>(
 {
     match port.recv(worker.known(), buffer) {
         Arrival::Arrived(len, from) => {
-            step_after(answer_one(worker, port, door, &buffer[..len], from))
+            step_after(answer_one(worker, port, door, &buffer[..len], from, out))
         }
         Arrival::Idle | Arrival::Oversize => Step::On,
         Arrival::End => Step::PortEnd,
@@ -101,6 +102,7 @@ fn one_turn<J: Naming, P: Port, G: Gate, D: Door, N: Notes<Note<J>>>(
     door: &mut D,
     notes: &mut N,
     buffer: &mut [u8; BUFFER],
+    out: &mut ArrayVec<u8, LARGEST_REPLY>,
 ) -> Step
     ensures turned { IsTurned worker.old.number result
         (moment_of P.told P.faults G.told G.faults N.told port.old gate.old notes.old (eyes_of D.looks D.greatest D.faults worker.old.viewer door.old) worker.old.count)
@@ -112,7 +114,7 @@ fn one_turn<J: Naming, P: Port, G: Gate, D: Door, N: Notes<Note<J>>>(
         return Step::Stopped;
     }
     learn_all(worker, door, notes);
-    take_one(worker, port, door, buffer)
+    take_one(worker, port, door, buffer, out)
 }
 
 /// The turns of a lane.
@@ -131,9 +133,10 @@ fn serve_turns<J: Naming, P: Port, G: Gate, D: Door, N: Notes<Note<J>>>(
     ensures asked { D.asked door.new ≡ D.asked door.old }
 {
     let mut buffer = [0u8; BUFFER];
+    let mut out = ArrayVec::new();
     let mut failed = 0u8;
     for _ in 0..turns {
-        let step = one_turn(worker, port, gate, door, notes, &mut buffer);
+        let step = one_turn(worker, port, gate, door, notes, &mut buffer, &mut out);
         if let Some(ended) = next_end(step, &mut failed) {
             return ended;
         }

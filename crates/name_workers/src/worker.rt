@@ -13,6 +13,7 @@ ghost use Rattle.name_workers.specs.Worker.{IsAnswer};
 use addr_text::Addr;
 use answer_core::{Way, reply, silent};
 use arrayvec::ArrayVec;
+use dns_wire::octets::put;
 use lane_model::{draw_of, next_number};
 use map_cell::{CellFault, Door, Naming, Note, Viewer};
 use outside::LARGEST_REPLY;
@@ -26,22 +27,27 @@ pub struct Worker<J: Naming> {
     pub count: u64,
 }
 
+/// A reply, and the serial of its version.
+#[derive(Drop)]
+struct Replied {
+    text: ArrayVec<u8, LARGEST_REPLY>,
+    serial: u64,
+}
+
 /// The reply of a version to octets that have one, by a way.
-fn reply_by(
-    version: &MapVersion,
-    from: Addr,
-    octets: &[u8],
-    draw: u64,
-    way: Way,
-) -> ArrayVec<u8, LARGEST_REPLY>
+fn reply_by(version: &MapVersion, from: Addr, octets: &[u8], draw: u64, way: Way) -> Replied
     requires version { IsVersion version.now }
     requires spoken { is_silent octets.now ≡ false }
-    ensures reply { reply_of version.now from octets.now draw way ≡ Some result.items }
-    ensures short { length result.items ≤ LARGEST_REPLY }
+    ensures reply { reply_of version.now from octets.now draw way ≡ Some result.text.items }
+    ensures short { length result.text.items ≤ LARGEST_REPLY }
+    ensures serial { result.serial ≡ version.now.serial }
 {
-    let mut out = ArrayVec::new();
-    let _ = reply(version, from, octets, draw, way, &mut out);
-    out
+    let mut text = ArrayVec::new();
+    let _ = reply(version, from, octets, draw, way, &mut text);
+    Replied {
+        text,
+        serial: version.serial(),
+    }
 }
 
 impl<J: Naming> Worker<J> {
@@ -111,14 +117,19 @@ impl<J: Naming> Worker<J> {
         if silent(octets) {
             return Ok(None);
         }
-        let (text, serial) = door.look(
+        let looked = door.look(
             &mut self.viewer,
-            |m: &MapVersion| -> (ArrayVec<u8, LARGEST_REPLY>, u64)
+            |m: &MapVersion| -> Replied
                 requires { IsVersion m.now × (is_silent octets.now ≡ false) }
-                ensures { (reply_of m.now from octets.entry.now draw way ≡ Some result.0.items) × (length result.0.items ≤ LARGEST_REPLY) × (result.1 ≡ m.now.serial) }
-            { (reply_by(m, from, octets, draw, way), m.serial()) },
-        )?;
-        *out = text;
-        Ok(Some(serial))
+                ensures { (reply_of m.now from octets.entry.now draw way ≡ Some result.text.items) × (length result.text.items ≤ LARGEST_REPLY) × (result.serial ≡ m.now.serial) }
+            { reply_by(m, from, octets, draw, way) },
+        );
+        match &looked {
+            Ok(replied) => {
+                put(out, replied.text.as_slice());
+                Ok(Some(replied.serial))
+            }
+            Err(fault) => Err(*fault),
+        }
     }
 }

@@ -2,7 +2,9 @@
 ghost use Rattle.std.specs.Prelude.{◌≡◌, ℕ, ◌+◌, ◌-◌, ◌*◌, ◌<◌, ◌≤◌, ◌^◌, List, length, All, IfOk};
 ghost use Rattle.addr_text.specs.declared.address.Prefix.{Prefix};
 ghost use Rattle.map_model.specs.declared.instance.GroupId.{GroupId};
+ghost use Rattle.prefix_lookup.specs.declared.family.Family.{Family};
 ghost use Rattle.prefix_lookup.specs.declared.family.Family.TheVariants as family;
+ghost use Rattle.prefix_lookup.specs.Family.{bits_in};
 ghost use Rattle.prefix_lookup.specs.Ranges.{AreRanges, IsLastUpTo, IsRangeAt, IsRangeOf, next_start, start_at};
 ghost use Rattle.prefix_lookup.specs.Table.{IsTable};
 
@@ -74,43 +76,59 @@ pub fn ranges_v6(alloc: Global, table: &[(Prefix, GroupId)]) -> Result<RangesV6,
     })
 }
 
-/// The last start up to a number, with a tick for each comparison.
-fn last_up_to_v4<L>(starts: &[u32], number: u32, steps: &mut Steps<L>) -> usize
-    requires some { 0 < length starts.now }
-    requires first { start_at starts.now 0 ≡ 0 }
-    ensures place { IsLastUpTo starts.now number result }
-    ensures few { 2 ^ (steps.new - steps.old) ≤ 2 * length starts.now }
-    ensures risen { steps.old ≤ steps.new }
-{
-    let mut low = 0;
-    let mut size = starts.len();
-    while size > 1 {
-        let half = size / 2;
-        steps.tick();
-        if starts[low + half] <= number {
-            low += half;
-            size -= half;
-        } else {
-            size = half;
-        }
+/// Sorted starts of ranges, each in as many octets as a number of its family takes.
+trait Starts {
+    /// Where the ranges begin.
+    ghost starts: { Self → List ℕ };
+
+    /// How many there are.
+    fn count(&self) -> usize
+        ensures { result ≡ length (starts self.now) };
+
+    /// The start at a place.
+    fn at(&self, place: usize) -> u128
+        requires { place < length (starts self.now) }
+        ensures { result ≡ start_at (starts self.now) place };
+}
+
+impl Starts for Vec<u32> {
+    ghost starts = { λ v. v.items };
+
+    fn count(&self) -> usize {
+        self.len()
     }
-    low
+
+    fn at(&self, place: usize) -> u128 {
+        u128::from(self.as_slice()[place])
+    }
+}
+
+impl Starts for Vec<u128> {
+    ghost starts = { λ v. v.items };
+
+    fn count(&self) -> usize {
+        self.len()
+    }
+
+    fn at(&self, place: usize) -> u128 {
+        self.as_slice()[place]
+    }
 }
 
 /// The last start up to a number, with a tick for each comparison.
-fn last_up_to_v6<L>(starts: &[u128], number: u128, steps: &mut Steps<L>) -> usize
-    requires some { 0 < length starts.now }
-    requires first { start_at starts.now 0 ≡ 0 }
-    ensures place { IsLastUpTo starts.now number result }
-    ensures few { 2 ^ (steps.new - steps.old) ≤ 2 * length starts.now }
+fn last_up_to<S: Starts, L>(starts: &S, number: u128, steps: &mut Steps<L>) -> usize
+    requires some { 0 < length (S.starts starts.now) }
+    requires first { start_at (S.starts starts.now) 0 ≡ 0 }
+    ensures place { IsLastUpTo (S.starts starts.now) number result }
+    ensures few { 2 ^ (steps.new - steps.old) ≤ 2 * length (S.starts starts.now) }
     ensures risen { steps.old ≤ steps.new }
 {
     let mut low = 0;
-    let mut size = starts.len();
+    let mut size = starts.count();
     while size > 1 {
         let half = size / 2;
         steps.tick();
-        if starts[low + half] <= number {
+        if starts.at(low + half) <= number {
             low += half;
             size -= half;
         } else {
@@ -121,53 +139,47 @@ fn last_up_to_v6<L>(starts: &[u128], number: u128, steps: &mut Steps<L>) -> usiz
 }
 
 /// The start after this place, if there is one.
-fn next_v4(starts: &[u32], place: usize) -> Option<u128>
-    requires { place < length starts.now }
-    ensures { result ≡ next_start starts.now place }
+fn next_at<S: Starts>(starts: &S, place: usize) -> Option<u128>
+    requires { place < length (S.starts starts.now) }
+    ensures { result ≡ next_start (S.starts starts.now) place }
 {
-    if place + 1 < starts.len() {
-        Some(u128::from(starts[place + 1]))
-    } else {
-        None
-    }
-}
-
-/// The start after this place, if there is one.
-fn next_v6(starts: &[u128], place: usize) -> Option<u128>
-    requires { place < length starts.now }
-    ensures { result ≡ next_start starts.now place }
-{
-    if place + 1 < starts.len() {
-        Some(starts[place + 1])
+    let count = starts.count();
+    if place + 1 < count {
+        Some(starts.at(place + 1))
     } else {
         None
     }
 }
 
 /// The range at a place.
-fn range_at_v4(starts: &[u32], groups: &[GroupId], place: usize) -> Range
-    requires place { place < length starts.now }
-    requires beside { length groups.now ≡ length starts.now }
-    ensures { IsRangeAt starts.now groups.now place result }
+fn range_at<S: Starts>(starts: &S, groups: &[GroupId], place: usize) -> Range
+    requires place { place < length (S.starts starts.now) }
+    requires beside { length groups.now ≡ length (S.starts starts.now) }
+    ensures { IsRangeAt (S.starts starts.now) groups.now place result }
 {
     Range {
         group: groups[place],
-        start: u128::from(starts[place]),
-        end: next_v4(starts, place),
+        start: starts.at(place),
+        end: next_at(starts, place),
     }
 }
 
-/// The range at a place.
-fn range_at_v6(starts: &[u128], groups: &[GroupId], place: usize) -> Range
-    requires place { place < length starts.now }
-    requires beside { length groups.now ≡ length starts.now }
-    ensures { IsRangeAt starts.now groups.now place result }
+/// The range in which a number is.
+fn range_in<S: Starts, L>(
+    starts: &S,
+    groups: &[GroupId],
+    number: u128,
+    steps: &mut Steps<L>,
+) -> Range
+    requires some { 0 < length (S.starts starts.now) }
+    requires first { start_at (S.starts starts.now) 0 ≡ 0 }
+    requires beside { length groups.now ≡ length (S.starts starts.now) }
+    ensures range { (family : Family) (table : List (Prefix × GroupId)) → AreRanges family table (S.starts starts.now) groups.now → number < 2 ^ bits_in family → IsRangeOf family table number result }
+    ensures few { 2 ^ (steps.new - steps.old) ≤ 2 * length (S.starts starts.now) }
+    ensures risen { steps.old ≤ steps.new }
 {
-    Range {
-        group: groups[place],
-        start: starts[place],
-        end: next_v6(starts, place),
-    }
+    let place = last_up_to(starts, number, steps);
+    range_at(starts, groups, place)
 }
 
 impl RangesV4 {
@@ -181,9 +193,12 @@ impl RangesV4 {
         ensures few { 2 ^ (steps.new - steps.old) ≤ 2 * length self.now.starts.items }
         ensures risen { steps.old ≤ steps.new }
     {
-        let starts = self.starts.as_slice();
-        let place = last_up_to_v4(starts, number, steps);
-        range_at_v4(starts, self.groups.as_slice(), place)
+        range_in(
+            &self.starts,
+            self.groups.as_slice(),
+            u128::from(number),
+            steps,
+        )
     }
 }
 
@@ -198,8 +213,6 @@ impl RangesV6 {
         ensures few { 2 ^ (steps.new - steps.old) ≤ 2 * length self.now.starts.items }
         ensures risen { steps.old ≤ steps.new }
     {
-        let starts = self.starts.as_slice();
-        let place = last_up_to_v6(starts, number, steps);
-        range_at_v6(starts, self.groups.as_slice(), place)
+        range_in(&self.starts, self.groups.as_slice(), number, steps)
     }
 }

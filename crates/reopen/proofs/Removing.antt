@@ -151,13 +151,13 @@ pub record IsRolling (m : Market) (marks : List Bool) (i : ℕ) (old new : Stand
   pub sums : KeepsSums old new
 
 pub can_cut : (m : Market) (marks : List Bool) (s : Standing) → CanRollBack m marks s → CanCut m s
-can_cut m marks s can = record { market = can.market; whole = can.whole; shape = can.shape; form = can.form; count = can.free_for }
+can_cut m marks s can = record { market = can.is_open.market; whole = can.is_open.whole; shape = can.is_open.shape; form = can.is_open.form; count = can.is_open.free_for }
 
 pub rolling_start : (m : Market) (marks : List Bool) (s : Standing) → CanRollBack m marks s → IsRolling m marks 0 s s
 rolling_start m marks s can = record {
   can = can_cut m marks s can;
   market = refl;
-  count = can.pointers_for;
+  count = can.is_open.pointers_for;
   frees = refl;
   done = λ h l low. absurd (omega arith);
   to_do = λ h l high. refl;
@@ -225,17 +225,17 @@ none_released m g place old new done k past = done.units (λ h j. (h == g) && (j
 pub rolled_back : (m : Market) (marks : List Bool) (i : ℕ) (old new : Standing) → CanRollBack m marks old → IsRolling m marks i old new → length m.groups ≤ i → IsRolledBack m marks old new
 rolled_back m marks i old new can done all = record {
   ready = record {
-    market = can.market;
+    market = can.is_open.market;
     whole = done.can.whole;
     shape = done.can.shape;
     resumable = record {
       form = done.can.form;
       pointers_for = done.count;
       free_for = done.can.count;
-      capacities = λ n l. omega (arith, can.capacities n l, fewer (counts_at m n));
-      limits = λ g k o. omega (arith, can.limits g k o, fewer (λ h j. (h == g) && (j == k)));
-      totals = λ g l. done.sums g (omega (arith, can.free_for)) ∙ can.totals g l;
-      in_list = λ g l. omega (arith, (at g l).within, can.in_list g l);
+      capacities = λ n l. omega (arith, can.is_open.capacities n l, fewer (counts_at m n));
+      limits = λ g k o. omega (arith, can.is_open.limits g k o, fewer (λ h j. (h == g) && (j == k)));
+      totals = λ g l. done.sums g (omega (arith, can.is_open.free_for)) ∙ can.is_open.totals g l;
+      in_list = λ g l. omega (arith, (at g l).within, can.is_open.in_list g l);
       none_past = λ g k o past. none g k past;
       refused = λ g k o before. refused g k o before;
     };
@@ -249,7 +249,7 @@ rolled_back m marks i old new can done all = record {
     at g l = done.done g l (omega (arith, all))
 
     units : (test : ℕ → ℕ → Bool) → units_of test new.lines ≡ units_of (λ g k. test g k && nat_le k (slice_index new.pointers g)) old.lines
-    units test = done.units test ∙ units-agree (λ g k. test g k && (nat_le i g || nat_le k (slice_index new.pointers g))) (λ g k. test g k && nat_le k (slice_index new.pointers g)) old.lines (λ j d l. agree (get_or old.lines j d) (offers-AreLines m old.lines can.form j d l))
+    units test = done.units test ∙ units-agree (λ g k. test g k && (nat_le i g || nat_le k (slice_index new.pointers g))) (λ g k. test g k && nat_le k (slice_index new.pointers g)) old.lines (λ j d l. agree (get_or old.lines j d) (offers-AreLines m old.lines can.is_open.form j d l))
       where
         agree : (x : MapLine) → IsOffer m x.group.0 x.place → (test x.group.0 x.place && (nat_le i x.group.0 || nat_le x.place (slice_index new.pointers x.group.0))) ≡ (test x.group.0 x.place && nat_le x.place (slice_index new.pointers x.group.0))
         agree x o = let low : nat_le i x.group.0 ≡ false = grind (arith, nat_tests, o.group, all) in rw low refl
@@ -272,7 +272,7 @@ rolled_back m marks i old new can done all = record {
 
     -- a tree that is not marked keeps its units
     same : (root : ℕ) → ((g k : ℕ) → tree_of m g k ≡ root → is_marked m marks g k ≡ false) → IsSameIn m root old.lines new.lines
-    same root clear test of = units test ∙ units-agree (λ g k. test g k && nat_le k (slice_index new.pointers g)) test old.lines (λ j d l. agree (get_or old.lines j d) (offers-AreLines m old.lines can.form j d l) (line-some m old.lines can.form j d l))
+    same root clear test of = units test ∙ units-agree (λ g k. test g k && nat_le k (slice_index new.pointers g)) test old.lines (λ j d l. agree (get_or old.lines j d) (offers-AreLines m old.lines can.is_open.form j d l) (line-some m old.lines can.is_open.form j d l))
       where
         stays : (g k : ℕ) → IsOffer m g k → 0 < amount_at old.lines g k → is_marked m marks g k ≡ false → nat_le k (slice_index new.pointers g) ≡ true
         stays g k o some free = elim (cases_lt (slice_index new.pointers g) k) [
@@ -282,7 +282,7 @@ rolled_back m marks i old new can done all = record {
               let b = at g o.group in
               elim (cases_lt p (slice_index old.pointers g)) [
                 | inl back ↦ absurd (false≢true (sym free ∙ can.closed g p k (record { group = o.group; place = omega (arith, past, o.place) }) back (b.at back) o some))
-                | inr kept ↦ absurd (omega (arith, some, can.none_past g k o (omega (arith, past, kept, b.within))))
+                | inr kept ↦ absurd (omega (arith, some, can.is_open.none_past g k o (omega (arith, past, kept, b.within))))
               ]
         ]
 
@@ -297,5 +297,5 @@ rolled_back m marks i old new can done all = record {
         let b = at g o.group in
         let clear : is_marked m marks g k ≡ false = b.before k before in
         let was : IsSome (refuser_of m old.lines g k) = can.refused g k o (omega (arith, before, b.within)) clear in
-        let keeps = refuser-same m m (shape_itself m) can.market old.lines new.lines can.form done.can.form g k o (λ n l e. refl) (same (tree_of m g k) (λ h j e. ap (λ r. slice_index_or marks r false) e ∙ clear)) in
+        let keeps = refuser-same m m (shape_itself m) can.is_open.market old.lines new.lines can.is_open.form done.can.form g k o (λ n l e. refl) (same (tree_of m g k) (λ h j e. ap (λ r. slice_index_or marks r false) e ∙ clear)) in
         subst (λ x. IsSome x) (sym keeps) was

@@ -1,29 +1,19 @@
 -- Sending groups back to the first place in a marked tree.
-use Rattle.std.specs.Prelude.{◌≡◌, ℕ, ◌+◌, ◌<◌, ◌≤◌, Bool, true, false, not, ◌&&◌, ◌==◌, nat_lt, nat_le, List, length, IsTrue, IsSome, slice_index, slice_index_or, slice_set}
-use Rattle.map_model.specs.Market.{Market, IsMarket, IsSameShape, capacity_of, choices_of, demand_of, limit_of}
-use Rattle.map_model.specs.Allocation.{AreLines, IsOffer, amount_at, load, placed, refuser_of, units_of}
+use Rattle.std.specs.Prelude.{◌≡◌, ℕ, ◌<◌, ◌≤◌, Bool, true, false, not, ◌&&◌, ◌==◌, nat_lt, nat_le, List, length, IsSome, slice_index, slice_index_or, slice_set}
+use Rattle.map_model.specs.Market.{Market}
+use Rattle.map_model.specs.Allocation.{IsOffer, amount_at, refuser_of, units_of}
 use Rattle.map_model.specs.Progress.{tree_of}
-use Rattle.evict.specs.Standing.{IsReady, Standing}
+use Rattle.evict.specs.Standing.{IsOpen, IsReady, Standing}
 use Rattle.reopen.specs.Cutting.{CanCut, KeepsSums}
 
 -- the tree of the pool at one place of a list is marked: the marks stand at the roots
 abbrev pub is_marked : Market → List Bool → ℕ → ℕ → Bool
 is_marked m marks g k = slice_index_or marks (tree_of m g k) false
 
--- All that a resumable state has, but that places of marked trees before a pointer need not be refused. A group with such a place holds units in marked trees alone.
+-- An open state in which only places of marked trees before a pointer need not be refused. A group with such a place holds units in marked trees alone.
 pub record CanRollBack (m : Market) (marks : List Bool) (state : Standing) : Type 0 where
-  pub market : IsMarket m
-  pub whole : IsTrue state.is_whole
-  pub shape : IsSameShape state.market m
+  pub is_open : IsOpen m state
   pub marks_for : length marks ≡ length m.nodes
-  pub form : AreLines m state.lines
-  pub pointers_for : length state.pointers ≡ length m.groups
-  pub free_for : length state.free ≡ length m.groups
-  pub capacities : (n : ℕ) → n < length m.nodes → load m state.lines n ≤ capacity_of m n
-  pub limits : (g k : ℕ) → IsOffer m g k → amount_at state.lines g k ≤ limit_of m g k
-  pub totals : (g : ℕ) → g < length m.groups → placed state.lines g + slice_index state.free g ≡ demand_of m g
-  pub in_list : (g : ℕ) → g < length m.groups → slice_index state.pointers g ≤ length (choices_of m g)
-  pub none_past : (g k : ℕ) → IsOffer m g k → slice_index state.pointers g < k → amount_at state.lines g k ≡ 0
   pub refused : (g k : ℕ) → IsOffer m g k → k < slice_index state.pointers g → is_marked m marks g k ≡ false → IsSome (refuser_of m state.lines g k)
   pub closed : (g k j : ℕ) → IsOffer m g k → k < slice_index state.pointers g → is_marked m marks g k ≡ true → IsOffer m g j → 0 < amount_at state.lines g j → is_marked m marks g j ≡ true
 

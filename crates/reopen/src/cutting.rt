@@ -38,6 +38,11 @@ fn trim_places(instance: &Instance, state: &mut State, group: GroupId)
     ensures trimmed { IsGroupTrimmed instance.now group.0 state.old.lines state.new.lines }
     ensures elsewhere { (test : ℕ → ℕ → Bool) → ((k : ℕ) → test group.0 k ≡ false) → units_of test state.new.lines ≡ units_of test state.old.lines }
 {
+    let demand = u64::from(instance.demand(group));
+    let placed = state.placed(group);
+    if placed <= demand {
+        return;
+    }
     let len = instance.list_len(group);
     for step in 0..len {
         let place = len - 1 - step;

@@ -18,7 +18,7 @@ use Rattle.tcp_lane.specs.Replies.{stream_replies}
 use Rattle.lane_model.proofs.Prefixes.{prefix_length}
 use Rattle.lane_model.proofs.Runs.{IsInOrder, tells_on}
 use Rattle.tcp_lane.specs.Turns.{AreWell, StreamCame, IsBroken, IsRuled, Line, Said, StreamTurn, closing_if, ended, is_well, lane_of, lead_of, no_line, stream_turn, turn_of, turns_of}
-use Rattle.tcp_lane.specs.Calls.{AreRuled, IsStreamCall, IsStreamEnd, IsStreamLast, IsStreamSession, StreamMoment, inner}
+use Rattle.tcp_lane.specs.Calls.{AreRuled, IsStreamCall, IsStreamEnd, IsStreamLast, IsStreamSession, StreamMoment, inner, stream_refusals}
 use Rattle.tcp_lane.specs.Steps.{IsServed}
 use Rattle.tcp_lane.proofs.Sessions.{session_on}
 use Rattle.lane_model.proofs.Calls.{calm_not_refused, log_of}
@@ -69,7 +69,7 @@ order_last : (before : List Turn) (t : Turn) → All (λ t. is_refused t.came �
 order_last [] t c = (λ r. refl, tt)
 order_last (x ∷ before) t c = (λ r. not_both (is_refused x.came) (c 0 x (omega arith)) r, order_last before t (All-tail (λ (y : Turn). is_refused y.came ≡ false) x before c))
 
-calm_free : (log : List Turn) → AreCalm log → All (λ t. is_refused t.came ≡ false) log
+pub calm_free : (log : List Turn) → AreCalm log → All (λ t. is_refused t.came ≡ false) log
 calm_free log c = All-weaker (λ (t : Turn). is_calm t.came ≡ true) (λ (t : Turn). is_refused t.came ≡ false) (λ t. calm_not_refused t.came) log c
 
 free_by : (d : Packet) (f : Fate) → is_well f ≡ true → is_refused (took d f) ≡ false
@@ -99,7 +99,7 @@ last_ruled : (w : ℕ) (before : List StreamTurn) (t : StreamTurn) (m m' : Strea
 last_ruled w [] t m m' s = (m.line, s.0.line, s.1.ruled)
 last_ruled w (x ∷ before) t m m' s = last_ruled w before t s.0 m' s.2
 
-ended_silent : (t : StreamTurn) (l l' : Line) → t.came ≡ ended → IsRuled t.came l t l' → t.said ≡ []
+pub ended_silent : (t : StreamTurn) (l l' : Line) → t.came ≡ ended → IsRuled t.came l t l' → t.said ≡ []
 ended_silent t l l' is r = (subst (λ (h : StreamCame). IsRuled h l t l') is r).1
 
 order_of : (w turns : ℕ) (log : List StreamTurn) (m m' : StreamMoment Version) (e : Ended) → IsStreamSession stream_replies w log m m' → IsStreamEnd turns log e → IsInOrder (lane_of log)
@@ -181,8 +181,8 @@ call_of w turns m m1 m2 e some line served closes stays faults gate notes eyes c
       notes = subst (λ (k : Option NotesTold). BothTell m.notes k (AreGiven (map lead_of served.log))) (sym (notes ∙ like.notes)) (notes_after w served.log m served.mid served.session);
       gate = subst (λ (k : Option GateTold). BothTell m.gate k (IsGateRun g.0 (map lead_of served.log) e)) (sym gate) g.2;
       runs = λ b none floor lt.
-          subst (λ (o : Bool). (talks : List Talk) × ((closing_if o (fold stream_turn b served.log)).closed ≡ b.closed ++ talks) × ((closing_if o (fold stream_turn b served.log)).current ≡ None) × IsStreamRun stream_replies m2.eyes.seen w m.count floor talks (entries_of Stream (lane_of served.log)) (tries_of (lane_of served.log))) (sym (ap (λ k. k.is_open) line2))
-          (subst (λ (k : Eyes Version). (talks : List Talk) × ((closing_if served.mid.line.is_open (fold stream_turn b served.log)).closed ≡ b.closed ++ talks) × ((closing_if served.mid.line.is_open (fold stream_turn b served.log)).current ≡ None) × IsStreamRun stream_replies k.seen w m.count floor talks (entries_of Stream (lane_of served.log)) (tries_of (lane_of served.log))) (sym eyes2)
+          subst (λ (o : Bool). (talks : List Talk) × ((closing_if o (fold stream_turn b served.log)).closed ≡ b.closed ++ talks) × ((closing_if o (fold stream_turn b served.log)).current ≡ None) × IsStreamRun stream_replies m2.eyes.seen w m.count floor (stream_refusals served.log) talks (entries_of Stream (lane_of served.log)) (tries_of (lane_of served.log))) (sym (ap (λ k. k.is_open) line2))
+          (subst (λ (k : Eyes Version). (talks : List Talk) × ((closing_if served.mid.line.is_open (fold stream_turn b served.log)).closed ≡ b.closed ++ talks) × ((closing_if served.mid.line.is_open (fold stream_turn b served.log)).current ≡ None) × IsStreamRun stream_replies k.seen w m.count floor (stream_refusals served.log) talks (entries_of Stream (lane_of served.log)) (tries_of (lane_of served.log))) (sym eyes2)
           (runs_of w floor served.log m served.mid b served.session is_open none (all0.run floor lt)));
       rules = (m1.line, subst (λ (k : Line). AreRuled k served.log m1.line) line (subst (λ (k : Line). AreRuled m.line served.log k) (sym line2) (rules_after w served.log m served.mid served.session)), refl);
       ending = served.ending;

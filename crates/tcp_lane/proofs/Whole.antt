@@ -1,9 +1,11 @@
 -- All turns of a lane are a stream run.
-use Rattle.std.proofs.Common.{◌≡◌, ℕ, ◌+◌, ◌≤◌, ◌==◌, Bool, true, false, List, [], ◌∷◌, ◌++◌, All, length, map, fold, Option, None, Some, refl, sym, ap, subst, ◌∙◌, arith, append_assoc, append-nil, inl, inr}
+use Rattle.std.proofs.Common.{◌≡◌, ℕ, ◌+◌, ◌≤◌, ◌==◌, Bool, true, false, cond, List, [], ◌∷◌, ◌++◌, All, count_by, length, map, fold, Option, None, Some, refl, sym, ap, subst, ◌∙◌, arith, append_assoc, append-nil, inl, inr}
+use Rattle.std.specs.Prelude.{sum_by}
 use Rattle.std.specs.List.{flat_map}
 use Rattle.std.proofs.lemmas.List.{map-append}
 use Rattle.std.proofs.lemmas.List.Elements.{All-append, All-cons, All-nil, All-tail}
 use Rattle.std.proofs.lemmas.List.Folds.{flat_map-map}
+use Rattle.std.proofs.lemmas.List.Sums.{sum_by-append, sum_by-cons, sum_by_push}
 use Rattle.std.proofs.lemmas.Grind.{flat_map-append}
 use Rattle.addr_text.specs.declared.address.Peer.{Peer}
 use Rattle.outside.specs.Faults.{raised}
@@ -13,14 +15,14 @@ use Rattle.outside.specs.Streams.{Piece, StreamsTold, Talk, changed, closing, li
 use Rattle.published_map.specs.Version.{Version}
 use Rattle.answer_core.specs.declared.way.Way.TheVariants.{Stream}
 use Rattle.lane_model.specs.Lanes.{Answers, Entry, IsLaneRun}
-use Rattle.lane_model.specs.Turns.{Fate, IsFate, Turn, entries_of, entries_of_came, entries_of_fate, is_refused_fate, refused, tries_of, tries_of_came, tries_of_fate, tried}
+use Rattle.lane_model.specs.Turns.{Fate, IsFate, Turn, entries_of, entries_of_came, entries_of_fate, is_refused_fate, refused, refused_of, silent, took, tries_of, tries_of_came, tries_of_fate, tried}
 use Rattle.lane_model.specs.Calls.{AreTurns, Moment}
 use Rattle.lane_model.specs.Replies.{is_silent}
 use Rattle.tcp_lane.specs.Replies.{stream_replies}
 use Rattle.tcp_frames.specs.Split.{framed}
 use Rattle.tcp_lane.specs.Stream.{AreKnownFrom, Conversation, IsStreamRun, IsTalk}
-use Rattle.tcp_lane.specs.Turns.{StreamCame, IsLeft, AreKnown, IsOver, IsRuled, Line, PieceEnd, Said, StreamTurn, lane_came, closing_if, stream_after, is_closed_by, known_after, lane_of, saying, stream_turn, turn_of, turns_of, idle, ended, missed, come, got, quiet, shut, broke, on, long, lost, blind}
-use Rattle.tcp_lane.specs.Calls.{IsStreamSession, IsStreamTurn, StreamMoment, inner}
+use Rattle.tcp_lane.specs.Turns.{AreWell, StreamCame, IsLeft, AreKnown, IsOver, IsRuled, Line, PieceEnd, Said, StreamTurn, lane_came, closing_if, stream_after, is_closed_by, is_well, known_after, lane_of, lead_of, saying, stream_turn, turn_of, turns_of, idle, ended, missed, come, got, quiet, shut, broke, on, long, lost, blind}
+use Rattle.tcp_lane.specs.Calls.{IsStreamSession, IsStreamTurn, StreamMoment, inner, stream_refusals}
 use Rattle.tcp_lane.proofs.Known.{one_at}
 use Rattle.tcp_lane.proofs.Talks.{IsNew, IsOpenTalk, blind_of, entries_in, lost_of, open_more, packet_of, put_all, puts, said_kept, tries_in, whole_of}
 
@@ -29,22 +31,24 @@ abbrev pub IsNow : Bool → Option Talk → Line → List Entry → List Try →
 IsNow true current l taken tries = (t : Talk) × (current ≡ Some t) × (t.peer ≡ l.peer) × IsOpenTalk t l.held taken tries
 IsNow false current l taken tries = (current ≡ None) × (taken ≡ []) × (tries ≡ [])
 
--- what streams tell, and what was taken and tried, by then
-pub record IsByThen (b0 b : StreamsTold) (l : Line) (taken : List Entry) (tries : List Try) : Type 0 where
+-- what streams tell, what was taken and tried, and how many looks were refused, by then
+pub record IsByThen (b0 b : StreamsTold) (l : Line) (taken : List Entry) (tries : List Try) (misses : ℕ) : Type 0 where
   pub conversations : List Conversation
   pub closed : b.closed ≡ b0.closed ++ map (λ c. c.talk) conversations
-  pub each : All (λ c. IsTalk is_silent c.talk c.taken c.tries) conversations
+  pub each : All (λ c. IsTalk c.blind is_silent c.talk c.taken c.tries) conversations
+  pub blinds : count_by (λ c. c.blind) conversations ≡ misses
   pub now_taken : List Entry
   pub now_tries : List Try
   pub taken_are : taken ≡ flat_map (λ c. c.taken) conversations ++ now_taken
   pub tries_are : tries ≡ flat_map (λ c. c.tries) conversations ++ now_tries
   pub now : IsNow l.is_open b.current l now_taken now_tries
 
-pub at_first : (b : StreamsTold) (l : Line) → l.is_open ≡ false → b.current ≡ None → IsByThen b b l [] []
+pub at_first : (b : StreamsTold) (l : Line) → l.is_open ≡ false → b.current ≡ None → IsByThen b b l [] [] 0
 at_first b l is_shut none = record {
   conversations = [];
   closed = sym (append-nil b.closed);
-  each = All-nil (λ (c : Conversation). IsTalk is_silent c.talk c.taken c.tries);
+  each = All-nil (λ (c : Conversation). IsTalk c.blind is_silent c.talk c.taken c.tries);
+  blinds = refl;
   now_taken = [];
   now_tries = [];
   taken_are = refl;
@@ -62,11 +66,12 @@ unopened false current l taken tries is n = n
 unopened true current l taken tries is n = absurd (cc is)
 
 -- nothing of a conversation changes
-same_then : (b0 b b' : StreamsTold) (l : Line) (taken : List Entry) (tries : List Try) → IsByThen b0 b l taken tries → b'.closed ≡ b.closed → b'.current ≡ b.current → IsByThen b0 b' l taken tries
-same_then b0 b b' l taken tries i closed current = record {
+same_then : (b0 b b' : StreamsTold) (l : Line) (taken : List Entry) (tries : List Try) (misses : ℕ) → IsByThen b0 b l taken tries misses → b'.closed ≡ b.closed → b'.current ≡ b.current → IsByThen b0 b' l taken tries misses
+same_then b0 b b' l taken tries misses i closed current = record {
   conversations = i.conversations;
   closed = closed ∙ i.closed;
   each = i.each;
+  blinds = i.blinds;
   now_taken = i.now_taken;
   now_tries = i.now_tries;
   taken_are = i.taken_are;
@@ -75,13 +80,14 @@ same_then b0 b b' l taken tries i closed current = record {
 }
 
 -- one begins
-come_then : (b0 b b' : StreamsTold) (l l' : Line) (taken : List Entry) (tries : List Try) (peer : Peer) → IsByThen b0 b l taken tries → l.is_open ≡ false → b'.closed ≡ b.closed → b'.current ≡ Some (record { peer = peer; pieces = []; quiets = 0; written = [] }) → l' ≡ record { is_open = true; peer = peer; held = []; quiets = 0 } → IsByThen b0 b' l' taken tries
-come_then b0 b b' l l' taken tries peer i is_shut closed current is =
+come_then : (b0 b b' : StreamsTold) (l l' : Line) (taken : List Entry) (tries : List Try) (misses : ℕ) (peer : Peer) → IsByThen b0 b l taken tries misses → l.is_open ≡ false → b'.closed ≡ b.closed → b'.current ≡ Some (record { peer = peer; pieces = []; quiets = 0; written = [] }) → l' ≡ record { is_open = true; peer = peer; held = []; quiets = 0 } → IsByThen b0 b' l' taken tries misses
+come_then b0 b b' l l' taken tries misses peer i is_shut closed current is =
     let none = unopened l.is_open b.current l i.now_taken i.now_tries is_shut i.now in
     record {
       conversations = i.conversations;
       closed = closed ∙ i.closed;
       each = i.each;
+      blinds = i.blinds;
       now_taken = [];
       now_tries = [];
       taken_are = i.taken_are ∙ ap (λ x. flat_map (λ (c : Conversation). c.taken) i.conversations ++ x) none.1;
@@ -104,12 +110,16 @@ come_then b0 b b' l l' taken tries peer i is_shut closed current is =
       );
     }
 
+none_missed : (n : ℕ) → n ≡ n + 0
+none_missed n = omega arith
+
 -- the open one goes on
-open_then : (b0 b b' : StreamsTold) (l l' : Line) (taken more : List Entry) (tries further : List Try) (i : IsByThen b0 b l taken tries) (t : Talk) → b'.closed ≡ b.closed → b'.current ≡ Some t → l'.is_open ≡ true → t.peer ≡ l'.peer → IsOpenTalk t l'.held (i.now_taken ++ more) (i.now_tries ++ further) → IsByThen b0 b' l' (taken ++ more) (tries ++ further)
-open_then b0 b b' l l' taken more tries further i t closed current is peer o = record {
+open_then : (b0 b b' : StreamsTold) (l l' : Line) (taken more : List Entry) (tries further : List Try) (misses : ℕ) (i : IsByThen b0 b l taken tries misses) (t : Talk) → b'.closed ≡ b.closed → b'.current ≡ Some t → l'.is_open ≡ true → t.peer ≡ l'.peer → IsOpenTalk t l'.held (i.now_taken ++ more) (i.now_tries ++ further) → IsByThen b0 b' l' (taken ++ more) (tries ++ further) (misses + 0)
+open_then b0 b b' l l' taken more tries further misses i t closed current is peer o = record {
   conversations = i.conversations;
   closed = closed ∙ i.closed;
   each = i.each;
+  blinds = i.blinds ∙ none_missed misses;
   now_taken = i.now_taken ++ more;
   now_tries = i.now_tries ++ further;
   taken_are = ap (λ x. x ++ more) i.taken_are ∙ append_assoc (flat_map (λ (c : Conversation). c.taken) i.conversations) i.now_taken more;
@@ -121,13 +131,14 @@ flat_more : {X A : Type 0} (f : X → List A) (xs : List X) (x : X) → flat_map
 flat_more f xs x = flat_map-append f xs (x ∷ []) ∙ ap (λ l. flat_map f xs ++ l) (append-nil (f x))
 
 -- the open one is closed
-close_then : (b0 b b' : StreamsTold) (l l' : Line) (taken more : List Entry) (tries further : List Try) (i : IsByThen b0 b l taken tries) (t : Talk) → b'.closed ≡ b.closed ++ t ∷ [] → b'.current ≡ None → l'.is_open ≡ false → IsTalk is_silent t (i.now_taken ++ more) (i.now_tries ++ further) → IsByThen b0 b' l' (taken ++ more) (tries ++ further)
-close_then b0 b b' l l' taken more tries further i t closed current is talk =
-    let c : Conversation = record { talk = t; taken = i.now_taken ++ more; tries = i.now_tries ++ further } in
+close_then : (b0 b b' : StreamsTold) (l l' : Line) (taken more : List Entry) (tries further : List Try) (misses : ℕ) (i : IsByThen b0 b l taken tries misses) (is_blind : Bool) (t : Talk) → b'.closed ≡ b.closed ++ t ∷ [] → b'.current ≡ None → l'.is_open ≡ false → IsTalk is_blind is_silent t (i.now_taken ++ more) (i.now_tries ++ further) → IsByThen b0 b' l' (taken ++ more) (tries ++ further) (misses + cond is_blind 1 0)
+close_then b0 b b' l l' taken more tries further misses i is_blind t closed current is talk =
+    let c : Conversation = record { talk = t; blind = is_blind; taken = i.now_taken ++ more; tries = i.now_tries ++ further } in
     record {
       conversations = i.conversations ++ c ∷ [];
       closed = closed ∙ (ap (λ x. x ++ t ∷ []) i.closed ∙ (append_assoc b0.closed (map (λ (x : Conversation). x.talk) i.conversations) (t ∷ []) ∙ ap (λ x. b0.closed ++ x) (sym (map-append (λ (x : Conversation). x.talk) i.conversations (c ∷ [])))));
-      each = All-append (λ (x : Conversation). IsTalk is_silent x.talk x.taken x.tries) i.conversations (c ∷ []) i.each (All-cons (λ (x : Conversation). IsTalk is_silent x.talk x.taken x.tries) c [] talk (All-nil (λ (x : Conversation). IsTalk is_silent x.talk x.taken x.tries)));
+      each = All-append (λ (x : Conversation). IsTalk x.blind is_silent x.talk x.taken x.tries) i.conversations (c ∷ []) i.each (All-cons (λ (x : Conversation). IsTalk x.blind is_silent x.talk x.taken x.tries) c [] talk (All-nil (λ (x : Conversation). IsTalk x.blind is_silent x.talk x.taken x.tries)));
+      blinds = sum_by_push (λ (x : Conversation). cond x.blind 1 0) i.conversations c ∙ ap (λ x. x + cond is_blind 1 0) i.blinds;
       now_taken = [];
       now_tries = [];
       taken_are = ap (λ x. x ++ more) i.taken_are ∙ (append_assoc (flat_map (λ (x : Conversation). x.taken) i.conversations) i.now_taken more ∙ (sym (flat_more (λ (x : Conversation). x.taken) i.conversations c) ∙ sym (append-nil (flat_map (λ (x : Conversation). x.taken) (i.conversations ++ c ∷ [])))));
@@ -136,8 +147,9 @@ close_then b0 b b' l l' taken more tries further i t closed current is talk =
     }
 
 -- nothing more was taken
-more_none : (b0 b : StreamsTold) (l : Line) (taken : List Entry) (tries : List Try) → IsByThen b0 b l (taken ++ []) (tries ++ []) → IsByThen b0 b l taken tries
-more_none b0 b l taken tries i = subst (λ (x : List Entry). IsByThen b0 b l x tries) (append-nil taken) (subst (λ (x : List Try). IsByThen b0 b l (taken ++ []) x) (append-nil tries) i)
+more_none : (b0 b : StreamsTold) (l : Line) (taken : List Entry) (tries : List Try) (misses : ℕ) → IsByThen b0 b l (taken ++ []) (tries ++ []) (misses + 0) → IsByThen b0 b l taken tries misses
+more_none b0 b l taken tries misses i =
+    subst (λ (x : ℕ). IsByThen b0 b l taken tries x) (sym (none_missed misses)) (subst (λ (x : List Entry). IsByThen b0 b l x tries (misses + 0)) (append-nil taken) (subst (λ (x : List Try). IsByThen b0 b l (taken ++ []) x (misses + 0)) (append-nil tries) i))
 
 -- an open conversation, but for how many reads were quiet
 quieter : (t : Talk) (n : ℕ) (held : List ℕ) (taken : List Entry) (tries : List Try) → IsOpenTalk t held taken tries → IsOpenTalk (record t { quiets = n }) held taken tries
@@ -192,82 +204,121 @@ after_piece cut known octets said b t0 e =
     let put = put_all cut said (stream_after known (got octets) b) (record t0 { pieces = t0.pieces ++ p ∷ [] }) (ap (λ o. changed (λ x. record x { pieces = x.pieces ++ p ∷ [] }) o) e) in
     record { talk = put.talk; current = put.current; closed = put.closed; peer = put.peer; pieces = put.pieces; written = put.written }
 
-closing_then : (b0 b b2 : StreamsTold) (l l' : Line) (taken more : List Entry) (tries further : List Try) (i : IsByThen b0 b l taken tries) (t : Talk) → b2.current ≡ Some t → b2.closed ≡ b.closed → l'.is_open ≡ false → IsTalk is_silent t (i.now_taken ++ more) (i.now_tries ++ further) → IsByThen b0 (closing b2) l' (taken ++ more) (tries ++ further)
-closing_then b0 b b2 l l' taken more tries further i t current closed is talk =
-    close_then b0 b (closing b2) l l' taken more tries further i t (ap (λ x. b2.closed ++ listed x) current ∙ ap (λ x. x ++ t ∷ []) closed) refl is talk
+closing_then : (b0 b b2 : StreamsTold) (l l' : Line) (taken more : List Entry) (tries further : List Try) (misses : ℕ) (i : IsByThen b0 b l taken tries misses) (is_blind : Bool) (t : Talk) → b2.current ≡ Some t → b2.closed ≡ b.closed → l'.is_open ≡ false → IsTalk is_blind is_silent t (i.now_taken ++ more) (i.now_tries ++ further) → IsByThen b0 (closing b2) l' (taken ++ more) (tries ++ further) (misses + cond is_blind 1 0)
+closing_then b0 b b2 l l' taken more tries further misses i is_blind t current closed is talk =
+    close_then b0 b (closing b2) l l' taken more tries further misses i is_blind t (ap (λ x. b2.closed ++ listed x) current ∙ ap (λ x. x ++ t ∷ []) closed) refl is talk
+
+-- the look for a message of a piece was refused
+abbrev is_blind_by : PieceEnd → Bool
+is_blind_by on = false
+is_blind_by long = false
+is_blind_by lost = false
+is_blind_by blind = true
 
 -- what a piece with its messages came to, by its way
-piece_by : (ending : PieceEnd) (b0 b : StreamsTold) (l l' : Line) (taken : List Entry) (tries : List Try) (i : IsByThen b0 b l taken tries) (t0 : Talk) (b2 : StreamsTold) (octets rest : List ℕ) (said : List Said) (cut known place w : ℕ) (m m' : Moment Version) → IsOpenTalk t0 l.held i.now_taken i.now_tries → t0.peer ≡ l.peer → IsAfter b b2 t0 octets known place (puts cut said)
+piece_by : (ending : PieceEnd) (b0 b : StreamsTold) (l l' : Line) (taken : List Entry) (tries : List Try) (misses : ℕ) (i : IsByThen b0 b l taken tries misses) (t0 : Talk) (b2 : StreamsTold) (octets rest : List ℕ) (said : List Said) (cut known place w : ℕ) (m m' : Moment Version) → IsOpenTalk t0 l.held i.now_taken i.now_tries → t0.peer ≡ l.peer → IsAfter b b2 t0 octets known place (puts cut said)
     → l.held ++ octets ≡ flat_map framed (map (λ x. x.octets) said) ++ rest → All (λ x. length x ≤ largest_datagram) (map (λ x. x.octets) said) → IsOver ending said rest → IsLeft (is_closed_by ending) (record l { held = rest; quiets = 0 }) l' → l.is_open ≡ true → AreTurns stream_replies w (map (turn_of t0.peer) said) m m' → AreKnown known said
-    → IsByThen b0 (closing_if (is_closed_by ending) b2) l' (taken ++ entries_in t0.peer said) (tries ++ tries_in t0.peer said)
-piece_by on b0 b l l' taken tries i t0 b2 octets rest said cut known place w m m' o peer a parts short over left is s kn =
+    → IsByThen b0 (closing_if (is_closed_by ending) b2) l' (taken ++ entries_in t0.peer said) (tries ++ tries_in t0.peer said) (misses + cond (is_blind_by ending) 1 0)
+piece_by on b0 b l l' taken tries misses i t0 b2 octets rest said cut known place w m m' o peer a parts short over left is s kn =
     let n : IsNew t0 a.talk l.held octets rest said known place (puts cut said) = record { peer = a.peer; pieces = a.pieces; written_is = a.written; parts = parts; short = short; knows = known_at w known t0.peer said m m' s kn; kept = said_kept said over.0 } in
-    open_then b0 b b2 l l' taken (entries_in t0.peer said) tries (tries_in t0.peer said) i a.talk a.closed a.current (ap (λ k. k.is_open) left ∙ is) (a.peer ∙ (peer ∙ sym (ap (λ k. k.peer) left)))
+    open_then b0 b b2 l l' taken (entries_in t0.peer said) tries (tries_in t0.peer said) misses i a.talk a.closed a.current (ap (λ k. k.is_open) left ∙ is) (a.peer ∙ (peer ∙ sym (ap (λ k. k.peer) left)))
     (subst (λ (h : List ℕ). IsOpenTalk a.talk h (i.now_taken ++ entries_in t0.peer said) (i.now_tries ++ tries_in t0.peer said)) (sym (ap (λ k. k.held) left)) (open_more t0 a.talk l.held octets rest said cut known place i.now_taken i.now_tries o n over.1 over.0))
-piece_by long b0 b l l' taken tries i t0 b2 octets rest said cut known place w m m' o peer a parts short over left is s kn =
+piece_by long b0 b l l' taken tries misses i t0 b2 octets rest said cut known place w m m' o peer a parts short over left is s kn =
     let n : IsNew t0 a.talk l.held octets rest said known place (puts cut said) = record { peer = a.peer; pieces = a.pieces; written_is = a.written; parts = parts; short = short; knows = known_at w known t0.peer said m m' s kn; kept = said_kept said over.0 } in
-    closing_then b0 b b2 l l' taken (entries_in t0.peer said) tries (tries_in t0.peer said) i a.talk a.current a.closed left (inl (whole_of a.talk rest (i.now_taken ++ entries_in t0.peer said) (i.now_tries ++ tries_in t0.peer said) (open_more t0 a.talk l.held octets rest said cut known place i.now_taken i.now_tries o n over.1 over.0)))
-piece_by lost b0 b l l' taken tries i t0 b2 octets rest said cut known place w m m' o peer a parts short over left is s kn =
+    closing_then b0 b b2 l l' taken (entries_in t0.peer said) tries (tries_in t0.peer said) misses i false a.talk a.current a.closed left (inl (whole_of a.talk rest (i.now_taken ++ entries_in t0.peer said) (i.now_tries ++ tries_in t0.peer said) (open_more t0 a.talk l.held octets rest said cut known place i.now_taken i.now_tries o n over.1 over.0)))
+piece_by lost b0 b l l' taken tries misses i t0 b2 octets rest said cut known place w m m' o peer a parts short over left is s kn =
     let kept : All (λ (x : Said). is_refused_fate x.fate ≡ false) said = subst (λ (k : List Said). All (λ x. is_refused_fate x.fate ≡ false) k) (sym over.2) (All-append (λ (x : Said). is_refused_fate x.fate ≡ false) over.0 (over.1 ∷ []) (said_kept over.0 over.3) (All-cons (λ (x : Said). is_refused_fate x.fate ≡ false) over.1 [] (ap (λ f. is_refused_fate f) over.4.2) (All-nil (λ (x : Said). is_refused_fate x.fate ≡ false)))) in
     let n : IsNew t0 a.talk l.held octets rest said known place (puts cut said) = record { peer = a.peer; pieces = a.pieces; written_is = a.written; parts = parts; short = short; knows = known_at w known t0.peer said m m' s kn; kept = kept } in
     let lost_spoken = spoken_lost w t0.peer over.0 over.1 over.4.0 over.4.1 m m' (subst (λ (k : List Said). AreTurns stream_replies w (map (turn_of t0.peer) k) m m') over.2 s) over.4.2 in
-    closing_then b0 b b2 l l' taken (entries_in t0.peer said) tries (tries_in t0.peer said) i a.talk a.current a.closed left (inr (lost_of t0 a.talk l.held octets rest said over.0 over.1 over.4.0 over.4.1 cut known place i.now_taken i.now_tries o n over.2 over.3 over.4.2 lost_spoken))
-piece_by blind b0 b l l' taken tries i t0 b2 octets rest said cut known place w m m' o peer a parts short over left is s kn =
+    closing_then b0 b b2 l l' taken (entries_in t0.peer said) tries (tries_in t0.peer said) misses i false a.talk a.current a.closed left (inr (lost_of t0 a.talk l.held octets rest said over.0 over.1 over.4.0 over.4.1 cut known place i.now_taken i.now_tries o n over.2 over.3 over.4.2 lost_spoken))
+piece_by blind b0 b l l' taken tries misses i t0 b2 octets rest said cut known place w m m' o peer a parts short over left is s kn =
     let knows = known_at w known t0.peer said m m' s kn in
     let spoken = spoken_by w t0.peer over.0 over.1 m m' (subst (λ (k : List Said). AreTurns stream_replies w (map (turn_of t0.peer) k) m m') over.2 s) over.4 in
-    closing_then b0 b b2 l l' taken (entries_in t0.peer said) tries (tries_in t0.peer said) i a.talk a.current a.closed left (inr (blind_of t0 a.talk l.held octets rest said over.0 over.1 cut known place i.now_taken i.now_tries o a.peer a.pieces a.written parts short knows over.2 over.3 over.4 spoken))
+    closing_then b0 b b2 l l' taken (entries_in t0.peer said) tries (tries_in t0.peer said) misses i true a.talk a.current a.closed left (blind_of t0 a.talk l.held octets rest said over.0 over.1 cut known place i.now_taken i.now_tries o a.peer a.pieces a.written parts short knows over.2 over.3 over.4 spoken)
+
+-- how many looks for some messages were refused
+abbrev pub misses_in : Peer → List Said → ℕ
+misses_in peer said = sum_by (λ (t : Turn). refused_of t.came) (map (turn_of peer) said)
+
+well_missed : (peer : Peer) (octets : List ℕ) (f : Fate) → is_well f ≡ true → refused_of (took (record { octets = octets; from = peer }) f) ≡ 0
+well_missed peer octets silent e = refl
+well_missed peer octets refused e = absurd (cc e)
+well_missed peer octets (tried serial reply went) e = refl
+
+said_missed : (peer : Peer) (said : List Said) → AreWell said → misses_in peer said ≡ 0
+said_missed peer [] a = refl
+said_missed peer (s ∷ said) a =
+    let count = sum_by-cons (λ (t : Turn). refused_of t.came) (turn_of peer s) (map (turn_of peer) said) in
+    let one = well_missed peer s.octets s.fate (a 0 s (omega arith)) in
+    let rest = said_missed peer said (All-tail (λ (x : Said). is_well x.fate ≡ true) s said a) in
+    omega (arith, count, one, rest)
+
+-- all but the last of some messages went well
+last_missed : (peer : Peer) (said before : List Said) (s : Said) → said ≡ before ++ s ∷ [] → AreWell before → misses_in peer said ≡ refused_of (turn_of peer s).came
+last_missed peer said before s is well =
+    let all : misses_in peer said ≡ misses_in peer before + refused_of (turn_of peer s).came =
+    ap (misses_in peer) is ∙ (ap (sum_by (λ (t : Turn). refused_of t.came)) (map-append (turn_of peer) before (s ∷ [])) ∙ sum_by_push (λ (t : Turn). refused_of t.came) (map (turn_of peer) before) (turn_of peer s)) in
+    omega (arith, all, said_missed peer before well)
+
+over_missed : (ending : PieceEnd) (peer : Peer) (said : List Said) (rest : List ℕ) → IsOver ending said rest → misses_in peer said ≡ cond (is_blind_by ending) 1 0
+over_missed on peer said rest over = said_missed peer said over.0
+over_missed long peer said rest over = said_missed peer said over.0
+over_missed lost peer said rest over = last_missed peer said over.0 over.1 over.2 over.3 ∙ ap (λ f. refused_of (took (record { octets = over.1.octets; from = peer }) f)) over.4.2
+over_missed blind peer said rest over = last_missed peer said over.0 over.1 over.2 over.3 ∙ ap (λ f. refused_of (took (record { octets = over.1.octets; from = peer }) f)) over.4
 
 -- a turn without messages
-none_then : (h : StreamCame) (b0 b : StreamsTold) (t : StreamTurn) (l' : Line) (taken : List Entry) (tries : List Try) (closes : Bool) → t.said ≡ [] → t.closes ≡ closes → IsByThen b0 (closing_if closes (stream_after t.known h b)) l' (taken ++ []) (tries ++ []) → IsByThen b0 (closing_if t.closes (fold (saying t.cut) (stream_after t.known h b) t.said)) l' (taken ++ entries_in t.peer t.said) (tries ++ tries_in t.peer t.said)
-none_then h b0 b t l' taken tries closes none is x =
-    subst (λ (said : List Said). IsByThen b0 (closing_if t.closes (fold (saying t.cut) (stream_after t.known h b) said)) l' (taken ++ entries_in t.peer said) (tries ++ tries_in t.peer said)) (sym none)
-    (subst (λ (c : Bool). IsByThen b0 (closing_if c (stream_after t.known h b)) l' (taken ++ []) (tries ++ [])) (sym is) x)
+none_then : (h : StreamCame) (b0 b : StreamsTold) (t : StreamTurn) (l' : Line) (taken : List Entry) (tries : List Try) (misses : ℕ) (closes : Bool) → t.said ≡ [] → t.closes ≡ closes → IsByThen b0 (closing_if closes (stream_after t.known h b)) l' (taken ++ []) (tries ++ []) (misses + 0) → IsByThen b0 (closing_if t.closes (fold (saying t.cut) (stream_after t.known h b) t.said)) l' (taken ++ entries_in t.peer t.said) (tries ++ tries_in t.peer t.said) (misses + misses_in t.peer t.said)
+none_then h b0 b t l' taken tries misses closes none is x =
+    subst (λ (said : List Said). IsByThen b0 (closing_if t.closes (fold (saying t.cut) (stream_after t.known h b) said)) l' (taken ++ entries_in t.peer said) (tries ++ tries_in t.peer said) (misses + misses_in t.peer said)) (sym none)
+    (subst (λ (c : Bool). IsByThen b0 (closing_if c (stream_after t.known h b)) l' (taken ++ []) (tries ++ []) (misses + 0)) (sym is) x)
 
-more_nothing : (b0 b : StreamsTold) (l : Line) (taken : List Entry) (tries : List Try) → IsByThen b0 b l taken tries → IsByThen b0 b l (taken ++ []) (tries ++ [])
-more_nothing b0 b l taken tries i = subst (λ (x : List Entry). IsByThen b0 b l x (tries ++ [])) (sym (append-nil taken)) (subst (λ (x : List Try). IsByThen b0 b l taken x) (sym (append-nil tries)) i)
+more_nothing : (b0 b : StreamsTold) (l : Line) (taken : List Entry) (tries : List Try) (misses : ℕ) → IsByThen b0 b l taken tries misses → IsByThen b0 b l (taken ++ []) (tries ++ []) (misses + 0)
+more_nothing b0 b l taken tries misses i =
+    subst (λ (x : ℕ). IsByThen b0 b l (taken ++ []) (tries ++ []) x) (none_missed misses) (subst (λ (x : List Entry). IsByThen b0 b l x (tries ++ []) misses) (sym (append-nil taken)) (subst (λ (x : List Try). IsByThen b0 b l taken x misses) (sym (append-nil tries)) i))
 
 -- a conversation that is closed without more
-shut_then : (b0 b b2 : StreamsTold) (l l' : Line) (taken : List Entry) (tries : List Try) → IsByThen b0 b l taken tries → l.is_open ≡ true → b2.closed ≡ b.closed → b2.current ≡ b.current → l'.is_open ≡ false → IsByThen b0 (closing b2) l' (taken ++ []) (tries ++ [])
-shut_then b0 b b2 l l' taken tries i is closed current left =
+shut_then : (b0 b b2 : StreamsTold) (l l' : Line) (taken : List Entry) (tries : List Try) (misses : ℕ) → IsByThen b0 b l taken tries misses → l.is_open ≡ true → b2.closed ≡ b.closed → b2.current ≡ b.current → l'.is_open ≡ false → IsByThen b0 (closing b2) l' (taken ++ []) (tries ++ []) (misses + 0)
+shut_then b0 b b2 l l' taken tries misses i is closed current left =
     let op = opened l.is_open b.current l i.now_taken i.now_tries is i.now in
-    closing_then b0 b b2 l l' taken [] tries [] i op.0 (current ∙ op.1) closed left (inl (whole_of op.0 l.held (i.now_taken ++ []) (i.now_tries ++ []) (same_lists op.0 l.held i.now_taken i.now_tries op.3)))
+    closing_then b0 b b2 l l' taken [] tries [] misses i false op.0 (current ∙ op.1) closed left (inl (whole_of op.0 l.held (i.now_taken ++ []) (i.now_tries ++ []) (same_lists op.0 l.held i.now_taken i.now_tries op.3)))
 
-quiet_then : (c : Bool) (known : ℕ) (b0 b : StreamsTold) (l l' : Line) (taken : List Entry) (tries : List Try) → IsByThen b0 b l taken tries → l.is_open ≡ true → IsLeft c (record l { quiets = l.quiets + 1 }) l' → IsByThen b0 (closing_if c (stream_after known quiet b)) l' (taken ++ []) (tries ++ [])
-quiet_then true known b0 b l l' taken tries i is left =
+quiet_then : (c : Bool) (known : ℕ) (b0 b : StreamsTold) (l l' : Line) (taken : List Entry) (tries : List Try) (misses : ℕ) → IsByThen b0 b l taken tries misses → l.is_open ≡ true → IsLeft c (record l { quiets = l.quiets + 1 }) l' → IsByThen b0 (closing_if c (stream_after known quiet b)) l' (taken ++ []) (tries ++ []) (misses + 0)
+quiet_then true known b0 b l l' taken tries misses i is left =
     let op = opened l.is_open b.current l i.now_taken i.now_tries is i.now in
     let t : Talk = record op.0 { quiets = raised op.0.quiets 1 } in
-    closing_then b0 b (stream_after known quiet b) l l' taken [] tries [] i t (ap (λ o. changed (λ x. record x { quiets = raised x.quiets 1 }) o) op.1) refl left (inl (whole_of t l.held (i.now_taken ++ []) (i.now_tries ++ []) (same_lists t l.held i.now_taken i.now_tries (quieter op.0 (raised op.0.quiets 1) l.held i.now_taken i.now_tries op.3))))
-quiet_then false known b0 b l l' taken tries i is left =
+    closing_then b0 b (stream_after known quiet b) l l' taken [] tries [] misses i false t (ap (λ o. changed (λ x. record x { quiets = raised x.quiets 1 }) o) op.1) refl left (inl (whole_of t l.held (i.now_taken ++ []) (i.now_tries ++ []) (same_lists t l.held i.now_taken i.now_tries (quieter op.0 (raised op.0.quiets 1) l.held i.now_taken i.now_tries op.3))))
+quiet_then false known b0 b l l' taken tries misses i is left =
     let op = opened l.is_open b.current l i.now_taken i.now_tries is i.now in
     let t : Talk = record op.0 { quiets = raised op.0.quiets 1 } in
-    open_then b0 b (stream_after known quiet b) l l' taken [] tries [] i t refl (ap (λ o. changed (λ x. record x { quiets = raised x.quiets 1 }) o) op.1) (ap (λ k. k.is_open) left ∙ is) (op.2 ∙ sym (ap (λ k. k.peer) left))
+    open_then b0 b (stream_after known quiet b) l l' taken [] tries [] misses i t refl (ap (λ o. changed (λ x. record x { quiets = raised x.quiets 1 }) o) op.1) (ap (λ k. k.is_open) left ∙ is) (op.2 ∙ sym (ap (λ k. k.peer) left))
     (subst (λ (h : List ℕ). IsOpenTalk t h (i.now_taken ++ []) (i.now_tries ++ [])) (sym (ap (λ k. k.held) left)) (same_lists t l.held i.now_taken i.now_tries (quieter op.0 (raised op.0.quiets 1) l.held i.now_taken i.now_tries op.3)))
 
-no_current : (b0 b : StreamsTold) (l : Line) (taken : List Entry) (tries : List Try) (i : IsByThen b0 b l taken tries) → l.is_open ≡ false → b.current ≡ None
-no_current b0 b l taken tries i is = (unopened l.is_open b.current l i.now_taken i.now_tries is i.now).0
+no_current : (b0 b : StreamsTold) (l : Line) (taken : List Entry) (tries : List Try) (misses : ℕ) (i : IsByThen b0 b l taken tries misses) → l.is_open ≡ false → b.current ≡ None
+no_current b0 b l taken tries misses i is = (unopened l.is_open b.current l i.now_taken i.now_tries is i.now).0
 
 -- what a turn comes to
-ruled_then : (h : StreamCame) (b0 b : StreamsTold) (t : StreamTurn) (l l' : Line) (taken : List Entry) (tries : List Try) (w : ℕ) (m m' : Moment Version) → IsByThen b0 b l taken tries → IsRuled h l t l' → AreTurns stream_replies w (map (turn_of t.peer) t.said) m m'
-    → IsByThen b0 (closing_if t.closes (fold (saying t.cut) (stream_after t.known h b) t.said)) l' (taken ++ entries_in t.peer t.said) (tries ++ tries_in t.peer t.said)
-ruled_then idle b0 b t l l' taken tries w m m' i r s = none_then idle b0 b t l' taken tries false r.1 r.2 (more_nothing b0 (stream_after t.known idle b) l' taken tries (same_then b0 b (stream_after t.known idle b) l' taken tries (subst (λ (k : Line). IsByThen b0 b k taken tries) (sym r.3) i) refl refl))
-ruled_then ended b0 b t l l' taken tries w m m' i r s = none_then ended b0 b t l' taken tries false r.1 r.2 (more_nothing b0 (stream_after t.known ended b) l' taken tries (same_then b0 b (stream_after t.known ended b) l' taken tries (subst (λ (k : Line). IsByThen b0 b k taken tries) (sym r.3) i) refl refl))
-ruled_then missed b0 b t l l' taken tries w m m' i r s = none_then missed b0 b t l' taken tries false r.1 r.2 (more_nothing b0 (stream_after t.known missed b) l' taken tries (same_then b0 b (stream_after t.known missed b) l' taken tries (subst (λ (k : Line). IsByThen b0 b k taken tries) (sym r.3) i) refl refl))
-ruled_then (come peer) b0 b t l l' taken tries w m m' i r s =
-    none_then (come peer) b0 b t l' taken tries false r.1 r.2 (more_nothing b0 (stream_after t.known (come peer) b) l' taken tries (come_then b0 b (stream_after t.known (come peer) b) l l' taken tries peer i r.0 (ap (λ o. b.closed ++ listed o) (no_current b0 b l taken tries i r.0) ∙ append-nil b.closed) refl r.3))
-ruled_then quiet b0 b t l l' taken tries w m m' i r s =
-    none_then quiet b0 b t l' taken tries (l.quiets + 1 == 200) r.1 r.2 (quiet_then (l.quiets + 1 == 200) t.known b0 b l l' taken tries i r.0 (subst (λ (c : Bool). IsLeft c (record l { quiets = l.quiets + 1 }) l') r.2 r.3))
-ruled_then shut b0 b t l l' taken tries w m m' i r s = none_then shut b0 b t l' taken tries true r.1 r.2 (shut_then b0 b (stream_after t.known shut b) l l' taken tries i r.0 refl refl r.3)
-ruled_then broke b0 b t l l' taken tries w m m' i r s = none_then broke b0 b t l' taken tries true r.1 r.2 (shut_then b0 b (stream_after t.known broke b) l l' taken tries i r.0 refl refl r.3)
-ruled_then (got octets) b0 b t l l' taken tries w m m' i r s =
+ruled_then : (h : StreamCame) (b0 b : StreamsTold) (t : StreamTurn) (l l' : Line) (taken : List Entry) (tries : List Try) (misses w : ℕ) (m m' : Moment Version) → IsByThen b0 b l taken tries misses → IsRuled h l t l' → AreTurns stream_replies w (map (turn_of t.peer) t.said) m m'
+    → IsByThen b0 (closing_if t.closes (fold (saying t.cut) (stream_after t.known h b) t.said)) l' (taken ++ entries_in t.peer t.said) (tries ++ tries_in t.peer t.said) (misses + misses_in t.peer t.said)
+ruled_then idle b0 b t l l' taken tries misses w m m' i r s = none_then idle b0 b t l' taken tries misses false r.1 r.2 (more_nothing b0 (stream_after t.known idle b) l' taken tries misses (same_then b0 b (stream_after t.known idle b) l' taken tries misses (subst (λ (k : Line). IsByThen b0 b k taken tries misses) (sym r.3) i) refl refl))
+ruled_then ended b0 b t l l' taken tries misses w m m' i r s = none_then ended b0 b t l' taken tries misses false r.1 r.2 (more_nothing b0 (stream_after t.known ended b) l' taken tries misses (same_then b0 b (stream_after t.known ended b) l' taken tries misses (subst (λ (k : Line). IsByThen b0 b k taken tries misses) (sym r.3) i) refl refl))
+ruled_then missed b0 b t l l' taken tries misses w m m' i r s = none_then missed b0 b t l' taken tries misses false r.1 r.2 (more_nothing b0 (stream_after t.known missed b) l' taken tries misses (same_then b0 b (stream_after t.known missed b) l' taken tries misses (subst (λ (k : Line). IsByThen b0 b k taken tries misses) (sym r.3) i) refl refl))
+ruled_then (come peer) b0 b t l l' taken tries misses w m m' i r s =
+    none_then (come peer) b0 b t l' taken tries misses false r.1 r.2 (more_nothing b0 (stream_after t.known (come peer) b) l' taken tries misses (come_then b0 b (stream_after t.known (come peer) b) l l' taken tries misses peer i r.0 (ap (λ o. b.closed ++ listed o) (no_current b0 b l taken tries misses i r.0) ∙ append-nil b.closed) refl r.3))
+ruled_then quiet b0 b t l l' taken tries misses w m m' i r s =
+    none_then quiet b0 b t l' taken tries misses (l.quiets + 1 == 200) r.1 r.2 (quiet_then (l.quiets + 1 == 200) t.known b0 b l l' taken tries misses i r.0 (subst (λ (c : Bool). IsLeft c (record l { quiets = l.quiets + 1 }) l') r.2 r.3))
+ruled_then shut b0 b t l l' taken tries misses w m m' i r s = none_then shut b0 b t l' taken tries misses true r.1 r.2 (shut_then b0 b (stream_after t.known shut b) l l' taken tries misses i r.0 refl refl r.3)
+ruled_then broke b0 b t l l' taken tries misses w m m' i r s = none_then broke b0 b t l' taken tries misses true r.1 r.2 (shut_then b0 b (stream_after t.known broke b) l l' taken tries misses i r.0 refl refl r.3)
+ruled_then (got octets) b0 b t l l' taken tries misses w m m' i r s =
     let op = opened l.is_open b.current l i.now_taken i.now_tries r.0 i.now in
     let a = after_piece t.cut t.known octets t.said b op.0 op.1 in
     let same : op.0.peer ≡ t.peer = op.2 ∙ sym r.1.from in
     let parts = r.1.parts ∙ ap (λ x. x ++ r.1.rest) (sym (flat_map-map framed (λ (x : Said). x.octets) t.said)) in
     let short = all_map (λ (x : Said). x.octets) (λ (x : List ℕ). length x ≤ largest_datagram) t.said r.1.short in
     let left = subst (λ (c : Bool). IsLeft c (record l { held = r.1.rest; quiets = 0 }) l') r.1.closes r.1.left in
-    let made = piece_by r.1.ending b0 b l l' taken tries i op.0 (fold (saying t.cut) (stream_after t.known (got octets) b) t.said) octets r.1.rest t.said t.cut t.known b.answers w m m' op.3 op.2 a parts short r.1.over left r.0 (subst (λ (p : Peer). AreTurns stream_replies w (map (turn_of p) t.said) m m') (sym same) s) r.1.known in
-    subst (λ (c : Bool). IsByThen b0 (closing_if c (fold (saying t.cut) (stream_after t.known (got octets) b) t.said)) l' (taken ++ entries_in t.peer t.said) (tries ++ tries_in t.peer t.said)) (sym r.1.closes)
-    (subst (λ (p : Peer). IsByThen b0 (closing_if (is_closed_by r.1.ending) (fold (saying t.cut) (stream_after t.known (got octets) b) t.said)) l' (taken ++ entries_in p t.said) (tries ++ tries_in p t.said)) same made)
+    let made = piece_by r.1.ending b0 b l l' taken tries misses i op.0 (fold (saying t.cut) (stream_after t.known (got octets) b) t.said) octets r.1.rest t.said t.cut t.known b.answers w m m' op.3 op.2 a parts short r.1.over left r.0 (subst (λ (p : Peer). AreTurns stream_replies w (map (turn_of p) t.said) m m') (sym same) s) r.1.known in
+    subst (λ (c : Bool). IsByThen b0 (closing_if c (fold (saying t.cut) (stream_after t.known (got octets) b) t.said)) l' (taken ++ entries_in t.peer t.said) (tries ++ tries_in t.peer t.said) (misses + misses_in t.peer t.said)) (sym r.1.closes)
+    (subst (λ (n : ℕ). IsByThen b0 (closing_if (is_closed_by r.1.ending) (fold (saying t.cut) (stream_after t.known (got octets) b) t.said)) l' (taken ++ entries_in t.peer t.said) (tries ++ tries_in t.peer t.said) (misses + n)) (sym (over_missed r.1.ending t.peer t.said r.1.rest r.1.over))
+    (subst (λ (p : Peer). IsByThen b0 (closing_if (is_closed_by r.1.ending) (fold (saying t.cut) (stream_after t.known (got octets) b) t.said)) l' (taken ++ entries_in p t.said) (tries ++ tries_in p t.said) (misses + cond (is_blind_by r.1.ending) 1 0)) same made))
 
 lead_entries : (known : ℕ) (h : StreamCame) → entries_of_came Stream known (lane_came h) ≡ []
 lead_entries known idle = refl
@@ -295,30 +346,51 @@ turn_entries t = ap (λ x. x ++ entries_of Stream (map (turn_of t.peer) t.said))
 turn_tries : (t : StreamTurn) → tries_of (turns_of t) ≡ tries_in t.peer t.said
 turn_tries t = ap (λ x. x ++ tries_of (map (turn_of t.peer) t.said)) (lead_tries t.came) ∙ said_tries t.peer t.said
 
-turn_then : (w : ℕ) (t : StreamTurn) (m m' : StreamMoment Version) (b0 b : StreamsTold) (taken : List Entry) (tries : List Try) → IsStreamTurn stream_replies w t m m' → IsByThen b0 b m.line taken tries
-    → IsByThen b0 (stream_turn b t) m'.line (taken ++ entries_of Stream (turns_of t)) (tries ++ tries_of (turns_of t))
-turn_then w t m m' b0 b taken tries q i =
-    let r = ruled_then t.came b0 b t m.line m'.line taken tries w q.session.0 (inner m'.eyes m'.count m'.stream_faults) i q.ruled q.session.2 in
-    subst (λ (x : List Entry). IsByThen b0 (stream_turn b t) m'.line (taken ++ x) (tries ++ tries_of (turns_of t))) (sym (turn_entries t))
-    (subst (λ (x : List Try). IsByThen b0 (stream_turn b t) m'.line (taken ++ entries_in t.peer t.said) (tries ++ x)) (sym (turn_tries t)) r)
+lead_missed : (h : StreamCame) → refused_of (lane_came h) ≡ 0
+lead_missed idle = refl
+lead_missed ended = refl
+lead_missed missed = refl
+lead_missed (come peer) = refl
+lead_missed (got octets) = refl
+lead_missed quiet = refl
+lead_missed shut = refl
+lead_missed broke = refl
 
-turns_then : (w : ℕ) (log : List StreamTurn) (m m' : StreamMoment Version) (b0 b : StreamsTold) (taken : List Entry) (tries : List Try) → IsStreamSession stream_replies w log m m' → IsByThen b0 b m.line taken tries
-    → IsByThen b0 (fold stream_turn b log) m'.line (taken ++ entries_of Stream (lane_of log)) (tries ++ tries_of (lane_of log))
-turns_then w [] m m' b0 b taken tries s i = subst (λ (l : Line). IsByThen b0 b l (taken ++ []) (tries ++ [])) (sym (ap (λ k. k.line) s)) (more_nothing b0 b m.line taken tries i)
-turns_then w (t ∷ log) m m' b0 b taken tries s i =
-    let one = turn_then w t m s.0 b0 b taken tries s.1 i in
-    let rest = turns_then w log s.0 m' b0 (stream_turn b t) (taken ++ entries_of Stream (turns_of t)) (tries ++ tries_of (turns_of t)) s.2 one in
+-- how many looks some turns of a lane were refused
+abbrev pub misses_of : List Turn → ℕ
+misses_of log = sum_by (λ (x : Turn). refused_of x.came) log
+
+pub turn_missed : (t : StreamTurn) → misses_of (turns_of t) ≡ misses_in t.peer t.said
+turn_missed t = let count = sum_by-cons (λ (x : Turn). refused_of x.came) (lead_of t) (map (turn_of t.peer) t.said) in omega (arith, count, lead_missed t.came)
+
+turn_then : (w : ℕ) (t : StreamTurn) (m m' : StreamMoment Version) (b0 b : StreamsTold) (taken : List Entry) (tries : List Try) (misses : ℕ) → IsStreamTurn stream_replies w t m m' → IsByThen b0 b m.line taken tries misses
+    → IsByThen b0 (stream_turn b t) m'.line (taken ++ entries_of Stream (turns_of t)) (tries ++ tries_of (turns_of t)) (misses + misses_of (turns_of t))
+turn_then w t m m' b0 b taken tries misses q i =
+    let r = ruled_then t.came b0 b t m.line m'.line taken tries misses w q.session.0 (inner m'.eyes m'.count m'.stream_faults) i q.ruled q.session.2 in
+    subst (λ (x : List Entry). IsByThen b0 (stream_turn b t) m'.line (taken ++ x) (tries ++ tries_of (turns_of t)) (misses + misses_of (turns_of t))) (sym (turn_entries t))
+    (subst (λ (x : List Try). IsByThen b0 (stream_turn b t) m'.line (taken ++ entries_in t.peer t.said) (tries ++ x) (misses + misses_of (turns_of t))) (sym (turn_tries t))
+    (subst (λ (x : ℕ). IsByThen b0 (stream_turn b t) m'.line (taken ++ entries_in t.peer t.said) (tries ++ tries_in t.peer t.said) (misses + x)) (sym (turn_missed t)) r))
+
+turns_then : (w : ℕ) (log : List StreamTurn) (m m' : StreamMoment Version) (b0 b : StreamsTold) (taken : List Entry) (tries : List Try) (misses : ℕ) → IsStreamSession stream_replies w log m m' → IsByThen b0 b m.line taken tries misses
+    → IsByThen b0 (fold stream_turn b log) m'.line (taken ++ entries_of Stream (lane_of log)) (tries ++ tries_of (lane_of log)) (misses + stream_refusals log)
+turns_then w [] m m' b0 b taken tries misses s i = subst (λ (l : Line). IsByThen b0 b l (taken ++ []) (tries ++ []) (misses + 0)) (sym (ap (λ k. k.line) s)) (more_nothing b0 b m.line taken tries misses i)
+turns_then w (t ∷ log) m m' b0 b taken tries misses s i =
+    let one = turn_then w t m s.0 b0 b taken tries misses s.1 i in
+    let rest = turns_then w log s.0 m' b0 (stream_turn b t) (taken ++ entries_of Stream (turns_of t)) (tries ++ tries_of (turns_of t)) (misses + misses_of (turns_of t)) s.2 one in
+    let parts : misses_of (lane_of (t ∷ log)) ≡ misses_of (turns_of t) + misses_of (lane_of log) = sum_by-append (λ (x : Turn). refused_of x.came) (turns_of t) (lane_of log) in
+    let count : (misses + misses_of (turns_of t)) + stream_refusals log ≡ misses + stream_refusals (t ∷ log) = omega (arith, parts) in
     let entries : (taken ++ entries_of Stream (turns_of t)) ++ entries_of Stream (lane_of log) ≡ taken ++ entries_of Stream (lane_of (t ∷ log)) =
     append_assoc taken (entries_of Stream (turns_of t)) (entries_of Stream (lane_of log)) ∙ ap (λ x. taken ++ x) (sym (flat_map-append (λ (x : Turn). entries_of_came Stream x.known x.came) (turns_of t) (lane_of log))) in
     let mine : (tries ++ tries_of (turns_of t)) ++ tries_of (lane_of log) ≡ tries ++ tries_of (lane_of (t ∷ log)) =
     append_assoc tries (tries_of (turns_of t)) (tries_of (lane_of log)) ∙ ap (λ x. tries ++ x) (sym (flat_map-append (λ (x : Turn). tries_of_came x.came) (turns_of t) (lane_of log))) in
-    subst (λ (x : List Entry). IsByThen b0 (fold stream_turn b (t ∷ log)) m'.line x (tries ++ tries_of (lane_of (t ∷ log)))) entries
-    (subst (λ (x : List Try). IsByThen b0 (fold stream_turn b (t ∷ log)) m'.line ((taken ++ entries_of Stream (turns_of t)) ++ entries_of Stream (lane_of log)) x) mine rest)
+    subst (λ (x : List Entry). IsByThen b0 (fold stream_turn b (t ∷ log)) m'.line x (tries ++ tries_of (lane_of (t ∷ log))) (misses + stream_refusals (t ∷ log))) entries
+    (subst (λ (x : List Try). IsByThen b0 (fold stream_turn b (t ∷ log)) m'.line ((taken ++ entries_of Stream (turns_of t)) ++ entries_of Stream (lane_of log)) x (misses + stream_refusals (t ∷ log))) mine
+    (subst (λ (x : ℕ). IsByThen b0 (fold stream_turn b (t ∷ log)) m'.line ((taken ++ entries_of Stream (turns_of t)) ++ entries_of Stream (lane_of log)) ((tries ++ tries_of (turns_of t)) ++ tries_of (lane_of log)) x) count rest))
 
 -- all conversations, where none is open
-run_shut : {V : Type 0} (a : Answers V) (h : List V) (w n floor : ℕ) (b0 b : StreamsTold) (l : Line) (taken : List Entry) (tries : List Try) → l.is_open ≡ false → a.silent ≡ is_silent → IsByThen b0 b l taken tries → IsLaneRun a h w n floor taken tries
-    → (talks : List Talk) × (b.closed ≡ b0.closed ++ talks) × (b.current ≡ None) × IsStreamRun a h w n floor talks taken tries
-run_shut a h w n floor b0 b l taken tries is quiet_is i run =
+run_shut : {V : Type 0} (a : Answers V) (h : List V) (w n floor misses : ℕ) (b0 b : StreamsTold) (l : Line) (taken : List Entry) (tries : List Try) → l.is_open ≡ false → a.silent ≡ is_silent → IsByThen b0 b l taken tries misses → IsLaneRun a h w n floor taken tries
+    → (talks : List Talk) × (b.closed ≡ b0.closed ++ talks) × (b.current ≡ None) × IsStreamRun a h w n floor misses talks taken tries
+run_shut a h w n floor misses b0 b l taken tries is quiet_is i run =
     let none = unopened l.is_open b.current l i.now_taken i.now_tries is i.now in (
       map (λ (c : Conversation). c.talk) i.conversations,
       i.closed,
@@ -328,23 +400,27 @@ run_shut a h w n floor b0 b l taken tries is quiet_is i run =
         talks_are = refl;
         taken_are = i.taken_are ∙ (ap (λ x. flat_map (λ (c : Conversation). c.taken) i.conversations ++ x) none.1 ∙ append-nil (flat_map (λ (c : Conversation). c.taken) i.conversations));
         tries_are = i.tries_are ∙ (ap (λ x. flat_map (λ (c : Conversation). c.tries) i.conversations ++ x) none.2 ∙ append-nil (flat_map (λ (c : Conversation). c.tries) i.conversations));
-        each = subst (λ (q : List ℕ → Bool). All (λ (c : Conversation). IsTalk q c.talk c.taken c.tries) i.conversations) (sym quiet_is) i.each;
+        each = subst (λ (q : List ℕ → Bool). All (λ (c : Conversation). IsTalk c.blind q c.talk c.taken c.tries) i.conversations) (sym quiet_is) i.each;
+        blinds = i.blinds;
         run = run;
       },
     )
 
 -- all conversations, where the open one is closed
-run_by : {V : Type 0} (o : Bool) (a : Answers V) (h : List V) (w n floor : ℕ) (b0 b : StreamsTold) (l : Line) (taken : List Entry) (tries : List Try) → o ≡ l.is_open → a.silent ≡ is_silent → IsByThen b0 b l taken tries → IsLaneRun a h w n floor taken tries
-    → (talks : List Talk) × ((closing_if o b).closed ≡ b0.closed ++ talks) × ((closing_if o b).current ≡ None) × IsStreamRun a h w n floor talks taken tries
-run_by true a h w n floor b0 b l taken tries is quiet_is i run =
-    let i' = shut_then b0 b b l (record l { is_open = false }) taken tries i (sym is) refl refl refl in
-    let x = more_none b0 (closing b) (record l { is_open = false }) taken tries i' in
-    run_shut a h w n floor b0 (closing b) (record l { is_open = false }) taken tries refl quiet_is x run
-run_by false a h w n floor b0 b l taken tries is quiet_is i run = run_shut a h w n floor b0 b l taken tries (sym is) quiet_is i run
+run_by : {V : Type 0} (o : Bool) (a : Answers V) (h : List V) (w n floor misses : ℕ) (b0 b : StreamsTold) (l : Line) (taken : List Entry) (tries : List Try) → o ≡ l.is_open → a.silent ≡ is_silent → IsByThen b0 b l taken tries misses → IsLaneRun a h w n floor taken tries
+    → (talks : List Talk) × ((closing_if o b).closed ≡ b0.closed ++ talks) × ((closing_if o b).current ≡ None) × IsStreamRun a h w n floor misses talks taken tries
+run_by true a h w n floor misses b0 b l taken tries is quiet_is i run =
+    let i' = shut_then b0 b b l (record l { is_open = false }) taken tries misses i (sym is) refl refl refl in
+    let x = more_none b0 (closing b) (record l { is_open = false }) taken tries misses i' in
+    run_shut a h w n floor misses b0 (closing b) (record l { is_open = false }) taken tries refl quiet_is x run
+run_by false a h w n floor misses b0 b l taken tries is quiet_is i run = run_shut a h w n floor misses b0 b l taken tries (sym is) quiet_is i run
+
+all_missed : (n : ℕ) → 0 + n ≡ n
+all_missed n = omega arith
 
 pub runs_of : (w floor : ℕ) (log : List StreamTurn) (m m' : StreamMoment Version) (b : StreamsTold) → IsStreamSession stream_replies w log m m' → m.line.is_open ≡ false → b.current ≡ None → IsLaneRun stream_replies m'.eyes.seen w m.count floor (entries_of Stream (lane_of log)) (tries_of (lane_of log))
-    → (talks : List Talk) × ((closing_if m'.line.is_open (fold stream_turn b log)).closed ≡ b.closed ++ talks) × ((closing_if m'.line.is_open (fold stream_turn b log)).current ≡ None) × IsStreamRun stream_replies m'.eyes.seen w m.count floor talks (entries_of Stream (lane_of log)) (tries_of (lane_of log))
+    → (talks : List Talk) × ((closing_if m'.line.is_open (fold stream_turn b log)).closed ≡ b.closed ++ talks) × ((closing_if m'.line.is_open (fold stream_turn b log)).current ≡ None) × IsStreamRun stream_replies m'.eyes.seen w m.count floor (stream_refusals log) talks (entries_of Stream (lane_of log)) (tries_of (lane_of log))
 runs_of w floor log m m' b s is none run =
     let first = at_first b m.line is none in
-    let i = turns_then w log m m' b b [] [] s first in
-    run_by m'.line.is_open stream_replies m'.eyes.seen w m.count floor b (fold stream_turn b log) m'.line (entries_of Stream (lane_of log)) (tries_of (lane_of log)) refl refl i run
+    let i = subst (λ (x : ℕ). IsByThen b (fold stream_turn b log) m'.line (entries_of Stream (lane_of log)) (tries_of (lane_of log)) x) (all_missed (stream_refusals log)) (turns_then w log m m' b b [] [] 0 s first) in
+    run_by m'.line.is_open stream_replies m'.eyes.seen w m.count floor (stream_refusals log) b (fold stream_turn b log) m'.line (entries_of Stream (lane_of log)) (tries_of (lane_of log)) refl refl i run

@@ -1,5 +1,5 @@
 -- What one call of a stream lane does.
-use Rattle.std.specs.Prelude.{◌≡◌, ℕ, ◌+◌, ◌<◌, ◌≤◌, Bool, List, [], ◌∷◌, ◌++◌, length, map, fold, Option, None}
+use Rattle.std.specs.Prelude.{◌≡◌, ℕ, ◌+◌, ◌<◌, ◌≤◌, Bool, List, [], ◌∷◌, ◌++◌, length, map, fold, sum_by, Option, None}
 use Rattle.outside.specs.Faults.{BothTell}
 use Rattle.outside.specs.Gate.{GateTold, IsTurning, going}
 use Rattle.outside.specs.declared.gate.Turning.TheVariants.{Stop}
@@ -8,7 +8,7 @@ use Rattle.outside.specs.Streams.{StreamsTold, Talk}
 use Rattle.lane_model.specs.declared.ended.Ended.{Ended}
 use Rattle.lane_model.specs.declared.ended.Ended.TheVariants as end
 use Rattle.lane_model.specs.Lanes.{Answers}
-use Rattle.lane_model.specs.Turns.{AreCalm, AreGiven, IsGiven, entries_of, failures, refused, tries_of}
+use Rattle.lane_model.specs.Turns.{AreCalm, AreGiven, IsGiven, entries_of, failures, refused, refused_of, tries_of}
 use Rattle.lane_model.specs.Calls.{Eyes, IsGateRun, IsLaneLog, AreTurns, Moment}
 use Rattle.tcp_lane.specs.Stream.{IsStreamRun}
 use Rattle.tcp_lane.specs.Turns.{IsBroken, IsRuled, Line, StreamTurn, closing_if, ended, lane_of, lead_of, stream_turn, turns_of}
@@ -63,6 +63,10 @@ IsStreamLast end.Spent m m' = m' ≡ m
 abbrev pub stream_failures : List StreamTurn → ℕ
 stream_failures log = failures (lane_of log)
 
+-- how many looks were refused in some turns
+abbrev pub stream_refusals : List StreamTurn → ℕ
+stream_refusals log = sum_by (λ t. refused_of t.came) (lane_of log)
+
 -- Why a lane ended after these turns. All turns but the last go on: accept didn't answer End, no look was refused, fewer than eight calls of the streams failed.
 abbrev pub IsStreamEnd : ℕ → List StreamTurn → Ended → Type 0
 IsStreamEnd turns log end.Stopped = AreCalm (lane_of log) × (stream_failures log < 8) × (length log < turns)
@@ -77,7 +81,7 @@ abbrev pub AreRuled : Line → List StreamTurn → Line → Type 0
 AreRuled s [] s' = s' ≡ s
 AreRuled s (t ∷ log) s' = (mid : Line) × IsRuled t.came s t mid × AreRuled mid log s'
 
--- A call of a stream lane, over the turns that it made. All of them, as turns of a lane, are a lane's log: what was told is minded, what is seen and known rises, each message that isn't silent has one look, messages are counted on. What streams, gate and notes tell by then follows turn by turn. Whatever streams told before, the conversations that they tell of by then are a stream run over what the viewer has seen. A conversation is closed where the rules say so, and where it is open at the end.
+-- A call of a stream lane, over the turns that it made. All of them, as turns of a lane, are a lane's log: what was told is minded, what is seen and known rises, each message that isn't silent has one look, messages are counted on. What streams, gate and notes tell by then follows turn by turn. Whatever streams told before, if no conversation was open: the conversations that they tell of behind those are a stream run over what the viewer has seen, in which as many looks are refused as in the turns. A conversation is closed where the rules say so, and where it is open at the end.
 pub record IsStreamCall {V : Type 0} (a : Answers V) (w turns : ℕ) (m m' : StreamMoment V) (result : Ended) : Type 0 where
   pub log : List StreamTurn
   pub closes : Bool
@@ -89,6 +93,6 @@ pub record IsStreamCall {V : Type 0} (a : Answers V) (w turns : ℕ) (m m' : Str
   pub gate : BothTell m.gate m'.gate (IsGateRun shown (map lead_of log) result)
   pub runs : (b : StreamsTold) → b.current ≡ None → (floor : ℕ) → floor < length m.eyes.heard
       → (talks : List Talk) × ((closing_if closes (fold stream_turn b log)).closed ≡ b.closed ++ talks) × ((closing_if closes (fold stream_turn b log)).current ≡ None)
-      × IsStreamRun a m'.eyes.seen w m.count floor talks (entries_of a.way (lane_of log)) (tries_of (lane_of log))
+      × IsStreamRun a m'.eyes.seen w m.count floor (stream_refusals log) talks (entries_of a.way (lane_of log)) (tries_of (lane_of log))
   pub rules : (line : Line) × AreRuled m.line log line × (closes ≡ line.is_open)
   pub ending : IsStreamEnd turns log result

@@ -1,5 +1,5 @@
 -- Stream runs: what is written to conversations, by what was read of them, however it was cut (RFC 1035 section 4.2.2).
-use Rattle.std.specs.Prelude.{◌≡◌, ℕ, ◌⊎◌, Bool, true, false, List, [], ◌∷◌, ◌++◌, All, MatchBool, take, map}
+use Rattle.std.specs.Prelude.{◌≡◌, ℕ, ◌⊎◌, Bool, true, false, List, [], ◌∷◌, ◌++◌, All, MatchBool, count_by, take, map}
 use Rattle.std.specs.List.{flat_map}
 use Rattle.addr_text.specs.declared.address.Peer.{Peer}
 use Rattle.outside.specs.Port.{Try}
@@ -68,8 +68,13 @@ pub record HasMissed (silent : List ℕ → Bool) (more : List (List ℕ)) (trie
   pub went : All (λ s. s.went ≡ true) tries
   pub written_is : written ≡ flat_map (λ s. framed s.octets) tries
 
--- a conversation whose last piece has messages that don't count, if there are more of them: a write failed, or no map could be looked at
-pub record IsCut (silent : List ℕ → Bool) (t : Talk) (taken : List Entry) (tries : List Try) : Type 0 where
+-- why a conversation's last piece may have messages that don't count, by whether it is blind: no map could be looked at, or a write failed
+abbrev pub IsWhy : Bool → (List ℕ → Bool) → List Entry → List (List ℕ) → List Try → List ℕ → Type 0
+IsWhy true silent entries more tries written = HasMissed silent more tries written
+IsWhy false silent entries more tries written = HasFailed silent entries tries written
+
+-- a conversation whose last piece has messages that don't count, if there are more of them
+pub record IsCut (blind : Bool) (silent : List ℕ → Bool) (t : Talk) (taken : List Entry) (tries : List Try) : Type 0 where
   pub rounds : List Round
   pub last : Round
   pub more : List (List ℕ)
@@ -78,23 +83,26 @@ pub record IsCut (silent : List ℕ → Bool) (t : Talk) (taken : List Entry) (t
   pub tries_are : tries ≡ flat_map (λ r. r.tries) rounds ++ last.tries
   pub rounds_are : AreRounds silent t.peer [] [] rounds
   pub last_is : IsRound silent t.peer (flat_map (λ r. r.piece.octets) rounds) (flat_map messages_of rounds) more last
-  pub why : HasFailed silent last.entries tries t.written ⊎ HasMissed silent more tries t.written
+  pub why : IsWhy blind silent last.entries more tries t.written
 
--- what was read of a conversation, taken from it and written to it
-abbrev pub IsTalk : (List ℕ → Bool) → Talk → List Entry → List Try → Type 0
-IsTalk silent t taken tries = IsWhole silent t taken tries ⊎ IsCut silent t taken tries
+-- what was read of a conversation, taken from it and written to it: one that is not blind misses no reply but behind a write that failed
+abbrev pub IsTalk : Bool → (List ℕ → Bool) → Talk → List Entry → List Try → Type 0
+IsTalk true silent t taken tries = IsCut true silent t taken tries
+IsTalk false silent t taken tries = IsWhole silent t taken tries ⊎ IsCut false silent t taken tries
 
--- a conversation, its messages that count, and the replies that were tried
+-- a conversation, whether it is blind, its messages that count, and the replies that were tried
 pub record Conversation : Type 0 where
   pub talk : Talk
+  pub blind : Bool
   pub taken : List Entry
   pub tries : List Try
 
--- A stream run of worker w over a history, from its message n on, where it knows `floor` before: the messages of all conversations, one after another, are a lane run, and each conversation's replies were written to it.
-pub record IsStreamRun {V : Type 0} (a : Answers V) (h : List V) (w n floor : ℕ) (talks : List Talk) (taken : List Entry) (tries : List Try) : Type 0 where
+-- A stream run of worker w over a history, from its message n on, where it knows `floor` before and that many of its looks are refused: the messages of all conversations, one after another, are a lane run; each conversation's replies were written to it; and as many conversations are blind as looks are refused, so each whole message of the others is taken, and has its reply unless it is silent, but behind a write that failed.
+pub record IsStreamRun {V : Type 0} (a : Answers V) (h : List V) (w n floor refusals : ℕ) (talks : List Talk) (taken : List Entry) (tries : List Try) : Type 0 where
   pub conversations : List Conversation
   pub talks_are : talks ≡ map (λ c. c.talk) conversations
   pub taken_are : taken ≡ flat_map (λ c. c.taken) conversations
   pub tries_are : tries ≡ flat_map (λ c. c.tries) conversations
-  pub each : All (λ c. IsTalk a.silent c.talk c.taken c.tries) conversations
+  pub each : All (λ c. IsTalk c.blind a.silent c.talk c.taken c.tries) conversations
+  pub blinds : count_by (λ c. c.blind) conversations ≡ refusals
   pub run : IsLaneRun a h w n floor taken tries

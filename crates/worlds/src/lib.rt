@@ -12,4 +12,4 @@ pub use build::{
 pub use examples::{
     EMPTY_POOL, EXAMPLE, FULL_REGION, INNER, POOL, REFUSER_NO_LONGER_FULL, TWO_GOOD_MAPS,
 };
-pub use texts::{EXAMPLE_MAP, EXAMPLE_TREE, ZONE};
+pub use texts::{EXAMPLE_FEED, EXAMPLE_TREE, ZONE};

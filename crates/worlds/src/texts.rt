@@ -58,12 +58,22 @@ scores = [3, 4]
 prefixes = ["198.51.100.0/24"]
 "#;
 
-/// The one good map of the example.
-pub const EXAMPLE_MAP: &str = "glb map 1
-place g1 A 8
-place g2 A 2
-place g2 B 5
-full g2 A A
-full g2 B R
-end
-";
+/// A feed over the example: lines of each kind, some that are refused, and no line's end behind the last.
+pub const EXAMPLE_FEED: &[u8] = b"demand g2 4
+commit
+
+demand nobody 3
+demand g1 0
+capacity A 281474976710657
+commit
+commit
+ask 198.51.100.7 1234
+show\xff
+commit now
+show
+capacity B 7
+commit
+demand g1 3
+capacity A 281474976710656
+commit
+show";

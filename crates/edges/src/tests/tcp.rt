@@ -1,6 +1,6 @@
 //! Streams over TCP on loopback: messages cut and put together, lengths that are too great, resets, and places that ran
 //! out.
-use crate::peers::socket_addr;
+use crate::peers::{peer_of, socket_addr};
 use crate::{FlagGate, FlagPace, ManyStreams, SharedTcp, StopFlag};
 use addr_text::{Addr, Listen, Peer};
 use outside::{Accepting, Gate, Opening, Pace, Reading, Streams, Turning, Writing};
@@ -19,6 +19,8 @@ const FAMILIES: &[Addr] = &[LOCAL, Addr::V6(1)];
 const MESSAGES: &[u8] = b"\0\x02ab\0\x01c";
 
 const REPLY: &[u8] = b"\0\x03xyz";
+
+const OTHER_REPLY: &[u8] = b"\0\x01w";
 
 /// A message of one octet, behind its length.
 const SHORT: &[u8] = b"\0\x01c";
@@ -133,6 +135,34 @@ fn waits<Q: Streams>(streams: &mut Q, client: &mut TcpStream) -> bool {
     true
 }
 
+/// Replies to the next conversation: one way to that peer, and another way to any other.
+fn replies_by_peer<Q: Streams>(streams: &mut Q, peer: Peer) -> bool {
+    let Some(from) = next_peer(streams) else {
+        return false;
+    };
+    let reply = if from == peer { REPLY } else { OTHER_REPLY };
+    let is_written = says(streams, SHORT) && streams.write(0, reply) == Writing::Done;
+    streams.close();
+    is_written
+}
+
+/// Whether two clients that ask at once are told apart by their addresses and ports, and each gets its own reply.
+fn tells_apart<Q: Streams>(
+    streams: &mut Q,
+    first: &mut TcpStream,
+    second: &mut TcpStream,
+) -> Option<bool> {
+    let peer = peer_of(first.local_addr().ok()?);
+    first.write_all(SHORT).ok()?;
+    second.write_all(SHORT).ok()?;
+    Some(
+        replies_by_peer(streams, peer)
+            && replies_by_peer(streams, peer)
+            && gets(first, REPLY)
+            && gets(second, OTHER_REPLY),
+    )
+}
+
 fn all_exchange<R: Net<Listener = TcpListener, Stream = TcpStream> + Clock>(
     alloc: Global,
     rt: &R,
@@ -146,7 +176,8 @@ fn all_exchange<R: Net<Listener = TcpListener, Stream = TcpStream> + Clock>(
         exchanges(&mut streams, &mut client)
             && exchanges(&mut streams, &mut other)
             && waits(&mut streams, &mut other)
-            && exchanges(&mut streams, &mut client),
+            && exchanges(&mut streams, &mut client)
+            && tells_apart(&mut streams, &mut client, &mut other) == Some(true),
     )
 }
 
@@ -164,7 +195,7 @@ fn unreached<R: Net<Listener = TcpListener, Stream = TcpStream> + Clock>(
     None
 }
 
-/// Several connections at once, again and again, over both families.
+/// Several connections at once, again and again, over both families. Each gets its own replies.
 #[test]
 fn exchanges_on_loopback(rt: HostRuntime) {
     assert!(rt; unreached(rt.alloc(), &rt, FAMILIES).is_none());

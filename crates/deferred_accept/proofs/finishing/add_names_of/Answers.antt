@@ -1,19 +1,31 @@
-use Rattle.std.proofs.Common.{◌≡◌, ◌+◌, ◌<◌, ◌++◌, length, append-nil, sym, ap, ◌∙◌, refl, arith}
-use Rattle.map_model.specs.Market.{choices_of}
+use Rattle.std.proofs.Common.{◌≡◌, ◌+◌, ◌<◌, ◌≤◌, ◌++◌, length, append-nil, sym, ap, ◌∙◌, refl, arith}
+use Rattle.map_model.specs.Market.{choices_of, demand_of}
 use Rattle.map_model.specs.Allocation.{placed_through}
 use Rattle.stable_check.proofs.Blocking.{placed_below-zero, so_far_more, so_far_next}
 use Rattle.stable_check.proofs.Names.{due_step, due_done}
 use Rattle.evict.proofs.Settled.{small_demand}
 use Rattle.map_model.proofs.Units.{through-le-placed}
-use Rattle.deferred_accept.proofs.Finished.{push_turn, skip_turn}
+use Rattle.deferred_accept.proofs.Finished.{due_met, push_turn, skip_turn}
 use Rattle.deferred_accept.proofs.finishing.add_names_of.Goals as goal
 use Rattle.deferred_accept.proofs.finishing.add_names_of.Goals.{in-Some+in_ok-push, in_default}
 
 pub loop-place-init : goal.loop-place-init
 loop-place-init c = record { so_far = placed_below-zero c.args.state.now.lines c.args.group.0; named = refl }
 
-pub name-requires-clause-through : goal.name-requires-clause-through
-name-requires-clause-through c = so_far_more c.args.state.now.lines c.args.group.0 c.loop-place.place _ _ c.loop-place.invariant.so_far c.units-through.ensures
+pub name-requires-clause-wanted : goal.name-requires-clause-wanted
+name-requires-clause-wanted c =
+    let here : c.loop-place.through + c.units-through.result ≡ placed_through c.args.state.now.lines c.args.group.0 c.loop-place.place
+    = so_far_more c.args.state.now.lines c.args.group.0 c.loop-place.place _ _ c.loop-place.invariant.so_far c.units-through.ensures in
+    omega (arith, here, c.if-through-demand.false, c.from-demand.ensures, c.demand.ensures)
+
+pub returns-then-through-demand : goal.returns-then-through-demand
+returns-then-through-demand c =
+    let m = c.args.instance.now in
+    let lines = c.args.state.now.lines in
+    let here : c.loop-place.through + c.units-through.result ≡ placed_through lines c.args.group.0 c.loop-place.place
+    = so_far_more lines c.args.group.0 c.loop-place.place _ _ c.loop-place.invariant.so_far c.units-through.ensures in
+    let met : demand_of m c.args.group.0 ≤ placed_through lines c.args.group.0 c.loop-place.place = omega (arith, here, c.if-through-demand.true, c.from-demand.ensures, c.demand.ensures) in
+    sym (append-nil c.loop-place.names.items) ∙ ap (λ ys. c.loop-place.names.items ++ ys) (sym (due_met m lines c.args.group.0 c.loop-place.place met)) ∙ c.loop-place.invariant.named
 
 pub overflow_add-through : goal.overflow_add-through
 overflow_add-through c =

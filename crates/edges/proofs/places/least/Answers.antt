@@ -11,5 +11,5 @@ loop-i-preserved c =
     let lt : c.loop-i.i < length c.args.seats.now = omega (arith, c.loop-i-test.true) in
     subst (λ (l : List Seat). IsLeastSoFar c.args.wanted l c.lesser-found.result) (sym (take_more c.args.seats.now c.loop-i.i _ lt)) (c.lesser-found.ensures (take c.loop-i.i c.args.seats.now) (length-take-le c.loop-i.i c.args.seats.now (omega (arith, lt))) c.loop-i.invariant)
 
-pub returns-in-None-clause-none : goal.returns-in-None-clause-none
-returns-in-None-clause-none c = all_taken c.args.wanted c.args.seats.now c.loop-i.i (omega (arith, c.loop-i-test.false)) (subst (λ (o : Option Found). IsLeastSoFar c.args.wanted (take c.loop-i.i c.args.seats.now) o) c.in-None.is c.loop-i.invariant)
+pub returns-in-None : goal.returns-in-None
+returns-in-None c = all_taken c.args.wanted c.args.seats.now c.loop-i.i (omega (arith, c.loop-i-test.false)) (subst (λ (o : Option Found). IsLeastSoFar c.args.wanted (take c.loop-i.i c.args.seats.now) o) c.in-None.is c.loop-i.invariant)

@@ -1,4 +1,4 @@
-use Rattle.glb.proofs.Agree.{map_one, repair_one, serves_agree, serves_come}
+use Rattle.glb.proofs.Agree.{map_one, repair_one, serves_agree, serves_come, serves_publish, serves_repeat}
 use Rattle.glb.proofs.laws.runs_agree.Goals as goal
 
 pub returns-clause-maps : goal.returns-clause-maps
@@ -12,3 +12,9 @@ returns-clause-comes c = serves_come
 
 pub returns-clause-serves : goal.returns-clause-serves
 returns-clause-serves c = serves_agree
+
+pub returns-clause-publish : goal.returns-clause-publish
+returns-clause-publish c = serves_publish
+
+pub returns-clause-repeat : goal.returns-clause-repeat
+returns-clause-repeat c = serves_repeat

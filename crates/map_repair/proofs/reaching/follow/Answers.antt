@@ -1,7 +1,13 @@
-use Rattle.std.proofs.Common.{◌<◌, slice_index, arith}
+use Rattle.std.proofs.Common.{◌<◌, slice_index, ◌∙◌, arith}
 use Rattle.map_model.specs.Market.{Market}
-use Rattle.map_repair.proofs.Marking.{done_more, done_on}
+use Rattle.map_repair.proofs.Marking.{done_more, done_on, marked_on}
 use Rattle.map_repair.proofs.reaching.follow.Goals as goal
+
+pub unmarked_from-requires-clause-size : goal.unmarked_from-requires-clause-size
+unmarked_from-requires-clause-size c = c.in_ok-mark_held.ensures.marking.count ∙ c.requires.size
+
+pub unmarked_from-requires-clause-before : goal.unmarked_from-requires-clause-before
+unmarked_from-requires-clause-before c = marked_on c.args.old.now c.args.marks.now c.mark_held.new.marks c.args.ahead.now c.in_ok-mark_held.ensures.marking c.requires.marked
 
 pub returns-clause-done : goal.returns-clause-done
 returns-clause-done c =

@@ -5,13 +5,18 @@ use Rattle.map_model.specs.declared.instance.Offer.{Offer}
 use Rattle.map_model.specs.Market.{Market}
 use Rattle.map_model.specs.Progress.{tree_of}
 use Rattle.move_up.specs.Asked.{listed_at, offer_of}
-use Rattle.map_repair.specs.Marks.{HoldsInMarked}
+use Rattle.map_repair.specs.Marks.{AreMarkedTo, HoldsInMarked}
 use Rattle.move_up.proofs.Listing.{listed_there}
-use Rattle.map_repair.proofs.Marking.{marking_none, marking_trans}
+use Rattle.map_repair.proofs.Marking.{marking_none, marking_trans, settled_whole}
 use Rattle.map_repair.proofs.reaching.look_at.Goals as goal
 
 pub loop-offer-init : goal.loop-offer-init
-loop-offer-init c = record { marking = marking_none c.args.marks.now; groups = refl; done = c.requires.done; followed = λ i o l. absurd (omega (arith, l)); within = λ trees all on within. within }
+loop-offer-init c = record { marking = marking_none c.args.marks.now; groups = refl; done = c.requires.done; ahead = c.requires.ahead; marked = c.requires.marked; followed = λ i o l. absurd (omega (arith, l)); within = λ trees all on within. within }
+
+pub returns-then-ahead-nodes-clause-settled : goal.returns-then-ahead-nodes-clause-settled
+returns-then-ahead-nodes-clause-settled c =
+    let m : Market = c.args.old.now in
+    settled_whole m c.args.state.now c.loop-offer.marks.on c.args.root.0 c.requires.ready.market (subst (AreMarkedTo m c.loop-offer.marks.on) (c.if-ahead-nodes.true ∙ c.nodes.ensures.count) c.loop-offer.invariant.marked)
 
 pub follow-requires-clause-offer : goal.follow-requires-clause-offer
 follow-requires-clause-offer c =
@@ -36,6 +41,8 @@ loop-offer-preserved c =
       marking = marking_trans c.args.marks.now c.loop-offer.marks c.follow.new.marks i.marking e.marking;
       groups = c.follow.auto.done ∙ i.groups;
       done = e.done;
+      ahead = e.ahead;
+      marked = e.marked;
       followed = λ j o l is before. elim (cases_eq j at) [
         | inl same ↦
             let here : slice_index_or (listed_at lists root) at o ≡ o = subst (λ x. slice_index_or (listed_at lists root) x o ≡ o) same is in

@@ -1,7 +1,7 @@
-use Rattle.std.proofs.Common.{◌≡◌, ◌<◌, ℕ, Bool, true, length, slice_index, slice_index_or}
+use Rattle.std.proofs.Common.{◌≡◌, ◌<◌, ◌≤◌, ℕ, Bool, true, length, slice_index, slice_index_or}
 use Rattle.map_model.specs.declared.instance.Offer.{Offer}
 use Rattle.move_up.specs.Asked.{listed_at}
-use Rattle.map_repair.specs.Marks.{AreDone, HoldsInMarked, IsClosedForAll, IsMarking, IsWithin}
+use Rattle.map_repair.specs.Marks.{AreDone, AreMarkedTo, HoldsInMarked, IsClosedForAll, IsMarking, IsWithin}
 use Rattle.map_repair.proofs.reaching.look_at.Given as goal
 
 abbrev pub invariant-loop-offer : goal.invariant-loop-offer
@@ -9,6 +9,8 @@ invariant-loop-offer l = record {
   marking : IsMarking l.fn.marks l.marks;
   groups : length l.done ≡ length l.fn.done;
   done : AreDone l.old l.state.lines l.marks.on l.done;
+  ahead : l.ahead ≤ length l.old.nodes;
+  marked : AreMarkedTo l.old l.marks.on l.ahead;
   followed : (i : ℕ) (o : Offer) → i < l.offer-index → slice_index_or (listed_at l.asked l.fn.root.0) i o ≡ o → o.place < slice_index l.state.pointers o.group.0 → HoldsInMarked l.old l.state.lines l.marks.on o.group.0;
   within : (trees : ℕ → Bool) → IsClosedForAll l.old l.state trees → trees l.fn.root.0 ≡ true → IsWithin l.fn.marks.on trees → IsWithin l.marks.on trees;
 }

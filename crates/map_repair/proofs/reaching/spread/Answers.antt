@@ -1,7 +1,7 @@
 use Rattle.std.proofs.Common.{List, Bool, length, inl, inr, sym, ap, subst, ◌∙◌}
 use Rattle.map_model.specs.Market.{Market}
 use Rattle.map_repair.specs.Marks.{IsClosedForAll, IsSettled, is_on}
-use Rattle.map_repair.proofs.Marking.{closed_all, closed_whole, marked_on, pending_rest, settled_on}
+use Rattle.map_repair.proofs.Marking.{closed_all, closed_whole, pending_rest, settled_on}
 use Rattle.map_repair.proofs.reaching.spread.Goals as goal
 
 pub loop-root-preserved : goal.loop-root-preserved
@@ -17,8 +17,8 @@ loop-root-preserved c =
       size = e.marking.count ∙ ap length before ∙ i.size;
       groups = c.look_at.auto.done ∙ i.groups;
       kept = λ n on. e.marking.kept n (ap (λ ms. is_on ms n) before ∙ i.kept n on);
-      ahead = c.next_tree.ensures.ahead;
-      marked = marked_on m c.next_tree.new.marks new c.next_tree.new.ahead e.marking c.next_tree.ensures.marked;
+      ahead = e.ahead;
+      marked = e.marked;
       done = e.done;
       looked = λ n on. elim (e.marking.came n on) [
         | inl was ↦ elim (i.looked n (sym (ap (λ ms. is_on ms n) before) ∙ was)) [

@@ -7,8 +7,8 @@ use Rattle.map_model.proofs.MapForm.{IsLineAt-from}
 use Rattle.map_text.specs.Writing.{ended, place_row}
 use Rattle.map_text.proofs.write.push_places.Goals as goal
 
-pub push_place-requires : goal.push_place-requires
-push_place-requires c = (IsLineAt-from c.args.topology.now.market c.args.lines.now c.loop-line.line-index (c.requires c.loop-line.line-index c.loop-line-test.true)).offer
+pub push_place-requires-clause-offer : goal.push_place-requires-clause-offer
+push_place-requires-clause-offer c = (IsLineAt-from c.args.topology.now.market c.args.lines.now c.loop-line.line-index (c.requires.lines c.loop-line.line-index c.loop-line-test.true)).offer
 
 pub loop-line-preserved : goal.loop-line-preserved
 loop-line-preserved c =

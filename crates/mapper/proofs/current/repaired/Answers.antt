@@ -10,14 +10,14 @@ pub returns-clause-kept : goal.returns-clause-kept
 returns-clause-kept g c =
     let old = c.args.old.now.instance in
     let new = c.args.new.now in
-    let made = subst (λ (ls : List MapLine). IsKept old ls new c.resume.new.state.lines) c.requires.kept.holds c.in_ok-turns.ensures.kept in
+    let made = subst (λ (ls : List MapLine). IsKept old ls new c.resume.new.state.lines) c.requires.kept.holds c.in_ok-effort.ensures.kept in
     IfOk-weaker c.ended_map.result _ _ (λ m e. subst (λ (ls : List MapLine). IsKept old c.args.old.now.map.lines.items new ls) (sym e) made) c.ended_map.ensures.lines
 
 pub returns-clause-counted : goal.returns-clause-counted
 returns-clause-counted g c =
-    let resumed = subst (λ (ls : List MapLine). HasResumed c.args.old.now.instance ls c.args.new.now c.resume.new.state c.args.steps.now c.resume.new.steps) c.requires.kept.holds c.in_ok-turns.ensures.counted in
+    let resumed = subst (λ (ls : List MapLine). HasResumed c.args.old.now.instance ls c.args.new.now c.resume.new.state c.args.steps.now c.resume.new.steps) c.requires.kept.holds c.in_ok-effort.ensures.counted in
     IfOk-weaker c.ended_map.result _ _ (λ m e. record { to = c.resume.new.state; resumed = resumed; makes = sym e }) c.ended_map.ensures.lines
 
 pub returns-clause-steps : goal.returns-clause-steps
 returns-clause-steps g c =
-    whenever c.ended_map.result (subst (λ (ls : List MapLine). IsWithinSpread c.args.old.now.instance ls c.args.new.now c.args.steps.now c.resume.new.steps) c.requires.kept.holds c.in_ok-turns.ensures.steps)
+    whenever c.ended_map.result (subst (λ (ls : List MapLine). IsWithinSpread c.args.old.now.instance ls c.args.new.now c.args.steps.now c.resume.new.steps) c.requires.kept.holds c.in_ok-effort.ensures.steps)

@@ -3,12 +3,21 @@ use Rattle.std.proofs.lemmas.Bool.{cases_eq, ne_eqb}
 use Rattle.map_model.specs.Market.{Market, choices_of}
 use Rattle.map_model.specs.Allocation.{amount_at}
 use Rattle.map_model.proofs.MapForm.{offers-AreLines}
-use Rattle.reopen.proofs.Lessening.{less_trans, placed_none, sums_trans}
+use Rattle.reopen.proofs.Lessening.{less_itself, less_trans, placed_none, sums_itself, sums_trans, trimmed_none}
 use Rattle.reopen.proofs.cutting.trim_places.Goals as goal
 
 and_false_right : (a b : Bool) → b ≡ false → (a && b) ≡ false
 and_false_right true b e = e
 and_false_right false b e = refl
+
+pub returns-then-placed-demand-clause-less : goal.returns-then-placed-demand-clause-less
+returns-then-placed-demand-clause-less c = less_itself c.args.instance.now c.args.state.now c.requires.can
+
+pub returns-then-placed-demand-clause-sums : goal.returns-then-placed-demand-clause-sums
+returns-then-placed-demand-clause-sums c = sums_itself c.args.state.now
+
+pub returns-then-placed-demand-clause-trimmed : goal.returns-then-placed-demand-clause-trimmed
+returns-then-placed-demand-clause-trimmed c = trimmed_none c.args.instance.now c.args.group.0 c.args.state.now.lines
 
 pub loop-step-preserved : goal.loop-step-preserved
 loop-step-preserved c =

@@ -1,0 +1,40 @@
+-- Which connection is handed over, and what streams tell of it.
+use Rattle.std.specs.Prelude.{◌≡◌, ◌⊎◌, ℕ, List, All, Option, None, Some, slice_get}
+use Rattle.outside.specs.Streams.{Talk}
+use Rattle.outside.specs.declared.streams.Accepting.{Accepting}
+use Rattle.outside.specs.declared.streams.Accepting.TheVariants as came
+use Rattle.outside.specs.declared.streams.Reading.{Reading}
+use Rattle.outside.specs.declared.streams.Reading.TheVariants as read
+use Rattle.tcp_frames.specs.declared.batch.Batch.{Batch}
+use Rattle.edges.specs.Places.{IsNextTalk, IsSameSeat, key_of}
+use Rattle.edges.specs.Rooms.{IsChangedAt, IsHandingOver}
+use Rattle.edges.specs.declared.places.Wanted.TheVariants.{FirstInTurn}
+use Rattle.edges.specs.declared.room.Room.{Room}
+use Rattle.edges.specs.declared.seat.Seat.{Seat}
+
+-- what comes of a wait: the connection that has waited longest is handed over, with its peer; or none waits; or the listener is broken
+abbrev pub IsAdvance : Accepting → Option ℕ → List Seat → Type 0
+IsAdvance (came.Come peer) current seats = (i : ℕ) × (current ≡ Some i) × IsNextTalk seats i peer
+IsAdvance came.Idle current seats = (current ≡ None) × All (λ s. key_of FirstInTurn s ≡ None) seats
+IsAdvance came.End current seats = ⊥
+IsAdvance came.Failed current seats = current ≡ None
+
+-- of so many octets, the batch stood at the front of what had come to the room that is handed over, and no other room changed
+abbrev pub IsTakenFrom : List ℕ → List ℕ → ℕ → Option ℕ → List Room → List Room → Type 0
+IsTakenFrom buffer buffer' len current rooms rooms' = (i : ℕ) × (batch : Batch) × (current ≡ Some i) × (batch.len ≡ len) × IsChangedAt (IsHandingOver buffer buffer' batch) i rooms rooms'
+
+-- what is read are octets of the room that is handed over
+abbrev pub IsHeard : List ℕ → List ℕ → Reading → Option ℕ → List Room → List Room → Type 0
+IsHeard buffer buffer' (read.Got n) current rooms rooms' = IsTakenFrom buffer buffer' n current rooms rooms'
+IsHeard buffer buffer' read.Quiet current rooms rooms' = ⊥
+IsHeard buffer buffer' read.Closed current rooms rooms' = (rooms' ≡ rooms) ⊎ IsTakenFrom buffer buffer' 0 current rooms rooms'
+IsHeard buffer buffer' read.Failed current rooms rooms' = ⊥
+
+-- the connection that is handed over may be one that goes on no more, and is still the same one
+abbrev pub IsSameOrEnded : Option ℕ → List Seat → List Seat → Type 0
+IsSameOrEnded current seats seats' = (seats' ≡ seats) ⊎ ((i : ℕ) × (current ≡ Some i) × IsChangedAt IsSameSeat i seats seats')
+
+-- the conversation that streams tell of is with the peer of the connection that is handed over
+abbrev pub IsTold : Option ℕ → List Seat → Option Talk → Type 0
+IsTold None seats talk = Unit {0}
+IsTold (Some i) seats talk = (seat : Seat) × (t : Talk) × (slice_get seats i ≡ Some seat) × (talk ≡ Some t) × (t.peer ≡ seat.peer)

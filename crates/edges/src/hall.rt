@@ -1,0 +1,190 @@
+//! The places of connections with their octets, and which of them is handed over.
+ghost use Rattle.std.specs.Prelude.{◌≡◌, ◌≢◌, ◌⊎◌, ℕ, true, Some, None, IfOk, length};
+ghost use Rattle.outside.specs.Streams.{IsWithin};
+ghost use Rattle.edges.specs.Halls.{IsAdvance, IsHeard, IsSameOrEnded};
+ghost use Rattle.edges.specs.Rooms.{IsChangedAt, IsKeeping};
+
+use crate::ears::Ears;
+use crate::places::{Wanted, least, next_talk};
+use crate::room::{Room, hand_over_at, keep_at};
+use crate::seat::{Seat, end_at, settle};
+use no_memory::NoMemory;
+use outside::{Accepting, Reading};
+use std::alloc::Global;
+use std::time::Clock;
+
+/// How long `advance` waits, in milliseconds. So long may a lane take to see that it is to stop.
+const LONGEST_WAIT: u64 = 50;
+
+/// The places, and which of them is handed over.
+#[derive(Drop)]
+pub(crate) struct Hall {
+    pub(crate) seats: Vec<Seat>,
+    pub(crate) rooms: Vec<Room>,
+    /// The place that is handed over.
+    pub(crate) current: Option<usize>,
+    /// Whether it was read.
+    is_read: bool,
+    /// The milliseconds of the clock. Where it can't be read, it stands still.
+    now: u64,
+    /// How many were handed over or wait for it.
+    turns: u64,
+}
+
+/// Free places.
+fn free_seats(alloc: Global, places: usize) -> Result<Vec<Seat>, NoMemory> {
+    let mut seats = Vec::with_capacity(alloc, places)?;
+    for _ in 0..places {
+        seats.push(Seat::free())?;
+    }
+    Ok(seats)
+}
+
+/// Their octets.
+fn free_rooms(alloc: Global, places: usize) -> Result<Vec<Room>, NoMemory> {
+    let mut rooms = Vec::with_capacity(alloc, places)?;
+    for _ in 0..places {
+        rooms.push(Room::new())?;
+    }
+    Ok(rooms)
+}
+
+/// The milliseconds of a clock, or those before where it can't be read.
+fn now_of<C: Clock>(clock: &C, before: u64) -> u64 {
+    match clock.monotonic() {
+        Ok(time) => time
+            .as_secs()
+            .saturating_mul(1_000)
+            .saturating_add(u64::from(time.subsec_millis())),
+        Err(_) => before,
+    }
+}
+
+/// Has all connections go on.
+fn settle_all(seats: &mut [Seat], rooms: &mut [Room], now: u64, turns: &mut u64) {
+    for (seat, room) in seats.iter_mut().zip(rooms.iter_mut()) {
+        settle(seat, room, now, turns);
+    }
+}
+
+impl Hall {
+    /// These places and their octets, with none handed over.
+    pub(crate) fn new(seats: Vec<Seat>, rooms: Vec<Room>) -> Hall
+        ensures { result.current ≡ None }
+    {
+        Hall {
+            seats,
+            rooms,
+            current: None,
+            is_read: false,
+            now: 0,
+            turns: 0,
+        }
+    }
+
+    /// So many places, which are free.
+    pub(crate) fn with_places(alloc: Global, places: usize) -> Result<Hall, NoMemory>
+        ensures { IfOk result (λ hall. hall.current ≡ None) }
+    {
+        let seats = free_seats(alloc, places)?;
+        let rooms = free_rooms(alloc, places)?;
+        Ok(Hall::new(seats, rooms))
+    }
+
+    /// Takes back the connection that was handed over.
+    pub(crate) fn take_back(&mut self)
+        ensures { self.new.current ≡ None }
+    {
+        let Some(i) = self.current else {
+            return;
+        };
+        self.current = None;
+        if let (Some(seat), Some(room)) = (self.seats.get_mut(i), self.rooms.get_mut(i)) {
+            seat.turn = 0;
+            seat.since = self.now;
+            settle(seat, room, self.now, &mut self.turns);
+        }
+    }
+
+    /// Waits for something to happen, and has all connections go on. Answers whether the listener is broken.
+    fn gather<C: Clock>(&mut self, ears: &mut Ears, clock: &C, most_of_one: usize) -> bool
+        ensures { self.new.current ≡ self.old.current }
+    {
+        let wait = if least(self.seats.as_slice(), Wanted::FirstInTurn).is_some() {
+            0
+        } else {
+            LONGEST_WAIT
+        };
+        if ears.wait(wait, &mut self.seats) {
+            return true;
+        }
+        self.now = now_of(clock, self.now);
+        let is_broken = ears.take_all(&mut self.seats, &mut self.rooms, most_of_one, self.now);
+        settle_all(&mut self.seats, &mut self.rooms, self.now, &mut self.turns);
+        is_broken
+    }
+
+    /// Waits for something to happen, has all connections go on, and hands over the one that has waited longest. It fails
+    /// where there is no listener, or it is broken.
+    pub(crate) fn advance<C: Clock>(
+        &mut self,
+        ears: &mut Option<Ears>,
+        clock: &C,
+        most_of_one: usize,
+    ) -> Accepting
+        requires { self.old.current ≡ None }
+        ensures { IsAdvance result self.new.current self.new.seats.items }
+    {
+        let Some(ears) = ears else {
+            return Accepting::Failed;
+        };
+        if self.gather(ears, clock, most_of_one) {
+            return Accepting::Failed;
+        }
+        let Some((i, peer)) = next_talk(self.seats.as_slice()) else {
+            return Accepting::Idle;
+        };
+        self.current = Some(i);
+        self.is_read = false;
+        Accepting::Come(peer)
+    }
+
+    /// Hands over, once, what the connection that was handed over has.
+    pub(crate) fn hear(&mut self, buffer: &mut [u8]) -> Reading
+        ensures within { IsWithin result (length buffer.old) }
+        ensures buffer { length buffer.new ≡ length buffer.old }
+        ensures fine { result ≢ Reading.Failed }
+        ensures heard { IsHeard buffer.old buffer.new result self.old.current self.old.rooms.items self.new.rooms.items }
+        ensures current { self.new.current ≡ self.old.current }
+        ensures seats { IsSameOrEnded self.old.current self.old.seats.items self.new.seats.items }
+    {
+        let Some(i) = self.current else {
+            return Reading::Closed;
+        };
+        if self.is_read {
+            return Reading::Closed;
+        }
+        self.is_read = true;
+        let Some(batch) = hand_over_at(&mut self.rooms, i, buffer) else {
+            return Reading::Closed;
+        };
+        if batch.is_faulty || batch.len == 0 {
+            end_at(&mut self.seats, i);
+        }
+        if batch.len == 0 {
+            return Reading::Closed;
+        }
+        Reading::Got(batch.len)
+    }
+
+    /// Keeps a reply for the connection that was handed over. Answers whether there is one, with room for it.
+    pub(crate) fn keep(&mut self, octets: &[u8]) -> bool
+        ensures kept { result ≡ true → (i : ℕ) × (self.old.current ≡ Some i) × IsChangedAt (IsKeeping octets.now true) i self.old.rooms.items self.new.rooms.items }
+        ensures same { self.new ≡ record self.old { rooms = self.new.rooms } }
+    {
+        match self.current {
+            Some(i) => keep_at(&mut self.rooms, i, octets),
+            None => false,
+        }
+    }
+}

@@ -1,8 +1,0 @@
-use Rattle.prefix_lookup.proofs.Halves.{Halving}
-use Rattle.prefix_lookup.proofs.ranges.last_up_to_v4.Given as goal
-
-abbrev pub invariant-loop-size : goal.invariant-loop-size
-invariant-loop-size g l = Halving l.starts l.number l.fn.steps l.low l.size l.steps
-
-abbrev pub decreases-loop-size : goal.decreases-loop-size
-decreases-loop-size g l = l.size
