@@ -15,7 +15,7 @@ use Rattle.big_world_read.specs.Read.{batches_of, world_plan}
 use Rattle.big_world_read.proofs.World.{world_batches, world_reads}
 use Rattle.mapper.specs.Mappers.{IsFirst, IsMapping, most_offers}
 use Rattle.big_run.specs.Publishing.{Publishes}
-use Rattle.big_run.specs.Runs.{IsRun, summary_of}
+use Rattle.big_run.specs.Runs.{IsWorldRun, summary_of}
 use Rattle.big_run.specs.declared.summary.Summary.{Summary}
 use Rattle.big_run.proofs.Asked.{counts_add_up}
 
@@ -34,7 +34,7 @@ unfolding world_plan
 world_zone n = refl
 
 run_is : (n : ℕ) (t : Plan) (a b : PublisherState) (feed : List ℕ) (s : Summary) (proposals : ℕ) → 1 ≤ n → n ≤ LARGEST_WORLD → t ≡ world_plan n → feed ≡ feed_of n → IsFirst t a
-    → AllDo Publishes (tasks a.newest.plan (whole_lines feed)) a b → s ≡ summary_of n a.newest.plan b proposals → IsMapping t.market a.newest.lines 0 proposals → proposals ≤ most_offers t.market → IsRun n s
+    → AllDo Publishes (tasks a.newest.plan (whole_lines feed)) a b → s ≡ summary_of n a.newest.plan b proposals → IsMapping t.market a.newest.lines 0 proposals → proposals ≤ most_offers t.market → IsWorldRun n s
 run_is n t a b feed s proposals some most plan_is feed_is first batches sums mapping few =
     let plan = first.plan in
     let count : s.proposals ≡ proposals = ap (λ (x : Summary). x.proposals) sums in
@@ -62,6 +62,6 @@ run_is n t a b feed s proposals some most plan_is feed_is first batches sums map
 
 -- what came of the feed, where memory sufficed, makes a run
 pub run_or_none : {E : Type 0} (n : ℕ) (t : Plan) (a b : PublisherState) (feed : List ℕ) (done : Result Summary E) (proposals : ℕ) → 1 ≤ n → n ≤ LARGEST_WORLD → t ≡ world_plan n → feed ≡ feed_of n → IsFirst t a
-    → OnOk done (AllDo Publishes (tasks a.newest.plan (whole_lines feed)) a b) → IfOk done (λ s. s ≡ summary_of n a.newest.plan b proposals) → IsMapping t.market a.newest.lines 0 proposals → proposals ≤ most_offers t.market → IfOk done (IsRun n)
+    → OnOk done (AllDo Publishes (tasks a.newest.plan (whole_lines feed)) a b) → IfOk done (λ s. s ≡ summary_of n a.newest.plan b proposals) → IsMapping t.market a.newest.lines 0 proposals → proposals ≤ most_offers t.market → IfOk done (IsWorldRun n)
 run_or_none n t a b feed (Ok s) proposals some most plan_is feed_is first batches sums mapping few = run_is n t a b feed s proposals some most plan_is feed_is first batches sums mapping few
 run_or_none n t a b feed (Err e) proposals some most plan_is feed_is first batches sums mapping few = tt

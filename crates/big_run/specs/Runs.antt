@@ -28,7 +28,7 @@ summary_of n t m proposals = record {
 }
 
 -- The world's topology was mapped from scratch, with so many proposals; each batch of its feed published the map that it leads to, of which each is good; there are seventeen maps, and each group's reply is an answer or a server failure; and this is the summary.
-pub record IsRun (n : ℕ) (s : Summary) : Type 0 where
+pub record IsWorldRun (n : ℕ) (s : Summary) : Type 0 where
   pub topology : Plan
   pub first : PublisherState
   pub last : PublisherState

@@ -9,7 +9,7 @@ ghost use Rattle.demand_feed.specs.Task.{tasks};
 ghost use Rattle.demand_feed.specs.Taking.{AllDo};
 ghost use Rattle.mapper.specs.Mappers.{IsFirst};
 ghost use Rattle.big_run.specs.Publishing.{Publishes};
-ghost use Rattle.big_run.specs.Runs.{IsRun, summary_of};
+ghost use Rattle.big_run.specs.Runs.{IsWorldRun, summary_of};
 
 use crate::judge::Judge;
 use crate::replies::count_replies;
@@ -99,7 +99,7 @@ pub fn run_world<J: Naming, R: Wait>(
     requires book { history ≡ J.book }
     requires some { 1 ≤ groups }
     requires most { groups ≤ LARGEST_WORLD }
-    ensures { IfOk result (IsRun groups) }
+    ensures { IfOk result (IsWorldRun groups) }
 {
     let (topology, feed) = make(alloc, groups)?;
     let topology = read_world(alloc, topology.as_slice(), groups)?;

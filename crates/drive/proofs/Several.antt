@@ -19,7 +19,7 @@ use Rattle.feed_queue.specs.Items.{AreTaken, only, sent_by}
 use Rattle.feed_queue.specs.Whole.{EndsLast, ends_in, is_end}
 use Rattle.feed_queue.proofs.Sendings.{has_sent_none}
 use Rattle.feed_queue.proofs.Wholes.{all_is_taken, runs_end_last}
-use Rattle.mapper.specs.Feeds.{AreFeeds, HasMerged, HaveEnded, first_end, has_one, is_no_memory, is_source_fault, is_spent}
+use Rattle.mapper.specs.Feeds.{AreFeeds, HasMerged, HaveEnded, first_end, has_one, is_no_memory, is_source_fault, is_spent_end}
 use Rattle.mapper.specs.Scenes.{Scene}
 use Rattle.drive.specs.All.{AllRan}
 use Rattle.drive.specs.Feeds.{AllStand, AnyRose, AreFed, AreFedTogether, AreSent, AreTied, FeedTold, NoneFell}
@@ -301,7 +301,7 @@ fault_of [] = refl
 fault_of (w ∷ ws) = or_right (is_source_fault w) (has_fault (ws ++ what.End ends.SourceFault ∷ [])) (fault_of ws)
 
 first_fault : (items : List Item) → first_end items ≡ ends.SourceFault → has_one is_source_fault items ≡ true
-first_fault items e = go (has_one is_source_fault items) (has_one is_spent items) (has_one is_no_memory items) e
+first_fault items e = go (has_one is_source_fault items) (has_one is_spent_end items) (has_one is_no_memory items) e
   where
     go : (a b c : Bool) → (if a then ends.SourceFault else if b then ends.Spent else if c then ends.NoMemory else ends.Ended) ≡ ends.SourceFault → a ≡ true
     go true b c e = refl
@@ -310,7 +310,7 @@ first_fault items e = go (has_one is_source_fault items) (has_one is_spent items
     go false false false e = absurd cc
 
 no_fault : (items : List Item) → first_end items ≢ ends.SourceFault → has_one is_source_fault items ≡ false
-no_fault items n = go (has_one is_source_fault items) (has_one is_spent items) (has_one is_no_memory items) n
+no_fault items n = go (has_one is_source_fault items) (has_one is_spent_end items) (has_one is_no_memory items) n
   where
     go : (a b c : Bool) → (if a then ends.SourceFault else if b then ends.Spent else if c then ends.NoMemory else ends.Ended) ≢ ends.SourceFault → a ≡ false
     go true b c n = absurd (n refl)

@@ -12,7 +12,7 @@ use Rattle.lane_model.specs.Calls.{Eyes}
 use Rattle.tcp_lane.specs.Calls.{AreRuled, IsStreamCall, IsStreamEnd, StreamMoment, inner, stream_refusals}
 use Rattle.tcp_lane.specs.Replies.{stream_replies}
 use Rattle.tcp_lane.specs.Stream.{IsStreamRun}
-use Rattle.tcp_lane.specs.Turns.{Line, lane_of, lead_of, no_line}
+use Rattle.tcp_lane.specs.Turns.{TalkState, lane_of, lead_of, no_talk}
 use Rattle.tcp_lane.proofs.Ends.{lane_notes, refused_last, stream_run_longer}
 use Rattle.drive.specs.Closing.{IsClosing}
 use Rattle.drive.specs.Done.{StreamLaneTold}
@@ -20,7 +20,7 @@ use Rattle.drive.specs.Streams.{IsStreamDone}
 use Rattle.drive.proofs.Finished.{served_log, told_by}
 use Rattle.drive.proofs.Noted.{notes_are}
 
-stream_of : (turns : ℕ) (first : Version) (rest : List Version) (w : ℕ) (m m' : StreamMoment Version) (f : Eyes Version) (served e : Ended) (n n' j k : ℕ) → n' ≡ n → m.eyes.seen ≡ first ∷ [] → m.eyes.heard ≡ first ∷ [] → m.count ≡ 0 → m.line ≡ no_line
+stream_of : (turns : ℕ) (first : Version) (rest : List Version) (w : ℕ) (m m' : StreamMoment Version) (f : Eyes Version) (served e : Ended) (n n' j k : ℕ) → n' ≡ n → m.eyes.seen ≡ first ∷ [] → m.eyes.heard ≡ first ∷ [] → m.count ≡ 0 → m.talk ≡ no_talk
     → (c : IsStreamCall stream_replies w turns m m' served) → flat_map (λ t. t.notes) (map lead_of c.log) ≡ range_with_len 0 k → IsClosing (first ∷ rest) m'.eyes f served e
     → IsStreamDone turns first rest w (told_by m.streams m.stream_faults m.gate m.eyes n j) (told_by m'.streams m'.stream_faults m'.gate f n' k) e
 stream_of turns first rest w m m' f served e n n' j k asked seen heard count fresh c are q =
@@ -51,13 +51,13 @@ stream_of turns first rest w m m' f served e n n' j k asked seen heard count fre
         stream_run_longer stream_replies m'.eyes.seen line.0.over w 0 0 (stream_refusals c.log) r.0 (entries_of stream_replies.way (lane_of c.log)) (tries_of (lane_of c.log)) line.1
             (subst (λ (x : ℕ). IsStreamRun stream_replies m'.eyes.seen w x 0 (stream_refusals c.log) r.0 (entries_of stream_replies.way (lane_of c.log)) (tries_of (lane_of c.log))) count r.3),
       );
-      rules = (c.rules.0, subst (λ (x : Line). AreRuled x c.log c.rules.0) fresh c.rules.1, c.rules.2);
+      rules = (c.rules.0, subst (λ (x : TalkState). AreRuled x c.log c.rules.0) fresh c.rules.1, c.rules.2);
       ending = c.ending;
     }
 
 -- the same, where some things are told by equations
 pub stream_by : (turns : ℕ) (first : Version) (rest : List Version) (i w t : ℕ) (m m' : StreamMoment Version) (f : Eyes Version) (served e : Ended) (h0 h : List Version) (streams : Option StreamsTold) (faults : ℕ) (gate : Option GateTold) (n n' n'' j k l nones : ℕ) → w ≡ i → t ≡ turns → h ≡ first ∷ rest → h0 ≡ first ∷ []
-    → m.eyes.seen ≡ h0 → m.eyes.heard ≡ h0 → m.count ≡ 0 → m.line ≡ no_line → m.notes ≡ Some (record { coming = range_with_len 0 most_notes; nones = 0 }) → m'.notes ≡ Some (record { coming = range_with_len k (most_notes - k); nones = nones }) → k ≤ most_notes
+    → m.eyes.seen ≡ h0 → m.eyes.heard ≡ h0 → m.count ≡ 0 → m.talk ≡ no_talk → m.notes ≡ Some (record { coming = range_with_len 0 most_notes; nones = 0 }) → m'.notes ≡ Some (record { coming = range_with_len k (most_notes - k); nones = nones }) → k ≤ most_notes
     → IsStreamCall stream_replies w t m m' served → IsClosing h m'.eyes f served e → streams ≡ m'.streams → faults ≡ m'.stream_faults → gate ≡ m'.gate → n' ≡ n → n'' ≡ n' → l ≡ k
     → IsStreamDone turns first rest i (told_by m.streams m.stream_faults m.gate m.eyes n j) (told_by streams faults gate f n'' l) e
 stream_by turns first rest i w t m m' f served e h0 h streams faults gate n n' n'' j k l nones same long is opened seen heard count fresh b a le c q p1 p2 p3 p4 p5 p6 =

@@ -7,6 +7,6 @@ pub mod Feeds
 pub mod Driven
 pub mod Fed
 pub mod Read
-pub mod Line
+pub mod Queue
 pub mod Laws
 pub mod Told

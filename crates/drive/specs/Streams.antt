@@ -9,7 +9,7 @@ use Rattle.lane_model.specs.Turns.{entries_of, tries_of}
 use Rattle.tcp_lane.specs.Calls.{AreRuled, IsStreamEnd, stream_refusals}
 use Rattle.tcp_lane.specs.Replies.{stream_replies}
 use Rattle.tcp_lane.specs.Stream.{IsStreamRun}
-use Rattle.tcp_lane.specs.Turns.{Line, StreamTurn, closing_if, lane_of, lead_of, no_line, stream_turn}
+use Rattle.tcp_lane.specs.Turns.{StreamTurn, TalkState, closing_if, lane_of, lead_of, no_talk, stream_turn}
 use Rattle.drive.specs.Done.{IsServedLog, StreamLaneTold}
 
 -- The lane for conversations, which is lane w: the turns that it made, as turns of a lane; what streams and gate tell; that whatever the streams told before, if no conversation was open, those that they tell of behind those are a stream run over the history that the lane stands over, in which as many looks are refused as in the turns, and none is open; that the turns follow the rules of conversations, by which each is closed; and why it ended.
@@ -23,7 +23,7 @@ pub record IsStreamDone (turns : ℕ) (first : Version) (rest : List Version) (w
   pub gate : BothTell before.gate after.gate (IsGateRun shown (map lead_of log) served)
   pub runs : (b : StreamsTold) → b.current ≡ None → (talks : List Talk) × ((closing_if closes (fold stream_turn b log)).closed ≡ b.closed ++ talks) × ((closing_if closes (fold stream_turn b log)).current ≡ None)
       × IsStreamRun stream_replies line.over w 0 0 (stream_refusals log) talks (entries_of stream_replies.way (lane_of log)) (tries_of (lane_of log))
-  pub rules : (line : Line) × AreRuled no_line log line × (closes ≡ line.is_open)
+  pub rules : (talk : TalkState) × AreRuled no_talk log talk × (closes ≡ talk.is_open)
   pub ending : IsStreamEnd turns log served
 
 -- it has an end and is done, or it is as before

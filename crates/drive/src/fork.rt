@@ -8,7 +8,7 @@ use std::thread;
 use std::thread::{Promise, Threads};
 
 /// What is done once, with a thread of its own or alone.
-trait Task {
+trait Job {
     type Output;
 
     ghost can_run: { Self → Type 0 };
@@ -24,17 +24,17 @@ trait Task {
 #[derive(Drop)]
 struct Gives<S>(Snapshot<S>);
 
-impl<S: Task<Output = A>, A> Promise<A> for Gives<S> {
+impl<S: Job<Output = A>, A> Promise<A> for Gives<S> {
     ghost kept_by = { λ p r. S.gives p.0.value r };
 }
 
-/// A closure that is lent, and given back when it was called.
+/// A closure that is lent, called with a thread of its own or alone, and given back.
 #[derive(Drop)]
-struct Lent<'a, F> {
+struct There<'a, F> {
     f: &'a mut F,
 }
 
-impl<'a, F: FnMut(bool)> Task for Lent<'a, F> {
+impl<'a, F: FnMut(bool)> Job for There<'a, F> {
     type Output = &'a mut F;
 
     ghost can_run = { λ t. (alone : Bool) → F.pre t.f.now alone };
@@ -42,7 +42,7 @@ impl<'a, F: FnMut(bool)> Task for Lent<'a, F> {
     ghost gives = { λ t r. (alone : Bool) × (r.ghost_name ≡ t.f.ghost_name) × F.step t.f.now alone tt r.now };
 
     fn run(self, alone: bool) -> &'a mut F {
-        let Lent { f } = self;
+        let There { f } = self;
         f(alone);
         f
     }
@@ -54,7 +54,7 @@ struct Here<'a, G> {
     g: &'a mut G,
 }
 
-impl<'a, G: FnMut()> Task for Here<'a, G> {
+impl<'a, G: FnMut()> Job for Here<'a, G> {
     type Output = &'a mut G;
 
     ghost can_run = { λ t. G.pre t.g.now };
@@ -71,8 +71,8 @@ impl<'a, G: FnMut()> Task for Here<'a, G> {
 /// Runs the first in a new thread, or alone ahead of the second, where no thread can be made; and the second in this one.
 fn run_both<
     R: Threads + Wait,
-    S: Task<Output = A> + Send + Drop,
-    T: Task<Output = B> + Drop,
+    S: Job<Output = A> + Send + Drop,
+    T: Job<Output = B> + Drop,
     A: Send + Drop,
     B: Drop,
 >(rt: &R, s: S, t: T) -> (A, B)
@@ -127,7 +127,7 @@ pub(crate) fn join_told<R: Threads + Wait, F: FnMut(bool) + Send, G: FnMut()>(
     ensures first { (alone : Bool) × F.step f.old alone tt f.new }
     ensures second { G.step g.old tt g.new }
 {
-    let (f, g) = run_both(rt, Lent { f }, Here { g });
+    let (f, g) = run_both(rt, There { f }, Here { g });
     take_back(f);
     take_back(g);
 }

@@ -2,7 +2,7 @@
 
 use crate::beside::Feeds;
 use crate::feeders::{Fresh, Sends, Starts};
-use crate::start::Start;
+use crate::start_signal::StartSignal;
 use demand_feed::FeedEnd;
 use feed_queue::{Feeder, Numbers, Taker};
 use map_cell::{Naming, NoteRow};
@@ -51,7 +51,7 @@ impl<J: Naming, S: Source, K: Sink, M: Pace> Feeds<NoteRow<J>, Mapper<J>>
 pub(crate) struct Desk {
     pub topology: Arc<Topology>,
     pub turns: u64,
-    pub start: Start,
+    pub start: StartSignal,
 }
 
 impl Starts for Desk {

@@ -41,11 +41,11 @@ impl<J: Naming, Q: Streams, G: Gate, D: Door> Runs<NoteRow<J>, LaneWorker<J>>
     ghost use Rattle.name_workers.specs.Moments.{eyes_of};
     ghost use Rattle.tcp_lane.specs.Calls.{IsStreamCall};
     ghost use Rattle.tcp_lane.specs.Replies.{stream_replies};
-    ghost use Rattle.tcp_lane.specs.Turns.{no_line};
+    ghost use Rattle.tcp_lane.specs.Turns.{no_talk};
 
     ghost ran = { λ a b v w. (nones : ℕ) × IsStreamCall stream_replies v.worker.number v.turns
-        (record { streams = Q.told a.streams; gate = G.told a.gate; notes = Some (record { coming = range_with_len 0 most_notes; nones = 0 }); eyes = eyes_of D.looks D.greatest D.faults v.worker.viewer a.door; count = v.worker.count; stream_faults = Q.faults a.streams; gate_faults = G.faults a.gate; line = no_line })
-        (record { streams = Q.told b.streams; gate = G.told b.gate; notes = Some (record { coming = range_with_len b.noted (most_notes - b.noted); nones = nones }); eyes = eyes_of D.looks D.greatest D.faults w.worker.viewer b.door; count = w.worker.count; stream_faults = Q.faults b.streams; gate_faults = G.faults b.gate; line = no_line })
+        (record { streams = Q.told a.streams; gate = G.told a.gate; notes = Some (record { coming = range_with_len 0 most_notes; nones = 0 }); eyes = eyes_of D.looks D.greatest D.faults v.worker.viewer a.door; count = v.worker.count; stream_faults = Q.faults a.streams; gate_faults = G.faults a.gate; talk = no_talk })
+        (record { streams = Q.told b.streams; gate = G.told b.gate; notes = Some (record { coming = range_with_len b.noted (most_notes - b.noted); nones = nones }); eyes = eyes_of D.looks D.greatest D.faults w.worker.viewer b.door; count = w.worker.count; stream_faults = Q.faults b.streams; gate_faults = G.faults b.gate; talk = no_talk })
         w.ended × (b.noted ≤ most_notes) × (D.asked b.door ≡ D.asked a.door) };
 
     fn run(&mut self, row: &NoteRow<J>, work: &mut LaneWorker<J>) {

@@ -13,7 +13,7 @@ ghost use Rattle.drive.specs.All.{AllRan};
 ghost use Rattle.drive.specs.Driven.{AreEnds, IsDriven};
 ghost use Rattle.drive.specs.Fed.{AreWorked, IsFedBy};
 ghost use Rattle.drive.specs.Feeds.{AllStand, AnyRose, NoneFell};
-ghost use Rattle.drive.specs.Line.{IsLine};
+ghost use Rattle.drive.specs.Queue.{IsFeedQueue};
 ghost use Rattle.drive.specs.Read.{IsRead};
 ghost use Rattle.drive.specs.Streams.{AreStreamsDone};
 ghost use Rattle.drive.specs.Told.{feed_told, lane_told, lent_of, stream_told};
@@ -22,8 +22,8 @@ use crate::beside::run_beside;
 use crate::feeders::run_among;
 use crate::joins::{close_all, close_more};
 use crate::lane::{Lane, LaneWorker, Workers};
-use crate::line::{Line, all_back, open_line};
 use crate::loan::{Desk, FeedLoan, Loan, TakerLoan};
+use crate::queue::{FeedQueue, all_back, open_queue};
 use crate::stream::StreamLane;
 use crate::threads::can_fork;
 use demand_feed::FeedEnd;
@@ -335,7 +335,7 @@ fn drive_several<
     R: Threads + Wait + Sync,
 >(
     rt: &R,
-    line: Line<N>,
+    queue: FeedQueue<N>,
     mapper: Mapper<J>,
     prepared: Prepared<J>,
     feed: &mut S,
@@ -347,13 +347,13 @@ fn drive_several<
     pace: &mut M,
 ) -> DriveEnd
     requires serial { mapper.newest.serial ≡ 0 }
-    requires line { IsLine N.groups N.nodes (length more.old) mapper.newest.plan line }
-    requires turns { line.desk.turns ≤ MOST_TURNS }
-    requires fresh { AllHeld (λ i w. (w.worker.number ≡ i) × (w.worker.count ≡ 0) × (w.worker.viewer.seen ≡ mapper.history) × (w.worker.viewer.heard ≡ mapper.history) × (w.turns ≡ line.desk.turns)) 0 prepared.works.lanes.items }
-    requires listener { IfSome prepared.works.stream (λ w. (w.worker.number ≡ vec_len prepared.works.lanes) × (w.worker.count ≡ 0) × (w.worker.viewer.seen ≡ mapper.history) × (w.worker.viewer.heard ≡ mapper.history) × (w.turns ≡ line.desk.turns)) }
+    requires queue { IsFeedQueue N.groups N.nodes (length more.old) mapper.newest.plan queue }
+    requires turns { queue.desk.turns ≤ MOST_TURNS }
+    requires fresh { AllHeld (λ i w. (w.worker.number ≡ i) × (w.worker.count ≡ 0) × (w.worker.viewer.seen ≡ mapper.history) × (w.worker.viewer.heard ≡ mapper.history) × (w.turns ≡ queue.desk.turns)) 0 prepared.works.lanes.items }
+    requires listener { IfSome prepared.works.stream (λ w. (w.worker.number ≡ vec_len prepared.works.lanes) × (w.worker.count ≡ 0) × (w.worker.viewer.seen ≡ mapper.history) × (w.worker.viewer.heard ≡ mapper.history) × (w.turns ≡ queue.desk.turns)) }
     requires few { (vec_len prepared.works.lanes ≤ 16) × (vec_len prepared.works.lanes ≤ length lanes.old) }
     requires several { more.old ≢ [] }
-    ensures driven { (ends : List Ended) × (length ends ≡ vec_len prepared.works.lanes) × AreEnds ends result.lanes × IsDriven line.desk.turns mapper.newest result.feed ends result.stream
+    ensures driven { (ends : List Ended) × (length ends ≡ vec_len prepared.works.lanes) × AreEnds ends result.lanes × IsDriven queue.desk.turns mapper.newest result.feed ends result.stream
         (lent_of S.told (feed_told T.told T.faults) K.told M.told (lane_told P.told P.faults G.told D.asked D.looks D.greatest D.faults) (stream_told Q.told Q.faults G.told D.asked D.looks D.greatest D.faults) feed.old more.old out.old maps.old pace.old lanes.old stream.old)
         (lent_of S.told (feed_told T.told T.faults) K.told M.told (lane_told P.told P.faults G.told D.asked D.looks D.greatest D.faults) (stream_told Q.told Q.faults G.told D.asked D.looks D.greatest D.faults) feed.new more.new out.new maps.new pace.new lanes.new stream.new) }
     ensures untouched { drop (vec_len prepared.works.lanes) lanes.new ≡ drop (vec_len prepared.works.lanes) lanes.old }
@@ -369,12 +369,12 @@ fn drive_several<
     let _ = mapper.newest();
     let Prepared { row, works } = prepared;
     let mut works = works;
-    let Line {
+    let FeedQueue {
         desk,
         first,
         feeders,
         taker,
-    } = line;
+    } = queue;
     let mut first = first;
     let mut feeders = feeders;
     let mut taker = taker;
@@ -459,12 +459,12 @@ fn drive_with<
     ensures source_stays { IfOk result (λ r. r.feed ≢ FeedEnd.SourceFault → r.feed ≢ FeedEnd.SinkFault → (S.faults feed.new ≡ S.faults feed.old) × AllStand (map (feed_told T.told T.faults) more.old) (map (feed_told T.told T.faults) more.new)) }
 {
     let count = more.len() as u8;
-    let Ok(line) = open_line::<N>(alloc, mapper.topology(), count, turns) else {
+    let Ok(queue) = open_queue::<N>(alloc, mapper.topology(), count, turns) else {
         mapper.close(rt);
         return Err(NoMemory);
     };
     Ok(drive_several(
-        rt, line, mapper, prepared, feed, more, out, maps, lanes, stream, pace,
+        rt, queue, mapper, prepared, feed, more, out, maps, lanes, stream, pace,
     ))
 }
 

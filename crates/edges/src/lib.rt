@@ -39,6 +39,3 @@ pub use stop_flag::{FlagGate, FlagPace, StopFlag};
 pub use stream_sink::StreamSink;
 pub use stream_source::StreamSource;
 pub use udp_port::{SharedUdp, UdpPort};
-
-#[cfg(test)]
-mod tests;

@@ -39,14 +39,14 @@ impl<N: Numbers> Model for Feeder<N> {
 
     ghost Value = { FeederState };
 
-    ghost view = { λ f. record { queue = (arc_value f.queue).line.table.shared.table_id; feeder = f.number; sent = (hand_of f.pass).sent } };
+    ghost view = { λ f. record { queue = (arc_value f.queue).items.table.shared.table_id; feeder = f.number; sent = (hand_of f.pass).sent } };
 
-    ghost invariant = { λ f. IsPassOf (arc_value f.queue).line f.pass × ((hand_of f.pass).feeds ≡ true) × ((hand_of f.pass).feeder ≡ f.number) × MaySend N.groups N.nodes (hand_of f.pass).sent × (length (hand_of f.pass).sent < 2 ^ 64 → f.count ≡ length (hand_of f.pass).sent) × (f.batch_count ≡ batches (hand_of f.pass).sent) };
+    ghost invariant = { λ f. IsPassOf (arc_value f.queue).items f.pass × ((hand_of f.pass).feeds ≡ true) × ((hand_of f.pass).feeder ≡ f.number) × MaySend N.groups N.nodes (hand_of f.pass).sent × (length (hand_of f.pass).sent < 2 ^ 64 → f.count ≡ length (hand_of f.pass).sent) × (f.batch_count ≡ batches (hand_of f.pass).sent) };
 }
 
 /// Sends an item by a pass. It waits for as long as the queue is full.
 fn send_by<N: Numbers, R: Wait>(rt: &R, ring: &Ring<N>, pass: &mut Seat, number: u8, item: Item)
-    requires pass { IsPassOf ring.now.line pass.old × ((view pass.old).feeds ≡ true) }
+    requires pass { IsPassOf ring.now.items pass.old × ((view pass.old).feeds ≡ true) }
     requires feeder { item.feeder ≡ (view pass.old).feeder }
     requires number { item.number ≡ length (view pass.old).sent }
     requires fits { Fits N.groups N.nodes item.what }
@@ -57,7 +57,7 @@ fn send_by<N: Numbers, R: Wait>(rt: &R, ring: &Ring<N>, pass: &mut Seat, number:
     let mut rest = item;
     let mut tries: u32 = 0;
     for _ in rt.forever() {
-        match ring.line.push_as::<Sends, R>(rt, pass, rest) {
+        match ring.items.push_as::<Sends, R>(rt, pass, rest) {
             Ok(()) => {
                 ring.taker.unpark();
                 return;

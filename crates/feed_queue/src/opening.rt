@@ -5,7 +5,7 @@ ghost use Rattle.feed_queue.specs.Ends.{fresh_feeder};
 
 use crate::feeder::Feeder;
 use crate::ring::Ring;
-use crate::rule::{Joins, Line, Numbers};
+use crate::rule::{ItemQueue, Joins, Numbers};
 use crate::taker::Taker;
 use no_memory::NoMemory;
 use std::alloc::Global;
@@ -22,9 +22,9 @@ pub const MOST_FEEDERS: u8 = 4;
 fn start<N: Numbers>(alloc: Global) -> Result<Taker<N>, NoMemory>
     ensures { IfOk result (λ t. (t.feeders ≡ 0) × (t.taken ≡ [])) }
 {
-    let (line, pass) = Line::<N>::ruled(alloc, PLACES)?;
+    let (items, pass) = ItemQueue::<N>::ruled(alloc, PLACES)?;
     let ring = Ring {
-        line,
+        items,
         taker: Parker::new(),
         feeders: [Parker::new(), Parker::new(), Parker::new(), Parker::new()],
     };
@@ -45,7 +45,7 @@ fn admit<N: Numbers>(alloc: Global, taker: &mut Taker<N>) -> Result<Feeder<N>, N
     ensures taker { OnOk result (taker.new ≡ record taker.old { feeders = taker.old.feeders + 1 }) }
 {
     let queue = Arc::try_clone(&taker.queue)?;
-    let pass = queue.line.another::<Joins>(&mut taker.pass);
+    let pass = queue.items.another::<Joins>(&mut taker.pass);
     let number = taker.feeders;
     taker.feeders += 1;
     Ok(Feeder {

@@ -1,7 +1,7 @@
 //! What both ends of a queue share, and how they wait for one another.
 ghost use Rattle.std.specs.Prelude.{◌≡◌, if◌then◌else◌};
 
-use crate::rule::{Line, Numbers};
+use crate::rule::{ItemQueue, Numbers};
 use std::sync::Wait;
 use std::thread;
 use std::thread::Parker;
@@ -16,7 +16,7 @@ const LONGEST_SLEEP: u64 = 1;
 /// The queue, and where threads sleep that wait for it.
 #[derive(Drop)]
 pub(crate) struct Ring<N: Numbers> {
-    pub line: Line<N>,
+    pub items: ItemQueue<N>,
     /// Who takes sleeps here while the queue is empty.
     pub taker: Parker,
     /// Each feeder sleeps at the place of its number while the queue is full.

@@ -96,6 +96,6 @@ impl Lesson<Item, Hand> for Compares {
     ghost fact = { Accounts };
 }
 
-pub(crate) type Line<N> = RuledArrayQueue<Item, Hand, Law<N>>;
+pub(crate) type ItemQueue<N> = RuledArrayQueue<Item, Hand, Law<N>>;
 
 pub(crate) type Seat = Pass<Item, Hand>;

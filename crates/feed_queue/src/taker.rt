@@ -5,7 +5,7 @@ ghost use Rattle.feed_queue.specs.Items.{AreTaken, Fits, sent_by};
 
 use crate::feeder::Feeder;
 use crate::ring::Ring;
-use crate::rule::{Compares, Leaves, Line, Numbers, Seat, Takes};
+use crate::rule::{Compares, ItemQueue, Leaves, Numbers, Seat, Takes};
 use demand_feed::Item;
 use std::marker::Model;
 use std::sync::{Arc, Wait};
@@ -29,9 +29,9 @@ impl<N: Numbers> Model for Taker<N> {
 
     ghost Value = { TakerState };
 
-    ghost view = { λ t. record { queue = (arc_value t.queue).line.table.shared.table_id; feeders = t.feeders; taken = (hand_of t.pass).got } };
+    ghost view = { λ t. record { queue = (arc_value t.queue).items.table.shared.table_id; feeders = t.feeders; taken = (hand_of t.pass).got } };
 
-    ghost invariant = { λ t. IsPassOf (arc_value t.queue).line t.pass × ((hand_of t.pass).takes ≡ true) × ((hand_of t.pass).feeders ≡ t.feeders) × AreTaken N.groups N.nodes t.feeders (hand_of t.pass).got };
+    ghost invariant = { λ t. IsPassOf (arc_value t.queue).items t.pass × ((hand_of t.pass).takes ≡ true) × ((hand_of t.pass).feeders ≡ t.feeders) × AreTaken N.groups N.nodes t.feeders (hand_of t.pass).got };
 }
 
 impl<N: Numbers> Taker<N> {
@@ -51,7 +51,7 @@ impl<N: Numbers> Taker<N> {
         ensures fits { IfSome result (λ x. Fits N.groups N.nodes x.what × (x.feeder < self.old.feeders)) }
     {
         let ring: &Ring<N> = &self.queue;
-        let taken = ring.line.pop_as::<Takes<N>, R>(rt, &mut self.pass);
+        let taken = ring.items.pop_as::<Takes<N>, R>(rt, &mut self.pass);
         let tries = ring.wake_behind(taken.is_some(), self.tries);
         self.tries = tries;
         taken
@@ -80,8 +80,8 @@ impl<N: Numbers> Taker<N> {
             batch_count: _,
             alloc: _,
         } = feeder;
-        let line: &Line<N> = &self.queue.line;
-        line.absorb::<Leaves>(&mut self.pass, pass);
-        line.learn_as::<Compares>(&mut self.pass);
+        let items: &ItemQueue<N> = &self.queue.items;
+        items.absorb::<Leaves>(&mut self.pass, pass);
+        items.learn_as::<Compares>(&mut self.pass);
     }
 }

@@ -15,7 +15,7 @@ use Rattle.feed_queue.specs.Items.{sent_by}
 use Rattle.feed_queue.specs.Whole.{EndsLast, is_end}
 use Rattle.feed_queue.proofs.Wholes.{runs_end_last}
 use Rattle.mapper.specs.Control.{Course}
-use Rattle.mapper.specs.Feeds.{AllWorked, first_end, has_one, is_spent, is_source_fault, is_no_memory}
+use Rattle.mapper.specs.Feeds.{AllWorked, first_end, has_one, is_spent_end, is_source_fault, is_no_memory}
 use Rattle.mapper.specs.Feeding.{IsFeed}
 use Rattle.mapper.specs.Items.{AllWork, WorksAs}
 use Rattle.mapper.specs.Scenes.{Scene}
@@ -68,7 +68,7 @@ last_is test (w ∷ v ∷ ahead) last ends h some = last_is test (v ∷ ahead) l
     behind true is e = let end = ends w is in let other = h.0 in absurd (cc)
     behind false is e = e
 
-spent_ends : (w : What) → is_spent w ≡ true → is_end w ≡ true
+spent_ends : (w : What) → is_spent_end w ≡ true → is_end w ≡ true
 spent_ends (what.End end) h = refl
 spent_ends (what.Commit changes) h = absurd (cc)
 spent_ends what.Empty h = absurd (cc)
@@ -78,7 +78,7 @@ spent_ends (what.Ask addr octets) h = absurd (cc)
 spent_ends what.Show h = absurd (cc)
 spent_ends (what.Refused number why) h = absurd (cc)
 
-is_that : (end : FeedEnd) → is_spent (what.End end) ≡ true → end ≡ ends.Spent
+is_that : (end : FeedEnd) → is_spent_end (what.End end) ≡ true → end ≡ ends.Spent
 is_that ends.Spent h = refl
 is_that ends.Ended h = absurd (cc)
 is_that ends.SourceFault h = absurd (cc)
@@ -86,13 +86,13 @@ is_that ends.SinkFault h = absurd (cc)
 is_that ends.NoMemory h = absurd (cc)
 
 -- a feed whose feeder sent that its turns were taken gave as many pieces
-spent_given : (t : Plan) (turns : ℕ) (fed fed' : Option Fed) (sent : List What) → HasSent t turns fed fed' sent → list_any is_spent sent ≡ true → HasGiven turns fed fed'
+spent_given : (t : Plan) (turns : ℕ) (fed fed' : Option Fed) (sent : List What) → HasSent t turns fed fed' sent → list_any is_spent_end sent ≡ true → HasGiven turns fed fed'
 spent_given t turns fed fed' sent h some = go (unfold HasSent in h)
   where
     go : ((end : FeedEnd) × IsSentOf t turns end fed fed' sent) ⊎ ((sent ≡ what.End ends.NoMemory ∷ []) × (fed' ≡ fed)) → HasGiven turns fed fed'
     go (inl (end, s)) =
         let last : EndsLast (s.whats ++ what.End end ∷ []) = subst EndsLast s.sent_is (runs_end_last t turns fed fed' sent h) in
-        let is : end ≡ ends.Spent = is_that end (last_is is_spent s.whats (what.End end) spent_ends last (subst (λ (ws : List What). list_any is_spent ws ≡ true) s.sent_is some)) in
+        let is : end ≡ ends.Spent = is_that end (last_is is_spent_end s.whats (what.End end) spent_ends last (subst (λ (ws : List What). list_any is_spent_end ws ≡ true) s.sent_is some)) in
         given end is s
       where
         given : (e : FeedEnd) → e ≡ ends.Spent → IsSentOf t turns e fed fed' sent → HasGiven turns fed fed'
@@ -101,7 +101,7 @@ spent_given t turns fed fed' sent h some = go (unfold HasSent in h)
         given ends.SourceFault is r = absurd (cc)
         given ends.SinkFault is r = absurd (cc)
         given ends.NoMemory is r = absurd (cc)
-    go (inr (is, same)) = let some' : list_any is_spent (what.End ends.NoMemory ∷ []) ≡ true = subst (λ (ws : List What). list_any is_spent ws ≡ true) is some in absurd (cc)
+    go (inr (is, same)) = let some' : list_any is_spent_end (what.End ends.NoMemory ∷ []) ≡ true = subst (λ (ws : List What). list_any is_spent_end ws ≡ true) is some in absurd (cc)
 
 -- one of these feeds gave as many pieces as there are turns
 abbrev AnyGave : ℕ → List (Option Fed) → List (Option Fed) → Type 0
@@ -109,15 +109,15 @@ AnyGave turns [] after = ⊥
 AnyGave turns (b ∷ before) (c ∷ after) = HasGiven turns b c ⊎ AnyGave turns before after
 AnyGave turns (b ∷ before) [] = ⊥
 
-any_gave : (t : Plan) (turns n k : ℕ) (sent : ℕ → List What) (before after : List (Option Fed)) → AreSent t turns n sent before after → k < length before → list_any is_spent (sent (n + k)) ≡ true → AnyGave turns before after
+any_gave : (t : Plan) (turns n k : ℕ) (sent : ℕ → List What) (before after : List (Option Fed)) → AreSent t turns n sent before after → k < length before → list_any is_spent_end (sent (n + k)) ≡ true → AnyGave turns before after
 any_gave t turns n k sent [] after h lt some = absurd (omega (arith, lt))
-any_gave t turns n zero sent (b ∷ before) (c ∷ after) h lt some = inl (spent_given t turns b c (sent n) h.0 (subst (λ (i : ℕ). list_any is_spent (sent i) ≡ true) (omega arith) some))
-any_gave t turns n (suc k) sent (b ∷ before) (c ∷ after) h lt some = inr (any_gave t turns (n + 1) k sent before after h.1 (omega (arith, lt)) (subst (λ (i : ℕ). list_any is_spent (sent i) ≡ true) (omega arith) some))
+any_gave t turns n zero sent (b ∷ before) (c ∷ after) h lt some = inl (spent_given t turns b c (sent n) h.0 (subst (λ (i : ℕ). list_any is_spent_end (sent i) ≡ true) (omega arith) some))
+any_gave t turns n (suc k) sent (b ∷ before) (c ∷ after) h lt some = inr (any_gave t turns (n + 1) k sent before after h.1 (omega (arith, lt)) (subst (λ (i : ℕ). list_any is_spent_end (sent i) ≡ true) (omega arith) some))
 any_gave t turns n k sent (b ∷ before) [] h lt some = absurd h
 
 -- the first end is that of turns only where one of them is
-first_spent : (items : List Item) → ends.Spent ≡ first_end items → has_one is_spent items ≡ true
-first_spent items h = go (has_one is_source_fault items) (has_one is_spent items) (has_one is_no_memory items) h
+first_spent : (items : List Item) → ends.Spent ≡ first_end items → has_one is_spent_end items ≡ true
+first_spent items h = go (has_one is_source_fault items) (has_one is_spent_end items) (has_one is_no_memory items) h
   where
     go : (a b c : Bool) → ends.Spent ≡ (if a then ends.SourceFault else if b then ends.Spent else if c then ends.NoMemory else ends.Ended) → b ≡ true
     go true b c h = absurd (cc)
@@ -137,13 +137,13 @@ together_gave t turns end fed fed' more after start stop is f = go (elim f.run.e
   where
     go : ends.Spent ≡ first_end f.items → AnyGave turns (feeds_of fed more) (feeds_of fed' after)
     go h =
-        let one = one_sent is_spent f.items (first_spent f.items h) in
+        let one = one_sent is_spent_end f.items (first_spent f.items h) in
         by_number one.0 one.1
       where
-        by_number : (k : ℕ) → list_any is_spent (sent_by k f.items) ≡ true → AnyGave turns (feeds_of fed more) (feeds_of fed' after)
+        by_number : (k : ℕ) → list_any is_spent_end (sent_by k f.items) ≡ true → AnyGave turns (feeds_of fed more) (feeds_of fed' after)
         by_number k some = elim (among k (length (feeds_of fed more))) [
-          | inl lt ↦ any_gave t turns 0 k f.sent (feeds_of fed more) (feeds_of fed' after) f.feeds lt (subst (λ (i : ℕ). list_any is_spent (f.sent i) ≡ true) (omega arith) (subst (λ (ws : List What). list_any is_spent ws ≡ true) (f.whole k lt) some))
-          | inr ge ↦ let none : list_any is_spent [] ≡ true = subst (λ (ws : List What). list_any is_spent ws ≡ true) (f.others k ge) some in absurd (cc)
+          | inl lt ↦ any_gave t turns 0 k f.sent (feeds_of fed more) (feeds_of fed' after) f.feeds lt (subst (λ (i : ℕ). list_any is_spent_end (f.sent i) ≡ true) (omega arith) (subst (λ (ws : List What). list_any is_spent_end ws ≡ true) (f.whole k lt) some))
+          | inr ge ↦ let none : list_any is_spent_end [] ≡ true = subst (λ (ws : List What). list_any is_spent_end ws ≡ true) (f.others k ge) some in absurd (cc)
         ]
 
 any_of : (turns : ℕ) (before after : List FeedTold) → AnyGave turns (map (λ (x : FeedTold). x.fed) before) (map (λ (x : FeedTold). x.fed) after) → AnyFeed (length before) (HasGivenMore turns) before after

@@ -20,7 +20,7 @@ use Rattle.addr_text.specs.declared.address.Listen.{Listen}
 use Rattle.tcp_lane.specs.Replies.{stream_replies}
 use Rattle.tcp_lane.specs.Calls.{stream_refusals}
 use Rattle.tcp_lane.specs.Stream.{IsStreamRun}
-use Rattle.tcp_lane.specs.Turns.{lane_of, no_line}
+use Rattle.tcp_lane.specs.Turns.{lane_of, no_talk}
 use Rattle.tcp_lane.proofs.Ends.{none_refused}
 use Rattle.std.proofs.lemmas.List.Folds.{list_any-append}
 use Rattle.std.specs.Option.{option_to_list}
@@ -111,7 +111,7 @@ stream_well_done : (turns : ℕ) (first : Version) (rest : List Version) (w : �
 stream_well_done turns first rest w b c e d well =
     let newest = over_newest stream_replies first rest w (lane_of d.log) d.served e d.shown b c d.line well in
     let served = subst (λ (x : Ended). (x ≡ lane.Stopped) ⊎ (x ≡ lane.PortEnd)) newest.ended_is well in
-    let none : stream_refusals d.log ≡ 0 = none_refused turns d.log no_line d.rules.0 d.served d.rules.1 d.ending (not_blind d.served served) in
+    let none : stream_refusals d.log ≡ 0 = none_refused turns d.log no_talk d.rules.0 d.served d.rules.1 d.ending (not_blind d.served served) in
     record {
       log = d.log;
       closes = d.closes;

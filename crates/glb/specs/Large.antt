@@ -1,7 +1,7 @@
 -- What is due to `large`.
 use Rattle.std.specs.Prelude.{◌≡◌, ◌⊎◌, ℕ}
 use Rattle.outside.specs.Faults.{BothTell}
-use Rattle.big_run.specs.Runs.{IsRun}
+use Rattle.big_run.specs.Runs.{IsWorldRun}
 use Rattle.big_run.specs.Summary.{lines_of}
 use Rattle.big_run.specs.declared.summary.Summary.{Summary}
 use Rattle.mapper.specs.Scenes.{IsPrinted}
@@ -12,7 +12,7 @@ use Rattle.glb.specs.Told.{IsOutAlone, Surroundings}
 
 -- what is due to `large`: the summary of a run over the world of so many groups, in lines
 abbrev pub IsLargeDue : ℕ → Outcome → Type 0
-IsLargeDue n due = (s : Summary) × IsRun n s × (due ≡ record { status = status.Ok; pieces = lines_of s })
+IsLargeDue n due = (s : Summary) × IsWorldRun n s × (due ≡ record { status = status.Ok; pieces = lines_of s })
 
 -- a run of `large`: it ends with status 0, where the output failed, or where memory was wanting, and nothing but the output is touched
 pub record IsLargeRun (n : ℕ) (before after : Surroundings) (result : Status) : Type 0 where
@@ -23,4 +23,4 @@ pub record IsLargeRun (n : ℕ) (before after : Surroundings) (result : Status) 
 
 -- what status 0 of `large` says: the output got the summary of a run, line by line
 abbrev pub IsSummedRun : ℕ → Surroundings → Surroundings → Type 0
-IsSummedRun n before after = (s : Summary) × IsRun n s × BothTell before.stage.lent.out after.stage.lent.out (IsPrinted (lines_of s))
+IsSummedRun n before after = (s : Summary) × IsWorldRun n s × BothTell before.stage.lent.out after.stage.lent.out (IsPrinted (lines_of s))

@@ -3,7 +3,7 @@ use Rattle.std.specs.Prelude.{◌≡◌, ◌≢◌, ℕ, ◌<◌, ◌≤◌, ◌
 use Rattle.outside.specs.Faults.{BothTell, Rose}
 use Rattle.outside.specs.Shelf.{Load, Shelved}
 use Rattle.outside.specs.Sink.{Written}
-use Rattle.mapper.specs.Scenes.{IsCut, IsPrinted}
+use Rattle.mapper.specs.Scenes.{IsCutBehind, IsPrinted}
 use Rattle.glb.specs.declared.status.Status.{Status}
 use Rattle.glb.specs.declared.status.Status.TheVariants.{Ok, Usage, Refused, SourceFault, SinkFault, PortFault, Spent, NotGood, NoMemory, CellFault}
 
@@ -54,7 +54,7 @@ pub record Faults : Type 0 where
 
 -- the pieces before that number were put, and then the put of the next failed, of which a beginning was written
 abbrev pub IsPrintedInPart : List (List ℕ) → Written → Written → Type 0
-IsPrintedInPart pieces before after = (number : ℕ) × (number < length pieces) × IsCut (take number pieces) (slice_index_or pieces number []) before after
+IsPrintedInPart pieces before after = (number : ℕ) × (number < length pieces) × IsCutBehind (take number pieces) (slice_index_or pieces number []) before after
 
 -- the outcome that is due was answered, and all of its pieces were put
 pub record IsWhole (Due : Outcome → Type 0) (before after : Option Written) (result : Status) : Type 0 where

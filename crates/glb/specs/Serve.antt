@@ -15,7 +15,7 @@ use Rattle.lane_model.specs.declared.ended.Ended.{Ended}
 use Rattle.lane_model.specs.declared.ended.Ended.TheVariants as lane
 use Rattle.demand_feed.specs.declared.run.FeedEnd.{FeedEnd}
 use Rattle.demand_feed.specs.declared.run.FeedEnd.TheVariants as feed
-use Rattle.mapper.specs.Scenes.{IsCut, IsPrinted}
+use Rattle.mapper.specs.Scenes.{IsCutBehind, IsPrinted}
 use Rattle.mapper.specs.Words.{map_text}
 use Rattle.mapper.specs.Mappers.{IsFirst, IsFromScratch}
 use Rattle.drive.specs.Done.{LaneTold, StreamLaneTold}
@@ -170,7 +170,7 @@ pub record IsUnput (ask : Service) (first : Version) (before after : Stage) (res
   pub opened : AreOpened ask.listen (all_ready ask.workers) before.lent.lanes after.lent.lanes
   pub stream : IsStreamReady ask.tcp before.lent.stream after.lent.stream
   pub named : AreNamed ask.more (all_ready (length ask.more)) (named_of before) (named_of after)
-  pub cut : BothTell before.lent.maps after.lent.maps (IsCut [] (map_text first))
+  pub cut : BothTell before.lent.maps after.lent.maps (IsCutBehind [] (map_text first))
   pub rose : Rose before.maps_faults after.maps_faults
   pub lent : after.lent ≡ record before.lent { lanes = after.lent.lanes; stream = after.lent.stream; more = after.lent.more; maps = after.lent.maps }
   pub rest : after ≡ record before { lent = after.lent; opens = after.opens; maps_faults = after.maps_faults }

@@ -23,7 +23,7 @@ use Rattle.outside.specs.Streams.{StreamsTold, Talk}
 use Rattle.tcp_lane.specs.Calls.{AreRuled, IsStreamEnd}
 use Rattle.tcp_lane.specs.Replies.{stream_replies}
 use Rattle.tcp_lane.specs.Stream.{IsStreamRun}
-use Rattle.tcp_lane.specs.Turns.{Line, StreamTurn, closing_if, lane_of, lead_of, no_line, stream_turn}
+use Rattle.tcp_lane.specs.Turns.{StreamTurn, TalkState, closing_if, lane_of, lead_of, no_talk, stream_turn}
 use Rattle.glb.specs.Told.{Stage, Surroundings}
 use Rattle.glb.specs.Files.{Says, topology_file}
 use Rattle.glb.specs.Serve.{IsFirstOf, IsPlaced, IsStarted}
@@ -59,7 +59,7 @@ pub record IsStreamWellDone (turns : ℕ) (history : List Version) (w : ℕ) (be
   pub shown : ℕ
   pub runs : (b : StreamsTold) → b.current ≡ None
       → (talks : List Talk) × ((closing_if closes (fold stream_turn b log)).closed ≡ b.closed ++ talks) × ((closing_if closes (fold stream_turn b log)).current ≡ None) × IsStreamRun stream_replies history w 0 0 0 talks (entries_of stream_replies.way (lane_of log)) (tries_of (lane_of log))
-  pub rules : (line : Line) × AreRuled no_line log line × (closes ≡ line.is_open)
+  pub rules : (talk : TalkState) × AreRuled no_talk log talk × (closes ≡ talk.is_open)
   pub told : IsTold 0 (lane_of log)
   pub notes : flat_map (λ t. t.notes) (lane_of log) ≡ range_with_len 0 after.noted
   pub noted : after.noted ≤ length history

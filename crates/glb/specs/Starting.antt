@@ -11,7 +11,7 @@ use Rattle.outside.specs.Faults.{BothTell, Rose}
 use Rattle.outside.specs.Sink.{Written}
 use Rattle.outside.specs.declared.port.Opening.{Opening}
 use Rattle.outside.specs.declared.port.Opening.TheVariants as opening
-use Rattle.mapper.specs.Scenes.{IsCut, IsPrinted}
+use Rattle.mapper.specs.Scenes.{IsCutBehind, IsPrinted}
 use Rattle.drive.specs.Done.{LaneTold, StreamLaneTold}
 use Rattle.glb.specs.Words.{Service}
 use Rattle.glb.specs.declared.starting.Start.{Start}
@@ -48,7 +48,7 @@ IsStart ask text start.NoFeed before after =
     AreOpened ask.listen (all_ready ask.workers) before.lanes after.lanes × IsStreamReady ask.tcp before.stream after.stream × ((k : ℕ) × (k < length ask.more) × AreNamed ask.more (then_failed k) before.named after.named)
     × (after.maps ≡ before.maps) × (after.maps_faults ≡ before.maps_faults)
 IsStart ask text start.NoSink before after =
-    AreOpened ask.listen (all_ready ask.workers) before.lanes after.lanes × IsStreamReady ask.tcp before.stream after.stream × AreNamed ask.more (all_ready (length ask.more)) before.named after.named × BothTell before.maps after.maps (IsCut [] text) × Rose before.maps_faults after.maps_faults
+    AreOpened ask.listen (all_ready ask.workers) before.lanes after.lanes × IsStreamReady ask.tcp before.stream after.stream × AreNamed ask.more (all_ready (length ask.more)) before.named after.named × BothTell before.maps after.maps (IsCutBehind [] text) × Rose before.maps_faults after.maps_faults
 
 -- the further feeds were opened under these names, or those up to one that failed
 abbrev pub HasNamed : List (List ℕ) → Opening → Named → Named → Type 0

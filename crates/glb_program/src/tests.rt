@@ -15,7 +15,7 @@ use std::test::Fail;
 use std::thread::{self, join_mut};
 use std::time::Duration;
 use trial_runs::Held::{Missing, Topology};
-use trial_runs::{Lent, QUERY, REGION, feeds_of, run, shelf, words_of};
+use trial_runs::{AllLent, QUERY, REGION, feeds_of, run, shelf, words_of};
 
 /// What the client gets: the header of an answer, the question, and one address of the first group's pool.
 const REPLY: &[u8] = &[
@@ -144,11 +144,11 @@ fn lent_of<P: Port + Drop, Q: Streams + Drop, G: Gate + Drop, M: Pace + Drop>(
     lanes: Vec<Lane<P, G, PlainDoor>>,
     stream: StreamLane<Q, G, PlainDoor>,
     pace: M,
-) -> Result<Lent<P, Q, G, PlainDoor, M>, NoMemory>
+) -> Result<AllLent<P, Q, G, PlainDoor, M>, NoMemory>
     requires { vec_len lanes ≡ MOST_VIEWERS }
     ensures { IfOk result (λ s. (vec_len s.lanes ≡ MOST_VIEWERS) × (vec_len s.more ≡ 3)) }
 {
-    Ok(Lent {
+    Ok(AllLent {
         words: words_of(alloc, WORDS)?,
         files: shelf(alloc, Topology(REGION), Missing)?,
         feed: MemSource::new(alloc, Vec::new(alloc), Vec::new(alloc), Vec::new(alloc))?,

@@ -5,7 +5,7 @@ use Rattle.map_model.specs.Batch.{IsApplied}
 use Rattle.published_map.specs.Version.{IsVersion, Version}
 
 -- the version to which changes lead: the next serial, the numbers as the changes say, and a good map
-pub record IsNext (old : Version) (changes : List Change) (new : Version) : Type 0 where
+pub record IsLedTo (old : Version) (changes : List Change) (new : Version) : Type 0 where
   pub serial : new.serial ≡ old.serial + 1
   pub plan : new.plan ≡ old.plan
   pub applied : IsApplied old.market changes new.market
@@ -13,4 +13,4 @@ pub record IsNext (old : Version) (changes : List Change) (new : Version) : Type
 
 -- a version may follow on a history: some changes lead to it from the last one
 abbrev pub Follows : List Version → Version → Type 0
-Follows h v = (old : Version) × (changes : List Change) × (slice_get h (length h - 1) ≡ Some old) × IsNext old changes v
+Follows h v = (old : Version) × (changes : List Change) × (slice_get h (length h - 1) ≡ Some old) × IsLedTo old changes v

@@ -8,7 +8,7 @@ use Rattle.outside.specs.Sink.{IsPut, Written}
 use Rattle.outside.specs.declared.pace.PaceCall.{PaceCall}
 use Rattle.outside.specs.declared.sink.Put.TheVariants as put
 use Rattle.demand_feed.proofs.Tellings.{concat_end, one_more, tell_trans}
-use Rattle.mapper.specs.Scenes.{IsCut, IsPrinted}
+use Rattle.mapper.specs.Scenes.{IsCutBehind, IsPrinted}
 
 pub paced_trans : (xs ys : List PaceCall) (a b c : Option (List PaceCall)) → IsPaced xs a b → IsPaced ys b c → IsPaced (xs ++ ys) a c
 paced_trans xs ys a b None r s = tt
@@ -32,8 +32,8 @@ printed_more ps p a b c r s = tell_trans a b c (IsPrinted ps) (IsPut put.Done p)
     })
 
 -- the put of one more failed
-pub printed_cut : (ps : List (List ℕ)) (p : List ℕ) (a b c : Option Written) → BothTell a b (IsPrinted ps) → BothTell b c (IsPut put.Failed p) → BothTell a c (IsCut ps p)
-printed_cut ps p a b c r s = tell_trans a b c (IsPrinted ps) (IsPut put.Failed p) (IsCut ps p) r s
+pub printed_cut : (ps : List (List ℕ)) (p : List ℕ) (a b c : Option Written) → BothTell a b (IsPrinted ps) → BothTell b c (IsPut put.Failed p) → BothTell a c (IsCutBehind ps p)
+printed_cut ps p a b c r s = tell_trans a b c (IsPrinted ps) (IsPut put.Failed p) (IsCutBehind ps p) r s
     (λ x y z r s. record {
       k = s.bytes.0;
       bytes = s.bytes.1 ∙ ap (λ xs. xs ++ take s.bytes.0 p) r.bytes;

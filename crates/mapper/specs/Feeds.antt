@@ -23,9 +23,9 @@ abbrev pub is_source_fault : What → Bool
 is_source_fault (what.End ends.SourceFault) = true
 is_source_fault _ = false
 
-abbrev pub is_spent : What → Bool
-is_spent (what.End ends.Spent) = true
-is_spent _ = false
+abbrev pub is_spent_end : What → Bool
+is_spent_end (what.End ends.Spent) = true
+is_spent_end _ = false
 
 abbrev pub is_no_memory : What → Bool
 is_no_memory (what.End ends.NoMemory) = true
@@ -38,7 +38,7 @@ has_one test items = list_any (λ (x : Item). test x.what) items
 abbrev pub first_end : List Item → FeedEnd
 first_end items =
     if has_one is_source_fault items then ends.SourceFault
-    else if has_one is_spent items then ends.Spent
+    else if has_one is_spent_end items then ends.Spent
     else if has_one is_no_memory items then ends.NoMemory
     else ends.Ended
 

@@ -5,7 +5,7 @@ use Rattle.demand_feed.specs.declared.sent.What.{What}
 use Rattle.demand_feed.specs.declared.sent.What.TheVariants as what
 use Rattle.feed_queue.specs.Whole.{ends_in}
 use Rattle.published_map.specs.Version.{Version}
-use Rattle.mapper.specs.Feeds.{has_one, is_no_memory, is_source_fault, is_spent}
+use Rattle.mapper.specs.Feeds.{has_one, is_no_memory, is_source_fault, is_spent_end}
 use Rattle.mapper.specs.Texts as text
 use Rattle.mapper.specs.Words.{reply_by, totals_of}
 use Rattle.mapper.specs.declared.ends.Ends.{Ends}
@@ -15,7 +15,7 @@ pub record AreNoted (items : List Item) (e : Ends) : Type 0 where
   pub count : e.count ≡ ends_in items
   pub source : e.source_fault ≡ has_one is_source_fault items
   pub memory : e.no_memory ≡ has_one is_no_memory items
-  pub spent : e.spent ≡ has_one is_spent items
+  pub spent : e.spent ≡ has_one is_spent_end items
 
 -- the line of an item that is no batch and no end, over the newest version
 abbrev pub line_of_item : Version → What → Option (List ℕ)

@@ -22,7 +22,7 @@ pub record IsPrinted (pieces : List (List ℕ)) (before after : Written) : Type 
   pub puts : after.puts ≡ raised before.puts (length pieces)
 
 -- all these pieces were put, and then the put of one failed, of which a beginning was written
-pub record IsCut (pieces : List (List ℕ)) (piece : List ℕ) (before after : Written) : Type 0 where
+pub record IsCutBehind (pieces : List (List ℕ)) (piece : List ℕ) (before after : Written) : Type 0 where
   pub k : ℕ
   pub bytes : after.bytes ≡ before.bytes ++ concat pieces ++ take k piece
   pub puts : after.puts ≡ raised before.puts (length pieces + 1)
@@ -39,7 +39,7 @@ pub record IsAt (before : Scene) (c : Course) (after : Scene) : Type 0 where
 pub record IsCutInOut (before : Scene) (c d : Course) (after : Scene) : Type 0 where
   pub line : List ℕ
   pub last : d.out ≡ c.out ++ line ∷ []
-  pub out : BothTell before.out after.out (IsCut c.out line)
+  pub out : BothTell before.out after.out (IsCutBehind c.out line)
   pub maps : BothTell before.maps after.maps (IsPrinted d.maps)
 
 -- the put of a map's text failed, behind its publish and ahead of its line
@@ -47,7 +47,7 @@ pub record IsCutInMaps (before : Scene) (c d : Course) (after : Scene) : Type 0 
   pub text : List ℕ
   pub last : d.maps ≡ c.maps ++ text ∷ []
   pub out : BothTell before.out after.out (IsPrinted c.out)
-  pub maps : BothTell before.maps after.maps (IsCut c.maps text)
+  pub maps : BothTell before.maps after.maps (IsCutBehind c.maps text)
 
 -- A task of which a put failed, on the way from one course to the next. What it published stays published.
 pub record IsCutAt (before : Scene) (c d : Course) (after : Scene) : Type 0 where

@@ -2,7 +2,7 @@
 ghost use Rattle.std.specs.Prelude.{◌≡◌, ◌+◌, ◌<◌, ◌||◌, List, cond, false};
 ghost use Rattle.demand_feed.specs.declared.sent.Item.{Item};
 ghost use Rattle.feed_queue.specs.Whole.{is_end};
-ghost use Rattle.mapper.specs.Feeds.{first_end, is_no_memory, is_source_fault, is_spent};
+ghost use Rattle.mapper.specs.Feeds.{first_end, is_no_memory, is_source_fault, is_spent_end};
 ghost use Rattle.mapper.specs.Noting.{AreNoted};
 
 use demand_feed::{FeedEnd, What};
@@ -34,8 +34,8 @@ fn is_no_memory(what: &What) -> bool
     matches!(what, What::End(FeedEnd::NoMemory))
 }
 
-fn is_spent(what: &What) -> bool
-    ensures { result ≡ is_spent what.now }
+fn is_spent_end(what: &What) -> bool
+    ensures { result ≡ is_spent_end what.now }
 {
     matches!(what, What::End(FeedEnd::Spent))
 }
@@ -66,12 +66,12 @@ impl Ends {
         ensures count { self.new.count ≡ self.old.count + cond (is_end what.now) 1 0 }
         ensures source { self.new.source_fault ≡ (self.old.source_fault || is_source_fault what.now) }
         ensures memory { self.new.no_memory ≡ (self.old.no_memory || is_no_memory what.now) }
-        ensures spent { self.new.spent ≡ (self.old.spent || is_spent what.now) }
+        ensures spent { self.new.spent ≡ (self.old.spent || is_spent_end what.now) }
     {
         self.count += u64::from(is_end(what));
         self.source_fault = either(self.source_fault, is_source_fault(what));
         self.no_memory = either(self.no_memory, is_no_memory(what));
-        self.spent = either(self.spent, is_spent(what));
+        self.spent = either(self.spent, is_spent_end(what));
     }
 
     /// The first end, of those that are faults, by which a feed has ended.

@@ -8,7 +8,7 @@ use Rattle.stable_check.specs.Judgement.{Judges}
 use Rattle.stable_check.specs.declared.verdict.Verdict.{Verdict}
 use Rattle.stable_check.specs.declared.verdict.Verdict.TheVariants.{Good}
 use Rattle.published_map.specs.Version.{Version}
-use Rattle.lane_model.specs.Histories.{Follows, IsNext}
+use Rattle.lane_model.specs.Histories.{Follows, IsLedTo}
 use Rattle.lane_model.specs.Machine.{IsStep, LaneState, Machine, fresh}
 use Rattle.lane_model.specs.Machine as machine
 use Rattle.lane_model.specs.Replies.{replies}
@@ -23,7 +23,7 @@ newest_of h = slice_get h (length h - 1)
 
 -- the version that a commit adds: that of the map, for the newest numbers as the batch changes them
 abbrev pub IsCommitOf : List Version → List Change → MapLines → Version → Type 0
-IsCommitOf h batch map v = (old : Version) × (newest_of h ≡ Some old) × IsNext old batch v × (v.lines ≡ map.lines.items) × (v.names ≡ map.names.items)
+IsCommitOf h batch map v = (old : Version) × (newest_of h ≡ Some old) × IsLedTo old batch v × (v.lines ≡ map.lines.items) × (v.names ≡ map.names.items)
 
 -- an event, as one of the machine
 abbrev pub IsEventOf : List Version → Event → machine.Event Version → Type 0

@@ -15,7 +15,7 @@ use std::sync::Wait;
 use std::test::Fail;
 use std::thread::Threads;
 use trial_runs::Held::{Missing, Topology};
-use trial_runs::{Lent, REGION, SERVE_TWO, feeds_of, queries, run, shelf, words_of};
+use trial_runs::{AllLent, REGION, SERVE_TWO, feeds_of, queries, run, shelf, words_of};
 
 /// What waits at a lane, and what is waited for at its turns.
 #[derive(Clone, Copy)]
@@ -118,7 +118,7 @@ fn are_tried(tries: &[MemTry], serials: &[u64]) -> bool {
 }
 
 /// What is lent to a run of two lanes and a feed that hold each other.
-type HeldLent<'a> = Lent<MemPort, MemStreams, HoldGate<'a>, PlainDoor, HoldPace<'a>>;
+type HeldLent<'a> = AllLent<MemPort, MemStreams, HoldGate<'a>, PlainDoor, HoldPace<'a>>;
 
 /// A lane for conversations, of which there are none.
 fn no_stream(
@@ -141,7 +141,7 @@ fn held_lent(alloc: Global, milestones: &Milestones) -> Result<HeldLent<'_>, NoM
     ensures { IfOk result (λ l. (vec_len l.lanes ≡ MOST_VIEWERS) × (vec_len l.more ≡ 3)) }
 {
     let feed = Vec::from_slice(alloc, FEED)?;
-    Ok(Lent {
+    Ok(AllLent {
         words: words_of(alloc, SERVE_TWO)?,
         files: shelf(alloc, Topology(REGION), Missing)?,
         feed: MemSource::new(alloc, feed, Vec::new(alloc), Vec::new(alloc))?,

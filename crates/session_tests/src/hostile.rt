@@ -156,65 +156,65 @@ fn session_over<R: Threads + Wait + Sync + AllocGlobal>(
 }
 
 /// A line, which is said so many times, and what is written of the last of them.
-struct Line {
+struct FeedLine {
     octets: &'static [u8],
     times: usize,
     text: &'static str,
 }
 
-const LINES: &[Line] = &[
-    Line {
+const LINES: &[FeedLine] = &[
+    FeedLine {
         octets: b"\xff\n",
         times: 1,
         text: "refused 1 bad byte\n",
     },
-    Line {
+    FeedLine {
         octets: b"\n",
         times: 1,
         text: "refused 1 unknown word\n",
     },
-    Line {
+    FeedLine {
         octets: b"demand g1 4 5\n",
         times: 1,
         text: "refused 1 wrong count\n",
     },
-    Line {
+    FeedLine {
         octets: b"demand g1 x\n",
         times: 1,
         text: "refused 1 bad number\n",
     },
-    Line {
+    FeedLine {
         octets: b"demand g1 0\n",
         times: 1,
         text: "refused 1 out of range\n",
     },
-    Line {
+    FeedLine {
         octets: b"ask 1.2.3 00\n",
         times: 1,
         text: "refused 1 bad address\n",
     },
-    Line {
+    FeedLine {
         octets: b"ask 1.2.3.4 abc\n",
         times: 1,
         text: "refused 1 bad hex\n",
     },
-    Line {
+    FeedLine {
         octets: b"demand g1 8\n",
         times: 4_096,
         text: "",
     },
-    Line {
+    FeedLine {
         octets: b"demand g1 8\n",
         times: 4_097,
         text: "refused 4097 batch full\n",
     },
     // A line of 8,300 octets, and of 8,301.
-    Line {
+    FeedLine {
         octets: b"a",
         times: 8_300,
         text: "refused 1 unknown word\n",
     },
-    Line {
+    FeedLine {
         octets: b"a",
         times: 8_301,
         text: "refused 1 too long\n",
@@ -223,7 +223,7 @@ const LINES: &[Line] = &[
 
 fn assert_line<R: Abort + Threads + Wait + Sync + AllocGlobal>(
     rt: &R,
-    line: &Line,
+    line: &FeedLine,
 ) -> Result<(), Fail> {
     let mut feed = Vec::new(rt.alloc());
     for _ in 0..line.times {
@@ -236,7 +236,7 @@ fn assert_line<R: Abort + Threads + Wait + Sync + AllocGlobal>(
 
 fn assert_lines<R: Abort + Threads + Wait + Sync + AllocGlobal>(
     rt: &R,
-    lines: &[Line],
+    lines: &[FeedLine],
 ) -> Result<(), Fail> {
     for line in lines {
         assert_line(rt, line)?;

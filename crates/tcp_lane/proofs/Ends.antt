@@ -18,7 +18,7 @@ use Rattle.lane_model.specs.Turns.{Fate, Turn, is_refused, refused, refused_of, 
 use Rattle.lane_model.proofs.Runs.{run_longer}
 use Rattle.tcp_lane.specs.Calls.{AreRuled, IsStreamEnd, stream_failures, stream_refusals}
 use Rattle.tcp_lane.specs.Stream.{IsStreamRun}
-use Rattle.tcp_lane.specs.Turns.{IsRuled, Line, Said, StreamCame, StreamTurn, closing_if, lane_of, lead_of, put_for, saying, stream_after, stream_turn, turn_of, turns_of, idle, ended, missed, come, got, quiet, shut, broke}
+use Rattle.tcp_lane.specs.Turns.{IsRuled, Said, StreamCame, StreamTurn, TalkState, closing_if, lane_of, lead_of, put_for, saying, stream_after, stream_turn, turn_of, turns_of, idle, ended, missed, come, got, quiet, shut, broke}
 use Rattle.tcp_lane.proofs.Loop.{lane_more}
 use Rattle.tcp_lane.proofs.Whole.{misses_in, turn_missed}
 use Rattle.tcp_lane.proofs.Final.{calm_free, ended_silent}
@@ -47,12 +47,12 @@ free_count (t ∷ log) free =
     omega (arith, count, one, rest)
 
 -- the last of some turns has a rule
-ruled_last : (before : List StreamTurn) (t : StreamTurn) (l l' : Line) → AreRuled l (before ++ t ∷ []) l' → (k : Line) × (k' : Line) × IsRuled t.came k t k'
+ruled_last : (before : List StreamTurn) (t : StreamTurn) (l l' : TalkState) → AreRuled l (before ++ t ∷ []) l' → (k : TalkState) × (k' : TalkState) × IsRuled t.came k t k'
 ruled_last [] t l l' r = (l, r.0, r.1)
 ruled_last (x ∷ before) t l l' r = ruled_last before t r.0 l' r.2
 
 -- a lane that no refused look ended met none
-pub none_refused : (turns : ℕ) (log : List StreamTurn) (l l' : Line) (e : Ended) → AreRuled l log l' → IsStreamEnd turns log e → (e ≡ end.CellFault → ⊥) → stream_refusals log ≡ 0
+pub none_refused : (turns : ℕ) (log : List StreamTurn) (l l' : TalkState) (e : Ended) → AreRuled l log l' → IsStreamEnd turns log e → (e ≡ end.CellFault → ⊥) → stream_refusals log ≡ 0
 none_refused turns log l l' end.Stopped r is other = free_count (lane_of log) (calm_free (lane_of log) is.0)
 none_refused turns log l l' end.PortFault r is other = free_count (lane_of log) (calm_free (lane_of log) is.3)
 none_refused turns log l l' end.Spent r is other = free_count (lane_of log) (calm_free (lane_of log) is.0)

@@ -17,7 +17,7 @@ use Rattle.lane_model.specs.Calls.{Eyes, IsGateRun, IsLaneLog, AreTurns}
 use Rattle.tcp_lane.specs.Replies.{stream_replies}
 use Rattle.lane_model.proofs.Prefixes.{prefix_length}
 use Rattle.lane_model.proofs.Runs.{IsInOrder, tells_on}
-use Rattle.tcp_lane.specs.Turns.{AreWell, StreamCame, IsBroken, IsRuled, Line, Said, StreamTurn, closing_if, ended, is_well, lane_of, lead_of, no_line, stream_turn, turn_of, turns_of}
+use Rattle.tcp_lane.specs.Turns.{AreWell, StreamCame, IsBroken, IsRuled, Said, StreamTurn, TalkState, closing_if, ended, is_well, lane_of, lead_of, no_talk, stream_turn, turn_of, turns_of}
 use Rattle.tcp_lane.specs.Calls.{AreRuled, IsStreamCall, IsStreamEnd, IsStreamLast, IsStreamSession, StreamMoment, inner, stream_refusals}
 use Rattle.tcp_lane.specs.Steps.{IsServed}
 use Rattle.tcp_lane.proofs.Sessions.{session_on}
@@ -53,9 +53,9 @@ notes_after w [] m m' s = subst (λ k. BothTell m.notes k.notes (λ b c. c ≡ b
 notes_after w (t ∷ log) m m' s =
     tells_on m.notes s.0.notes m'.notes (IsGiven t.notes) (AreGiven (map lead_of log)) (AreGiven (map lead_of (t ∷ log))) (λ b c d r q. (c, r, q)) s.1.notes (notes_after w log s.0 m' s.2)
 
-rules_after : (w : ℕ) (log : List StreamTurn) (m m' : StreamMoment Version) → IsStreamSession stream_replies w log m m' → AreRuled m.line log m'.line
-rules_after w [] m m' s = ap (λ k. k.line) s
-rules_after w (t ∷ log) m m' s = (s.0.line, s.1.ruled, rules_after w log s.0 m' s.2)
+rules_after : (w : ℕ) (log : List StreamTurn) (m m' : StreamMoment Version) → IsStreamSession stream_replies w log m m' → AreRuled m.talk log m'.talk
+rules_after w [] m m' s = ap (λ k. k.talk) s
+rules_after w (t ∷ log) m m' s = (s.0.talk, s.1.ruled, rules_after w log s.0 m' s.2)
 
 -- turns of which a look is refused in the last one alone
 not_both : {P : Type 0} (b : Bool) → b ≡ false → b ≡ true → P
@@ -95,11 +95,11 @@ order_end : (before : List Turn) (t : StreamTurn) → All (λ (x : Turn). is_ref
 order_end before t free none = subst (λ (l : List Said). IsInOrder (before ++ (lead_of t ∷ map (turn_of t.peer) l))) (sym none) (order_last before (lead_of t) free)
 
 -- the last of some turns has a rule
-last_ruled : (w : ℕ) (before : List StreamTurn) (t : StreamTurn) (m m' : StreamMoment Version) → IsStreamSession stream_replies w (before ++ t ∷ []) m m' → (l : Line) × (l' : Line) × IsRuled t.came l t l'
-last_ruled w [] t m m' s = (m.line, s.0.line, s.1.ruled)
+last_ruled : (w : ℕ) (before : List StreamTurn) (t : StreamTurn) (m m' : StreamMoment Version) → IsStreamSession stream_replies w (before ++ t ∷ []) m m' → (l : TalkState) × (l' : TalkState) × IsRuled t.came l t l'
+last_ruled w [] t m m' s = (m.talk, s.0.talk, s.1.ruled)
 last_ruled w (x ∷ before) t m m' s = last_ruled w before t s.0 m' s.2
 
-pub ended_silent : (t : StreamTurn) (l l' : Line) → t.came ≡ ended → IsRuled t.came l t l' → t.said ≡ []
+pub ended_silent : (t : StreamTurn) (l l' : TalkState) → t.came ≡ ended → IsRuled t.came l t l' → t.said ≡ []
 ended_silent t l l' is r = (subst (λ (h : StreamCame). IsRuled h l t l') is r).1
 
 order_of : (w turns : ℕ) (log : List StreamTurn) (m m' : StreamMoment Version) (e : Ended) → IsStreamSession stream_replies w log m m' → IsStreamEnd turns log e → IsInOrder (lane_of log)
@@ -124,14 +124,14 @@ record IsLike (m m' : StreamMoment Version) : Type 0 where
   eyes : m'.eyes ≡ m.eyes
   count : m'.count ≡ m.count
   faults : m'.stream_faults ≡ m.stream_faults
-  line : m'.line ≡ m.line
+  talk : m'.talk ≡ m.talk
   streams : m'.streams ≡ m.streams
 
 like_same : (m m' : StreamMoment Version) → m' ≡ m → IsLike m m'
-like_same m m' e = record { notes = ap (λ k. k.notes) e; eyes = ap (λ k. k.eyes) e; count = ap (λ k. k.count) e; faults = ap (λ k. k.stream_faults) e; line = ap (λ k. k.line) e; streams = ap (λ k. k.streams) e }
+like_same m m' e = record { notes = ap (λ k. k.notes) e; eyes = ap (λ k. k.eyes) e; count = ap (λ k. k.count) e; faults = ap (λ k. k.stream_faults) e; talk = ap (λ k. k.talk) e; streams = ap (λ k. k.streams) e }
 
 last_like : (e : Ended) (m m' : StreamMoment Version) → IsStreamLast e m m' → IsLike m m'
-last_like end.Stopped m m' l = record { notes = ap (λ k. k.notes) l.rest; eyes = ap (λ k. k.eyes) l.rest; count = ap (λ k. k.count) l.rest; faults = ap (λ k. k.stream_faults) l.rest; line = ap (λ k. k.line) l.rest; streams = ap (λ k. k.streams) l.rest }
+last_like end.Stopped m m' l = record { notes = ap (λ k. k.notes) l.rest; eyes = ap (λ k. k.eyes) l.rest; count = ap (λ k. k.count) l.rest; faults = ap (λ k. k.stream_faults) l.rest; talk = ap (λ k. k.talk) l.rest; streams = ap (λ k. k.streams) l.rest }
 last_like end.PortEnd m m' l = like_same m m' l
 last_like end.PortFault m m' l = like_same m m' l
 last_like end.CellFault m m' l = like_same m m' l
@@ -157,36 +157,36 @@ inner_same log w m mid m2 a b c x =
     (subst (λ (k : ℕ). IsLaneLog stream_replies w log (inner m.eyes m.count m.stream_faults) (inner mid.eyes mid.count k)) (sym c) x))
 
 -- Some turns, their end and the close of an open conversation are what a call promises.
-pub call_of : (w turns : ℕ) (m m1 m2 : StreamMoment Version) (e : Ended) → 0 < length m.eyes.heard → m.line ≡ no_line → IsServed w turns m m1 e
-    → (m1.line.is_open ≡ true → BothTell m1.streams m2.streams (λ b c. c ≡ closing b)) → (m1.line.is_open ≡ false → m2.streams ≡ m1.streams) → m2.stream_faults ≡ m1.stream_faults → m2.gate ≡ m1.gate → m2.notes ≡ m1.notes → m2.eyes ≡ m1.eyes → m2.count ≡ m1.count
-    → IsStreamCall stream_replies w turns (record m { line = no_line }) m2 e
-call_of w turns m m1 m2 e some line served closes stays faults gate notes eyes count =
+pub call_of : (w turns : ℕ) (m m1 m2 : StreamMoment Version) (e : Ended) → 0 < length m.eyes.heard → m.talk ≡ no_talk → IsServed w turns m m1 e
+    → (m1.talk.is_open ≡ true → BothTell m1.streams m2.streams (λ b c. c ≡ closing b)) → (m1.talk.is_open ≡ false → m2.streams ≡ m1.streams) → m2.stream_faults ≡ m1.stream_faults → m2.gate ≡ m1.gate → m2.notes ≡ m1.notes → m2.eyes ≡ m1.eyes → m2.count ≡ m1.count
+    → IsStreamCall stream_replies w turns (record m { talk = no_talk }) m2 e
+call_of w turns m m1 m2 e some talk served closes stays faults gate notes eyes count =
     let like = last_like e served.mid m1 served.last in
     let order = order_of w turns served.log m served.mid e served.session served.ending in
     let inside = lane_session w served.log m served.mid served.session in
     let all0 : IsLaneLog stream_replies w (lane_of served.log) (inner m.eyes m.count m.stream_faults) (inner served.mid.eyes served.mid.count served.mid.stream_faults) = log_of stream_replies w (lane_of served.log) (inner m.eyes m.count m.stream_faults) (inner served.mid.eyes served.mid.count served.mid.stream_faults) inside order in
     let le = prefix_length m.eyes.heard served.mid.eyes.heard all0.rise.heard in
     let eyes2 : m2.eyes ≡ served.mid.eyes = eyes ∙ like.eyes in
-    let line2 : m1.line ≡ served.mid.line = like.line in
+    let talk2 : m1.talk ≡ served.mid.talk = like.talk in
     let g = gate_of e (map lead_of served.log) m served.mid m1 (omega (arith, le, some)) (gate_after w served.log m served.mid served.session) served.last in
     let streams1 : BothTell m.streams m1.streams (λ b c. c ≡ fold stream_turn b served.log) = subst (λ (k : Option StreamsTold). BothTell m.streams k (λ b c. c ≡ fold stream_turn b served.log)) (sym like.streams) (streams_after w served.log m served.mid served.session) in
-    let is_open : m.line.is_open ≡ false = ap (λ k. k.is_open) line in
+    let is_open : m.talk.is_open ≡ false = ap (λ k. k.is_open) talk in
     record {
       log = served.log;
-      closes = m1.line.is_open;
+      closes = m1.talk.is_open;
       shown = g.0;
       shown_is = subst (λ (k : Eyes Version). g.0 + 1 ≡ length k.heard) (sym eyes2) g.1;
       all = inner_same (lane_of served.log) w m served.mid m2 eyes2 (count ∙ like.count) (faults ∙ like.faults) all0;
-      streams = closed_at m1.line.is_open m.streams m1.streams m2.streams (λ b. fold stream_turn b served.log) streams1 closes stays;
+      streams = closed_at m1.talk.is_open m.streams m1.streams m2.streams (λ b. fold stream_turn b served.log) streams1 closes stays;
       notes = subst (λ (k : Option NotesTold). BothTell m.notes k (AreGiven (map lead_of served.log))) (sym (notes ∙ like.notes)) (notes_after w served.log m served.mid served.session);
       gate = subst (λ (k : Option GateTold). BothTell m.gate k (IsGateRun g.0 (map lead_of served.log) e)) (sym gate) g.2;
       runs = λ b none floor lt.
-          subst (λ (o : Bool). (talks : List Talk) × ((closing_if o (fold stream_turn b served.log)).closed ≡ b.closed ++ talks) × ((closing_if o (fold stream_turn b served.log)).current ≡ None) × IsStreamRun stream_replies m2.eyes.seen w m.count floor (stream_refusals served.log) talks (entries_of Stream (lane_of served.log)) (tries_of (lane_of served.log))) (sym (ap (λ k. k.is_open) line2))
-          (subst (λ (k : Eyes Version). (talks : List Talk) × ((closing_if served.mid.line.is_open (fold stream_turn b served.log)).closed ≡ b.closed ++ talks) × ((closing_if served.mid.line.is_open (fold stream_turn b served.log)).current ≡ None) × IsStreamRun stream_replies k.seen w m.count floor (stream_refusals served.log) talks (entries_of Stream (lane_of served.log)) (tries_of (lane_of served.log))) (sym eyes2)
+          subst (λ (o : Bool). (talks : List Talk) × ((closing_if o (fold stream_turn b served.log)).closed ≡ b.closed ++ talks) × ((closing_if o (fold stream_turn b served.log)).current ≡ None) × IsStreamRun stream_replies m2.eyes.seen w m.count floor (stream_refusals served.log) talks (entries_of Stream (lane_of served.log)) (tries_of (lane_of served.log))) (sym (ap (λ k. k.is_open) talk2))
+          (subst (λ (k : Eyes Version). (talks : List Talk) × ((closing_if served.mid.talk.is_open (fold stream_turn b served.log)).closed ≡ b.closed ++ talks) × ((closing_if served.mid.talk.is_open (fold stream_turn b served.log)).current ≡ None) × IsStreamRun stream_replies k.seen w m.count floor (stream_refusals served.log) talks (entries_of Stream (lane_of served.log)) (tries_of (lane_of served.log))) (sym eyes2)
           (runs_of w floor served.log m served.mid b served.session is_open none (all0.run floor lt)));
-      rules = (m1.line, subst (λ (k : Line). AreRuled k served.log m1.line) line (subst (λ (k : Line). AreRuled m.line served.log k) (sym line2) (rules_after w served.log m served.mid served.session)), refl);
+      rules = (m1.talk, subst (λ (k : TalkState). AreRuled k served.log m1.talk) talk (subst (λ (k : TalkState). AreRuled m.talk served.log k) (sym talk2) (rules_after w served.log m served.mid served.session)), refl);
       ending = served.ending;
     }
 
-pub line_is : (l : Line) → l.is_open ≡ false → l.peer ≡ no_line.peer → l.held ≡ [] → l.quiets ≡ 0 → l ≡ no_line
-line_is l a b c d = ap (λ k. record l { is_open = k }) a ∙ (ap (λ k. record { is_open = false; peer = k; held = l.held; quiets = l.quiets }) b ∙ (ap (λ k. record { is_open = false; peer = no_line.peer; held = k; quiets = l.quiets }) c ∙ ap (λ k. record { is_open = false; peer = no_line.peer; held = []; quiets = k }) d))
+pub talk_is : (l : TalkState) → l.is_open ≡ false → l.peer ≡ no_talk.peer → l.held ≡ [] → l.quiets ≡ 0 → l ≡ no_talk
+talk_is l a b c d = ap (λ k. record l { is_open = k }) a ∙ (ap (λ k. record { is_open = false; peer = k; held = l.held; quiets = l.quiets }) b ∙ (ap (λ k. record { is_open = false; peer = no_talk.peer; held = k; quiets = l.quiets }) c ∙ ap (λ k. record { is_open = false; peer = no_talk.peer; held = []; quiets = k }) d))

@@ -15,7 +15,7 @@ use Rattle.tcp_lane.specs.declared.answering.Fared.TheVariants as fared
 use Rattle.name_workers.specs.declared.ending.Step.{Step}
 use Rattle.name_workers.specs.declared.ending.Step.TheVariants as step
 use Rattle.tcp_frames.specs.Split.{IsOverlong}
-use Rattle.tcp_lane.specs.Turns.{AreKnown, AreWell, StreamCame, IsLeft, Line, Said, StreamTurn, lane_came, closing_if, stream_after, saying, turn_of, idle, ended, missed, come, got, quiet, shut, broke, on, long, lost, blind}
+use Rattle.tcp_lane.specs.Turns.{AreKnown, AreWell, StreamCame, IsLeft, Said, StreamTurn, TalkState, lane_came, closing_if, stream_after, saying, turn_of, idle, ended, missed, come, got, quiet, shut, broke, on, long, lost, blind}
 use Rattle.tcp_lane.specs.Calls.{inner}
 use Rattle.tcp_lane.specs.Steps.{IsAnswered, IsPieceTaken, IsPlain, IsStepOf, IsTaken, Wire, is_on, plain, step_of}
 
@@ -28,7 +28,7 @@ tells_as R S (Some b) (Some c) f r = f b c r
 none_well : AreWell []
 none_well k d lt = absurd (omega (arith, lt))
 
-pub accept_come : (known : ℕ) (peer : Peer) (held : List ℕ) (l : Line) (p q : Wire) → BothTell p.told q.told (IsAccept known (came.Come peer)) → q.faults ≡ p.faults → l.is_open ≡ false → held ≡ [] → IsPlain known l (record { is_open = true; peer = peer; held = held; quiets = 0 }) step.On p q
+pub accept_come : (known : ℕ) (peer : Peer) (held : List ℕ) (l : TalkState) (p q : Wire) → BothTell p.told q.told (IsAccept known (came.Come peer)) → q.faults ≡ p.faults → l.is_open ≡ false → held ≡ [] → IsPlain known l (record { is_open = true; peer = peer; held = held; quiets = 0 }) step.On p q
 accept_come known peer held l p q told same closed is = record {
   came = come peer;
   closes = false;
@@ -39,7 +39,7 @@ accept_come known peer held l p q told same closed is = record {
   step = (none_well, refl, refl);
 }
 
-pub accept_idle : (known : ℕ) (l : Line) (p q : Wire) → BothTell p.told q.told (IsAccept known came.Idle) → q.faults ≡ p.faults → l.is_open ≡ false → IsPlain known l l step.On p q
+pub accept_idle : (known : ℕ) (l : TalkState) (p q : Wire) → BothTell p.told q.told (IsAccept known came.Idle) → q.faults ≡ p.faults → l.is_open ≡ false → IsPlain known l l step.On p q
 accept_idle known l p q told same closed = record {
   came = idle;
   closes = false;
@@ -50,7 +50,7 @@ accept_idle known l p q told same closed = record {
   step = (none_well, refl, refl);
 }
 
-pub accept_end : (known : ℕ) (l : Line) (p q : Wire) → BothTell p.told q.told (IsAccept known came.End) → q.faults ≡ p.faults → l.is_open ≡ false → IsPlain known l l step.PortEnd p q
+pub accept_end : (known : ℕ) (l : TalkState) (p q : Wire) → BothTell p.told q.told (IsAccept known came.End) → q.faults ≡ p.faults → l.is_open ≡ false → IsPlain known l l step.PortEnd p q
 accept_end known l p q told same closed = record {
   came = ended;
   closes = false;
@@ -61,7 +61,7 @@ accept_end known l p q told same closed = record {
   step = refl;
 }
 
-pub accept_failed : (known : ℕ) (l : Line) (p q : Wire) → BothTell p.told q.told (IsAccept known came.Failed) → Rose p.faults q.faults → l.is_open ≡ false → IsPlain known l l step.PortFailed p q
+pub accept_failed : (known : ℕ) (l : TalkState) (p q : Wire) → BothTell p.told q.told (IsAccept known came.Failed) → Rose p.faults q.faults → l.is_open ≡ false → IsPlain known l l step.PortFailed p q
 accept_failed known l p q told rose closed = record {
   came = missed;
   closes = false;
@@ -76,7 +76,7 @@ closed_then : (x y z : Option StreamsTold) (f : StreamsTold → StreamsTold) →
 closed_then x y z f p q = tells_on x y z (λ b c. c ≡ f b) (λ b c. c ≡ closing b) (λ b c. c ≡ closing (f b)) (λ b c d u v. v ∙ ap closing u) p q
 
 -- a message ended the conversation
-pub piece_over : (w n n' : ℕ) (octets whole rest : List ℕ) (r : Fared) (s : Step) (l l' : Line) (e f : Eyes Version) (p q v : Wire) → whole ≡ l.held ++ octets → IsAnswered w n n' l.peer whole rest r e f p q → is_on r ≡ false → BothTell q.told v.told (λ b c. c ≡ closing b) → v.faults ≡ q.faults → l'.is_open ≡ false → s ≡ step_of r
+pub piece_over : (w n n' : ℕ) (octets whole rest : List ℕ) (r : Fared) (s : Step) (l l' : TalkState) (e f : Eyes Version) (p q v : Wire) → whole ≡ l.held ++ octets → IsAnswered w n n' l.peer whole rest r e f p q → is_on r ≡ false → BothTell q.told v.told (λ b c. c ≡ closing b) → v.faults ≡ q.faults → l'.is_open ≡ false → s ≡ step_of r
     → IsPieceTaken w n n' octets l l' s e f p v
 piece_over w n n' octets whole rest fared.Silent s l l' e f p q v at a off told same closed st = absurd (cc off)
 piece_over w n n' octets whole rest fared.Sent s l l' e f p q v at a off told same closed st = absurd (cc off)
@@ -100,7 +100,7 @@ piece_over w n n' octets whole rest fared.Refused s l l' e f p q v at a off told
 })
 
 -- a length that is too great did
-pub piece_long : (w n n' : ℕ) (octets whole rest : List ℕ) (r : Fared) (l l' : Line) (e f : Eyes Version) (p q v : Wire) → whole ≡ l.held ++ octets → IsAnswered w n n' l.peer whole rest r e f p q → is_on r ≡ true → IsOverlong rest → BothTell q.told v.told (λ b c. c ≡ closing b) → v.faults ≡ q.faults → l'.is_open ≡ false
+pub piece_long : (w n n' : ℕ) (octets whole rest : List ℕ) (r : Fared) (l l' : TalkState) (e f : Eyes Version) (p q v : Wire) → whole ≡ l.held ++ octets → IsAnswered w n n' l.peer whole rest r e f p q → is_on r ≡ true → IsOverlong rest → BothTell q.told v.told (λ b c. c ≡ closing b) → v.faults ≡ q.faults → l'.is_open ≡ false
     → IsPieceTaken w n n' octets l l' step.On e f p v
 piece_long w n n' octets whole rest fared.Silent l l' e f p q v at a going is told same closed = record {
   t = record { shown = 0; notes = []; known = a.first; came = got octets; peer = l.peer; said = a.said; cut = a.cut; closes = true };
@@ -116,7 +116,7 @@ piece_long w n n' octets whole rest fared.Failed l l' e f p q v at a going is to
 piece_long w n n' octets whole rest fared.Refused l l' e f p q v at a going is told same closed = absurd (cc going)
 
 -- the conversation goes on
-pub piece_on : (w n n' : ℕ) (octets whole rest held : List ℕ) (r : Fared) (l : Line) (e f : Eyes Version) (p q : Wire) → whole ≡ l.held ++ octets → IsAnswered w n n' l.peer whole rest r e f p q → is_on r ≡ true → (IsOverlong rest → ⊥) → held ≡ rest
+pub piece_on : (w n n' : ℕ) (octets whole rest held : List ℕ) (r : Fared) (l : TalkState) (e f : Eyes Version) (p q : Wire) → whole ≡ l.held ++ octets → IsAnswered w n n' l.peer whole rest r e f p q → is_on r ≡ true → (IsOverlong rest → ⊥) → held ≡ rest
     → IsPieceTaken w n n' octets l (record l { held = held; quiets = 0 }) step.On e f p q
 piece_on w n n' octets whole rest held fared.Silent l e f p q at a going not_long is = record {
   t = record { shown = 0; notes = []; known = a.first; came = got octets; peer = l.peer; said = a.said; cut = a.cut; closes = false };
@@ -132,7 +132,7 @@ piece_on w n n' octets whole rest held fared.Failed l e f p q at a going not_lon
 piece_on w n n' octets whole rest held fared.Refused l e f p q at a going not_long is = absurd (cc going)
 
 -- an answer without a piece is a turn without messages
-pub plain_taken : (w n known : ℕ) (l l' : Line) (s : Step) (e : Eyes Version) (p q : Wire) → IsPlain known l l' s p q → known + 1 ≡ length e.heard → IsTaken w n n l l' s e e p q
+pub plain_taken : (w n known : ℕ) (l l' : TalkState) (s : Step) (e : Eyes Version) (p q : Wire) → IsPlain known l l' s p q → known + 1 ≡ length e.heard → IsTaken w n n l l' s e e p q
 plain_taken w n known l l' s e p q x is = record {
   t = plain known x.came l.peer x.closes;
   known_is = is;
@@ -157,7 +157,7 @@ known_as : (a b : ℕ) (said : List Said) → a ≡ b → AreKnown a said → Ar
 known_as a b said is x = subst (λ (k : ℕ). AreKnown k said) is x
 
 -- a piece was read
-pub read_got : (w n n' known len size : ℕ) (buffer : List ℕ) (l l' : Line) (s : Step) (e f : Eyes Version) (p q v : Wire) → known + 1 ≡ length e.heard → size ≡ 4098 → l.is_open ≡ true → BothTell p.told q.told (IsRead known size buffer (read.Got len)) → q.faults ≡ p.faults
+pub read_got : (w n n' known len size : ℕ) (buffer : List ℕ) (l l' : TalkState) (s : Step) (e f : Eyes Version) (p q v : Wire) → known + 1 ≡ length e.heard → size ≡ 4098 → l.is_open ≡ true → BothTell p.told q.told (IsRead known size buffer (read.Got len)) → q.faults ≡ p.faults
     → IsPieceTaken w n n' (take len buffer) l l' s e f q v → IsTaken w n n' l l' s e f p v
 read_got w n n' known len size buffer l l' s e f p q v is room opened told same h =
     let at : BothTell p.told q.told (λ b c. c ≡ stream_after known (got (take len buffer)) b) = subst (λ (k : ℕ). BothTell p.told q.told (IsRead known k buffer (read.Got len))) room told in
@@ -178,7 +178,7 @@ closed_by : (c : Bool) (x y z : Option StreamsTold) (f : StreamsTold → Streams
 closed_by c x y z f p q = tells_on x y z (λ b d. d ≡ f b) (λ b d. d ≡ closing_if c b) (λ b d. d ≡ closing_if c (f b)) (λ b d k u v. v ∙ ap (λ m. closing_if c m) u) p q
 
 -- a read was quiet
-pub read_quiet : (w n known size : ℕ) (buffer : List ℕ) (l l' : Line) (e : Eyes Version) (p q v : Wire) → known + 1 ≡ length e.heard → size ≡ 4098 → l.is_open ≡ true → BothTell p.told q.told (IsRead known size buffer read.Quiet) → q.faults ≡ p.faults
+pub read_quiet : (w n known size : ℕ) (buffer : List ℕ) (l l' : TalkState) (e : Eyes Version) (p q v : Wire) → known + 1 ≡ length e.heard → size ≡ 4098 → l.is_open ≡ true → BothTell p.told q.told (IsRead known size buffer read.Quiet) → q.faults ≡ p.faults
     → BothTell q.told v.told (λ b c. c ≡ closing_if (l.quiets + 1 == 200) b) → v.faults ≡ q.faults → IsLeft (l.quiets + 1 == 200) (record l { quiets = l.quiets + 1 }) l' → IsTaken w n n l l' step.On e e p v
 read_quiet w n known size buffer l l' e p q v is room opened told same shutting later left =
     let at : BothTell p.told q.told (λ b c. c ≡ stream_after known quiet b) = subst (λ (k : ℕ). BothTell p.told q.told (IsRead known k buffer read.Quiet)) room told in
@@ -193,7 +193,7 @@ read_quiet w n known size buffer l l' e p q v is room opened told same shutting 
     }) is
 
 -- the peer is done
-pub read_closed : (w n known size : ℕ) (buffer : List ℕ) (l l' : Line) (e : Eyes Version) (p q v : Wire) → known + 1 ≡ length e.heard → size ≡ 4098 → l.is_open ≡ true → BothTell p.told q.told (IsRead known size buffer read.Closed) → q.faults ≡ p.faults
+pub read_closed : (w n known size : ℕ) (buffer : List ℕ) (l l' : TalkState) (e : Eyes Version) (p q v : Wire) → known + 1 ≡ length e.heard → size ≡ 4098 → l.is_open ≡ true → BothTell p.told q.told (IsRead known size buffer read.Closed) → q.faults ≡ p.faults
     → BothTell q.told v.told (λ b c. c ≡ closing b) → v.faults ≡ q.faults → l'.is_open ≡ false → IsTaken w n n l l' step.On e e p v
 read_closed w n known size buffer l l' e p q v is room opened told same shutting later left =
     let at : BothTell p.told q.told (λ b c. c ≡ stream_after known shut b) = subst (λ (k : ℕ). BothTell p.told q.told (IsRead known k buffer read.Closed)) room told in
@@ -208,7 +208,7 @@ read_closed w n known size buffer l l' e p q v is room opened told same shutting
     }) is
 
 -- a read failed
-pub read_failed : (w n known size : ℕ) (buffer : List ℕ) (l l' : Line) (e : Eyes Version) (p q v : Wire) → known + 1 ≡ length e.heard → size ≡ 4098 → l.is_open ≡ true → BothTell p.told q.told (IsRead known size buffer read.Failed) → Rose p.faults q.faults
+pub read_failed : (w n known size : ℕ) (buffer : List ℕ) (l l' : TalkState) (e : Eyes Version) (p q v : Wire) → known + 1 ≡ length e.heard → size ≡ 4098 → l.is_open ≡ true → BothTell p.told q.told (IsRead known size buffer read.Failed) → Rose p.faults q.faults
     → BothTell q.told v.told (λ b c. c ≡ closing b) → v.faults ≡ q.faults → l'.is_open ≡ false → IsTaken w n n l l' step.PortFailed e e p v
 read_failed w n known size buffer l l' e p q v is room opened told rose shutting later left =
     let at : BothTell p.told q.told (λ b c. c ≡ stream_after known broke b) = subst (λ (k : ℕ). BothTell p.told q.told (IsRead known k buffer read.Failed)) room told in

@@ -13,7 +13,7 @@ use Rattle.lane_model.specs.Lanes.{Entry}
 use Rattle.lane_model.specs.Replies.{is_silent}
 use Rattle.lane_model.specs.Turns.{Fate, entries_of_fate, is_refused_fate, tries_of_fate, silent, refused, tried}
 use Rattle.tcp_frames.specs.Split.{HasNoMessage, framed}
-use Rattle.tcp_lane.specs.Stream.{AreKnownFrom, AreRounds, IsCut, IsRound, IsWhole, IsWhy, Round, messages_of}
+use Rattle.tcp_lane.specs.Stream.{AreKnownFrom, AreRounds, IsTakenInPart, IsRound, IsWhole, IsWhy, Round, messages_of}
 use Rattle.tcp_lane.specs.Turns.{AreWell, Said, is_well, put_for, saying}
 use Rattle.tcp_frames.proofs.Splits.{split_of}
 
@@ -218,7 +218,7 @@ open_more t t2 held octets rest said cut known place taken tries o n none well =
 
 pub cut_of : (blind : Bool) (t t2 : Talk) (held octets rest rest' put : List ℕ) (more : List (List ℕ)) (said : List Said) (known place : ℕ) (taken : List Entry) (tries : List Try) → IsOpenTalk t held taken tries → IsNew t t2 held octets rest said known place put
     → rest ≡ flat_map framed more ++ rest' → HasNoMessage rest' → All (λ m. length m ≤ largest_datagram) more → IsWhy blind is_silent (entries_in t.peer said) more (tries ++ tries_in t.peer said) t2.written
-    → IsCut blind is_silent t2 (taken ++ entries_in t.peer said) (tries ++ tries_in t.peer said)
+    → IsTakenInPart blind is_silent t2 (taken ++ entries_in t.peer said) (tries ++ tries_in t.peer said)
 cut_of blind t t2 held octets rest rest' put more said known place taken tries o n is none small why =
     let r = round_of t.peer octets known place said in
     record {
@@ -242,7 +242,7 @@ lost_try d f serial octets is = ap (λ k. tries_of_fate d k) is
 
 -- a conversation whose last write failed
 pub lost_of : (t t2 : Talk) (held octets rest : List ℕ) (said before : List Said) (s : Said) (serial : ℕ) (reply : List ℕ) (cut known place : ℕ) (taken : List Entry) (tries : List Try) → IsOpenTalk t held taken tries → IsNew t t2 held octets rest said known place (puts cut said)
-    → said ≡ before ++ s ∷ [] → AreWell before → s.fate ≡ tried serial reply false → is_silent s.octets ≡ false → IsCut false is_silent t2 (taken ++ entries_in t.peer said) (tries ++ tries_in t.peer said)
+    → said ≡ before ++ s ∷ [] → AreWell before → s.fate ≡ tried serial reply false → is_silent s.octets ≡ false → IsTakenInPart false is_silent t2 (taken ++ entries_in t.peer said) (tries ++ tries_in t.peer said)
 lost_of t t2 held octets rest said before s serial reply cut known place taken tries o n is well f spoken =
     let c = split_of rest in
     let due : Entry = record { packet = packet_of t.peer s; known = s.known; way = Stream } in
@@ -271,7 +271,7 @@ none_more xs ys zs p q = p ∙ (ap (λ l. ys ++ l) q ∙ append-nil ys)
 -- a conversation at whose last message no map could be looked at
 pub blind_of : (t t2 : Talk) (held octets rest : List ℕ) (said before : List Said) (s : Said) (cut known place : ℕ) (taken : List Entry) (tries : List Try) → IsOpenTalk t held taken tries → t2.peer ≡ t.peer → t2.pieces ≡ t.pieces ++ (record { octets = octets; known = known; place = place }) ∷ [] → t2.written ≡ t.written ++ puts cut said
     → held ++ octets ≡ flat_map framed (map (λ x. x.octets) said) ++ rest → All (λ m. length m ≤ largest_datagram) (map (λ x. x.octets) said) → AreKnownFrom is_silent known (entries_in t.peer said) (tries_in t.peer said) → said ≡ before ++ s ∷ [] → AreWell before → s.fate ≡ refused → is_silent s.octets ≡ false
-    → IsCut true is_silent t2 (taken ++ entries_in t.peer said) (tries ++ tries_in t.peer said)
+    → IsTakenInPart true is_silent t2 (taken ++ entries_in t.peer said) (tries ++ tries_in t.peer said)
 blind_of t t2 held octets rest said before s cut known place taken tries o peer pieces written parts short knows is well f spoken =
     let c = split_of rest in
     let entries : entries_in t.peer said ≡ entries_in t.peer before = none_more (entries_in t.peer said) (entries_in t.peer before) (entries_of_fate Stream (packet_of t.peer s) s.known s.fate) (ap (λ l. entries_in t.peer l) is ∙ flat_more (λ (x : Said). entries_of_fate Stream (packet_of t.peer x) x.known x.fate) before s) (ap (λ k. entries_of_fate Stream (packet_of t.peer s) s.known k) f) in
@@ -289,7 +289,7 @@ blind_of t t2 held octets rest said before s cut known place taken tries o peer 
       kept = said_kept before well;
     } in
     let small : length s.octets ≤ largest_datagram = all_last (λ (m : List ℕ). length m ≤ largest_datagram) (map (λ (x : Said). x.octets) before) s.octets shorts in
-    let made : IsCut true is_silent t2 (taken ++ entries_in t.peer before) (tries ++ tries_in t.peer before) = cut_of true t t2 held octets (framed s.octets ++ rest) c.rest (puts cut before) (s.octets ∷ c.messages) before known place taken tries o n
+    let made : IsTakenInPart true is_silent t2 (taken ++ entries_in t.peer before) (tries ++ tries_in t.peer before) = cut_of true t t2 held octets (framed s.octets ++ rest) c.rest (puts cut before) (s.octets ∷ c.messages) before known place taken tries o n
     (ap (λ l. framed s.octets ++ l) c.parts ∙ sym (append_assoc (framed s.octets) (flat_map framed c.messages) c.rest)) c.none (All-cons (λ (m : List ℕ). length m ≤ largest_datagram) s.octets c.messages small c.short)
     (record {
       due = s.octets;
@@ -299,4 +299,4 @@ blind_of t t2 held octets rest said before s cut known place taken tries o peer 
       went = All-append (λ (x : Try). x.went ≡ true) tries (tries_in t.peer before) o.went (said_went t.peer before well);
       written_is = n.written_is ∙ (ap (λ l. l ++ puts cut before) o.written ∙ (ap (λ l. frames tries ++ l) (said_put cut t.peer before well) ∙ sym (flat_map-append (λ (x : Try). framed x.octets) tries (tries_in t.peer before))));
     }) in
-    subst (λ (l : List Try). IsCut true is_silent t2 (taken ++ entries_in t.peer said) (tries ++ l)) (sym mine) (subst (λ (l : List Entry). IsCut true is_silent t2 (taken ++ l) (tries ++ tries_in t.peer before)) (sym entries) made)
+    subst (λ (l : List Try). IsTakenInPart true is_silent t2 (taken ++ entries_in t.peer said) (tries ++ l)) (sym mine) (subst (λ (l : List Entry). IsTakenInPart true is_silent t2 (taken ++ l) (tries ++ tries_in t.peer before)) (sym entries) made)

@@ -10,7 +10,7 @@ use Rattle.tcp_lane.specs.Replies.{stream_replies}
 use Rattle.lane_model.proofs.Prefixes.{prefix_length}
 use Rattle.name_workers.specs.declared.ending.Step.{Step}
 use Rattle.name_workers.specs.declared.ending.Step.TheVariants as step
-use Rattle.tcp_lane.specs.Turns.{StreamCame, IsRuled, Line, StreamTurn, lane_came, turn_of, idle, ended, missed, come, got, quiet, shut, broke}
+use Rattle.tcp_lane.specs.Turns.{StreamCame, IsRuled, StreamTurn, TalkState, lane_came, turn_of, idle, ended, missed, come, got, quiet, shut, broke}
 use Rattle.tcp_lane.specs.Calls.{IsStreamTurn, StreamMoment, inner}
 use Rattle.tcp_lane.specs.Steps.{IsStepOf, IsTaken, IsTurned}
 
@@ -74,7 +74,7 @@ step_after step.PortEnd t shown notes x = x
 step_after step.PortFailed t shown notes x = x
 step_after step.Refused t shown notes x = x
 
-ruled_by : (h : StreamCame) (t : StreamTurn) (shown : ℕ) (notes : List ℕ) (l l' : Line) → IsRuled h l t l' → IsRuled h l (record t { shown = shown; notes = notes }) l'
+ruled_by : (h : StreamCame) (t : StreamTurn) (shown : ℕ) (notes : List ℕ) (l l' : TalkState) → IsRuled h l t l' → IsRuled h l (record t { shown = shown; notes = notes }) l'
 ruled_by idle t shown notes l l' x = x
 ruled_by ended t shown notes l l' x = x
 ruled_by missed t shown notes l l' x = x
@@ -117,7 +117,7 @@ lead w shown known notes x e e1 n faults middle is is1 rise looks same noted p q
 
 pub stream_turn_of : (w w1 n1 shown : ℕ) (s : Step) (e1 : Eyes Version) (m m' : StreamMoment Version) → shown + 1 ≡ length m.eyes.heard → BothTell m.gate m'.gate (IsTurning shown Go) → m.gate_faults ≤ m'.gate_faults
     → ((serials : List ℕ) × BothTell m.notes m'.notes (IsGiven serials) × All (λ x. x < length e1.heard) serials) → IsRise m.eyes e1 → e1.looks ≡ m.eyes.looks → e1.faults ≡ m.eyes.faults → w1 ≡ w → n1 ≡ m.count
-    → IsTaken w1 n1 m'.count m.line m'.line s e1 m'.eyes (record { told = m.streams; faults = m.stream_faults }) (record { told = m'.streams; faults = m'.stream_faults }) → IsTurned w s m m'
+    → IsTaken w1 n1 m'.count m.talk m'.talk s e1 m'.eyes (record { told = m.streams; faults = m.stream_faults }) (record { told = m'.streams; faults = m'.stream_faults }) → IsTurned w s m m'
 stream_turn_of w w1 n1 shown s e1 m m' is gate gl given rise looks faults same count x =
     let session : AreTurns stream_replies w (map (turn_of x.t.peer) x.t.said) (inner e1 m.count x.middle) (inner m'.eyes m'.count m'.stream_faults) =
     subst (λ (k : ℕ). AreTurns stream_replies k (map (turn_of x.t.peer) x.t.said) (inner e1 m.count x.middle) (inner m'.eyes m'.count m'.stream_faults)) same
@@ -129,5 +129,5 @@ stream_turn_of w w1 n1 shown s e1 m m' is gate gl given rise looks faults same c
       streams = x.told;
       session = (inner e1 m.count x.middle, first, session);
       gate_later = gl;
-      ruled = ruled_by x.t.came x.t shown given.0 m.line m'.line x.ruled;
+      ruled = ruled_by x.t.came x.t shown given.0 m.talk m'.talk x.ruled;
     }) (step_after s x.t shown given.0 x.step)

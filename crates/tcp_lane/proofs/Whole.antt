@@ -21,18 +21,18 @@ use Rattle.lane_model.specs.Replies.{is_silent}
 use Rattle.tcp_lane.specs.Replies.{stream_replies}
 use Rattle.tcp_frames.specs.Split.{framed}
 use Rattle.tcp_lane.specs.Stream.{AreKnownFrom, Conversation, IsStreamRun, IsTalk}
-use Rattle.tcp_lane.specs.Turns.{AreWell, StreamCame, IsLeft, AreKnown, IsOver, IsRuled, Line, PieceEnd, Said, StreamTurn, lane_came, closing_if, stream_after, is_closed_by, is_well, known_after, lane_of, lead_of, saying, stream_turn, turn_of, turns_of, idle, ended, missed, come, got, quiet, shut, broke, on, long, lost, blind}
+use Rattle.tcp_lane.specs.Turns.{AreWell, StreamCame, IsLeft, AreKnown, IsOver, IsRuled, PieceEnd, Said, StreamTurn, TalkState, lane_came, closing_if, stream_after, is_closed_by, is_well, known_after, lane_of, lead_of, saying, stream_turn, turn_of, turns_of, idle, ended, missed, come, got, quiet, shut, broke, on, long, lost, blind}
 use Rattle.tcp_lane.specs.Calls.{IsStreamSession, IsStreamTurn, StreamMoment, inner, stream_refusals}
 use Rattle.tcp_lane.proofs.Known.{one_at}
 use Rattle.tcp_lane.proofs.Talks.{IsNew, IsOpenTalk, blind_of, entries_in, lost_of, open_more, packet_of, put_all, puts, said_kept, tries_in, whole_of}
 
 -- the conversation that is open, or that none is
-abbrev pub IsNow : Bool → Option Talk → Line → List Entry → List Try → Type 0
+abbrev pub IsNow : Bool → Option Talk → TalkState → List Entry → List Try → Type 0
 IsNow true current l taken tries = (t : Talk) × (current ≡ Some t) × (t.peer ≡ l.peer) × IsOpenTalk t l.held taken tries
 IsNow false current l taken tries = (current ≡ None) × (taken ≡ []) × (tries ≡ [])
 
 -- what streams tell, what was taken and tried, and how many looks were refused, by then
-pub record IsByThen (b0 b : StreamsTold) (l : Line) (taken : List Entry) (tries : List Try) (misses : ℕ) : Type 0 where
+pub record IsByThen (b0 b : StreamsTold) (l : TalkState) (taken : List Entry) (tries : List Try) (misses : ℕ) : Type 0 where
   pub conversations : List Conversation
   pub closed : b.closed ≡ b0.closed ++ map (λ c. c.talk) conversations
   pub each : All (λ c. IsTalk c.blind is_silent c.talk c.taken c.tries) conversations
@@ -43,7 +43,7 @@ pub record IsByThen (b0 b : StreamsTold) (l : Line) (taken : List Entry) (tries 
   pub tries_are : tries ≡ flat_map (λ c. c.tries) conversations ++ now_tries
   pub now : IsNow l.is_open b.current l now_taken now_tries
 
-pub at_first : (b : StreamsTold) (l : Line) → l.is_open ≡ false → b.current ≡ None → IsByThen b b l [] [] 0
+pub at_first : (b : StreamsTold) (l : TalkState) → l.is_open ≡ false → b.current ≡ None → IsByThen b b l [] [] 0
 at_first b l is_shut none = record {
   conversations = [];
   closed = sym (append-nil b.closed);
@@ -57,16 +57,16 @@ at_first b l is_shut none = record {
 }
 
 -- the open conversation, taken out
-opened : (o : Bool) (current : Option Talk) (l : Line) (taken : List Entry) (tries : List Try) → o ≡ true → IsNow o current l taken tries → (t : Talk) × (current ≡ Some t) × (t.peer ≡ l.peer) × IsOpenTalk t l.held taken tries
+opened : (o : Bool) (current : Option Talk) (l : TalkState) (taken : List Entry) (tries : List Try) → o ≡ true → IsNow o current l taken tries → (t : Talk) × (current ≡ Some t) × (t.peer ≡ l.peer) × IsOpenTalk t l.held taken tries
 opened true current l taken tries is n = n
 opened false current l taken tries is n = absurd (cc is)
 
-unopened : (o : Bool) (current : Option Talk) (l : Line) (taken : List Entry) (tries : List Try) → o ≡ false → IsNow o current l taken tries → (current ≡ None) × (taken ≡ []) × (tries ≡ [])
+unopened : (o : Bool) (current : Option Talk) (l : TalkState) (taken : List Entry) (tries : List Try) → o ≡ false → IsNow o current l taken tries → (current ≡ None) × (taken ≡ []) × (tries ≡ [])
 unopened false current l taken tries is n = n
 unopened true current l taken tries is n = absurd (cc is)
 
 -- nothing of a conversation changes
-same_then : (b0 b b' : StreamsTold) (l : Line) (taken : List Entry) (tries : List Try) (misses : ℕ) → IsByThen b0 b l taken tries misses → b'.closed ≡ b.closed → b'.current ≡ b.current → IsByThen b0 b' l taken tries misses
+same_then : (b0 b b' : StreamsTold) (l : TalkState) (taken : List Entry) (tries : List Try) (misses : ℕ) → IsByThen b0 b l taken tries misses → b'.closed ≡ b.closed → b'.current ≡ b.current → IsByThen b0 b' l taken tries misses
 same_then b0 b b' l taken tries misses i closed current = record {
   conversations = i.conversations;
   closed = closed ∙ i.closed;
@@ -80,7 +80,7 @@ same_then b0 b b' l taken tries misses i closed current = record {
 }
 
 -- one begins
-come_then : (b0 b b' : StreamsTold) (l l' : Line) (taken : List Entry) (tries : List Try) (misses : ℕ) (peer : Peer) → IsByThen b0 b l taken tries misses → l.is_open ≡ false → b'.closed ≡ b.closed → b'.current ≡ Some (record { peer = peer; pieces = []; quiets = 0; written = [] }) → l' ≡ record { is_open = true; peer = peer; held = []; quiets = 0 } → IsByThen b0 b' l' taken tries misses
+come_then : (b0 b b' : StreamsTold) (l l' : TalkState) (taken : List Entry) (tries : List Try) (misses : ℕ) (peer : Peer) → IsByThen b0 b l taken tries misses → l.is_open ≡ false → b'.closed ≡ b.closed → b'.current ≡ Some (record { peer = peer; pieces = []; quiets = 0; written = [] }) → l' ≡ record { is_open = true; peer = peer; held = []; quiets = 0 } → IsByThen b0 b' l' taken tries misses
 come_then b0 b b' l l' taken tries misses peer i is_shut closed current is =
     let none = unopened l.is_open b.current l i.now_taken i.now_tries is_shut i.now in
     record {
@@ -92,7 +92,7 @@ come_then b0 b b' l l' taken tries misses peer i is_shut closed current is =
       now_tries = [];
       taken_are = i.taken_are ∙ ap (λ x. flat_map (λ (c : Conversation). c.taken) i.conversations ++ x) none.1;
       tries_are = i.tries_are ∙ ap (λ x. flat_map (λ (c : Conversation). c.tries) i.conversations ++ x) none.2;
-      now = subst (λ (k : Line). IsNow k.is_open b'.current k [] []) (sym is) (
+      now = subst (λ (k : TalkState). IsNow k.is_open b'.current k [] []) (sym is) (
         record { peer = peer; pieces = []; quiets = 0; written = [] },
         current,
         refl,
@@ -114,7 +114,7 @@ none_missed : (n : ℕ) → n ≡ n + 0
 none_missed n = omega arith
 
 -- the open one goes on
-open_then : (b0 b b' : StreamsTold) (l l' : Line) (taken more : List Entry) (tries further : List Try) (misses : ℕ) (i : IsByThen b0 b l taken tries misses) (t : Talk) → b'.closed ≡ b.closed → b'.current ≡ Some t → l'.is_open ≡ true → t.peer ≡ l'.peer → IsOpenTalk t l'.held (i.now_taken ++ more) (i.now_tries ++ further) → IsByThen b0 b' l' (taken ++ more) (tries ++ further) (misses + 0)
+open_then : (b0 b b' : StreamsTold) (l l' : TalkState) (taken more : List Entry) (tries further : List Try) (misses : ℕ) (i : IsByThen b0 b l taken tries misses) (t : Talk) → b'.closed ≡ b.closed → b'.current ≡ Some t → l'.is_open ≡ true → t.peer ≡ l'.peer → IsOpenTalk t l'.held (i.now_taken ++ more) (i.now_tries ++ further) → IsByThen b0 b' l' (taken ++ more) (tries ++ further) (misses + 0)
 open_then b0 b b' l l' taken more tries further misses i t closed current is peer o = record {
   conversations = i.conversations;
   closed = closed ∙ i.closed;
@@ -131,7 +131,7 @@ flat_more : {X A : Type 0} (f : X → List A) (xs : List X) (x : X) → flat_map
 flat_more f xs x = flat_map-append f xs (x ∷ []) ∙ ap (λ l. flat_map f xs ++ l) (append-nil (f x))
 
 -- the open one is closed
-close_then : (b0 b b' : StreamsTold) (l l' : Line) (taken more : List Entry) (tries further : List Try) (misses : ℕ) (i : IsByThen b0 b l taken tries misses) (is_blind : Bool) (t : Talk) → b'.closed ≡ b.closed ++ t ∷ [] → b'.current ≡ None → l'.is_open ≡ false → IsTalk is_blind is_silent t (i.now_taken ++ more) (i.now_tries ++ further) → IsByThen b0 b' l' (taken ++ more) (tries ++ further) (misses + cond is_blind 1 0)
+close_then : (b0 b b' : StreamsTold) (l l' : TalkState) (taken more : List Entry) (tries further : List Try) (misses : ℕ) (i : IsByThen b0 b l taken tries misses) (is_blind : Bool) (t : Talk) → b'.closed ≡ b.closed ++ t ∷ [] → b'.current ≡ None → l'.is_open ≡ false → IsTalk is_blind is_silent t (i.now_taken ++ more) (i.now_tries ++ further) → IsByThen b0 b' l' (taken ++ more) (tries ++ further) (misses + cond is_blind 1 0)
 close_then b0 b b' l l' taken more tries further misses i is_blind t closed current is talk =
     let c : Conversation = record { talk = t; blind = is_blind; taken = i.now_taken ++ more; tries = i.now_tries ++ further } in
     record {
@@ -147,7 +147,7 @@ close_then b0 b b' l l' taken more tries further misses i is_blind t closed curr
     }
 
 -- nothing more was taken
-more_none : (b0 b : StreamsTold) (l : Line) (taken : List Entry) (tries : List Try) (misses : ℕ) → IsByThen b0 b l (taken ++ []) (tries ++ []) (misses + 0) → IsByThen b0 b l taken tries misses
+more_none : (b0 b : StreamsTold) (l : TalkState) (taken : List Entry) (tries : List Try) (misses : ℕ) → IsByThen b0 b l (taken ++ []) (tries ++ []) (misses + 0) → IsByThen b0 b l taken tries misses
 more_none b0 b l taken tries misses i =
     subst (λ (x : ℕ). IsByThen b0 b l taken tries x) (sym (none_missed misses)) (subst (λ (x : List Entry). IsByThen b0 b l x tries (misses + 0)) (append-nil taken) (subst (λ (x : List Try). IsByThen b0 b l (taken ++ []) x (misses + 0)) (append-nil tries) i))
 
@@ -204,7 +204,7 @@ after_piece cut known octets said b t0 e =
     let put = put_all cut said (stream_after known (got octets) b) (record t0 { pieces = t0.pieces ++ p ∷ [] }) (ap (λ o. changed (λ x. record x { pieces = x.pieces ++ p ∷ [] }) o) e) in
     record { talk = put.talk; current = put.current; closed = put.closed; peer = put.peer; pieces = put.pieces; written = put.written }
 
-closing_then : (b0 b b2 : StreamsTold) (l l' : Line) (taken more : List Entry) (tries further : List Try) (misses : ℕ) (i : IsByThen b0 b l taken tries misses) (is_blind : Bool) (t : Talk) → b2.current ≡ Some t → b2.closed ≡ b.closed → l'.is_open ≡ false → IsTalk is_blind is_silent t (i.now_taken ++ more) (i.now_tries ++ further) → IsByThen b0 (closing b2) l' (taken ++ more) (tries ++ further) (misses + cond is_blind 1 0)
+closing_then : (b0 b b2 : StreamsTold) (l l' : TalkState) (taken more : List Entry) (tries further : List Try) (misses : ℕ) (i : IsByThen b0 b l taken tries misses) (is_blind : Bool) (t : Talk) → b2.current ≡ Some t → b2.closed ≡ b.closed → l'.is_open ≡ false → IsTalk is_blind is_silent t (i.now_taken ++ more) (i.now_tries ++ further) → IsByThen b0 (closing b2) l' (taken ++ more) (tries ++ further) (misses + cond is_blind 1 0)
 closing_then b0 b b2 l l' taken more tries further misses i is_blind t current closed is talk =
     close_then b0 b (closing b2) l l' taken more tries further misses i is_blind t (ap (λ x. b2.closed ++ listed x) current ∙ ap (λ x. x ++ t ∷ []) closed) refl is talk
 
@@ -216,7 +216,7 @@ is_blind_by lost = false
 is_blind_by blind = true
 
 -- what a piece with its messages came to, by its way
-piece_by : (ending : PieceEnd) (b0 b : StreamsTold) (l l' : Line) (taken : List Entry) (tries : List Try) (misses : ℕ) (i : IsByThen b0 b l taken tries misses) (t0 : Talk) (b2 : StreamsTold) (octets rest : List ℕ) (said : List Said) (cut known place w : ℕ) (m m' : Moment Version) → IsOpenTalk t0 l.held i.now_taken i.now_tries → t0.peer ≡ l.peer → IsAfter b b2 t0 octets known place (puts cut said)
+piece_by : (ending : PieceEnd) (b0 b : StreamsTold) (l l' : TalkState) (taken : List Entry) (tries : List Try) (misses : ℕ) (i : IsByThen b0 b l taken tries misses) (t0 : Talk) (b2 : StreamsTold) (octets rest : List ℕ) (said : List Said) (cut known place w : ℕ) (m m' : Moment Version) → IsOpenTalk t0 l.held i.now_taken i.now_tries → t0.peer ≡ l.peer → IsAfter b b2 t0 octets known place (puts cut said)
     → l.held ++ octets ≡ flat_map framed (map (λ x. x.octets) said) ++ rest → All (λ x. length x ≤ largest_datagram) (map (λ x. x.octets) said) → IsOver ending said rest → IsLeft (is_closed_by ending) (record l { held = rest; quiets = 0 }) l' → l.is_open ≡ true → AreTurns stream_replies w (map (turn_of t0.peer) said) m m' → AreKnown known said
     → IsByThen b0 (closing_if (is_closed_by ending) b2) l' (taken ++ entries_in t0.peer said) (tries ++ tries_in t0.peer said) (misses + cond (is_blind_by ending) 1 0)
 piece_by on b0 b l l' taken tries misses i t0 b2 octets rest said cut known place w m m' o peer a parts short over left is s kn =
@@ -267,22 +267,22 @@ over_missed lost peer said rest over = last_missed peer said over.0 over.1 over.
 over_missed blind peer said rest over = last_missed peer said over.0 over.1 over.2 over.3 ∙ ap (λ f. refused_of (took (record { octets = over.1.octets; from = peer }) f)) over.4
 
 -- a turn without messages
-none_then : (h : StreamCame) (b0 b : StreamsTold) (t : StreamTurn) (l' : Line) (taken : List Entry) (tries : List Try) (misses : ℕ) (closes : Bool) → t.said ≡ [] → t.closes ≡ closes → IsByThen b0 (closing_if closes (stream_after t.known h b)) l' (taken ++ []) (tries ++ []) (misses + 0) → IsByThen b0 (closing_if t.closes (fold (saying t.cut) (stream_after t.known h b) t.said)) l' (taken ++ entries_in t.peer t.said) (tries ++ tries_in t.peer t.said) (misses + misses_in t.peer t.said)
+none_then : (h : StreamCame) (b0 b : StreamsTold) (t : StreamTurn) (l' : TalkState) (taken : List Entry) (tries : List Try) (misses : ℕ) (closes : Bool) → t.said ≡ [] → t.closes ≡ closes → IsByThen b0 (closing_if closes (stream_after t.known h b)) l' (taken ++ []) (tries ++ []) (misses + 0) → IsByThen b0 (closing_if t.closes (fold (saying t.cut) (stream_after t.known h b) t.said)) l' (taken ++ entries_in t.peer t.said) (tries ++ tries_in t.peer t.said) (misses + misses_in t.peer t.said)
 none_then h b0 b t l' taken tries misses closes none is x =
     subst (λ (said : List Said). IsByThen b0 (closing_if t.closes (fold (saying t.cut) (stream_after t.known h b) said)) l' (taken ++ entries_in t.peer said) (tries ++ tries_in t.peer said) (misses + misses_in t.peer said)) (sym none)
     (subst (λ (c : Bool). IsByThen b0 (closing_if c (stream_after t.known h b)) l' (taken ++ []) (tries ++ []) (misses + 0)) (sym is) x)
 
-more_nothing : (b0 b : StreamsTold) (l : Line) (taken : List Entry) (tries : List Try) (misses : ℕ) → IsByThen b0 b l taken tries misses → IsByThen b0 b l (taken ++ []) (tries ++ []) (misses + 0)
+more_nothing : (b0 b : StreamsTold) (l : TalkState) (taken : List Entry) (tries : List Try) (misses : ℕ) → IsByThen b0 b l taken tries misses → IsByThen b0 b l (taken ++ []) (tries ++ []) (misses + 0)
 more_nothing b0 b l taken tries misses i =
     subst (λ (x : ℕ). IsByThen b0 b l (taken ++ []) (tries ++ []) x) (none_missed misses) (subst (λ (x : List Entry). IsByThen b0 b l x (tries ++ []) misses) (sym (append-nil taken)) (subst (λ (x : List Try). IsByThen b0 b l taken x misses) (sym (append-nil tries)) i))
 
 -- a conversation that is closed without more
-shut_then : (b0 b b2 : StreamsTold) (l l' : Line) (taken : List Entry) (tries : List Try) (misses : ℕ) → IsByThen b0 b l taken tries misses → l.is_open ≡ true → b2.closed ≡ b.closed → b2.current ≡ b.current → l'.is_open ≡ false → IsByThen b0 (closing b2) l' (taken ++ []) (tries ++ []) (misses + 0)
+shut_then : (b0 b b2 : StreamsTold) (l l' : TalkState) (taken : List Entry) (tries : List Try) (misses : ℕ) → IsByThen b0 b l taken tries misses → l.is_open ≡ true → b2.closed ≡ b.closed → b2.current ≡ b.current → l'.is_open ≡ false → IsByThen b0 (closing b2) l' (taken ++ []) (tries ++ []) (misses + 0)
 shut_then b0 b b2 l l' taken tries misses i is closed current left =
     let op = opened l.is_open b.current l i.now_taken i.now_tries is i.now in
     closing_then b0 b b2 l l' taken [] tries [] misses i false op.0 (current ∙ op.1) closed left (inl (whole_of op.0 l.held (i.now_taken ++ []) (i.now_tries ++ []) (same_lists op.0 l.held i.now_taken i.now_tries op.3)))
 
-quiet_then : (c : Bool) (known : ℕ) (b0 b : StreamsTold) (l l' : Line) (taken : List Entry) (tries : List Try) (misses : ℕ) → IsByThen b0 b l taken tries misses → l.is_open ≡ true → IsLeft c (record l { quiets = l.quiets + 1 }) l' → IsByThen b0 (closing_if c (stream_after known quiet b)) l' (taken ++ []) (tries ++ []) (misses + 0)
+quiet_then : (c : Bool) (known : ℕ) (b0 b : StreamsTold) (l l' : TalkState) (taken : List Entry) (tries : List Try) (misses : ℕ) → IsByThen b0 b l taken tries misses → l.is_open ≡ true → IsLeft c (record l { quiets = l.quiets + 1 }) l' → IsByThen b0 (closing_if c (stream_after known quiet b)) l' (taken ++ []) (tries ++ []) (misses + 0)
 quiet_then true known b0 b l l' taken tries misses i is left =
     let op = opened l.is_open b.current l i.now_taken i.now_tries is i.now in
     let t : Talk = record op.0 { quiets = raised op.0.quiets 1 } in
@@ -293,15 +293,15 @@ quiet_then false known b0 b l l' taken tries misses i is left =
     open_then b0 b (stream_after known quiet b) l l' taken [] tries [] misses i t refl (ap (λ o. changed (λ x. record x { quiets = raised x.quiets 1 }) o) op.1) (ap (λ k. k.is_open) left ∙ is) (op.2 ∙ sym (ap (λ k. k.peer) left))
     (subst (λ (h : List ℕ). IsOpenTalk t h (i.now_taken ++ []) (i.now_tries ++ [])) (sym (ap (λ k. k.held) left)) (same_lists t l.held i.now_taken i.now_tries (quieter op.0 (raised op.0.quiets 1) l.held i.now_taken i.now_tries op.3)))
 
-no_current : (b0 b : StreamsTold) (l : Line) (taken : List Entry) (tries : List Try) (misses : ℕ) (i : IsByThen b0 b l taken tries misses) → l.is_open ≡ false → b.current ≡ None
+no_current : (b0 b : StreamsTold) (l : TalkState) (taken : List Entry) (tries : List Try) (misses : ℕ) (i : IsByThen b0 b l taken tries misses) → l.is_open ≡ false → b.current ≡ None
 no_current b0 b l taken tries misses i is = (unopened l.is_open b.current l i.now_taken i.now_tries is i.now).0
 
 -- what a turn comes to
-ruled_then : (h : StreamCame) (b0 b : StreamsTold) (t : StreamTurn) (l l' : Line) (taken : List Entry) (tries : List Try) (misses w : ℕ) (m m' : Moment Version) → IsByThen b0 b l taken tries misses → IsRuled h l t l' → AreTurns stream_replies w (map (turn_of t.peer) t.said) m m'
+ruled_then : (h : StreamCame) (b0 b : StreamsTold) (t : StreamTurn) (l l' : TalkState) (taken : List Entry) (tries : List Try) (misses w : ℕ) (m m' : Moment Version) → IsByThen b0 b l taken tries misses → IsRuled h l t l' → AreTurns stream_replies w (map (turn_of t.peer) t.said) m m'
     → IsByThen b0 (closing_if t.closes (fold (saying t.cut) (stream_after t.known h b) t.said)) l' (taken ++ entries_in t.peer t.said) (tries ++ tries_in t.peer t.said) (misses + misses_in t.peer t.said)
-ruled_then idle b0 b t l l' taken tries misses w m m' i r s = none_then idle b0 b t l' taken tries misses false r.1 r.2 (more_nothing b0 (stream_after t.known idle b) l' taken tries misses (same_then b0 b (stream_after t.known idle b) l' taken tries misses (subst (λ (k : Line). IsByThen b0 b k taken tries misses) (sym r.3) i) refl refl))
-ruled_then ended b0 b t l l' taken tries misses w m m' i r s = none_then ended b0 b t l' taken tries misses false r.1 r.2 (more_nothing b0 (stream_after t.known ended b) l' taken tries misses (same_then b0 b (stream_after t.known ended b) l' taken tries misses (subst (λ (k : Line). IsByThen b0 b k taken tries misses) (sym r.3) i) refl refl))
-ruled_then missed b0 b t l l' taken tries misses w m m' i r s = none_then missed b0 b t l' taken tries misses false r.1 r.2 (more_nothing b0 (stream_after t.known missed b) l' taken tries misses (same_then b0 b (stream_after t.known missed b) l' taken tries misses (subst (λ (k : Line). IsByThen b0 b k taken tries misses) (sym r.3) i) refl refl))
+ruled_then idle b0 b t l l' taken tries misses w m m' i r s = none_then idle b0 b t l' taken tries misses false r.1 r.2 (more_nothing b0 (stream_after t.known idle b) l' taken tries misses (same_then b0 b (stream_after t.known idle b) l' taken tries misses (subst (λ (k : TalkState). IsByThen b0 b k taken tries misses) (sym r.3) i) refl refl))
+ruled_then ended b0 b t l l' taken tries misses w m m' i r s = none_then ended b0 b t l' taken tries misses false r.1 r.2 (more_nothing b0 (stream_after t.known ended b) l' taken tries misses (same_then b0 b (stream_after t.known ended b) l' taken tries misses (subst (λ (k : TalkState). IsByThen b0 b k taken tries misses) (sym r.3) i) refl refl))
+ruled_then missed b0 b t l l' taken tries misses w m m' i r s = none_then missed b0 b t l' taken tries misses false r.1 r.2 (more_nothing b0 (stream_after t.known missed b) l' taken tries misses (same_then b0 b (stream_after t.known missed b) l' taken tries misses (subst (λ (k : TalkState). IsByThen b0 b k taken tries misses) (sym r.3) i) refl refl))
 ruled_then (come peer) b0 b t l l' taken tries misses w m m' i r s =
     none_then (come peer) b0 b t l' taken tries misses false r.1 r.2 (more_nothing b0 (stream_after t.known (come peer) b) l' taken tries misses (come_then b0 b (stream_after t.known (come peer) b) l l' taken tries misses peer i r.0 (ap (λ o. b.closed ++ listed o) (no_current b0 b l taken tries misses i r.0) ∙ append-nil b.closed) refl r.3))
 ruled_then quiet b0 b t l l' taken tries misses w m m' i r s =
@@ -363,17 +363,17 @@ misses_of log = sum_by (λ (x : Turn). refused_of x.came) log
 pub turn_missed : (t : StreamTurn) → misses_of (turns_of t) ≡ misses_in t.peer t.said
 turn_missed t = let count = sum_by-cons (λ (x : Turn). refused_of x.came) (lead_of t) (map (turn_of t.peer) t.said) in omega (arith, count, lead_missed t.came)
 
-turn_then : (w : ℕ) (t : StreamTurn) (m m' : StreamMoment Version) (b0 b : StreamsTold) (taken : List Entry) (tries : List Try) (misses : ℕ) → IsStreamTurn stream_replies w t m m' → IsByThen b0 b m.line taken tries misses
-    → IsByThen b0 (stream_turn b t) m'.line (taken ++ entries_of Stream (turns_of t)) (tries ++ tries_of (turns_of t)) (misses + misses_of (turns_of t))
+turn_then : (w : ℕ) (t : StreamTurn) (m m' : StreamMoment Version) (b0 b : StreamsTold) (taken : List Entry) (tries : List Try) (misses : ℕ) → IsStreamTurn stream_replies w t m m' → IsByThen b0 b m.talk taken tries misses
+    → IsByThen b0 (stream_turn b t) m'.talk (taken ++ entries_of Stream (turns_of t)) (tries ++ tries_of (turns_of t)) (misses + misses_of (turns_of t))
 turn_then w t m m' b0 b taken tries misses q i =
-    let r = ruled_then t.came b0 b t m.line m'.line taken tries misses w q.session.0 (inner m'.eyes m'.count m'.stream_faults) i q.ruled q.session.2 in
-    subst (λ (x : List Entry). IsByThen b0 (stream_turn b t) m'.line (taken ++ x) (tries ++ tries_of (turns_of t)) (misses + misses_of (turns_of t))) (sym (turn_entries t))
-    (subst (λ (x : List Try). IsByThen b0 (stream_turn b t) m'.line (taken ++ entries_in t.peer t.said) (tries ++ x) (misses + misses_of (turns_of t))) (sym (turn_tries t))
-    (subst (λ (x : ℕ). IsByThen b0 (stream_turn b t) m'.line (taken ++ entries_in t.peer t.said) (tries ++ tries_in t.peer t.said) (misses + x)) (sym (turn_missed t)) r))
+    let r = ruled_then t.came b0 b t m.talk m'.talk taken tries misses w q.session.0 (inner m'.eyes m'.count m'.stream_faults) i q.ruled q.session.2 in
+    subst (λ (x : List Entry). IsByThen b0 (stream_turn b t) m'.talk (taken ++ x) (tries ++ tries_of (turns_of t)) (misses + misses_of (turns_of t))) (sym (turn_entries t))
+    (subst (λ (x : List Try). IsByThen b0 (stream_turn b t) m'.talk (taken ++ entries_in t.peer t.said) (tries ++ x) (misses + misses_of (turns_of t))) (sym (turn_tries t))
+    (subst (λ (x : ℕ). IsByThen b0 (stream_turn b t) m'.talk (taken ++ entries_in t.peer t.said) (tries ++ tries_in t.peer t.said) (misses + x)) (sym (turn_missed t)) r))
 
-turns_then : (w : ℕ) (log : List StreamTurn) (m m' : StreamMoment Version) (b0 b : StreamsTold) (taken : List Entry) (tries : List Try) (misses : ℕ) → IsStreamSession stream_replies w log m m' → IsByThen b0 b m.line taken tries misses
-    → IsByThen b0 (fold stream_turn b log) m'.line (taken ++ entries_of Stream (lane_of log)) (tries ++ tries_of (lane_of log)) (misses + stream_refusals log)
-turns_then w [] m m' b0 b taken tries misses s i = subst (λ (l : Line). IsByThen b0 b l (taken ++ []) (tries ++ []) (misses + 0)) (sym (ap (λ k. k.line) s)) (more_nothing b0 b m.line taken tries misses i)
+turns_then : (w : ℕ) (log : List StreamTurn) (m m' : StreamMoment Version) (b0 b : StreamsTold) (taken : List Entry) (tries : List Try) (misses : ℕ) → IsStreamSession stream_replies w log m m' → IsByThen b0 b m.talk taken tries misses
+    → IsByThen b0 (fold stream_turn b log) m'.talk (taken ++ entries_of Stream (lane_of log)) (tries ++ tries_of (lane_of log)) (misses + stream_refusals log)
+turns_then w [] m m' b0 b taken tries misses s i = subst (λ (l : TalkState). IsByThen b0 b l (taken ++ []) (tries ++ []) (misses + 0)) (sym (ap (λ k. k.talk) s)) (more_nothing b0 b m.talk taken tries misses i)
 turns_then w (t ∷ log) m m' b0 b taken tries misses s i =
     let one = turn_then w t m s.0 b0 b taken tries misses s.1 i in
     let rest = turns_then w log s.0 m' b0 (stream_turn b t) (taken ++ entries_of Stream (turns_of t)) (tries ++ tries_of (turns_of t)) (misses + misses_of (turns_of t)) s.2 one in
@@ -383,12 +383,12 @@ turns_then w (t ∷ log) m m' b0 b taken tries misses s i =
     append_assoc taken (entries_of Stream (turns_of t)) (entries_of Stream (lane_of log)) ∙ ap (λ x. taken ++ x) (sym (flat_map-append (λ (x : Turn). entries_of_came Stream x.known x.came) (turns_of t) (lane_of log))) in
     let mine : (tries ++ tries_of (turns_of t)) ++ tries_of (lane_of log) ≡ tries ++ tries_of (lane_of (t ∷ log)) =
     append_assoc tries (tries_of (turns_of t)) (tries_of (lane_of log)) ∙ ap (λ x. tries ++ x) (sym (flat_map-append (λ (x : Turn). tries_of_came x.came) (turns_of t) (lane_of log))) in
-    subst (λ (x : List Entry). IsByThen b0 (fold stream_turn b (t ∷ log)) m'.line x (tries ++ tries_of (lane_of (t ∷ log))) (misses + stream_refusals (t ∷ log))) entries
-    (subst (λ (x : List Try). IsByThen b0 (fold stream_turn b (t ∷ log)) m'.line ((taken ++ entries_of Stream (turns_of t)) ++ entries_of Stream (lane_of log)) x (misses + stream_refusals (t ∷ log))) mine
-    (subst (λ (x : ℕ). IsByThen b0 (fold stream_turn b (t ∷ log)) m'.line ((taken ++ entries_of Stream (turns_of t)) ++ entries_of Stream (lane_of log)) ((tries ++ tries_of (turns_of t)) ++ tries_of (lane_of log)) x) count rest))
+    subst (λ (x : List Entry). IsByThen b0 (fold stream_turn b (t ∷ log)) m'.talk x (tries ++ tries_of (lane_of (t ∷ log))) (misses + stream_refusals (t ∷ log))) entries
+    (subst (λ (x : List Try). IsByThen b0 (fold stream_turn b (t ∷ log)) m'.talk ((taken ++ entries_of Stream (turns_of t)) ++ entries_of Stream (lane_of log)) x (misses + stream_refusals (t ∷ log))) mine
+    (subst (λ (x : ℕ). IsByThen b0 (fold stream_turn b (t ∷ log)) m'.talk ((taken ++ entries_of Stream (turns_of t)) ++ entries_of Stream (lane_of log)) ((tries ++ tries_of (turns_of t)) ++ tries_of (lane_of log)) x) count rest))
 
 -- all conversations, where none is open
-run_shut : {V : Type 0} (a : Answers V) (h : List V) (w n floor misses : ℕ) (b0 b : StreamsTold) (l : Line) (taken : List Entry) (tries : List Try) → l.is_open ≡ false → a.silent ≡ is_silent → IsByThen b0 b l taken tries misses → IsLaneRun a h w n floor taken tries
+run_shut : {V : Type 0} (a : Answers V) (h : List V) (w n floor misses : ℕ) (b0 b : StreamsTold) (l : TalkState) (taken : List Entry) (tries : List Try) → l.is_open ≡ false → a.silent ≡ is_silent → IsByThen b0 b l taken tries misses → IsLaneRun a h w n floor taken tries
     → (talks : List Talk) × (b.closed ≡ b0.closed ++ talks) × (b.current ≡ None) × IsStreamRun a h w n floor misses talks taken tries
 run_shut a h w n floor misses b0 b l taken tries is quiet_is i run =
     let none = unopened l.is_open b.current l i.now_taken i.now_tries is i.now in (
@@ -407,7 +407,7 @@ run_shut a h w n floor misses b0 b l taken tries is quiet_is i run =
     )
 
 -- all conversations, where the open one is closed
-run_by : {V : Type 0} (o : Bool) (a : Answers V) (h : List V) (w n floor misses : ℕ) (b0 b : StreamsTold) (l : Line) (taken : List Entry) (tries : List Try) → o ≡ l.is_open → a.silent ≡ is_silent → IsByThen b0 b l taken tries misses → IsLaneRun a h w n floor taken tries
+run_by : {V : Type 0} (o : Bool) (a : Answers V) (h : List V) (w n floor misses : ℕ) (b0 b : StreamsTold) (l : TalkState) (taken : List Entry) (tries : List Try) → o ≡ l.is_open → a.silent ≡ is_silent → IsByThen b0 b l taken tries misses → IsLaneRun a h w n floor taken tries
     → (talks : List Talk) × ((closing_if o b).closed ≡ b0.closed ++ talks) × ((closing_if o b).current ≡ None) × IsStreamRun a h w n floor misses talks taken tries
 run_by true a h w n floor misses b0 b l taken tries is quiet_is i run =
     let i' = shut_then b0 b b l (record l { is_open = false }) taken tries misses i (sym is) refl refl refl in
@@ -418,9 +418,9 @@ run_by false a h w n floor misses b0 b l taken tries is quiet_is i run = run_shu
 all_missed : (n : ℕ) → 0 + n ≡ n
 all_missed n = omega arith
 
-pub runs_of : (w floor : ℕ) (log : List StreamTurn) (m m' : StreamMoment Version) (b : StreamsTold) → IsStreamSession stream_replies w log m m' → m.line.is_open ≡ false → b.current ≡ None → IsLaneRun stream_replies m'.eyes.seen w m.count floor (entries_of Stream (lane_of log)) (tries_of (lane_of log))
-    → (talks : List Talk) × ((closing_if m'.line.is_open (fold stream_turn b log)).closed ≡ b.closed ++ talks) × ((closing_if m'.line.is_open (fold stream_turn b log)).current ≡ None) × IsStreamRun stream_replies m'.eyes.seen w m.count floor (stream_refusals log) talks (entries_of Stream (lane_of log)) (tries_of (lane_of log))
+pub runs_of : (w floor : ℕ) (log : List StreamTurn) (m m' : StreamMoment Version) (b : StreamsTold) → IsStreamSession stream_replies w log m m' → m.talk.is_open ≡ false → b.current ≡ None → IsLaneRun stream_replies m'.eyes.seen w m.count floor (entries_of Stream (lane_of log)) (tries_of (lane_of log))
+    → (talks : List Talk) × ((closing_if m'.talk.is_open (fold stream_turn b log)).closed ≡ b.closed ++ talks) × ((closing_if m'.talk.is_open (fold stream_turn b log)).current ≡ None) × IsStreamRun stream_replies m'.eyes.seen w m.count floor (stream_refusals log) talks (entries_of Stream (lane_of log)) (tries_of (lane_of log))
 runs_of w floor log m m' b s is none run =
-    let first = at_first b m.line is none in
-    let i = subst (λ (x : ℕ). IsByThen b (fold stream_turn b log) m'.line (entries_of Stream (lane_of log)) (tries_of (lane_of log)) x) (all_missed (stream_refusals log)) (turns_then w log m m' b b [] [] 0 s first) in
-    run_by m'.line.is_open stream_replies m'.eyes.seen w m.count floor (stream_refusals log) b (fold stream_turn b log) m'.line (entries_of Stream (lane_of log)) (tries_of (lane_of log)) refl refl i run
+    let first = at_first b m.talk is none in
+    let i = subst (λ (x : ℕ). IsByThen b (fold stream_turn b log) m'.talk (entries_of Stream (lane_of log)) (tries_of (lane_of log)) x) (all_missed (stream_refusals log)) (turns_then w log m m' b b [] [] 0 s first) in
+    run_by m'.talk.is_open stream_replies m'.eyes.seen w m.count floor (stream_refusals log) b (fold stream_turn b log) m'.talk (entries_of Stream (lane_of log)) (tries_of (lane_of log)) refl refl i run

@@ -11,7 +11,7 @@ use Rattle.lane_model.specs.Lanes.{Answers}
 use Rattle.lane_model.specs.Turns.{AreCalm, AreGiven, IsGiven, entries_of, failures, refused, refused_of, tries_of}
 use Rattle.lane_model.specs.Calls.{Eyes, IsGateRun, IsLaneLog, AreTurns, Moment}
 use Rattle.tcp_lane.specs.Stream.{IsStreamRun}
-use Rattle.tcp_lane.specs.Turns.{IsBroken, IsRuled, Line, StreamTurn, closing_if, ended, lane_of, lead_of, stream_turn, turns_of}
+use Rattle.tcp_lane.specs.Turns.{IsBroken, IsRuled, StreamTurn, TalkState, closing_if, ended, lane_of, lead_of, stream_turn, turns_of}
 
 -- a lane at one moment: what its streams, gate and notes tell; its viewer and door; the number of the next message; the counts of faults; and its conversation
 pub record StreamMoment (V : Type 0) : Type 0 where
@@ -22,7 +22,7 @@ pub record StreamMoment (V : Type 0) : Type 0 where
   pub count : ℕ
   pub stream_faults : ℕ
   pub gate_faults : ℕ
-  pub line : Line
+  pub talk : TalkState
 
 -- a viewer and its door, the number of the next message, and a count of faults, as a moment of a lane whose port, gate and notes tell nothing
 abbrev pub inner : {V : Type 0} → Eyes V → ℕ → ℕ → Moment V
@@ -35,7 +35,7 @@ pub record IsStreamTurn {V : Type 0} (a : Answers V) (w : ℕ) (t : StreamTurn) 
   pub streams : BothTell m.streams m'.streams (λ b c. c ≡ stream_turn b t)
   pub session : AreTurns a w (turns_of t) (inner m.eyes m.count m.stream_faults) (inner m'.eyes m'.count m'.stream_faults)
   pub gate_later : m.gate_faults ≤ m'.gate_faults
-  pub ruled : IsRuled t.came m.line t m'.line
+  pub ruled : IsRuled t.came m.talk t m'.talk
 
 -- some turns, one after the other
 abbrev pub IsStreamSession : {V : Type 0} → Answers V → ℕ → List StreamTurn → StreamMoment V → StreamMoment V → Type 0
@@ -77,9 +77,9 @@ IsStreamEnd turns log (end.Above known newest) = ⊥
 IsStreamEnd turns log end.Spent = AreCalm (lane_of log) × (stream_failures log < 8) × (length log ≡ turns)
 
 -- the rules of some turns, one after the other
-abbrev pub AreRuled : Line → List StreamTurn → Line → Type 0
+abbrev pub AreRuled : TalkState → List StreamTurn → TalkState → Type 0
 AreRuled s [] s' = s' ≡ s
-AreRuled s (t ∷ log) s' = (mid : Line) × IsRuled t.came s t mid × AreRuled mid log s'
+AreRuled s (t ∷ log) s' = (mid : TalkState) × IsRuled t.came s t mid × AreRuled mid log s'
 
 -- A call of a stream lane, over the turns that it made. All of them, as turns of a lane, are a lane's log: what was told is minded, what is seen and known rises, each message that isn't silent has one look, messages are counted on. What streams, gate and notes tell by then follows turn by turn. Whatever streams told before, if no conversation was open: the conversations that they tell of behind those are a stream run over what the viewer has seen, in which as many looks are refused as in the turns. A conversation is closed where the rules say so, and where it is open at the end.
 pub record IsStreamCall {V : Type 0} (a : Answers V) (w turns : ℕ) (m m' : StreamMoment V) (result : Ended) : Type 0 where
@@ -94,5 +94,5 @@ pub record IsStreamCall {V : Type 0} (a : Answers V) (w turns : ℕ) (m m' : Str
   pub runs : (b : StreamsTold) → b.current ≡ None → (floor : ℕ) → floor < length m.eyes.heard
       → (talks : List Talk) × ((closing_if closes (fold stream_turn b log)).closed ≡ b.closed ++ talks) × ((closing_if closes (fold stream_turn b log)).current ≡ None)
       × IsStreamRun a m'.eyes.seen w m.count floor (stream_refusals log) talks (entries_of a.way (lane_of log)) (tries_of (lane_of log))
-  pub rules : (line : Line) × AreRuled m.line log line × (closes ≡ line.is_open)
+  pub rules : (talk : TalkState) × AreRuled m.talk log talk × (closes ≡ talk.is_open)
   pub ending : IsStreamEnd turns log result

@@ -19,7 +19,7 @@ use Rattle.name_workers.specs.declared.ending.Step.TheVariants as step
 use Rattle.tcp_lane.specs.declared.answering.Fared.{Fared}
 use Rattle.tcp_lane.specs.declared.answering.Fared.TheVariants as fared
 use Rattle.tcp_lane.specs.Replies.{stream_replies}
-use Rattle.tcp_lane.specs.Turns.{AreKnown, AreWell, StreamCame, IsBroken, IsPiece, IsRuled, Line, Said, StreamTurn, lane_came, closing_if, ended, got, stream_after, known_behind, lane_of, saying, stream_turn, turn_of}
+use Rattle.tcp_lane.specs.Turns.{AreKnown, AreWell, StreamCame, IsBroken, IsPiece, IsRuled, Said, StreamTurn, TalkState, lane_came, closing_if, ended, got, stream_after, known_behind, lane_of, saying, stream_turn, turn_of}
 use Rattle.tcp_lane.specs.Calls.{IsStreamEnd, IsStreamLast, IsStreamSession, IsStreamStop, IsStreamTurn, StreamMoment, inner}
 
 -- what streams tell, and their faults
@@ -86,7 +86,7 @@ IsStepOf step.PortFailed t = ((AreWell t.said × (fails_of (lane_came t.came) �
 IsStepOf step.Refused t = IsBroken (λ f. f ≡ refused) t.said × (is_calm (lane_came t.came) ≡ true) × (fails_of (lane_came t.came) ≡ 0)
 
 -- what an answer of accept or read without a piece does
-pub record IsPlain (known : ℕ) (l l' : Line) (s : Step) (p q : Wire) : Type 0 where
+pub record IsPlain (known : ℕ) (l l' : TalkState) (s : Step) (p q : Wire) : Type 0 where
   pub came : StreamCame
   pub closes : Bool
   pub told : BothTell p.told q.told (λ b c. c ≡ closing_if closes (stream_after known came b))
@@ -96,7 +96,7 @@ pub record IsPlain (known : ℕ) (l l' : Line) (s : Step) (p q : Wire) : Type 0 
   pub step : IsStepOf s (plain known came l.peer closes)
 
 -- what the messages of a piece do, behind its read
-pub record IsPieceTaken (w n n' : ℕ) (octets : List ℕ) (l l' : Line) (s : Step) (e f : Eyes Version) (p q : Wire) : Type 0 where
+pub record IsPieceTaken (w n n' : ℕ) (octets : List ℕ) (l l' : TalkState) (s : Step) (e f : Eyes Version) (p q : Wire) : Type 0 where
   pub t : StreamTurn
   pub came : t.came ≡ got octets
   pub known_is : t.known + 1 ≡ length e.heard
@@ -106,7 +106,7 @@ pub record IsPieceTaken (w n n' : ℕ) (octets : List ℕ) (l l' : Line) (s : St
   pub step : IsStepOf s t
 
 -- what an answer of accept or read and the messages behind it do
-pub record IsTaken (w n n' : ℕ) (l l' : Line) (s : Step) (e f : Eyes Version) (p q : Wire) : Type 0 where
+pub record IsTaken (w n n' : ℕ) (l l' : TalkState) (s : Step) (e f : Eyes Version) (p q : Wire) : Type 0 where
   pub t : StreamTurn
   pub known_is : t.known + 1 ≡ length e.heard
   pub middle : ℕ

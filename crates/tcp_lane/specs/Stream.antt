@@ -74,7 +74,7 @@ IsWhy true silent entries more tries written = HasMissed silent more tries writt
 IsWhy false silent entries more tries written = HasFailed silent entries tries written
 
 -- a conversation whose last piece has messages that don't count, if there are more of them
-pub record IsCut (blind : Bool) (silent : List ℕ → Bool) (t : Talk) (taken : List Entry) (tries : List Try) : Type 0 where
+pub record IsTakenInPart (blind : Bool) (silent : List ℕ → Bool) (t : Talk) (taken : List Entry) (tries : List Try) : Type 0 where
   pub rounds : List Round
   pub last : Round
   pub more : List (List ℕ)
@@ -87,8 +87,8 @@ pub record IsCut (blind : Bool) (silent : List ℕ → Bool) (t : Talk) (taken :
 
 -- what was read of a conversation, taken from it and written to it: one that is not blind misses no reply but behind a write that failed
 abbrev pub IsTalk : Bool → (List ℕ → Bool) → Talk → List Entry → List Try → Type 0
-IsTalk true silent t taken tries = IsCut true silent t taken tries
-IsTalk false silent t taken tries = IsWhole silent t taken tries ⊎ IsCut false silent t taken tries
+IsTalk true silent t taken tries = IsTakenInPart true silent t taken tries
+IsTalk false silent t taken tries = IsWhole silent t taken tries ⊎ IsTakenInPart false silent t taken tries
 
 -- a conversation, whether it is blind, its messages that count, and the replies that were tried
 pub record Conversation : Type 0 where

@@ -99,15 +99,15 @@ abbrev pub stream_turn : StreamsTold → StreamTurn → StreamsTold
 stream_turn b t = closing_if t.closes (fold (saying t.cut) (stream_after t.known t.came b) t.said)
 
 -- the conversation of a lane: whether one is open, with whom, the octets of its unfinished message, and how many reads in a row were quiet
-pub record Line : Type 0 where
+pub record TalkState : Type 0 where
   pub is_open : Bool
   pub peer : Peer
   pub held : List ℕ
   pub quiets : ℕ
 
 -- none is open, and none was
-abbrev pub no_line : Line
-no_line = record { is_open = false; peer = record { addr = V4 0; port = 0 }; held = []; quiets = 0 }
+abbrev pub no_talk : TalkState
+no_talk = record { is_open = false; peer = record { addr = V4 0; port = 0 }; held = []; quiets = 0 }
 
 -- the message has no reply, or its reply was written
 abbrev pub is_well : Fate → Bool
@@ -160,12 +160,12 @@ is_closed_by lost = true
 is_closed_by blind = true
 
 -- the conversation goes on so, or was closed
-abbrev pub IsLeft : Bool → Line → Line → Type 0
+abbrev pub IsLeft : Bool → TalkState → TalkState → Type 0
 IsLeft true next after = after.is_open ≡ false
 IsLeft false next after = after ≡ next
 
 -- a piece was read, and all its whole messages were taken
-pub record IsPiece (octets : List ℕ) (s : Line) (t : StreamTurn) (s' : Line) : Type 0 where
+pub record IsPiece (octets : List ℕ) (s : TalkState) (t : StreamTurn) (s' : TalkState) : Type 0 where
   pub from : t.peer ≡ s.peer
   pub rest : List ℕ
   pub ending : PieceEnd
@@ -181,7 +181,7 @@ abbrev pub most_quiets : ℕ
 most_quiets = 200
 
 -- what a turn does to the conversation of a lane, by what was answered
-abbrev pub IsRuled : StreamCame → Line → StreamTurn → Line → Type 0
+abbrev pub IsRuled : StreamCame → TalkState → StreamTurn → TalkState → Type 0
 IsRuled idle s t s' = (s.is_open ≡ false) × (t.said ≡ []) × (t.closes ≡ false) × (s' ≡ s)
 IsRuled ended s t s' = (s.is_open ≡ false) × (t.said ≡ []) × (t.closes ≡ false) × (s' ≡ s)
 IsRuled missed s t s' = (s.is_open ≡ false) × (t.said ≡ []) × (t.closes ≡ false) × (s' ≡ s)

@@ -5,6 +5,6 @@
 
 mod answering;
 mod serve;
-mod talking;
+mod talk;
 
 pub use serve::serve_streams;

@@ -3,13 +3,13 @@
 ghost use Rattle.std.specs.Prelude.{◌≡◌, ◌≤◌, ◌<◌, ◌-◌, true, false, length};
 ghost use Rattle.name_workers.specs.Moments.{eyes_of};
 ghost use Rattle.tcp_lane.specs.Calls.{IsStreamCall};
-ghost use Rattle.tcp_lane.specs.Moments.{line_of, stream_moment_of};
+ghost use Rattle.tcp_lane.specs.Moments.{stream_moment_of, talk_state_of};
 ghost use Rattle.tcp_lane.specs.Replies.{stream_replies};
 ghost use Rattle.tcp_lane.specs.Steps.{IsPieceTaken, IsPlain, IsServed, IsTaken, IsTurned};
-ghost use Rattle.tcp_lane.specs.Turns.{no_line};
+ghost use Rattle.tcp_lane.specs.Turns.{no_talk};
 
 use crate::answering::{answer_all, is_on, step_of};
-use crate::talking::{Talking, close, joined, kept, no_talk, rest_once};
+use crate::talk::{LaneTalk, close, joined, kept, no_talk, rest_once};
 use arrayvec::ArrayVec;
 use lane_model::Ended;
 use map_cell::{Door, Naming, Note};
@@ -22,15 +22,15 @@ fn take_piece<J: Naming, Q: Streams, D: Door>(
     worker: &mut Worker<J>,
     streams: &mut Q,
     door: &mut D,
-    talk: &mut Talking,
+    talk: &mut LaneTalk,
     piece: &[u8],
 ) -> Step
     requires piece { length piece.now ≤ LARGEST_FRAME }
     requires few { talk.old.quiets < 200 }
     ensures few { talk.new.quiets < 200 }
     ensures taken { IsPieceTaken worker.old.number worker.old.count worker.new.count piece.now
-        (line_of talk.old)
-        (line_of talk.new) result
+        (talk_state_of talk.old)
+        (talk_state_of talk.new) result
         (eyes_of D.looks D.greatest D.faults worker.old.viewer door.old)
         (eyes_of D.looks D.greatest D.faults worker.new.viewer door.new)
         (record { told = Q.told streams.old; faults = Q.faults streams.old }) (record { told = Q.told streams.new; faults = Q.faults streams.new }) }
@@ -53,13 +53,13 @@ fn take_piece<J: Naming, Q: Streams, D: Door>(
 }
 
 /// Takes the next conversation.
-fn accept_one<Q: Streams>(known: u64, streams: &mut Q, talk: &mut Talking) -> Step
+fn accept_one<Q: Streams>(known: u64, streams: &mut Q, talk: &mut LaneTalk) -> Step
     requires shut { talk.old.is_open ≡ false }
     requires few { talk.old.quiets < 200 }
     ensures few { talk.new.quiets < 200 }
     ensures plain { IsPlain known
-        (line_of talk.old)
-        (line_of talk.new) result
+        (talk_state_of talk.old)
+        (talk_state_of talk.new) result
         (record { told = Q.told streams.old; faults = Q.faults streams.old }) (record { told = Q.told streams.new; faults = Q.faults streams.new }) }
 {
     match streams.accept(known) {
@@ -81,15 +81,15 @@ fn read_one<J: Naming, Q: Streams, D: Door>(
     worker: &mut Worker<J>,
     streams: &mut Q,
     door: &mut D,
-    talk: &mut Talking,
+    talk: &mut LaneTalk,
     buffer: &mut [u8; LARGEST_FRAME],
 ) -> Step
     requires open_ { talk.old.is_open ≡ true }
     requires few { talk.old.quiets < 200 }
     ensures few { talk.new.quiets < 200 }
     ensures taken { IsTaken worker.old.number worker.old.count worker.new.count
-        (line_of talk.old)
-        (line_of talk.new) result
+        (talk_state_of talk.old)
+        (talk_state_of talk.new) result
         (eyes_of D.looks D.greatest D.faults worker.old.viewer door.old)
         (eyes_of D.looks D.greatest D.faults worker.new.viewer door.new)
         (record { told = Q.told streams.old; faults = Q.faults streams.old }) (record { told = Q.told streams.new; faults = Q.faults streams.new }) }
@@ -118,14 +118,14 @@ fn take_one<J: Naming, Q: Streams, D: Door>(
     worker: &mut Worker<J>,
     streams: &mut Q,
     door: &mut D,
-    talk: &mut Talking,
+    talk: &mut LaneTalk,
     buffer: &mut [u8; LARGEST_FRAME],
 ) -> Step
     requires few { talk.old.quiets < 200 }
     ensures few { talk.new.quiets < 200 }
     ensures taken { IsTaken worker.old.number worker.old.count worker.new.count
-        (line_of talk.old)
-        (line_of talk.new) result
+        (talk_state_of talk.old)
+        (talk_state_of talk.new) result
         (eyes_of D.looks D.greatest D.faults worker.old.viewer door.old)
         (eyes_of D.looks D.greatest D.faults worker.new.viewer door.new)
         (record { told = Q.told streams.old; faults = Q.faults streams.old }) (record { told = Q.told streams.new; faults = Q.faults streams.new }) }
@@ -146,14 +146,14 @@ fn one_turn<J: Naming, Q: Streams, G: Gate, D: Door, N: Notes<Note<J>>>(
     gate: &mut G,
     door: &mut D,
     notes: &mut N,
-    talk: &mut Talking,
+    talk: &mut LaneTalk,
     buffer: &mut [u8; LARGEST_FRAME],
 ) -> Step
     requires few { talk.old.quiets < 200 }
     ensures few { talk.new.quiets < 200 }
     ensures turned { IsTurned worker.old.number result
-        (stream_moment_of Q.told Q.faults G.told G.faults N.told streams.old gate.old notes.old (eyes_of D.looks D.greatest D.faults worker.old.viewer door.old) worker.old.count (line_of talk.old))
-        (stream_moment_of Q.told Q.faults G.told G.faults N.told streams.new gate.new notes.new (eyes_of D.looks D.greatest D.faults worker.new.viewer door.new) worker.new.count (line_of talk.new)) }
+        (stream_moment_of Q.told Q.faults G.told G.faults N.told streams.old gate.old notes.old (eyes_of D.looks D.greatest D.faults worker.old.viewer door.old) worker.old.count (talk_state_of talk.old))
+        (stream_moment_of Q.told Q.faults G.told G.faults N.told streams.new gate.new notes.new (eyes_of D.looks D.greatest D.faults worker.new.viewer door.new) worker.new.count (talk_state_of talk.new)) }
     ensures number { worker.new.number ≡ worker.old.number }
     ensures asked { D.asked door.new ≡ D.asked door.old }
 {
@@ -171,13 +171,13 @@ fn serve_turns<J: Naming, Q: Streams, G: Gate, D: Door, N: Notes<Note<J>>>(
     gate: &mut G,
     door: &mut D,
     notes: &mut N,
-    talk: &mut Talking,
+    talk: &mut LaneTalk,
     turns: u64,
 ) -> Ended
     requires few { talk.old.quiets < 200 }
     ensures served { IsServed worker.old.number turns
-        (stream_moment_of Q.told Q.faults G.told G.faults N.told streams.old gate.old notes.old (eyes_of D.looks D.greatest D.faults worker.old.viewer door.old) worker.old.count (line_of talk.old))
-        (stream_moment_of Q.told Q.faults G.told G.faults N.told streams.new gate.new notes.new (eyes_of D.looks D.greatest D.faults worker.new.viewer door.new) worker.new.count (line_of talk.new)) result }
+        (stream_moment_of Q.told Q.faults G.told G.faults N.told streams.old gate.old notes.old (eyes_of D.looks D.greatest D.faults worker.old.viewer door.old) worker.old.count (talk_state_of talk.old))
+        (stream_moment_of Q.told Q.faults G.told G.faults N.told streams.new gate.new notes.new (eyes_of D.looks D.greatest D.faults worker.new.viewer door.new) worker.new.count (talk_state_of talk.new)) result }
     ensures number { worker.new.number ≡ worker.old.number }
     ensures asked { D.asked door.new ≡ D.asked door.old }
 {
@@ -211,8 +211,8 @@ pub fn serve_streams<J: Naming, Q: Streams, G: Gate, D: Door, N: Notes<Note<J>>>
     turns: u64,
 ) -> Ended
     ensures call { IsStreamCall stream_replies worker.old.number turns
-        (stream_moment_of Q.told Q.faults G.told G.faults N.told streams.old gate.old notes.old (eyes_of D.looks D.greatest D.faults worker.old.viewer door.old) worker.old.count no_line)
-        (stream_moment_of Q.told Q.faults G.told G.faults N.told streams.new gate.new notes.new (eyes_of D.looks D.greatest D.faults worker.new.viewer door.new) worker.new.count no_line) result }
+        (stream_moment_of Q.told Q.faults G.told G.faults N.told streams.old gate.old notes.old (eyes_of D.looks D.greatest D.faults worker.old.viewer door.old) worker.old.count no_talk)
+        (stream_moment_of Q.told Q.faults G.told G.faults N.told streams.new gate.new notes.new (eyes_of D.looks D.greatest D.faults worker.new.viewer door.new) worker.new.count no_talk) result }
     ensures number { worker.new.number ≡ worker.old.number }
     // No place is asked for.
     ensures asked { D.asked door.new ≡ D.asked door.old }

@@ -17,7 +17,7 @@ use std::thread::Threads;
 
 /// All that the program is lent.
 #[derive(Drop)]
-pub struct Lent<P, Q, G, D, M> {
+pub struct AllLent<P, Q, G, D, M> {
     pub words: Vec<String>,
     pub files: MemShelf,
     pub feed: MemSource,
@@ -30,7 +30,7 @@ pub struct Lent<P, Q, G, D, M> {
 }
 
 /// The same, all of it in memory.
-pub type MemLent = Lent<MemPort, MemStreams, MemGate, MemDoor, MemPace>;
+pub type MemLent = AllLent<MemPort, MemStreams, MemGate, MemDoor, MemPace>;
 
 /// Runs the program.
 pub fn run<
@@ -40,7 +40,7 @@ pub fn run<
     G: Gate + Send,
     D: Door + Send,
     M: Pace,
->(rt: &R, alloc: Global, lent: &mut Lent<P, Q, G, D, M>, turns: u64) -> Status
+>(rt: &R, alloc: Global, lent: &mut AllLent<P, Q, G, D, M>, turns: u64) -> Status
     requires feeds { vec_len lent.old.more ≡ 3 }
     requires lanes { vec_len lent.old.lanes ≡ 16 }
     requires turns { (1 ≤ turns) × (turns ≤ 2 ^ 48) }
@@ -83,7 +83,7 @@ fn lent_of(
     requires { vec_len more ≡ 3 }
     ensures { IfOk result (λ l. (vec_len l.lanes ≡ 16) × (vec_len l.more ≡ 3)) }
 {
-    Ok(Lent {
+    Ok(AllLent {
         words: words_of(alloc, words)?,
         files,
         feed,

@@ -11,7 +11,7 @@ mod sessions;
 mod streams;
 mod texts;
 
-pub use came::{Came, Lent, MemLent, are_joined, run};
+pub use came::{AllLent, Came, MemLent, are_joined, run};
 pub use commands::{ROOM, Row, came_of, came_over, first_wrong};
 pub use fails::{Fails, NEVER};
 pub use feeds::{EMPTY, FeedScript, feeds_of};

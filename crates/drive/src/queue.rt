@@ -3,10 +3,10 @@ ghost use Rattle.std.specs.Prelude.{◌≡◌, ◌+◌, ◌≤◌, ◌∷◌, Al
 ghost use Rattle.std.specs.Arc.{arc_value};
 ghost use mathlib.Core.List.{IsPrefix};
 ghost use Rattle.feed_queue.specs.Items.{AreTaken, sent_by};
-ghost use Rattle.drive.specs.Line.{IsLine};
+ghost use Rattle.drive.specs.Queue.{IsFeedQueue};
 
 use crate::loan::Desk;
-use crate::start::Start;
+use crate::start_signal::StartSignal;
 use feed_queue::{Feeder, Numbers, Taker, open};
 use no_memory::NoMemory;
 use std::alloc::Global;
@@ -15,7 +15,7 @@ use topology_text::Topology;
 
 /// The feeders of a queue, the one of the first feed by itself, who takes from it, and what the feeders share.
 #[derive(Drop)]
-pub(crate) struct Line<N: Numbers> {
+pub(crate) struct FeedQueue<N: Numbers> {
     pub desk: Desk,
     pub first: Feeder<N>,
     pub feeders: Vec<Feeder<N>>,
@@ -23,27 +23,27 @@ pub(crate) struct Line<N: Numbers> {
 }
 
 /// A queue for the first feed and so many further ones, each of which is read for so many turns.
-pub(crate) fn open_line<N: Numbers>(
+pub(crate) fn open_queue<N: Numbers>(
     alloc: Global,
     topology: &Arc<Topology>,
     count: u8,
     turns: u64,
-) -> Result<Line<N>, NoMemory>
+) -> Result<FeedQueue<N>, NoMemory>
     requires few { count ≤ 3 }
     requires groups { length (arc_value topology.now).market.groups ≡ N.groups }
     requires nodes { length (arc_value topology.now).market.nodes ≡ N.nodes }
-    ensures line { IfOk result (λ r. IsLine N.groups N.nodes count (arc_value topology.now) r) }
+    ensures queue { IfOk result (λ r. IsFeedQueue N.groups N.nodes count (arc_value topology.now) r) }
     ensures turns { IfOk result (λ r. r.desk.turns ≡ turns) }
 {
     let topology = Arc::try_clone(topology)?;
     let (made, taker) = open::<N>(alloc, 1 + count)?;
     let mut feeders = made;
     let first = feeders.remove(0);
-    Ok(Line {
+    Ok(FeedQueue {
         desk: Desk {
             topology,
             turns,
-            start: Start::new(),
+            start: StartSignal::new(),
         },
         first,
         feeders,

@@ -1,5 +1,5 @@
 //! Files and pipes that are opened by their names.
-use crate::{NamedStream, StreamSource};
+use edges::{NamedStream, StreamSource};
 use outside::{NamedSource, Opening, Read, Source};
 use std::alloc::Global;
 use std::fs::OpenOptions;

@@ -4,7 +4,7 @@ use Rattle.feed_queue.specs.Ends.{FeederState, TakerState}
 use Rattle.feed_queue.specs.Items.{sent_by}
 use Rattle.drive.proofs.Holding.{all_front}
 use Rattle.drive.proofs.Several.{back_all, back_more}
-use Rattle.drive.proofs.line.all_back.Goals as goal
+use Rattle.drive.proofs.queue.all_back.Goals as goal
 
 pub loop-feeder-preserved : goal.loop-feeder-preserved
 loop-feeder-preserved g c =

@@ -2,7 +2,7 @@ use Rattle.std.proofs.Common.{◌≡◌, ◌++◌, List, All, vec_len}
 use mathlib.Core.List.{IsPrefix}
 use Rattle.feed_queue.specs.Ends.{FeederState}
 use Rattle.feed_queue.specs.Items.{sent_by}
-use Rattle.drive.proofs.line.all_back.Given as goal
+use Rattle.drive.proofs.queue.all_back.Given as goal
 
 abbrev pub invariant-loop-feeder : goal.invariant-loop-feeder
 invariant-loop-feeder g l = (l.taker ≡ l.fn.taker) × All (λ f. f.queue ≡ l.fn.taker.queue) l.left.items

@@ -2,8 +2,8 @@
 ghost use Rattle.std.specs.Prelude.{◌≡◌, ◌≤◌, ◌<◌, ◌+◌, ◌++◌, ◌==◌, false, length, []};
 ghost use Rattle.outside.specs.Faults.{BothTell};
 ghost use Rattle.outside.specs.Streams.{closing};
-ghost use Rattle.tcp_lane.specs.Moments.{line_of};
-ghost use Rattle.tcp_lane.specs.Turns.{IsLeft, closing_if, no_line};
+ghost use Rattle.tcp_lane.specs.Moments.{talk_state_of};
+ghost use Rattle.tcp_lane.specs.Turns.{IsLeft, closing_if, no_talk};
 
 use addr_text::{Addr, Peer};
 use arrayvec::ArrayVec;
@@ -19,7 +19,7 @@ const MOST_QUIETS: u8 = 200;
 /// The conversation of a lane: whether one is open, with whom, the octets of its unfinished message, and how many reads
 /// in a row were quiet.
 #[derive(Drop)]
-pub(crate) struct Talking {
+pub(crate) struct LaneTalk {
     pub(crate) is_open: bool,
     pub(crate) peer: Peer,
     pub(crate) held: ArrayVec<u8, LARGEST_REST>,
@@ -27,10 +27,10 @@ pub(crate) struct Talking {
 }
 
 /// Before the first conversation.
-pub(crate) fn no_talk() -> Talking
-    ensures { (result.is_open ≡ false) × (result.peer ≡ no_line.peer) × (result.held.items ≡ []) × (result.quiets ≡ 0) }
+pub(crate) fn no_talk() -> LaneTalk
+    ensures { (result.is_open ≡ false) × (result.peer ≡ no_talk.peer) × (result.held.items ≡ []) × (result.quiets ≡ 0) }
 {
-    Talking {
+    LaneTalk {
         is_open: false,
         peer: Peer {
             addr: Addr::V4(0),
@@ -63,7 +63,7 @@ pub(crate) fn kept(rest: &[u8]) -> ArrayVec<u8, LARGEST_REST>
 }
 
 /// Closes the conversation.
-pub(crate) fn close<Q: Streams>(streams: &mut Q, talk: &mut Talking)
+pub(crate) fn close<Q: Streams>(streams: &mut Q, talk: &mut LaneTalk)
     ensures told { BothTell (Q.told streams.old) (Q.told streams.new) (λ b c. c ≡ closing b) }
     ensures faults { Q.faults streams.new ≡ Q.faults streams.old }
     ensures shut { talk.new.is_open ≡ false }
@@ -74,11 +74,11 @@ pub(crate) fn close<Q: Streams>(streams: &mut Q, talk: &mut Talking)
 }
 
 /// Counts a read that was quiet. Too many in a row close the conversation.
-pub(crate) fn rest_once<Q: Streams>(streams: &mut Q, talk: &mut Talking)
+pub(crate) fn rest_once<Q: Streams>(streams: &mut Q, talk: &mut LaneTalk)
     requires { talk.old.quiets < 200 }
     ensures told { BothTell (Q.told streams.old) (Q.told streams.new) (λ b c. c ≡ closing_if (talk.old.quiets + 1 == 200) b) }
     ensures faults { Q.faults streams.new ≡ Q.faults streams.old }
-    ensures left { IsLeft (talk.old.quiets + 1 == 200) (record (line_of talk.old) { quiets = talk.old.quiets + 1 }) (line_of talk.new) }
+    ensures left { IsLeft (talk.old.quiets + 1 == 200) (record (talk_state_of talk.old) { quiets = talk.old.quiets + 1 }) (talk_state_of talk.new) }
     ensures few { talk.new.quiets < 200 }
 {
     talk.quiets += 1;

@@ -1,8 +1,8 @@
 //! Streams over TCP on loopback: messages cut and put together, lengths that are too great, resets, and places that ran
 //! out.
-use crate::peers::{peer_of, socket_addr};
-use crate::{FlagGate, FlagPace, ManyStreams, SharedTcp, StopFlag};
+use super::peers::{peer_of, socket_addr};
 use addr_text::{Addr, Listen, Peer};
+use edges::{FlagGate, FlagPace, ManyStreams, SharedTcp, StopFlag};
 use outside::{Accepting, Gate, Opening, Pace, Reading, Streams, Turning, Writing};
 use std::alloc::Global;
 use std::io::{Read, Write};

@@ -1,9 +1,12 @@
 //! Readers and writers of std in memory, at the limit and past it; UDP on loopback; and the flag.
 ghost use Rattle.std.specs.Prelude.{◌≡◌, ◌≤◌, length};
 
-use super::*;
-use crate::peers::{peer_of, socket_addr};
+use crate::tests::peers::{peer_of, socket_addr};
 use addr_text::{Addr, Listen, Peer};
+use edges::{
+    FileShelf, FlagGate, FlagPace, Knock, SharedUdp, StandardStream, StopFlag, StreamSink,
+    StreamSource, UdpPort, arrival_of, is_broken, knock_of, read_within, sending_of,
+};
 use outside::{
     Arrival, Gate, LoadFault, Opening, Pace, Port, Put, Read, Sending, Shelf, Sink, Source, Turning,
 };
@@ -14,6 +17,7 @@ use std::thread::{Threads, join_mut};
 use std::time::Duration;
 
 mod named;
+mod peers;
 mod tcp;
 
 /// A limit, how many octets are expected, and whether four are read whole.

@@ -5,17 +5,17 @@ use std::sync::{OnceLock, Wait};
 
 /// Where feeders wait until a thread was asked for each of them.
 #[derive(Drop)]
-pub(crate) struct Start {
+pub(crate) struct StartSignal {
     /// Whether one of them got none.
     is_short: AtomicBool,
     /// Whether they may read, once that is known.
     may_read: OnceLock<bool>,
 }
 
-impl Start {
+impl StartSignal {
     /// One for which no thread was asked so far.
-    pub fn new() -> Start {
-        Start {
+    pub fn new() -> StartSignal {
+        StartSignal {
             is_short: AtomicBool::new(false),
             may_read: OnceLock::new(),
         }
