@@ -17,7 +17,7 @@ use Rattle.glb.specs.Told.{IsOutAlone, Surroundings, faults_of, outside_of}
 
 -- a run that touches the files and the output alone
 pub record IsShortRun (ask : Option Ask) (before after : Surroundings) (result : Status) : Type 0 where
-  pub run : short.IsRun ask (outside_of before) (outside_of after) result
+  pub run : short.IsSayingRun ask (outside_of before) (outside_of after) result
   pub rest : IsOutAlone before.stage after.stage
 
 -- what a run does
