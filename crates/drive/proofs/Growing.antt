@@ -147,7 +147,7 @@ feed_over t turns end fed fed' first last h h' g g' out maps out' maps' pace pac
     subst (λ (x : List Version). IsFeed t turns end fed fed' (scene first g out maps pace) (scene last x out' maps' pace')) same' (subst (λ (x : List Version). IsFeed t turns end fed fed' (scene first x out maps pace) (scene last h' out' maps' pace')) same f)
 
 -- the same of several feeds
-pub together_over : (t : Plan) (turns : ℕ) (end : FeedEnd) (fed fed' : Option Fed) (more more' : List FeedTold) (first last : Version) (h h' g g' : List Version) (out maps out' maps' : Option Written) (pace pace' : Option (List PaceCall)) → h ≡ g → h' ≡ g'
-    → AreFedTogether t turns end fed fed' more more' (scene first h out maps pace) (scene last h' out' maps' pace') → AreFedTogether t turns end fed fed' more more' (scene first g out maps pace) (scene last g' out' maps' pace')
-together_over t turns end fed fed' more more' first last h h' g g' out maps out' maps' pace pace' same same' f =
-    subst (λ (x : List Version). AreFedTogether t turns end fed fed' more more' (scene first g out maps pace) (scene last x out' maps' pace')) same' (subst (λ (x : List Version). AreFedTogether t turns end fed fed' more more' (scene first x out maps pace) (scene last h' out' maps' pace')) same f)
+pub together_over : (t : Plan) (turns : ℕ) (end : FeedEnd) (feed feed' : FeedTold) (more more' : List FeedTold) (first last : Version) (h h' g g' : List Version) (out maps out' maps' : Option Written) (pace pace' : Option (List PaceCall)) → h ≡ g → h' ≡ g'
+    → AreFedTogether t turns end feed feed' more more' (scene first h out maps pace) (scene last h' out' maps' pace') → AreFedTogether t turns end feed feed' more more' (scene first g out maps pace) (scene last g' out' maps' pace')
+together_over t turns end feed feed' more more' first last h h' g g' out maps out' maps' pace pace' same same' f =
+    subst (λ (x : List Version). AreFedTogether t turns end feed feed' more more' (scene first g out maps pace) (scene last x out' maps' pace')) same' (subst (λ (x : List Version). AreFedTogether t turns end feed feed' more more' (scene first x out maps pace) (scene last h' out' maps' pace')) same f)

@@ -49,9 +49,6 @@ Reads t turns fed faults x y f g = IsRead t turns (fed x) (fed y) (faults x) (fa
 abbrev pub tells : {T : Type 0} → (T → Option Fed) → (T → ℕ) → List T → List FeedTold
 tells fed faults xs = map (feed_told fed faults) xs
 
-abbrev pub feds : {T : Type 0} → (T → Option Fed) → (T → ℕ) → List T → List (Option Fed)
-feds fed faults xs = map (λ (x : FeedTold). x.fed) (tells fed faults xs)
-
 -- a feed that was given up: nothing was read of it, and its feeder sent this end alone
 pub given_up : (t : Plan) (turns : ℕ) (fed : Option Fed) (faults : ℕ) (f g : FeederState) → f.sent ≡ [] → g ≡ with_item f (what.End ends.NoMemory) → IsRead t turns fed fed faults faults f g
 given_up t turns fed faults f g unused is =
@@ -117,7 +114,7 @@ module _ {T : Type 0} (t : Plan) (turns : ℕ) (fed : T → Option Fed) (faults 
       all_cons (λ (x : FeederState). x.queue ≡ queue) g gs (r.0.same.0 ∙ ap (λ (s : FeederState). s.queue) first) (queues queue (k + 1) n xs ys fs gs rest r.1)
 
   -- what each sent is told of it by its number
-  pub all_sent : (k : ℕ) (sent : ℕ → List What) (xs ys : List T) (fs gs : List FeederState) → ((i : ℕ) → sent (k + i) ≡ sent_at gs i) → AllRan (Reads t turns fed faults) xs ys fs gs → AreSent t turns k sent (feds fed faults xs) (feds fed faults ys)
+  pub all_sent : (k : ℕ) (sent : ℕ → List What) (xs ys : List T) (fs gs : List FeederState) → ((i : ℕ) → sent (k + i) ≡ sent_at gs i) → AllRan (Reads t turns fed faults) xs ys fs gs → AreSent t turns k sent (tells fed faults xs) (tells fed faults ys)
   all_sent k sent [] [] [] [] same r = tt
   all_sent k sent [] [] [] (g ∷ gs) same r = absurd r
   all_sent k sent [] [] (f ∷ fs) gs same r = absurd r
@@ -163,8 +160,10 @@ module _ {T : Type 0} (t : Plan) (turns : ℕ) (fed : T → Option Fed) (faults 
   all_tied k sent (x ∷ xs) (y ∷ ys) (f ∷ fs) (g ∷ gs) same r =
       let here : k ≡ k + 0 = omega arith in
       let first : sent k ≡ g.sent = ap sent here ∙ same 0 in (
-        λ e. r.0.source (subst (λ (ws : List What). EndsWith ws ends.SourceFault) first e),
-        λ none. r.0.stays (λ e. none (subst (λ (ws : List What). EndsWith ws ends.SourceFault) (sym first) e)),
+        record {
+          rose = λ e. r.0.source (subst (λ (ws : List What). EndsWith ws ends.SourceFault) first e);
+          stays = λ none. r.0.stays (λ e. none (subst (λ (ws : List What). EndsWith ws ends.SourceFault) (sym first) e));
+        },
         all_tied (k + 1) sent xs ys fs gs (λ i. let n : k + 1 + i ≡ k + suc i = omega arith in ap sent n ∙ same (suc i)) r.1,
       )
 
@@ -377,15 +376,16 @@ module _ {T : Type 0} (t : Plan) (turns : ℕ) (fed : T → Option Fed) (faults 
       whole_of groups nodes taken (g ∷ gs) (subst (λ (n : ℕ). AreTaken groups nodes n taken) (sym size) are) (zero_is, numbered t turns fed faults queue 1 (length xs) xs ys fs gs fresh read)
       ((began, runs_end_last t turns a b g.sent first.sent), all_begun t turns fed faults taken xs ys fs gs begun read) (ended ∙ sym size)
 
-  pub together : (end : FeedEnd) (start stop : Scene) → AreFeeds (1 + length xs) end taken start stop → (end ≢ ends.SinkFault → HasMerged taken start stop) → AreFedTogether t turns end a b (tells fed faults xs) (tells fed faults ys) start stop
+  pub together : (end : FeedEnd) (start stop : Scene) → AreFeeds (1 + length xs) end taken start stop → (end ≢ ends.SinkFault → HasMerged taken start stop)
+      → AreFedTogether t turns end (record { fed = a; faults = i }) (record { fed = b; faults = j }) (tells fed faults xs) (tells fed faults ys) start stop
   together end start stop run merged =
       let w = all_of in
-      let told : length (feds fed faults xs) ≡ length xs = length-map _ _ ∙ length-map _ _ in
-      let count : 1 + length xs ≡ length (a ∷ feds fed faults xs) = omega (arith, told) in record {
+      let told : length (tells fed faults xs) ≡ length xs = length-map _ _ in
+      let count : 1 + length xs ≡ suc (length (tells fed faults xs)) = omega (arith, told) in record {
         sent = sent_at (g ∷ gs);
         items = taken;
         feeds = (first.sent, all_sent t turns fed faults 1 (sent_at (g ∷ gs)) xs ys fs gs (λ k. let n : 1 + k ≡ suc k = omega arith in ap (sent_at (g ∷ gs)) n) read);
-        tied = all_tied t turns fed faults 1 (sent_at (g ∷ gs)) xs ys fs gs (λ k. let n : 1 + k ≡ suc k = omega arith in ap (sent_at (g ∷ gs)) n) read;
+        tied = (record { rose = first.source; stays = first.stays }, all_tied t turns fed faults 1 (sent_at (g ∷ gs)) xs ys fs gs (λ k. let n : 1 + k ≡ suc k = omega arith in ap (sent_at (g ∷ gs)) n) read);
         run = subst (λ (n : ℕ). AreFeeds n end taken start stop) count run;
         merged = merged;
         whole = λ k l. w.whole k (omega (arith, l, count, size));
@@ -408,7 +408,7 @@ module _ {T : Type 0} (t : Plan) (turns : ℕ) (fed : T → Option Fed) (faults 
       (first.stays (none 0), all_stand t turns fed faults xs ys fs gs (λ k. none (suc k)) read)
 
 -- one feed more than none
-pub are_fed : (t : Plan) (turns : ℕ) (end : FeedEnd) (feed feed_after : Option Fed) (more more_after : List FeedTold) (start stop : Scene) → more ≢ []
+pub are_fed : (t : Plan) (turns : ℕ) (end : FeedEnd) (feed feed_after : FeedTold) (more more_after : List FeedTold) (start stop : Scene) → more ≢ []
     → AreFedTogether t turns end feed feed_after more more_after start stop → AreFed t turns end feed more feed_after more_after start stop
 are_fed t turns end feed feed_after [] more_after start stop some f = absurd (some refl)
 are_fed t turns end feed feed_after (m ∷ more) more_after start stop some f = f
@@ -430,7 +430,7 @@ back_all taken all left done e none h = subst (λ (l : List FeederState). All (B
 
 -- what is said of several feeds behind their run
 pub record AreRun (t : Plan) (turns : ℕ) (end : FeedEnd) (a b : Option Fed) (i j : ℕ) (before after : List FeedTold) (start stop : Scene) : Type 0 where
-  pub fed : AreFedTogether t turns end a b before after start stop
+  pub fed : AreFedTogether t turns end (record { fed = a; faults = i }) (record { fed = b; faults = j }) before after start stop
   pub source : end ≡ ends.SourceFault → Rose i j ⊎ AnyRose before after
   pub stays : end ≢ ends.SourceFault → end ≢ ends.SinkFault → (j ≡ i) × AllStand before after
   pub later : (i ≤ j) × NoneFell before after
@@ -446,7 +446,7 @@ several {T = T} t p turns fed faults groups nodes a b i j f g xs ys fs gs opened
     let begun' : All (λ (x : FeederState). IsPrefix (sent_by x.feeder now.taken) x.sent) gs = subst (λ (x : TakerState). All (Begins x.taken) gs) same begun in
     let run' : AreFeeds (1 + length xs) end now.taken start stop = subst (λ (n : ℕ). AreFeeds n end now.taken start stop) size run in
     let all = together t turns fed faults groups nodes opened.queue a b i j f g xs ys fs gs now.taken first first_is read fresh are' began' begun' run'.all end start stop run' merged in
-    let all' = subst (λ (x : Plan). AreFedTogether x turns end a b (tells fed faults xs) (tells fed faults ys) start stop) plan all in record {
+    let all' = subst (λ (x : Plan). AreFedTogether x turns end (record { fed = a; faults = i }) (record { fed = b; faults = j }) (tells fed faults xs) (tells fed faults ys) start stop) plan all in record {
       fed = all';
       source = source_rose t turns fed faults groups nodes opened.queue a b i j f g xs ys fs gs now.taken first first_is read fresh are' began' begun' run'.all end start stop run';
       stays = sources_stand t turns fed faults groups nodes opened.queue a b i j f g xs ys fs gs now.taken first first_is read fresh are' began' begun' run'.all end start stop run';

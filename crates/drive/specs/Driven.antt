@@ -2,7 +2,6 @@
 use Rattle.std.specs.Prelude.{◌≡◌, ℕ, ◌+◌, ◌-◌, List, [], ◌∷◌, ◌++◌, length, map, replicate, Option, None, Some, slice_get}
 use Rattle.map_model.specs.declared.change.Change.{Change}
 use Rattle.outside.specs.Sink.{Written}
-use Rattle.outside.specs.Source.{Fed}
 use Rattle.outside.specs.declared.pace.PaceCall.{PaceCall}
 use Rattle.demand_feed.specs.declared.run.FeedEnd.{FeedEnd}
 use Rattle.published_map.specs.Version.{IsVersion, Version}
@@ -16,7 +15,7 @@ use Rattle.drive.specs.Streams.{AreStreamsDone}
 
 -- what is told at one moment by all that a drive is lent: the feed, the further ones, both outputs, the pace, the lanes, and that for conversations
 pub record Lent : Type 0 where
-  pub feed : Option Fed
+  pub feed : FeedTold
   pub more : List FeedTold
   pub out : Option Written
   pub maps : Option Written

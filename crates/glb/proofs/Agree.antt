@@ -77,14 +77,14 @@ came_by turns ask before after w is calls (c, all, at) = (
 
 -- with one feed, what was worked is that feed's run
 one_feed : (turns : ℕ) (ask : Service) (before after : Surroundings) (w : IsWellServed turns ask before after) → ask.more ≡ []
-    → IsFeed w.topology turns Ended w.started.lent.feed after.stage.lent.feed (scene w.first (w.first ∷ []) w.started.lent.out w.started.lent.maps w.started.lent.pace) (scene w.newest (w.first ∷ w.rest) after.stage.lent.out after.stage.lent.maps after.stage.lent.pace)
+    → IsFeed w.topology turns Ended w.started.lent.feed.fed after.stage.lent.feed.fed (scene w.first (w.first ∷ []) w.started.lent.out w.started.lent.maps w.started.lent.pace) (scene w.newest (w.first ∷ w.rest) after.stage.lent.out after.stage.lent.maps after.stage.lent.pace)
 one_feed turns ask before after w none =
     (subst (λ (names : List (List ℕ)). AreFed w.topology turns Ended w.started.lent.feed (take (length names) w.started.lent.more) after.stage.lent.feed (take (length names) after.stage.lent.more) (scene w.first (w.first ∷ []) w.started.lent.out w.started.lent.maps w.started.lent.pace)
     (scene w.newest (w.first ∷ w.rest) after.stage.lent.out after.stage.lent.maps after.stage.lent.pace)) none w.fed).0
 
--- the feed is as it was before the cell was opened
-feed_same : (turns : ℕ) (ask : Service) (before after : Surroundings) (w : IsWellServed turns ask before after) → w.started.lent.feed ≡ before.stage.lent.feed
-feed_same turns ask before after w = ap (λ (l : Lent). l.feed) w.start.lent ∙ ap (λ (l : Lent). l.feed) w.place.lent
+-- what the feed tells is as it was before the cell was opened
+feed_same : (turns : ℕ) (ask : Service) (before after : Surroundings) (w : IsWellServed turns ask before after) → w.started.lent.feed.fed ≡ before.stage.lent.feed.fed
+feed_same turns ask before after w = ap (λ (l : Lent). l.feed.fed) w.start.lent ∙ ap (λ (l : Lent). l.feed.fed) w.place.lent
 
 -- what is said of the tasks of all pieces that were read, to a `stop` or to the end, is said of those of their octets
 ended_of_pieces : (t : Plan) (turns : ℕ) (pieces : List (List ℕ)) (before after : Option Fed) (P : List Task → Type 0)
@@ -114,9 +114,9 @@ of_octets t turns pieces (Some before) (Some after) octets P (inr (given, is, sa
 pub serves_come : ServesCome
 serves_come turns ask before after w octets none are =
     let fed = one_feed turns ask before after w none in
-    let all = of_octets w.topology turns fed.run.0 w.started.lent.feed after.stage.lent.feed octets
+    let all = of_octets w.topology turns fed.run.0 w.started.lent.feed.fed after.stage.lent.feed.fed octets
     (λ (ts : List Task). AllCame ts (scene w.first (w.first ∷ []) w.started.lent.out w.started.lent.maps w.started.lent.pace) (scene w.newest (w.first ∷ w.rest) after.stage.lent.out after.stage.lent.maps fed.calls))
-    (subst (λ (f : Option Fed). AreOctetsOf f after.stage.lent.feed octets) (sym (feed_same turns ask before after w)) are) fed.run.1 fed.run.2 in
+    (subst (λ (f : Option Fed). AreOctetsOf f after.stage.lent.feed.fed octets) (sym (feed_same turns ask before after w)) are) fed.run.1 fed.run.2 in
     came_by turns ask before after w (tasks w.topology (lines_of true octets)) fed.calls all
 
 -- two runs over one topology have the same first version

@@ -15,13 +15,13 @@ use Rattle.glb.specs.declared.status.Status.TheVariants as status
 use Rattle.glb.specs.Words.{Ask, check, map_from, places, answer, repair}
 use Rattle.glb.specs.Outcome.{Faults, HasCauses, Outcome, Outside, RunsBy}
 use Rattle.glb.specs.Files.{Kind, Reads, Says, said, changes_file, map_file, topology_file}
-use Rattle.glb.specs.Check.{HoldsGoodMap, IsCheckDue, IsJudged, status_of}
+use Rattle.glb.specs.Check.{HoldsGoodMap, IsCheckDue, IsJudged, status_of_verdict}
 use Rattle.glb.specs.Map.{HoldsTopology, IsMapDue, IsMapped}
 use Rattle.glb.specs.Places.{IsPlacesDue, IsSpreadOut}
 use Rattle.glb.specs.Answer.{IsAnswerDue, IsAnswered}
 use Rattle.glb.specs.Repair.{HoldsChanges, IsRepairDue, IsRepairOf}
 use Rattle.glb.specs.Datagram.{Datagram}
-use Rattle.glb.specs.Run.{IsRun, IsSound}
+use Rattle.glb.specs.Run.{IsSayingRun, IsSound}
 
 -- a good map has no other verdict
 only_good : (m : Market) (lines : List MapLine) (names : List NameLine) (v : Verdict) → Judges m lines names v → IsGood m lines names → v ≡ Good
@@ -58,7 +58,7 @@ well_due topology map shelf due held h =
     let m = held.1 in
     let first = reads_on topology_file shelf topology (λ x. Reads (map_file x) (Some shelf) map (IsJudged x)) due t held.2 h in
     let judged = reads_on (map_file t) shelf map (IsJudged t) due m held.3 first in
-    ap (λ (o : Outcome). o.status) judged.2 ∙ ap status_of (only_good t.market m.lines m.names judged.0 judged.1 held.4)
+    ap (λ (o : Outcome). o.status) judged.2 ∙ ap status_of_verdict (only_good t.market m.lines m.names judged.0 judged.1 held.4)
 
 well_answered : (topology map : List ℕ) (d : Datagram) (shelf : Shelved) (due : Outcome) → HoldsGoodMap topology map (Some shelf) → IsAnswerDue topology map d (Some shelf) due → due.status ≡ status.Ok
 well_answered topology map d shelf due held h =
@@ -90,7 +90,7 @@ ends_well Due before after counts later result (inr (inl cut)) well causes files
 ends_well Due before after counts later result (inr (inr silent)) well causes files out = elim silent.status [ inl source ↦ absurd (files (causes.source source)) | inr memory ↦ inr memory ]
 
 -- a run over a good map
-pub complete_run : (ask : Option Ask) (before after : Outside) (counts later : Faults) (result : Status) → IsRun ask before after result → HasCauses counts later result → IsSome before.files → IsSound ask before.files
+pub complete_run : (ask : Option Ask) (before after : Outside) (counts later : Faults) (result : Status) → IsSayingRun ask before after result → HasCauses counts later result → IsSome before.files → IsSound ask before.files
     → (Rose counts.files later.files → ⊥) → (Rose counts.out later.out → ⊥) → (result ≡ status.Ok) ⊎ (result ≡ status.NoMemory)
 complete_run None before after counts later result run causes told sound files out = absurd sound
 complete_run (Some (check topology map)) before after counts later result run causes told sound files out =

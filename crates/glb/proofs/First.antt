@@ -4,7 +4,6 @@ use Rattle.std.specs.Prelude.{Option, take, drop}
 use Rattle.std.specs.Option.{option_to_list}
 use Rattle.outside.specs.Faults.{Rose}
 use Rattle.outside.specs.Sink.{Written}
-use Rattle.outside.specs.Source.{Fed}
 use Rattle.outside.specs.declared.pace.PaceCall.{PaceCall}
 use Rattle.topology_text.specs.Plan.{Plan}
 use Rattle.map_cell.specs.Ends.{PublisherState}
@@ -33,32 +32,32 @@ use Rattle.glb.proofs.Named.{all_stand_more, any_rose, fell_more}
 use Rattle.glb.proofs.Served.{is_served}
 
 -- a port failed to open
-pub shut_session : (turns : ℕ) (ask : Service) (first : Version) (text : List ℕ) (fed : Option Fed) (named named' : Named) (out maps maps' : Option Written) (pace : Option (List PaceCall)) (lanes lanes' : List LaneTold) (stream stream' : StreamLaneTold) (ff of mf mf' : ℕ)
+pub shut_session : (turns : ℕ) (ask : Service) (first : Version) (text : List ℕ) (fed : FeedTold) (named named' : Named) (out maps maps' : Option Written) (pace : Option (List PaceCall)) (lanes lanes' : List LaneTold) (stream stream' : StreamLaneTold) (of mf mf' : ℕ)
     → IsStart ask text start.NoPort (record { maps = maps; maps_faults = mf; lanes = lanes; stream = stream; named = named }) (record { maps = maps'; maps_faults = mf'; lanes = lanes'; stream = stream'; named = named' })
-    → IsFirstSession turns ask first (stage fed named.feeds named.opens out maps pace lanes stream ff of mf) (stage fed named'.feeds named'.opens out maps' pace lanes' stream' ff of mf') status.PortFault
-shut_session turns ask first text fed named named' out maps maps' pace lanes lanes' stream stream' ff of mf mf' h =
+    → IsFirstSession turns ask first (stage fed named.feeds named.opens out maps pace lanes stream of mf) (stage fed named'.feeds named'.opens out maps' pace lanes' stream' of mf') status.PortFault
+shut_session turns ask first text fed named named' out maps maps' pace lanes lanes' stream stream' of mf mf' h =
     inl (record { why = refl; opened = h.0; lent = rw (h.1, h.2) refl; rest = rw (h.1, h.3) refl })
 
 -- a further feed failed to open
-pub unopened_session : (turns : ℕ) (ask : Service) (first : Version) (text : List ℕ) (fed : Option Fed) (named named' : Named) (out maps maps' : Option Written) (pace : Option (List PaceCall)) (lanes lanes' : List LaneTold) (stream stream' : StreamLaneTold) (ff of mf mf' : ℕ)
+pub unopened_session : (turns : ℕ) (ask : Service) (first : Version) (text : List ℕ) (fed : FeedTold) (named named' : Named) (out maps maps' : Option Written) (pace : Option (List PaceCall)) (lanes lanes' : List LaneTold) (stream stream' : StreamLaneTold) (of mf mf' : ℕ)
     → IsStart ask text start.NoFeed (record { maps = maps; maps_faults = mf; lanes = lanes; stream = stream; named = named }) (record { maps = maps'; maps_faults = mf'; lanes = lanes'; stream = stream'; named = named' })
-    → IsFirstSession turns ask first (stage fed named.feeds named.opens out maps pace lanes stream ff of mf) (stage fed named'.feeds named'.opens out maps' pace lanes' stream' ff of mf') status.SourceFault
-unopened_session turns ask first text fed named named' out maps maps' pace lanes lanes' stream stream' ff of mf mf' h =
+    → IsFirstSession turns ask first (stage fed named.feeds named.opens out maps pace lanes stream of mf) (stage fed named'.feeds named'.opens out maps' pace lanes' stream' of mf') status.SourceFault
+unopened_session turns ask first text fed named named' out maps maps' pace lanes lanes' stream stream' of mf mf' h =
     inr (inl (record { why = refl; opened = h.0; stream = h.1; named = h.2; lent = rw h.3 refl; rest = rw h.4 refl }))
 
 -- the put of the first text failed
-pub unput_session : (turns : ℕ) (ask : Service) (first : Version) (text : List ℕ) (fed : Option Fed) (named named' : Named) (out maps maps' : Option Written) (pace : Option (List PaceCall)) (lanes lanes' : List LaneTold) (stream stream' : StreamLaneTold) (ff of mf mf' : ℕ)
+pub unput_session : (turns : ℕ) (ask : Service) (first : Version) (text : List ℕ) (fed : FeedTold) (named named' : Named) (out maps maps' : Option Written) (pace : Option (List PaceCall)) (lanes lanes' : List LaneTold) (stream stream' : StreamLaneTold) (of mf mf' : ℕ)
     → text ≡ map_text first → IsStart ask text start.NoSink (record { maps = maps; maps_faults = mf; lanes = lanes; stream = stream; named = named }) (record { maps = maps'; maps_faults = mf'; lanes = lanes'; stream = stream'; named = named' })
-    → IsFirstSession turns ask first (stage fed named.feeds named.opens out maps pace lanes stream ff of mf) (stage fed named'.feeds named'.opens out maps' pace lanes' stream' ff of mf') status.SinkFault
-unput_session turns ask first text fed named named' out maps maps' pace lanes lanes' stream stream' ff of mf mf' is h =
+    → IsFirstSession turns ask first (stage fed named.feeds named.opens out maps pace lanes stream of mf) (stage fed named'.feeds named'.opens out maps' pace lanes' stream' of mf') status.SinkFault
+unput_session turns ask first text fed named named' out maps maps' pace lanes lanes' stream stream' of mf mf' is h =
     let k = subst (λ t. IsStart ask t start.NoSink (record { maps = maps; maps_faults = mf; lanes = lanes; stream = stream; named = named }) (record { maps = maps'; maps_faults = mf'; lanes = lanes'; stream = stream'; named = named' })) is h in
     inr (inr (inl (record { why = refl; opened = k.0; stream = k.1; named = k.2; cut = k.3; rose = k.4; lent = refl; rest = refl })))
 
 -- the session was started
-pub starts : (ask : Service) (first : Version) (text : List ℕ) (fed : Option Fed) (named named' : Named) (out maps maps' : Option Written) (pace : Option (List PaceCall)) (lanes lanes' : List LaneTold) (stream stream' : StreamLaneTold) (ff of mf mf' : ℕ)
+pub starts : (ask : Service) (first : Version) (text : List ℕ) (fed : FeedTold) (named named' : Named) (out maps maps' : Option Written) (pace : Option (List PaceCall)) (lanes lanes' : List LaneTold) (stream stream' : StreamLaneTold) (of mf mf' : ℕ)
     → text ≡ map_text first → IsStart ask text start.Ready (record { maps = maps; maps_faults = mf; lanes = lanes; stream = stream; named = named }) (record { maps = maps'; maps_faults = mf'; lanes = lanes'; stream = stream'; named = named' })
-    → IsStarted ask first (stage fed named.feeds named.opens out maps pace lanes stream ff of mf) (stage fed named'.feeds named'.opens out maps' pace lanes' stream' ff of mf')
-starts ask first text fed named named' out maps maps' pace lanes lanes' stream stream' ff of mf mf' is h =
+    → IsStarted ask first (stage fed named.feeds named.opens out maps pace lanes stream of mf) (stage fed named'.feeds named'.opens out maps' pace lanes' stream' of mf')
+starts ask first text fed named named' out maps maps' pace lanes lanes' stream stream' of mf mf' is h =
     let k = subst (λ t. IsStart ask t start.Ready (record { maps = maps; maps_faults = mf; lanes = lanes; stream = stream; named = named }) (record { maps = maps'; maps_faults = mf'; lanes = lanes'; stream = stream'; named = named' })) is h in
     record { opened = k.0; stream = k.1; named = k.2; put = k.3; lent = refl; rest = rw k.4 refl }
 
@@ -81,9 +80,9 @@ behind_same n before after front then behind was is count same = ap (drop n) is 
 pub served_session : (turns : ℕ) (ask : Service) (first : Version) (before started after : Stage) (front then behind : List FeedTold) (end : FeedEnd) (places : List (Option Ended)) (stream_end : Option Ended) (result : Status) → IsStarted ask first before started
     → started.lent.more ≡ front ++ behind → after.lent.more ≡ then ++ behind → length front ≡ length ask.more → length then ≡ length front → drop (length ask.more) after.opens ≡ drop (length ask.more) started.opens
     → (ends : List Ended) × (length ends ≡ ask.workers) × AreEnds ends places × IsDriven turns first end ends stream_end (record started.lent { more = front }) (record after.lent { more = then }) → length (option_to_list stream_end) ≡ streams_of ask.tcp
-    → result ≡ status_at end places stream_end → (end ≡ feed.SourceFault → Rose started.feed_faults after.feed_faults ⊎ AnyRose front then) → (end ≢ feed.SourceFault → (end ≡ feed.SinkFault → ask.more ≡ []) → (after.feed_faults ≡ started.feed_faults) × AllStand front then)
+    → result ≡ status_at end places stream_end → (end ≡ feed.SourceFault → Rose started.lent.feed.faults after.lent.feed.faults ⊎ AnyRose front then) → (end ≢ feed.SourceFault → (end ≡ feed.SinkFault → ask.more ≡ []) → (after.lent.feed.faults ≡ started.lent.feed.faults) × AllStand front then)
     → (end ≡ feed.SinkFault → Rose started.out_faults after.out_faults ⊎ Rose started.maps_faults after.maps_faults) → (end ≢ feed.SinkFault → (after.out_faults ≡ started.out_faults) × (after.maps_faults ≡ started.maps_faults))
-    → (started.feed_faults ≤ after.feed_faults) × (started.out_faults ≤ after.out_faults) × (started.maps_faults ≤ after.maps_faults) × NoneFell front then → IsFirstSession turns ask first before after result
+    → (started.lent.feed.faults ≤ after.lent.feed.faults) × (started.out_faults ≤ after.out_faults) × (started.maps_faults ≤ after.maps_faults) × NoneFell front then → IsFirstSession turns ask first before after result
 served_session turns ask first before started after front then behind end places stream_end result start more past count same opens (ends, as_many, are, driven) asked answer source stays sink sink_stays later =
     inr (inr (inr (inr (
       started,
@@ -112,11 +111,11 @@ served_session turns ask first before started after front then behind end places
     some rose = subst (λ (xs : List FeedTold). AnyFeed n HasFeedFault xs after.lent.more) (sym more) (subst (λ (xs : List FeedTold). AnyFeed n HasFeedFault (front ++ behind) xs) (sym past) (any_rose n front then behind behind count rose))
 
 -- a session that begins with the first map of a topology
-pub begun : (turns : ℕ) (ask : Service) (t : Plan) (m : PublisherState) (fed : Option Fed) (more : List FeedTold) (opens : List (Option (List (List ℕ)))) (out maps : Option Written) (pace : Option (List PaceCall)) (lanes lanes' : List LaneTold) (stream : StreamLaneTold) (ff of mf : ℕ) (after : Stage) (result : Status)
-    → PlacedFirst (lanes_of ask) lanes lanes' → IsFirst t m → IsFromScratch t.market m.newest.lines → IsFirstSession turns ask m.newest (stage fed more opens out maps pace lanes' stream ff of mf) after result
-    → IsSession turns ask t (stage fed more opens out maps pace lanes stream ff of mf) after result
-begun turns ask t m fed more opens out maps pace lanes lanes' stream ff of mf after result placed first scratch session = inr (
-  stage fed more opens out maps pace lanes' stream ff of mf,
+pub begun : (turns : ℕ) (ask : Service) (t : Plan) (m : PublisherState) (fed : FeedTold) (more : List FeedTold) (opens : List (Option (List (List ℕ)))) (out maps : Option Written) (pace : Option (List PaceCall)) (lanes lanes' : List LaneTold) (stream : StreamLaneTold) (of mf : ℕ) (after : Stage) (result : Status)
+    → PlacedFirst (lanes_of ask) lanes lanes' → IsFirst t m → IsFromScratch t.market m.newest.lines → IsFirstSession turns ask m.newest (stage fed more opens out maps pace lanes' stream of mf) after result
+    → IsSession turns ask t (stage fed more opens out maps pace lanes stream of mf) after result
+begun turns ask t m fed more opens out maps pace lanes lanes' stream of mf after result placed first scratch session = inr (
+  stage fed more opens out maps pace lanes' stream of mf,
   m.newest,
   record { asked = placed; lent = refl; rest = refl },
   (record { history = refl; serial = first.serial; plan = first.plan; market = first.market; good = first.good; best = first.best }, scratch),
@@ -124,17 +123,17 @@ begun turns ask t m fed more opens out maps pace lanes lanes' stream ff of mf af
 )
 
 -- a session whose map cell was not opened
-pub unopened : (turns : ℕ) (ask : Service) (t : Plan) (fault : OpenFault) (fed : Option Fed) (more : List FeedTold) (opens : List (Option (List (List ℕ)))) (out maps : Option Written) (pace : Option (List PaceCall)) (lanes lanes' : List LaneTold) (stream : StreamLaneTold) (ff of mf : ℕ) (result : Status)
+pub unopened : (turns : ℕ) (ask : Service) (t : Plan) (fault : OpenFault) (fed : FeedTold) (more : List FeedTold) (opens : List (Option (List (List ℕ)))) (out maps : Option Written) (pace : Option (List PaceCall)) (lanes lanes' : List LaneTold) (stream : StreamLaneTold) (of mf : ℕ) (result : Status)
     → IsAskedSome (lanes_of ask) fault lanes lanes' → (fault ≡ open_fault.NoMemory → result ≡ status.NoMemory) → (fault ≡ open_fault.CellFault → result ≡ status.CellFault)
-    → IsSession turns ask t (stage fed more opens out maps pace lanes stream ff of mf) (stage fed more opens out maps pace lanes' stream ff of mf) result
-unopened turns ask t open_fault.NoMemory fed more opens out maps pace lanes lanes' stream ff of mf result asked memory refused = inl (record {
+    → IsSession turns ask t (stage fed more opens out maps pace lanes stream of mf) (stage fed more opens out maps pace lanes' stream of mf) result
+unopened turns ask t open_fault.NoMemory fed more opens out maps pace lanes lanes' stream of mf result asked memory refused = inl (record {
   why = inl (memory refl);
   stays = λ _. asked.2 (λ same. cc);
   asked = asked.0;
   lent = refl;
   rest = refl;
 })
-unopened turns ask t open_fault.CellFault fed more opens out maps pace lanes lanes' stream ff of mf result asked memory refused = inl (record {
+unopened turns ask t open_fault.CellFault fed more opens out maps pace lanes lanes' stream of mf result asked memory refused = inl (record {
   why = inr (refused refl, asked.1 refl);
   stays = λ other. absurd (other (refused refl));
   asked = asked.0;

@@ -15,14 +15,14 @@ use Rattle.glb.specs.Words.{Ask, check, map_from, places, answer, repair}
 use Rattle.mapper.specs.Scenes.{IsPrinted}
 use Rattle.glb.specs.Outcome.{Outcome, Outside, RunsBy}
 use Rattle.glb.specs.Files.{Kind, Reads, Says, changes_file, map_file, topology_file}
-use Rattle.glb.specs.Check.{IsCheckDue, IsCheckedRun, IsJudged, status_of}
+use Rattle.glb.specs.Check.{IsCheckDue, IsCheckedRun, IsJudged, status_of_verdict}
 use Rattle.glb.specs.Map.{IsMapDue, IsMapped, IsMappedRun}
 use Rattle.glb.specs.Places.{IsPlacesDue, IsPlacesRun, IsSpreadOut}
 use Rattle.glb.specs.Answer.{AreReply, IsAnswerDue, IsAnswered, IsAnsweredRun}
 use Rattle.glb.specs.Repair.{AreRepaired, IsRepairDue, IsRepairOf, IsRepairedRun}
 use Rattle.glb.specs.Datagram.{Datagram}
 use Rattle.map_model.specs.declared.change.Change.{Change}
-use Rattle.glb.specs.Run.{IsGoodRun, IsRun}
+use Rattle.glb.specs.Run.{IsGoodRun, IsSayingRun}
 use Rattle.glb.specs.Texts as text
 use Rattle.glb.proofs.Plans.{is_plan}
 
@@ -35,7 +35,7 @@ well_read kind files name Next due (inr read) ok = read
 well_judged : (t : Plan) (m : Mapped) (due : Outcome) → IsJudged t m due → due.status ≡ status.Ok → IsGood t.market m.lines m.names × (due.pieces ≡ text.good ∷ [])
 well_judged t m due j ok = go j.0 j.1 j.2 (sym (ap (λ (o : Outcome). o.status) j.2) ∙ ok)
   where
-    go : (v : Verdict) → Judges t.market m.lines m.names v → due ≡ record { status = status_of v; pieces = text.verdict t v ∷ [] } → status_of v ≡ status.Ok → IsGood t.market m.lines m.names × (due.pieces ≡ text.good ∷ [])
+    go : (v : Verdict) → Judges t.market m.lines m.names v → due ≡ record { status = status_of_verdict v; pieces = text.verdict t v ∷ [] } → status_of_verdict v ≡ status.Ok → IsGood t.market m.lines m.names × (due.pieces ≡ text.good ∷ [])
     go Good judged is ok = (judged, ap (λ (o : Outcome). o.pieces) is)
     go (BadLine i) judged is ok = cc
     go (OverDemand g u) judged is ok = cc
@@ -96,7 +96,7 @@ whole_run Due P before after result (inl whole) ok well = well whole.due whole.i
 whole_run Due P before after result (inr (inl cut)) ok well = let other = cut.status in absurd (cc)
 whole_run Due P before after result (inr (inr silent)) ok well = elim silent.status [ inl other ↦ absurd (cc) | inr other ↦ absurd (cc) ]
 
-pub good_run : (ask : Option Ask) (before after : Outside) (result : Status) → IsRun ask before after result → result ≡ status.Ok → IsGoodRun ask before after
+pub good_run : (ask : Option Ask) (before after : Outside) (result : Status) → IsSayingRun ask before after result → result ≡ status.Ok → IsGoodRun ask before after
 good_run None before after result (inl (inl whole)) ok = let usage : whole.due.status ≡ status.Usage = ap (λ (o : Outcome). o.status) whole.is_due in let same = whole.status in absurd (cc)
 good_run None before after result (inl (inr cut)) ok = let other = cut.status in absurd (cc)
 good_run None before after result (inr unread) ok = let other = unread.status in absurd (cc)

@@ -8,7 +8,6 @@ use Rattle.outside.specs.Faults.{BothTell, Rose, raised}
 use Rattle.outside.specs.Port.{IsOpen, PortTold}
 use Rattle.outside.specs.Shelf.{Shelved}
 use Rattle.outside.specs.Sink.{Written}
-use Rattle.outside.specs.Source.{Fed}
 use Rattle.outside.specs.declared.port.Opening.{Opening}
 use Rattle.outside.specs.declared.port.Opening.TheVariants as opening
 use Rattle.topology_text.specs.Plan.{Plan}
@@ -25,7 +24,7 @@ use Rattle.drive.specs.Driven.{Lent}
 use Rattle.drive.specs.Feeds.{AreFed, FeedTold}
 use Rattle.glb.specs.declared.status.Status.{Status}
 use Rattle.glb.specs.declared.status.Status.TheVariants as status
-use Rattle.glb.specs.Causes.{AnyFeed, AnyLane, AnyServer, AreSpent, HasCellFault, HasDoorFault, HasEightPortFaults, HasGiven, HasGivenMore, HasHeard, HasLaneCauses, HasPortFault, HasShown, HasTaken, IsPastMaps, OfStream}
+use Rattle.glb.specs.Causes.{AnyFeed, AnyLane, AnyServer, AreSpent, HasCellFault, HasDoorFault, HasEightPortFaults, HasFeedGiven, HasHeard, HasLaneCauses, HasPortFault, HasShown, HasTaken, IsPastMaps, OfStream}
 use Rattle.glb.specs.Outcome.{Outcome, RunsBy}
 use Rattle.glb.specs.Files.{Kind, IsRefused}
 use Rattle.glb.specs.Serve.{AreOpened, FirstDoorRose, IsFirstSession, IsOpening, IsPlaced, IsServed, IsSession, IsStarted, IsStreamReady, IsStreamShut, PlacedFirst, all_ends, all_ready, is_cell_fault, is_port_fault, is_spent, status_by, status_of, then_failed}
@@ -236,8 +235,8 @@ served_causes turns ask first before started after result start served = record 
 
     spent_of : (served.end ≡ feed.Spent) ⊎ AnyServer ask (HasTaken turns) (HasHeard turns) started.lent after.lent → AreSpent turns ask before.lent after.lent
     spent_of (inl is) = elim (fed_given first.plan turns served.end started.lent.feed after.lent.feed (take count started.lent.more) (take count after.lent.more) _ _ is served.driven.feed) [
-      | inl given ↦ inl (subst (λ (f : Option Fed). HasGiven turns f after.lent.feed) same_feed given)
-      | inr given ↦ inr (inl (given_from turns count count before.lent.more started.lent.more after.lent.more start.named.feeds (any_taken (HasGivenMore turns) count started.lent.more after.lent.more given)))
+      | inl given ↦ inl (subst (λ (f : FeedTold). HasFeedGiven turns f after.lent.feed) same_feed given)
+      | inr given ↦ inr (inl (given_from turns count count before.lent.more started.lent.more after.lent.more start.named.feeds (any_taken (HasFeedGiven turns) count started.lent.more after.lent.more given)))
     ]
     spent_of (inr h) = inr (inr (taken_from turns ask before.lent started.lent after.lent begun h))
 
@@ -273,8 +272,8 @@ placed_causes : (turns : ℕ) (ask : Service) (before placed after : Stage) (res
 placed_causes turns ask before placed after result place causes = record {
   port = λ h. port_from ask before.lent placed.lent after.lent begun (causes.port h);
   spent = λ h. elim (causes.spent h) [
-    | inl given ↦ inl (subst (λ (f : Option Fed). HasGiven turns f after.lent.feed) same_feed given)
-    | inr (inl given) ↦ inr (inl (subst (λ (fs : List FeedTold). AnyFeed (length ask.more) (HasGivenMore turns) fs after.lent.more) (ap (λ (l : Lent). l.more) place.lent) given))
+    | inl given ↦ inl (subst (λ (f : FeedTold). HasFeedGiven turns f after.lent.feed) same_feed given)
+    | inr (inl given) ↦ inr (inl (subst (λ (fs : List FeedTold). AnyFeed (length ask.more) (HasFeedGiven turns) fs after.lent.more) (ap (λ (l : Lent). l.more) place.lent) given))
     | inr (inr some) ↦ inr (inr (taken_from turns ask before.lent placed.lent after.lent begun some))
   ];
   cell = λ h. elim (causes.cell h) [

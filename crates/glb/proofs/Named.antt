@@ -7,7 +7,7 @@ use Rattle.outside.specs.Source.{Fed}
 use Rattle.outside.specs.declared.port.Opening.{Opening}
 use Rattle.outside.specs.declared.port.Opening.TheVariants as opening
 use Rattle.drive.specs.Feeds.{AllStand, AnyRose, FeedTold, NoneFell}
-use Rattle.glb.specs.Causes.{AnyFeed, HasFeedFault, HasGiven, HasGivenMore}
+use Rattle.glb.specs.Causes.{AnyFeed, HasFeedFault, HasGiven, HasFeedGiven}
 use Rattle.glb.specs.Feeds.{AreFeedsOpened, AreNamed, AreNoted, IsFeedOpening, Named}
 use Rattle.glb.specs.Serve.{all_ready, then_failed}
 use Rattle.glb.specs.Starting.{HasNamed}
@@ -78,8 +78,8 @@ same_given turns (Some b) (Some c) z t h = subst (λ (f : Fed). HasGiven turns (
 same_given turns None (Some c) z t h = absurd t
 same_given turns (Some b) None z t h = absurd t
 
-pub given_from : (turns k n : ℕ) (before mid after : List FeedTold) → AreFeedsOpened (all_ready k) before mid → AnyFeed n (HasGivenMore turns) mid after → AnyFeed n (HasGivenMore turns) before after
-given_from turns zero n before mid after h some = subst (λ (xs : List FeedTold). AnyFeed n (HasGivenMore turns) xs after) h some
+pub given_from : (turns k n : ℕ) (before mid after : List FeedTold) → AreFeedsOpened (all_ready k) before mid → AnyFeed n (HasFeedGiven turns) mid after → AnyFeed n (HasFeedGiven turns) before after
+given_from turns zero n before mid after h some = subst (λ (xs : List FeedTold). AnyFeed n (HasFeedGiven turns) xs after) h some
 given_from turns (suc k) zero before mid after h some = absurd some
 given_from turns (suc k) (suc n) (b ∷ before) (c ∷ mid) (d ∷ after) h (inl r) = inl (same_given turns b.fed c.fed d.fed h.0.told r)
 given_from turns (suc k) (suc n) (b ∷ before) (c ∷ mid) (d ∷ after) h (inr r) = inr (given_from turns k n before mid after h.1 r)

@@ -10,7 +10,7 @@ use Rattle.glb.specs.Words.{Ask, check, map_from, places, answer, repair}
 use Rattle.glb.specs.Outcome.{IsSaid, IsSaidStatus, Outcome}
 use Rattle.glb.specs.Datagram.{Datagram}
 use Rattle.glb.specs.Files.{Kind, Reads, changes_file, map_file, topology_file}
-use Rattle.glb.specs.Check.{IsJudged, status_of}
+use Rattle.glb.specs.Check.{IsJudged, status_of_verdict}
 use Rattle.glb.specs.Map.{IsMapped}
 use Rattle.glb.specs.Places.{IsSpreadOut}
 use Rattle.glb.specs.Answer.{IsAnswered}
@@ -27,7 +27,7 @@ reads_said kind files name Next due next (inl refused) = one_text due _ refused.
 reads_said kind files name Next due next (inr read) = next read.0 read.2
 
 -- each verdict comes with a text
-has_text : (v : Verdict) → IsSaidStatus (status_of v)
+has_text : (v : Verdict) → IsSaidStatus (status_of_verdict v)
 has_text Good = tt
 has_text (BadLine i) = tt
 has_text (OverDemand g units) = tt
@@ -37,7 +37,7 @@ has_text (Blocking g k) = tt
 has_text (BadName i) = tt
 
 judged_said : (t : Plan) (m : Mapped) (due : Outcome) → IsJudged t m due → IsSaid due
-judged_said t m due judged = one_text due (status_of judged.0) _ (has_text judged.0) judged.2
+judged_said t m due judged = one_text due (status_of_verdict judged.0) _ (has_text judged.0) judged.2
 
 mapped_said : (t : Plan) (due : Outcome) → IsMapped t due → IsSaid due
 mapped_said t due mapped = record { status = subst IsSaidStatus (sym mapped.status) tt; one = ap (λ (ps : List (List ℕ)). length ps) mapped.text.3 }

@@ -65,10 +65,10 @@ any_server test P Q ask ends stream_end before after as_many as_asked lanes stre
 
 pub is_served : (turns : ℕ) (ask : Service) (first : Version) (before after : Stage) (end : FeedEnd) (places : List (Option Ended)) (stream_end : Option Ended) (result : Status)
     → (ends : List Ended) × (length ends ≡ ask.workers) × AreEnds ends places × IsDriven turns first end ends stream_end (with_feeds (length ask.more) before.lent) (with_feeds (length ask.more) after.lent) → drop (length ask.more) after.lent.more ≡ drop (length ask.more) before.lent.more → drop (length ask.more) after.opens ≡ drop (length ask.more) before.opens → length (option_to_list stream_end) ≡ streams_of ask.tcp
-    → result ≡ status_at end places stream_end → (end ≡ feed.SourceFault → Rose before.feed_faults after.feed_faults ⊎ AnyFeed (length ask.more) HasFeedFault before.lent.more after.lent.more)
-    → (end ≢ feed.SourceFault → (end ≡ feed.SinkFault → ask.more ≡ []) → (after.feed_faults ≡ before.feed_faults) × AllStand before.lent.more after.lent.more) → (end ≡ feed.SinkFault → Rose before.out_faults after.out_faults ⊎ Rose before.maps_faults after.maps_faults)
+    → result ≡ status_at end places stream_end → (end ≡ feed.SourceFault → Rose before.lent.feed.faults after.lent.feed.faults ⊎ AnyFeed (length ask.more) HasFeedFault before.lent.more after.lent.more)
+    → (end ≢ feed.SourceFault → (end ≡ feed.SinkFault → ask.more ≡ []) → (after.lent.feed.faults ≡ before.lent.feed.faults) × AllStand before.lent.more after.lent.more) → (end ≡ feed.SinkFault → Rose before.out_faults after.out_faults ⊎ Rose before.maps_faults after.maps_faults)
     → (end ≢ feed.SinkFault → (after.out_faults ≡ before.out_faults) × (after.maps_faults ≡ before.maps_faults))
-    → (before.feed_faults ≤ after.feed_faults) × (before.out_faults ≤ after.out_faults) × (before.maps_faults ≤ after.maps_faults) × NoneFell before.lent.more after.lent.more → IsServed turns ask first before after result
+    → (before.lent.feed.faults ≤ after.lent.feed.faults) × (before.out_faults ≤ after.out_faults) × (before.maps_faults ≤ after.maps_faults) × NoneFell before.lent.more after.lent.more → IsServed turns ask first before after result
 is_served turns ask first before after end places stream_end result (ends, as_many, are, driven) behind opens as_asked answer source stays sink sink_stays later =
     let all = all_ends ends stream_end in
     let p = list_any is_port_fault all in

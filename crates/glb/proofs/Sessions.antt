@@ -45,15 +45,15 @@ sink_means feed.Spent p s c h = absurd (by_sink p true false c h)
 
 -- the counts of two moments are the same
 record IsSameCounts (before after : Stage) : Type 0 where
-  feed : after.feed_faults ≡ before.feed_faults
+  feed : after.lent.feed.faults ≡ before.lent.feed.faults
   more : AllStand before.lent.more after.lent.more
   out : after.out_faults ≡ before.out_faults
   maps : after.maps_faults ≡ before.maps_faults
 
--- nothing but what is lent was touched, and of that no further feed
-lent_alone : (before after : Stage) → after ≡ record before { lent = after.lent } → after.lent.more ≡ before.lent.more → IsSameCounts before after
-lent_alone before after rest more = record {
-  feed = ap (λ (s : Stage). s.feed_faults) rest;
+-- nothing but what is lent was touched, and of that no feed
+lent_alone : (before after : Stage) → after ≡ record before { lent = after.lent } → after.lent.feed ≡ before.lent.feed → after.lent.more ≡ before.lent.more → IsSameCounts before after
+lent_alone before after rest feed more = record {
+  feed = ap (λ (x : FeedTold). x.faults) feed;
   more = ap (map (λ (x : FeedTold). x.faults)) more;
   out = ap (λ (s : Stage). s.out_faults) rest;
   maps = ap (λ (s : Stage). s.maps_faults) rest;
@@ -62,7 +62,7 @@ lent_alone before after rest more = record {
 -- all that was to be opened is open
 all_open : (ask : Service) (first : Version) (before after : Stage) → IsStarted ask first before after → IsSameCounts before after
 all_open ask first before after start = record {
-  feed = ap (λ (s : Stage). s.feed_faults) start.rest;
+  feed = ap (λ (l : Lent). l.feed.faults) start.lent;
   more = opened_stand (length ask.more) before.lent.more after.lent.more start.named.feeds;
   out = ap (λ (s : Stage). s.out_faults) start.rest;
   maps = ap (λ (s : Stage). s.maps_faults) start.rest;
@@ -113,9 +113,9 @@ from_same ask a b c result same later = record {
 
 started_later : (turns : ℕ) (ask : Service) (first : Version) (before after : Stage) (result : Status) → IsFirstSession turns ask first before after result → IsSessionLater ask before after result
 started_later turns ask first before after result (inl shut) =
-    no_fault ask before after result (lent_alone before after shut.rest (ap (λ (l : Lent). l.more) shut.lent)) (λ h. let is = shut.why in cc) (λ h. let is = shut.why in cc)
+    no_fault ask before after result (lent_alone before after shut.rest (ap (λ (l : Lent). l.feed) shut.lent) (ap (λ (l : Lent). l.more) shut.lent)) (λ h. let is = shut.why in cc) (λ h. let is = shut.why in cc)
 started_later turns ask first before after result (inr (inl shut)) = record {
-  feed = let same = ap (λ (s : Stage). s.feed_faults) shut.rest in omega (arith, same);
+  feed = let same = ap (λ (l : Lent). l.feed.faults) shut.lent in omega (arith, same);
   more = opened_fell (then_failed shut.named.0) before.lent.more after.lent.more shut.named.2.feeds;
   out = let same = ap (λ (s : Stage). s.out_faults) shut.rest in omega (arith, same);
   maps = let same = ap (λ (s : Stage). s.maps_faults) shut.rest in omega (arith, same);
@@ -126,13 +126,13 @@ started_later turns ask first before after result (inr (inl shut)) = record {
   maps_stay = λ none. ap (λ (s : Stage). s.maps_faults) shut.rest;
 }
 started_later turns ask first before after result (inr (inr (inl unput))) = record {
-  feed = let same = ap (λ (s : Stage). s.feed_faults) unput.rest in omega (arith, same);
+  feed = let same = ap (λ (l : Lent). l.feed.faults) unput.lent in omega (arith, same);
   more = opened_fell (all_ready (length ask.more)) before.lent.more after.lent.more unput.named.feeds;
   out = let same = ap (λ (s : Stage). s.out_faults) unput.rest in omega (arith, same);
   maps = let rose = unput.rose in omega (arith, rose);
   source = λ h. let is = unput.why in absurd (cc);
   sink = λ h. inr unput.rose;
-  feed_stays = λ none one. (ap (λ (s : Stage). s.feed_faults) unput.rest, opened_stand (length ask.more) before.lent.more after.lent.more unput.named.feeds);
+  feed_stays = λ none one. (ap (λ (l : Lent). l.feed.faults) unput.lent, opened_stand (length ask.more) before.lent.more after.lent.more unput.named.feeds);
   out_stays = λ none. ap (λ (s : Stage). s.out_faults) unput.rest;
   maps_stay = λ none. absurd (none unput.why);
 }
@@ -143,7 +143,7 @@ started_later turns ask first before after result (inr (inr (inr (inr (started, 
 
 pub session_later : (turns : ℕ) (ask : Service) (t : Plan) (before after : Stage) (result : Status) → IsSession turns ask t before after result → IsSessionLater ask before after result
 session_later turns ask t before after result (inl unopened) =
-    no_fault ask before after result (lent_alone before after unopened.rest (ap (λ (l : Lent). l.more) unopened.lent))
+    no_fault ask before after result (lent_alone before after unopened.rest (ap (λ (l : Lent). l.feed) unopened.lent) (ap (λ (l : Lent). l.more) unopened.lent))
     (λ h. elim unopened.why [ inl is ↦ cc | inr is ↦ let fault = is.0 in cc ]) (λ h. elim unopened.why [ inl is ↦ cc | inr is ↦ let fault = is.0 in cc ])
 session_later turns ask t before after result (inr (placed, first, place, is_first, session)) =
-    from_same ask before placed after result (lent_alone before placed place.rest (ap (λ (l : Lent). l.more) place.lent)) (started_later turns ask first placed after result session)
+    from_same ask before placed after result (lent_alone before placed place.rest (ap (λ (l : Lent). l.feed) place.lent) (ap (λ (l : Lent). l.more) place.lent)) (started_later turns ask first placed after result session)

@@ -20,8 +20,8 @@ use Rattle.mapper.specs.Feeding.{IsFeed}
 use Rattle.mapper.specs.Items.{AllWork, WorksAs}
 use Rattle.mapper.specs.Scenes.{Scene}
 use Rattle.mapper.specs.Words.{map_text}
-use Rattle.drive.specs.Feeds.{AreFed, AreFedTogether, AreSent, FeedTold, feeds_of}
-use Rattle.glb.specs.Causes.{AnyFeed, HasGiven, HasGivenMore}
+use Rattle.drive.specs.Feeds.{AreFed, AreFedTogether, AreSent, FeedTold}
+use Rattle.glb.specs.Causes.{AnyFeed, HasGiven, HasFeedGiven}
 
 same_number : (n : ℕ) → (n == n) ≡ true
 same_number n = eq-eqb n n refl
@@ -104,14 +104,9 @@ spent_given t turns fed fed' sent h some = go (unfold HasSent in h)
     go (inr (is, same)) = let some' : list_any is_spent_end (what.End ends.NoMemory ∷ []) ≡ true = subst (λ (ws : List What). list_any is_spent_end ws ≡ true) is some in absurd (cc)
 
 -- one of these feeds gave as many pieces as there are turns
-abbrev AnyGave : ℕ → List (Option Fed) → List (Option Fed) → Type 0
-AnyGave turns [] after = ⊥
-AnyGave turns (b ∷ before) (c ∷ after) = HasGiven turns b c ⊎ AnyGave turns before after
-AnyGave turns (b ∷ before) [] = ⊥
-
-any_gave : (t : Plan) (turns n k : ℕ) (sent : ℕ → List What) (before after : List (Option Fed)) → AreSent t turns n sent before after → k < length before → list_any is_spent_end (sent (n + k)) ≡ true → AnyGave turns before after
+any_gave : (t : Plan) (turns n k : ℕ) (sent : ℕ → List What) (before after : List FeedTold) → AreSent t turns n sent before after → k < length before → list_any is_spent_end (sent (n + k)) ≡ true → AnyFeed (length before) (HasFeedGiven turns) before after
 any_gave t turns n k sent [] after h lt some = absurd (omega (arith, lt))
-any_gave t turns n zero sent (b ∷ before) (c ∷ after) h lt some = inl (spent_given t turns b c (sent n) h.0 (subst (λ (i : ℕ). list_any is_spent_end (sent i) ≡ true) (omega arith) some))
+any_gave t turns n zero sent (b ∷ before) (c ∷ after) h lt some = inl (spent_given t turns b.fed c.fed (sent n) h.0 (subst (λ (i : ℕ). list_any is_spent_end (sent i) ≡ true) (omega arith) some))
 any_gave t turns n (suc k) sent (b ∷ before) (c ∷ after) h lt some = inr (any_gave t turns (n + 1) k sent before after h.1 (omega (arith, lt)) (subst (λ (i : ℕ). list_any is_spent_end (sent i) ≡ true) (omega arith) some))
 any_gave t turns n k sent (b ∷ before) [] h lt some = absurd h
 
@@ -132,25 +127,19 @@ among zero (suc n) = inl (omega arith)
 among (suc k) (suc n) = elim (among k n) [ inl h ↦ inl (omega (arith, h)) | inr h ↦ inr (omega (arith, h)) ]
 
 -- several feeds of which one took all its turns
-together_gave : (t : Plan) (turns : ℕ) (end : FeedEnd) (fed fed' : Option Fed) (more after : List FeedTold) (start stop : Scene) → end ≡ ends.Spent → AreFedTogether t turns end fed fed' more after start stop → AnyGave turns (feeds_of fed more) (feeds_of fed' after)
-together_gave t turns end fed fed' more after start stop is f = go (elim f.run.ended [ inl h ↦ sym is ∙ h.0 | inr h ↦ let clash : ends.Spent ≡ ends.SinkFault = sym is ∙ h.0 in absurd (cc) ])
+together_gave : (t : Plan) (turns : ℕ) (end : FeedEnd) (feed then : FeedTold) (more after : List FeedTold) (start stop : Scene) → end ≡ ends.Spent → AreFedTogether t turns end feed then more after start stop → AnyFeed (length (feed ∷ more)) (HasFeedGiven turns) (feed ∷ more) (then ∷ after)
+together_gave t turns end feed then more after start stop is f = go (elim f.run.ended [ inl h ↦ sym is ∙ h.0 | inr h ↦ let clash : ends.Spent ≡ ends.SinkFault = sym is ∙ h.0 in absurd (cc) ])
   where
-    go : ends.Spent ≡ first_end f.items → AnyGave turns (feeds_of fed more) (feeds_of fed' after)
+    go : ends.Spent ≡ first_end f.items → AnyFeed (length (feed ∷ more)) (HasFeedGiven turns) (feed ∷ more) (then ∷ after)
     go h =
         let one = one_sent is_spent_end f.items (first_spent f.items h) in
         by_number one.0 one.1
       where
-        by_number : (k : ℕ) → list_any is_spent_end (sent_by k f.items) ≡ true → AnyGave turns (feeds_of fed more) (feeds_of fed' after)
-        by_number k some = elim (among k (length (feeds_of fed more))) [
-          | inl lt ↦ any_gave t turns 0 k f.sent (feeds_of fed more) (feeds_of fed' after) f.feeds lt (subst (λ (i : ℕ). list_any is_spent_end (f.sent i) ≡ true) (omega arith) (subst (λ (ws : List What). list_any is_spent_end ws ≡ true) (f.whole k lt) some))
+        by_number : (k : ℕ) → list_any is_spent_end (sent_by k f.items) ≡ true → AnyFeed (length (feed ∷ more)) (HasFeedGiven turns) (feed ∷ more) (then ∷ after)
+        by_number k some = elim (among k (length (feed ∷ more))) [
+          | inl lt ↦ any_gave t turns 0 k f.sent (feed ∷ more) (then ∷ after) f.feeds lt (subst (λ (i : ℕ). list_any is_spent_end (f.sent i) ≡ true) (omega arith) (subst (λ (ws : List What). list_any is_spent_end ws ≡ true) (f.whole k lt) some))
           | inr ge ↦ let none : list_any is_spent_end [] ≡ true = subst (λ (ws : List What). list_any is_spent_end ws ≡ true) (f.others k ge) some in absurd (cc)
         ]
-
-any_of : (turns : ℕ) (before after : List FeedTold) → AnyGave turns (map (λ (x : FeedTold). x.fed) before) (map (λ (x : FeedTold). x.fed) after) → AnyFeed (length before) (HasGivenMore turns) before after
-any_of turns [] after h = h
-any_of turns (b ∷ before) (c ∷ after) (inl h) = inl h
-any_of turns (b ∷ before) (c ∷ after) (inr h) = inr (any_of turns before after h)
-any_of turns (b ∷ before) [] h = absurd h
 
 -- what a run by items puts on the maps
 works_texts : (mark : Option ℕ) (w : What) (c d : Course) → c.maps ≡ map map_text c.versions → WorksAs mark w c d → d.maps ≡ map map_text d.versions
@@ -170,8 +159,8 @@ all_work_texts [] c d texts h = rw h texts
 all_work_texts (x ∷ xs) c d texts h = all_work_texts xs h.0 d (works_texts (Some x.feeder) x.what c h.0 texts h.1) h.2
 
 -- what came of several feeds that ended
-pub together_worked : (t : Plan) (turns : ℕ) (fed fed' : Option Fed) (more after : List FeedTold) (start stop : Scene) → (f : AreFedTogether t turns ends.Ended fed fed' more after start stop) → AllWorked f.items start (record stop { pace = f.run.calls })
-together_worked t turns fed fed' more after start stop f = elim f.run.ended [ inl h ↦ h.1 | inr h ↦ let clash = h.0 in absurd (cc) ]
+pub together_worked : (t : Plan) (turns : ℕ) (feed then : FeedTold) (more after : List FeedTold) (start stop : Scene) → (f : AreFedTogether t turns ends.Ended feed then more after start stop) → AllWorked f.items start (record stop { pace = f.run.calls })
+together_worked t turns feed then more after start stop f = elim f.run.ended [ inl h ↦ h.1 | inr h ↦ let clash = h.0 in absurd (cc) ]
 
 -- what a run over a feed gave that was spent
 given_of : (t : Plan) (turns : ℕ) (end : FeedEnd) (fed fed' : Option Fed) (before after : Scene) → end ≡ ends.Spent → IsFeed t turns end fed fed' before after → HasGiven turns fed fed'
@@ -182,10 +171,7 @@ given_of t turns ends.SinkFault fed fed' before after is f = absurd (cc)
 given_of t turns ends.NoMemory fed fed' before after is f = absurd (cc)
 
 -- where turns were spent, a feed took them
-pub fed_given : (t : Plan) (turns : ℕ) (end : FeedEnd) (fed fed' : Option Fed) (more after : List FeedTold) (start stop : Scene) → end ≡ ends.Spent
-    → AreFed t turns end fed more fed' after start stop → HasGiven turns fed fed' ⊎ AnyFeed (length more) (HasGivenMore turns) more after
-fed_given t turns end fed fed' [] after start stop is h = inl (given_of t turns end fed fed' start stop is h.0)
-fed_given t turns end fed fed' (m ∷ more) after start stop is h = elim (together_gave t turns end fed fed' (m ∷ more) after start stop is h) [
-  | inl own ↦ inl own
-  | inr others ↦ inr (any_of turns (m ∷ more) after others)
-]
+pub fed_given : (t : Plan) (turns : ℕ) (end : FeedEnd) (feed then : FeedTold) (more after : List FeedTold) (start stop : Scene) → end ≡ ends.Spent
+    → AreFed t turns end feed more then after start stop → HasFeedGiven turns feed then ⊎ AnyFeed (length more) (HasFeedGiven turns) more after
+fed_given t turns end feed then [] after start stop is h = inl (given_of t turns end feed.fed then.fed start stop is h.0)
+fed_given t turns end feed then (m ∷ more) after start stop is h = together_gave t turns end feed then (m ∷ more) after start stop is h

@@ -5,7 +5,6 @@ use Rattle.std.specs.Prelude.{Option, None, Some, ◌≢◌}
 use Rattle.outside.specs.Faults.{BothTell}
 use Rattle.outside.specs.Shelf.{Load, Shelved}
 use Rattle.outside.specs.Sink.{Written}
-use Rattle.outside.specs.Source.{Fed}
 use Rattle.outside.specs.declared.pace.PaceCall.{PaceCall}
 use Rattle.drive.specs.Done.{LaneTold, StreamLaneTold}
 use Rattle.drive.specs.Feeds.{FeedTold}
@@ -117,7 +116,7 @@ none_behind all front [] is same = refl
 none_behind all front (x ∷ xs) is same = absurd (omega (arith, ap length is, length-append front (x ∷ xs), same))
 
 -- stages of the same parts
-pub same_stage : (fed fed' : Option Fed) (more more' : List FeedTold) (opens opens' : List (Option (List (List ℕ)))) (out out' maps maps' : Option Written) (pace pace' : Option (List PaceCall)) (lanes lanes' : List LaneTold) (stream stream' : StreamLaneTold) (ff ff' of of' mf mf' : ℕ)
-    → fed ≡ fed' → more ≡ more' → opens ≡ opens' → out ≡ out' → maps ≡ maps' → pace ≡ pace' → lanes ≡ lanes' → stream ≡ stream' → ff ≡ ff' → of ≡ of' → mf ≡ mf'
-    → stage fed more opens out maps pace lanes stream ff of mf ≡ stage fed' more' opens' out' maps' pace' lanes' stream' ff' of' mf'
-same_stage fed fed' more more' opens opens' out out' maps maps' pace pace' lanes lanes' stream stream' ff ff' of of' mf mf' a b c d e f g h i j k = rw (a, b, c, d, e, f, g, h, i, j, k) refl
+pub same_stage : (feed feed' : FeedTold) (more more' : List FeedTold) (opens opens' : List (Option (List (List ℕ)))) (out out' maps maps' : Option Written) (pace pace' : Option (List PaceCall)) (lanes lanes' : List LaneTold) (stream stream' : StreamLaneTold) (of of' mf mf' : ℕ)
+    → feed ≡ feed' → more ≡ more' → opens ≡ opens' → out ≡ out' → maps ≡ maps' → pace ≡ pace' → lanes ≡ lanes' → stream ≡ stream' → of ≡ of' → mf ≡ mf'
+    → stage feed more opens out maps pace lanes stream of mf ≡ stage feed' more' opens' out' maps' pace' lanes' stream' of' mf'
+same_stage feed feed' more more' opens opens' out out' maps maps' pace pace' lanes lanes' stream stream' of of' mf mf' a b c d e f g h i j = rw (a, b, c, d, e, f, g, h, i, j) refl

@@ -71,12 +71,12 @@ abbrev pub HasFeedFault : FeedTold → FeedTold → Type 0
 HasFeedFault before after = Rose before.faults after.faults
 
 -- it gave so many pieces
-abbrev pub HasGivenMore : ℕ → FeedTold → FeedTold → Type 0
-HasGivenMore turns before after = HasGiven turns before.fed after.fed
+abbrev pub HasFeedGiven : ℕ → FeedTold → FeedTold → Type 0
+HasFeedGiven turns before after = HasGiven turns before.fed after.fed
 
 -- a feed gave as many pieces as there are turns, or one of the lanes took as many answers
 abbrev pub AreSpent : ℕ → Service → Lent → Lent → Type 0
-AreSpent turns ask before after = HasGiven turns before.feed after.feed ⊎ AnyFeed (length ask.more) (HasGivenMore turns) before.more after.more ⊎ AnyServer ask (HasTaken turns) (HasHeard turns) before after
+AreSpent turns ask before after = HasFeedGiven turns before.feed after.feed ⊎ AnyFeed (length ask.more) (HasFeedGiven turns) before.more after.more ⊎ AnyServer ask (HasTaken turns) (HasHeard turns) before after
 
 -- the maps got some texts, and the door of one of the lanes showed a serial beyond as many versions
 abbrev pub IsPastMaps : Service → Lent → Lent → Type 0

@@ -15,13 +15,13 @@ use Rattle.glb.specs.Outcome.{Outcome, Outside}
 use Rattle.glb.specs.Files.{Reads, Says, loads_from, only, map_file, topology_file}
 use Rattle.glb.specs.Texts as text
 
-abbrev pub status_of : Verdict → Status
-status_of Good = Ok
-status_of _ = NotGood
+abbrev pub status_of_verdict : Verdict → Status
+status_of_verdict Good = Ok
+status_of_verdict _ = NotGood
 
 -- the verdict on the map, and its text
 abbrev pub IsJudged : Plan → Mapped → Outcome → Type 0
-IsJudged t m due = (v : Verdict) × Judges t.market m.lines m.names v × (due ≡ record { status = status_of v; pieces = text.verdict t v ∷ [] })
+IsJudged t m due = (v : Verdict) × Judges t.market m.lines m.names v × (due ≡ record { status = status_of_verdict v; pieces = text.verdict t v ∷ [] })
 
 -- what is due to `check`: the refusal of the topology, or of the map, or the verdict on the map
 abbrev pub IsCheckDue : List ℕ → List ℕ → Option Shelved → Outcome → Type 0

@@ -48,13 +48,13 @@ AreOctetsOf _ _ octets = ⊥
 
 -- Each run of `serve` with status 0 over one feed came to a course by the tasks of the octets that its feed tells.
 abbrev pub ServesCome : Type 0
-ServesCome = (turns : ℕ) (ask : Service) (before after : Surroundings) (w : IsWellServed turns ask before after) (octets : List ℕ) → ask.more ≡ [] → AreOctetsOf before.stage.lent.feed after.stage.lent.feed octets
+ServesCome = (turns : ℕ) (ask : Service) (before after : Surroundings) (w : IsWellServed turns ask before after) (octets : List ℕ) → ask.more ≡ [] → AreOctetsOf before.stage.lent.feed.fed after.stage.lent.feed.fed octets
     → (c : Course) × CameBy turns ask before after w (tasks w.topology (lines_of true octets)) c
 
 -- Two such runs over one topology whose feeds tell the same octets, of which neither lacked memory for a commit, came from the same first version to the same course: the same versions, the same texts on the maps, and the same lines on the output.
 abbrev pub ServesAgree : Type 0
 ServesAgree = (turns runs : ℕ) (ask other : Service) (before after then later : Surroundings) (x : IsWellServed turns ask before after) (y : IsWellServed runs other then later) (octets : List ℕ)
-    → ask.more ≡ [] → other.more ≡ [] → x.topology ≡ y.topology → AreOctetsOf before.stage.lent.feed after.stage.lent.feed octets → AreOctetsOf then.stage.lent.feed later.stage.lent.feed octets
+    → ask.more ≡ [] → other.more ≡ [] → x.topology ≡ y.topology → AreOctetsOf before.stage.lent.feed.fed after.stage.lent.feed.fed octets → AreOctetsOf then.stage.lent.feed.fed later.stage.lent.feed.fed octets
     → (c : Course) × (d : Course) × CameBy turns ask before after x (tasks x.topology (lines_of true octets)) c × CameBy runs other then later y (tasks y.topology (lines_of true octets)) d
     × ((LackedMemory c → ⊥) → (LackedMemory d → ⊥) → (x.first ≡ y.first) × (c ≡ d))
 

@@ -17,7 +17,7 @@ use Rattle.glb.specs.Told.{IsOutAlone, Surroundings, faults_of, outside_of}
 
 -- a run that touches the files and the output alone
 pub record IsShortRun (ask : Option Ask) (before after : Surroundings) (result : Status) : Type 0 where
-  pub run : short.IsRun ask (outside_of before) (outside_of after) result
+  pub run : short.IsSayingRun ask (outside_of before) (outside_of after) result
   pub rest : IsOutAlone before.stage after.stage
 
 -- what a run does
@@ -37,14 +37,14 @@ loads_of (Some (large groups)) = λ _. []
 -- no count of `serve` falls, a fault of the files, a feed or an output is answered only where its count rose, and their counts stand where it is not answered, those of several feeds where no output's is answered either; and a fault of the lanes is answered only with its cause
 pub record HasServeCauses (turns : ℕ) (ask : Service) (before after : Surroundings) (result : Status) : Type 0 where
   pub files_later : before.files_faults ≤ after.files_faults
-  pub feed_later : before.stage.feed_faults ≤ after.stage.feed_faults
+  pub feed_later : before.stage.lent.feed.faults ≤ after.stage.lent.feed.faults
   pub more_later : NoneFell before.stage.lent.more after.stage.lent.more
   pub out_later : before.stage.out_faults ≤ after.stage.out_faults
   pub maps_later : before.stage.maps_faults ≤ after.stage.maps_faults
-  pub source : result ≡ status.SourceFault → Rose before.files_faults after.files_faults ⊎ Rose before.stage.feed_faults after.stage.feed_faults ⊎ AnyFeed (length ask.more) HasFeedFault before.stage.lent.more after.stage.lent.more
+  pub source : result ≡ status.SourceFault → Rose before.files_faults after.files_faults ⊎ Rose before.stage.lent.feed.faults after.stage.lent.feed.faults ⊎ AnyFeed (length ask.more) HasFeedFault before.stage.lent.more after.stage.lent.more
   pub sink : result ≡ status.SinkFault → Rose before.stage.out_faults after.stage.out_faults ⊎ Rose before.stage.maps_faults after.stage.maps_faults
   pub files_stay : result ≢ status.SourceFault → after.files_faults ≡ before.files_faults
-  pub feed_stays : result ≢ status.SourceFault → (result ≡ status.SinkFault → ask.more ≡ []) → (after.stage.feed_faults ≡ before.stage.feed_faults) × AllStand before.stage.lent.more after.stage.lent.more
+  pub feed_stays : result ≢ status.SourceFault → (result ≡ status.SinkFault → ask.more ≡ []) → (after.stage.lent.feed.faults ≡ before.stage.lent.feed.faults) × AllStand before.stage.lent.more after.stage.lent.more
   pub out_stays : result ≢ status.SinkFault → after.stage.out_faults ≡ before.stage.out_faults
   pub maps_stay : result ≢ status.SinkFault → after.stage.maps_faults ≡ before.stage.maps_faults
   pub lanes : HasLaneCauses turns ask before.stage.lent after.stage.lent result
@@ -66,7 +66,7 @@ IsSound (Some (large groups)) files = Unit {0}
 -- no count of faults rose: of the files, the feeds and both outputs, of a port, the streams or a door of the lanes
 pub record IsServeQuiet (ask : Service) (before after : Surroundings) : Type 0 where
   pub files : Rose before.files_faults after.files_faults → ⊥
-  pub feed : Rose before.stage.feed_faults after.stage.feed_faults → ⊥
+  pub feed : Rose before.stage.lent.feed.faults after.stage.lent.feed.faults → ⊥
   pub more : AnyFeed (length ask.more) HasFeedFault before.stage.lent.more after.stage.lent.more → ⊥
   pub out : Rose before.stage.out_faults after.stage.out_faults → ⊥
   pub maps : Rose before.stage.maps_faults after.stage.maps_faults → ⊥

@@ -1,4 +1,4 @@
--- What a run of the program does, by what its words ask for.
+-- What a run does whose words ask for one text, or are not taken.
 use Rattle.std.specs.Prelude.{◌≡◌, ◌⊎◌, ℕ, List, [], ◌∷◌, Option, None, Some}
 use Rattle.outside.specs.Faults.{BothTell}
 use Rattle.outside.specs.Shelf.{Load, Shelved}
@@ -32,9 +32,9 @@ pub record AreWordsUnread (before after : Option Written) (result : Status) : Ty
   pub puts : BothTell before after (λ b a. a ≡ b)
 
 -- what a run does
-abbrev pub IsRun : Option Ask → Outside → Outside → Status → Type 0
-IsRun None before after result = Speaks IsUsage before.out after.out result ⊎ AreWordsUnread before.out after.out result
-IsRun (Some ask) before after result = RunsBy (IsDue ask before.files) before.out after.out result
+abbrev pub IsSayingRun : Option Ask → Outside → Outside → Status → Type 0
+IsSayingRun None before after result = Speaks IsUsage before.out after.out result ⊎ AreWordsUnread before.out after.out result
+IsSayingRun (Some ask) before after result = RunsBy (IsDue ask before.files) before.out after.out result
 
 -- the loads that are due to a command over the files: in the order of its words with their limits, each where all before it say something
 abbrev pub loads_of_ask : Ask → (List ℕ → Option (List ℕ)) → List Load

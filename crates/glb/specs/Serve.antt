@@ -195,14 +195,14 @@ pub record IsServed (turns : ℕ) (ask : Service) (first : Version) (before afte
   pub behind : drop (length ask.more) after.lent.more ≡ drop (length ask.more) before.lent.more
   pub opens : drop (length ask.more) after.opens ≡ drop (length ask.more) before.opens
   pub result_is : result ≡ status_of end (list_any is_port_fault (all_ends ends stream_end)) (list_any is_spent (all_ends ends stream_end)) (list_any is_cell_fault (all_ends ends stream_end))
-  pub source : end ≡ feed.SourceFault → Rose before.feed_faults after.feed_faults ⊎ AnyFeed (length ask.more) HasFeedFault before.lent.more after.lent.more
-  pub source_stays : end ≢ feed.SourceFault → (end ≡ feed.SinkFault → ask.more ≡ []) → (after.feed_faults ≡ before.feed_faults) × AllStand before.lent.more after.lent.more
+  pub source : end ≡ feed.SourceFault → Rose before.lent.feed.faults after.lent.feed.faults ⊎ AnyFeed (length ask.more) HasFeedFault before.lent.more after.lent.more
+  pub source_stays : end ≢ feed.SourceFault → (end ≡ feed.SinkFault → ask.more ≡ []) → (after.lent.feed.faults ≡ before.lent.feed.faults) × AllStand before.lent.more after.lent.more
   pub sink : end ≡ feed.SinkFault → Rose before.out_faults after.out_faults ⊎ Rose before.maps_faults after.maps_faults
   pub sink_stays : end ≢ feed.SinkFault → (after.out_faults ≡ before.out_faults) × (after.maps_faults ≡ before.maps_faults)
   pub port : result ≡ status.PortFault → AnyServer ask HasEightPortFaults HasEightPortFaults before.lent after.lent
   pub spent : result ≡ status.Spent → (end ≡ feed.Spent) ⊎ AnyServer ask (HasTaken turns) (HasHeard turns) before.lent after.lent
   pub cell : result ≡ status.CellFault → AnyServer ask (HasCellFault (length (first ∷ driven.rest))) (HasCellFault (length (first ∷ driven.rest))) before.lent after.lent
-  pub later : (before.feed_faults ≤ after.feed_faults) × (before.out_faults ≤ after.out_faults) × (before.maps_faults ≤ after.maps_faults) × NoneFell before.lent.more after.lent.more
+  pub later : (before.lent.feed.faults ≤ after.lent.feed.faults) × (before.out_faults ≤ after.out_faults) × (before.maps_faults ≤ after.maps_faults) × NoneFell before.lent.more after.lent.more
 
 -- what follows where the map cell was opened with a first version
 abbrev pub IsFirstSession : ℕ → Service → Version → Stage → Stage → Status → Type 0

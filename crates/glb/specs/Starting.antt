@@ -79,12 +79,12 @@ status_at end places stream = status_of end (has_any is_port_fault places stream
 
 -- no count of a session fell, a fault of a feed or of an output came with its count, and these counts stand where their fault is not answered, those of several feeds where no output's fault is answered either
 pub record IsSessionLater (ask : Service) (before after : Stage) (result : Status) : Type 0 where
-  pub feed : before.feed_faults ≤ after.feed_faults
+  pub feed : before.lent.feed.faults ≤ after.lent.feed.faults
   pub out : before.out_faults ≤ after.out_faults
   pub maps : before.maps_faults ≤ after.maps_faults
   pub more : NoneFell before.lent.more after.lent.more
-  pub source : result ≡ status.SourceFault → Rose before.feed_faults after.feed_faults ⊎ AnyFeed (length ask.more) HasFeedFault before.lent.more after.lent.more
+  pub source : result ≡ status.SourceFault → Rose before.lent.feed.faults after.lent.feed.faults ⊎ AnyFeed (length ask.more) HasFeedFault before.lent.more after.lent.more
   pub sink : result ≡ status.SinkFault → Rose before.out_faults after.out_faults ⊎ Rose before.maps_faults after.maps_faults
-  pub feed_stays : result ≢ status.SourceFault → (result ≡ status.SinkFault → ask.more ≡ []) → (after.feed_faults ≡ before.feed_faults) × AllStand before.lent.more after.lent.more
+  pub feed_stays : result ≢ status.SourceFault → (result ≡ status.SinkFault → ask.more ≡ []) → (after.lent.feed.faults ≡ before.lent.feed.faults) × AllStand before.lent.more after.lent.more
   pub out_stays : result ≢ status.SinkFault → after.out_faults ≡ before.out_faults
   pub maps_stay : result ≢ status.SinkFault → after.maps_faults ≡ before.maps_faults

@@ -15,11 +15,10 @@ use Rattle.drive.specs.Told.{feed_told, lane_told, stream_told}
 use Rattle.glb.specs.Outcome.{Faults, Outside}
 use Rattle.glb.specs.declared.lent.Lent.{Lent}
 
--- What all but the files tells at one moment: what a drive is lent, the names under which each further feed was opened, and the counts of faults of the feed and of both outputs.
+-- What all but the files tells at one moment: what a drive is lent, the names under which each further feed was opened, and the counts of faults of both outputs.
 pub record Stage : Type 0 where
   pub lent : LentTold
   pub opens : List (Option (List (List ℕ)))
-  pub feed_faults : ℕ
   pub out_faults : ℕ
   pub maps_faults : ℕ
 
@@ -29,11 +28,10 @@ pub record Surroundings : Type 0 where
   pub files_faults : ℕ
   pub stage : Stage
 
-abbrev pub stage : Option Fed → List FeedTold → List (Option (List (List ℕ))) → Option Written → Option Written → Option (List PaceCall) → List LaneTold → StreamLaneTold → ℕ → ℕ → ℕ → Stage
-stage feed more opens out maps pace lanes stream feed_faults out_faults maps_faults = record {
+abbrev pub stage : FeedTold → List FeedTold → List (Option (List (List ℕ))) → Option Written → Option Written → Option (List PaceCall) → List LaneTold → StreamLaneTold → ℕ → ℕ → Stage
+stage feed more opens out maps pace lanes stream out_faults maps_faults = record {
   lent = record { feed = feed; more = more; out = out; maps = maps; pace = pace; lanes = lanes; stream = stream };
   opens = opens;
-  feed_faults = feed_faults;
   out_faults = out_faults;
   maps_faults = maps_faults;
 }
@@ -41,7 +39,7 @@ stage feed more opens out maps pace lanes stream feed_faults out_faults maps_fau
 -- what all that is lent to a session tells
 abbrev pub stage_of : {S N K P Q G D M : Type 0} → (S → Option Fed) → (S → ℕ) → (N → Option Fed) → (N → ℕ) → (N → Option (List (List ℕ))) → (K → Option Written) → (K → ℕ) → (P → Option PortTold) → (P → ℕ) → (Q → Option StreamsTold) → (Q → ℕ) → (G → Option GateTold) → (D → ℕ) → (D → ℕ) → (D → ℕ) → (D → ℕ) → (M → Option (List PaceCall)) → Lent S N K P G D M → StreamLane Q G D → Stage
 stage_of fed feed_faults named named_faults opens written faults port port_faults streams stream_faults gate asked looks greatest door_faults paced l s =
-    stage (fed l.feed.now) (map (feed_told named named_faults) l.more.now) (map opens l.more.now) (written l.out.now) (written l.maps.now) (paced l.pace.now) (map (lane_told port port_faults gate asked looks greatest door_faults) l.lanes.now) (stream_told streams stream_faults gate asked looks greatest door_faults s) (feed_faults l.feed.now) (faults l.out.now) (faults l.maps.now)
+    stage (feed_told fed feed_faults l.feed.now) (map (feed_told named named_faults) l.more.now) (map opens l.more.now) (written l.out.now) (written l.maps.now) (paced l.pace.now) (map (lane_told port port_faults gate asked looks greatest door_faults) l.lanes.now) (stream_told streams stream_faults gate asked looks greatest door_faults s) (faults l.out.now) (faults l.maps.now)
 
 -- the same things are lent
 abbrev pub IsSame : {S N K P G D M : Type 0} → Lent S N K P G D M → Lent S N K P G D M → Type 0

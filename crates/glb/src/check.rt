@@ -2,7 +2,7 @@
 ghost use Rattle.std.specs.Prelude.{◌≡◌, ◌≢◌, [], ◌∷◌, Err, IfOk};
 ghost use Rattle.stable_check.specs.Judgement.{Judges};
 ghost use Rattle.map_text.specs.Writing.{mapped};
-ghost use Rattle.glb.specs.Check.{IsCheckDue, IsJudged, loads_of_check, status_of};
+ghost use Rattle.glb.specs.Check.{IsCheckDue, IsJudged, loads_of_check, status_of_verdict};
 ghost use Rattle.glb.specs.Texts as text;
 ghost use Rattle.glb.specs.Ending.{EndsBy, IsEnd, IsNameable, outcome_of};
 
@@ -17,8 +17,8 @@ use stable_check::{CheckRoom, Verdict, check};
 use std::alloc::Global;
 use topology_text::Topology;
 
-fn status_of(verdict: Verdict) -> Status
-    ensures { result ≡ status_of verdict }
+fn status_of_verdict(verdict: Verdict) -> Status
+    ensures { result ≡ status_of_verdict verdict }
 {
     match verdict {
         Verdict::Good => Status::Ok,
@@ -55,7 +55,7 @@ fn report(alloc: Global, topology: &Topology, map: &MapLines) -> Result<Report, 
     let verdict = judge(alloc, topology, map)?;
     let text = verdict_text(alloc, topology, verdict)?;
     Ok(Report {
-        status: status_of(verdict),
+        status: status_of_verdict(verdict),
         text,
     })
 }

@@ -2,7 +2,7 @@
 ghost use Rattle.std.specs.Prelude.{◌≡◌, ◌≢◌, ◌≤◌, ◌⊎◌, IsSome, option_map};
 ghost use Rattle.outside.specs.Faults.{BothTell, Rose};
 ghost use Rattle.glb.specs.Outcome.{AreLoaded, AreLoadsOf, HasExactCauses, IsSaid};
-ghost use Rattle.glb.specs.Run.{IsDue, IsGoodRun, IsRun, IsSound, loads_of, loads_of_ask};
+ghost use Rattle.glb.specs.Run.{IsDue, IsGoodRun, IsSayingRun, IsSound, loads_of, loads_of_ask};
 ghost use Rattle.glb.specs.Commands.{ask_of};
 ghost use Rattle.glb.specs.Ending.{EndsBy, IsEnd};
 
@@ -49,7 +49,7 @@ pub fn run_files<F: Shelf, K: Sink>(
     files: &mut F,
     out: &mut K,
 ) -> Status
-    ensures run { IsRun (option_map ask_of command.entry) (record { files = F.told files.old; out = K.told out.old }) (record { files = F.told files.new; out = K.told out.new }) result }
+    ensures run { IsSayingRun (option_map ask_of command.entry) (record { files = F.told files.old; out = K.told out.old }) (record { files = F.told files.new; out = K.told out.new }) result }
     ensures noted { BothTell (F.told files.old) (F.told files.new) (AreLoadsOf (loads_of (option_map ask_of command.entry))) }
     ensures loaded { result ≢ Status.SourceFault → result ≢ Status.NoMemory → BothTell (F.told files.old) (F.told files.new) (AreLoaded (loads_of (option_map ask_of command.entry))) }
     ensures causes { HasExactCauses (record { files = F.faults files.old; out = K.faults out.old }) (record { files = F.faults files.new; out = K.faults out.new }) result }

@@ -18,10 +18,10 @@ new_lane = record { port = Some new_port; port_faults = 0; gate = Some new_gate;
 abbrev pub new_stream_lane : StreamLaneTold
 new_stream_lane = record { port = Some new_streams; port_faults = 0; gate = Some new_gate; asked = 0; looks = 0; greatest = 0; door_faults = 0; noted = 0 }
 
--- a further feed of which nothing was asked
+-- a feed of which nothing was asked
 abbrev pub new_feed : FeedTold
 new_feed = record { fed = Some new_source; faults = 0 }
 
 -- files that don't tell what they hold, and a feed, three further ones, two outputs, a pace, sixteen lanes and one for conversations, all new
 abbrev pub new_surroundings : Surroundings
-new_surroundings = surroundings None 0 (stage (Some new_source) (replicate 3 new_feed) (replicate 3 (Some [])) (Some new_sink) (Some new_sink) (Some new_pace) (replicate 16 new_lane) new_stream_lane 0 0 0)
+new_surroundings = surroundings None 0 (stage new_feed (replicate 3 new_feed) (replicate 3 (Some [])) (Some new_sink) (Some new_sink) (Some new_pace) (replicate 16 new_lane) new_stream_lane 0 0)

@@ -21,13 +21,13 @@ returns-in-Err-clause-served g c =
     let tell = feed_told g.N.Source.told g.N.Source.faults in
     let named : Named = record { feeds = map tell c.args.lent.now.more.now; opens = map g.N.NamedSource.opens c.args.lent.now.more.now } in
     let open_ones : Named = record { feeds = map tell c.start_lanes.new.feeds; opens = map g.N.NamedSource.opens c.start_lanes.new.feeds } in
-    let begin = starts (service_asked c.args.service.now) c.args.mapper.newest c.text.result.now (g.S.Source.told c.args.lent.now.feed.now) named open_ones (g.K.Sink.told c.args.lent.now.out.now) (g.K.Sink.told c.args.lent.now.maps.now) (g.K.Sink.told c.start_lanes.new.maps) (g.M.Pace.told c.args.lent.now.pace.now) _ _ _ _
-    (g.S.Source.faults c.args.lent.now.feed.now) (g.K.Sink.faults c.args.lent.now.out.now) (g.K.Sink.faults c.args.lent.now.maps.now) (g.K.Sink.faults c.start_lanes.new.maps)
+    let begin = starts (service_asked c.args.service.now) c.args.mapper.newest c.text.result.now (feed_told g.S.Source.told g.S.Source.faults c.args.lent.now.feed.now) named open_ones (g.K.Sink.told c.args.lent.now.out.now) (g.K.Sink.told c.args.lent.now.maps.now) (g.K.Sink.told c.start_lanes.new.maps) (g.M.Pace.told c.args.lent.now.pace.now) _ _ _ _
+    (g.K.Sink.faults c.args.lent.now.out.now) (g.K.Sink.faults c.args.lent.now.maps.now) (g.K.Sink.faults c.start_lanes.new.maps)
     c.text.ensures c.in-Ready.ensures.start in
     unfed_session _ (service_asked c.args.service.now) _ _ _ _ begin
-    (same_stage _ _ _ _ _ _ _ _ _ _ _ _ _ _ _ _ _ _ _ _ _ _ (ap g.S.Source.told n.0) (ap (map tell) all) (ap (map g.N.NamedSource.opens) all) (ap g.K.Sink.told n.2) (ap g.K.Sink.told n.3) (ap g.M.Pace.told n.6)
+    (same_stage _ _ _ _ _ _ _ _ _ _ _ _ _ _ _ _ _ _ _ _ (ap (feed_told g.S.Source.told g.S.Source.faults) n.0) (ap (map tell) all) (ap (map g.N.NamedSource.opens) all) (ap g.K.Sink.told n.2) (ap g.K.Sink.told n.3) (ap g.M.Pace.told n.6)
     (ap (map (lane_told g.P.Port.told g.P.Port.faults g.G.Gate.told g.D.Door.asked g.D.Door.looks g.D.Door.greatest g.D.Door.faults)) n.4) (ap (stream_told g.Q.Streams.told g.Q.Streams.faults g.G.Gate.told g.D.Door.asked g.D.Door.looks g.D.Door.greatest g.D.Door.faults) n.5)
-    (ap g.S.Source.faults n.0) (ap g.K.Sink.faults n.2) (ap g.K.Sink.faults n.3))
+    (ap g.K.Sink.faults n.2) (ap g.K.Sink.faults n.3))
 
 pub returns-in-Ok-clause-served : goal.returns-in-Ok-clause-served
 returns-in-Ok-clause-served g c =
@@ -36,8 +36,8 @@ returns-in-Ok-clause-served g c =
     let opens = g.N.NamedSource.opens in
     let named : Named = record { feeds = map tell c.args.lent.now.more.now; opens = map g.N.NamedSource.opens c.args.lent.now.more.now } in
     let open_ones : Named = record { feeds = map tell c.start_lanes.new.feeds; opens = map g.N.NamedSource.opens c.start_lanes.new.feeds } in
-    let begin = starts (service_asked c.args.service.now) c.args.mapper.newest c.text.result.now (g.S.Source.told c.args.lent.now.feed.now) named open_ones (g.K.Sink.told c.args.lent.now.out.now) (g.K.Sink.told c.args.lent.now.maps.now) (g.K.Sink.told c.start_lanes.new.maps) (g.M.Pace.told c.args.lent.now.pace.now) _ _ _ _
-    (g.S.Source.faults c.args.lent.now.feed.now) (g.K.Sink.faults c.args.lent.now.out.now) (g.K.Sink.faults c.args.lent.now.maps.now) (g.K.Sink.faults c.start_lanes.new.maps)
+    let begin = starts (service_asked c.args.service.now) c.args.mapper.newest c.text.result.now (feed_told g.S.Source.told g.S.Source.faults c.args.lent.now.feed.now) named open_ones (g.K.Sink.told c.args.lent.now.out.now) (g.K.Sink.told c.args.lent.now.maps.now) (g.K.Sink.told c.start_lanes.new.maps) (g.M.Pace.told c.args.lent.now.pace.now) _ _ _ _
+    (g.K.Sink.faults c.args.lent.now.out.now) (g.K.Sink.faults c.args.lent.now.maps.now) (g.K.Sink.faults c.start_lanes.new.maps)
     c.text.ensures c.in-Ready.ensures.start in
     served_session _ (service_asked c.args.service.now) _ _ _ _ (map tell c.split_at_mut-opened.result.0.now) (map tell c.drive.new.more) (map tell c.split_at_mut-opened.result.1.now) c.in-Ok.end.feed c.in-Ok.end.lanes c.in-Ok.end.stream _ begin
     (ap (map tell) c.split_at_mut-opened.ensures.value ∙ map-append tell _ _) (map-append tell _ _) (length-map _ tell ∙ search rules) (length-map _ tell ∙ search rules ∙ sym (length-map _ tell))

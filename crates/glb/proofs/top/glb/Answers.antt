@@ -15,8 +15,8 @@ returns-in-Ok g c =
     let pace : c.run_order.new.lent.pace.now ≡ c.pace-1.given.0 = search rules in
     let lanes : c.run_order.new.lent.lanes.now ≡ c.all-1.given.0 ++ c.split_at_mut-all.result.1.now = search rules in
     promised_over _ _ _ _ _ _ _ _ _ _ _ _ _ refl c.in-Ok.ensures.asked
-    (same_stage _ _ _ _ _ _ _ _ _ _ _ _ _ _ _ _ _ _ _ _ _ _ refl refl refl refl refl refl (ap tell front) refl refl refl refl)
-    (same_stage _ _ _ _ _ _ _ _ _ _ _ _ _ _ _ _ _ _ _ _ _ _ (ap g.S.Source.told feed) (ap (map (feed_told g.N.Source.told g.N.Source.faults)) more) (ap (map g.N.NamedSource.opens) more) (ap g.K.Sink.told out) (ap g.K.Sink.told maps) (ap g.M.Pace.told pace) (ap tell lanes) refl (ap g.S.Source.faults feed) (ap g.K.Sink.faults out) (ap g.K.Sink.faults maps))
+    (same_stage _ _ _ _ _ _ _ _ _ _ _ _ _ _ _ _ _ _ _ _ refl refl refl refl refl refl (ap tell front) refl refl refl)
+    (same_stage _ _ _ _ _ _ _ _ _ _ _ _ _ _ _ _ _ _ _ _ (ap (feed_told g.S.Source.told g.S.Source.faults) feed) (ap (map (feed_told g.N.Source.told g.N.Source.faults)) more) (ap (map g.N.NamedSource.opens) more) (ap g.K.Sink.told out) (ap g.K.Sink.told maps) (ap g.M.Pace.told pace) (ap tell lanes) refl (ap g.K.Sink.faults out) (ap g.K.Sink.faults maps))
     c.run_order.ensures.promised
 
 pub returns-in-Err : goal.returns-in-Err
