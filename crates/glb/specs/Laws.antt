@@ -16,6 +16,8 @@ use Rattle.mapper.specs.Merged.{Publishes}
 use Rattle.mapper.specs.Control.{AllCome}
 use Rattle.mapper.specs.Scenes.{IsPrinted}
 use Rattle.mapper.specs.Words.{map_text}
+use Rattle.big_run.specs.Runs.{IsRun}
+use Rattle.big_run.specs.declared.summary.Summary.{Summary}
 use Rattle.glb.specs.Map.{AreGoodMap}
 use Rattle.glb.specs.Repair.{AreRepaired}
 use Rattle.glb.specs.Served.{IsWellServed}
@@ -66,3 +68,20 @@ ServesPublish = (turns : ℕ) (ask : Service) (before after : Surroundings) (w :
 abbrev pub ServesRepeat : Type 0
 ServesRepeat = (turns runs : ℕ) (ask other : Service) (before after then later : Surroundings) (x : IsWellServed turns ask before after) (y : IsWellServed runs other then later) (batches : List (List Change))
     → x.topology ≡ y.topology → Publishes x.first batches x.rest → Publishes y.first batches y.rest → (x.first ≡ y.first) × (x.rest ≡ y.rest)
+
+-- a summary with so many proposals
+abbrev pub with_proposals : ℕ → Summary → Summary
+with_proposals proposals s = record {
+  groups = s.groups;
+  nodes = s.nodes;
+  maps = s.maps;
+  good = s.good;
+  totals = s.totals;
+  proposals = proposals;
+  answered = s.answered;
+  servfail = s.servfail;
+}
+
+-- Two summaries of runs over the world of so many groups are the same, but for the number of proposals of the first map.
+abbrev pub SummariesAgree : Type 0
+SummariesAgree = (n : ℕ) (a b : Summary) → IsRun n a → IsRun n b → a ≡ with_proposals a.proposals b

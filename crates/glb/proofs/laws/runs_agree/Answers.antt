@@ -1,4 +1,5 @@
 use Rattle.glb.proofs.Agree.{map_one, repair_one, serves_agree, serves_come, serves_publish, serves_repeat}
+use Rattle.glb.proofs.Summaries.{summaries_agree}
 use Rattle.glb.proofs.laws.runs_agree.Goals as goal
 
 pub returns-clause-maps : goal.returns-clause-maps
@@ -18,3 +19,6 @@ returns-clause-publish c = serves_publish
 
 pub returns-clause-repeat : goal.returns-clause-repeat
 returns-clause-repeat c = serves_repeat
+
+pub returns-clause-summaries : goal.returns-clause-summaries
+returns-clause-summaries c = summaries_agree
