@@ -16,7 +16,7 @@ use Rattle.mapper.proofs.Agree.{first_one, next_one}
 use Rattle.big_world.specs.Feed.{feed_of}
 use Rattle.big_world.specs.Topology.{topology_of}
 use Rattle.big_run.specs.Publishing.{Publishes}
-use Rattle.big_run.specs.Runs.{IsRun, summary_of}
+use Rattle.big_run.specs.Runs.{IsWorldRun, summary_of}
 use Rattle.big_run.specs.declared.summary.Summary.{Summary}
 use Rattle.glb.specs.Laws.{SummariesAgree, with_proposals}
 use Rattle.glb.proofs.Plans.{bytes_are_plan}

@@ -16,7 +16,7 @@ use Rattle.mapper.specs.Merged.{Publishes}
 use Rattle.mapper.specs.Control.{AllCome}
 use Rattle.mapper.specs.Scenes.{IsPrinted}
 use Rattle.mapper.specs.Words.{map_text}
-use Rattle.big_run.specs.Runs.{IsRun}
+use Rattle.big_run.specs.Runs.{IsWorldRun}
 use Rattle.big_run.specs.declared.summary.Summary.{Summary}
 use Rattle.glb.specs.Map.{AreGoodMap}
 use Rattle.glb.specs.Repair.{AreRepaired}
@@ -84,4 +84,4 @@ with_proposals proposals s = record {
 
 -- Two summaries of runs over the world of so many groups are the same, but for the number of proposals of the first map.
 abbrev pub SummariesAgree : Type 0
-SummariesAgree = (n : ℕ) (a b : Summary) → IsRun n a → IsRun n b → a ≡ with_proposals a.proposals b
+SummariesAgree = (n : ℕ) (a b : Summary) → IsWorldRun n a → IsWorldRun n b → a ≡ with_proposals a.proposals b
