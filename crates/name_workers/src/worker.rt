@@ -13,7 +13,6 @@ ghost use Rattle.name_workers.specs.Worker.{IsAnswer};
 use addr_text::Addr;
 use answer_core::{Way, reply, silent};
 use arrayvec::ArrayVec;
-use dns_wire::octets::put;
 use lane_model::{draw_of, next_number};
 use map_cell::{CellFault, Door, Naming, Note, Viewer};
 use outside::LARGEST_REPLY;
@@ -27,28 +26,40 @@ pub struct Worker<J: Naming> {
     pub count: u64,
 }
 
-/// A reply, and the serial of its version.
+/// A reply in the room that was lent for it, and the serial of its version.
 #[derive(Drop)]
-struct Replied {
-    text: ArrayVec<u8, LARGEST_REPLY>,
+struct Replied<'r> {
+    room: &'r mut ArrayVec<u8, LARGEST_REPLY>,
     serial: u64,
 }
 
-/// The reply of a version to octets that have one, by a way.
-fn reply_by(version: &MapVersion, from: Addr, octets: &[u8], draw: u64, way: Way) -> Replied
+/// Puts the reply of a version to octets that have one, by a way, into the room, which is cleared first.
+fn reply_by<'r>(
+    version: &MapVersion,
+    from: Addr,
+    octets: &[u8],
+    draw: u64,
+    way: Way,
+    room: &'r mut ArrayVec<u8, LARGEST_REPLY>,
+) -> Replied<'r>
     requires version { IsVersion version.now }
     requires spoken { is_silent octets.now ≡ false }
-    ensures reply { reply_of version.now from octets.now draw way ≡ Some result.text.items }
-    ensures short { length result.text.items ≤ LARGEST_REPLY }
+    ensures lent { result.room.ghost_name ≡ room.entry.ghost_name }
+    ensures reply { reply_of version.now from octets.now draw way ≡ Some result.room.now.items }
+    ensures short { length result.room.now.items ≤ LARGEST_REPLY }
     ensures serial { result.serial ≡ version.now.serial }
 {
-    let mut text = ArrayVec::new();
-    let _ = reply(version, from, octets, draw, way, &mut text);
+    let _ = reply(version, from, octets, draw, way, room);
     Replied {
-        text,
+        room,
         serial: version.serial(),
     }
 }
+
+/// Does nothing. It ties the room that is given back to whoever lent it.
+fn take_back(room: &mut ArrayVec<u8, LARGEST_REPLY>)
+    ensures { room.new ≡ room.old }
+{}
 
 impl<J: Naming> Worker<J> {
     /// A worker of that number, which has had no datagram. Numbers from 0 to 15 have draws that begin at different places;
@@ -117,19 +128,26 @@ impl<J: Naming> Worker<J> {
         if silent(octets) {
             return Ok(None);
         }
+        let room = &mut *out;
         let looked = door.look(
             &mut self.viewer,
-            |m: &MapVersion| -> Replied
+            move |m: &MapVersion| -> Replied
                 requires { IsVersion m.now × (is_silent octets.now ≡ false) }
-                ensures { (reply_of m.now from octets.entry.now draw way ≡ Some result.text.items) × (length result.text.items ≤ LARGEST_REPLY) × (result.serial ≡ m.now.serial) }
-            { reply_by(m, from, octets, draw, way) },
+                ensures lent { result.room.ghost_name ≡ room.entry.ghost_name }
+                ensures reply { reply_of m.now from octets.entry.now draw way ≡ Some result.room.now.items }
+                ensures short { length result.room.now.items ≤ LARGEST_REPLY }
+                ensures serial { result.serial ≡ m.now.serial }
+            { reply_by(m, from, octets, draw, way, room) },
         );
-        match &looked {
-            Ok(replied) => {
-                put(out, replied.text.as_slice());
-                Ok(Some(replied.serial))
+        match looked {
+            Ok(Replied { room, serial }) => {
+                take_back(room);
+                Ok(Some(serial))
             }
-            Err(fault) => Err(*fault),
+            Err(fault) => {
+                out.clear();
+                Err(fault)
+            }
         }
     }
 }
