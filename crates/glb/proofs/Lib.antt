@@ -12,6 +12,7 @@ mod Histories
 mod Causes
 mod Served
 mod StreamCauses
+mod Summaries
 mod Lanes
 mod Left
 mod Reports
