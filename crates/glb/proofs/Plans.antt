@@ -26,7 +26,7 @@ plan_of_sound plan faults t sound h = let found = without_fault plan faults t h 
 no_plan : (r : Result Plan TopologyFault) (f : TopologyFault) (t : Plan) → r ≡ Err f → r ≡ Ok t → ⊥
 no_plan r f t is h = cc
 
-bytes_are_plan : (bytes : List ℕ) (t : Plan) → reading bytes ≡ Ok t → IsPlan t
+pub bytes_are_plan : (bytes : List ℕ) (t : Plan) → reading bytes ≡ Ok t → IsPlan t
 bytes_are_plan bytes t = elim (document bytes) as (λ o. reading_of o ≡ Ok t → IsPlan t) [
   | None ↦ λ h. absurd (no_plan (Err NotToml) NotToml t refl h)
   | Some top ↦ λ h. plan_of_sound (plan_of (entries_of top) (all_prefixes (walk top))) (faults_of top) t (λ none. plan_good (entries_of top) (all_prefixes (walk top)) (sound top none) (prefixes_sound top none)) h

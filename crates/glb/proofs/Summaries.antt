@@ -51,15 +51,15 @@ left_one (task ∷ ts) old a b (mid, first, rest) (other, also, more) =
     let e : mid ≡ other = task_one task old mid other first also in
     left_one ts other a b (subst (λ (m : PublisherState). AllDo Publishes ts m a) e rest) more
 
-ok_one : (a b : Plan) → Ok {Plan} {TopologyFault} a ≡ Ok b → a ≡ b
-ok_one a b e = cc
+ok_one : (a b : Plan) (read : Result Plan TopologyFault) → read ≡ Ok a → read ≡ Ok b → a ≡ b
+ok_one a b read x y = cc
 
 pub summaries_agree : SummariesAgree
 summaries_agree n a b x y =
     x.sums ∙ ap (λ (t : Plan). summary_of n t x.last a.proposals) topology ∙ ap (λ (m : PublisherState). summary_of n y.topology m a.proposals) last ∙ sym (ap (with_proposals a.proposals) y.sums)
   where
     topology : x.topology ≡ y.topology
-    topology = ok_one x.topology y.topology (sym x.reads ∙ y.reads)
+    topology = ok_one x.topology y.topology (reading (topology_of n)) x.reads y.reads
 
     first : x.first ≡ y.first
     first = opened_one y.topology (bytes_are_plan (topology_of n) y.topology y.reads).market x.first y.first (subst (λ (t : Plan). IsFirst t x.first) topology x.is_first) y.is_first
