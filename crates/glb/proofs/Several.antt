@@ -127,17 +127,17 @@ among zero (suc n) = inl (omega arith)
 among (suc k) (suc n) = elim (among k n) [ inl h ↦ inl (omega (arith, h)) | inr h ↦ inr (omega (arith, h)) ]
 
 -- several feeds of which one took all its turns
-together_gave : (t : Plan) (turns : ℕ) (end : FeedEnd) (feed then : FeedTold) (more after : List FeedTold) (start stop : Scene) → end ≡ ends.Spent → AreFedTogether t turns end feed then more after start stop → AnyFeed (length (feed ∷ more)) (HasFeedGiven turns) (feed ∷ more) (then ∷ after)
-together_gave t turns end feed then more after start stop is f = go (elim f.run.ended [ inl h ↦ sym is ∙ h.0 | inr h ↦ let clash : ends.Spent ≡ ends.SinkFault = sym is ∙ h.0 in absurd (cc) ])
+together_gave : (t : Plan) (turns : ℕ) (end : FeedEnd) (feed feed' : FeedTold) (more after : List FeedTold) (start stop : Scene) → end ≡ ends.Spent → AreFedTogether t turns end feed feed' more after start stop → AnyFeed (length (feed ∷ more)) (HasFeedGiven turns) (feed ∷ more) (feed' ∷ after)
+together_gave t turns end feed feed' more after start stop is f = go (elim f.run.ended [ inl h ↦ sym is ∙ h.0 | inr h ↦ let clash : ends.Spent ≡ ends.SinkFault = sym is ∙ h.0 in absurd (cc) ])
   where
-    go : ends.Spent ≡ first_end f.items → AnyFeed (length (feed ∷ more)) (HasFeedGiven turns) (feed ∷ more) (then ∷ after)
+    go : ends.Spent ≡ first_end f.items → AnyFeed (length (feed ∷ more)) (HasFeedGiven turns) (feed ∷ more) (feed' ∷ after)
     go h =
         let one = one_sent is_spent_end f.items (first_spent f.items h) in
         by_number one.0 one.1
       where
-        by_number : (k : ℕ) → list_any is_spent_end (sent_by k f.items) ≡ true → AnyFeed (length (feed ∷ more)) (HasFeedGiven turns) (feed ∷ more) (then ∷ after)
+        by_number : (k : ℕ) → list_any is_spent_end (sent_by k f.items) ≡ true → AnyFeed (length (feed ∷ more)) (HasFeedGiven turns) (feed ∷ more) (feed' ∷ after)
         by_number k some = elim (among k (length (feed ∷ more))) [
-          | inl lt ↦ any_gave t turns 0 k f.sent (feed ∷ more) (then ∷ after) f.feeds lt (subst (λ (i : ℕ). list_any is_spent_end (f.sent i) ≡ true) (omega arith) (subst (λ (ws : List What). list_any is_spent_end ws ≡ true) (f.whole k lt) some))
+          | inl lt ↦ any_gave t turns 0 k f.sent (feed ∷ more) (feed' ∷ after) f.feeds lt (subst (λ (i : ℕ). list_any is_spent_end (f.sent i) ≡ true) (omega arith) (subst (λ (ws : List What). list_any is_spent_end ws ≡ true) (f.whole k lt) some))
           | inr ge ↦ let none : list_any is_spent_end [] ≡ true = subst (λ (ws : List What). list_any is_spent_end ws ≡ true) (f.others k ge) some in absurd (cc)
         ]
 
@@ -159,8 +159,8 @@ all_work_texts [] c d texts h = rw h texts
 all_work_texts (x ∷ xs) c d texts h = all_work_texts xs h.0 d (works_texts (Some x.feeder) x.what c h.0 texts h.1) h.2
 
 -- what came of several feeds that ended
-pub together_worked : (t : Plan) (turns : ℕ) (feed then : FeedTold) (more after : List FeedTold) (start stop : Scene) → (f : AreFedTogether t turns ends.Ended feed then more after start stop) → AllWorked f.items start (record stop { pace = f.run.calls })
-together_worked t turns feed then more after start stop f = elim f.run.ended [ inl h ↦ h.1 | inr h ↦ let clash = h.0 in absurd (cc) ]
+pub together_worked : (t : Plan) (turns : ℕ) (feed feed' : FeedTold) (more after : List FeedTold) (start stop : Scene) → (f : AreFedTogether t turns ends.Ended feed feed' more after start stop) → AllWorked f.items start (record stop { pace = f.run.calls })
+together_worked t turns feed feed' more after start stop f = elim f.run.ended [ inl h ↦ h.1 | inr h ↦ let clash = h.0 in absurd (cc) ]
 
 -- what a run over a feed gave that was spent
 given_of : (t : Plan) (turns : ℕ) (end : FeedEnd) (fed fed' : Option Fed) (before after : Scene) → end ≡ ends.Spent → IsFeed t turns end fed fed' before after → HasGiven turns fed fed'
@@ -171,7 +171,7 @@ given_of t turns ends.SinkFault fed fed' before after is f = absurd (cc)
 given_of t turns ends.NoMemory fed fed' before after is f = absurd (cc)
 
 -- where turns were spent, a feed took them
-pub fed_given : (t : Plan) (turns : ℕ) (end : FeedEnd) (feed then : FeedTold) (more after : List FeedTold) (start stop : Scene) → end ≡ ends.Spent
-    → AreFed t turns end feed more then after start stop → HasFeedGiven turns feed then ⊎ AnyFeed (length more) (HasFeedGiven turns) more after
-fed_given t turns end feed then [] after start stop is h = inl (given_of t turns end feed.fed then.fed start stop is h.0)
-fed_given t turns end feed then (m ∷ more) after start stop is h = together_gave t turns end feed then (m ∷ more) after start stop is h
+pub fed_given : (t : Plan) (turns : ℕ) (end : FeedEnd) (feed feed' : FeedTold) (more after : List FeedTold) (start stop : Scene) → end ≡ ends.Spent
+    → AreFed t turns end feed more feed' after start stop → HasFeedGiven turns feed feed' ⊎ AnyFeed (length more) (HasFeedGiven turns) more after
+fed_given t turns end feed feed' [] after start stop is h = inl (given_of t turns end feed.fed feed'.fed start stop is h.0)
+fed_given t turns end feed feed' (m ∷ more) after start stop is h = together_gave t turns end feed feed' (m ∷ more) after start stop is h
