@@ -7,15 +7,14 @@ use edges::{SharedTcp, SharedUdp, StopFlag};
 use glb::{Lane, Status, StreamLane};
 use map_cell::PlainDoor;
 use no_memory::NoMemory;
-use outside::{Gate, MemSink, MemSource, Pace, Port, Streams};
+use outside::{Gate, MemSink, Pace, Port, Streams};
 use std::alloc::Global;
 use std::io::{Read, Write};
 use std::net::{IpAddr, Ipv4Addr, Net, SocketAddr, TcpListener, TcpStream, UdpSocket};
 use std::test::Fail;
 use std::thread::{self, join_mut};
 use std::time::Duration;
-use trial_runs::Held::{Missing, Topology};
-use trial_runs::{AllLent, QUERY, REGION, feeds_of, run, shelf, words_of};
+use trial_runs::{Lent, PLAIN, QUERY, Scene, devices_of, lent_of, run};
 
 /// What the client gets: the header of an answer, the question, and one address of the first group's pool.
 const REPLY: &[u8] = &[
@@ -138,8 +137,13 @@ const WORDS: &[&str] = &[
     "127.0.0.1:0",
 ];
 
-/// `serve` on loopback over the region, with an empty feed.
-fn lent_of<P: Port + Drop, Q: Streams + Drop, G: Gate + Drop, M: Pace + Drop>(
+const SCENE: Scene = Scene {
+    words: WORDS,
+    ..PLAIN
+};
+
+/// `serve` on loopback over the region, with an empty feed, and no room for control text.
+fn lent_over<P: Port + Drop, Q: Streams + Drop, G: Gate + Drop, M: Pace + Drop>(
     alloc: Global,
     lanes: Vec<Lane<P, G, PlainDoor>>,
     stream: StreamLane<Q, G, PlainDoor>,
@@ -148,17 +152,9 @@ fn lent_of<P: Port + Drop, Q: Streams + Drop, G: Gate + Drop, M: Pace + Drop>(
     requires { vec_len lanes ≡ MOST_VIEWERS }
     ensures { IfOk result (λ s. (vec_len s.lanes ≡ MOST_VIEWERS) × (vec_len s.more ≡ 3)) }
 {
-    Ok(AllLent {
-        words: words_of(alloc, WORDS)?,
-        files: shelf(alloc, Topology(REGION), Missing)?,
-        feed: MemSource::new(alloc, Vec::new(alloc), Vec::new(alloc), Vec::new(alloc))?,
-        more: feeds_of(alloc, &[])?,
-        out: MemSink::new(alloc, 0, Vec::new(alloc))?,
-        maps: MemSink::new(alloc, 1024, Vec::new(alloc))?,
-        lanes,
-        stream,
-        pace,
-    })
+    let mut devices = devices_of(alloc, SCENE, b"")?;
+    devices.outputs.out = MemSink::new(alloc, 0, Vec::new(alloc))?;
+    Ok(lent_of(devices, lanes, stream, pace))
 }
 
 #[test]
@@ -168,7 +164,7 @@ fn serves_a_client_on_loopback(rt: HostRuntime) -> Result<(), Fail> {
     let client = socket_of(&rt).ok_or("no client")?;
     let word = socket_of(&rt).ok_or("no socket for the word")?;
     let to = word.local_addr().map_err(|_| "no address")?;
-    let mut lent = lent_of(rt.alloc(), lanes, stream, WordPace { word, flag: &flag })?;
+    let mut lent = lent_over(rt.alloc(), lanes, stream, WordPace { word, flag: &flag })?;
     let mut asking = || ask_both(&rt, &client, &udp, &tcp, to);
     let mut serving = || -> Status
         requires { (vec_len lent.lanes ≡ MOST_VIEWERS) × (vec_len lent.more ≡ 3) }

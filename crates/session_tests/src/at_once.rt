@@ -6,16 +6,14 @@ use glb::{Lane, Status, StreamLane};
 use map_cell::{MOST_VIEWERS, PlainDoor};
 use no_memory::NoMemory;
 use outside::{
-    HeldLane, HoldGate, HoldPace, MemPort, MemSink, MemSource, MemStreams, MemTaken, MemTry,
-    Milestones, Point, Wanted,
+    HeldLane, HoldGate, HoldPace, MemPort, MemStreams, MemTaken, MemTry, Milestones, Point, Wanted,
 };
 use std::alloc::Global;
 use std::collections::LinkedList;
 use std::sync::Wait;
 use std::test::Fail;
 use std::thread::Threads;
-use trial_runs::Held::{Missing, Topology};
-use trial_runs::{AllLent, REGION, SERVE_TWO, feeds_of, queries, run, shelf, words_of};
+use trial_runs::{Lent, PLAIN, SERVE_TWO, Scene, devices_of, lent_of, queries, run};
 
 /// What waits at a lane, and what is waited for at its turns.
 #[derive(Clone, Copy)]
@@ -74,21 +72,44 @@ const IDLE: Held = Held {
     points: &[],
 };
 
+/// A session of two workers.
+const TWO_WORKERS: Scene = Scene {
+    words: SERVE_TWO,
+    ..PLAIN
+};
+
 const FEED: &[u8] = b"demand g2 4\ncommit\ndemand g2 5\ncommit\nstop\n";
 
 type HoldLane<'a> = Lane<MemPort, HoldGate<'a>, PlainDoor>;
 
-fn held_lane(alloc: Global, milestones: &Milestones, held: Held) -> Result<HoldLane<'_>, NoMemory> {
-    let waiting = queries(alloc, held.queries)?;
-    let points = Vec::from_slice(alloc, held.points)?;
-    let port = MemPort::new(
+type HoldStream<'a> = StreamLane<MemStreams, HoldGate<'a>, PlainDoor>;
+
+/// A port at which so many queries wait.
+fn port_of(alloc: Global, count: u8) -> Result<MemPort, NoMemory> {
+    let waiting = queries(alloc, count)?;
+    MemPort::new(
         alloc,
         waiting,
         Vec::new(alloc),
         Vec::new(alloc),
         Vec::new(alloc),
-    )?;
-    let gate = HoldGate::new(alloc, milestones, held.lane, points, 8)?;
+    )
+}
+
+/// A lane's gate, which waits for these points.
+fn gate_of<'a>(
+    alloc: Global,
+    milestones: &'a Milestones,
+    lane: HeldLane,
+    points: &[Point],
+) -> Result<HoldGate<'a>, NoMemory> {
+    let points = Vec::from_slice(alloc, points)?;
+    HoldGate::new(alloc, milestones, lane, points, 8)
+}
+
+fn held_lane(alloc: Global, milestones: &Milestones, held: Held) -> Result<HoldLane<'_>, NoMemory> {
+    let port = port_of(alloc, held.queries)?;
+    let gate = gate_of(alloc, milestones, held.lane, held.points)?;
     Ok(Lane::new(port, gate, PlainDoor::new()))
 }
 
@@ -120,38 +141,51 @@ fn are_tried(tries: &[MemTry], serials: &[u64]) -> bool {
 /// What is lent to a run of two lanes and a feed that hold each other.
 type HeldLent<'a> = AllLent<MemPort, MemStreams, HoldGate<'a>, PlainDoor, HoldPace<'a>>;
 
-/// A lane for conversations, of which there are none.
-fn no_stream(
-    alloc: Global,
-    milestones: &Milestones,
-) -> Result<StreamLane<MemStreams, HoldGate<'_>, PlainDoor>, NoMemory> {
-    let streams = MemStreams::new(
+/// Streams on which there is no conversation.
+fn no_streams(alloc: Global) -> Result<MemStreams, NoMemory> {
+    MemStreams::new(
         alloc,
         LinkedList::new(alloc),
         Vec::new(alloc),
         Vec::new(alloc),
         Vec::new(alloc),
-    )?;
-    let gate = HoldGate::new(alloc, milestones, HeldLane::Second, Vec::new(alloc), 8)?;
+    )
+}
+
+/// A lane for conversations, of which there are none.
+fn no_stream(alloc: Global, milestones: &Milestones) -> Result<HoldStream<'_>, NoMemory> {
+    let streams = no_streams(alloc)?;
+    let gate = gate_of(alloc, milestones, HeldLane::Second, &[])?;
     Ok(StreamLane::new(streams, gate, PlainDoor::new()))
+}
+
+fn pace_of(alloc: Global, milestones: &Milestones) -> Result<HoldPace<'_>, NoMemory> {
+    let points = Vec::from_slice(alloc, COMMITS)?;
+    HoldPace::new(alloc, milestones, points, 8)
+}
+
+/// A session of two workers over these lanes, with this pace.
+fn lent_over<'a>(
+    alloc: Global,
+    lanes: Vec<HoldLane<'a>>,
+    stream: HoldStream<'a>,
+    pace: HoldPace<'a>,
+) -> Result<HeldLent<'a>, NoMemory>
+    requires { vec_len lanes ≡ MOST_VIEWERS }
+    ensures { IfOk result (λ l. (vec_len l.lanes ≡ MOST_VIEWERS) × (vec_len l.more ≡ 3)) }
+{
+    let devices = devices_of(alloc, TWO_WORKERS, FEED)?;
+    Ok(lent_of(devices, lanes, stream, pace))
 }
 
 /// A feed and two lanes that hold each other by these milestones.
 fn held_lent(alloc: Global, milestones: &Milestones) -> Result<HeldLent<'_>, NoMemory>
     ensures { IfOk result (λ l. (vec_len l.lanes ≡ MOST_VIEWERS) × (vec_len l.more ≡ 3)) }
 {
-    let feed = Vec::from_slice(alloc, FEED)?;
-    Ok(AllLent {
-        words: words_of(alloc, SERVE_TWO)?,
-        files: shelf(alloc, Topology(REGION), Missing)?,
-        feed: MemSource::new(alloc, feed, Vec::new(alloc), Vec::new(alloc))?,
-        more: feeds_of(alloc, &[])?,
-        out: MemSink::new(alloc, 1024, Vec::new(alloc))?,
-        maps: MemSink::new(alloc, 1024, Vec::new(alloc))?,
-        lanes: held_lanes(alloc, milestones, &[FIRST_LANE, SECOND_LANE])?,
-        stream: no_stream(alloc, milestones)?,
-        pace: HoldPace::new(alloc, milestones, Vec::from_slice(alloc, COMMITS)?, 8)?,
-    })
+    let lanes = held_lanes(alloc, milestones, &[FIRST_LANE, SECOND_LANE])?;
+    let stream = no_stream(alloc, milestones)?;
+    let pace = pace_of(alloc, milestones)?;
+    lent_over(alloc, lanes, stream, pace)
 }
 
 /// Whether a lane knew these serials, one at each datagram, and replied by them.

@@ -116,20 +116,26 @@ fn stopped_at_load(came: &Came, command: &Command, first: usize) -> bool {
         && are_joined(came.text(), pieces, puts)
 }
 
-/// So many loads fail from one on.
+/// Whether a command of which so many loads fail, from one on, stops there.
+fn stops_at_load<R: Threads + Wait + Sync + AllocGlobal>(
+    rt: &R,
+    command: &Command,
+    first: usize,
+    count: u64,
+) -> Result<bool, NoMemory> {
+    let files = shelf_of(rt.alloc(), command.files, calls_from(first, count))?;
+    let came = came_over(rt, command.words, files, NEVER, ROOM)?;
+    Ok(stopped_at_load(&came, command, first))
+}
+
 fn assert_loads<R: Abort + Threads + Wait + Sync + AllocGlobal>(
     rt: &R,
     command: &Command,
     first: usize,
     count: u64,
 ) -> Result<(), Fail> {
-    let files = shelf_of(rt.alloc(), command.files, calls_from(first, count))?;
-    let came = came_over(rt, command.words, files, NEVER, ROOM)?;
-    assert!(rt;
-        stopped_at_load(&came, command, first),
-        "at load {first} of {:?}",
-        command.words
-    );
+    let is = stops_at_load(rt, command, first, count)?;
+    assert!(rt; is, "at load {first} of {:?}", command.words);
     Ok(())
 }
 
@@ -142,20 +148,26 @@ fn stopped_at_put(came: &Came, command: &Command, first: usize) -> bool {
         && are_joined(came.text(), command.pieces, first)
 }
 
-/// So many puts fail from one on.
+/// Whether a command of which so many puts fail, from one on, stops there.
+fn stops_at_put<R: Threads + Wait + Sync + AllocGlobal>(
+    rt: &R,
+    command: &Command,
+    first: usize,
+    count: u64,
+) -> Result<bool, NoMemory> {
+    let files = shelf_of(rt.alloc(), command.files, NEVER)?;
+    let came = came_over(rt, command.words, files, calls_from(first, count), ROOM)?;
+    Ok(stopped_at_put(&came, command, first))
+}
+
 fn assert_puts<R: Abort + Threads + Wait + Sync + AllocGlobal>(
     rt: &R,
     command: &Command,
     first: usize,
     count: u64,
 ) -> Result<(), Fail> {
-    let files = shelf_of(rt.alloc(), command.files, NEVER)?;
-    let came = came_over(rt, command.words, files, calls_from(first, count), ROOM)?;
-    assert!(rt;
-        stopped_at_put(&came, command, first),
-        "at put {first} of {:?}",
-        command.words
-    );
+    let is = stops_at_put(rt, command, first, count)?;
+    assert!(rt; is, "at put {first} of {:?}", command.words);
     Ok(())
 }
 
@@ -166,24 +178,31 @@ fn filled(came: &Came, command: &Command, whole: &[u8], room: usize) -> bool {
         && whole.starts_with(came.text())
 }
 
-/// The output has room for so many octets.
+/// Whether an output with room for so many octets was filled.
+fn fills<R: Threads + Wait + Sync + AllocGlobal>(
+    rt: &R,
+    command: &Command,
+    whole: &[u8],
+    room: usize,
+) -> Result<bool, NoMemory> {
+    let files = shelf_of(rt.alloc(), command.files, NEVER)?;
+    let came = came_over(rt, command.words, files, NEVER, room)?;
+    Ok(filled(&came, command, whole, room))
+}
+
 fn assert_room<R: Abort + Threads + Wait + Sync + AllocGlobal>(
     rt: &R,
     command: &Command,
     whole: &[u8],
     room: usize,
 ) -> Result<(), Fail> {
-    let files = shelf_of(rt.alloc(), command.files, NEVER)?;
-    let came = came_over(rt, command.words, files, NEVER, room)?;
-    assert!(rt;
-        filled(&came, command, whole, room),
-        "with room {room} of {:?}",
-        command.words
-    );
+    let is = fills(rt, command, whole, room)?;
+    assert!(rt; is, "with room {room} of {:?}", command.words);
     Ok(())
 }
 
-fn assert_command<R: Abort + Threads + Wait + Sync + AllocGlobal>(
+/// Each call of a device fails, alone and with all behind it.
+fn assert_calls<R: Abort + Threads + Wait + Sync + AllocGlobal>(
     rt: &R,
     command: &Command,
 ) -> Result<(), Fail> {
@@ -195,11 +214,28 @@ fn assert_command<R: Abort + Threads + Wait + Sync + AllocGlobal>(
         assert_puts(rt, command, first, 1)?;
         assert_puts(rt, command, first, 64)?;
     }
-    let whole = joined(rt.alloc(), command.pieces)?;
+    Ok(())
+}
+
+/// The room ends at each octet.
+fn assert_rooms<R: Abort + Threads + Wait + Sync + AllocGlobal>(
+    rt: &R,
+    command: &Command,
+    whole: &[u8],
+) -> Result<(), Fail> {
     for room in 0..=whole.len() {
-        assert_room(rt, command, whole.as_slice(), room)?;
+        assert_room(rt, command, whole, room)?;
     }
     Ok(())
+}
+
+fn assert_command<R: Abort + Threads + Wait + Sync + AllocGlobal>(
+    rt: &R,
+    command: &Command,
+) -> Result<(), Fail> {
+    assert_calls(rt, command)?;
+    let whole = joined(rt.alloc(), command.pieces)?;
+    assert_rooms(rt, command, whole.as_slice())
 }
 
 fn assert_commands<R: Abort + Threads + Wait + Sync + AllocGlobal>(

@@ -11,7 +11,7 @@ use trial_runs::{
 };
 
 /// A device of the session, with the number of its lane.
-#[derive(Clone, Copy, PartialEq, Eq, Debug)]
+#[derive(Clone, Copy, PartialEq, Eq)]
 enum Device {
     Load,
     Read,
@@ -29,7 +29,7 @@ enum Device {
 use Device::{Line, Load, Look, Map, Open, Place, Read, Receive, Send};
 
 /// So many calls of a device that fail, from one on.
-#[derive(Clone, Copy, Debug)]
+#[derive(Clone, Copy)]
 struct Failing {
     device: Device,
     first: usize,
@@ -488,41 +488,75 @@ fn is_due(came: &Came, due: Due) -> bool {
         && came.lent.lanes.iter().skip(2).all(is_untouched)
 }
 
-fn assert_session<R: Abort + Threads + Wait + Sync + AllocGlobal>(
+/// Whether a session in which these calls fail comes out as it has to.
+fn comes_due<R: Threads + Wait + Sync + AllocGlobal>(
     rt: &R,
     failing: Failing,
-) -> Result<(), Fail> {
+) -> Result<bool, NoMemory> {
     let came = came_of(rt, failing)?;
-    assert!(rt; is_due(&came, due_at(failing)), "for {failing:?}");
+    Ok(is_due(&came, due_at(failing)))
+}
+
+fn assert_session<R: Abort + Threads + Wait + Sync + AllocGlobal>(
+    rt: &R,
+    name: &str,
+    failing: Failing,
+) -> Result<(), Fail> {
+    let Failing { first, count, .. } = failing;
+    assert!(rt;
+        comes_due(rt, failing)?,
+        "at {name} {first}, {count} of them"
+    );
     Ok(())
 }
 
-/// How many calls of each device a session makes where nothing fails. A failing call behind them changes nothing, so there are no more; each of them changes something, so there are no fewer.
-const STREAMS: &[(Device, usize)] = &[(Load, 1), (Read, 10), (Line, 4), (Map, 2)];
+/// A device, with its name, and how many calls of it a session makes.
+type Calls = (&'static str, Device, usize);
 
-const OPENINGS: &[(Device, usize)] = &[
-    (Open(0), 1),
-    (Open(1), 1),
-    (Open(2), 0),
-    (Place(0), 2),
-    (Place(1), 0),
+/// The calls where nothing fails. A failing call behind them changes nothing, so there are no more; each of them changes something, so there are no fewer.
+const STREAMS: &[Calls] = &[
+    ("load", Load, 1),
+    ("read", Read, 10),
+    ("line", Line, 4),
+    ("map", Map, 2),
 ];
 
-const RECEIVES: &[(Device, usize)] = &[(Receive(0), 4), (Receive(1), 11), (Receive(2), 0)];
+const OPENINGS: &[Calls] = &[
+    ("opening of the first lane", Open(0), 1),
+    ("opening of the second lane", Open(1), 1),
+    ("opening of the third lane", Open(2), 0),
+    ("place of the first lane", Place(0), 2),
+    ("place of the second lane", Place(1), 0),
+];
 
-const SENDS: &[(Device, usize)] = &[(Send(0), 3), (Send(1), 10), (Send(2), 0)];
+const RECEIVES: &[Calls] = &[
+    ("receive of the first lane", Receive(0), 4),
+    ("receive of the second lane", Receive(1), 11),
+    ("receive of the third lane", Receive(2), 0),
+];
 
-const LOOKS: &[(Device, usize)] = &[(Look(0), 4), (Look(1), 11), (Look(2), 0)];
+const SENDS: &[Calls] = &[
+    ("send of the first lane", Send(0), 3),
+    ("send of the second lane", Send(1), 10),
+    ("send of the third lane", Send(2), 0),
+];
 
+const LOOKS: &[Calls] = &[
+    ("look of the first lane", Look(0), 4),
+    ("look of the second lane", Look(1), 11),
+    ("look of the third lane", Look(2), 0),
+];
+
+/// Each call of a device fails, alone and with all behind it.
 fn assert_device<R: Abort + Threads + Wait + Sync + AllocGlobal>(
     rt: &R,
-    device: Device,
-    calls: usize,
+    (name, device, calls): Calls,
 ) -> Result<(), Fail> {
     for first in 0..=calls {
         for count in [1, 64] {
             assert_session(
                 rt,
+                name,
                 Failing {
                     device,
                     first,
@@ -536,10 +570,10 @@ fn assert_device<R: Abort + Threads + Wait + Sync + AllocGlobal>(
 
 fn assert_devices<R: Abort + Threads + Wait + Sync + AllocGlobal>(
     rt: &R,
-    rows: &[(Device, usize)],
+    rows: &[Calls],
 ) -> Result<(), Fail> {
-    for (device, calls) in rows {
-        assert_device(rt, *device, *calls)?;
+    for row in rows {
+        assert_device(rt, *row)?;
     }
     Ok(())
 }

@@ -11,7 +11,7 @@ use std::test::Fail;
 use std::thread::Threads;
 use trial_runs::Held::{self, Bytes, Missing, Topology};
 use trial_runs::{
-    Came, GOOD_REGION, NEVER, PLAIN, REGION, ROOM, Row, Scene, ZONE, came_of, came_over,
+    Came, GOOD_REGION, NEVER, PLAIN, REGION, ROOM, Row, Scene, ZONE, came_over, comes_with,
     first_wrong, session_of,
 };
 
@@ -88,9 +88,9 @@ fn assert_datagram<R: Abort + Threads + Wait + Sync + AllocGlobal>(
     reply: &str,
 ) -> Result<(), Fail> {
     let words = &["glb", "answer", "t", "m", "198.51.100.7", datagram];
-    let came = came_of(rt, words, FILES)?;
     let pieces = &["answer ", reply, "\n"];
-    assert!(rt; came.says(Status::Ok, pieces), "for {datagram}");
+    let is = comes_with(rt, words, FILES, Status::Ok, pieces)?;
+    assert!(rt; is, "for {datagram}");
     Ok(())
 }
 
@@ -221,16 +221,27 @@ const LINES: &[FeedLine] = &[
     },
 ];
 
+/// A feed of that line, so many times.
+fn feed_of(alloc: Global, line: &Line) -> Result<Vec<u8>, NoMemory> {
+    let mut feed = Vec::new(alloc);
+    for _ in 0..line.times {
+        feed.extend_from_slice(line.octets)?;
+    }
+    Ok(feed)
+}
+
+/// Whether its session ends well, with the text that is due.
+fn is_said<R: Threads + Wait + Sync + AllocGlobal>(rt: &R, line: &Line) -> Result<bool, NoMemory> {
+    let feed = feed_of(rt.alloc(), line)?;
+    let came = session_over(rt, feed.as_slice())?;
+    Ok(came.says(Status::Ok, &[line.text]))
+}
+
 fn assert_line<R: Abort + Threads + Wait + Sync + AllocGlobal>(
     rt: &R,
     line: &FeedLine,
 ) -> Result<(), Fail> {
-    let mut feed = Vec::new(rt.alloc());
-    for _ in 0..line.times {
-        feed.extend_from_slice(line.octets)?;
-    }
-    let came = session_over(rt, feed.as_slice())?;
-    assert!(rt; came.says(Status::Ok, &[line.text]), "for {}", line.text);
+    assert!(rt; is_said(rt, line)?, "for {}", line.text);
     Ok(())
 }
 
@@ -316,6 +327,23 @@ fn file_of(
     Ok(File::new(name, text))
 }
 
+/// Puts a file behind the others.
+fn push_file(
+    alloc: Global,
+    files: &mut Vec<File>,
+    name: &str,
+    text: &[u8],
+    is_harmed: bool,
+    at: usize,
+    harm: Harm,
+) -> Result<(), NoMemory>
+    requires { length name.now ≤ 255 }
+{
+    let file = file_of(alloc, name, text, is_harmed, at, harm)?;
+    files.push(file)?;
+    Ok(())
+}
+
 fn files_of(
     alloc: Global,
     topology: &[u8],
@@ -324,9 +352,18 @@ fn files_of(
     harm: Harm,
 ) -> Result<MemShelf, NoMemory> {
     let mut files = Vec::new(alloc);
-    files.push(file_of(alloc, "t", topology, which == Which::Topology, at, harm)?)?;
-    files.push(file_of(alloc, "m", GOOD_REGION, which == Which::Map, at, harm)?)?;
-    files.push(file_of(alloc, "c", CHANGES, which == Which::Changes, at, harm)?)?;
+    let (is_topology, is_map) = (which == Which::Topology, which == Which::Map);
+    push_file(alloc, &mut files, "t", topology, is_topology, at, harm)?;
+    push_file(alloc, &mut files, "m", GOOD_REGION, is_map, at, harm)?;
+    push_file(
+        alloc,
+        &mut files,
+        "c",
+        CHANGES,
+        which == Which::Changes,
+        at,
+        harm,
+    )?;
     MemShelf::new(alloc, files, 8, Vec::new(alloc))
 }
 
@@ -339,7 +376,19 @@ fn is_sound(came: &Came, which: Which, harm: Harm) -> bool {
         && (!is_cut_map || text == b"refused map truncated\n".as_slice())
 }
 
-/// `repair` over files of which one is harmed.
+/// Whether `repair` over files of which one is harmed put one text that may be.
+fn comes_sound<R: Threads + Wait + Sync + AllocGlobal>(
+    rt: &R,
+    topology: &[u8],
+    which: Which,
+    at: usize,
+    harm: Harm,
+) -> Result<bool, NoMemory> {
+    let files = files_of(rt.alloc(), topology, which, at, harm)?;
+    let came = came_over(rt, &["glb", "repair", "t", "m", "c"], files, NEVER, ROOM)?;
+    Ok(is_sound(&came, which, harm))
+}
+
 fn assert_harmed<R: Abort + Threads + Wait + Sync + AllocGlobal>(
     rt: &R,
     topology: &[u8],
@@ -347,9 +396,8 @@ fn assert_harmed<R: Abort + Threads + Wait + Sync + AllocGlobal>(
     at: usize,
     harm: Harm,
 ) -> Result<(), Fail> {
-    let files = files_of(rt.alloc(), topology, which, at, harm)?;
-    let came = came_over(rt, &["glb", "repair", "t", "m", "c"], files, NEVER, ROOM)?;
-    assert!(rt; is_sound(&came, which, harm), "for {which:?} at {at}");
+    let is = comes_sound(rt, topology, which, at, harm)?;
+    assert!(rt; is, "for {which:?} at {at}");
     Ok(())
 }
 
@@ -397,14 +445,23 @@ fn is_control_line(line: &[u8]) -> bool {
         || line.starts_with(b"show ")
 }
 
+/// Whether a session over a harmed feed ends well and puts lines of control text.
+fn ends_well<R: Threads + Wait + Sync + AllocGlobal>(
+    rt: &R,
+    at: usize,
+    harm: Harm,
+) -> Result<bool, NoMemory> {
+    let feed = harmed(rt.alloc(), FEED, at, harm)?;
+    let came = session_over(rt, feed.as_slice())?;
+    Ok(says_lines(&came))
+}
+
 fn assert_feed<R: Abort + Threads + Wait + Sync + AllocGlobal>(
     rt: &R,
     at: usize,
     harm: Harm,
 ) -> Result<(), Fail> {
-    let feed = harmed(rt.alloc(), FEED, at, harm)?;
-    let came = session_over(rt, feed.as_slice())?;
-    assert!(rt; says_lines(&came), "for a feed harmed at {at}");
+    assert!(rt; ends_well(rt, at, harm)?, "for a feed harmed at {at}");
     Ok(())
 }
 

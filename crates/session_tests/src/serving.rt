@@ -1,5 +1,6 @@
 //! `serve` over a region of two pools, in memory.
 use glb::Status;
+use no_memory::NoMemory;
 use std::process::Abort;
 use std::sync::Wait;
 use std::test::Fail;
@@ -258,13 +259,18 @@ fn came_so(came: &Came, row: &Row) -> bool {
         && have_served(came, row.served)
 }
 
+/// Whether a row's session comes out as it says.
+fn comes_so<R: Threads + Wait + Sync + AllocGlobal>(rt: &R, row: &Row) -> Result<bool, NoMemory> {
+    let came = session_of(rt, row.scene, row.feed.as_bytes(), row.lanes)?;
+    Ok(came_so(&came, row))
+}
+
 fn assert_rows<R: Abort + Threads + Wait + Sync + AllocGlobal>(
     rt: &R,
     rows: &[Row],
 ) -> Result<(), Fail> {
     for row in rows {
-        let came = session_of(rt, row.scene, row.feed.as_bytes(), row.lanes)?;
-        assert!(rt; came_so(&came, row), "for {}", row.feed);
+        assert!(rt; comes_so(rt, row)?, "for {}", row.feed);
     }
     Ok(())
 }

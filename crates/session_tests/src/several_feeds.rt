@@ -1,6 +1,6 @@
 //! `serve` over several feeds, in memory.
 use glb::Status;
-use std::process::Abort;
+use no_memory::NoMemory;
 use std::sync::Wait;
 use std::test::Fail;
 use std::thread::Threads;
@@ -244,30 +244,52 @@ fn is_right(came: &Came, row: &Row) -> bool {
     came.status == row.status && has_put_one(came, row.outputs) && are_named(came, &row.names)
 }
 
-/// The number of the first row of which something else comes, of as many runs of each.
-fn first_wrong<R: Threads + Wait + Sync + AllocGlobal + Abort>(rt: &R, runs: u32) -> Option<usize> {
-    for (number, row) in ROWS.iter().enumerate() {
-        for _ in 0..runs {
-            let scene = Scene {
-                words: row.words,
-                more: row.more,
-                lines: row.lines,
-                turns: row.turns,
-                ..SCENE
-            };
-            let Ok(came) = session_of(rt, scene, row.feed.as_bytes(), &[ONE]) else {
-                return Some(number);
-            };
-            if !is_right(&came, row) {
-                return Some(number);
-            }
+/// Whether one of the outcomes of a row comes of its session.
+fn comes_right<R: Threads + Wait + Sync + AllocGlobal>(
+    rt: &R,
+    row: &Row,
+) -> Result<bool, NoMemory> {
+    let scene = Scene {
+        words: row.words,
+        more: row.more,
+        lines: row.lines,
+        turns: row.turns,
+        ..SCENE
+    };
+    let came = session_of(rt, scene, row.feed.as_bytes(), &[ONE])?;
+    Ok(is_right(&came, row))
+}
+
+/// The same of as many runs.
+fn come_right<R: Threads + Wait + Sync + AllocGlobal>(
+    rt: &R,
+    row: &Row,
+    runs: u32,
+) -> Result<bool, NoMemory> {
+    for _ in 0..runs {
+        if !comes_right(rt, row)? {
+            return Ok(false);
         }
     }
-    None
+    Ok(true)
+}
+
+/// The number of the first row of which something else comes, of as many runs of each.
+fn first_wrong<R: Threads + Wait + Sync + AllocGlobal>(
+    rt: &R,
+    rows: &[Row],
+    runs: u32,
+) -> Result<Option<usize>, NoMemory> {
+    for (number, row) in rows.iter().enumerate() {
+        if !come_right(rt, row, runs)? {
+            return Ok(Some(number));
+        }
+    }
+    Ok(None)
 }
 
 #[test]
 fn several_feeds(rt: HostRuntime) -> Result<(), Fail> {
-    assert!(rt; first_wrong(&rt, 20).is_none());
+    assert_eq!(rt; first_wrong(&rt, ROWS, 20)?, None);
     Ok(())
 }

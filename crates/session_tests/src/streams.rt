@@ -1,8 +1,8 @@
 //! `serve` with a lane for conversations (RFC 1035 section 4.2.2), in memory.
 use addr_text::{Addr, Listen};
 use glb::Status;
+use no_memory::NoMemory;
 use outside::MemTalk;
-use std::process::Abort;
 use std::sync::Wait;
 use std::test::Fail;
 use std::thread::Threads;
@@ -326,14 +326,19 @@ fn came_so(came: &Came, row: &Row) -> bool {
         && are_written(streams.closed(), row.replies)
 }
 
+/// Whether a row's session comes out as it says.
+fn comes_so<R: Threads + Wait + Sync + AllocGlobal>(rt: &R, row: &Row) -> Result<bool, NoMemory> {
+    let came = session_of(rt, row.scene, b"", &[])?;
+    Ok(came_so(&came, row))
+}
+
 /// The number of the first row that comes out otherwise, from 0.
-fn first_wrong<R: Abort + Threads + Wait + Sync + AllocGlobal>(
+fn first_wrong<R: Threads + Wait + Sync + AllocGlobal>(
     rt: &R,
     rows: &[Row],
-) -> Result<Option<usize>, Fail> {
+) -> Result<Option<usize>, NoMemory> {
     for (i, row) in rows.iter().enumerate() {
-        let came = session_of(rt, row.scene, b"", &[])?;
-        if !came_so(&came, row) {
+        if !comes_so(rt, row)? {
             return Ok(Some(i));
         }
     }

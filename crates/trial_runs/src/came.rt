@@ -1,9 +1,9 @@
 //! The program over what it is lent in memory, and what came of it.
 ghost use Rattle.std.specs.Prelude.{◌≡◌, ◌≤◌, ◌^◌, IfOk, vec_len};
 
+use crate::devices::{Devices, Feeds, Outputs};
 use crate::lanes::{MemLane, Script, lanes_of};
-use crate::streams::{StreamScript, stream_of};
-use crate::texts::words_of;
+use crate::streams::{MemStreamLane, StreamScript, stream_of};
 use glb::{Lane, Status, StreamLane, glb};
 use map_cell::{Door, MemDoor};
 use no_memory::NoMemory;
@@ -68,31 +68,53 @@ pub struct Came {
     pub lent: MemLent,
 }
 
-/// These words, files, feeds and outputs, and lanes by these scripts.
-fn lent_of(
-    alloc: Global,
-    words: &[&str],
-    files: MemShelf,
-    feed: MemSource,
-    more: Vec<MemNamedSource>,
-    out: MemSink,
-    maps: MemSink,
-    scripts: &[Script],
-    stream: StreamScript,
-) -> Result<MemLent, NoMemory>
-    requires { vec_len more ≡ 3 }
-    ensures { IfOk result (λ l. (vec_len l.lanes ≡ 16) × (vec_len l.more ≡ 3)) }
+/// All that a run is lent: these devices, lanes, a lane for conversations and a pace.
+pub fn lent_of<P, Q, G, D, M>(
+    devices: Devices,
+    lanes: Vec<Lane<P, G, D>>,
+    stream: StreamLane<Q, G, D>,
+    pace: M,
+) -> Lent<P, Q, G, D, M>
+    ensures { (vec_len result.lanes ≡ vec_len lanes) × (vec_len result.more ≡ vec_len devices.feeds.more) }
 {
-    Ok(AllLent {
-        words: words_of(alloc, words)?,
+    let Devices {
+        words,
         files,
-        feed,
+        feeds: Feeds { first, more },
+        outputs: Outputs { out, maps },
+    } = devices;
+    Lent {
+        words,
+        files,
+        feed: first,
         more,
         out,
         maps,
-        lanes: lanes_of(alloc, scripts)?,
-        stream: stream_of(alloc, stream)?,
-        pace: MemPace::new(alloc, 100)?,
+        lanes,
+        stream,
+        pace,
+    }
+}
+
+/// Lanes, a lane for conversations and a pace, in memory.
+#[derive(Drop)]
+struct Sides {
+    lanes: Vec<MemLane>,
+    stream: MemStreamLane,
+    pace: MemPace,
+}
+
+/// Lanes by these scripts.
+fn sides_of(alloc: Global, scripts: &[Script], stream: StreamScript) -> Result<Sides, NoMemory>
+    ensures { IfOk result (λ s. vec_len s.lanes ≡ 16) }
+{
+    let lanes = lanes_of(alloc, scripts)?;
+    let stream = stream_of(alloc, stream)?;
+    let pace = MemPace::new(alloc, 100)?;
+    Ok(Sides {
+        lanes,
+        stream,
+        pace,
     })
 }
 
@@ -107,23 +129,23 @@ fn turns_of(turns: u64) -> u64
     }
 }
 
-/// Runs the program over these words, files, feeds and outputs, and lanes by these scripts.
-pub fn came_by<R: Threads + Wait + Sync + AllocGlobal>(
+/// Runs the program over these devices, and lanes by these scripts.
+pub(crate) fn came_by<R: Threads + Wait + Sync + AllocGlobal>(
     rt: &R,
-    words: &[&str],
-    files: MemShelf,
-    feed: MemSource,
-    more: Vec<MemNamedSource>,
-    out: MemSink,
-    maps: MemSink,
+    devices: Devices,
     scripts: &[Script],
     stream: StreamScript,
     turns: u64,
 ) -> Result<Came, NoMemory>
-    requires { vec_len more ≡ 3 }
+    requires { vec_len devices.feeds.more ≡ 3 }
 {
     let alloc = rt.alloc();
-    let mut lent = lent_of(alloc, words, files, feed, more, out, maps, scripts, stream)?;
+    let Sides {
+        lanes,
+        stream,
+        pace,
+    } = sides_of(alloc, scripts, stream)?;
+    let mut lent = lent_of(devices, lanes, stream, pace);
     let status = run(rt, alloc, &mut lent, turns_of(turns));
     Ok(Came { status, lent })
 }

@@ -24,7 +24,7 @@ pub const EMPTY: FeedScript = FeedScript {
 };
 
 /// A feed of these octets, in pieces of these sizes, of which these reads fail.
-pub fn source_of(
+pub(crate) fn source_of(
     alloc: Global,
     text: &[u8],
     sizes: &[usize],
@@ -47,12 +47,15 @@ fn named_of(
 }
 
 /// Three further feeds, the first of them by these scripts, and the others empty.
-pub fn feeds_of(alloc: Global, scripts: &[FeedScript]) -> Result<Vec<MemNamedSource>, NoMemory>
+pub(crate) fn feeds_of(
+    alloc: Global,
+    scripts: &[FeedScript],
+) -> Result<Vec<MemNamedSource>, NoMemory>
     ensures { IfOk result (λ v. vec_len v ≡ 3) }
 {
     let mut feeds = Vec::with_capacity(alloc, 3)?;
-    feeds.push(named_of(alloc, scripts, 0)?)?;
-    feeds.push(named_of(alloc, scripts, 1)?)?;
-    feeds.push(named_of(alloc, scripts, 2)?)?;
+    for number in 0..3usize {
+        feeds.push(named_of(alloc, scripts, number)?)?;
+    }
     Ok(feeds)
 }

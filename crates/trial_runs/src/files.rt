@@ -1,5 +1,5 @@
 //! Files in memory, by what stands under their names.
-use crate::fails::{Fails, NEVER};
+use crate::fails::Fails;
 use crate::texts::ZONE;
 use no_memory::NoMemory;
 use outside::{File, MemShelf};
@@ -52,9 +52,4 @@ pub fn shelf_of(alloc: Global, held: &[(&str, Held)], fails: Fails) -> Result<Me
         }
     }
     MemShelf::new(alloc, files, 8, fails.numbers(alloc)?)
-}
-
-/// A topology and a map.
-pub fn shelf(alloc: Global, topology: Held, map: Held) -> Result<MemShelf, NoMemory> {
-    shelf_of(alloc, &[("t", topology), ("m", map)], NEVER)
 }

@@ -69,20 +69,39 @@ pub fn queries(alloc: Global, count: u8) -> Result<LinkedList<MemPacket>, NoMemo
 /// A lane in memory.
 pub type MemLane = Lane<MemPort, MemGate, MemDoor>;
 
-fn lane_of(alloc: Global, script: Script) -> Result<MemLane, NoMemory> {
-    let waiting = queries(alloc, script.queries)?;
-    let opens = script.opens.numbers(alloc)?;
+/// A port at which this waits, and of which these openings fail.
+fn port_over(
+    alloc: Global,
+    waiting: LinkedList<MemPacket>,
+    opens: Vec<u64>,
+    script: Script,
+) -> Result<MemPort, NoMemory> {
     let receives = script.receives.numbers(alloc)?;
     let sends = script.sends.numbers(alloc)?;
+    MemPort::new(alloc, waiting, opens, receives, sends)
+}
+
+fn port_of(alloc: Global, script: Script) -> Result<MemPort, NoMemory> {
+    let waiting = queries(alloc, script.queries)?;
+    let opens = script.opens.numbers(alloc)?;
+    port_over(alloc, waiting, opens, script)
+}
+
+fn door_of(alloc: Global, script: Script) -> Result<MemDoor, NoMemory> {
     let places = script.places.numbers(alloc)?;
     let looks = script.looks.numbers(alloc)?;
-    let port = MemPort::new(alloc, waiting, opens, receives, sends)?;
+    Ok(MemDoor::new(places, looks))
+}
+
+fn lane_of(alloc: Global, script: Script) -> Result<MemLane, NoMemory> {
+    let port = port_of(alloc, script)?;
+    let door = door_of(alloc, script)?;
     let gate = MemGate::new(alloc, script.goes)?;
-    Ok(Lane::new(port, gate, MemDoor::new(places, looks)))
+    Ok(Lane::new(port, gate, door))
 }
 
 /// 16 lanes: the first ones as the scripts say, and quiet ones.
-pub fn lanes_of(alloc: Global, scripts: &[Script]) -> Result<Vec<MemLane>, NoMemory>
+pub(crate) fn lanes_of(alloc: Global, scripts: &[Script]) -> Result<Vec<MemLane>, NoMemory>
     ensures { IfOk result (λ v. vec_len v ≡ MOST_VIEWERS) }
 {
     let mut lanes = Vec::with_capacity(alloc, MOST_VIEWERS)?;

@@ -3,6 +3,7 @@
 
 mod came;
 mod commands;
+mod devices;
 mod fails;
 mod feeds;
 mod files;
@@ -11,15 +12,16 @@ mod sessions;
 mod streams;
 mod texts;
 
-pub use came::{AllLent, Came, MemLent, are_joined, run};
-pub use commands::{ROOM, Row, came_of, came_over, first_wrong};
+pub use came::{Came, Lent, MemLent, are_joined, lent_of, run};
+pub use commands::{ROOM, Row, came_of, came_over, comes_so, comes_with, first_wrong};
+pub use devices::{Devices, Feeds, Outputs};
 pub use fails::{Fails, NEVER};
-pub use feeds::{EMPTY, FeedScript, feeds_of};
-pub use files::{Held, shelf, shelf_of};
+pub use feeds::{EMPTY, FeedScript};
+pub use files::{Held, shelf_of};
 pub use lanes::{MemLane, ONE, QUERY, QUIET, Script, queries};
-pub use sessions::{PLAIN, SERVE, SERVE_TWO, Scene, session_of};
-pub use streams::{MemStreamLane, NO_TALKS, StreamScript, stream_of};
+pub use sessions::{PLAIN, SERVE, SERVE_TWO, Scene, devices_of, session_of};
+pub use streams::{MemStreamLane, NO_TALKS, StreamScript};
 pub use texts::{
     EIGHT_LEVELS, EMPTY_POOL, FLAT, GOOD_FLAT, GOOD_REGION, NO_DEFAULT, NO_LONGER_FULL, REGION,
-    REGION_MAP, TWO_GOOD, ZONE, words_of,
+    REGION_MAP, TWO_GOOD, ZONE,
 };

@@ -1,13 +1,15 @@
 //! Sessions of `serve` over the region.
+ghost use Rattle.std.specs.Prelude.{◌≡◌, IfOk, vec_len};
+
 use crate::came::{Came, came_by};
+use crate::devices::{Devices, Outputs, devices_by, feeds_by, sink_of};
 use crate::fails::{Fails, NEVER};
-use crate::feeds::{FeedScript, feeds_of, source_of};
+use crate::feeds::FeedScript;
 use crate::files::{Held, shelf_of};
 use crate::lanes::Script;
 use crate::streams::{NO_TALKS, StreamScript};
 use crate::texts::REGION;
 use no_memory::NoMemory;
-use outside::MemSink;
 use std::alloc::Global;
 use std::sync::Wait;
 use std::thread::Threads;
@@ -58,9 +60,21 @@ pub const PLAIN: Scene = Scene {
     turns: 100,
 };
 
-/// An output, of which these puts fail.
-fn sink_of(alloc: Global, puts: Fails) -> Result<MemSink, NoMemory> {
-    MemSink::new(alloc, ROOM, puts.numbers(alloc)?)
+/// The outputs of a session.
+fn outputs_of(alloc: Global, scene: Scene) -> Result<Outputs, NoMemory> {
+    let out = sink_of(alloc, ROOM, scene.lines)?;
+    let maps = sink_of(alloc, ROOM, scene.maps)?;
+    Ok(Outputs { out, maps })
+}
+
+/// What a session over the region is lent, with this feed.
+pub fn devices_of(alloc: Global, scene: Scene, feed: &[u8]) -> Result<Devices, NoMemory>
+    ensures { IfOk result (λ d. vec_len d.feeds.more ≡ 3) }
+{
+    let files = shelf_of(alloc, &[("t", Held::Topology(REGION))], scene.loads)?;
+    let feeds = feeds_by(alloc, feed, scene.sizes, scene.reads, scene.more)?;
+    let outputs = outputs_of(alloc, scene)?;
+    devices_by(alloc, scene.words, files, feeds, outputs)
 }
 
 /// A session over the region, with this feed and lanes by these scripts.
@@ -70,22 +84,6 @@ pub fn session_of<R: Threads + Wait + Sync + AllocGlobal>(
     feed: &[u8],
     scripts: &[Script],
 ) -> Result<Came, NoMemory> {
-    let alloc = rt.alloc();
-    let files = shelf_of(alloc, &[("t", Held::Topology(REGION))], scene.loads)?;
-    let feed = source_of(alloc, feed, scene.sizes, scene.reads)?;
-    let more = feeds_of(alloc, scene.more)?;
-    let out = sink_of(alloc, scene.lines)?;
-    let maps = sink_of(alloc, scene.maps)?;
-    came_by(
-        rt,
-        scene.words,
-        files,
-        feed,
-        more,
-        out,
-        maps,
-        scripts,
-        scene.stream,
-        scene.turns,
-    )
+    let devices = devices_of(rt.alloc(), scene, feed)?;
+    came_by(rt, devices, scripts, scene.stream, scene.turns)
 }

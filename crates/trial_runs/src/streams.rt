@@ -45,17 +45,37 @@ fn talk_of(alloc: Global, pieces: &[&[u8]]) -> Result<MemTalk, NoMemory> {
     MemTalk::new(alloc, CLIENT, coming, ROOM)
 }
 
-/// The lane that a script says.
-pub fn stream_of(alloc: Global, script: StreamScript) -> Result<MemStreamLane, NoMemory> {
+/// The conversations that wait.
+fn talks_of(alloc: Global, talks: &[&[&[u8]]]) -> Result<LinkedList<MemTalk>, NoMemory> {
     let mut waiting = LinkedList::new(alloc);
-    for pieces in script.talks {
+    for pieces in talks {
         waiting.push_back(talk_of(alloc, *pieces)?)?;
     }
-    let opens = script.opens.numbers(alloc)?;
+    Ok(waiting)
+}
+
+/// Streams on which these conversations wait, and of which these openings fail.
+fn streams_over(
+    alloc: Global,
+    waiting: LinkedList<MemTalk>,
+    opens: Vec<u64>,
+    script: StreamScript,
+) -> Result<MemStreams, NoMemory> {
     let answers = script.answers.numbers(alloc)?;
     let writes = script.writes.numbers(alloc)?;
+    MemStreams::new(alloc, waiting, opens, answers, writes)
+}
+
+fn streams_of(alloc: Global, script: StreamScript) -> Result<MemStreams, NoMemory> {
+    let waiting = talks_of(alloc, script.talks)?;
+    let opens = script.opens.numbers(alloc)?;
+    streams_over(alloc, waiting, opens, script)
+}
+
+/// The lane that a script says.
+pub(crate) fn stream_of(alloc: Global, script: StreamScript) -> Result<MemStreamLane, NoMemory> {
+    let streams = streams_of(alloc, script)?;
     let looks = script.looks.numbers(alloc)?;
-    let streams = MemStreams::new(alloc, waiting, opens, answers, writes)?;
     let gate = MemGate::new(alloc, script.goes)?;
     let door = MemDoor::new(Vec::new(alloc), looks);
     Ok(StreamLane::new(streams, gate, door))

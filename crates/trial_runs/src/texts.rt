@@ -172,7 +172,7 @@ pub const REGION_MAP: &str =
     "glb map 2\nplace g1 A 8\nplace g2 A 2\nplace g2 B 5\nfull g2 A A\nfull g2 B R\nend\n";
 
 /// Words of a command line.
-pub fn words_of(alloc: Global, words: &[&str]) -> Result<Vec<String>, NoMemory> {
+pub(crate) fn words_of(alloc: Global, words: &[&str]) -> Result<Vec<String>, NoMemory> {
     let mut texts = Vec::new(alloc);
     for word in words {
         texts.push(String::from_str(alloc, word)?)?;
