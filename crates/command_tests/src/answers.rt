@@ -1,5 +1,6 @@
 //! Replies of `glb answer`, and its outcomes.
 use glb::Status;
+use no_memory::NoMemory;
 use std::process::Abort;
 use std::sync::Wait;
 use std::test::Fail;
@@ -422,13 +423,18 @@ fn came_so(came: &Came, row: &Row) -> bool {
         && asked.eq(due_loads(row).iter().copied())
 }
 
+/// Whether a row's datagram is answered as it says.
+fn comes_so<R: Threads + Wait + Sync + AllocGlobal>(rt: &R, row: &Row) -> Result<bool, NoMemory> {
+    let words = &["glb", "answer", "t", "m", row.from, row.query];
+    let came = came_of(rt, words, &[("t", row.topology), ("m", Bytes(row.map))])?;
+    Ok(came_so(&came, row))
+}
+
 fn assert_row<R: Abort + Threads + Wait + Sync + AllocGlobal>(
     rt: &R,
     row: &Row,
 ) -> Result<(), Fail> {
-    let words = &["glb", "answer", "t", "m", row.from, row.query];
-    let came = came_of(rt, words, &[("t", row.topology), ("m", Bytes(row.map))])?;
-    assert!(rt; came_so(&came, row), "for {} from {}", row.query, row.from);
+    assert!(rt; comes_so(rt, row)?, "for {} from {}", row.query, row.from);
     Ok(())
 }
 

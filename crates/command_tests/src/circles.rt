@@ -3,7 +3,7 @@
 use glb::Status;
 use std::test::Fail;
 use trial_runs::Held::{self, Bytes, Topology};
-use trial_runs::came_of;
+use trial_runs::comes_so;
 
 /// Two groups that like each other's last pool best, and a third one with one unit for the first pool.
 pub const PAIR: &str = "node = [
@@ -231,7 +231,7 @@ const ONE_MORE: &[(&str, Held)] = &[
 /// One unit more makes the pair of the world beside it.
 #[test]
 fn a_demand_makes_the_pair(rt: HostRuntime) -> Result<(), Fail> {
-    let came = came_of(&rt, &["glb", "repair", "t", "m", "c"], ONE_MORE)?;
-    assert!(rt; came.is(Status::Ok, PAIR_MAP.as_bytes(), 3));
+    let words = &["glb", "repair", "t", "m", "c"];
+    assert!(rt; comes_so(&rt, words, ONE_MORE, Status::Ok, PAIR_MAP.as_bytes(), 3)?);
     Ok(())
 }

@@ -1,8 +1,11 @@
 //! A group's demand for one service, as a unit of its own: the map, replies, and classes at fault.
 use glb::Status;
+use std::process::Abort;
+use std::sync::Wait;
 use std::test::Fail;
+use std::thread::Threads;
 use trial_runs::Held::{Bytes, Missing, Topology};
-use trial_runs::{Row, came_of, first_wrong};
+use trial_runs::{Row, comes_so, first_wrong};
 
 /// Two pools in one region, and a class of the second group.
 const CLASSED: &str = "node = [
@@ -46,6 +49,8 @@ fn classes(rt: HostRuntime) -> Result<(), Fail> {
     Ok(())
 }
 
+const QUERY: &str = "123401000001000000000000037777770363646e076578616d706c650000010001";
+
 /// Who asks for the address of the service, and the line on the output.
 const REPLIES: &[(&str, &str)] = &[
     (
@@ -58,31 +63,47 @@ const REPLIES: &[(&str, &str)] = &[
     ),
 ];
 
-#[test]
-fn replies_by_class(rt: HostRuntime) -> Result<(), Fail> {
+fn assert_reply<R: Abort + Threads + Wait + Sync + AllocGlobal>(
+    rt: &R,
+    from: &str,
+    line: &str,
+) -> Result<(), Fail> {
+    let words = &["glb", "answer", "t", "m", from, QUERY];
     let held = [
         ("t", Topology(CLASSED)),
         ("m", Bytes(CLASSED_MAP.as_bytes())),
     ];
-    let query = "123401000001000000000000037777770363646e076578616d706c650000010001";
-    for (from, line) in REPLIES {
-        let came = came_of(&rt, &["glb", "answer", "t", "m", *from, query], &held)?;
-        assert!(rt; came.is(Status::Ok, line.as_bytes(), 2), "for {from}");
+    let is = comes_so(rt, words, &held, Status::Ok, line.as_bytes(), 2)?;
+    assert!(rt; is, "for {from}");
+    Ok(())
+}
+
+fn assert_replies<R: Abort + Threads + Wait + Sync + AllocGlobal>(
+    rt: &R,
+    rows: &[(&str, &str)],
+) -> Result<(), Fail> {
+    for (from, line) in rows {
+        assert_reply(rt, *from, *line)?;
     }
     Ok(())
+}
+
+#[test]
+fn replies_by_class(rt: HostRuntime) -> Result<(), Fail> {
+    assert_replies(&rt, REPLIES)
 }
 
 /// A change names a class as it names a group: two units of it go, and the group beside it has two more.
 #[test]
 fn a_change_of_a_class(rt: HostRuntime) -> Result<(), Fail> {
+    let text =
+        "glb map 2\nplace g1 A 8\nplace g2 A 2\nplace g2 B 4\nplace g2www B 1\nfull g2 A A\nfull g2 B R\nend\n";
+    let words = &["glb", "repair", "t", "m", "c"];
     let held = [
         ("t", Topology(CLASSED)),
         ("m", Bytes(CLASSED_MAP.as_bytes())),
         ("c", Bytes(b"demand g2www 1\n")),
     ];
-    let came = came_of(&rt, &["glb", "repair", "t", "m", "c"], &held)?;
-    let text =
-        "glb map 2\nplace g1 A 8\nplace g2 A 2\nplace g2 B 4\nplace g2www B 1\nfull g2 A A\nfull g2 B R\nend\n";
-    assert!(rt; came.is(Status::Ok, text.as_bytes(), 3));
+    assert!(rt; comes_so(&rt, words, &held, Status::Ok, text.as_bytes(), 3)?);
     Ok(())
 }

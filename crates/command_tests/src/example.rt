@@ -1,6 +1,8 @@
 //! The files of the example, through `check` and `map`.
 use glb::Status;
+use no_memory::NoMemory;
 use outside::{File, MemShelf};
+use std::alloc::Global;
 use std::process::Abort;
 use std::sync::Wait;
 use std::test::Fail;
@@ -45,36 +47,53 @@ capacity = 15
     ),
 ];
 
-/// The changed topology beside the region's map.
-fn changed_files<R: AllocGlobal>(
+/// The changed topology.
+fn changed_file(alloc: Global, whole: &str, old: &str, new: &str) -> Result<File, Fail> {
+    let changed = whole.replacen(alloc, old, new, 1)?;
+    Ok(File::new("t", changed.into_bytes()))
+}
+
+/// A topology beside the region's map.
+fn files_of(alloc: Global, topology: File) -> Result<MemShelf, NoMemory> {
+    let map = File::new("m", Vec::from_slice(alloc, GOOD_REGION)?);
+    let files = vec![in alloc; topology, map]?;
+    MemShelf::new(alloc, files, 8, Vec::new(alloc))
+}
+
+/// Whether a topology beside the region's map is refused for this fault.
+fn is_refused<R: Threads + Wait + Sync + AllocGlobal>(
+    rt: &R,
+    topology: File,
+    fault: &str,
+) -> Result<bool, NoMemory> {
+    let files = files_of(rt.alloc(), topology)?;
+    let came = came_over(rt, &["glb", "check", "t", "m"], files, NEVER, ROOM)?;
+    Ok(came.says(Status::Refused, &["refused topology ", fault, "\n"]))
+}
+
+fn assert_change<R: Abort + Threads + Wait + Sync + AllocGlobal>(
     rt: &R,
     whole: &str,
-    old: &str,
-    new: &str,
-) -> Result<MemShelf, Fail> {
-    let alloc = rt.alloc();
-    let changed = whole.replacen(alloc, old, new, 1)?;
-    let mut files = Vec::new(alloc);
-    files.push(File::new("t", changed.into_bytes()))?;
-    files.push(File::new("m", GOOD_REGION.to_vec(alloc)?))?;
-    Ok(MemShelf::new(alloc, files, 8, Vec::new(alloc))?)
+    (old, new, fault): (&str, &str, &str),
+) -> Result<(), Fail> {
+    let topology = changed_file(rt.alloc(), whole, old, new)?;
+    assert!(rt; is_refused(rt, topology, fault)?, "for {fault}");
+    Ok(())
 }
 
 fn assert_changes<R: Abort + Threads + Wait + Sync + AllocGlobal>(
     rt: &R,
+    whole: &str,
     rows: &[(&str, &str, &str)],
 ) -> Result<(), Fail> {
-    let whole = format!(in rt.alloc(); "{ZONE}{REGION}")?;
-    for (old, new, fault) in rows {
-        let files = changed_files(rt, whole.as_str(), old, new)?;
-        let came = came_over(rt, &["glb", "check", "t", "m"], files, NEVER, ROOM)?;
-        let pieces = &["refused topology ", *fault, "\n"];
-        assert!(rt; came.says(Status::Refused, pieces), "for {fault}");
+    for row in rows {
+        assert_change(rt, whole, *row)?;
     }
     Ok(())
 }
 
 #[test]
 fn changed_topologies(rt: HostRuntime) -> Result<(), Fail> {
-    assert_changes(&rt, CHANGES)
+    let whole = format!(in rt.alloc(); "{ZONE}{REGION}")?;
+    assert_changes(&rt, whole.as_str(), CHANGES)
 }

@@ -20,18 +20,27 @@ fn is_summary(came: &Came) -> bool {
     came.status == Status::Ok && came.puts() == 10 && came.text().starts_with(BEGINS)
 }
 
+/// Whether the summary is whole, and the same at each of two runs.
+fn is_the_same<R: Threads + Wait + Sync + AllocGlobal>(rt: &R) -> Result<bool, NoMemory> {
+    let first = large(rt, NEVER)?;
+    let second = large(rt, NEVER)?;
+    Ok(is_summary(&first) && first.text() == second.text())
+}
+
 #[test]
 fn large_is_the_same_at_each_run(rt: HostRuntime) -> Result<(), Fail> {
-    let first = large(&rt, NEVER)?;
-    let second = large(&rt, NEVER)?;
-    assert!(rt; is_summary(&first) && first.text() == second.text());
+    assert!(rt; is_the_same(&rt)?);
     Ok(())
+}
+
+/// Whether it stops at its third line, where that fails.
+fn stops<R: Threads + Wait + Sync + AllocGlobal>(rt: &R) -> Result<bool, NoMemory> {
+    let came = large(rt, Fails { first: 2, count: 1 })?;
+    Ok(came.status == Status::SinkFault && came.puts() == 3 && BEGINS.starts_with(came.text()))
 }
 
 #[test]
 fn large_stops_at_a_line_that_fails(rt: HostRuntime) -> Result<(), Fail> {
-    let came = large(&rt, Fails { first: 2, count: 1 })?;
-    assert!(rt; came.status == Status::SinkFault && came.puts() == 3);
-    assert!(rt; BEGINS.starts_with(came.text()));
+    assert!(rt; stops(&rt)?);
     Ok(())
 }

@@ -5,7 +5,7 @@ use std::sync::Wait;
 use std::test::Fail;
 use std::thread::Threads;
 use trial_runs::Held::{Bytes, Topology};
-use trial_runs::{REGION, came_of};
+use trial_runs::{REGION, comes_with};
 
 /// Texts over REGION that are no maps, and why.
 const MAP_FAULTS: &[(&[u8], &str)] = &[
@@ -57,15 +57,30 @@ const MAP_FAULTS: &[(&[u8], &str)] = &[
     (b"glb map 1\nplace g9 A 1\nend\n", "unknown name at line 2"),
 ];
 
+fn assert_map_fault<R: Abort + Threads + Wait + Sync + AllocGlobal>(
+    rt: &R,
+    map: &'static [u8],
+    wanted: &str,
+) -> Result<(), Fail> {
+    let held = &[("t", Topology(REGION)), ("m", Bytes(map))];
+    let pieces = &["refused map ", wanted, "\n"];
+    let is = comes_with(
+        rt,
+        &["glb", "check", "t", "m"],
+        held,
+        Status::Refused,
+        pieces,
+    )?;
+    assert!(rt; is, "for {map:?}");
+    Ok(())
+}
+
 fn assert_map_faults<R: Abort + Threads + Wait + Sync + AllocGlobal>(
     rt: &R,
     rows: &[(&'static [u8], &str)],
 ) -> Result<(), Fail> {
     for (map, wanted) in rows {
-        let held = [("t", Topology(REGION)), ("m", Bytes(*map))];
-        let came = came_of(rt, &["glb", "check", "t", "m"], &held)?;
-        let pieces = &["refused map ", *wanted, "\n"];
-        assert!(rt; came.says(Status::Refused, pieces), "for {map:?}");
+        assert_map_fault(rt, *map, *wanted)?;
     }
     Ok(())
 }

@@ -5,7 +5,7 @@ use std::sync::Wait;
 use std::test::Fail;
 use std::thread::Threads;
 use trial_runs::Held::{self, Bytes, Missing, Topology, Zeros};
-use trial_runs::{GOOD_REGION, REGION, REGION_MAP, TWO_GOOD, came_of, first_wrong};
+use trial_runs::{GOOD_REGION, REGION, REGION_MAP, TWO_GOOD, comes_so, first_wrong};
 
 /// Two regions of two units. Each of the first two groups likes the other's region better than that likes it.
 const TWO_REGIONS: &str = "node = [
@@ -49,18 +49,28 @@ const SWAPPED_REGIONS: &[u8] =
 const TURNED: &[u8] =
     b"glb map 1\nplace a Q 1\nplace b S 1\nplace c P 1\nplace d Z 4\nfull a P P\nfull b Q Q\nfull c S S\nend\n";
 
+const WORDS: &[&str] = &["glb", "repair", "t", "m", "c"];
+
 /// Topology, map and changes, and what comes of them: the status, the text, and how many files were asked for.
 type RepairRow = (Held, Held, Held, Status, &'static str, usize);
+
+fn assert_repair<R: Abort + Threads + Wait + Sync + AllocGlobal>(
+    rt: &R,
+    row: &RepairRow,
+) -> Result<(), Fail> {
+    let (topology, map, changes, status, text, loads) = *row;
+    let held = [("t", topology), ("m", map), ("c", changes)];
+    let is = comes_so(rt, WORDS, &held, status, text.as_bytes(), loads)?;
+    assert!(rt; is, "for {text}");
+    Ok(())
+}
 
 fn assert_repairs<R: Abort + Threads + Wait + Sync + AllocGlobal>(
     rt: &R,
     rows: &[RepairRow],
 ) -> Result<(), Fail> {
-    let words = &["glb", "repair", "t", "m", "c"];
-    for (topology, map, changes, status, text, loads) in rows {
-        let held = [("t", *topology), ("m", *map), ("c", *changes)];
-        let came = came_of(rt, words, &held)?;
-        assert!(rt; came.is(*status, text.as_bytes(), *loads), "for {text}");
+    for row in rows {
+        assert_repair(rt, row)?;
     }
     Ok(())
 }
@@ -116,7 +126,7 @@ fn assert_changes<R: Abort + Threads + Wait + Sync + AllocGlobal>(
     for (changes, text) in rows {
         let (old, changes) = (Bytes(GOOD_REGION), Bytes(*changes));
         let row = (Topology(REGION), old, changes, Status::Ok, *text, 3usize);
-        assert_repairs(rt, &[row])?;
+        assert_repair(rt, &row)?;
     }
     Ok(())
 }
@@ -166,7 +176,7 @@ fn assert_two_maps<R: Abort + Threads + Wait + Sync + AllocGlobal>(
     for (topology, map, changes, repaired, scratch) in rows {
         let (topology, map, changes) = (Topology(*topology), Bytes(*map), Bytes(*changes));
         let row = (topology, map, changes, Status::Ok, *repaired, 3usize);
-        assert_repairs(rt, &[row])?;
+        assert_repair(rt, &row)?;
         let row = (topology, Missing, Status::Ok, *scratch, 1usize);
         assert_eq!(rt; first_wrong(rt, &["glb", "map", "t"], &[row])?, None);
     }

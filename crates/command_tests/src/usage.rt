@@ -5,7 +5,7 @@ use std::sync::Wait;
 use std::test::Fail;
 use std::thread::Threads;
 use trial_runs::Held::{Bytes, Topology};
-use trial_runs::{FLAT, GOOD_FLAT, came_of};
+use trial_runs::{FLAT, GOOD_FLAT, comes_so};
 
 const USAGE: &[u8] = b"usage: glb check, answer, map, repair, serve or large\n";
 
@@ -71,8 +71,9 @@ fn assert_usage<R: Abort + Threads + Wait + Sync + AllocGlobal>(
     rt: &R,
     words: &[&str],
 ) -> Result<(), Fail> {
-    let came = came_of(rt, words, &[("t", Topology(FLAT)), ("m", Bytes(GOOD_FLAT))])?;
-    assert!(rt; came.is(Status::Usage, USAGE, 0), "for {words:?}");
+    let held = &[("t", Topology(FLAT)), ("m", Bytes(GOOD_FLAT))];
+    let is = comes_so(rt, words, held, Status::Usage, USAGE, 0)?;
+    assert!(rt; is, "for {words:?}");
     Ok(())
 }
 
