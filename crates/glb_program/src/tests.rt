@@ -14,7 +14,7 @@ use std::net::{IpAddr, Ipv4Addr, Net, SocketAddr, TcpListener, TcpStream, UdpSoc
 use std::test::Fail;
 use std::thread::{self, join_mut};
 use std::time::Duration;
-use trial_runs::{Lent, PLAIN, QUERY, Scene, devices_of, lent_of, run};
+use trial_runs::{AllLent, PLAIN, QUERY, Scene, devices_of, lent_of, run};
 
 /// What the client gets: the header of an answer, the question, and one address of the first group's pool.
 const REPLY: &[u8] = &[

@@ -13,7 +13,7 @@ use std::collections::LinkedList;
 use std::sync::Wait;
 use std::test::Fail;
 use std::thread::Threads;
-use trial_runs::{Lent, PLAIN, SERVE_TWO, Scene, devices_of, lent_of, queries, run};
+use trial_runs::{AllLent, PLAIN, SERVE_TWO, Scene, devices_of, lent_of, queries, run};
 
 /// What waits at a lane, and what is waited for at its turns.
 #[derive(Clone, Copy)]

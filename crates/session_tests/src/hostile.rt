@@ -222,7 +222,7 @@ const LINES: &[FeedLine] = &[
 ];
 
 /// A feed of that line, so many times.
-fn feed_of(alloc: Global, line: &Line) -> Result<Vec<u8>, NoMemory> {
+fn feed_of(alloc: Global, line: &FeedLine) -> Result<Vec<u8>, NoMemory> {
     let mut feed = Vec::new(alloc);
     for _ in 0..line.times {
         feed.extend_from_slice(line.octets)?;
@@ -231,7 +231,10 @@ fn feed_of(alloc: Global, line: &Line) -> Result<Vec<u8>, NoMemory> {
 }
 
 /// Whether its session ends well, with the text that is due.
-fn is_said<R: Threads + Wait + Sync + AllocGlobal>(rt: &R, line: &Line) -> Result<bool, NoMemory> {
+fn is_said<R: Threads + Wait + Sync + AllocGlobal>(
+    rt: &R,
+    line: &FeedLine,
+) -> Result<bool, NoMemory> {
     let feed = feed_of(rt.alloc(), line)?;
     let came = session_over(rt, feed.as_slice())?;
     Ok(came.says(Status::Ok, &[line.text]))

@@ -74,7 +74,7 @@ pub fn lent_of<P, Q, G, D, M>(
     lanes: Vec<Lane<P, G, D>>,
     stream: StreamLane<Q, G, D>,
     pace: M,
-) -> Lent<P, Q, G, D, M>
+) -> AllLent<P, Q, G, D, M>
     ensures { (vec_len result.lanes ≡ vec_len lanes) × (vec_len result.more ≡ vec_len devices.feeds.more) }
 {
     let Devices {
@@ -83,7 +83,7 @@ pub fn lent_of<P, Q, G, D, M>(
         feeds: Feeds { first, more },
         outputs: Outputs { out, maps },
     } = devices;
-    Lent {
+    AllLent {
         words,
         files,
         feed: first,

@@ -12,7 +12,7 @@ mod sessions;
 mod streams;
 mod texts;
 
-pub use came::{Came, Lent, MemLent, are_joined, lent_of, run};
+pub use came::{AllLent, Came, MemLent, are_joined, lent_of, run};
 pub use commands::{ROOM, Row, came_of, came_over, comes_so, comes_with, first_wrong};
 pub use devices::{Devices, Feeds, Outputs};
 pub use fails::{Fails, NEVER};
