@@ -2,11 +2,11 @@
 use Rattle.std.proofs.Common.{◌≡◌, ℕ, ◌<◌, true, List, length, Option, None, Some, sym, subst, inl, inr}
 use Rattle.map_model.specs.declared.instance.NodeId.{NodeId}
 use Rattle.map_model.specs.declared.lines.MapLine.{MapLine}
-use Rattle.map_model.specs.Market.{Market, IsMarket, capacity_of, parent_of, pool_of}
+use Rattle.map_model.specs.Market.{Market, IsMarket, capacity_of, parent_of}
 use Rattle.map_model.specs.Allocation.{is_under, load}
 use Rattle.map_model.proofs.Trees.{above_alone, above_parent, above_split, under_itself}
-use Rattle.circle_laws.specs.Nearest.{IsNearestFull}
-use Rattle.best_check.specs.Fullness.{FirstFull, IsFirstFull}
+use Rattle.circle_laws.specs.Nearest.{IsFirstFull}
+use Rattle.best_check.specs.Fullness.{FirstFull}
 use Rattle.best_check.proofs.Above.{IsAbove}
 
 module _ (m : Market) (market : IsMarket m) (lines : List MapLine) (n : ℕ) (there : n < length m.nodes) where
@@ -28,7 +28,3 @@ module _ (m : Market) (market : IsMarket m) (lines : List MapLine) (n : ℕ) (th
   pub full_above : (load m lines n ≡ capacity_of m n → ⊥) → (above : Option NodeId) → IsAbove m (FirstFull m lines) n above → FirstFull m lines n above
   full_above room above (inl x) = subst (FirstFull m lines n) (sym x.1) (λ c on full. room (subst (λ y. load m lines y ≡ capacity_of m y) (above_alone m n c x.0 on) full))
   full_above room above (inr x) = from_parent room x.0 x.1 above x.2
-
--- the full node nearest to an offer's pool is the offer's
-pub near_offer : (m : Market) (lines : List MapLine) (g k f : ℕ) → IsFirstFull m lines (pool_of m g k) f → IsNearestFull m lines f g k
-near_offer m lines g k f first = record { on = first.on; full = first.full; nearest = first.nearest }

@@ -2,14 +2,14 @@
 use Rattle.std.proofs.Common.{◌≡◌, ◌⊎◌, ℕ, ◌<◌, true, List, length, Option, None, Some, IfSome, MatchOption, slice_index_or, sym, ◌∙◌, subst, inl, inr, refl, arith}
 use Rattle.map_model.specs.declared.instance.NodeId.{NodeId}
 use Rattle.map_model.specs.declared.lines.MapLine.{MapLine}
-use Rattle.map_model.specs.Market.{Market, IsMarket, key_of, limit_of, parent_of}
+use Rattle.map_model.specs.Market.{Market, IsMarket, key_of, limit_of, parent_of, pool_of}
 use Rattle.map_model.specs.Allocation.{is_under, key_le}
 use Rattle.map_model.proofs.Keys.{key_le_trans}
 use Rattle.map_model.proofs.Paths.{parent_there}
 use Rattle.map_model.proofs.Trees.{above_alone, above_parent, above_split, under_itself}
 use Rattle.best_laws.specs.Ahead.{IsRightMap}
 use Rattle.circle_laws.specs.Circles.{IsInLine, IsNextInLine, MakesRoom}
-use Rattle.circle_laws.specs.Nearest.{IsNearestFull}
+use Rattle.circle_laws.specs.Nearest.{IsFirstFull}
 use Rattle.circle_laws.proofs.Nearest.{has_nearest, room_at, room_from}
 use Rattle.best_check.specs.declared.ranked.Ranked.{Ranked}
 use Rattle.best_check.specs.Tables.{AreNextAt, AreRanked, IsBestBefore, IsEntry, IsNextAt, IsRanked, IsWaitingAt}
@@ -58,14 +58,14 @@ module _ (m : Market) (market : IsMarket m) (lines : List MapLine) (right : IsRi
   room_parts : (h j : ℕ) → IsInLine m (limit_of m) lines h j → MakesRoom m lines n h j → IsWaitingAt m lines n h j ⊎ ((p : NodeId) × (parent_of m n ≡ Some p) × MakesRoom m lines p.0 h j)
   room_parts h j line room = by_parent (parent_of m n) refl
     where
-      near : (c : ℕ) × IsNearestFull m lines c h j
+      near : (c : ℕ) × IsFirstFull m lines (pool_of m h j) c
       near = has_nearest m market (limit_of m) (λ g k o. omega arith) lines right h j line
 
       under : is_under m near.0 n ≡ true
       under = room_at m lines n near.0 h j near.1 room
 
       here : near.0 ≡ n → IsWaitingAt m lines n h j
-      here e = record { in_line = line; near = subst (λ x. IsNearestFull m lines x h j) e near.1 }
+      here e = record { in_line = line; near = subst (λ x. IsFirstFull m lines (pool_of m h j) x) e near.1 }
 
       by_parent : (at : Option NodeId) → parent_of m n ≡ at → IsWaitingAt m lines n h j ⊎ ((p : NodeId) × (parent_of m n ≡ Some p) × MakesRoom m lines p.0 h j)
       by_parent None root = inl (here (above_alone m n near.0 root under))

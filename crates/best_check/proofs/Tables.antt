@@ -12,10 +12,10 @@ use Rattle.map_model.proofs.Paths.{pool_there}
 use Rattle.map_model.proofs.Trees.{above_le, under_there}
 use Rattle.evict.specs.Standing.{IsPastWanted, IsReady, Standing}
 use Rattle.best_laws.specs.Ahead.{IsRightMap}
+use Rattle.circle_laws.specs.Nearest.{IsFirstFull}
 use Rattle.best_check.specs.declared.ranked.Ranked.{Ranked}
-use Rattle.best_check.specs.Fullness.{FirstFull, IsFirstFull, IsFullTable}
+use Rattle.best_check.specs.Fullness.{FirstFull, IsFullTable}
 use Rattle.best_check.specs.Tables.{AreRanked, ArePastWanted, IsBefore, IsBestBefore, IsEntry, IsRanked, IsTable, IsWaitingAt}
-use Rattle.best_check.proofs.Fullness.{near_offer}
 
 -- what a state holds is a right map, if its pointers are the numbers of wanted places
 pub right_of_state : (m : Market) (state : Standing) → IsReady m state → ArePastWanted m state → IsRightMap m state.lines
@@ -175,7 +175,7 @@ noted_at m market lines f table new t first waiting key over = record {
 waits_there : (m : Market) (lines : List MapLine) (g k p f : ℕ) → IsOffer m g k → IsPastWanted m lines g p → k < p → amount_at lines g k < limit_of m g k → IsFirstFull m lines (pool_of m g k) f → IsWaitingAt m lines f g k
 waits_there m lines g k p f o past before room first = record {
   in_line = record { offer = o; wanted = ltb-true (placed_through lines g k) (demand_of m g) (past.wanted k o ∙ lt-ltb k p before); room = room };
-  near = near_offer m lines g k f first;
+  near = first;
 }
 
 -- and is noted there, if it is ranked at least as high as what is there

@@ -4,14 +4,9 @@ use Rattle.map_model.specs.declared.instance.NodeId.{NodeId}
 use Rattle.map_model.specs.declared.lines.MapLine.{MapLine}
 use Rattle.map_model.specs.Market.{Market, capacity_of}
 use Rattle.map_model.specs.Allocation.{is_under, load}
+use Rattle.circle_laws.specs.Nearest.{IsFirstFull}
 
--- f is on the path of n and full, and all other full nodes of that path stand above f
-pub record IsFirstFull (m : Market) (lines : List MapLine) (n f : ℕ) : Type 0 where
-  pub on : is_under m f n ≡ true
-  pub full : load m lines f ≡ capacity_of m f
-  pub nearest : (c : ℕ) → is_under m c n ≡ true → load m lines c ≡ capacity_of m c → is_under m c f ≡ true
-
--- that node, or none if no node of the path is full
+-- the full node nearest to a node, or none if no node of its path is full
 abbrev pub FirstFull : Market → List MapLine → ℕ → Option NodeId → Type 0
 FirstFull m lines n found = MatchOption found ((c : ℕ) → is_under m c n ≡ true → load m lines c ≡ capacity_of m c → ⊥) (λ f. IsFirstFull m lines n f.0)
 

@@ -1,12 +1,12 @@
 -- Inside this crate alone: tables of the best offer that waits at each node, and of who is next in line there, with their keys.
 use Rattle.std.specs.Prelude.{◌≡◌, ◌⊎◌, ℕ, ◌<◌, true, List, length, Option, None, IfSome, MatchOption, slice_index, slice_index_or}
 use Rattle.map_model.specs.declared.lines.MapLine.{MapLine}
-use Rattle.map_model.specs.Market.{Market, key_of, limit_of}
+use Rattle.map_model.specs.Market.{Market, key_of, limit_of, pool_of}
 use Rattle.map_model.specs.Allocation.{IsOffer, key_le}
 use Rattle.evict.specs.Standing.{IsPastWanted, Standing}
 use Rattle.best_laws.specs.Ahead.{IsRightMap}
 use Rattle.circle_laws.specs.Circles.{IsInLine, IsNextInLine, MakesRoom}
-use Rattle.circle_laws.specs.Nearest.{IsNearestFull}
+use Rattle.circle_laws.specs.Nearest.{IsFirstFull}
 use Rattle.best_check.specs.declared.ranked.Ranked.{Ranked}
 
 -- each pointer is the number of its group's wanted places
@@ -20,7 +20,7 @@ IsBefore g k h j = (h < g) ⊎ ((h ≡ g) × (j < k))
 -- the offer waits at the node for a unit more
 pub record IsWaitingAt (m : Market) (lines : List MapLine) (n g k : ℕ) : Type 0 where
   pub in_line : IsInLine m (limit_of m) lines g k
-  pub near : IsNearestFull m lines n g k
+  pub near : IsFirstFull m lines (pool_of m g k) n
 
 -- it waits there, with its key, and is ranked at least as high as all before (g, k) that do
 pub record IsBestBefore (m : Market) (lines : List MapLine) (g k n : ℕ) (best : Ranked) : Type 0 where

@@ -12,15 +12,15 @@ use Rattle.map_model.proofs.Trees.{climb_longer, under_trans}
 use Rattle.best_laws.specs.Ahead.{IsRightMap}
 use Rattle.best_laws.proofs.Offers.{offer_one}
 use Rattle.circle_laws.specs.Circles.{IsInLine, IsNextInLine, MakesRoom}
-use Rattle.circle_laws.specs.Nearest.{IsBestAt, IsNearestFull}
+use Rattle.circle_laws.specs.Nearest.{IsBestAt, IsFirstFull}
 use Rattle.circle_laws.proofs.First.{higher_order, is_higher, no_first}
 use Rattle.circle_laws.proofs.Full.{counted, refused_at, size_of}
 
 -- so room is made by a unit that leaves a pool just if it leaves that node
-pub room_from : (m : Market) → IsMarket m → (lines : List MapLine) (pool n g k : ℕ) → pool < length m.nodes → IsNearestFull m lines n g k → is_under m n pool ≡ true → MakesRoom m lines pool g k
+pub room_from : (m : Market) → IsMarket m → (lines : List MapLine) (pool n g k : ℕ) → pool < length m.nodes → IsFirstFull m lines (pool_of m g k) n → is_under m n pool ≡ true → MakesRoom m lines pool g k
 room_from m market lines pool n g k there near under = λ c on full. under_trans m market c n pool there (near.nearest c on full) under
 
-pub room_at : (m : Market) (lines : List MapLine) (pool n g k : ℕ) → IsNearestFull m lines n g k → MakesRoom m lines pool g k → is_under m n pool ≡ true
+pub room_at : (m : Market) (lines : List MapLine) (pool n g k : ℕ) → IsFirstFull m lines (pool_of m g k) n → MakesRoom m lines pool g k → is_under m n pool ≡ true
 room_at m lines pool n g k near room = room n near.on near.full
 
 some_is : (a b : ℕ) → Some a ≡ Some b → a ≡ b
@@ -64,7 +64,7 @@ found_up m test (suc steps) (Some p) n e = elim (cases_Bool (test p.0)) [
 ]
 
 -- the first full node of an offer's path is that node
-pub nearest_found : (m : Market) (lines : List MapLine) (n g k : ℕ) → find (λ c. load m lines c == capacity_of m c) (path m (pool_of m g k)) ≡ Some n → IsNearestFull m lines n g k
+pub nearest_found : (m : Market) (lines : List MapLine) (n g k : ℕ) → find (λ c. load m lines c == capacity_of m c) (path m (pool_of m g k)) ≡ Some n → IsFirstFull m lines (pool_of m g k) n
 nearest_found m lines n g k e =
     let r = found_up m (λ c. load m lines c == capacity_of m c) 8 (Some (record { 0 = pool_of m g k })) n e in
     record {
@@ -87,13 +87,13 @@ not_found test (x ∷ ns) n e on pass = elim (cases_Bool (test x)) [
     some_none a h = cc
 
 -- in a right map each offer in line has one
-pub has_nearest : (m : Market) → IsMarket m → (limits : ℕ → ℕ → ℕ) → ((g k : ℕ) → IsOffer m g k → limits g k ≤ limit_of m g k) → (lines : List MapLine) → IsRightMap m lines → (g k : ℕ) → IsInLine m limits lines g k → (n : ℕ) × IsNearestFull m lines n g k
+pub has_nearest : (m : Market) → IsMarket m → (limits : ℕ → ℕ → ℕ) → ((g k : ℕ) → IsOffer m g k → limits g k ≤ limit_of m g k) → (lines : List MapLine) → IsRightMap m lines → (g k : ℕ) → IsInLine m limits lines g k → (n : ℕ) × IsFirstFull m lines (pool_of m g k) n
 has_nearest m market limits limited lines right g k line = go (find full (path m (pool_of m g k))) refl
   where
     full : ℕ → Bool
     full c = load m lines c == capacity_of m c
 
-    go : (o : Option ℕ) → find full (path m (pool_of m g k)) ≡ o → (n : ℕ) × IsNearestFull m lines n g k
+    go : (o : Option ℕ) → find full (path m (pool_of m g k)) ≡ o → (n : ℕ) × IsFirstFull m lines (pool_of m g k) n
     go (Some n) e = (n, nearest_found m lines n g k e)
     go None e =
         let r = refused_at m market lines right g k line.offer line.wanted (omega (arith, line.room, limited g k line.offer)) in
@@ -109,7 +109,7 @@ next_from m market limits limited lines right pool n g k there under at least = 
     | inl e ↦ e
     | inr e ↦
         let near = has_nearest m market limits limited lines right h j line in
-        absurd (no_first (size_of m) (is_higher m) (higher_order m) (λ i o. IsInLine m limits lines i o × IsNearestFull m lines near.0 i o) (λ i o x. counted m market i o x.0.offer) (λ i o x first.
+        absurd (no_first (size_of m) (is_higher m) (higher_order m) (λ i o. IsInLine m limits lines i o × IsFirstFull m lines (pool_of m i o) near.0) (λ i o x. counted m market i o x.0.offer) (λ i o x first.
         let best : IsBestAt m limits lines near.0 i o = record { in_line = x.0; near = x.1; best = λ a b in_line also. not-false (key_le (key_of m i o) (key_of m a b)) (first a b (in_line, also)) } in
         false≢true (sym e ∙ key_le_trans (key_of m g k) (key_of m i o) (key_of m h j) (least near.0 i o (room_at m lines pool near.0 h j near.1 room) best) (not-false (key_le (key_of m i o) (key_of m h j)) (first h j (line, near.1)))))
         h j (line, near.1))
@@ -117,7 +117,7 @@ next_from m market limits limited lines right pool n g k there under at least = 
 }
 
 -- where no node of the path has an offer in line, nobody is next
-pub nobody_next : (m : Market) → IsMarket m → (limits : ℕ → ℕ → ℕ) → ((g k : ℕ) → IsOffer m g k → limits g k ≤ limit_of m g k) → (lines : List MapLine) → IsRightMap m lines → (pool : ℕ) → ((c h j : ℕ) → is_under m c pool ≡ true → IsInLine m limits lines h j → IsNearestFull m lines c h j → ⊥) → (g k : ℕ) → IsNextInLine m limits lines pool g k → ⊥
+pub nobody_next : (m : Market) → IsMarket m → (limits : ℕ → ℕ → ℕ) → ((g k : ℕ) → IsOffer m g k → limits g k ≤ limit_of m g k) → (lines : List MapLine) → IsRightMap m lines → (pool : ℕ) → ((c h j : ℕ) → is_under m c pool ≡ true → IsInLine m limits lines h j → IsFirstFull m lines (pool_of m h j) c → ⊥) → (g k : ℕ) → IsNextInLine m limits lines pool g k → ⊥
 nobody_next m market limits limited lines right pool none g k next =
     let near = has_nearest m market limits limited lines right g k next.in_line in
     none near.0 g k (room_at m lines pool near.0 g k near.1 next.room) next.in_line near.1
