@@ -32,7 +32,7 @@ use Rattle.map_model.specs.declared.change.Change.{Change}
 use Rattle.map_model.specs.declared.lines.MapLine.{MapLine}
 use Rattle.map_model.specs.declared.lines.NameLine.{NameLine}
 use Rattle.map_model.specs.Allocation.{IsGood}
-use Rattle.map_model.specs.Market.{IsMarket, Market}
+use Rattle.map_model.specs.Market.{Market}
 use Rattle.agree_laws.proofs.Applied.{applied_one}
 use Rattle.agree_laws.proofs.Ends.{group_best_one}
 use Rattle.map_repair.specs.Resumed.{HasRepaired}
@@ -40,8 +40,6 @@ use Rattle.map_repair.proofs.Agree.{repaired_one}
 use Rattle.topology_text.specs.Plan.{Plan}
 use Rattle.map_text.specs.Reading.{Mapped}
 use Rattle.map_text.specs.Writing.{text_of_map}
-use Rattle.glb.specs.Map.{AreGoodMap}
-use Rattle.glb.specs.Repair.{AreRepaired}
 
 mapped_is : (x y : Mapped) → (x.lines ≡ y.lines) × (x.names ≡ y.names) → x ≡ y
 mapped_is x y e = ap (λ (ls : List MapLine). record { lines = ls; names = x.names }) e.0 ∙ ap (λ (ns : List NameLine). record { lines = y.lines; names = ns }) e.1

@@ -1,5 +1,5 @@
 -- Where all is well, what `serve` may answer.
-use Rattle.std.proofs.Common.{◌≡◌, ◌⊎◌, inl, inr, ℕ, Bool, true, false, List, refl, ap, ◌∙◌}
+use Rattle.std.proofs.Common.{◌≡◌, ◌⊎◌, inl, inr, ℕ, Bool, true, false, List, ap, ◌∙◌}
 use Rattle.std.specs.Prelude.{IsSome, Option, None, Some}
 use Rattle.std.specs.List.{list_any}
 use Rattle.outside.specs.Shelf.{Shelved}

@@ -1,14 +1,14 @@
 -- Further feeds: what is so of those that were opened, and of the first of a list.
-use Rattle.std.proofs.Common.{◌≡◌, ◌⊎◌, inl, inr, ℕ, zero, suc, ◌<◌, ◌≤◌, List, [], ◌∷◌, ◌++◌, length, map, refl, ap, ap₂, sym, subst, ◌∙◌, arith}
-use Rattle.std.specs.Prelude.{Option, None, Some, take, drop, ◌-◌}
+use Rattle.std.proofs.Common.{◌≡◌, inl, inr, ℕ, zero, suc, ◌<◌, List, [], ◌∷◌, ◌++◌, length, map, refl, ap, ap₂, sym, subst, ◌∙◌, arith}
+use Rattle.std.specs.Prelude.{Option, None, Some, take}
 use Rattle.std.proofs.lemmas.List.{length-map, map-append}
-use Rattle.outside.specs.Faults.{BothTell, Rose}
+use Rattle.outside.specs.Faults.{BothTell}
 use Rattle.outside.specs.Source.{Fed}
 use Rattle.outside.specs.declared.port.Opening.{Opening}
 use Rattle.outside.specs.declared.port.Opening.TheVariants as opening
 use Rattle.drive.specs.Feeds.{AllStand, AnyRose, FeedTold, NoneFell}
 use Rattle.glb.specs.Causes.{AnyFeed, HasFeedFault, HasGiven, HasFeedGiven}
-use Rattle.glb.specs.Feeds.{AreFeedsOpened, AreNamed, AreNoted, IsFeedOpening, Named}
+use Rattle.glb.specs.Feeds.{AreFeedsOpened, AreNoted, Named}
 use Rattle.glb.specs.Serve.{all_ready, then_failed}
 use Rattle.glb.specs.Starting.{HasNamed}
 

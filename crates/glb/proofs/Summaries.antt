@@ -1,5 +1,5 @@
 -- Two runs of `large` over the world of so many groups find the same.
-use Rattle.std.proofs.Common.{◌≡◌, ℕ, List, [], ◌∷◌, ◌++◌, refl, sym, ap, ◌∙◌, subst}
+use Rattle.std.proofs.Common.{◌≡◌, List, [], ◌∷◌, ◌++◌, sym, ap, ◌∙◌, subst}
 use Rattle.std.specs.Prelude.{Result, Ok}
 use Rattle.map_model.specs.declared.change.Change.{Change}
 use Rattle.map_model.specs.Market.{IsMarket}
@@ -16,8 +16,7 @@ use Rattle.mapper.proofs.Agree.{first_one, next_one}
 use Rattle.big_world.specs.Feed.{feed_of}
 use Rattle.big_world.specs.Topology.{topology_of}
 use Rattle.big_run.specs.Publishing.{Publishes}
-use Rattle.big_run.specs.Runs.{IsWorldRun, summary_of}
-use Rattle.big_run.specs.declared.summary.Summary.{Summary}
+use Rattle.big_run.specs.Runs.{summary_of}
 use Rattle.glb.specs.Laws.{SummariesAgree, with_proposals}
 use Rattle.glb.proofs.Plans.{bytes_are_plan}
 

@@ -1,5 +1,5 @@
 -- Inside this crate alone: how ports were opened, and a session was started.
-use Rattle.std.specs.Prelude.{◌≡◌, ◌≢◌, ◌⊎◌, ℕ, ◌<◌, ◌≤◌, Bool, false, List, [], ◌∷◌, ◌++◌, length, ◌||◌, Option, None, Some}
+use Rattle.std.specs.Prelude.{◌≡◌, ◌≢◌, ◌⊎◌, ℕ, ◌<◌, ◌≤◌, Bool, false, List, [], ◌∷◌, length, ◌||◌, Option, None, Some}
 use Rattle.std.specs.List.{list_any}
 use Rattle.lane_model.specs.declared.ended.Ended.{Ended}
 use Rattle.demand_feed.specs.declared.run.FeedEnd.{FeedEnd}
