@@ -31,17 +31,35 @@ def serve(program, topology, maps):
     return subprocess.Popen(words, stdin=subprocess.PIPE, stdout=subprocess.PIPE, stderr=maps)
 
 
-def compare(servers, differ):
-    """Reads the maps of both servers to their ends, and notes at which piece they differ first."""
-    octets = 0
-    while True:
-        pieces = [server.stderr.read(PIECE) for server in servers]
-        if pieces[0] != pieces[1]:
-            differ.append(octets)
-        if not any(pieces):
-            print(f"maps: {octets} octets of each compared", flush=True)
-            return
-        octets += len(pieces[0])
+class Comparison:
+    """The maps of both servers, read to their ends as they come; `differ` is where they differ first, if they do."""
+
+    def __init__(self, servers):
+        self.octets, self.differ = 0, None
+        self.behind = [bytearray() for _ in servers]
+        self.lock = threading.Lock()
+        self.readers = [threading.Thread(target=self.read, args=pair, daemon=True) for pair in zip(servers, self.behind)]
+        for reader in self.readers:
+            reader.start()
+
+    def read(self, server, behind):
+        while piece := server.stderr.read1(PIECE):
+            with self.lock:
+                behind += piece
+                both = min(map(len, self.behind))
+                one, other = (bytes(octets[:both]) for octets in self.behind)
+                if one != other and self.differ is None:
+                    self.differ = self.octets
+                self.octets += both
+                for octets in self.behind:
+                    del octets[:both]
+
+    def end(self):
+        for reader in self.readers:
+            reader.join()
+        if any(self.behind) and self.differ is None:
+            self.differ = self.octets
+        print(f"maps: {self.octets} octets of each compared")
 
 
 def main():
@@ -49,12 +67,9 @@ def main():
     commits = int(sys.argv[2]) if len(sys.argv) > 2 else 8000
     changes = int(sys.argv[3]) if len(sys.argv) > 3 else 1
     groups = GROUP.findall(Path(topology).read_text())
-    maps = subprocess.PIPE if OTHER else subprocess.DEVNULL
-    servers = [serve(program, topology, maps) for program in (GLB, OTHER) if program]
-    differ = []
-    reader = threading.Thread(target=compare, args=(servers, differ), daemon=True)
-    if OTHER:
-        reader.start()
+    where = subprocess.PIPE if OTHER else subprocess.DEVNULL
+    servers = [serve(program, topology, where) for program in (GLB, OTHER) if program]
+    maps = Comparison(servers) if OTHER else None
     draw = random.Random(1)
     begun = time.monotonic()
     for number in range(commits + 1):
@@ -70,15 +85,16 @@ def main():
             said = server.stdout.readline()
             if said != f"published {number + 1}\n".encode():
                 sys.exit(f"at commit {number + 1}: {said!r}")
-        if differ:
-            sys.exit(f"at commit {number + 1} or before: the maps differ behind octet {differ[0]}")
+        if maps and maps.differ is not None:
+            sys.exit(f"at commit {number + 1} or before: the maps differ behind octet {maps.differ}")
     peak = megabytes(servers[0].pid, "VmHWM")
     for server in servers:
         server.stdin.close()
-    if OTHER:
-        reader.join()
-    print(f"at most {peak} MB, status {[server.wait() for server in servers]}, {'the maps differ' if differ else 'no map differs' if OTHER else 'no other program'}")
-    sys.exit(bool(differ))
+    if maps:
+        maps.end()
+    print(f"at most {peak} MB, status {[server.wait() for server in servers]}")
+    if maps and maps.differ is not None:
+        sys.exit(f"the maps differ behind octet {maps.differ}")
 
 
 if __name__ == "__main__":
