@@ -8,7 +8,7 @@ ghost use Rattle.name_text.specs.Names.{is_same, is_under};
 pub fn same_name(name: &[u8], other: &[u8]) -> bool
     ensures { result ≡ is_same name.now other.now }
 {
-    name.eq_ignore_ascii_case(other)
+    name == other || name.eq_ignore_ascii_case(other)
 }
 
 /// Whether a name is the apex or stands below it by whole labels, whatever the case of ASCII letters. Both are octets on the wire.
