@@ -87,7 +87,7 @@ BLOCKS = {
     "glb-append --numbers": Block(("sleep 5; printf 'demand g1 5\\n' | glb-append; sleep 2; glb-fleet", r"(?s)5\nthe log ends at entry 5\n\S*-v4: there, entry 5 \(behind 0\), serial 1, .*")),
 }
 # blocks that documents.py runs, or that show a form
-OTHERS = ("$ ", "glb serve TOPOLOGY")
+OTHERS = ("$ ", "glb serve TOPOLOGY", "ETCD_NAME=")
 # commands of the text and its tables, behind which block they are run, and what they have to write
 INLINE = [
     ("useradd --system", "systemctl start glb && sleep 2 && systemctl is-active glb && dig +tries=1 +time=1 @192.0.2.53 www.cdn.example A", "(?s)active.*status: NOERROR.*"),
