@@ -1,5 +1,5 @@
 -- What a batch makes may be published, and is then the newest version.
-use Rattle.std.proofs.Common.{◌≡◌, ℕ, ◌+◌, IfOk, OnOk, Result, Ok, Err, List, [], ◌∷◌, ◌++◌, length, slice_get, Some, refl, sym, subst, ◌∙◌, arith, length-append, slice_index_or}
+use Rattle.std.proofs.Common.{◌≡◌, ℕ, ◌+◌, IfOk, OnOk, Result, Ok, Err, List, [], ◌∷◌, ◌++◌, length, slice_get, Some, refl, sym, ap, subst, ◌∙◌, arith, length-append, slice_index_or}
 use Rattle.map_model.specs.declared.change.Change.{Change}
 use Rattle.map_model.specs.declared.change.Change.TheVariants.{Capacity, Demand}
 use Rattle.map_model.specs.Market.{IsMarket, IsSameShape, Market}
@@ -14,10 +14,15 @@ use Rattle.published_map.specs.Between.{IsBetween}
 use Rattle.published_map.specs.Changes.{after}
 use Rattle.published_map.specs.Version.{IsVersion, Version}
 use Rattle.published_map.proofs.Within.{after_is_version, within}
+use Rattle.map_cell.specs.Ends.{PublisherState}
 use Rattle.map_cell.specs.Histories.{IsSealed}
+use Rattle.agree_laws.proofs.Applied.{applied_one}
 use Rattle.mapper.specs.Control.{IsNext}
-use Rattle.mapper.specs.Currents.{IsCurrent, IsPrepared, Makes, version_of}
+use Rattle.mapper.specs.Currents.{IsCurrent, IsKeptFor, IsPrepared, Makes, version_of}
+use Rattle.mapper.specs.Mappers.{IsPublished}
 use Rattle.mapper.specs.declared.current.Current.{Current}
+use Rattle.mapper.specs.declared.current.Kept.{Kept}
+use Rattle.mapper.specs.declared.maps.Following.{Following}
 
 -- the version after a batch is one
 next_version : (old new : Version) (changes : List Change) → IsVersion old → IsMarket new.market → IsNext old changes new → IsVersion new
@@ -91,3 +96,30 @@ change_for m n s (Capacity node capacity) is = (omega (arith, s.nodes, is.0), is
 -- a batch for an instance is one for each instance of its shape
 pub batch_for : (m n : Market) → IsSameShape m n → (changes : List Change) → IsBatch m changes → IsBatch n changes
 batch_for m n s changes all = λ k d lt. change_for m n s (slice_index_or changes k d) (all k d lt)
+
+-- What is held of a publisher once the map of a batch was published: of an instance to which the batch was applied too, it is the newest one.
+pub committed : (p q : PublisherState) (old : Current) (n : Following) (kept : Kept) (changes : List Change) (spare : Market) → IsVersion p.newest → IsSealed p.history p.newest → IsCurrent p.newest old → IsPrepared p.newest changes n
+    → q.history ≡ p.history ++ after p.newest n.delta ∷ [] → q.newest ≡ after p.newest n.delta → IsKeptFor (after p.newest n.delta).market (after p.newest n.delta).lines kept → IsApplied old.instance changes spare
+    → IsVersion q.newest × IsSealed q.history q.newest × IsCurrent q.newest n.current × IsKeptFor q.newest.market q.newest.lines kept × (spare ≡ q.newest.market)
+committed p q old n kept changes spare is sealed current prepared history newest kept_is applied =
+    let w : Version = after p.newest n.delta in
+    let last : IsSealed (p.history ++ w ∷ []) w = sealed_next p.history p.newest w sealed prepared.next.serial in
+    let market : p.newest.market ≡ old.instance = ap (λ (v : Version). v.market) current.version in
+    let same : spare ≡ w.market = applied_one p.newest.market spare w.market changes (subst (λ (m : Market). IsApplied m changes spare) (sym market) applied) prepared.next.applied in (
+      subst IsVersion (sym newest) prepared.good,
+      subst (λ (h : List Version). IsSealed h q.newest) (sym history) (subst (λ (v : Version). IsSealed (p.history ++ w ∷ []) v) (sym newest) last),
+      subst (λ (v : Version). IsCurrent v n.current) (sym newest) prepared.current,
+      subst (λ (v : Version). IsKeptFor v.market v.lines kept) (sym newest) kept_is,
+      same ∙ ap (λ (v : Version). v.market) (sym newest),
+    )
+
+-- and it was published
+pub published : (p q : PublisherState) (n : Following) (changes : List Change) (serial : ℕ) → IsPrepared p.newest changes n → q.history ≡ p.history ++ after p.newest n.delta ∷ [] → q.newest ≡ after p.newest n.delta → serial ≡ n.delta.base + 1
+    → IsPublished p changes q × (serial ≡ q.newest.serial)
+published p q n changes serial prepared history newest is = (
+  record {
+    next = subst (λ (v : Version). IsNext p.newest changes v) (sym newest) prepared.next;
+    history = history ∙ ap (λ (v : Version). p.history ++ v ∷ []) (sym newest);
+  },
+  is ∙ ap (λ (b : ℕ). b + 1) prepared.base ∙ sym (ap (λ (v : Version). v.serial) newest ∙ prepared.next.serial),
+)

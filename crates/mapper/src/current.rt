@@ -59,14 +59,25 @@ pub(crate) fn unworn(kept: Option<Kept>, groups: u32) -> Option<Kept>
     Some(kept)
 }
 
-/// The instance after a batch.
-fn applied(old: &Instance, batch: &Batch) -> Result<Instance, NoMemory>
-    requires { IsBatch old.now batch.now }
-    ensures { IfOk result (λ new. IsApplied old.now batch.now new) }
+/// An instance after a batch.
+pub(crate) fn applied(instance: Instance, batch: &Batch) -> Instance
+    requires { IsBatch instance batch.now }
+    ensures { IsApplied instance batch.now result }
 {
-    let mut new = old.try_clone()?;
-    apply(&mut new, batch);
-    Ok(new)
+    let mut instance = instance;
+    apply(&mut instance, batch);
+    instance
+}
+
+/// Another instance that is the same: the spare one, if there is one.
+fn another(old: &Instance, spare: Option<Instance>) -> Result<Instance, NoMemory>
+    requires { IfSome spare (λ s. s ≡ old.now) }
+    ensures { IfOk result (λ new. new ≡ old.now) }
+{
+    match spare {
+        Some(spare) => Ok(spare),
+        None => old.try_clone(),
+    }
 }
 
 /// The map of the new instance, by repair of the kept state.
@@ -194,16 +205,18 @@ pub(crate) fn kept_of(alloc: Global, current: &Current) -> Result<Kept, NoMemory
     })
 }
 
-/// The map that a batch leads to.
+/// The map that a batch leads to, on a spare instance that is the old one, if there is one.
 pub(crate) fn next_of<L>(
     alloc: Global,
     topology: &Topology,
     old: &Current,
     kept: &mut Kept,
+    spare: Option<Instance>,
     batch: &Batch,
     steps: &mut Steps<L>,
 ) -> Result<Current, NoMemory>
     requires kept { IsKeptFor old.now.instance old.now.map.lines.items kept.old }
+    requires spare { IfSome spare (λ s. s ≡ old.now.instance) }
     requires good { IsGood old.now.instance old.now.map.lines.items old.now.map.names.items }
     requires ids { IsBatch old.now.instance batch.now }
     requires shape { IsSameShape topology.now.market old.now.instance }
@@ -213,7 +226,8 @@ pub(crate) fn next_of<L>(
     ensures steps { IfOk result (λ c. IsWithinSpread old.now.instance old.now.map.lines.items c.instance steps.old steps.new) }
     ensures later { steps.old ≤ steps.new }
 {
-    let instance = applied(&old.instance, batch)?;
+    let other = another(&old.instance, spare)?;
+    let instance = applied(other, batch);
     // tells the prover what the type keeps
     let _groups = instance.groups();
     let map = repaired(alloc, old, &instance, kept, steps)?;

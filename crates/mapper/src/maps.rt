@@ -1,5 +1,5 @@
 //! The published maps, of which the newest is at hand for the next commit.
-ghost use Rattle.std.specs.Prelude.{◌≡◌, ◌-◌, ◌<◌, ◌≤◌, ◌^◌, IfOk, OnErr, OnOk};
+ghost use Rattle.std.specs.Prelude.{◌≡◌, ◌-◌, ◌<◌, ◌≤◌, ◌^◌, IfOk, IfSome, OnErr, OnOk};
 ghost use Rattle.map_model.specs.Batch.{IsBatch};
 ghost use Rattle.map_repair.specs.Repaired.{IsWithinSpread};
 ghost use Rattle.published_map.specs.Changes.{after};
@@ -10,18 +10,19 @@ ghost use Rattle.mapper.specs.Currents.{IsCurrent, IsKeptFor, IsPrepared};
 ghost use Rattle.mapper.specs.Mappers.{IsPublished, IsRepairing};
 ghost use Rattle.mapper.specs.Words.{reply_by};
 
-use crate::current::{Current, First, Kept, kept_of, next_of, unworn};
+use crate::current::{Current, First, Kept, applied, kept_of, next_of, unworn};
 use addr_text::Addr;
 use answer_core::{Answer, Way, reply};
 use arrayvec::ArrayVec;
 use demand_feed::Batch;
 use map_cell::{Naming, Note, Publisher};
-use map_model::Steps;
+use map_model::{Instance, Steps};
 use no_memory::NoMemory;
 use outside::LARGEST_REPLY;
 use published_map::Delta;
 use std::alloc::Global;
 use std::marker::Model;
+use std::mem::replace;
 use std::sync::Wait;
 
 /// What a batch leads to, before it is published.
@@ -37,10 +38,12 @@ pub(crate) struct Maps<J: Naming> {
     publisher: Publisher<J>,
     current: Current,
     kept: Option<Kept>,
+    /// A second instance that is the newest one's, on which the next commit goes on without a copy.
+    spare: Option<Instance>,
 }
 
 impl<J: Naming> Model for Maps<J> {
-    ghost use Rattle.std.specs.Prelude.{IfSome};
+    ghost use Rattle.std.specs.Prelude.{◌≡◌, IfSome};
     ghost use Rattle.published_map.specs.Version.{IsVersion};
     ghost use Rattle.map_cell.specs.Ends.{PublisherState};
     ghost use Rattle.map_cell.specs.Histories.{IsSealed};
@@ -51,7 +54,8 @@ impl<J: Naming> Model for Maps<J> {
     ghost view = { λ m. m.publisher };
 
     ghost invariant = { λ m. IsVersion m.publisher.newest × IsSealed m.publisher.history m.publisher.newest × IsCurrent m.publisher.newest m.current
-        × IfSome m.kept (λ k. IsKeptFor m.publisher.newest.market m.publisher.newest.lines k) };
+        × IfSome m.kept (λ k. IsKeptFor m.publisher.newest.market m.publisher.newest.lines k)
+        × IfSome m.spare (λ s. s ≡ m.publisher.newest.market) };
 }
 
 /// Puts a value in place of another one.
@@ -75,6 +79,7 @@ impl<J: Naming> Maps<J> {
             publisher,
             current: first.current,
             kept: Some(first.kept),
+            spare: None,
         }
     }
 
@@ -122,14 +127,24 @@ impl<J: Naming> Maps<J> {
         }
     }
 
+    /// Takes out the spare instance, if there is one.
+    fn take_spare(&mut self) -> Option<Instance>
+        ensures same { self.new ≡ self.old }
+        ensures spare { IfSome result (λ s. s ≡ self.old.newest.market) }
+    {
+        self.spare.take()
+    }
+
     /// The map that a batch leads to, and what changes from the newest one.
     fn next<L>(
         &self,
         kept: &mut Kept,
+        spare: Option<Instance>,
         batch: &Batch,
         steps: &mut Steps<L>,
     ) -> Result<Following, NoMemory>
         requires kept { IsKeptFor self.now.newest.market self.now.newest.lines kept.old }
+        requires spare { IfSome spare (λ s. s ≡ self.now.newest.market) }
         requires ids { IsBatch self.now.newest.plan.market batch.now }
         ensures next { IfOk result (IsPrepared self.now.newest batch.now) }
         ensures kept { IfOk result (λ n. IsKeptFor (after self.now.newest n.delta).market (after self.now.newest n.delta).lines kept.new) }
@@ -139,7 +154,15 @@ impl<J: Naming> Maps<J> {
     {
         let newest = self.publisher.newest();
         let old = &self.current;
-        let current = next_of(self.alloc, newest.topology(), old, kept, batch, steps)?;
+        let current = next_of(
+            self.alloc,
+            newest.topology(),
+            old,
+            kept,
+            spare,
+            batch,
+            steps,
+        )?;
         // tells the prover what the type keeps
         let _groups = (old.instance.groups(), current.instance.groups());
         let delta = Delta::between(
@@ -169,9 +192,11 @@ impl<J: Naming> Maps<J> {
         ensures later { steps.old ≤ steps.new }
     {
         let mut kept = self.take_kept()?;
-        let next = self.next(&mut kept, batch, steps)?;
+        let spare = self.take_spare();
+        let next = self.next(&mut kept, spare, batch, steps)?;
         let serial = self.publisher.publish(rt, next.delta)?;
-        store(&mut self.current, next.current);
+        let old = replace(&mut self.current, next.current);
+        store(&mut self.spare, Some(applied(old.instance, batch)));
         store(&mut self.kept, Some(kept));
         Ok(serial)
     }
@@ -183,6 +208,7 @@ impl<J: Naming> Maps<J> {
             publisher,
             current: _,
             kept: _,
+            spare: _,
         } = self;
         publisher.close(rt);
     }

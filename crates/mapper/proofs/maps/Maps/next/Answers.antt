@@ -1,4 +1,5 @@
 use Rattle.std.proofs.Common.{◌≡◌, ℕ, ◌+◌, ap, sym, subst, ◌∙◌}
+use Rattle.std.proofs.lemmas.Option.{IfSome_then}
 use Rattle.map_model.specs.Batch.{IsBatch}
 use Rattle.map_model.proofs.NameForm.{IsMapForm-IsGood}
 use Rattle.map_repair.specs.Repaired.{IsWithinSpread}
@@ -16,6 +17,12 @@ use Rattle.mapper.proofs.maps.Maps.next.Goals as goal
 
 pub next_of-requires-clause-good : goal.next_of-requires-clause-good
 next_of-requires-clause-good g c = good_of c.self.inside.publisher.newest c.self.inside.current c.self.invariant.0 c.self.invariant.2
+
+pub next_of-requires-clause-spare : goal.next_of-requires-clause-spare
+next_of-requires-clause-spare g c =
+    let v : Version = c.self.inside.publisher.newest in
+    let old : v.market ≡ c.self.inside.current.instance = ap (λ (w : Version). w.market) c.self.invariant.2.version in
+    IfSome_then c.args.spare c.requires.spare (λ s is. is ∙ ap (λ (p : PublisherState). p.newest.market) (sym c.self.view_is) ∙ old)
 
 pub between-requires-clause-old : goal.between-requires-clause-old
 between-requires-clause-old g c =
