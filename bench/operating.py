@@ -73,8 +73,8 @@ BLOCKS = {
     # its feed has ended already, so it opens both, and ends
     "glb serve /etc/glb/topology.toml --listen 192.0.2.53:53 --tcp": Block(
         ("glb serve /etc/glb/topology.toml --listen 192.0.2.53:53 --tcp 192.0.2.53:53 --workers 4 </dev/null 2>/dev/null; echo $?", "0"),
-        ("systemctl start glb@v4; sleep 1; systemctl is-active glb@v4", "active"),
-        before="systemctl stop glb@v4",
+        ("systemctl start glb-fleet@v4; sleep 1; systemctl is-active glb-fleet@v4", "active"),
+        before="systemctl stop glb-fleet@v4",
         seconds=5,
     ),
     "apt-get install etcd": Block(
