@@ -50,7 +50,8 @@ BLOCKS = {
     ),
     "install -m 644 examples/glb.socket": Block(
         ("sleep 2; systemctl is-active glb.socket glb; ss -lunH 'sport = :53' | wc -l; " + ANSWER.format("192.0.2.53"), f"active\nactive\n4\n{ADDRESS}"),
-        ("systemctl kill -s KILL glb; sleep 0.2; " + ANSWER.format("192.0.2.53"), ADDRESS),
+        # one question that waits in the socket until systemd has begun the server again, a second later
+        ("systemctl kill -s KILL glb; sleep 0.2; " + ANSWER.format("192.0.2.53").replace("+time=1", "+time=9"), ADDRESS),
         ("systemctl disable --now glb.socket 2>/dev/null; systemctl restart glb; sleep 2; systemctl is-active glb.socket glb; " + ANSWER.format("192.0.2.53"), f"inactive\nactive\n{ADDRESS}"),
     ),
     "systemctl disable --now glb": Block(("sleep 2; " + FOUR, "active\n" * 3 + "active"), (ANSWER.format("192.0.2.53"), ADDRESS), (ANSWER.format("2001:db8::53"), ADDRESS)),
@@ -72,8 +73,8 @@ BLOCKS = {
     # its feed has ended already, so it opens both, and ends
     "glb serve /etc/glb/topology.toml --listen 192.0.2.53:53 --tcp": Block(
         ("glb serve /etc/glb/topology.toml --listen 192.0.2.53:53 --tcp 192.0.2.53:53 --workers 4 </dev/null 2>/dev/null; echo $?", "0"),
-        ("systemctl start glb@v4; sleep 1; systemctl is-active glb@v4", "active"),
-        before="systemctl stop glb@v4",
+        ("systemctl start glb-fleet@v4; sleep 1; systemctl is-active glb-fleet@v4", "active"),
+        before="systemctl stop glb-fleet@v4",
         seconds=5,
     ),
     "apt-get install etcd": Block(

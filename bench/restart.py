@@ -10,6 +10,7 @@ whoever has none five seconds behind the last query is lost. Each is sent once.
 
 import os
 import select
+import socket
 import struct
 import subprocess
 import sys
@@ -33,6 +34,9 @@ class Asker(threading.Thread):
     def __init__(self, port):
         super().__init__()
         self.clients = [hands.client(port) for _ in range(16)]
+        # what waited is answered at once, and each has to hold its share of these replies
+        for client in self.clients:
+            client.setsockopt(socket.SOL_SOCKET, socket.SO_RCVBUF, 4 << 20)
         self.sent, self.came, self.ends = {}, {}, False
 
     def take(self, wait):
