@@ -3,3 +3,5 @@ pub mod Puts
 pub mod Leasts
 pub mod Found
 pub mod Told
+pub mod Ordered
+pub mod Rows

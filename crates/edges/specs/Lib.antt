@@ -4,4 +4,5 @@ pub mod Streams
 pub mod Pasts
 pub mod Places
 pub mod Rooms
+pub mod Connections
 pub mod Halls

@@ -3,6 +3,7 @@ use Rattle.std.specs.Prelude.{◌≡◌, ◌≤◌, ◌⊎◌, ℕ, Bool, true, 
 use Rattle.edges.specs.declared.room.Room.{Room}
 use Rattle.tcp_frames.specs.Split.{AreWhole, HasNoMessage, IsOverlong}
 use Rattle.tcp_frames.specs.declared.batch.Batch.{Batch}
+use Rattle.tcp_frames.specs.declared.batch.TheConstants.{MOST_MESSAGES}
 use Rattle.tcp_frames.specs.declared.front.TheConstants.{LARGEST_FRAME}
 
 -- octets came behind those that were there, and what goes stays
@@ -31,7 +32,7 @@ IsKeeping reply is_kept room room' = MatchBool is_kept (room'.going.items ≡ ro
 
 -- what stood at the front of what came was moved to the front of a buffer: whole messages, or the length that is too great for one
 abbrev pub IsHandingOver : List ℕ → List ℕ → Batch → Room → Room → Type 0
-IsHandingOver buffer buffer' batch room room' = (batch.len ≤ length buffer) × (length buffer' ≡ length buffer) × (room.coming.items ≡ take batch.len buffer' ++ room'.coming.items) × (room'.going.items ≡ room.going.items) × (batch.is_faulty ≡ false → AreWhole (take batch.len buffer')) × (batch.is_faulty ≡ true → (batch.len ≡ 2) × IsOverlong room.coming.items) × (LARGEST_FRAME ≤ length buffer → batch.len ≡ 0 → HasNoMessage room.coming.items)
+IsHandingOver buffer buffer' batch room room' = (batch.len ≤ length buffer) × (length buffer' ≡ length buffer) × (room.coming.items ≡ take batch.len buffer' ++ room'.coming.items) × (room'.going.items ≡ room.going.items) × (batch.is_faulty ≡ false → AreWhole MOST_MESSAGES (take batch.len buffer')) × (batch.is_faulty ≡ true → (batch.len ≡ 2) × IsOverlong room.coming.items) × (LARGEST_FRAME ≤ length buffer → batch.len ≡ 0 → HasNoMessage room.coming.items)
 
 -- a room without octets
 abbrev pub IsEmpty : Room → Type 0

@@ -16,6 +16,7 @@ mod file_shelf;
 mod hall;
 mod heard;
 mod judged;
+mod laws;
 mod many_streams;
 mod named_stream;
 mod peers;
@@ -31,6 +32,7 @@ mod udp_port;
 
 pub use file_shelf::FileShelf;
 pub use judged::{Knock, arrival_of, is_broken, knock_of, sending_of};
+pub use laws::connections_are_in_order;
 pub use many_streams::{ManyStreams, SharedTcp};
 pub use named_stream::NamedStream;
 pub use pieces::{put_whole, read_piece, read_within};

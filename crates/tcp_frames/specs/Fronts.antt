@@ -10,9 +10,9 @@ IsFront octets Short = HasNoMessage octets × (IsOverlong octets → ⊥) × (le
 IsFront octets Long = HasNoMessage octets × IsOverlong octets
 IsFront octets (Length n) = (octets ≡ framed (take n (drop 2 octets)) ++ drop (2 + n) octets) × (n ≤ largest_datagram) × (2 + n ≤ length octets) × (IsOverlong octets → ⊥)
 
--- octets are whole messages and a rest. Where there is none of them, no message is whole.
-pub record IsBatch (octets rest : List ℕ) : Type 0 where
+-- octets are so many whole messages at most, and a rest. Where there is none of them, no message is whole.
+pub record IsBatch (most : ℕ) (octets rest : List ℕ) : Type 0 where
   pub front : List ℕ
   pub parts : octets ≡ front ++ rest
-  pub whole : AreWhole front
+  pub whole : AreWhole most front
   pub none : length rest ≡ length octets → HasNoMessage octets

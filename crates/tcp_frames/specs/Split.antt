@@ -27,9 +27,9 @@ largest_rest = 4097
 abbrev pub IsUnfinished : List ℕ → Type 0
 IsUnfinished octets = HasNoMessage octets × (IsOverlong octets ⊎ (length octets ≤ largest_rest))
 
--- octets are whole messages, one after another
-abbrev pub AreWhole : List ℕ → Type 0
-AreWhole octets = (messages : List (List ℕ)) × (octets ≡ flat_map framed messages) × All (λ m. length m ≤ largest_datagram) messages
+-- octets are so many whole messages at most, one after another
+abbrev pub AreWhole : ℕ → List ℕ → Type 0
+AreWhole most octets = (messages : List (List ℕ)) × (octets ≡ flat_map framed messages) × All (λ m. length m ≤ largest_datagram) messages × (length messages ≤ most)
 
 -- octets are these messages one after another, and a rest that begins with none
 pub record IsSplit (octets : List ℕ) (messages : List (List ℕ)) : Type 0 where

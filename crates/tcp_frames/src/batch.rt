@@ -20,7 +20,7 @@ pub struct Batch {
 /// What stands behind the whole messages at the front, of which so many are looked at.
 fn behind_whole(octets: &[u8], most: usize) -> &[u8]
     requires { 1 ≤ most }
-    ensures { IsBatch octets.now result.now }
+    ensures { IsBatch most octets.now result.now }
 {
     match first_message(octets) {
         None => octets,
@@ -38,7 +38,7 @@ fn behind_whole(octets: &[u8], most: usize) -> &[u8]
 /// that is too great where it stands first. None are there where no message is whole.
 pub fn batch_of(octets: &[u8]) -> Batch
     ensures within { result.len ≤ length octets.now }
-    ensures whole { result.is_faulty ≡ false → AreWhole (take result.len octets.now) }
+    ensures whole { result.is_faulty ≡ false → AreWhole MOST_MESSAGES (take result.len octets.now) }
     ensures none { result.len ≡ 0 → HasNoMessage octets.now × (IsOverlong octets.now → ⊥) }
     ensures faulty { result.is_faulty ≡ true → (result.len ≡ 2) × IsOverlong octets.now }
 {
