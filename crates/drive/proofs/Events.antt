@@ -77,14 +77,14 @@ lane_runs turns first rest w [] before after d = tt
 lane_runs turns first rest w (e ∷ ends) [] after d = absurd d
 lane_runs turns first rest w (e ∷ ends) (b ∷ before) [] d = absurd d
 lane_runs turns first rest w (e ∷ ends) (b ∷ before) (c ∷ after) d =
-    let one = one_run replies.way first rest w d.0.log d.0.line.over d.0.served e b c d.0.line.run d.0.line.which in (one.0, one.1, lane_runs turns first rest (w + 1) ends before after d.1)
+    let one = one_run replies.way first rest w d.0.log d.0.served_log.over d.0.served e b c d.0.served_log.run d.0.served_log.which in (one.0, one.1, lane_runs turns first rest (w + 1) ends before after d.1)
 
 stream_runs : (turns : ℕ) (first : Version) (rest : List Version) (w : ℕ) (stream_end : Option Ended) (before after : StreamLaneTold) (d : AreStreamsDone turns first rest w stream_end before after)
     → AreRuns replies (first ∷ rest) w (stream_logs turns first rest w stream_end before after d)
 stream_runs turns first rest w None before after d = tt
 stream_runs turns first rest w (Some e) before after d =
-    let run = any_run Stream Datagram d.line.over w 0 0 (entries_of stream_replies.way (lane_of d.log)) (tries_of (lane_of d.log)) d.line.run in
-    let one = one_run stream_replies.way first rest w (lane_of d.log) d.line.over d.served e before after run d.line.which in (one.0, one.1, tt)
+    let run = any_run Stream Datagram d.served_log.over w 0 0 (entries_of stream_replies.way (lane_of d.log)) (tries_of (lane_of d.log)) d.served_log.run in
+    let one = one_run stream_replies.way first rest w (lane_of d.log) d.served_log.over d.served e before after run d.served_log.which in (one.0, one.1, tt)
 
 pub are_runs : (turns : ℕ) (first : Version) (end : FeedEnd) (ends : List Ended) (stream_end : Option Ended) (before after : Lent) (d : IsDriven turns first end ends stream_end before after) → AreRuns replies (first ∷ d.rest) 0 (all_logs turns first end ends stream_end before after d)
 are_runs turns first end ends stream_end before after d =

@@ -86,7 +86,7 @@ shown_past known before after le most = ⊎_elim (λ (is : known ≡ after + 1).
 
 pub served_log : {T : Type 0} (a : Answers Version) (first : Version) (rest : List Version) (w : ℕ) (log : List Turn) (shown : ℕ) (m m' : Moment Version) (f : Eyes Version) (served e : Ended) (n n' j k : ℕ) (port port' : Option T) (gate gate' : Option GateTold)
     → HasLogged a first rest w log shown m m' f served e n n' k
-    → (line : IsServedLog a first rest w log served e shown (told_by port m.port_faults gate m.eyes n j) (told_by port' m'.port_faults gate' f n' k)) × IsPrefix m'.eyes.seen line.over
+    → (logged : IsServedLog a first rest w log served e shown (told_by port m.port_faults gate m.eyes n j) (told_by port' m'.port_faults gate' f n' k)) × IsPrefix m'.eyes.seen logged.over
 unfolding log_over
 served_log a first rest w log shown m m' f served e n n' j k port port' gate gate' h =
     let one : length m.eyes.heard ≡ 1 = ap length h.heard in
@@ -122,7 +122,7 @@ done_of turns first rest w m m' f served e n n' j k asked seen heard count c are
   log = c.log;
   served = served;
   shown = c.shown;
-  line = (served_log replies first rest w c.log c.shown m m' f served e n n' j k m.port m'.port m.gate m'.gate (record {
+  served_log = (served_log replies first rest w c.log c.shown m m' f served e n n' j k m.port m'.port m.gate m'.gate (record {
     shown_is = c.shown_is;
     all = c.all;
     notes = are;

@@ -25,7 +25,7 @@ stream_of : (turns : ℕ) (first : Version) (rest : List Version) (w : ℕ) (m m
     → IsStreamDone turns first rest w (told_by m.streams m.stream_faults m.gate m.eyes n j) (told_by m'.streams m'.stream_faults m'.gate f n' k) e
 stream_of turns first rest w m m' f served e n n' j k asked seen heard count fresh c are q =
     let some : 0 < length m.eyes.heard = omega (arith, ap length heard) in
-    let line = served_log stream_replies first rest w (lane_of c.log) c.shown (inner m.eyes m.count m.stream_faults) (inner m'.eyes m'.count m'.stream_faults) f served e n n' j k m.streams m'.streams m.gate m'.gate (record {
+    let logged = served_log stream_replies first rest w (lane_of c.log) c.shown (inner m.eyes m.count m.stream_faults) (inner m'.eyes m'.count m'.stream_faults) f served e n n' j k m.streams m'.streams m.gate m'.gate (record {
       shown_is = c.shown_is;
       all = c.all;
       notes = lane_notes c.log ∙ are;
@@ -41,14 +41,14 @@ stream_of turns first rest w m m' f served e n n' j k asked seen heard count fre
       closes = c.closes;
       served = served;
       shown = c.shown;
-      line = line.0;
+      served_log = logged.0;
       streams = c.streams;
       gate = c.gate;
       runs = λ b none. let r = c.runs b none 0 some in (
         r.0,
         r.1,
         r.2,
-        stream_run_longer stream_replies m'.eyes.seen line.0.over w 0 0 (stream_refusals c.log) r.0 (entries_of stream_replies.way (lane_of c.log)) (tries_of (lane_of c.log)) line.1
+        stream_run_longer stream_replies m'.eyes.seen logged.0.over w 0 0 (stream_refusals c.log) r.0 (entries_of stream_replies.way (lane_of c.log)) (tries_of (lane_of c.log)) logged.1
             (subst (λ (x : ℕ). IsStreamRun stream_replies m'.eyes.seen w x 0 (stream_refusals c.log) r.0 (entries_of stream_replies.way (lane_of c.log)) (tries_of (lane_of c.log))) count r.3),
       );
       rules = (c.rules.0, subst (λ (x : TalkState). AreRuled x c.log c.rules.0) fresh c.rules.1, c.rules.2);

@@ -95,7 +95,7 @@ pub record IsDone (turns : ℕ) (first : Version) (rest : List Version) (w : ℕ
   pub log : List Turn
   pub served : Ended
   pub shown : ℕ
-  pub line : IsServedLog replies first rest w log served ended shown before after
+  pub served_log : IsServedLog replies first rest w log served ended shown before after
   pub port : BothTell before.port after.port (λ b c. c ≡ fold port_turn b log)
   pub gate : BothTell before.gate after.gate (IsGateRun shown log served)
   pub ending : IsEnd turns log served

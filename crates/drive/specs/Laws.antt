@@ -24,14 +24,14 @@ log_over way log (inr other) = record { taken = []; tries = [] }
 -- lane by lane
 abbrev pub logs_of : (turns : ℕ) (first : Version) (rest : List Version) (w : ℕ) (ends : List Ended) → (before after : List LaneTold) → AreDone turns first rest w ends before after → List LaneLog
 logs_of turns first rest w [] before after d = []
-logs_of turns first rest w (e ∷ ends) (b ∷ before) (c ∷ after) d = log_over replies.way d.0.log d.0.line.which ∷ logs_of turns first rest (w + 1) ends before after d.1
+logs_of turns first rest w (e ∷ ends) (b ∷ before) (c ∷ after) d = log_over replies.way d.0.log d.0.served_log.which ∷ logs_of turns first rest (w + 1) ends before after d.1
 logs_of turns first rest w (e ∷ ends) [] after d = []
 logs_of turns first rest w (e ∷ ends) (b ∷ before) [] d = []
 
 -- and behind them the lane for conversations, where it has an end
 abbrev pub stream_logs : (turns : ℕ) (first : Version) (rest : List Version) (w : ℕ) (stream_end : Option Ended) → (before after : StreamLaneTold) → AreStreamsDone turns first rest w stream_end before after → List LaneLog
 stream_logs turns first rest w None before after d = []
-stream_logs turns first rest w (Some e) before after d = log_over stream_replies.way (lane_of d.log) d.line.which ∷ []
+stream_logs turns first rest w (Some e) before after d = log_over stream_replies.way (lane_of d.log) d.served_log.which ∷ []
 
 -- all of a drive
 abbrev pub all_logs : (turns : ℕ) (first : Version) (end : FeedEnd) (ends : List Ended) (stream_end : Option Ended) (before after : Lent) → IsDriven turns first end ends stream_end before after → List LaneLog

@@ -18,11 +18,11 @@ pub record IsStreamDone (turns : ℕ) (first : Version) (rest : List Version) (w
   pub closes : Bool
   pub served : Ended
   pub shown : ℕ
-  pub line : IsServedLog stream_replies first rest w (lane_of log) served ended shown before after
+  pub served_log : IsServedLog stream_replies first rest w (lane_of log) served ended shown before after
   pub streams : BothTell before.port after.port (λ b c. c ≡ closing_if closes (fold stream_turn b log))
   pub gate : BothTell before.gate after.gate (IsGateRun shown (map lead_of log) served)
   pub runs : (b : StreamsTold) → b.current ≡ None → (talks : List Talk) × ((closing_if closes (fold stream_turn b log)).closed ≡ b.closed ++ talks) × ((closing_if closes (fold stream_turn b log)).current ≡ None)
-      × IsStreamRun stream_replies line.over w 0 0 (stream_refusals log) talks (entries_of stream_replies.way (lane_of log)) (tries_of (lane_of log))
+      × IsStreamRun stream_replies served_log.over w 0 0 (stream_refusals log) talks (entries_of stream_replies.way (lane_of log)) (tries_of (lane_of log))
   pub rules : (talk : TalkState) × AreRuled no_talk log talk × (closes ≡ talk.is_open)
   pub ending : IsStreamEnd turns log served
 

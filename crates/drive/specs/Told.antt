@@ -42,7 +42,7 @@ stream_told streams stream_faults gate asked looks greatest door_faults lane = r
 abbrev pub feed_told : {T : Type 0} → (T → Option Fed) → (T → ℕ) → T → FeedTold
 feed_told fed faults feed = record { fed = fed feed; faults = faults feed }
 
--- all that is lent, by what a feed, a further one, an output, a pace and a lane tell
+-- all that is lent, by what a feed, a further one, an output, a pace, a lane and that for conversations tell
 abbrev pub lent_of : {S F K M T U : Type 0} → (S → FeedTold) → (F → FeedTold) → (K → Option Written) → (M → Option (List PaceCall)) → (T → LaneTold) → (U → StreamLaneTold) → S → List F → K → K → M → List T → U → Lent
-lent_of first other told paced lane line feed more out maps pace lanes stream =
-    record { feed = first feed; more = map other more; out = told out; maps = told maps; pace = paced pace; lanes = map lane lanes; stream = line stream }
+lent_of first other told paced lane talks feed more out maps pace lanes stream =
+    record { feed = first feed; more = map other more; out = told out; maps = told maps; pace = paced pace; lanes = map lane lanes; stream = talks stream }

@@ -58,8 +58,8 @@ served_is a first rest w log served e shown b c other d = go d.which
 
 served_port : (turns : ℕ) (first : Version) (rest : List Version) (w : ℕ) (b c : LaneTold) → IsDone turns first rest w b c lane.PortFault → HasEightPortFaults b c
 served_port turns first rest w b c d =
-    let eighth : failures d.log ≡ 8 = failed_last turns d.log (subst (IsEnd turns d.log) (served_is replies first rest w d.log d.served lane.PortFault d.shown b c refl d.line) d.ending) in
-    subst (λ (n : ℕ). raised b.port_faults n ≤ c.port_faults) eighth d.line.port_faults
+    let eighth : failures d.log ≡ 8 = failed_last turns d.log (subst (IsEnd turns d.log) (served_is replies first rest w d.log d.served lane.PortFault d.shown b c refl d.served_log) d.ending) in
+    subst (λ (n : ℕ). raised b.port_faults n ≤ c.port_faults) eighth d.served_log.port_faults
 
 -- a port after some turns has given as many answers more
 took_one : (known : ℕ) (came : Came) (p : PortTold) → (port_after known came p).recvs ≡ raised p.recvs 1
@@ -83,7 +83,7 @@ took_all (t ∷ log) p = took_all log (port_turn p t) ∙ ap (λ n. raised n (le
 
 served_spent : (turns : ℕ) (first : Version) (rest : List Version) (w : ℕ) (b c : LaneTold) → IsDone turns first rest w b c lane.Spent → HasTaken turns b c
 served_spent turns first rest w b c d =
-    let ending : IsEnd turns d.log lane.Spent = subst (IsEnd turns d.log) (served_is replies first rest w d.log d.served lane.Spent d.shown b c refl d.line) d.ending in
+    let ending : IsEnd turns d.log lane.Spent = subst (IsEnd turns d.log) (served_is replies first rest w d.log d.served lane.Spent d.shown b c refl d.served_log) d.ending in
     tell_weaker (λ (p q : PortTold). q ≡ fold port_turn p d.log) (λ (p q : PortTold). q.recvs ≡ raised p.recvs turns) b.port c.port
     (λ p q h. ap (λ (x : PortTold). x.recvs) h ∙ took_all d.log p ∙ ap (raised p.recvs) ending.2) d.port
 
@@ -120,7 +120,7 @@ cell_fault a first rest w log served e shown b c fault refusal never d = go d.wh
 served_cell : (turns : ℕ) (first : Version) (rest : List Version) (w : ℕ) (b c : LaneTold) (e : Ended) → is_cell_fault e ≡ true → IsDone turns first rest w b c e → HasCellFault (length (first ∷ rest)) b c
 served_cell turns first rest w b c e fault d = cell_fault replies first rest w d.log d.served e d.shown b c fault
     (λ is. let ending : IsEnd turns d.log lane.CellFault = subst (IsEnd turns d.log) is d.ending in has_refused ending.0 ending.1 d.log ending.2 ending.5)
-    (λ known newest is. subst (IsEnd turns d.log) is d.ending) d.line
+    (λ known newest is. subst (IsEnd turns d.log) is d.ending) d.served_log
 
 -- where some lane ended so, some lane has that
 any_done : (test : Ended → Bool) (P : LaneTold → LaneTold → Type 0) (turns : ℕ) (first : Version) (rest : List Version) (w : ℕ) (ends : List Ended) (before after : List LaneTold)

@@ -23,8 +23,8 @@ stream_port turns first rest w b c e fault d = go (subst (IsStreamDone turns fir
   where
     go : IsStreamDone turns first rest w b c lane.PortFault → HasEightPortFaults b c
     go d =
-        let eighth = failed_last turns d.log (subst (IsStreamEnd turns d.log) (served_is stream_replies first rest w (lane_of d.log) d.served lane.PortFault d.shown b c refl d.line) d.ending) in
-        subst (λ (n : ℕ). raised b.port_faults n ≤ c.port_faults) eighth d.line.port_faults
+        let eighth = failed_last turns d.log (subst (IsStreamEnd turns d.log) (served_is stream_replies first rest w (lane_of d.log) d.served lane.PortFault d.shown b c refl d.served_log) d.ending) in
+        subst (λ (n : ℕ). raised b.port_faults n ≤ c.port_faults) eighth d.served_log.port_faults
 
 -- its streams gave as many answers as there are turns
 pub stream_spent : (turns : ℕ) (first : Version) (rest : List Version) (w : ℕ) (b c : StreamLaneTold) (e : Ended) → is_spent e ≡ true → IsStreamDone turns first rest w b c e → HasHeard turns b c
@@ -32,11 +32,11 @@ stream_spent turns first rest w b c e fault d = go (subst (IsStreamDone turns fi
   where
     go : IsStreamDone turns first rest w b c lane.Spent → HasHeard turns b c
     go d =
-        let ending : IsStreamEnd turns d.log lane.Spent = subst (IsStreamEnd turns d.log) (served_is stream_replies first rest w (lane_of d.log) d.served lane.Spent d.shown b c refl d.line) d.ending in
+        let ending : IsStreamEnd turns d.log lane.Spent = subst (IsStreamEnd turns d.log) (served_is stream_replies first rest w (lane_of d.log) d.served lane.Spent d.shown b c refl d.served_log) d.ending in
         tell_weaker (λ (p q : StreamsTold). q ≡ closing_if d.closes (fold stream_turn p d.log)) (λ (p q : StreamsTold). q.answers ≡ raised p.answers turns) b.port c.port
         (λ p q h. ap (λ (x : StreamsTold). x.answers) h ∙ all_answers d.closes p d.log ∙ ap (raised p.answers) ending.2) d.streams
 
 -- its door has a fault, or showed a serial past the versions
 pub stream_cell : (turns : ℕ) (first : Version) (rest : List Version) (w : ℕ) (b c : StreamLaneTold) (e : Ended) → is_cell_fault e ≡ true → IsStreamDone turns first rest w b c e → HasCellFault (length (first ∷ rest)) b c
 stream_cell turns first rest w b c e fault d =
-    cell_fault stream_replies first rest w (lane_of d.log) d.served e d.shown b c fault (λ is. refused_last turns d.log (subst (IsStreamEnd turns d.log) is d.ending)) (λ known newest is. subst (IsStreamEnd turns d.log) is d.ending) d.line
+    cell_fault stream_replies first rest w (lane_of d.log) d.served e d.shown b c fault (λ is. refused_last turns d.log (subst (IsStreamEnd turns d.log) is d.ending)) (λ known newest is. subst (IsStreamEnd turns d.log) is d.ending) d.served_log

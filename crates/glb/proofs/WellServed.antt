@@ -83,20 +83,20 @@ over_newest a first rest w log served e shown b c d well = elim d.which [
 
 well_done : (turns : ℕ) (first : Version) (rest : List Version) (w : ℕ) (b c : LaneTold) (e : Ended) → IsDone turns first rest w b c e → (e ≡ lane.Stopped) ⊎ (e ≡ lane.PortEnd) → IsWellDone turns (first ∷ rest) w b c
 well_done turns first rest w b c e d well =
-    let newest = over_newest replies first rest w d.log d.served e d.shown b c d.line well in
+    let newest = over_newest replies first rest w d.log d.served e d.shown b c d.served_log well in
     record {
       log = d.log;
       ended = d.served;
       shown = d.shown;
-      run = subst (λ h. IsLaneRun replies h w 0 0 (entries_of replies.way d.log) (tries_of d.log)) newest.same d.line.run;
-      told = d.line.told;
-      notes = d.line.notes;
+      run = subst (λ h. IsLaneRun replies h w 0 0 (entries_of replies.way d.log) (tries_of d.log)) newest.same d.served_log.run;
+      told = d.served_log.told;
+      notes = d.served_log.notes;
       noted = newest.noted;
-      last = d.line.last.0;
+      last = d.served_log.last.0;
       port = d.port;
       gate = d.gate;
-      port_faults = d.line.port_faults;
-      port_stays = d.line.port_stays;
+      port_faults = d.served_log.port_faults;
+      port_stays = d.served_log.port_stays;
       ending = d.ending;
       well = subst (λ (x : Ended). (x ≡ lane.Stopped) ⊎ (x ≡ lane.PortEnd)) newest.ended_is well;
     }
@@ -109,7 +109,7 @@ not_blind e (inr h) is = cc
 -- the same of the lane for conversations
 stream_well_done : (turns : ℕ) (first : Version) (rest : List Version) (w : ℕ) (b c : StreamLaneTold) (e : Ended) → IsStreamDone turns first rest w b c e → (e ≡ lane.Stopped) ⊎ (e ≡ lane.PortEnd) → IsStreamWellDone turns (first ∷ rest) w b c
 stream_well_done turns first rest w b c e d well =
-    let newest = over_newest stream_replies first rest w (lane_of d.log) d.served e d.shown b c d.line well in
+    let newest = over_newest stream_replies first rest w (lane_of d.log) d.served e d.shown b c d.served_log well in
     let served = subst (λ (x : Ended). (x ≡ lane.Stopped) ⊎ (x ≡ lane.PortEnd)) newest.ended_is well in
     let none : stream_refusals d.log ≡ 0 = none_refused turns d.log no_talk d.rules.0 d.served d.rules.1 d.ending (not_blind d.served served) in
     record {
@@ -125,14 +125,14 @@ stream_well_done turns first rest w b c e d well =
             (subst (λ h. IsStreamRun stream_replies h w 0 0 (stream_refusals d.log) r.0 (entries_of stream_replies.way (lane_of d.log)) (tries_of (lane_of d.log))) newest.same r.3),
       );
       rules = d.rules;
-      told = d.line.told;
-      notes = d.line.notes;
+      told = d.served_log.told;
+      notes = d.served_log.notes;
       noted = newest.noted;
-      last = d.line.last.0;
+      last = d.served_log.last.0;
       streams = d.streams;
       gate = d.gate;
-      port_faults = d.line.port_faults;
-      port_stays = d.line.port_stays;
+      port_faults = d.served_log.port_faults;
+      port_stays = d.served_log.port_stays;
       ending = d.ending;
       well = served;
     }

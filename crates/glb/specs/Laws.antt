@@ -1,4 +1,4 @@
--- Laws of runs over the same files and feeds: what they write and publish is the same.
+-- Laws of runs over the same files and feeds, or of `large` over as many groups: what they write and publish is the same.
 use Rattle.std.specs.Prelude.{◌≡◌, ◌⊎◌, ℕ, true, List, [], ◌∷◌, ◌++◌, map, Option, Some}
 use Rattle.std.specs.List.{concat}
 use Rattle.map_model.specs.declared.change.Change.{Change}

@@ -1,4 +1,4 @@
-//! Laws of runs over the same files and feeds.
+//! Laws of runs over the same files and feeds, or of `large` over as many groups.
 ghost use Rattle.glb.specs.Laws.{MapsAgree, RepairsAgree, ServesAgree, ServesCome, ServesPublish, ServesRepeat, SummariesAgree};
 
 /// What `map` and `repair` write is determined by their files. What `serve` publishes is determined by its topology and by the

@@ -18,7 +18,7 @@ pub enum Start {
     Ready,
     /// A port or the streams failed to open. Nothing behind that was opened, and no text put.
     NoPort,
-    /// All ports are open, but a further feed failed to open. None behind it was opened, and no text put.
+    /// All ports and the streams are open, but a further feed failed to open. None behind it was opened, and no text put.
     NoFeed,
     /// All that was to be opened is open, but the put of the text failed.
     NoSink,
