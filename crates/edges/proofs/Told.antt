@@ -10,7 +10,7 @@ use Rattle.outside.specs.declared.streams.Reading.{Reading}
 use Rattle.outside.specs.declared.streams.Reading.TheVariants as read
 use Rattle.past_log.specs.Streams.{heard}
 use Rattle.edges.specs.Halls.{IsSameOrEnded, IsTold}
-use Rattle.edges.specs.Places.{IsSameSeat}
+use Rattle.edges.specs.Places.{IsEnded}
 use Rattle.edges.specs.Rooms.{IsChangedAt}
 use Rattle.edges.specs.declared.seat.Seat.{Seat}
 
@@ -36,11 +36,11 @@ told_same : (current : Option ℕ) (seats seats' : List Seat) (talk : Option Tal
 told_same current seats seats' talk (inl is) h = subst (λ (l : List Seat). IsTold current l talk) (sym is) h
 told_same None seats seats' talk (inr _) h = tt
 told_same (Some k) seats seats' talk (inr s) h =
-    let c : IsChangedAt IsSameSeat s.0 seats seats' = s.2 in
+    let c : IsChangedAt IsEnded s.0 seats seats' = s.2 in
     let at : s.0 ≡ k = some_eq s.0 k (sym s.1) in
     let got : slice_get seats' k ≡ Some c.new = subst (λ (n : ℕ). slice_get seats' n ≡ Some c.new) at (subst (λ (l : List Seat). slice_get l s.0 ≡ Some c.new) (sym c.is) (got_at seats s.0 c.old c.new c.was)) in
     let old : h.0 ≡ c.old = some_eq h.0 c.old (sym h.2 ∙ subst (λ (n : ℕ). slice_get seats n ≡ Some c.old) at c.was) in
-    (c.new, h.1, got, h.3, h.4 ∙ ap (λ (s : Seat). s.peer) old ∙ sym c.changed.1)
+    (c.new, h.1, got, h.3, h.4 ∙ ap (λ (s : Seat). s.peer) old ∙ sym c.changed.0.1)
   where
     some_eq : {A : Type 0} (x y : A) → Some x ≡ Some y → x ≡ y
     some_eq x y e = cc e

@@ -1,12 +1,14 @@
 -- Which connection is handed over, and what streams tell of it.
-use Rattle.std.specs.Prelude.{◌≡◌, ◌⊎◌, ℕ, List, All, Option, None, Some, slice_get}
+use Rattle.std.specs.Prelude.{◌≡◌, ◌⊎◌, ℕ, ◌<◌, List, All, Option, None, Some, length, slice_get, take}
 use Rattle.outside.specs.Streams.{Talk}
 use Rattle.outside.specs.declared.streams.Accepting.{Accepting}
 use Rattle.outside.specs.declared.streams.Accepting.TheVariants as came
 use Rattle.outside.specs.declared.streams.Reading.{Reading}
 use Rattle.outside.specs.declared.streams.Reading.TheVariants as read
+use Rattle.tcp_frames.specs.Split.{AreWhole}
 use Rattle.tcp_frames.specs.declared.batch.Batch.{Batch}
-use Rattle.edges.specs.Places.{IsNextTalk, IsSameSeat, key_of}
+use Rattle.tcp_frames.specs.declared.batch.TheConstants.{MOST_MESSAGES}
+use Rattle.edges.specs.Places.{IsEnded, IsNextTalk, key_of}
 use Rattle.edges.specs.Rooms.{IsChangedAt, IsHandingOver}
 use Rattle.edges.specs.declared.places.Wanted.TheVariants.{FirstInTurn}
 use Rattle.edges.specs.declared.room.Room.{Room}
@@ -32,7 +34,11 @@ IsHeard buffer buffer' read.Failed current rooms rooms' = ⊥
 
 -- the connection that is handed over may be one that goes on no more, and is still the same one
 abbrev pub IsSameOrEnded : Option ℕ → List Seat → List Seat → Type 0
-IsSameOrEnded current seats seats' = (seats' ≡ seats) ⊎ ((i : ℕ) × (current ≡ Some i) × IsChangedAt IsSameSeat i seats seats')
+IsSameOrEnded current seats seats' = (seats' ≡ seats) ⊎ ((i : ℕ) × (current ≡ Some i) × IsChangedAt IsEnded i seats seats')
+
+-- behind octets that are no whole messages the connection that is handed over goes on no more
+abbrev pub EndsBehind : List ℕ → Reading → Option ℕ → List Seat → List Seat → Type 0
+EndsBehind buffer' reading current seats seats' = (n i : ℕ) → reading ≡ read.Got n → (AreWhole MOST_MESSAGES (take n buffer') → ⊥) → current ≡ Some i → i < length seats → IsChangedAt IsEnded i seats seats'
 
 -- the conversation that streams tell of is with the peer of the connection that is handed over
 abbrev pub IsTold : Option ℕ → List Seat → Option Talk → Type 0

@@ -1,5 +1,5 @@
 -- What becomes of the octets of a connection.
-use Rattle.std.specs.Prelude.{◌≡◌, ◌≤◌, ◌⊎◌, ℕ, Bool, true, false, List, [], ◌++◌, length, take, drop, Some, MatchBool, slice_get, slice_set}
+use Rattle.std.specs.Prelude.{◌≡◌, ◌≤◌, ℕ, Bool, true, false, List, [], ◌++◌, length, take, drop, Some, MatchBool, slice_get, slice_set}
 use Rattle.edges.specs.declared.room.Room.{Room}
 use Rattle.tcp_frames.specs.Split.{AreWhole, HasNoMessage, IsOverlong}
 use Rattle.tcp_frames.specs.declared.batch.Batch.{Batch}
@@ -14,9 +14,9 @@ IsFilled coming coming' going going' = ((piece : List ℕ) × (coming' ≡ comin
 abbrev pub IsFlushed : List ℕ → List ℕ → List ℕ → List ℕ → Type 0
 IsFlushed coming coming' going going' = ((count : ℕ) × (going' ≡ drop count going)) × (coming' ≡ coming)
 
--- both; or the connection was left, and all is forgotten
-abbrev pub IsSettled : List ℕ → List ℕ → List ℕ → List ℕ → Type 0
-IsSettled coming coming' going going' = (((piece : List ℕ) × (coming' ≡ coming ++ piece)) × ((count : ℕ) × (going' ≡ drop count going))) ⊎ ((coming' ≡ []) × (going' ≡ []))
+-- octets came behind those that were there, and the first octets of what goes are gone
+abbrev pub IsGoingOn : Room → Room → Type 0
+IsGoingOn room room' = ((piece : List ℕ) × (room'.coming.items ≡ room.coming.items ++ piece)) × ((count : ℕ) × (room'.going.items ≡ drop count room.going.items))
 
 -- one of a list changed so, and no other one changed
 pub record IsChangedAt {A : Type 0} (R : A → A → Type 0) (i : ℕ) (before after : List A) : Type 0 where

@@ -1,7 +1,7 @@
 //! The places of connections with their octets, and which of them is handed over.
-ghost use Rattle.std.specs.Prelude.{◌≡◌, ◌≢◌, ◌⊎◌, ℕ, true, Some, None, IfOk, length};
+ghost use Rattle.std.specs.Prelude.{◌≡◌, ◌≢◌, ◌⊎◌, ℕ, true, false, Some, None, IfOk, length};
 ghost use Rattle.outside.specs.Streams.{IsWithin};
-ghost use Rattle.edges.specs.Halls.{IsAdvance, IsHeard, IsSameOrEnded};
+ghost use Rattle.edges.specs.Halls.{EndsBehind, IsAdvance, IsHeard, IsSameOrEnded};
 ghost use Rattle.edges.specs.Rooms.{IsChangedAt, IsKeeping};
 
 use crate::ears::Ears;
@@ -157,6 +157,7 @@ impl Hall {
         ensures heard { IsHeard buffer.old buffer.new result self.old.current self.old.rooms.items self.new.rooms.items }
         ensures current { self.new.current ≡ self.old.current }
         ensures seats { IsSameOrEnded self.old.current self.old.seats.items self.new.seats.items }
+        ensures ended { EndsBehind buffer.new result self.old.current self.old.seats.items self.new.seats.items }
     {
         let Some(i) = self.current else {
             return Reading::Closed;
@@ -180,6 +181,7 @@ impl Hall {
     /// Keeps a reply for the connection that was handed over. Answers whether there is one, with room for it.
     pub(crate) fn keep(&mut self, octets: &[u8]) -> bool
         ensures kept { result ≡ true → (i : ℕ) × (self.old.current ≡ Some i) × IsChangedAt (IsKeeping octets.now true) i self.old.rooms.items self.new.rooms.items }
+        ensures full { result ≡ false → (self.new.rooms.items ≡ self.old.rooms.items) ⊎ ((i : ℕ) × (self.old.current ≡ Some i) × IsChangedAt (IsKeeping octets.now false) i self.old.rooms.items self.new.rooms.items) }
         ensures same { self.new ≡ record self.old { rooms = self.new.rooms } }
     {
         match self.current {

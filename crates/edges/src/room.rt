@@ -1,5 +1,5 @@
 //! The octets of a connection: those that came and are to be handed over, and those of replies that are to go.
-ghost use Rattle.std.specs.Prelude.{◌≡◌, ◌⊎◌, ◌++◌, drop, true, false, [], IfNone, IfSome};
+ghost use Rattle.std.specs.Prelude.{◌≡◌, ◌≤◌, ◌+◌, ◌⊎◌, ◌++◌, drop, length, true, false, [], IfNone, IfSome};
 ghost use Rattle.edges.specs.Rooms.{IsChangedAt, IsEmpty, IsHandingOver, IsKeeping};
 
 use arrayvec::ArrayVec;
@@ -67,6 +67,7 @@ impl Room {
     /// Takes octets that came, if there is room for them.
     pub(crate) fn take_in(&mut self, piece: &[u8])
         ensures came { (self.new.coming.items ≡ self.old.coming.items ++ piece.now) ⊎ (self.new.coming.items ≡ self.old.coming.items) }
+        ensures room { length self.old.coming.items + length piece.now ≤ LARGEST_FRAME → self.new.coming.items ≡ self.old.coming.items ++ piece.now }
         ensures going { self.new.going.items ≡ self.old.going.items }
     {
         let _ = self.coming.try_extend_from_slice(piece);

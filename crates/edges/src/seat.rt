@@ -1,7 +1,7 @@
 //! A place for a connection: whether it is taken, and what goes on with it.
-ghost use Rattle.std.specs.Prelude.{◌≡◌, ◌⊎◌, true, false};
-ghost use Rattle.edges.specs.Places.{IsSameSeat, IsTaken, IsVacant};
-ghost use Rattle.edges.specs.Rooms.{IsChangedAt, IsEmpty, IsFilled, IsFlushed, IsSettled};
+ghost use Rattle.std.specs.Prelude.{◌≡◌, ◌<◌, ◌≤◌, ◌⊎◌, length, true, false};
+ghost use Rattle.edges.specs.Places.{IsEnded, IsSamePlace, IsSameSeat, IsTaken, IsVacant, is_free};
+ghost use Rattle.edges.specs.Rooms.{IsChangedAt, IsEmpty, IsFilled, IsFlushed, IsGoingOn};
 
 use crate::room::Room;
 use addr_text::{Addr, Peer};
@@ -72,7 +72,9 @@ impl Seat {
 }
 
 /// What an error of a connection comes to: a wait, another try, or its end. Whoever connects can bring about each.
-fn meet(error: &Error, may_go_on: &mut bool, is_over: &mut bool) {
+fn meet(error: &Error, may_go_on: &mut bool, is_over: &mut bool)
+    ensures { is_over.old ≡ true → is_over.new ≡ true }
+{
     match error.kind() {
         ErrorKind::WouldBlock => *may_go_on = false,
         ErrorKind::Interrupted => {}
@@ -149,7 +151,9 @@ fn flush(seat: &mut Seat, room: &mut Room)
 
 /// Whether a connection is left: it is over; or it does not wait to be handed over, and either its peer sends no more and
 /// takes all that goes, or it was idle for too long.
-fn is_left(seat: &Seat, room: &Room, now: u64) -> bool {
+fn is_left(seat: &Seat, room: &Room, now: u64) -> bool
+    ensures { seat.now.is_over ≡ true → result ≡ true }
+{
     seat.is_over
         || (seat.turn == 0
             && ((seat.is_ended && room.going.is_empty())
@@ -168,8 +172,8 @@ pub(crate) fn leave(seat: &mut Seat, room: &mut Room)
 /// Writes and reads what goes and comes at once, and has the connection wait to be handed over where it has whole messages
 /// and no reply of it is to go. `turns` counts those that waited.
 pub(crate) fn settle(seat: &mut Seat, room: &mut Room, now: u64, turns: &mut u64)
-    ensures octets { IsSettled room.old.coming.items room.new.coming.items room.old.going.items room.new.going.items }
-    ensures seat { IsVacant seat.new ⊎ ((seat.new.peer ≡ seat.old.peer) × (seat.new.since ≡ seat.old.since)) }
+    ensures settled { (IsVacant seat.new × IsEmpty room.new) ⊎ (IsSamePlace seat.old seat.new × IsGoingOn room.old room.new) }
+    ensures over { seat.old.is_over ≡ true → is_free seat.new ≡ true }
 {
     if seat.stream.is_none() {
         return;
@@ -201,7 +205,8 @@ pub(crate) fn put_at(seats: &mut [Seat], rooms: &mut [Room], i: usize, seat: Sea
 
 /// Notes that the connection of a place is of no use any more.
 pub(crate) fn end_at(seats: &mut [Seat], i: usize)
-    ensures { (seats.new ≡ seats.old) ⊎ IsChangedAt IsSameSeat i seats.old seats.new }
+    ensures over { i < length seats.old → IsChangedAt IsEnded i seats.old seats.new }
+    ensures none { length seats.old ≤ i → seats.new ≡ seats.old }
 {
     if i < seats.len() {
         seats[i].is_over = true;
