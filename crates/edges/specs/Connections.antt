@@ -1,4 +1,4 @@
--- What becomes of a connection's octets from its first to its last.
+-- What becomes of a connection's octets, until it is left.
 use Rattle.std.specs.Prelude.{◌≡◌, ◌≤◌, ℕ, Bool, true, false, List, [], ◌∷◌, ◌++◌, All, length, map, take, drop}
 use Rattle.std.specs.List.{flat_map}
 use Rattle.edges.specs.Rooms.{IsEmpty, IsHandingOver, IsKeeping}
@@ -7,7 +7,7 @@ use Rattle.tcp_frames.specs.Split.{AreWhole, IsSplit, framed}
 use Rattle.tcp_frames.specs.declared.batch.Batch.{Batch}
 use Rattle.tcp_frames.specs.declared.batch.TheConstants.{MOST_MESSAGES}
 
--- One thing that happens to a room: a piece comes, and octets go; a conversation is handed over; or a reply is kept, or there is no room for it.
+-- One thing that happens to a room: a piece comes, and octets go, of which either may be none; a conversation is handed over; or a reply is kept, or there is no room for it. That a connection is left is none of these: all of it is forgotten then.
 pub data Event : Type 0 where
   Settled : (piece gone : List ℕ) → Event
   HandedOver : (octets : List ℕ) → Event
@@ -53,7 +53,7 @@ gone_of (Replied is_kept reply) = []
 abbrev pub talks : List Event → List (List ℕ)
 talks events = flat_map talks_of events
 
--- Of a connection, from when its room was empty: all octets that came are those of its conversations, one after another, and those that are there. Where all conversations are whole messages, of which each has eight at most, the messages of all octets that came are those of the conversations, one after another, and those that are there. And all replies that were kept are what went and what is to go.
+-- Of a connection, from when its room was empty until it is left: all octets that came to the room are those of its conversations, one after another, and those that are there. Where all conversations are whole messages, of which each has eight at most, the messages of these octets are those of the conversations, one after another, and those that are there. And all replies that were kept are what went and what is to go.
 pub record IsInOrder (events : List Event) (last : Room) : Type 0 where
   pub octets : flat_map come_of events ≡ flat_map (λ t. t) (talks events) ++ last.coming.items
   pub messages : All (AreWhole MOST_MESSAGES) (talks events) → (more : List (List ℕ)) → IsSplit last.coming.items more →

@@ -1,11 +1,11 @@
 -- Which connection is handed over, and what streams tell of it.
-use Rattle.std.specs.Prelude.{◌≡◌, ◌⊎◌, ℕ, ◌<◌, List, All, Option, None, Some, length, slice_get, take}
-use Rattle.outside.specs.Streams.{Talk}
+use Rattle.std.specs.Prelude.{◌≡◌, ◌⊎◌, ℕ, ◌<◌, Bool, true, false, List, [], ◌∷◌, All, Option, None, Some, length, slice_get, take}
+use Rattle.outside.specs.Streams.{Piece, Talk}
 use Rattle.outside.specs.declared.streams.Accepting.{Accepting}
 use Rattle.outside.specs.declared.streams.Accepting.TheVariants as came
 use Rattle.outside.specs.declared.streams.Reading.{Reading}
 use Rattle.outside.specs.declared.streams.Reading.TheVariants as read
-use Rattle.tcp_frames.specs.Split.{AreWhole}
+use Rattle.tcp_frames.specs.Split.{AreWhole, IsOverlong}
 use Rattle.tcp_frames.specs.declared.batch.Batch.{Batch}
 use Rattle.tcp_frames.specs.declared.batch.TheConstants.{MOST_MESSAGES}
 use Rattle.edges.specs.Places.{IsEnded, IsNextTalk, key_of}
@@ -40,7 +40,16 @@ IsSameOrEnded current seats seats' = (seats' ≡ seats) ⊎ ((i : ℕ) × (curre
 abbrev pub EndsBehind : List ℕ → Reading → Option ℕ → List Seat → List Seat → Type 0
 EndsBehind buffer' reading current seats seats' = (n i : ℕ) → reading ≡ read.Got n → (AreWhole MOST_MESSAGES (take n buffer') → ⊥) → current ≡ Some i → i < length seats → IsChangedAt IsEnded i seats seats'
 
--- the conversation that streams tell of is with the peer of the connection that is handed over
-abbrev pub IsTold : Option ℕ → List Seat → Option Talk → Type 0
-IsTold None seats talk = Unit {0}
-IsTold (Some i) seats talk = (seat : Seat) × (t : Talk) × (slice_get seats i ≡ Some seat) × (talk ≡ Some t) × (t.peer ≡ seat.peer)
+-- octets that are handed over at once: eight whole messages at most, or a length that is too great for one
+abbrev pub AreOfOneTalk : List ℕ → Type 0
+AreOfOneTalk octets = AreWhole MOST_MESSAGES octets ⊎ IsOverlong octets
+
+-- a conversation has one piece at most, and none before it was read
+abbrev pub AreHeardOnce : Bool → List Piece → Type 0
+AreHeardOnce false pieces = pieces ≡ []
+AreHeardOnce true pieces = (pieces ≡ []) ⊎ ((p : Piece) × (pieces ≡ p ∷ []) × AreOfOneTalk p.octets)
+
+-- the conversation that streams tell of is with the peer of the connection that is handed over, and was handed over once at most
+abbrev pub IsTold : Option ℕ → Bool → List Seat → Option Talk → Type 0
+IsTold None is_read seats talk = Unit {0}
+IsTold (Some i) is_read seats talk = (seat : Seat) × (t : Talk) × (slice_get seats i ≡ Some seat) × (talk ≡ Some t) × (t.peer ≡ seat.peer) × AreHeardOnce is_read t.pieces

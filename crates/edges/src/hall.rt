@@ -1,5 +1,6 @@
 //! The places of connections with their octets, and which of them is handed over.
 ghost use Rattle.std.specs.Prelude.{◌≡◌, ◌≢◌, ◌⊎◌, ℕ, true, false, Some, None, IfOk, length};
+ghost use Rattle.addr_text.specs.declared.address.Peer.{Peer};
 ghost use Rattle.outside.specs.Streams.{IsWithin};
 ghost use Rattle.edges.specs.Halls.{EndsBehind, IsAdvance, IsHeard, IsSameOrEnded};
 ghost use Rattle.edges.specs.Rooms.{IsChangedAt, IsKeeping};
@@ -24,7 +25,7 @@ pub(crate) struct Hall {
     /// The place that is handed over.
     pub(crate) current: Option<usize>,
     /// Whether it was read.
-    is_read: bool,
+    pub(crate) is_read: bool,
     /// The milliseconds of the clock. Where it can't be read, it stands still.
     now: u64,
     /// How many were handed over or wait for it.
@@ -133,7 +134,8 @@ impl Hall {
         most_of_one: usize,
     ) -> Accepting
         requires { self.old.current ≡ None }
-        ensures { IsAdvance result self.new.current self.new.seats.items }
+        ensures advance { IsAdvance result self.new.current self.new.seats.items }
+        ensures unread { (peer : Peer) → result ≡ Accepting.Come peer → self.new.is_read ≡ false }
     {
         let Some(ears) = ears else {
             return Accepting::Failed;
@@ -157,6 +159,8 @@ impl Hall {
         ensures heard { IsHeard buffer.old buffer.new result self.old.current self.old.rooms.items self.new.rooms.items }
         ensures current { self.new.current ≡ self.old.current }
         ensures seats { IsSameOrEnded self.old.current self.old.seats.items self.new.seats.items }
+        ensures once { self.old.is_read ≡ true → result ≡ Reading.Closed }
+        ensures read { self.new.is_read ≡ true ⊎ (self.new ≡ self.old) × (self.old.current ≡ None) }
         ensures ended { EndsBehind buffer.new result self.old.current self.old.seats.items self.new.seats.items }
     {
         let Some(i) = self.current else {
