@@ -42,7 +42,7 @@ use std::thread::Threads;
 /// How a drive ended.
 #[derive(Clone, Copy, Debug, PartialEq, Eq)]
 pub struct DriveEnd {
-    /// How the feed ended.
+    /// How the feed ended; of several, the end that a status tells of.
     pub feed: FeedEnd,
     /// How each lane ended that had a viewer.
     pub lanes: [Option<Ended>; MOST_VIEWERS],

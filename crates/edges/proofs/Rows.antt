@@ -8,11 +8,11 @@ use Rattle.edges.proofs.Ordered.{ordered}
 use Rattle.edges.specs.Connections.{AreEvents, Event, HandedOver, IsEvent, IsInOrder, Replied, Settled, come_of, gone_of, kept_of, talks}
 use Rattle.edges.specs.declared.room.Room.{Room}
 
-room_of : List ℕ → List ℕ → Room
+abbrev room_of : List ℕ → List ℕ → Room
 room_of coming going = record { coming = record { items = coming }; going = record { items = going } }
 
 -- A message of two octets comes in two pieces, with the first octet of the next one. It is handed over; its reply of one octet is kept; the reply goes in two pieces, while half of the next message comes and then its rest, and that is handed over.
-row : List Event
+abbrev row : List Event
 row = Settled (0 ∷ 2 ∷ 7 ∷ []) [] ∷ Settled (8 ∷ 0 ∷ []) [] ∷ HandedOver (0 ∷ 2 ∷ 7 ∷ 8 ∷ []) ∷ Replied true (0 ∷ 1 ∷ 5 ∷ []) ∷ Settled (1 ∷ []) (0 ∷ 1 ∷ []) ∷ Settled (9 ∷ 0 ∷ []) (5 ∷ []) ∷ HandedOver (0 ∷ 1 ∷ 9 ∷ []) ∷ []
 
 one_whole : (message : List ℕ) → length message ≤ 4096 → All (λ m. length m ≤ 4096) (message ∷ [])
