@@ -9,6 +9,8 @@ use Rattle.outside.specs.declared.port.Arrival.{Arrival}
 use Rattle.outside.specs.declared.port.Arrival.TheVariants as arrival
 use Rattle.outside.specs.declared.port.Sending.{Sending}
 use Rattle.outside.specs.declared.port.Sending.TheVariants as sending
+use Rattle.edges.specs.declared.ears.Next.{Next}
+use Rattle.edges.specs.declared.ears.Next.TheVariants as next
 use Rattle.edges.specs.declared.judged.Knock.{Knock}
 use Rattle.edges.specs.declared.judged.Knock.TheVariants as knock
 use Rattle.edges.specs.Peers.{peer_of}
@@ -60,3 +62,10 @@ has_number numbers error = is_one_of numbers (raw_os_error error)
 -- what an error of a listener that takes connections comes to
 abbrev pub knock_of : Error → Knock
 knock_of error = if has_number deaf_numbers error then knock.Deaf else (if has_number gone_numbers error then knock.Gone else (if has_number full_numbers error then knock.Full else knock.Quiet))
+
+-- How a listener goes on behind it, where a place and a descriptor could be had for the next connection or not. A connection that was gone is passed over.
+abbrev pub next_of : Knock → Bool → Next
+next_of knock.Deaf has_room = next.Broken
+next_of knock.Gone has_room = next.Again
+next_of knock.Full has_room = if has_room then next.Again else next.Wait
+next_of knock.Quiet has_room = next.Wait

@@ -1,5 +1,6 @@
 //! A listener of TCP, and what waits for it and for its connections.
-ghost use Rattle.std.specs.Prelude.{◌≡◌, ◌⊎◌, ◌↔◌, ℕ, true, false, Some};
+ghost use Rattle.std.specs.Prelude.{◌≡◌, ◌⊎◌, ℕ, true, false, Some};
+ghost use Rattle.edges.specs.Judged.{next_of};
 ghost use Rattle.edges.specs.Places.{IsLeast, IsPlaceFor, IsTaken, IsVacant};
 ghost use Rattle.edges.specs.Rooms.{IsChangedAt, IsEmpty};
 
@@ -47,7 +48,7 @@ pub(crate) enum Next {
 /// How a listener goes on, where a place and a descriptor could be had for the next connection or not. It is given up
 /// exactly where it is broken, whatever a peer does and however many connections there are.
 fn next_of(knock: Knock, has_room: bool) -> Next
-    ensures broken { (result ≡ Next.Broken) ↔ (knock ≡ Knock.Deaf) }
+    ensures { result ≡ next_of knock has_room }
 {
     match knock {
         Knock::Deaf => Next::Broken,

@@ -1,5 +1,6 @@
 //! A place for a connection: whether it is taken, and what goes on with it.
-ghost use Rattle.std.specs.Prelude.{◌≡◌, ◌<◌, ◌≤◌, ◌⊎◌, length, true, false};
+ghost use Rattle.std.specs.IoError.{error_kind};
+ghost use Rattle.std.specs.Prelude.{◌≡◌, ◌≢◌, ◌<◌, ◌≤◌, ◌⊎◌, length, true, false};
 ghost use Rattle.edges.specs.Places.{IsEnded, IsSamePlace, IsSameSeat, IsTaken, IsVacant, is_free};
 ghost use Rattle.edges.specs.Rooms.{IsChangedAt, IsEmpty, IsFilled, IsFlushed, IsGoingOn};
 
@@ -73,7 +74,10 @@ impl Seat {
 
 /// What an error of a connection comes to: a wait, another try, or its end. Whoever connects can bring about each.
 fn meet(error: &Error, may_go_on: &mut bool, is_over: &mut bool)
-    ensures { is_over.old ≡ true → is_over.new ≡ true }
+    ensures over { is_over.old ≡ true → is_over.new ≡ true }
+    ensures waits { error_kind error.now ≡ ErrorKind.WouldBlock → (may_go_on.new ≡ false) × (is_over.new ≡ is_over.old) }
+    ensures again { error_kind error.now ≡ ErrorKind.Interrupted → (may_go_on.new ≡ may_go_on.old) × (is_over.new ≡ is_over.old) }
+    ensures ends { error_kind error.now ≢ ErrorKind.WouldBlock → error_kind error.now ≢ ErrorKind.Interrupted → is_over.new ≡ true }
 {
     match error.kind() {
         ErrorKind::WouldBlock => *may_go_on = false,
@@ -152,7 +156,8 @@ fn flush(seat: &mut Seat, room: &mut Room)
 /// Whether a connection is left: it is over; or it does not wait to be handed over, and either its peer sends no more and
 /// takes all that goes, or it was idle for too long.
 fn is_left(seat: &Seat, room: &Room, now: u64) -> bool
-    ensures { seat.now.is_over ≡ true → result ≡ true }
+    ensures over { seat.now.is_over ≡ true → result ≡ true }
+    ensures waits { 0 < seat.now.turn → result ≡ seat.now.is_over }
 {
     seat.is_over
         || (seat.turn == 0
