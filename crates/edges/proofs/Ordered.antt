@@ -8,11 +8,11 @@ use Rattle.outside.specs.Limits.{largest_datagram}
 use Rattle.tcp_frames.proofs.Splits.{joined}
 use Rattle.tcp_frames.specs.Split.{AreWhole, IsSplit, framed}
 use Rattle.tcp_frames.specs.declared.batch.TheConstants.{MOST_MESSAGES}
-use Rattle.edges.specs.Connections.{AreEvents, ConnectionsAreInOrder, Event, HandedOver, IsEvent, IsInOrder, Replied, Settled, come_of, gone_of, kept_of, talks, talks_of}
+use Rattle.edges.specs.Connections.{AreRoomEvents, ConnectionsAreInOrder, RoomEvent, HandedOver, IsRoomEvent, ComesInOrder, Replied, Settled, come_of, gone_of, kept_of, talks, talks_of}
 use Rattle.edges.specs.declared.room.Room.{Room}
 
 -- what was there and what came is what was handed over and what is there
-came : (events : List Event) (room last : Room) → AreEvents events room last → room.coming.items ++ flat_map come_of events ≡ flat_map (λ t. t) (talks events) ++ last.coming.items
+came : (events : List RoomEvent) (room last : Room) → AreRoomEvents events room last → room.coming.items ++ flat_map come_of events ≡ flat_map (λ t. t) (talks events) ++ last.coming.items
 came [] room last is = append-nil room.coming.items ∙ ap (λ r. r.coming.items) (sym is)
 came (Settled piece gone ∷ events) room last are =
     sym (append_assoc room.coming.items piece (flat_map come_of events)) ∙ (ap (λ c. c ++ flat_map come_of events) (sym are.1.0) ∙ came events are.0 last are.2)
@@ -22,7 +22,7 @@ came (HandedOver octets ∷ events) room last are =
 came (Replied is_kept reply ∷ events) room last are = ap (λ c. c ++ flat_map come_of events) (sym are.1.1) ∙ came events are.0 last are.2
 
 -- what was to go and what was kept is what went and what is to go
-went : (events : List Event) (room last : Room) → AreEvents events room last → room.going.items ++ flat_map kept_of events ≡ flat_map gone_of events ++ last.going.items
+went : (events : List RoomEvent) (room last : Room) → AreRoomEvents events room last → room.going.items ++ flat_map kept_of events ≡ flat_map gone_of events ++ last.going.items
 went [] room last is = append-nil room.going.items ∙ ap (λ r. r.going.items) (sym is)
 went (Settled piece gone ∷ events) room last are =
     let front : room.going.items ≡ gone ++ are.0.going.items = sym (take-append-drop are.1.1.0 room.going.items) ∙ (ap (λ k. k ++ drop are.1.1.0 room.going.items) (sym are.1.1.1) ∙ ap (λ k. gone ++ k) (sym are.1.1.2)) in

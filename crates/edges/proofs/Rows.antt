@@ -5,14 +5,14 @@ use Rattle.std.proofs.Common.{refl, arith}
 use Rattle.std.proofs.lemmas.List.Elements.{All-cons, All-nil}
 use Rattle.tcp_frames.specs.Split.{AreWhole}
 use Rattle.edges.proofs.Ordered.{ordered}
-use Rattle.edges.specs.Connections.{AreEvents, Event, HandedOver, IsEvent, IsInOrder, Replied, Settled, come_of, gone_of, kept_of, talks}
+use Rattle.edges.specs.Connections.{AreRoomEvents, RoomEvent, HandedOver, IsRoomEvent, ComesInOrder, Replied, Settled, come_of, gone_of, kept_of, talks}
 use Rattle.edges.specs.declared.room.Room.{Room}
 
 abbrev room_of : List ℕ → List ℕ → Room
 room_of coming going = record { coming = record { items = coming }; going = record { items = going } }
 
 -- A message of two octets comes in two pieces, with the first octet of the next one. It is handed over; its reply of one octet is kept; the reply goes in two pieces, while half of the next message comes and then its rest, and that is handed over.
-abbrev row : List Event
+abbrev row : List RoomEvent
 row = Settled (0 ∷ 2 ∷ 7 ∷ []) [] ∷ Settled (8 ∷ 0 ∷ []) [] ∷ HandedOver (0 ∷ 2 ∷ 7 ∷ 8 ∷ []) ∷ Replied true (0 ∷ 1 ∷ 5 ∷ []) ∷ Settled (1 ∷ []) (0 ∷ 1 ∷ []) ∷ Settled (9 ∷ 0 ∷ []) (5 ∷ []) ∷ HandedOver (0 ∷ 1 ∷ 9 ∷ []) ∷ []
 
 one_whole : (message : List ℕ) → length message ≤ 4096 → All (λ m. length m ≤ 4096) (message ∷ [])
@@ -24,13 +24,13 @@ first_whole = ((7 ∷ 8 ∷ []) ∷ [], refl, one_whole (7 ∷ 8 ∷ []) (omega 
 second_whole : AreWhole 8 (0 ∷ 1 ∷ 9 ∷ [])
 second_whole = ((9 ∷ []) ∷ [], refl, one_whole (9 ∷ []) (omega arith), omega arith)
 
-first_over : IsEvent (HandedOver (0 ∷ 2 ∷ 7 ∷ 8 ∷ [])) (room_of (0 ∷ 2 ∷ 7 ∷ 8 ∷ 0 ∷ []) []) (room_of (0 ∷ []) [])
+first_over : IsRoomEvent (HandedOver (0 ∷ 2 ∷ 7 ∷ 8 ∷ [])) (room_of (0 ∷ 2 ∷ 7 ∷ 8 ∷ 0 ∷ []) []) (room_of (0 ∷ []) [])
 first_over = (0 ∷ 2 ∷ 7 ∷ 8 ∷ [], 0 ∷ 2 ∷ 7 ∷ 8 ∷ [], record { len = 4; is_faulty = false }, refl, (omega arith, refl, refl, refl, λ is. first_whole, λ is. absurd (cc is), λ large none. absurd (omega (arith, none))))
 
-second_over : IsEvent (HandedOver (0 ∷ 1 ∷ 9 ∷ [])) (room_of (0 ∷ 1 ∷ 9 ∷ 0 ∷ []) []) (room_of (0 ∷ []) [])
+second_over : IsRoomEvent (HandedOver (0 ∷ 1 ∷ 9 ∷ [])) (room_of (0 ∷ 1 ∷ 9 ∷ 0 ∷ []) []) (room_of (0 ∷ []) [])
 second_over = (0 ∷ 1 ∷ 9 ∷ [], 0 ∷ 1 ∷ 9 ∷ [], record { len = 3; is_faulty = false }, refl, (omega arith, refl, refl, refl, λ is. second_whole, λ is. absurd (cc is), λ large none. absurd (omega (arith, none))))
 
-happens : AreEvents row (room_of [] []) (room_of (0 ∷ []) [])
+happens : AreRoomEvents row (room_of [] []) (room_of (0 ∷ []) [])
 happens = (
   room_of (0 ∷ 2 ∷ 7 ∷ []) [],
   (refl, (0, refl, refl)),
@@ -57,7 +57,7 @@ happens = (
   ),
 )
 
-row_ordered : IsInOrder row (room_of (0 ∷ []) [])
+row_ordered : ComesInOrder row (room_of (0 ∷ []) [])
 row_ordered = ordered row (room_of [] []) (room_of (0 ∷ []) []) (refl, refl) happens
 
 row_came : flat_map come_of row ≡ 0 ∷ 2 ∷ 7 ∷ 8 ∷ 0 ∷ 1 ∷ 9 ∷ 0 ∷ []

@@ -10,7 +10,7 @@ use Rattle.outside.specs.declared.streams.Reading.TheVariants as read
 use Rattle.past_log.specs.Streams.{heard}
 use Rattle.tcp_frames.specs.Split.{IsOverlong}
 use Rattle.edges.specs.Halls.{AreHeardOnce, AreOfOneTalk, IsHeard, IsSameOrEnded, IsTakenFrom, IsTold}
-use Rattle.edges.specs.Places.{IsEnded}
+use Rattle.edges.specs.Places.{IsOverNow}
 use Rattle.edges.specs.Rooms.{IsChangedAt, IsHandingOver}
 use Rattle.edges.specs.declared.room.Room.{Room}
 use Rattle.edges.specs.declared.hall.Hall.{Hall}
@@ -67,7 +67,7 @@ told_same : (current : Option ℕ) (is_read : Bool) (seats seats' : List Seat) (
 told_same current is_read seats seats' talk (inl is) h = subst (λ (l : List Seat). IsTold current is_read l talk) (sym is) h
 told_same None is_read seats seats' talk (inr _) h = tt
 told_same (Some k) is_read seats seats' talk (inr s) h =
-    let c : IsChangedAt IsEnded s.0 seats seats' = s.2 in
+    let c : IsChangedAt IsOverNow s.0 seats seats' = s.2 in
     let at : s.0 ≡ k = some_eq s.0 k (sym s.1) in
     let got : slice_get seats' k ≡ Some c.new = subst (λ (n : ℕ). slice_get seats' n ≡ Some c.new) at (subst (λ (l : List Seat). slice_get l s.0 ≡ Some c.new) (sym c.is) (got_at seats s.0 c.old c.new c.was)) in
     let old : h.0 ≡ c.old = some_eq h.0 c.old (sym h.2 ∙ subst (λ (n : ℕ). slice_get seats n ≡ Some c.old) at c.was) in

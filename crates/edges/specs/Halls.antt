@@ -8,7 +8,7 @@ use Rattle.outside.specs.declared.streams.Reading.TheVariants as read
 use Rattle.tcp_frames.specs.Split.{AreWhole, IsOverlong}
 use Rattle.tcp_frames.specs.declared.batch.Batch.{Batch}
 use Rattle.tcp_frames.specs.declared.batch.TheConstants.{MOST_MESSAGES}
-use Rattle.edges.specs.Places.{IsEnded, IsNextTalk, key_of}
+use Rattle.edges.specs.Places.{IsOverNow, IsNextTalk, key_of}
 use Rattle.edges.specs.Rooms.{IsChangedAt, IsHandingOver}
 use Rattle.edges.specs.declared.places.Wanted.TheVariants.{FirstInTurn}
 use Rattle.edges.specs.declared.room.Room.{Room}
@@ -34,11 +34,11 @@ IsHeard buffer buffer' read.Failed current rooms rooms' = ⊥
 
 -- the connection that is handed over may be one that goes on no more, and is still the same one
 abbrev pub IsSameOrEnded : Option ℕ → List Seat → List Seat → Type 0
-IsSameOrEnded current seats seats' = (seats' ≡ seats) ⊎ ((i : ℕ) × (current ≡ Some i) × IsChangedAt IsEnded i seats seats')
+IsSameOrEnded current seats seats' = (seats' ≡ seats) ⊎ ((i : ℕ) × (current ≡ Some i) × IsChangedAt IsOverNow i seats seats')
 
 -- behind octets that are no whole messages the connection that is handed over goes on no more
 abbrev pub EndsBehind : List ℕ → Reading → Option ℕ → List Seat → List Seat → Type 0
-EndsBehind buffer' reading current seats seats' = (n i : ℕ) → reading ≡ read.Got n → (AreWhole MOST_MESSAGES (take n buffer') → ⊥) → current ≡ Some i → i < length seats → IsChangedAt IsEnded i seats seats'
+EndsBehind buffer' reading current seats seats' = (n i : ℕ) → reading ≡ read.Got n → (AreWhole MOST_MESSAGES (take n buffer') → ⊥) → current ≡ Some i → i < length seats → IsChangedAt IsOverNow i seats seats'
 
 -- octets that are handed over at once: eight whole messages at most, or a length that is too great for one
 abbrev pub AreOfOneTalk : List ℕ → Type 0

@@ -64,8 +64,8 @@ abbrev pub IsSameSeat : Seat → Seat → Type 0
 IsSameSeat seat seat' = (is_free seat' ≡ is_free seat) × (seat'.peer ≡ seat.peer) × (seat'.since ≡ seat.since) × (seat'.turn ≡ seat.turn) × (seat.is_over ≡ true → seat'.is_over ≡ true)
 
 -- the same, and it is of no use any more
-abbrev pub IsEnded : Seat → Seat → Type 0
-IsEnded seat seat' = IsSameSeat seat seat' × (seat'.is_over ≡ true)
+abbrev pub IsOverNow : Seat → Seat → Type 0
+IsOverNow seat seat' = IsSameSeat seat seat' × (seat'.is_over ≡ true)
 
 -- a place has the connection that it had, if any
 abbrev pub IsSamePlace : Seat → Seat → Type 0

@@ -1,7 +1,7 @@
 //! A place for a connection: whether it is taken, and what goes on with it.
 ghost use Rattle.std.specs.IoError.{error_kind};
 ghost use Rattle.std.specs.Prelude.{◌≡◌, ◌≢◌, ◌<◌, ◌≤◌, ◌⊎◌, length, true, false};
-ghost use Rattle.edges.specs.Places.{IsEnded, IsSamePlace, IsSameSeat, IsTaken, IsVacant, is_free};
+ghost use Rattle.edges.specs.Places.{IsOverNow, IsSamePlace, IsSameSeat, IsTaken, IsVacant, is_free};
 ghost use Rattle.edges.specs.Rooms.{IsChangedAt, IsEmpty, IsFilled, IsFlushed, IsGoingOn};
 
 use crate::room::Room;
@@ -210,7 +210,7 @@ pub(crate) fn put_at(seats: &mut [Seat], rooms: &mut [Room], i: usize, seat: Sea
 
 /// Notes that the connection of a place is of no use any more.
 pub(crate) fn end_at(seats: &mut [Seat], i: usize)
-    ensures over { i < length seats.old → IsChangedAt IsEnded i seats.old seats.new }
+    ensures over { i < length seats.old → IsChangedAt IsOverNow i seats.old seats.new }
     ensures none { length seats.old ≤ i → seats.new ≡ seats.old }
 {
     if i < seats.len() {
