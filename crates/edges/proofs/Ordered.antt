@@ -1,5 +1,5 @@
 -- A connection's octets stay in their order.
-use Rattle.std.proofs.Common.{◌≡◌, ◌≤◌, ℕ, Bool, true, false, List, [], ◌∷◌, ◌++◌, All, length, map, take, drop, refl, sym, ap, ◌∙◌, subst, arith, append_assoc, append-nil}
+use Rattle.std.proofs.Common.{◌≡◌, ◌≤◌, ℕ, true, false, List, [], ◌∷◌, ◌++◌, All, length, map, take, drop, refl, sym, ap, ◌∙◌, subst, arith, append_assoc, append-nil}
 use Rattle.std.specs.List.{flat_map}
 use Rattle.std.proofs.lemmas.Grind.{flat_map-append}
 use Rattle.std.proofs.lemmas.List.{take-append-drop}
@@ -8,7 +8,7 @@ use Rattle.outside.specs.Limits.{largest_datagram}
 use Rattle.tcp_frames.proofs.Splits.{joined}
 use Rattle.tcp_frames.specs.Split.{AreWhole, IsSplit, framed}
 use Rattle.tcp_frames.specs.declared.batch.TheConstants.{MOST_MESSAGES}
-use Rattle.edges.specs.Connections.{AreRoomEvents, ConnectionsAreInOrder, RoomEvent, HandedOver, IsRoomEvent, ComesInOrder, Replied, Settled, come_of, gone_of, kept_of, talks, talks_of}
+use Rattle.edges.specs.Connections.{AreRoomEvents, ConnectionsAreInOrder, HandedOver, Replied, RoomEvent, Settled, come_of, gone_of, kept_of, talks}
 use Rattle.edges.specs.declared.room.Room.{Room}
 
 -- what was there and what came is what was handed over and what is there
