@@ -8,7 +8,8 @@
 //! What has to be trusted is that these lines note the call that they make; that files and sockets are opened as asked;
 //! and that the system's readers, writers and sockets are true: that a datagram which is said to be sent goes out, and
 //! that one which is said to be received came in. Of TCP, also that the octets of a place are those of its connection, and
-//! that what the places hold comes in by `fill_once` and goes out by `flush_once` alone.
+//! that what the places hold comes in by `fill_once` and goes out by `flush_once` alone; and of all, how long their calls
+//! wait, which descriptors they have, and by which tokens connections are known.
 #![tactic(auto)]
 
 mod ears;

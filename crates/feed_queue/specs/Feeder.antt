@@ -29,7 +29,7 @@ pub record IsSentOf (t : Plan) (turns : ℕ) (end : FeedEnd) (fed_before fed_aft
   pub whole : end ≢ ends.SinkFault
   pub sent_is : sent ≡ whats ++ what.End end ∷ []
 
--- what a feeder sent of its feed; or there was no memory to read that with, and it sent this alone
+-- what a feeder sent of its feed; or there was no memory or no thread to read that with, and it sent this alone
 unfoldable pub HasSent : Plan → ℕ → Option Fed → Option Fed → List What → Type 0
 HasSent t turns fed_before fed_after sent =
     ((end : FeedEnd) × IsSentOf t turns end fed_before fed_after sent)

@@ -62,7 +62,7 @@ fn send_all<R: Wait, S: Source, N: Numbers>(
 }
 
 impl<N: Numbers> Feeder<N> {
-    /// Sends the end of a feed that could not be read for want of memory, and nothing else. It waits for as long as the
+    /// Sends the end of a feed that could not be read for want of memory or of a thread, and nothing else. It waits for as long as the
     /// queue is full.
     #[tactic(auto, using(crate::proofs::Sendings::has_sent_none))]
     pub fn give_up<R: Wait>(&mut self, rt: &R)

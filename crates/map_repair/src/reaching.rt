@@ -1,4 +1,5 @@
-//! The trees that lose units, or may hold the old wanted place of a group that loses some.
+//! The reached trees: those in which a capacity changed or a group whose demand fell has units, and with a tree in which a
+//! group has an old wanted place those in which it has units.
 
 ghost use Rattle.std.specs.Prelude.{◌≡◌, ◌≢◌, ◌⊎◌, ◌++◌, ℕ, ◌<◌, ◌≤◌, Bool, true, false, [], ◌∷◌, length, Contains, slice_index, IfOk, MatchOption, OnOk};
 ghost use Rattle.map_model.specs.Market.{IsSameShape, capacity_of, demand_of};

@@ -18,7 +18,7 @@ use move_up::Asked;
 use no_memory::NoMemory;
 use std::alloc::Global;
 
-/// What a resume took beside the proposals that lead to its map.
+/// What a resume took beside the proposals that lead to its map. By the clauses these are bounds: no more were made.
 #[derive(Clone, Copy, Debug, PartialEq, Eq)]
 pub struct Effort {
     /// In how many turns units moved up to the new map; 0 where groups went back.

@@ -67,7 +67,7 @@ fn most_at(instance: &Instance, state: &State, offer: Offer, units: Units) -> Un
 }
 
 /// Lets an offer hold free units where its tree is marked and it stands at its group's pointer or before it, at most so many
-/// and as many as may be. How many they are is the result.
+/// and as many as may be. How many they are is the result, of which no clause speaks.
 ///
 /// # Errors
 ///

@@ -1,4 +1,4 @@
-//! A version in rows, and the delta between two.
+//! A version in rows, which takes in a delta.
 ghost use Rattle.std.specs.Prelude.{◌≡◌, ◌⊎◌, ◌<◌, ◌≤◌, ◌^◌, IfOk, IsTrue, All, Some, fold, length, nat_lt, sum};
 ghost use Rattle.std.specs.List.{list_all};
 ghost use Rattle.std.specs.Arc.{arc_value};
