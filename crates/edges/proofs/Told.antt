@@ -71,7 +71,7 @@ told_same (Some k) is_read seats seats' talk (inr s) h =
     let at : s.0 ≡ k = some_eq s.0 k (sym s.1) in
     let got : slice_get seats' k ≡ Some c.new = subst (λ (n : ℕ). slice_get seats' n ≡ Some c.new) at (subst (λ (l : List Seat). slice_get l s.0 ≡ Some c.new) (sym c.is) (got_at seats s.0 c.old c.new c.was)) in
     let old : h.0 ≡ c.old = some_eq h.0 c.old (sym h.2 ∙ subst (λ (n : ℕ). slice_get seats n ≡ Some c.old) at c.was) in
-    (c.new, h.1, got, h.3, h.4 ∙ ap (λ (s : Seat). s.peer) old ∙ sym c.changed.0.1, h.5)
+    (c.new, h.1, got, h.3, h.4 ∙ ap (λ (s : Seat). s.peer) old ∙ sym c.changed.0.0.1, h.5)
   where
     some_eq : {A : Type 0} (x y : A) → Some x ≡ Some y → x ≡ y
     some_eq x y e = cc e

@@ -59,14 +59,14 @@ IsVacant seat = (is_free seat ≡ true) × (seat.turn ≡ 0)
 abbrev pub IsTaken : Peer → ℕ → Seat → Type 0
 IsTaken peer now seat = (is_free seat ≡ false) × (seat.peer ≡ peer) × (seat.since ≡ now) × (seat.turn ≡ 0)
 
--- a place has the connection that it had, if any, which waits as before, and is of no use where it was of none
+-- a place has the connection that it had, if any
+abbrev pub IsSamePlace : Seat → Seat → Type 0
+IsSamePlace seat seat' = (is_free seat' ≡ is_free seat) × (seat'.peer ≡ seat.peer) × (seat'.since ≡ seat.since)
+
+-- the same, which waits as before, and is of no use where it was of none
 abbrev pub IsSameSeat : Seat → Seat → Type 0
-IsSameSeat seat seat' = (is_free seat' ≡ is_free seat) × (seat'.peer ≡ seat.peer) × (seat'.since ≡ seat.since) × (seat'.turn ≡ seat.turn) × (seat.is_over ≡ true → seat'.is_over ≡ true)
+IsSameSeat seat seat' = IsSamePlace seat seat' × (seat'.turn ≡ seat.turn) × (seat.is_over ≡ true → seat'.is_over ≡ true)
 
 -- the same, and it is of no use any more
 abbrev pub IsOverNow : Seat → Seat → Type 0
 IsOverNow seat seat' = IsSameSeat seat seat' × (seat'.is_over ≡ true)
-
--- a place has the connection that it had, if any
-abbrev pub IsSamePlace : Seat → Seat → Type 0
-IsSamePlace seat seat' = (is_free seat' ≡ is_free seat) × (seat'.peer ≡ seat.peer) × (seat'.since ≡ seat.since)
