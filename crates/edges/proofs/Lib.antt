@@ -3,5 +3,6 @@ pub mod Puts
 pub mod Leasts
 pub mod Found
 pub mod Told
+pub mod Going
 pub mod Ordered
 pub mod Rows

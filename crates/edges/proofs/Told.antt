@@ -26,6 +26,10 @@ overlong_front (x ∷ y ∷ zs) rest coming is some (high, low, behind, front, m
     let two : y ≡ low = cc e in
     (high, low, [], ap (λ k. k ∷ y ∷ []) one ∙ ap (λ k. high ∷ k ∷ []) two, more)
 
+-- of two optional values
+pub some_eq : {A : Type 0} (x y : A) → Some x ≡ Some y → x ≡ y
+some_eq x y e = cc e
+
 -- what is handed over is of one conversation
 of_one : (buffer buffer' : List ℕ) (n : ℕ) (current : Option ℕ) (rooms rooms' : List Room) → IsTakenFrom buffer buffer' n current rooms rooms' → AreOfOneTalk (take n buffer')
 of_one buffer buffer' n current rooms rooms' taken = subst (λ (k : ℕ). AreOfOneTalk (take k buffer')) taken.3 (by taken.1.is_faulty refl)
@@ -57,7 +61,7 @@ told_heard known buffer buffer' read.Closed (Some i) is_read is_read' rooms room
     later true some = some
 told_heard known buffer buffer' read.Failed (Some i) is_read is_read' rooms rooms' seats told taken once (inl is) h = absurd taken
 
-got_at : {A : Type 0} (xs : List A) (i : ℕ) (old new : A) → slice_get xs i ≡ Some old → slice_get (set xs i new) i ≡ Some new
+pub got_at : {A : Type 0} (xs : List A) (i : ℕ) (old new : A) → slice_get xs i ≡ Some old → slice_get (set xs i new) i ≡ Some new
 got_at xs i old new is =
     let lt = slice_get_within xs i old is in
     slice_get-get_or (set xs i new) i new (omega (arith, lt, length-set xs i new)) ∙ ap Some (get_or-set_at xs i i new new refl lt)
@@ -72,9 +76,6 @@ told_same (Some k) is_read seats seats' talk (inr s) h =
     let got : slice_get seats' k ≡ Some c.new = subst (λ (n : ℕ). slice_get seats' n ≡ Some c.new) at (subst (λ (l : List Seat). slice_get l s.0 ≡ Some c.new) (sym c.is) (got_at seats s.0 c.old c.new c.was)) in
     let old : h.0 ≡ c.old = some_eq h.0 c.old (sym h.2 ∙ subst (λ (n : ℕ). slice_get seats n ≡ Some c.old) at c.was) in
     (c.new, h.1, got, h.3, h.4 ∙ ap (λ (s : Seat). s.peer) old ∙ sym c.changed.0.0.1, h.5)
-  where
-    some_eq : {A : Type 0} (x y : A) → Some x ≡ Some y → x ≡ y
-    some_eq x y e = cc e
 
 -- what a read leaves
 pub after_heard : (known : ℕ) (buffer buffer' : List ℕ) (reading : Reading) (current current' : Option ℕ) (is_read is_read' : Bool) (rooms rooms' : List Room) (seats seats' : List Seat) (told : StreamsTold)

@@ -1,5 +1,5 @@
--- Which connection is handed over, and what streams tell of it.
-use Rattle.std.specs.Prelude.{◌≡◌, ◌⊎◌, ℕ, ◌<◌, Bool, true, false, List, [], ◌∷◌, All, Option, None, Some, length, slice_get, take}
+-- Which connection is handed over, what becomes of all of them, and what streams tell of it.
+use Rattle.std.specs.Prelude.{◌≡◌, ◌⊎◌, ℕ, ◌<◌, Bool, true, false, List, [], ◌∷◌, All, MatchBool, Option, None, Some, length, slice_get, slice_set, take}
 use Rattle.outside.specs.Streams.{Piece, Talk}
 use Rattle.outside.specs.declared.streams.Accepting.{Accepting}
 use Rattle.outside.specs.declared.streams.Accepting.TheVariants as came
@@ -8,8 +8,8 @@ use Rattle.outside.specs.declared.streams.Reading.TheVariants as read
 use Rattle.tcp_frames.specs.Split.{AreWhole, IsOverlong}
 use Rattle.tcp_frames.specs.declared.batch.Batch.{Batch}
 use Rattle.tcp_frames.specs.declared.batch.TheConstants.{MOST_MESSAGES}
-use Rattle.edges.specs.Places.{IsOverNow, IsNextTalk, key_of}
-use Rattle.edges.specs.Rooms.{IsChangedAt, IsHandingOver}
+use Rattle.edges.specs.Places.{IsOverNow, IsNextTalk, IsSamePlace, IsVacant, is_free, key_of}
+use Rattle.edges.specs.Rooms.{IsChangedAt, IsEmpty, IsGoingOn, IsHandingOver}
 use Rattle.edges.specs.declared.places.Wanted.TheVariants.{FirstInTurn}
 use Rattle.edges.specs.declared.room.Room.{Room}
 use Rattle.edges.specs.declared.seat.Seat.{Seat}
@@ -53,3 +53,42 @@ AreHeardOnce true pieces = (pieces ≡ []) ⊎ ((p : Piece) × (pieces ≡ p ∷
 abbrev pub IsTold : Option ℕ → Bool → List Seat → Option Talk → Type 0
 IsTold None is_read seats talk = Unit {0}
 IsTold (Some i) is_read seats talk = (seat : Seat) × (t : Talk) × (slice_get seats i ≡ Some seat) × (talk ≡ Some t) × (t.peer ≡ seat.peer) × AreHeardOnce is_read t.pieces
+
+-- What becomes of a place where its connection goes on: one without a connection stays as it is. Else the connection is left, with all of its octets; or it is the same one, what comes is put behind what came, and replies go in their order.
+abbrev pub IsSettled : Seat → Room → Seat → Room → Type 0
+IsSettled seat room seat' room' = MatchBool (is_free seat) ((seat' ≡ seat) × (room' ≡ room)) ((IsVacant seat' × IsEmpty room') ⊎ (IsSamePlace seat seat' × IsGoingOn room room'))
+
+-- What becomes of a place where connections are taken in: it stays as it is; or it has none now, or one that came at that time, and no octets.
+abbrev pub IsLetIn : ℕ → Seat → Room → Seat → Room → Type 0
+IsLetIn now seat room seat' room' = ((seat' ≡ seat) × (room' ≡ room)) ⊎ ((IsVacant seat' ⊎ ((is_free seat' ≡ false) × (seat'.since ≡ now))) × IsEmpty room')
+
+-- What becomes of a place between two conversations: its connection is left, with all of its octets; or it is the same one, what comes is put behind what came, and replies go in their order; or it is one that came at that time, of which nothing is to go.
+abbrev pub IsGoneOn : ℕ → Seat → Room → Seat → Room → Type 0
+IsGoneOn now seat room seat' room' = (IsVacant seat' × IsEmpty room') ⊎ (IsSamePlace seat seat' × IsGoingOn room room') ⊎ ((is_free seat' ≡ false) × (seat'.since ≡ now) × (room'.going.items ≡ []))
+
+-- so many places, of which none has a connection
+abbrev pub AreFree : ℕ → List Seat → Type 0
+AreFree places seats = (length seats ≡ places) × All IsVacant seats
+
+-- so many rooms, none of which has octets
+abbrev pub AreEmpty : ℕ → List Room → Type 0
+AreEmpty places rooms = (length rooms ≡ places) × All IsEmpty rooms
+
+-- one place with its room became another so, and no other one changed
+pub record IsPlaceChangedAt (R : Seat → Room → Seat → Room → Type 0) (i : ℕ) (seats : List Seat) (rooms : List Room) (seats' : List Seat) (rooms' : List Room) : Type 0 where
+  pub seat : Seat
+  pub room : Room
+  pub seat' : Seat
+  pub room' : Room
+  pub seat_was : slice_get seats i ≡ Some seat
+  pub room_was : slice_get rooms i ≡ Some room
+  pub seat_is : seats' ≡ slice_set seats i seat'
+  pub room_is : rooms' ≡ slice_set rooms i room'
+  pub changed : R seat room seat' room'
+
+-- each place with its room became another so, and none came or went
+pub record AreAllChanged (R : Seat → Room → Seat → Room → Type 0) (seats : List Seat) (rooms : List Room) (seats' : List Seat) (rooms' : List Room) : Type 0 where
+  pub seats_stay : length seats' ≡ length seats
+  pub rooms_stay : length rooms' ≡ length rooms
+  pub each : (i : ℕ) (seat : Seat) (room : Room) → slice_get seats i ≡ Some seat → slice_get rooms i ≡ Some room →
+      (seat' : Seat) × (room' : Room) × (slice_get seats' i ≡ Some seat') × (slice_get rooms' i ≡ Some room') × R seat room seat' room'

@@ -1,14 +1,16 @@
 //! A listener of TCP, and what waits for it and for its connections.
 ghost use Rattle.std.specs.Prelude.{◌≡◌, ◌⊎◌, ℕ, true, false, Some};
+ghost use Rattle.std.specs.List.{AllZip};
+ghost use Rattle.edges.specs.Halls.{AreAllChanged, IsLetIn};
 ghost use Rattle.edges.specs.Judged.{next_of};
-ghost use Rattle.edges.specs.Places.{IsLeast, IsPlaceFor, IsTaken, IsVacant};
+ghost use Rattle.edges.specs.Places.{IsLeast, IsPlaceFor, IsSameSeat, IsTaken, IsVacant};
 ghost use Rattle.edges.specs.Rooms.{IsChangedAt, IsEmpty};
 
 use crate::judged::{Knock, knock_of};
 use crate::peers::{peer_of, socket_addr};
 use crate::places::{Wanted, least, place_for};
 use crate::room::Room;
-use crate::seat::{Seat, put_at};
+use crate::seat::{Seat, put_at, wake_at};
 use addr_text::{Listen, Peer};
 use handed_in::{handed_in, take_tcp};
 use mio::net::{TcpListener, TcpStream};
@@ -96,7 +98,9 @@ impl Ears {
 
     /// Waits for something to happen, so many milliseconds at most, and notes it. Answers whether the wait is broken; one
     /// that a signal breaks off is not.
-    pub(crate) fn wait(&mut self, millis: u64, seats: &mut [Seat]) -> bool {
+    pub(crate) fn wait(&mut self, millis: u64, seats: &mut [Seat]) -> bool
+        ensures { AllZip IsSameSeat seats.old seats.new }
+    {
         match self
             .poll
             .poll(&mut self.events, Some(Duration::from_millis(millis)))
@@ -145,7 +149,9 @@ impl Ears {
         rooms: &mut [Room],
         most_of_one: usize,
         now: u64,
-    ) -> bool {
+    ) -> bool
+        ensures { AreAllChanged (IsLetIn now) seats.old rooms.old seats.new rooms.new }
+    {
         if !self.is_knocked {
             return false;
         }
@@ -176,14 +182,15 @@ impl Ears {
 }
 
 /// Notes what has happened.
-fn note_all(events: &Events, seats: &mut [Seat], is_knocked: &mut bool) {
+fn note_all(events: &Events, seats: &mut [Seat], is_knocked: &mut bool)
+    ensures { AllZip IsSameSeat seats.old seats.new }
+{
     for event in events.iter() {
         let Token(number) = event.token();
         if number == LISTENER {
             *is_knocked = true;
-        } else if let Some(seat) = seats.get_mut(number.saturating_sub(1)) {
-            seat.is_readable = true;
-            seat.is_writable = true;
+        } else {
+            wake_at(seats, number.saturating_sub(1));
         }
     }
 }

@@ -1,14 +1,14 @@
 //! The places of connections with their octets, and which of them is handed over.
-ghost use Rattle.std.specs.Prelude.{◌≡◌, ◌≢◌, ◌⊎◌, ℕ, true, false, Some, None, IfOk, length};
+ghost use Rattle.std.specs.Prelude.{◌≡◌, ◌≢◌, ◌<◌, ◌⊎◌, ℕ, true, false, Some, None, IfOk, length};
 ghost use Rattle.addr_text.specs.declared.address.Peer.{Peer};
 ghost use Rattle.outside.specs.Streams.{IsWithin};
-ghost use Rattle.edges.specs.Halls.{EndsBehind, IsAdvance, IsHeard, IsSameOrEnded};
+ghost use Rattle.edges.specs.Halls.{AreAllChanged, AreEmpty, AreFree, EndsBehind, IsAdvance, IsGoneOn, IsHeard, IsPlaceChangedAt, IsSameOrEnded, IsSettled};
 ghost use Rattle.edges.specs.Rooms.{IsChangedAt, IsKeeping};
 
 use crate::ears::Ears;
 use crate::places::{Wanted, least, next_talk};
 use crate::room::{Room, hand_over_at, keep_at};
-use crate::seat::{Seat, end_at, settle};
+use crate::seat::{Seat, end_at, rest_at, settle_at};
 use no_memory::NoMemory;
 use outside::{Accepting, Reading};
 use std::alloc::Global;
@@ -33,7 +33,9 @@ pub(crate) struct Hall {
 }
 
 /// Free places.
-fn free_seats(alloc: Global, places: usize) -> Result<Vec<Seat>, NoMemory> {
+fn free_seats(alloc: Global, places: usize) -> Result<Vec<Seat>, NoMemory>
+    ensures { IfOk result (λ seats. AreFree places seats.items) }
+{
     let mut seats = Vec::with_capacity(alloc, places)?;
     for _ in 0..places {
         seats.push(Seat::free())?;
@@ -42,7 +44,9 @@ fn free_seats(alloc: Global, places: usize) -> Result<Vec<Seat>, NoMemory> {
 }
 
 /// Their octets.
-fn free_rooms(alloc: Global, places: usize) -> Result<Vec<Room>, NoMemory> {
+fn free_rooms(alloc: Global, places: usize) -> Result<Vec<Room>, NoMemory>
+    ensures { IfOk result (λ rooms. AreEmpty places rooms.items) }
+{
     let mut rooms = Vec::with_capacity(alloc, places)?;
     for _ in 0..places {
         rooms.push(Room::new())?;
@@ -62,16 +66,18 @@ fn now_of<C: Clock>(clock: &C, before: u64) -> u64 {
 }
 
 /// Has all connections go on.
-fn settle_all(seats: &mut [Seat], rooms: &mut [Room], now: u64, turns: &mut u64) {
-    for (seat, room) in seats.iter_mut().zip(rooms.iter_mut()) {
-        settle(seat, room, now, turns);
+fn settle_all(seats: &mut [Seat], rooms: &mut [Room], now: u64, turns: &mut u64)
+    ensures { AreAllChanged IsSettled seats.old rooms.old seats.new rooms.new }
+{
+    for i in 0..seats.len() {
+        settle_at(seats, rooms, i, now, turns);
     }
 }
 
 impl Hall {
     /// These places and their octets, with none handed over.
     pub(crate) fn new(seats: Vec<Seat>, rooms: Vec<Room>) -> Hall
-        ensures { result.current ≡ None }
+        ensures { (result.current ≡ None) × (result.seats ≡ seats) × (result.rooms ≡ rooms) }
     {
         Hall {
             seats,
@@ -85,31 +91,37 @@ impl Hall {
 
     /// So many places, which are free.
     pub(crate) fn with_places(alloc: Global, places: usize) -> Result<Hall, NoMemory>
-        ensures { IfOk result (λ hall. hall.current ≡ None) }
+        ensures { IfOk result (λ hall. (hall.current ≡ None) × AreFree places hall.seats.items × AreEmpty places hall.rooms.items) }
     {
         let seats = free_seats(alloc, places)?;
         let rooms = free_rooms(alloc, places)?;
         Ok(Hall::new(seats, rooms))
     }
 
-    /// Takes back the connection that was handed over.
+    /// Takes back the connection that was handed over, and has it go on, from now on.
     pub(crate) fn take_back(&mut self)
-        ensures { self.new.current ≡ None }
+        ensures current { self.new.current ≡ None }
+        ensures back { (i : ℕ) → self.old.current ≡ Some i → i < length self.old.seats.items → i < length self.old.rooms.items → IsPlaceChangedAt (λ seat. IsSettled (record seat { turn = 0; since = self.old.now })) i self.old.seats.items self.old.rooms.items self.new.seats.items self.new.rooms.items }
+        ensures none { self.old.current ≡ None → self.new ≡ self.old }
     {
         let Some(i) = self.current else {
             return;
         };
         self.current = None;
-        if let (Some(seat), Some(room)) = (self.seats.get_mut(i), self.rooms.get_mut(i)) {
-            seat.turn = 0;
-            seat.since = self.now;
-            settle(seat, room, self.now, &mut self.turns);
-        }
+        rest_at(&mut self.seats, i, self.now);
+        settle_at(
+            &mut self.seats,
+            &mut self.rooms,
+            i,
+            self.now,
+            &mut self.turns,
+        );
     }
 
     /// Waits for something to happen, and has all connections go on. Answers whether the listener is broken.
     fn gather<C: Clock>(&mut self, ears: &mut Ears, clock: &C, most_of_one: usize) -> bool
-        ensures { self.new.current ≡ self.old.current }
+        ensures current { self.new.current ≡ self.old.current }
+        ensures went { AreAllChanged (IsGoneOn self.new.now) self.old.seats.items self.old.rooms.items self.new.seats.items self.new.rooms.items }
     {
         let wait = if least(self.seats.as_slice(), Wanted::FirstInTurn).is_some() {
             0
@@ -135,6 +147,7 @@ impl Hall {
     ) -> Accepting
         requires { self.old.current ≡ None }
         ensures advance { IsAdvance result self.new.current self.new.seats.items }
+        ensures went { AreAllChanged (IsGoneOn self.new.now) self.old.seats.items self.old.rooms.items self.new.seats.items self.new.rooms.items }
         ensures unread { (peer : Peer) → result ≡ Accepting.Come peer → self.new.is_read ≡ false }
     {
         let Some(ears) = ears else {

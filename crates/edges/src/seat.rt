@@ -1,8 +1,9 @@
 //! A place for a connection: whether it is taken, and what goes on with it.
 ghost use Rattle.std.specs.IoError.{error_kind};
 ghost use Rattle.std.specs.Prelude.{◌≡◌, ◌≢◌, ◌<◌, ◌≤◌, ◌⊎◌, length, true, false};
-ghost use Rattle.edges.specs.Places.{IsOverNow, IsSamePlace, IsSameSeat, IsTaken, IsVacant, is_free};
-ghost use Rattle.edges.specs.Rooms.{IsChangedAt, IsEmpty, IsFilled, IsFlushed, IsGoingOn};
+ghost use Rattle.edges.specs.Halls.{IsPlaceChangedAt, IsSettled};
+ghost use Rattle.edges.specs.Places.{IsOverNow, IsSameSeat, IsTaken, IsVacant, is_free};
+ghost use Rattle.edges.specs.Rooms.{IsChangedAt, IsEmpty, IsFilled, IsFlushed};
 
 use crate::room::Room;
 use addr_text::{Addr, Peer};
@@ -177,7 +178,7 @@ pub(crate) fn leave(seat: &mut Seat, room: &mut Room)
 /// Writes and reads what goes and comes at once, and has the connection wait to be handed over where it has whole messages
 /// and no reply of it is to go. `turns` counts those that waited.
 pub(crate) fn settle(seat: &mut Seat, room: &mut Room, now: u64, turns: &mut u64)
-    ensures settled { (IsVacant seat.new × IsEmpty room.new) ⊎ (IsSamePlace seat.old seat.new × IsGoingOn room.old room.new) }
+    ensures settled { IsSettled seat.old room.old seat.new room.new }
     ensures over { seat.old.is_over ≡ true → is_free seat.new ≡ true }
 {
     if seat.stream.is_none() {
@@ -191,6 +192,40 @@ pub(crate) fn settle(seat: &mut Seat, room: &mut Room, now: u64, turns: &mut u64
     }
     if is_left(seat, room, now) {
         leave(seat, room);
+    }
+}
+
+/// Has the connection of a place wait no more to be handed over, and be idle from now on.
+pub(crate) fn rest_at(seats: &mut [Seat], i: usize, now: u64)
+    ensures at { i < length seats.old → IsChangedAt (λ old new. new ≡ record old { turn = 0; since = now }) i seats.old seats.new }
+    ensures none { length seats.old ≤ i → seats.new ≡ seats.old }
+{
+    if i < seats.len() {
+        let seat = &mut seats[i];
+        seat.turn = 0;
+        seat.since = now;
+    }
+}
+
+/// Notes that there may be something to read of a connection, and room to write.
+pub(crate) fn wake_at(seats: &mut [Seat], i: usize)
+    ensures woken { i < length seats.old → IsChangedAt IsSameSeat i seats.old seats.new }
+    ensures none { length seats.old ≤ i → seats.new ≡ seats.old }
+{
+    if i < seats.len() {
+        let seat = &mut seats[i];
+        seat.is_readable = true;
+        seat.is_writable = true;
+    }
+}
+
+/// Has the connection of a place go on.
+pub(crate) fn settle_at(seats: &mut [Seat], rooms: &mut [Room], i: usize, now: u64, turns: &mut u64)
+    ensures at { i < length seats.old → i < length rooms.old → IsPlaceChangedAt IsSettled i seats.old rooms.old seats.new rooms.new }
+    ensures none { (length seats.old ≤ i) ⊎ (length rooms.old ≤ i) → (seats.new ≡ seats.old) × (rooms.new ≡ rooms.old) }
+{
+    if i < seats.len() && i < rooms.len() {
+        settle(&mut seats[i], &mut rooms[i], now, turns);
     }
 }
 

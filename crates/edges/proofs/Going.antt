@@ -1,0 +1,394 @@
+-- What becomes of all places, one thing after another.
+use Rattle.std.proofs.Common.{◌≡◌, ◌⊎◌, ◌<◌, ◌≤◌, ◌+◌, ℕ, zero, suc, Bool, List, Some, true, false, refl, sym, subst, ap, ◌∙◌, ◌∷◌, [], ◌++◌, append-nil, length, set, arith, inl, inr, ⊎_elim, MatchBool}
+use Rattle.std.specs.List.{AllZip}
+use Rattle.std.specs.Prelude.{slice_get, drop, take}
+use Rattle.std.proofs.lemmas.List.{drop_all, length-set, take_all}
+use Rattle.std.proofs.lemmas.Option.{slice_get_within, none-some}
+use Rattle.addr_text.specs.declared.address.Peer.{Peer}
+use Rattle.edges.proofs.Told.{got_at, some_eq}
+use Rattle.edges.specs.Halls.{AreAllChanged, IsGoneOn, IsLetIn, IsPlaceChangedAt, IsSettled}
+use Rattle.edges.specs.Places.{IsLeast, IsPlaceFor, IsSamePlace, IsSameSeat, IsTaken, IsVacant, is_free}
+use Rattle.edges.specs.Rooms.{IsChangedAt, IsEmpty, IsGoingOn}
+use Rattle.edges.specs.declared.places.Wanted.TheVariants.{Oldest}
+use Rattle.edges.specs.declared.room.Room.{Room}
+use Rattle.edges.specs.declared.seat.Seat.{Seat}
+
+-- two numbers are the same or not
+same_or_not : (i k : ℕ) → (i ≡ k) ⊎ (i ≡ k → ⊥)
+same_or_not zero zero = inl refl
+same_or_not zero (suc k) = inr (λ e. omega (arith, e))
+same_or_not (suc i) zero = inr (λ e. omega (arith, e))
+same_or_not (suc i) (suc k) = by (same_or_not i k)
+  where
+    by : (i ≡ k) ⊎ (i ≡ k → ⊥) → (suc i ≡ suc k) ⊎ (suc i ≡ suc k → ⊥)
+    by (inl e) = inl (ap suc e)
+    by (inr n) = inr (λ e. n (omega (arith, e)))
+
+-- what was set at one place changes no other one
+got_other : {A : Type 0} (xs : List A) (i k : ℕ) (y : A) → (i ≡ k → ⊥) → slice_get (set xs k y) i ≡ slice_get xs i
+got_other [] i k y n = refl
+got_other (x ∷ xs) zero zero y n = absurd (n refl)
+got_other (x ∷ xs) zero (suc k) y n = refl
+got_other (x ∷ xs) (suc i) zero y n = refl
+got_other (x ∷ xs) (suc i) (suc k) y n = got_other xs i k y (λ e. n (ap suc e))
+
+-- a place stays as it is
+abbrev Stays : Seat → Room → Seat → Room → Type 0
+Stays seat room seat' room' = (seat' ≡ seat) × (room' ≡ room)
+
+-- all do
+pub all_stay : (R : Seat → Room → Seat → Room → Type 0) → ((seat : Seat) (room : Room) → R seat room seat room) → (seats : List Seat) (rooms : List Room) → AreAllChanged R seats rooms seats rooms
+all_stay R same seats rooms = record { seats_stay = refl; rooms_stay = refl; each = λ i seat room s r. (seat, room, s, r, same seat room) }
+
+-- one place changed so, and each other one stays
+abbrev AtOr : ℕ → (Seat → Room → Seat → Room → Type 0) → ℕ → Seat → Room → Seat → Room → Type 0
+AtOr k R i seat room seat' room' = ((i ≡ k) × R seat room seat' room') ⊎ ((i ≡ k → ⊥) × Stays seat room seat' room')
+
+-- each place, by its number
+pub record Become (R : ℕ → Seat → Room → Seat → Room → Type 0) (seats : List Seat) (rooms : List Room) (seats' : List Seat) (rooms' : List Room) : Type 0 where
+  pub seats_stay : length seats' ≡ length seats
+  pub rooms_stay : length rooms' ≡ length rooms
+  pub each : (i : ℕ) (seat : Seat) (room : Room) → slice_get seats i ≡ Some seat → slice_get rooms i ≡ Some room →
+      (seat' : Seat) × (room' : Room) × (slice_get seats' i ≡ Some seat') × (slice_get rooms' i ≡ Some room') × R i seat room seat' room'
+
+by_number : {R : Seat → Room → Seat → Room → Type 0} {seats seats' : List Seat} {rooms rooms' : List Room} → AreAllChanged R seats rooms seats' rooms' → Become (λ i. R) seats rooms seats' rooms'
+by_number c = record { seats_stay = c.seats_stay; rooms_stay = c.rooms_stay; each = c.each }
+
+no_number : {R : Seat → Room → Seat → Room → Type 0} {seats seats' : List Seat} {rooms rooms' : List Room} → Become (λ i. R) seats rooms seats' rooms' → AreAllChanged R seats rooms seats' rooms'
+no_number c = record { seats_stay = c.seats_stay; rooms_stay = c.rooms_stay; each = c.each }
+
+-- one thing behind another
+then : (R S T : ℕ → Seat → Room → Seat → Room → Type 0) (s0 s1 s2 : List Seat) (r0 r1 r2 : List Room)
+    → ((i : ℕ) (s t u : Seat) (p q r : Room) → i < length s0 → i < length r0 → R i s p t q → S i t q u r → T i s p u r)
+    → Become R s0 r0 s1 r1 → Become S s1 r1 s2 r2 → Become T s0 r0 s2 r2
+then R S T s0 s1 s2 r0 r1 r2 both one two = record {
+  seats_stay = two.seats_stay ∙ one.seats_stay;
+  rooms_stay = two.rooms_stay ∙ one.rooms_stay;
+  each = λ i seat room s r.
+      let a = one.each i seat room s r in
+      let b = two.each i a.0 a.1 a.2 a.3 in
+      (b.0, b.1, b.2, b.3, both i seat a.0 b.0 room a.1 b.1 (slice_get_within s0 i seat s) (slice_get_within r0 i room r) a.4 b.4);
+}
+
+-- of two lists, one at a place
+at_one : (R : Seat → Room → Seat → Room → Type 0) (k : ℕ) (seats : List Seat) (rooms : List Room) (seat seat' : Seat) (room room' : Room) → slice_get seats k ≡ Some seat → slice_get rooms k ≡ Some room → R seat room seat' room' → Become (AtOr k R) seats rooms (set seats k seat') (set rooms k room')
+at_one R k seats rooms seat seat' room room' s r changed = record {
+  seats_stay = length-set seats k seat';
+  rooms_stay = length-set rooms k room';
+  each = λ i a b got had. by i a b got had (same_or_not i k);
+}
+  where
+    by : (i : ℕ) (a : Seat) (b : Room) → slice_get seats i ≡ Some a → slice_get rooms i ≡ Some b → (i ≡ k) ⊎ (i ≡ k → ⊥) →
+        (a' : Seat) × (b' : Room) × (slice_get (set seats k seat') i ≡ Some a') × (slice_get (set rooms k room') i ≡ Some b') × AtOr k R i a b a' b'
+    by i a b got had (inr n) = (a, b, got_other seats i k seat' n ∙ got, got_other rooms i k room' n ∙ had, inr (n, (refl, refl)))
+    by i a b got had (inl e) =
+        let a-is : a ≡ seat = some_eq a seat (sym got ∙ ap (λ j. slice_get seats j) e ∙ s) in
+        let b-is : b ≡ room = some_eq b room (sym had ∙ ap (λ j. slice_get rooms j) e ∙ r) in (
+          seat',
+          room',
+          ap (λ j. slice_get (set seats k seat') j) e ∙ got_at seats k seat seat' s,
+          ap (λ j. slice_get (set rooms k room') j) e ∙ got_at rooms k room room' r,
+          inl (e, subst (λ x. R x b seat' room') (sym a-is) (subst (λ y. R seat y seat' room') (sym b-is) changed)),
+        )
+
+-- the places before one have gone on, and those from it on stay so far
+abbrev IsSettledBelow : ℕ → ℕ → Seat → Room → Seat → Room → Type 0
+IsSettledBelow n i seat room seat' room' = (i < n → IsSettled seat room seat' room') × (n ≤ i → Stays seat room seat' room')
+
+abbrev pub SettledBelow : ℕ → List Seat → List Room → List Seat → List Room → Type 0
+SettledBelow n = Become (IsSettledBelow n)
+
+pub none_settled : (seats : List Seat) (rooms : List Room) → SettledBelow 0 seats rooms seats rooms
+none_settled seats rooms = record { seats_stay = refl; rooms_stay = refl; each = λ i seat room s r. (seat, room, s, r, ((λ lt. absurd (omega (arith, lt))), λ le. (refl, refl))) }
+
+-- one more
+pub one_settled : (n : ℕ) (s0 s1 s2 : List Seat) (r0 r1 r2 : List Room) → SettledBelow n s0 r0 s1 r1 → (n < length s1 → n < length r1 → IsPlaceChangedAt IsSettled n s1 r1 s2 r2) → ((length s1 ≤ n) ⊎ (length r1 ≤ n) → (s2 ≡ s1) × (r2 ≡ r1)) → SettledBelow (n + 1) s0 r0 s2 r2
+one_settled n s0 s1 s2 r0 r1 r2 below at none = by (within n (length s1)) (within n (length r1))
+  where
+    within : (i k : ℕ) → (i < k) ⊎ (k ≤ i)
+    within i zero = inr (omega arith)
+    within zero (suc k) = inl (omega arith)
+    within (suc i) (suc k) = ⊎_elim (λ lt. inl (omega (arith, lt))) (λ le. inr (omega (arith, le))) (within i k)
+
+    past : (length s1 ≤ n) ⊎ (length r1 ≤ n) → SettledBelow (n + 1) s0 r0 s2 r2
+    past le =
+        let is = none le in
+        subst (λ s. SettledBelow (n + 1) s0 r0 s r2) (sym is.0) (subst (λ r. SettledBelow (n + 1) s0 r0 s1 r) (sym is.1) (record {
+          seats_stay = below.seats_stay;
+          rooms_stay = below.rooms_stay;
+          each = λ i seat room s r.
+              let a = below.each i seat room s r in
+              let lt : i < length s0 = slice_get_within s0 i seat s in
+              let lt' : i < length r0 = slice_get_within r0 i room r in
+              (a.0, a.1, a.2, a.3, ((λ less. a.4.0 (before i lt lt' less le)), λ more. a.4.1 (omega (arith, more))));
+        }))
+      where
+        before : (i : ℕ) → i < length s0 → i < length r0 → i < n + 1 → (length s1 ≤ n) ⊎ (length r1 ≤ n) → i < n
+        before i lt lt' less (inl le) = omega (arith, lt, less, le, below.seats_stay)
+        before i lt lt' less (inr le) = omega (arith, lt', less, le, below.rooms_stay)
+
+    by : (n < length s1) ⊎ (length s1 ≤ n) → (n < length r1) ⊎ (length r1 ≤ n) → SettledBelow (n + 1) s0 r0 s2 r2
+    by (inr le) r = past (inl le)
+    by (inl lt) (inr le) = past (inr le)
+    by (inl lt) (inl lt') =
+        let c = at lt lt' in
+        then (IsSettledBelow n) (AtOr n IsSettled) (IsSettledBelow (n + 1)) s0 s1 s2 r0 r1 r2 more below
+        (subst (λ s. Become (AtOr n IsSettled) s1 r1 s r2) (sym c.seat_is) (subst (λ r. Become (AtOr n IsSettled) s1 r1 (set s1 n c.seat') r) (sym c.room_is) (at_one IsSettled n s1 r1 c.seat c.seat' c.room c.room' c.seat_was c.room_was c.changed)))
+      where
+        more : (i : ℕ) (s t u : Seat) (p q r : Room) → i < length s0 → i < length r0 → IsSettledBelow n i s p t q → AtOr n IsSettled i t q u r → IsSettledBelow (n + 1) i s p u r
+        more i s t u p q r in-s in-r before (inl (e, settled)) =
+            let is = before.1 (omega (arith, e)) in
+            ((λ less. subst (λ x. IsSettled x p u r) is.0 (subst (λ y. IsSettled t y u r) is.1 settled)), λ le. absurd (omega (arith, le, e)))
+        more i s t u p q r in-s in-r before (inr (other, stays)) = (
+          (λ less. subst (λ x. IsSettled s p x r) (sym stays.0) (subst (λ y. IsSettled s p t y) (sym stays.1) (before.0 (lower less)))),
+          λ le. let is = before.1 (omega (arith, le)) in (stays.0 ∙ is.0, stays.1 ∙ is.1),
+        )
+          where
+            lower : i < n + 1 → i < n
+            lower less = ⊎_elim (λ lt. lt) (λ le. absurd (other (omega (arith, less, le)))) (within i n)
+
+-- all of them
+pub all_settled : (n : ℕ) (s0 s1 : List Seat) (r0 r1 : List Room) → length s0 ≤ n → SettledBelow n s0 r0 s1 r1 → AreAllChanged IsSettled s0 r0 s1 r1
+all_settled n s0 s1 r0 r1 le below = record {
+  seats_stay = below.seats_stay;
+  rooms_stay = below.rooms_stay;
+  each = λ i seat room s r. let a = below.each i seat room s r in (a.0, a.1, a.2, a.3, a.4.0 (omega (arith, le, slice_get_within s0 i seat s)));
+}
+
+-- a connection is taken in or left, or nothing happens
+pub let_in_more : (now k : ℕ) (P : Seat → Type 0) (s0 s1 s2 : List Seat) (r0 r1 r2 : List Room) → ((s : Seat) → P s → IsVacant s ⊎ ((is_free s ≡ false) × (s.since ≡ now)))
+    → AreAllChanged (IsLetIn now) s0 r0 s1 r1 → IsChangedAt (λ _ s. P s) k s1 s2 → IsChangedAt (λ _ r. IsEmpty r) k r1 r2 → AreAllChanged (IsLetIn now) s0 r0 s2 r2
+let_in_more now k P s0 s1 s2 r0 r1 r2 which before seat room =
+    no_number (then (λ i. IsLetIn now) (AtOr k Came) (λ i. IsLetIn now) s0 s1 s2 r0 r1 r2 both (by_number before)
+    (subst (λ s. Become (AtOr k Came) s1 r1 s r2) (sym seat.is) (subst (λ r. Become (AtOr k Came) s1 r1 (set s1 k seat.new) r) (sym room.is) (at_one Came k s1 r1 seat.old seat.new room.old room.new seat.was room.was (which seat.new seat.changed, room.changed)))))
+  where
+    Came : Seat → Room → Seat → Room → Type 0
+    Came s p t q = (IsVacant t ⊎ ((is_free t ≡ false) × (t.since ≡ now))) × IsEmpty q
+
+    both : (i : ℕ) (s t u : Seat) (p q r : Room) → i < length s0 → i < length r0 → IsLetIn now s p t q → AtOr k Came i t q u r → IsLetIn now s p u r
+    both i s t u p q r in-s in-r one (inl (e, came)) = inr came
+    both i s t u p q r in-s in-r one (inr (other, stays)) = subst (λ x. IsLetIn now s p x r) (sym stays.0) (subst (λ y. IsLetIn now s p t y) (sym stays.1) one)
+
+-- by two equations
+pub moved : (R : Seat → Room → Seat → Room → Type 0) (s0 s1 s2 : List Seat) (r0 r1 r2 : List Room) → s2 ≡ s1 → r2 ≡ r1 → AreAllChanged R s0 r0 s1 r1 → AreAllChanged R s0 r0 s2 r2
+moved R s0 s1 s2 r0 r1 r2 s r c = subst (λ x. AreAllChanged R s0 r0 x r2) (sym s) (subst (λ y. AreAllChanged R s0 r0 s1 y) (sym r) c)
+
+-- a connection came
+pub one_let_in : (now most : ℕ) (peer : Peer) (s0 s1 s2 : List Seat) (r0 r1 r2 : List Room) → AreAllChanged (IsLetIn now) s0 r0 s1 r1
+    → ((s2 ≡ s1) × (r2 ≡ r1)) ⊎ ((i : ℕ) × IsPlaceFor s1 peer.addr most (Some i) × IsChangedAt (λ _ seat. IsTaken peer now seat) i s1 s2 × IsChangedAt (λ _ room. IsEmpty room) i r1 r2) → AreAllChanged (IsLetIn now) s0 r0 s2 r2
+one_let_in now most peer s0 s1 s2 r0 r1 r2 before (inl (s, r)) = moved (IsLetIn now) s0 s1 s2 r0 r1 r2 s r before
+one_let_in now most peer s0 s1 s2 r0 r1 r2 before (inr (k, place, seat, room)) = let_in_more now k (IsTaken peer now) s0 s1 s2 r0 r1 r2 (λ s taken. inr (taken.0, taken.2)) before seat room
+
+-- room was made, or there was none
+pub room_made : (now : ℕ) (is_made : Bool) (s0 s1 s2 : List Seat) (r0 r1 r2 : List Room) → AreAllChanged (IsLetIn now) s0 r0 s1 r1
+    → (is_made ≡ true → (i : ℕ) × IsLeast Oldest s1 i × IsChangedAt (λ _ seat. IsVacant seat) i s1 s2 × IsChangedAt (λ _ room. IsEmpty room) i r1 r2) → (is_made ≡ false → (s2 ≡ s1) × (r2 ≡ r1)) → AreAllChanged (IsLetIn now) s0 r0 s2 r2
+room_made now true s0 s1 s2 r0 r1 r2 before made none = let m = made refl in let_in_more now m.0 IsVacant s0 s1 s2 r0 r1 r2 (λ s vacant. inl vacant) before m.2 m.3
+room_made now false s0 s1 s2 r0 r1 r2 before made none = let is = none refl in moved (IsLetIn now) s0 s1 s2 r0 r1 r2 is.0 is.1 before
+
+-- of the seats alone
+woken : (s0 s1 : List Seat) (rooms : List Room) → AllZip IsSameSeat s0 s1 → Become (λ i s p t q. IsSameSeat s t × (q ≡ p)) s0 rooms s1 rooms
+woken s0 s1 rooms same = record { seats_stay = long s0 s1 same; rooms_stay = refl; each = λ i seat room s r. let a = at s0 s1 i seat same s in (a.0, room, a.1, r, (a.2, refl)) }
+  where
+    long : (s0 s1 : List Seat) → AllZip IsSameSeat s0 s1 → length s1 ≡ length s0
+    long [] [] z = refl
+    long [] (t ∷ ts) z = absurd z
+    long (s ∷ ss) [] z = absurd z
+    long (s ∷ ss) (t ∷ ts) z = ap suc (long ss ts z.1)
+
+    at : (s0 s1 : List Seat) (i : ℕ) (seat : Seat) → AllZip IsSameSeat s0 s1 → slice_get s0 i ≡ Some seat → (t : Seat) × (slice_get s1 i ≡ Some t) × IsSameSeat seat t
+    at [] [] i seat z e = absurd (none-some seat e)
+    at [] (t ∷ ts) i seat z e = absurd z
+    at (s ∷ ss) [] i seat z e = absurd z
+    at (s ∷ ss) (t ∷ ts) zero seat z e = (t, refl, subst (λ x. IsSameSeat x t) (some_eq s seat e) z.0)
+    at (s ∷ ss) (t ∷ ts) (suc i) seat z e = at ss ts i seat z.1 e
+
+-- seats that stay as they are
+pub all_same : (seats : List Seat) → AllZip IsSameSeat seats seats
+all_same [] = tt
+all_same (s ∷ ss) = (((refl, refl, refl), refl, λ is. is), all_same ss)
+
+-- one is woken, where there is one
+pub one_woken : (k : ℕ) (s0 s1 s2 : List Seat) → AllZip IsSameSeat s0 s1 → (k < length s1 → IsChangedAt IsSameSeat k s1 s2) → (length s1 ≤ k → s2 ≡ s1) → AllZip IsSameSeat s0 s2
+one_woken k s0 s1 s2 same at none = by (within k (length s1))
+  where
+    within : (i n : ℕ) → (i < n) ⊎ (n ≤ i)
+    within i zero = inr (omega arith)
+    within zero (suc n) = inl (omega arith)
+    within (suc i) (suc n) = ⊎_elim (λ lt. inl (omega (arith, lt))) (λ le. inr (omega (arith, le))) (within i n)
+
+    trans : (s t u : Seat) → IsSameSeat s t → IsSameSeat t u → IsSameSeat s u
+    trans s t u a b = ((b.0.0 ∙ a.0.0, b.0.1 ∙ a.0.1, b.0.2 ∙ a.0.2), b.1 ∙ a.1, λ is. b.2 (a.2 is))
+
+    placed : (s0 s1 : List Seat) (k : ℕ) (old new : Seat) → AllZip IsSameSeat s0 s1 → slice_get s1 k ≡ Some old → IsSameSeat old new → AllZip IsSameSeat s0 (set s1 k new)
+    placed [] [] k old new z e is = absurd (none-some old e)
+    placed [] (t ∷ ts) k old new z e is = absurd z
+    placed (s ∷ ss) [] k old new z e is = absurd z
+    placed (s ∷ ss) (t ∷ ts) zero old new z e is = (trans s t new z.0 (subst (λ x. IsSameSeat x new) (sym (some_eq t old e)) is), z.1)
+    placed (s ∷ ss) (t ∷ ts) (suc k) old new z e is = (z.0, placed ss ts k old new z.1 e is)
+
+    by : (k < length s1) ⊎ (length s1 ≤ k) → AllZip IsSameSeat s0 s2
+    by (inl lt) = let c = at lt in subst (λ s. AllZip IsSameSeat s0 s) (sym c.is) (placed s0 s1 k c.old c.new same c.was c.changed)
+    by (inr le) = subst (λ s. AllZip IsSameSeat s0 s) (sym (none le)) same
+
+same_going : (room : Room) → IsGoingOn room room
+same_going room = (([], sym (append_nil room.coming.items)), (0, refl))
+  where
+    append_nil : (xs : List ℕ) → xs ++ [] ≡ xs
+    append_nil xs = append-nil xs
+
+-- a place on which there was a wait alone
+waited_on : (now : ℕ) (s t : Seat) (p q : Room) → IsSameSeat s t → q ≡ p → IsGoneOn now s p t q
+waited_on now s t p q same is = inr (inl (same.0, subst (λ (r : Room). IsGoingOn p r) (sym is) (same_going p)))
+
+-- a wait that broke
+pub broken_off : (now : ℕ) (s0 s1 : List Seat) (rooms : List Room) → AllZip IsSameSeat s0 s1 → AreAllChanged (IsGoneOn now) s0 rooms s1 rooms
+broken_off now s0 s1 rooms same =
+    let w = woken s0 s1 rooms same in
+    record { seats_stay = w.seats_stay; rooms_stay = w.rooms_stay; each = λ i seat room s r. let a = w.each i seat room s r in (a.0, a.1, a.2, a.3, waited_on now seat a.0 room a.1 a.4.0 a.4.1) }
+
+-- nothing happened
+pub none_gone : (now : ℕ) (seats : List Seat) (rooms : List Room) → AreAllChanged (IsGoneOn now) seats rooms seats rooms
+none_gone now seats rooms = broken_off now seats seats rooms (all_same seats)
+
+-- a wait, connections that are taken in, and all go on
+pub all_gone_on : (now : ℕ) (s0 s1 s2 s3 : List Seat) (r0 r1 r2 : List Room) → AllZip IsSameSeat s0 s1 → AreAllChanged (IsLetIn now) s1 r0 s2 r1 → AreAllChanged IsSettled s2 r1 s3 r2 → AreAllChanged (IsGoneOn now) s0 r0 s3 r2
+all_gone_on now s0 s1 s2 s3 r0 r1 r2 same came settled =
+    no_number (then Woken (λ i. After) (λ i. IsGoneOn now) s0 s1 s3 r0 r0 r2 (λ i s t u p q r in-s in-r a b. last s t u p q r a b) (woken s0 s1 r0 same)
+    (then (λ i. IsLetIn now) (λ i. IsSettled) (λ i. After) s1 s2 s3 r0 r1 r2 (λ i s t u p q r in-s in-r a b. (t, q, a, b)) (by_number came) (by_number settled)))
+  where
+    Woken : ℕ → Seat → Room → Seat → Room → Type 0
+    Woken i s p t q = IsSameSeat s t × (q ≡ p)
+
+    After : Seat → Room → Seat → Room → Type 0
+    After s p u r = (t : Seat) × (q : Room) × IsLetIn now s p t q × IsSettled t q u r
+
+    last : (s t u : Seat) (p q r : Room) → IsSameSeat s t × (q ≡ p) → After t q u r → IsGoneOn now s p u r
+    last s t u p q r (same, is) (v, w, inl (v-is, w-is), settled) =
+        let e : w ≡ p = w-is ∙ is in
+        let at : IsSettled t p u r = subst (λ (x : Seat). IsSettled x p u r) v-is (subst (λ (y : Room). IsSettled v y u r) e settled) in
+        by (is_free t) at
+      where
+        by : (b : Bool) → MatchBool b ((u ≡ t) × (r ≡ p)) ((IsVacant u × IsEmpty r) ⊎ (IsSamePlace t u × IsGoingOn p r)) → IsGoneOn now s p u r
+        by true (u-is, r-is) = inr (inl (subst (λ (x : Seat). IsSamePlace s x) (sym u-is) same.0, subst (λ (x : Room). IsGoingOn p x) (sym r-is) (same_going p)))
+        by false (inl left) = inl left
+        by false (inr (place, going)) = inr (inl ((place.0 ∙ same.0.0, place.1 ∙ same.0.1, place.2 ∙ same.0.2), going))
+    last s t u p q r (same, is) (v, w, inr (inl vacant, empty), settled) =
+        let is' = subst (λ b. MatchBool b ((u ≡ v) × (r ≡ w)) ((IsVacant u × IsEmpty r) ⊎ (IsSamePlace v u × IsGoingOn w r))) vacant.0 settled in
+        inl (subst (λ (x : Seat). IsVacant x) (sym is'.0) vacant, subst (λ (x : Room). IsEmpty x) (sym is'.1) empty)
+    last s t u p q r (same, is) (v, w, inr (inr taken, empty), settled) =
+        by (subst (λ b. MatchBool b ((u ≡ v) × (r ≡ w)) ((IsVacant u × IsEmpty r) ⊎ (IsSamePlace v u × IsGoingOn w r))) taken.0 settled)
+      where
+        drop_none : (n : ℕ) → drop {A = ℕ} n [] ≡ []
+        drop_none zero = refl
+        drop_none (suc n) = refl
+
+        by : (IsVacant u × IsEmpty r) ⊎ (IsSamePlace v u × IsGoingOn w r) → IsGoneOn now s p u r
+        by (inl left) = inl left
+        by (inr (place, going)) = inr (inr (place.0 ∙ taken.0, place.2 ∙ taken.1, going.1.1 ∙ subst (λ (l : List ℕ). drop going.1.0 l ≡ []) (sym empty.1) (drop_none going.1.0)))
+
+-- what a vector holds behind a call that had its items
+abbrev pub put : {A : Type 0} → ℕ → List A → List A → List A
+put n new old = take n (new ++ drop (length new) old)
+
+written : {A : Type 0} (n : ℕ) (new old : List A) → n ≡ length old → length new ≡ length old → put n new old ≡ new
+written n new old is same =
+    ap (λ l. take n (new ++ l)) (drop_all (length new) old (omega (arith, same))) ∙ ap (take n) (append-nil new) ∙ take_all n new (omega (arith, is, same))
+
+long_woken : (s0 s1 : List Seat) → AllZip IsSameSeat s0 s1 → length s1 ≡ length s0
+long_woken s0 s1 same = (woken s0 s1 [] same).seats_stay
+
+-- a wait that broke, in a vector
+pub broken_put : (now n : ℕ) (s0 w d1 : List Seat) (rooms : List Room) → n ≡ length s0 → d1 ≡ s0 → AllZip IsSameSeat d1 w → AreAllChanged (IsGoneOn now) s0 rooms (put n w s0) rooms
+broken_put now n s0 w d1 rooms len d1-is same =
+    let s : AllZip IsSameSeat s0 w = subst (λ l. AllZip IsSameSeat l w) d1-is same in
+    moved (IsGoneOn now) s0 w (put n w s0) rooms rooms rooms (written n w s0 len (long_woken s0 w s)) refl (broken_off now s0 w rooms s)
+
+-- all of it, in vectors
+pub all_put : (now n m : ℕ) (s0 w t f d1 d2 d4 : List Seat) (r0 q g d3 d5 : List Room) → n ≡ length s0 → m ≡ length r0 → d1 ≡ s0 → AllZip IsSameSeat d1 w
+    → d2 ≡ put n w s0 → d3 ≡ r0 → AreAllChanged (IsLetIn now) d2 d3 t q
+    → d4 ≡ put n t (put n w s0) → d5 ≡ put m q r0 → AreAllChanged IsSettled d4 d5 f g
+    → AreAllChanged (IsGoneOn now) s0 r0 (put n f (put n t (put n w s0))) (put m g (put m q r0))
+all_put now n m s0 w t f d1 d2 d4 r0 q g d3 d5 n-is m-is d1-is same d2-is d3-is came d4-is d5-is settled =
+    moved (IsGoneOn now) s0 f (put n f (put n t (put n w s0))) r0 g (put m g (put m q r0))
+    (ap (put n f) e2 ∙ written n f t n-t after.seats_stay) (ap (put m g) e3 ∙ written m g q m-q after.rooms_stay)
+    (all_gone_on now s0 w t f r0 q g woke let_in after)
+  where
+    woke : AllZip IsSameSeat s0 w
+    woke = subst (λ l. AllZip IsSameSeat l w) d1-is same
+
+    e1 : put n w s0 ≡ w
+    e1 = written n w s0 n-is (long_woken s0 w woke)
+
+    n-w : n ≡ length w
+    n-w = n-is ∙ sym (long_woken s0 w woke)
+
+    let_in : AreAllChanged (IsLetIn now) w r0 t q
+    let_in = subst (λ s. AreAllChanged (IsLetIn now) s r0 t q) (d2-is ∙ e1) (subst (λ r. AreAllChanged (IsLetIn now) d2 r t q) d3-is came)
+
+    e2 : put n t (put n w s0) ≡ t
+    e2 = ap (put n t) e1 ∙ written n t w n-w let_in.seats_stay
+
+    n-t : n ≡ length t
+    n-t = n-w ∙ sym let_in.seats_stay
+
+    e3 : put m q r0 ≡ q
+    e3 = written m q r0 m-is let_in.rooms_stay
+
+    m-q : m ≡ length q
+    m-q = m-is ∙ sym let_in.rooms_stay
+
+    after : AreAllChanged IsSettled t q f g
+    after = subst (λ s. AreAllChanged IsSettled s q f g) (d4-is ∙ e2) (subst (λ r. AreAllChanged IsSettled d4 r f g) (d5-is ∙ e3) settled)
+
+set_twice : {A : Type 0} (xs : List A) (i : ℕ) (x y : A) → set (set xs i x) i y ≡ set xs i y
+set_twice [] i x y = refl
+set_twice (z ∷ xs) zero x y = refl
+set_twice (z ∷ xs) (suc i) x y = ap (λ l. z ∷ l) (set_twice xs i x y)
+
+-- from that time on it is idle, and does not wait
+abbrev rested : ℕ → Seat → Seat
+rested now seat = record seat { turn = 0; since = now }
+
+-- a connection that is taken back, in vectors
+pub back_put : (now n m k i : ℕ) (s0 s1 s2 d1 d2 : List Seat) (r0 r1 d3 : List Room) → n ≡ length s0 → m ≡ length r0 → d1 ≡ s0 → (k < length d1 → IsChangedAt (λ old new. new ≡ rested now old) k d1 s1)
+    → d2 ≡ put n s1 s0 → d3 ≡ r0 → (k < length d2 → k < length d3 → IsPlaceChangedAt IsSettled k d2 d3 s2 r1) → k ≡ i → i < length s0 → i < length r0
+    → IsPlaceChangedAt (λ seat. IsSettled (rested now seat)) i s0 r0 (put n s2 (put n s1 s0)) (put m r1 r0)
+back_put now n m k i s0 s1 s2 d1 d2 r0 r1 d3 n-is m-is d1-is rest' d2-is d3-is settled' k-is lt lt' = record {
+  seat = one.old;
+  room = two.room;
+  seat' = two.seat';
+  room' = two.room';
+  seat_was = one.was;
+  room_was = two.room_was;
+  seat_is = ap (put n s2) e1 ∙ written n s2 s1 (n-is ∙ sym long) long2 ∙ two.seat_is ∙ ap (λ l. set l i two.seat') one.is ∙ set_twice s0 i one.new two.seat';
+  room_is = written m r1 r0 m-is long3 ∙ two.room_is;
+  changed = subst (λ s. IsSettled s two.room two.seat' two.room') (new-is ∙ one.changed) two.changed;
+}
+  where
+    rest : i < length d1 → IsChangedAt (λ old new. new ≡ rested now old) i d1 s1
+    rest = subst (λ j. j < length d1 → IsChangedAt (λ old new. new ≡ rested now old) j d1 s1) k-is rest'
+
+    settled : i < length d2 → i < length d3 → IsPlaceChangedAt IsSettled i d2 d3 s2 r1
+    settled = subst (λ j. j < length d2 → j < length d3 → IsPlaceChangedAt IsSettled j d2 d3 s2 r1) k-is settled'
+
+    one : IsChangedAt (λ old new. new ≡ rested now old) i s0 s1
+    one = subst (λ l. IsChangedAt (λ old new. new ≡ rested now old) i l s1) d1-is (rest (subst (λ l. i < length l) (sym d1-is) lt))
+
+    long : length s1 ≡ length s0
+    long = ap length one.is ∙ length-set s0 i one.new
+
+    e1 : put n s1 s0 ≡ s1
+    e1 = written n s1 s0 n-is long
+
+    two : IsPlaceChangedAt IsSettled i s1 r0 s2 r1
+    two = subst (λ l. IsPlaceChangedAt IsSettled i l r0 s2 r1) (d2-is ∙ e1) (subst (λ l. IsPlaceChangedAt IsSettled i d2 l s2 r1) d3-is
+        (settled (subst (λ l. i < length l) (sym (d2-is ∙ e1)) (omega (arith, lt, long))) (subst (λ l. i < length l) (sym d3-is) lt')))
+
+    long2 : length s2 ≡ length s1
+    long2 = ap length two.seat_is ∙ length-set s1 i two.seat'
+
+    long3 : length r1 ≡ length r0
+    long3 = ap length two.room_is ∙ length-set r0 i two.room'
+
+    new-is : two.seat ≡ one.new
+    new-is = some_eq two.seat one.new (sym two.seat_was ∙ ap (λ l. slice_get l i) one.is ∙ got_at s0 i one.old one.new one.was)
