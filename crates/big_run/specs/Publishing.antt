@@ -4,15 +4,16 @@ use Rattle.map_cell.specs.Ends.{PublisherState}
 use Rattle.demand_feed.specs.Task.{Task, refused, batch, empty, spoiled, query, totals}
 use Rattle.mapper.specs.Mappers.{IsPublished}
 
-abbrev pub Publishes : Task → PublisherState → PublisherState → Type 0
-Publishes (refused number why) a b = b ≡ a
-Publishes (batch changes) a b = IsPublished a changes b
-Publishes empty a b = b ≡ a
-Publishes (spoiled lines) a b = b ≡ a
-Publishes (query addr octets) a b = b ≡ a
-Publishes totals a b = b ≡ a
+-- what comes of a task
+abbrev pub TaskPublishes : Task → PublisherState → PublisherState → Type 0
+TaskPublishes (refused number why) a b = b ≡ a
+TaskPublishes (batch changes) a b = IsPublished a changes b
+TaskPublishes empty a b = b ≡ a
+TaskPublishes (spoiled lines) a b = b ≡ a
+TaskPublishes (query addr octets) a b = b ≡ a
+TaskPublishes totals a b = b ≡ a
 
 -- what comes of a line, if anything
-abbrev pub Comes : Option Task → PublisherState → PublisherState → Type 0
-Comes None a b = b ≡ a
-Comes (Some task) a b = Publishes task a b
+abbrev pub LinePublishes : Option Task → PublisherState → PublisherState → Type 0
+LinePublishes None a b = b ≡ a
+LinePublishes (Some task) a b = TaskPublishes task a b

@@ -10,7 +10,7 @@ use Rattle.big_world.specs.Feed.{feed_of}
 use Rattle.big_world.specs.Topology.{topology_of}
 use Rattle.mapper.specs.Mappers.{IsFirst, IsMapping, most_offers}
 use Rattle.mapper.specs.Words.{totals_of}
-use Rattle.big_run.specs.Publishing.{Publishes}
+use Rattle.big_run.specs.Publishing.{TaskPublishes}
 use Rattle.big_run.specs.Replies.{count_of}
 use Rattle.big_run.specs.declared.summary.Summary.{Summary}
 
@@ -34,7 +34,7 @@ pub record IsWorldRun (n : ℕ) (s : Summary) : Type 0 where
   pub last : PublisherState
   pub reads : reading (topology_of n) ≡ Ok topology
   pub is_first : IsFirst topology first
-  pub batches : AllDo Publishes (tasks topology (whole_lines (feed_of n))) first last
+  pub batches : AllDo TaskPublishes (tasks topology (whole_lines (feed_of n))) first last
   pub counted : IsMapping topology.market first.newest.lines 0 s.proposals
   pub few : s.proposals ≤ most_offers topology.market
   pub sums : s ≡ summary_of n topology last s.proposals

@@ -8,7 +8,7 @@ ghost use Rattle.text_parts.specs.Parts.{whole_lines};
 ghost use Rattle.demand_feed.specs.Task.{tasks};
 ghost use Rattle.demand_feed.specs.Taking.{AllDo};
 ghost use Rattle.mapper.specs.Mappers.{IsFirst};
-ghost use Rattle.big_run.specs.Publishing.{Publishes};
+ghost use Rattle.big_run.specs.Publishing.{TaskPublishes};
 ghost use Rattle.big_run.specs.Runs.{IsWorldRun, summary_of};
 
 use crate::judge::Judge;
@@ -58,7 +58,7 @@ fn work<J: Naming, R: Wait>(
     requires first { IsFirst mapper.old.newest.plan mapper.old }
     requires length { length feed.now < 2 ^ 63 }
     requires groups { groups ≤ LARGEST_WORLD }
-    ensures done { OnOk result (AllDo Publishes (tasks mapper.old.newest.plan (whole_lines feed.now)) mapper.old mapper.new) }
+    ensures done { OnOk result (AllDo TaskPublishes (tasks mapper.old.newest.plan (whole_lines feed.now)) mapper.old mapper.new) }
     ensures sums { IfOk result (λ s. s ≡ summary_of groups mapper.old.newest.plan mapper.new proposals) }
 {
     let topology = Arc::try_clone(mapper.topology())?;

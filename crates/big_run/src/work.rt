@@ -6,7 +6,7 @@ ghost use Rattle.demand_feed.specs.Taking.{AllDo};
 ghost use Rattle.map_cell.specs.Ends.{PublisherState};
 ghost use Rattle.map_model.specs.Batch.{IsBatch};
 ghost use Rattle.mapper.specs.Mappers.{IsPublished};
-ghost use Rattle.big_run.specs.Publishing.{Comes, Publishes};
+ghost use Rattle.big_run.specs.Publishing.{LinePublishes, TaskPublishes};
 ghost use Rattle.big_run.specs.Working.{IsAtWork, IsLineTaken};
 
 use crate::judge::Judge;
@@ -82,7 +82,7 @@ pub(crate) fn take_lines<J: Naming, R: Wait>(
     requires serial { mapper.old.newest.serial ≡ 0 }
     requires length { length feed.now < 2 ^ 63 }
     ensures work { OnOk result (IsAtWork topology.now clerk.new mapper.new judge.new) }
-    ensures done { OnOk result (AllDo Publishes (tasks topology.now (whole_lines feed.now)) mapper.old mapper.new) }
+    ensures done { OnOk result (AllDo TaskPublishes (tasks topology.now (whole_lines feed.now)) mapper.old mapper.new) }
 {
     let mut rest = feed;
     'lines: while let Some((line, behind)) = cut(rest, b'\n') {

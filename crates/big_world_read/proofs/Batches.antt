@@ -194,14 +194,14 @@ unfolding step
 commit_ends t m change changes = ap (by_said t (record { number = m + 1; refused = 0; changes = change ∷ changes })) commit_said.says
 
 -- what comes of some lines, and the ledger behind them
-record Comes (t : Plan) (ledger : Ledger) (lines : List (List ℕ)) (come : List Task) (after : Ledger) : Type 0 where
+record ReadsAs (t : Plan) (ledger : Ledger) (lines : List (List ℕ)) (come : List Task) (after : Ledger) : Type 0 where
   come_is : tasks_of t ledger lines ≡ come
   after_is : ledger_after t ledger lines ≡ after
 
-none_come : (t : Plan) (ledger : Ledger) → Comes t ledger [] [] ledger
+none_come : (t : Plan) (ledger : Ledger) → ReadsAs t ledger [] [] ledger
 none_come t ledger = record { come_is = refl; after_is = refl }
 
-comes_next : (t : Plan) (ledger : Ledger) (line : List ℕ) (s : Step) (lines : List (List ℕ)) (come : List Task) (after : Ledger) → step t ledger line ≡ s → Comes t s.ledger lines come after → Comes t ledger (line ∷ lines) (option_to_list s.task ++ come) after
+comes_next : (t : Plan) (ledger : Ledger) (line : List ℕ) (s : Step) (lines : List (List ℕ)) (come : List Task) (after : Ledger) → step t ledger line ≡ s → ReadsAs t s.ledger lines come after → ReadsAs t ledger (line ∷ lines) (option_to_list s.task ++ come) after
 comes_next t ledger line s lines come after e rest = record {
   come_is = ap (λ (u : Step). option_to_list u.task ++ tasks_of t u.ledger lines) e ∙ ap (λ is. option_to_list s.task ++ is) rest.come_is;
   after_is = ap (λ (u : Step). ledger_after t u.ledger lines) e ∙ rest.after_is;
@@ -211,7 +211,7 @@ ledger_join : (t : Plan) (ledger : Ledger) (lines more : List (List ℕ)) → le
 ledger_join t ledger [] more = refl
 ledger_join t ledger (l ∷ ls) more = ledger_join t (step t ledger l).ledger ls more
 
-comes_join : (t : Plan) (ledger middle after : Ledger) (lines more : List (List ℕ)) (come later : List Task) → Comes t ledger lines come middle → Comes t middle more later after → Comes t ledger (lines ++ more) (come ++ later) after
+comes_join : (t : Plan) (ledger middle after : Ledger) (lines more : List (List ℕ)) (come later : List Task) → ReadsAs t ledger lines come middle → ReadsAs t middle more later after → ReadsAs t ledger (lines ++ more) (come ++ later) after
 comes_join t ledger middle after lines more come later first second = record {
   come_is =
       tasks_join t ledger lines more
@@ -222,7 +222,7 @@ comes_join t ledger middle after lines more come later first second = record {
 }
 
 -- what comes of the lines of a batch
-batch_comes : (t : Plan) (n x m : ℕ) → 1 ≤ n → n ≤ LARGEST_WORLD → KnowsGroups t n → KnowsPools t n → Comes t (clean m) (lines_at n x) (batch (changes_at n x) ∷ []) (clean (m + 1 + 1 + 1 + 1 + 1))
+batch_comes : (t : Plan) (n x m : ℕ) → 1 ≤ n → n ≤ LARGEST_WORLD → KnowsGroups t n → KnowsPools t n → ReadsAs t (clean m) (lines_at n x) (batch (changes_at n x) ∷ []) (clean (m + 1 + 1 + 1 + 1 + 1))
 batch_comes t n x m some most groups pools =
     let x1 = ahead behind_change x 1 in
     let x2 = ahead behind_change x 2 in
@@ -244,7 +244,7 @@ batch_comes t n x m some most groups pools =
     comes_next t (with_one d3 c3).ledger (codes "commit") (record { task = Some (batch (c0 ∷ c1 ∷ c2 ∷ c3 ∷ [])); ledger = after }) [] [] after (commit_ends t (m + 1 + 1 + 1 + 1) c0 (c1 ∷ c2 ∷ c3 ∷ [])) (none_come t after)))))
 
 -- what comes of the first k batches
-batches_come : (t : Plan) (n x k : ℕ) → 1 ≤ n → n ≤ LARGEST_WORLD → KnowsGroups t n → KnowsPools t n → (m : ℕ) × Comes t fresh (lines_of_batches n x k) (map (λ i. batch (changes_at n (ahead behind_batch x i))) (range_with_len 0 k)) (clean m)
+batches_come : (t : Plan) (n x k : ℕ) → 1 ≤ n → n ≤ LARGEST_WORLD → KnowsGroups t n → KnowsPools t n → (m : ℕ) × ReadsAs t fresh (lines_of_batches n x k) (map (λ i. batch (changes_at n (ahead behind_batch x i))) (range_with_len 0 k)) (clean m)
 batches_come t n x zero some most groups pools = (0, none_come t fresh)
 batches_come t n x (suc k) some most groups pools =
     let first = batches_come t n x k some most groups pools in

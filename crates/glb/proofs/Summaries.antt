@@ -15,7 +15,7 @@ use Rattle.mapper.specs.Mappers.{IsFirst, IsPublished}
 use Rattle.mapper.proofs.Agree.{first_one, next_one}
 use Rattle.big_world.specs.Feed.{feed_of}
 use Rattle.big_world.specs.Topology.{topology_of}
-use Rattle.big_run.specs.Publishing.{Publishes}
+use Rattle.big_run.specs.Publishing.{TaskPublishes}
 use Rattle.big_run.specs.Runs.{summary_of}
 use Rattle.glb.specs.Laws.{SummariesAgree, with_proposals}
 use Rattle.glb.proofs.Plans.{bytes_are_plan}
@@ -35,7 +35,7 @@ published_one old a b changes x y =
     let e : a.newest ≡ b.newest = next_one old.newest a.newest b.newest changes x.next y.next in
     state_is a b (x.history ∙ ap (λ (v : Version). old.history ++ v ∷ []) e ∙ sym y.history) e
 
-task_one : (task : Task) (old a b : PublisherState) → Publishes task old a → Publishes task old b → a ≡ b
+task_one : (task : Task) (old a b : PublisherState) → TaskPublishes task old a → TaskPublishes task old b → a ≡ b
 task_one (refused number why) old a b x y = x ∙ sym y
 task_one (batch changes) old a b x y = published_one old a b changes x y
 task_one empty old a b x y = x ∙ sym y
@@ -44,11 +44,11 @@ task_one (query addr octets) old a b x y = x ∙ sym y
 task_one totals old a b x y = x ∙ sym y
 
 -- and so is what tasks leave
-left_one : (ts : List Task) (old a b : PublisherState) → AllDo Publishes ts old a → AllDo Publishes ts old b → a ≡ b
+left_one : (ts : List Task) (old a b : PublisherState) → AllDo TaskPublishes ts old a → AllDo TaskPublishes ts old b → a ≡ b
 left_one [] old a b x y = x ∙ sym y
 left_one (task ∷ ts) old a b (mid, first, rest) (other, also, more) =
     let e : mid ≡ other = task_one task old mid other first also in
-    left_one ts other a b (subst (λ (m : PublisherState). AllDo Publishes ts m a) e rest) more
+    left_one ts other a b (subst (λ (m : PublisherState). AllDo TaskPublishes ts m a) e rest) more
 
 ok_one : (a b : Plan) (read : Result Plan TopologyFault) → read ≡ Ok a → read ≡ Ok b → a ≡ b
 ok_one a b read x y = cc
@@ -63,8 +63,8 @@ summaries_agree n a b x y =
     first : x.first ≡ y.first
     first = opened_one y.topology (bytes_are_plan (topology_of n) y.topology y.reads).market x.first y.first (subst (λ (t : Plan). IsFirst t x.first) topology x.is_first) y.is_first
 
-    batches : AllDo Publishes (tasks y.topology (whole_lines (feed_of n))) y.first x.last
-    batches = subst (λ (m : PublisherState). AllDo Publishes (tasks y.topology (whole_lines (feed_of n))) m x.last) first (subst (λ (t : Plan). AllDo Publishes (tasks t (whole_lines (feed_of n))) x.first x.last) topology x.batches)
+    batches : AllDo TaskPublishes (tasks y.topology (whole_lines (feed_of n))) y.first x.last
+    batches = subst (λ (m : PublisherState). AllDo TaskPublishes (tasks y.topology (whole_lines (feed_of n))) m x.last) first (subst (λ (t : Plan). AllDo TaskPublishes (tasks t (whole_lines (feed_of n))) x.first x.last) topology x.batches)
 
     last : x.last ≡ y.last
     last = left_one (tasks y.topology (whole_lines (feed_of n))) y.first x.last y.last batches y.batches

@@ -21,11 +21,11 @@ pub record IsShortRun (ask : Option Ask) (before after : Surroundings) (result :
   pub rest : IsOutAlone before.stage after.stage
 
 -- what a run does
-abbrev pub IsRun : ℕ → Option Task → Surroundings → Surroundings → Status → Type 0
-IsRun turns None before after result = IsShortRun None before after result
-IsRun turns (Some (say ask)) before after result = IsShortRun (Some ask) before after result
-IsRun turns (Some (serve ask)) before after result = IsServeRun turns ask before after result
-IsRun turns (Some (large groups)) before after result = IsLargeRun groups before after result
+abbrev pub IsProgramRun : ℕ → Option Task → Surroundings → Surroundings → Status → Type 0
+IsProgramRun turns None before after result = IsShortRun None before after result
+IsProgramRun turns (Some (say ask)) before after result = IsShortRun (Some ask) before after result
+IsProgramRun turns (Some (serve ask)) before after result = IsServeRun turns ask before after result
+IsProgramRun turns (Some (large groups)) before after result = IsLargeRun groups before after result
 
 -- the loads that are due to a run over the files
 abbrev pub loads_of : Option Task → (List ℕ → Option (List ℕ)) → List Load
@@ -99,7 +99,7 @@ IsGoodRun turns (Some (large groups)) before after = IsSummedRun groups before a
 -- what is promised of a run of the whole program, whose words ask for this task
 pub record IsPromised (turns : ℕ) (task : Option Task) (before after : Surroundings) (result : Status) : Type 0 where
   -- What it does: a command that says one text puts it on the output, and touches nothing else but the files; `serve` publishes a history of good maps, and its lanes answer from it; `large` puts the summary of a run, line by line, and ends with status 0, with a fault of the output, or with want of memory. Where files or feed don't tell what they hold, there are octets for which that is so.
-  pub run : IsRun turns task before after result
+  pub run : IsProgramRun turns task before after result
   -- The files of the words are loaded in their order, once each, and each only where all before it say something,
   pub noted : BothTell before.files after.files (AreLoadsOf (loads_of task))
   -- and all of these, unless the answer is a fault or want of memory.

@@ -3,7 +3,7 @@ use Rattle.demand_feed.specs.Task.{Step, step}
 use Rattle.demand_feed.specs.Clerk.{task_by}
 use Rattle.demand_feed.proofs.Tasks.{step_number}
 use Rattle.demand_feed.proofs.Worked.{batch_some}
-use Rattle.big_run.specs.Publishing.{Comes}
+use Rattle.big_run.specs.Publishing.{LinePublishes}
 use Rattle.big_run.proofs.Taken.{calm, nothing_by}
 use Rattle.big_run.proofs.work.take_line.Goals as goal
 
@@ -23,7 +23,7 @@ returns-in_default g c =
     let s = c.take.ensures.step in
     let w = c.requires.work in
     let t = c.args.topology.now in
-    let nothing : Comes (step t c.args.clerk.now.ledger c.args.line.now).task c.args.mapper.now c.args.mapper.now =
+    let nothing : LinePublishes (step t c.args.clerk.now.ledger c.args.line.now).task c.args.mapper.now c.args.mapper.now =
     rw (sym (ap (λ (x : Step). x.task) s)) (nothing_by c.take.new.self.due c.take.result c.args.mapper.now c.in_default.not-Batch) in
     record {
       work = record { batches = c.take.ensures.kept w.batches; plan = w.plan; shape = w.shape; room = w.room; good = w.good };

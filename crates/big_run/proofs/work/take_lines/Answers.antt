@@ -2,7 +2,7 @@ use Rattle.std.proofs.Common.{◌≡◌, [], ◌∷◌, refl, arith}
 use Rattle.text_parts.specs.Parts.{but_last, parts}
 use Rattle.demand_feed.specs.Task.{tasks_of, up_to_stop}
 use Rattle.demand_feed.specs.Taking.{AllDo}
-use Rattle.big_run.specs.Publishing.{Publishes}
+use Rattle.big_run.specs.Publishing.{TaskPublishes}
 use Rattle.big_run.proofs.Taken.{cut_off, ended, from_first, stops, taken, went_on}
 use Rattle.big_run.proofs.work.take_lines.Goals as goal
 
@@ -13,7 +13,7 @@ returns-then-not-branch-clause-done g c =
     let more = but_last (parts 10 c.in-Some.behind.now) in
     let done = ended t line c.in_ok-take_line.field-0 c.lines.clerk.ledger c.take_line.new.clerk.ledger c.lines.mapper c.take_line.new.mapper c.if-not-branch.true c.in_ok-take_line.ensures.taken in
     let lines = cut_off c.lines.rest.now line c.in-Some.behind.now c.in-Some.ensures.parts in
-    let last : AllDo Publishes (tasks_of t c.lines.clerk.ledger (up_to_stop (but_last (parts 10 c.lines.rest.now)))) c.lines.mapper c.lines.mapper = rw lines (stops t c.lines.clerk.ledger line more c.lines.mapper done.0) in
+    let last : AllDo TaskPublishes (tasks_of t c.lines.clerk.ledger (up_to_stop (but_last (parts 10 c.lines.rest.now)))) c.lines.mapper c.lines.mapper = rw lines (stops t c.lines.clerk.ledger line more c.lines.mapper done.0) in
     let all = c.lines.invariant.whole c.lines.mapper last in
     rw done.1 (from_first t c.args.feed.now c.args.clerk.now.ledger c.args.mapper.now c.lines.mapper c.requires.fresh all)
 
@@ -32,7 +32,7 @@ lines-preserved g c =
       number = omega (arith, i.number, e.number, c.in-Some.ensures.shorter);
       serial = omega (arith, i.serial, e.serial, c.in-Some.ensures.shorter);
       whole = λ last all.
-          let longer : AllDo Publishes (tasks_of t c.lines.clerk.ledger (up_to_stop (but_last (parts 10 c.lines.rest.now)))) c.lines.mapper last =
+          let longer : AllDo TaskPublishes (tasks_of t c.lines.clerk.ledger (up_to_stop (but_last (parts 10 c.lines.rest.now)))) c.lines.mapper last =
           rw lines (taken t c.lines.clerk.ledger c.take_line.new.clerk.ledger line more c.lines.mapper c.take_line.new.mapper last on.0 on.1 on.2 all) in
           i.whole last longer;
     }
@@ -42,5 +42,5 @@ returns-clause-done g c =
     let t = c.args.topology.now in
     let rest = c.lines.rest.now in
     let whole : parts 10 rest ≡ rest ∷ [] = c.in_default.ensures.parts in
-    let last : AllDo Publishes (tasks_of t c.lines.clerk.ledger (up_to_stop (but_last (parts 10 rest)))) c.lines.mapper c.lines.mapper = rw whole refl in
+    let last : AllDo TaskPublishes (tasks_of t c.lines.clerk.ledger (up_to_stop (but_last (parts 10 rest)))) c.lines.mapper c.lines.mapper = rw whole refl in
     from_first t c.args.feed.now c.args.clerk.now.ledger c.args.mapper.now c.lines.mapper c.requires.fresh (c.lines.invariant.whole c.lines.mapper last)
