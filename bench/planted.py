@@ -5,8 +5,9 @@
 
 bench/planted/CRATE.edits has wrong bodies of the crate's functions, each with what it does wrong, its file, and lines of
 that file with what takes their place. All of a crate are written into a copy of the repository at once, in which
-`rt check --allow-holes` goes over the crate. A bug counts as refused where its function is not proved, and as let through
-where it is. Those that are let through are shown: by docs/PROVED.md nothing is promised there, or the answer is want of
+`rt check --allow-holes` goes over the crate. A bug counts as refused where its function has a goal of its own, or of a block
+of its own, that is not proved, and as let through where all of these are proved, whatever the functions that it calls.
+Those that are let through are shown: by docs/PROVED.md nothing is promised there, or the answer is want of
 memory, which no clause ties to a cause. One that no longer fits the text is named too.
 
 It takes as long as a check of the crate, from minutes to a quarter of an hour, beside the libraries below it, which a copy
@@ -75,14 +76,26 @@ def verdicts(said):
     return re.findall(r"^fn (\S+): (.*)$", said, re.MULTILINE)
 
 
+def has_no_goal_left(answer):
+    """Whether all goals of a function's own are proved: it may call, or pass, what is not."""
+    by_others = r"it (calls|passes the block) .*, which (is|are) not proved"
+    return answer in ("no holes", "proved") or all(
+        re.fullmatch(by_others, part) for part in answer.removeprefix("no proof: ").split("; ")
+    )
+
+
 def is_let_through(functions, found):
-    """Whether each function of a bug is proved, or its holes are none."""
+    """Whether each function of a bug, with its blocks, has no goal left."""
     answers = []
     for file, function in functions:
         module = file.removeprefix("src/").removesuffix(".rt").replace("/", "::")
-        named = [(path, answer) for path, answer in found if path.split("::")[-1] == function]
+        named = [
+            (path, answer)
+            for path, answer in found
+            if path.split("::")[-1] == function or f"::fn::{function}::" in path
+        ]
         answers += [answer for path, answer in named if f"::{module}::" in path] or [answer for _, answer in named]
-    return all(answer.startswith(("no holes", "proved")) for answer in answers)
+    return all(has_no_goal_left(answer) for answer in answers)
 
 
 def tried(crate):
