@@ -5,12 +5,13 @@
 
 bench/planted/CRATE.edits has wrong bodies of the crate's functions, each with what it does wrong, its file, and lines of
 that file with what takes their place. All of a crate are written into a copy of the repository at once, in which
-`rt check --allow-holes` goes over the crate. A bug counts as refused where its function has a goal of its own, or of a block
-of its own, that is not proved, and as let through where all of these are proved, whatever the functions that it calls.
-Those that are let through are shown: by docs/PROVED.md nothing is promised there, or the answer is want of
-memory, which no clause ties to a cause. One that no longer fits the text is named too.
+`rt check --allow-holes` goes over the crate. A bug counts as refused where its function has a goal of its own that is not
+proved, and as let through where the function is proved. Where all that the function lacks is that others which it calls
+are proved, its goals may not have been looked at, and its bug is tried again without those that were judged. Those that are
+let through are shown: by docs/PROVED.md nothing is promised there, or the answer is want of memory, which no clause ties
+to a cause. One that no longer fits the text is named too.
 
-It takes as long as a check of the crate, from minutes to a quarter of an hour, beside the libraries below it, which a copy
+It takes as long as some checks of the crate, from minutes to half an hour, beside the libraries below it, which a copy
 builds anew where no check has kept them. Status 0 where each bug could be tried.
 """
 
@@ -52,10 +53,10 @@ def function_at(text, place):
     return found[-1] if found else ""
 
 
-def plant(folder, crate):
-    """Writes all bugs into the copy. Gives, for each, its name, what it does and its functions; none where it does not fit."""
-    planted = []
-    for name, what, edits in bugs_of(crate):
+def plant(folder, bugs):
+    """Writes bugs into the copy of a crate. Gives, for each, its functions; none where it does not fit beside others."""
+    planted = {}
+    for name, edits in bugs.items():
         texts, functions = {}, []
         for file, old, new in edits:
             text = texts.get(file) or (folder / file).read_text()
@@ -67,7 +68,7 @@ def plant(folder, crate):
         if functions is not None:
             for file, text in texts.items():
                 (folder / file).write_text(text)
-        planted.append((name, what, functions))
+        planted[name] = functions
     return planted
 
 
@@ -76,16 +77,8 @@ def verdicts(said):
     return re.findall(r"^fn (\S+): (.*)$", said, re.MULTILINE)
 
 
-def has_no_goal_left(answer):
-    """Whether all goals of a function's own are proved: it may call, or pass, what is not."""
-    by_others = r"it (calls|passes the block) .*, which (is|are) not proved"
-    return answer in ("no holes", "proved") or all(
-        re.fullmatch(by_others, part) for part in answer.removeprefix("no proof: ").split("; ")
-    )
-
-
-def is_let_through(functions, found):
-    """Whether each function of a bug, with its blocks, has no goal left."""
+def outcome_of(functions, found):
+    """What came of the functions of a bug, with their blocks: None where all they lack are proofs of others."""
     answers = []
     for file, function in functions:
         module = file.removeprefix("src/").removesuffix(".rt").replace("/", "::")
@@ -95,7 +88,40 @@ def is_let_through(functions, found):
             if path.split("::")[-1] == function or f"::fn::{function}::" in path
         ]
         answers += [answer for path, answer in named if f"::{module}::" in path] or [answer for _, answer in named]
-    return all(has_no_goal_left(answer) for answer in answers)
+    if all(answer in ("no holes", "proved") for answer in answers):
+        return "let through"
+    by_others = r"it (calls|passes the block) .*, which (is|are) not proved"
+    lacks = [part for answer in answers for part in answer.removeprefix("no proof: ").split("; ")]
+    if all(part in ("no holes", "proved") or re.fullmatch(by_others, part) for part in lacks):
+        return None
+    return "refused"
+
+
+def judge(folder, crate):
+    """Tries the bugs of a crate in a copy of its folder, in rounds: a function that calls a wrong one may not have been
+    looked at, and then its bug stands in the next round, without those that were judged. Gives the outcome of each."""
+    bugs = {name: edits for name, _, edits in bugs_of(crate)}
+    files = {file for edits in bugs.values() for file, _, _ in edits}
+    texts = {file: (folder / file).read_text() for file in files}
+    outcomes = {}
+    while len(outcomes) < len(bugs):
+        left = {name: edits for name, edits in bugs.items() if name not in outcomes}
+        for file, text in texts.items():
+            (folder / file).write_text(text)
+        planted = plant(folder, left)
+        said = subprocess.run(["rt", "check", "--allow-holes"], cwd=folder, capture_output=True, text=True).stdout
+        found = verdicts(said)
+        if not found:
+            print(f"{crate}: the check judged nothing: {said.strip()[-300:]}")
+            break
+        judged = {name: outcome_of(functions, found) for name, functions in planted.items() if functions is not None}
+        judged = {name: outcome for name, outcome in judged.items() if outcome}
+        if not judged:
+            break
+        outcomes |= judged
+    for file, text in texts.items():
+        (folder / file).write_text(text)
+    return outcomes
 
 
 def tried(crate):
@@ -104,22 +130,14 @@ def tried(crate):
         copy = Path(folder) / "glb"
         shutil.copytree(TOP, copy, ignore=shutil.ignore_patterns("out", ".git", "__pycache__"))
         subprocess.run(["git", "init", "-q", str(copy)], check=True)
-        planted = plant(copy / "crates" / crate, crate)
-        said = subprocess.run(["rt", "check", "--allow-holes"], cwd=copy / "crates" / crate, capture_output=True, text=True).stdout
-    found = verdicts(said)
-    if not found:
-        print(f"{crate}: the check judged nothing: {said.strip()[-300:]}")
-        return False
-    refused = 0
-    for name, what, functions in planted:
-        if functions is None:
-            print(f"{crate}: {name} does not fit the text")
-        elif is_let_through(functions, found):
-            print(f"{crate}: let through: {name}: {what}")
-        else:
-            refused += 1
-    print(f"{crate}: {len(planted)} bugs, {refused} refused")
-    return all(functions is not None for _, _, functions in planted)
+        outcomes = judge(copy / "crates" / crate, crate)
+    bugs = list(bugs_of(crate))
+    for name, what, _ in bugs:
+        outcome = outcomes.get(name, "does not fit, or was not judged")
+        if outcome != "refused":
+            print(f"{crate}: {outcome}: {name}: {what}")
+    print(f"{crate}: {len(bugs)} bugs, {list(outcomes.values()).count('refused')} refused")
+    return all(outcomes.get(name) in ("refused", "let through") for name, _, _ in bugs)
 
 
 def main():
