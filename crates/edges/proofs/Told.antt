@@ -1,14 +1,17 @@
 -- What streams tell is still of the connection that is handed over.
-use Rattle.std.proofs.Common.{◌≡◌, ◌⊎◌, ◌≤◌, ℕ, Bool, List, Option, Some, None, true, false, refl, sym, subst, ap, ◌∙◌, ◌++◌, ◌∷◌, [], length, take, set, arith, inl, inr}
+use Rattle.std.proofs.Common.{◌≡◌, ◌⊎◌, ◌<◌, ◌≤◌, ℕ, Bool, List, Option, Some, None, true, false, refl, sym, subst, ap, ◌∙◌, ◌++◌, ◌∷◌, [], append_assoc, length, take, drop, set, arith, inl, inr}
 use Rattle.std.specs.Prelude.{slice_get}
 use Rattle.std.proofs.lemmas.Grind.{get_or-set_at}
-use Rattle.std.proofs.lemmas.List.{length-set}
+use Rattle.std.specs.List.{flat_map}
+use Rattle.std.proofs.lemmas.List.{length-set, length-take-le, take-append-drop}
 use Rattle.std.proofs.lemmas.Option.{slice_get-get_or, slice_get_within}
 use Rattle.outside.specs.Streams.{Piece, Talk, StreamsTold, changed}
 use Rattle.outside.specs.declared.streams.Reading.{Reading}
 use Rattle.outside.specs.declared.streams.Reading.TheVariants as read
 use Rattle.past_log.specs.Streams.{heard}
-use Rattle.tcp_frames.specs.Split.{IsOverlong}
+use Rattle.tcp_frames.specs.Split.{AreWhole, HasNoMessage, IsOverlong, framed}
+use Rattle.tcp_frames.specs.declared.batch.Batch.{Batch}
+use Rattle.tcp_frames.specs.declared.batch.TheConstants.{MOST_MESSAGES}
 use Rattle.edges.specs.Halls.{AreHeardOnce, AreOfOneTalk, IsHeard, IsSameOrEnded, IsTakenFrom, IsTold}
 use Rattle.edges.specs.Places.{IsOverNow}
 use Rattle.edges.specs.Rooms.{IsChangedAt, IsHandingOver}
@@ -25,6 +28,18 @@ overlong_front (x ∷ y ∷ zs) rest coming is some (high, low, behind, front, m
     let one : x ≡ high = cc e in
     let two : y ≡ low = cc e in
     (high, low, [], ap (λ k. k ∷ y ∷ []) one ∙ ap (λ k. high ∷ k ∷ []) two, more)
+
+-- what is to be handed on is a message, or a length that is too great
+pub has_batch : (octets : List ℕ) (batch : Batch) → 0 < batch.len → batch.len ≤ length octets → (batch.is_faulty ≡ false → AreWhole MOST_MESSAGES (take batch.len octets)) → (batch.is_faulty ≡ true → (batch.len ≡ 2) × IsOverlong octets) → HasNoMessage octets → IsOverlong octets
+has_batch octets batch some within whole faulty none = by batch.is_faulty refl
+  where
+    by : (b : Bool) → batch.is_faulty ≡ b → IsOverlong octets
+    by true is = (faulty is).1
+    by false is = first (whole is)
+      where
+        first : AreWhole MOST_MESSAGES (take batch.len octets) → IsOverlong octets
+        first ([], are, short, few) = absurd (omega (arith, some, within, length-take-le batch.len octets within, ap length are))
+        first (m ∷ ms, are, short, few) = absurd (none m (flat_map framed ms ++ drop batch.len octets) (short 0 [] (omega arith)) (sym (take-append-drop batch.len octets) ∙ ap (λ l. l ++ drop batch.len octets) are ∙ append_assoc (framed m) (flat_map framed ms) (drop batch.len octets)))
 
 -- of two optional values
 pub some_eq : {A : Type 0} (x y : A) → Some x ≡ Some y → x ≡ y

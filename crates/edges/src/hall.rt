@@ -1,9 +1,11 @@
 //! The places of connections with their octets, and which of them is handed over.
-ghost use Rattle.std.specs.Prelude.{◌≡◌, ◌≢◌, ◌<◌, ◌⊎◌, ℕ, true, false, Some, None, IfOk, length};
+ghost use Rattle.std.specs.Prelude.{◌≡◌, ◌≢◌, ◌<◌, ◌⊎◌, ℕ, true, false, Some, None, IfOk, length, ◌+◌, slice_get};
 ghost use Rattle.addr_text.specs.declared.address.Peer.{Peer};
 ghost use Rattle.outside.specs.Streams.{IsWithin};
 ghost use Rattle.edges.specs.Halls.{AreAllChanged, AreEmpty, AreFree, EndsBehind, IsAdvance, IsGoneOn, IsHeard, IsPlaceChangedAt, IsSameOrEnded, IsSettled};
 ghost use Rattle.edges.specs.Rooms.{IsChangedAt, IsKeeping};
+ghost use Rattle.edges.specs.declared.room.Room.{Room};
+ghost use Rattle.edges.specs.declared.room.TheConstants.{LARGEST_GOING};
 
 use crate::ears::Ears;
 use crate::places::{Wanted, least, next_talk};
@@ -199,6 +201,7 @@ impl Hall {
     pub(crate) fn keep(&mut self, octets: &[u8]) -> bool
         ensures kept { result ≡ true → (i : ℕ) × (self.old.current ≡ Some i) × IsChangedAt (IsKeeping octets.now true) i self.old.rooms.items self.new.rooms.items }
         ensures full { result ≡ false → (self.new.rooms.items ≡ self.old.rooms.items) ⊎ ((i : ℕ) × (self.old.current ≡ Some i) × IsChangedAt (IsKeeping octets.now false) i self.old.rooms.items self.new.rooms.items) }
+        ensures fits { result ≡ false → (i : ℕ) (room : Room) → self.old.current ≡ Some i → slice_get self.old.rooms.items i ≡ Some room → LARGEST_GOING < length room.going.items + length octets.now }
         ensures same { self.new ≡ record self.old { rooms = self.new.rooms } }
     {
         match self.current {

@@ -1,6 +1,8 @@
 //! The octets of a connection: those that came and are to be handed over, and those of replies that are to go.
-ghost use Rattle.std.specs.Prelude.{◌≡◌, ◌≤◌, ◌+◌, ◌⊎◌, ◌++◌, drop, length, true, false, [], IfNone, IfSome};
+ghost use Rattle.std.specs.Prelude.{◌≡◌, ◌≤◌, ◌<◌, ◌+◌, ◌⊎◌, ◌++◌, drop, length, slice_get, true, false, [], Some, IfNone, IfSome};
 ghost use Rattle.edges.specs.Rooms.{IsChangedAt, IsEmpty, IsHandingOver, IsKeeping};
+ghost use Rattle.edges.specs.declared.room.Room.{Room};
+ghost use Rattle.tcp_frames.specs.Split.{HasNoMessage, IsOverlong};
 
 use arrayvec::ArrayVec;
 use tcp_frames::{Batch, LARGEST_FRAME, LARGEST_REPLY_FRAME, MOST_MESSAGES, batch_of};
@@ -59,9 +61,18 @@ impl Room {
 
     /// Keeps a reply behind those that are to go, where there is room for it. It answers whether there was.
     pub(crate) fn keep(&mut self, reply: &[u8]) -> bool
-        ensures { IsKeeping reply.now result self.old self.new }
+        ensures keep { IsKeeping reply.now result self.old self.new }
+        ensures fits { length self.old.going.items + length reply.now ≤ LARGEST_GOING → result ≡ true }
     {
         self.going.try_extend_from_slice(reply).is_ok()
+    }
+
+    /// Whether there is something to hand over, and no reply is to go.
+    pub(crate) fn is_due(&self) -> bool
+        ensures due { result ≡ true → (self.now.going.items ≡ []) × (HasNoMessage self.now.coming.items → IsOverlong self.now.coming.items) }
+        ensures none { result ≡ false → self.now.going.items ≡ [] → HasNoMessage self.now.coming.items × (IsOverlong self.now.coming.items → ⊥) }
+    {
+        self.going.is_empty() && batch_of(self.coming.as_slice()).len > 0
     }
 
     /// Takes octets that came, if there is room for them.
@@ -97,6 +108,7 @@ pub(crate) fn hand_over_at(rooms: &mut [Room], i: usize, buffer: &mut [u8]) -> O
 pub(crate) fn keep_at(rooms: &mut [Room], i: usize, reply: &[u8]) -> bool
     ensures kept { result ≡ true → IsChangedAt (IsKeeping reply.now true) i rooms.old rooms.new }
     ensures full { result ≡ false → (rooms.new ≡ rooms.old) ⊎ IsChangedAt (IsKeeping reply.now false) i rooms.old rooms.new }
+    ensures fits { result ≡ false → (room : Room) → slice_get rooms.old i ≡ Some room → LARGEST_GOING < length room.going.items + length reply.now }
 {
     i < rooms.len() && rooms[i].keep(reply)
 }

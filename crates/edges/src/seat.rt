@@ -1,15 +1,16 @@
 //! A place for a connection: whether it is taken, and what goes on with it.
 ghost use Rattle.std.specs.IoError.{error_kind};
-ghost use Rattle.std.specs.Prelude.{◌≡◌, ◌≢◌, ◌<◌, ◌≤◌, ◌⊎◌, length, true, false};
+ghost use Rattle.std.specs.Prelude.{◌≡◌, ◌≢◌, ◌<◌, ◌≤◌, ◌⊎◌, length, true, false, []};
 ghost use Rattle.edges.specs.Halls.{IsPlaceChangedAt, IsSettled};
 ghost use Rattle.edges.specs.Places.{IsOverNow, IsSameSeat, IsTaken, IsVacant, is_free};
 ghost use Rattle.edges.specs.Rooms.{IsChangedAt, IsEmpty, IsFilled, IsFlushed};
+ghost use Rattle.tcp_frames.specs.Split.{HasNoMessage, IsOverlong};
 
 use crate::room::Room;
 use addr_text::{Addr, Peer};
 use mio::net::TcpStream;
 use std::io::{Error, ErrorKind, Read, Write};
-use tcp_frames::{LARGEST_FRAME, batch_of};
+use tcp_frames::LARGEST_FRAME;
 
 /// For how long a connection may bring no whole message, or take no reply, in milliseconds.
 pub(crate) const LONGEST_IDLE: u64 = 10_000;
@@ -180,13 +181,15 @@ pub(crate) fn leave(seat: &mut Seat, room: &mut Room)
 pub(crate) fn settle(seat: &mut Seat, room: &mut Room, now: u64, turns: &mut u64)
     ensures settled { IsSettled seat.old room.old seat.new room.new }
     ensures over { seat.old.is_over ≡ true → is_free seat.new ≡ true }
+    ensures rests { seat.old.turn ≡ 0 → seat.new.turn ≡ 0 → is_free seat.new ≡ false → room.new.going.items ≡ [] → HasNoMessage room.new.coming.items × (IsOverlong room.new.coming.items → ⊥) }
+    ensures waits { seat.old.turn ≡ 0 → 0 < seat.new.turn → (room.new.going.items ≡ []) × (HasNoMessage room.new.coming.items → IsOverlong room.new.coming.items) }
 {
     if seat.stream.is_none() {
         return;
     }
     flush(seat, room);
     fill(seat, room);
-    if seat.turn == 0 && room.going.is_empty() && batch_of(room.coming.as_slice()).len > 0 {
+    if seat.turn == 0 && room.is_due() {
         *turns = turns.saturating_add(1);
         seat.turn = *turns;
     }
