@@ -1,15 +1,17 @@
 -- What becomes of all places, one thing after another.
-use Rattle.std.proofs.Common.{◌≡◌, ◌⊎◌, ◌<◌, ◌≤◌, ◌+◌, ℕ, zero, suc, Bool, List, Some, true, false, refl, sym, subst, ap, ◌∙◌, ◌∷◌, [], ◌++◌, append-nil, length, set, arith, inl, inr, ⊎_elim, MatchBool}
-use Rattle.std.specs.List.{AllZip}
-use Rattle.std.specs.Prelude.{slice_get, drop, take}
+use Rattle.std.proofs.Common.{◌≡◌, ◌⊎◌, ◌<◌, ◌≤◌, ◌+◌, ℕ, zero, suc, Bool, List, Option, Some, None, true, false, cond, refl, sym, subst, ap, ◌∙◌, ◌∷◌, [], ◌++◌, append-nil, length, set, arith, inl, inr, ⊎_elim, MatchBool, MatchOption}
+use Rattle.std.specs.List.{AllZip, position_or_len, prefix_len}
+use Rattle.std.specs.Prelude.{slice_get, drop, take, not, is_some, nat_lt, nat_le, count_by, position, ◌==◌, ◌&&◌, if◌then◌else◌}
 use Rattle.std.proofs.lemmas.List.{drop_all, length-set, take_all}
+use Rattle.std.proofs.lemmas.Bool.{eqb-true}
 use Rattle.std.proofs.lemmas.Option.{slice_get_within, none-some}
+use Rattle.addr_text.specs.declared.address.Addr.{Addr}
 use Rattle.addr_text.specs.declared.address.Peer.{Peer}
 use Rattle.edges.proofs.Told.{got_at, some_eq}
-use Rattle.edges.specs.Halls.{AreAllChanged, IsGoneOn, IsLetIn, IsPlaceChangedAt, IsSettled}
-use Rattle.edges.specs.Places.{IsLeast, IsPlaceFor, IsSamePlace, IsSameSeat, IsTaken, IsVacant, is_free}
-use Rattle.edges.specs.Rooms.{IsChangedAt, IsEmpty, IsGoingOn}
-use Rattle.edges.specs.declared.places.Wanted.TheVariants.{Oldest}
+use Rattle.edges.specs.Halls.{AreAllChanged, GoesOn, IsGoneOn, Left, Stayed, Went, Came, IsIdle, IsLetIn, IsPlaceChangedAt, IsSettled, IsTurned}
+use Rattle.edges.specs.Places.{IsFound, IsLeast, IsPlaceFor, IsTaken, IsVacant, IsWoken, MayBeWoken, is_free, is_of, key_of}
+use Rattle.edges.specs.Rooms.{IsChangedAt, IsEmpty}
+use Rattle.edges.specs.declared.places.Wanted.TheVariants.{Oldest, OldestOf}
 use Rattle.edges.specs.declared.room.Room.{Room}
 use Rattle.edges.specs.declared.seat.Seat.{Seat}
 
@@ -36,10 +38,6 @@ got_other (x ∷ xs) (suc i) (suc k) y n = got_other xs i k y (λ e. n (ap suc e
 abbrev Stays : Seat → Room → Seat → Room → Type 0
 Stays seat room seat' room' = (seat' ≡ seat) × (room' ≡ room)
 
--- all do
-pub all_stay : (R : Seat → Room → Seat → Room → Type 0) → ((seat : Seat) (room : Room) → R seat room seat room) → (seats : List Seat) (rooms : List Room) → AreAllChanged R seats rooms seats rooms
-all_stay R same seats rooms = record { seats_stay = refl; rooms_stay = refl; each = λ i seat room s r. (seat, room, s, r, same seat room) }
-
 -- one place changed so, and each other one stays
 abbrev AtOr : ℕ → (Seat → Room → Seat → Room → Type 0) → ℕ → Seat → Room → Seat → Room → Type 0
 AtOr k R i seat room seat' room' = ((i ≡ k) × R seat room seat' room') ⊎ ((i ≡ k → ⊥) × Stays seat room seat' room')
@@ -58,10 +56,10 @@ no_number : {R : Seat → Room → Seat → Room → Type 0} {seats seats' : Lis
 no_number c = record { seats_stay = c.seats_stay; rooms_stay = c.rooms_stay; each = c.each }
 
 -- one thing behind another
-then : (R S T : ℕ → Seat → Room → Seat → Room → Type 0) (s0 s1 s2 : List Seat) (r0 r1 r2 : List Room)
+one_behind : (R S T : ℕ → Seat → Room → Seat → Room → Type 0) (s0 s1 s2 : List Seat) (r0 r1 r2 : List Room)
     → ((i : ℕ) (s t u : Seat) (p q r : Room) → i < length s0 → i < length r0 → R i s p t q → S i t q u r → T i s p u r)
     → Become R s0 r0 s1 r1 → Become S s1 r1 s2 r2 → Become T s0 r0 s2 r2
-then R S T s0 s1 s2 r0 r1 r2 both one two = record {
+one_behind R S T s0 s1 s2 r0 r1 r2 both one two = record {
   seats_stay = two.seats_stay ∙ one.seats_stay;
   rooms_stay = two.rooms_stay ∙ one.rooms_stay;
   each = λ i seat room s r.
@@ -132,7 +130,7 @@ one_settled n s0 s1 s2 r0 r1 r2 below at none = by (within n (length s1)) (withi
     by (inl lt) (inr le) = past (inr le)
     by (inl lt) (inl lt') =
         let c = at lt lt' in
-        then (IsSettledBelow n) (AtOr n IsSettled) (IsSettledBelow (n + 1)) s0 s1 s2 r0 r1 r2 more below
+        one_behind (IsSettledBelow n) (AtOr n IsSettled) (IsSettledBelow (n + 1)) s0 s1 s2 r0 r1 r2 more below
         (subst (λ s. Become (AtOr n IsSettled) s1 r1 s r2) (sym c.seat_is) (subst (λ r. Become (AtOr n IsSettled) s1 r1 (set s1 n c.seat') r) (sym c.room_is) (at_one IsSettled n s1 r1 c.seat c.seat' c.room c.room' c.seat_was c.room_was c.changed)))
       where
         more : (i : ℕ) (s t u : Seat) (p q r : Room) → i < length s0 → i < length r0 → IsSettledBelow n i s p t q → AtOr n IsSettled i t q u r → IsSettledBelow (n + 1) i s p u r
@@ -155,18 +153,68 @@ all_settled n s0 s1 r0 r1 le below = record {
   each = λ i seat room s r. let a = below.each i seat room s r in (a.0, a.1, a.2, a.3, a.4.0 (omega (arith, le, slice_get_within s0 i seat s)));
 }
 
--- a connection is taken in or left, or nothing happens
-pub let_in_more : (now k : ℕ) (P : Seat → Type 0) (s0 s1 s2 : List Seat) (r0 r1 r2 : List Room) → ((s : Seat) → P s → IsVacant s ⊎ ((is_free s ≡ false) × (s.since ≡ now)))
-    → AreAllChanged (IsLetIn now) s0 r0 s1 r1 → IsChangedAt (λ _ s. P s) k s1 s2 → IsChangedAt (λ _ r. IsEmpty r) k r1 r2 → AreAllChanged (IsLetIn now) s0 r0 s2 r2
-let_in_more now k P s0 s1 s2 r0 r1 r2 which before seat room =
-    no_number (then (λ i. IsLetIn now) (AtOr k Came) (λ i. IsLetIn now) s0 s1 s2 r0 r1 r2 both (by_number before)
-    (subst (λ s. Become (AtOr k Came) s1 r1 s r2) (sym seat.is) (subst (λ r. Become (AtOr k Came) s1 r1 (set s1 k seat.new) r) (sym room.is) (at_one Came k s1 r1 seat.old seat.new room.old room.new seat.was room.was (which seat.new seat.changed, room.changed)))))
+-- where a connection may come in, nothing waits
+first_free : (seats : List Seat) (i : ℕ) (seat : Seat) → position is_free seats ≡ Some i → slice_get seats i ≡ Some seat → is_free seat ≡ true
+first_free seats i seat at is = by (nat_lt (position_or_len is_free seats) (length seats)) at
   where
-    Came : Seat → Room → Seat → Room → Type 0
-    Came s p t q = (IsVacant t ⊎ ((is_free t ≡ false) × (t.since ≡ now))) × IsEmpty q
+    next : (n : ℕ) → 1 + n ≡ suc n
+    next n = omega arith
 
-    both : (i : ℕ) (s t u : Seat) (p q r : Room) → i < length s0 → i < length r0 → IsLetIn now s p t q → AtOr k Came i t q u r → IsLetIn now s p u r
-    both i s t u p q r in-s in-r one (inl (e, came)) = inr came
+    one : (s : Seat) (ss : List Seat) (n : ℕ) (b : Bool) → is_free s ≡ b → (slice_get ss n ≡ Some seat → is_free seat ≡ true) → slice_get (s ∷ ss) (cond (not b) (1 + n) 0) ≡ Some seat → is_free seat ≡ true
+    one s ss n true free more is = subst (λ x. is_free x ≡ true) (some_eq s seat is) free
+    one s ss n false free more is = more (subst (λ k. slice_get (s ∷ ss) k ≡ Some seat) (next n) is)
+
+    here : (seats : List Seat) → slice_get seats (prefix_len (λ s. not (is_free s)) seats) ≡ Some seat → is_free seat ≡ true
+    here [] is = absurd (none-some seat is)
+    here (s ∷ ss) is = one s ss (prefix_len (λ s. not (is_free s)) ss) (is_free s) refl (here ss) is
+
+    by : (b : Bool) → cond b (Some (position_or_len is_free seats)) None ≡ Some i → is_free seat ≡ true
+    by true at = here seats (subst (λ k. slice_get seats k ≡ Some seat) (sym (some_eq (position_or_len is_free seats) i at)) is)
+    by false at = absurd (none-some i at)
+
+no_turn : (seat : Seat) (key : ℕ) → key_of Oldest seat ≡ Some key → seat.turn ≡ 0
+no_turn seat key is = by (is_some seat.stream) (seat.turn == 0) refl is
+  where
+    by : (b c : Bool) → (seat.turn == 0) ≡ c → (if b && c then Some seat.since else None) ≡ Some key → seat.turn ≡ 0
+    by b true same is = eqb-true seat.turn 0 same
+    by true false same is = absurd (none-some key is)
+    by false false same is = absurd (none-some key is)
+
+no_turn_of : (addr : Addr) (seat : Seat) (key : ℕ) → key_of (OldestOf addr) seat ≡ Some key → seat.turn ≡ 0
+no_turn_of addr seat key is = by (is_of addr seat) (seat.turn == 0) refl is
+  where
+    by : (b c : Bool) → (seat.turn == 0) ≡ c → (if b && c then Some seat.since else None) ≡ Some key → seat.turn ≡ 0
+    by b true same is = eqb-true seat.turn 0 same
+    by true false same is = absurd (none-some key is)
+    by false false same is = absurd (none-some key is)
+
+idle_oldest : (seats : List Seat) (i : ℕ) (seat : Seat) → IsLeast Oldest seats i → slice_get seats i ≡ Some seat → IsIdle seat
+idle_oldest seats i seat least is = inr (subst (λ s. s.turn ≡ 0) (some_eq least.0 seat (sym least.2 ∙ is)) (no_turn least.0 least.1 least.3))
+
+idle_oldest_of : (addr : Addr) (seats : List Seat) (i : ℕ) (seat : Seat) → IsLeast (OldestOf addr) seats i → slice_get seats i ≡ Some seat → IsIdle seat
+idle_oldest_of addr seats i seat least is = inr (subst (λ s. s.turn ≡ 0) (some_eq least.0 seat (sym least.2 ∙ is)) (no_turn_of addr least.0 least.1 least.3))
+
+idle_there : (seats : List Seat) (addr : Addr) (most i : ℕ) (seat : Seat) → IsPlaceFor seats addr most (Some i) → slice_get seats i ≡ Some seat → IsIdle seat
+idle_there seats addr most i seat place is = by (nat_le most (count_by (is_of addr) seats)) (position is_free seats) refl place
+  where
+    by : (b : Bool) (o : Option ℕ) → position is_free seats ≡ o → MatchBool b (IsFound (OldestOf addr) seats (Some i)) (MatchOption o (IsFound Oldest seats (Some i)) (λ k. Some i ≡ Some k)) → IsIdle seat
+    by true o at found = idle_oldest_of addr seats i seat found is
+    by false None at found = idle_oldest seats i seat found is
+    by false (Some k) at found = inl (first_free seats i seat (at ∙ sym found) is)
+
+-- a connection is taken in or left, or nothing happens
+pub let_in_more : (now k : ℕ) (P : Seat → Type 0) (s0 s1 s2 : List Seat) (r0 r1 r2 : List Room) → ((s : Seat) → P s → IsVacant s ⊎ ((is_free s ≡ false) × (s.since ≡ now) × (s.turn ≡ 0))) → ((s : Seat) → slice_get s1 k ≡ Some s → IsIdle s)
+    → AreAllChanged (IsLetIn now) s0 r0 s1 r1 → IsChangedAt (λ _ s. P s) k s1 s2 → IsChangedAt (λ _ r. IsEmpty r) k r1 r2 → AreAllChanged (IsLetIn now) s0 r0 s2 r2
+let_in_more now k P s0 s1 s2 r0 r1 r2 which idle before seat room =
+    no_number (one_behind (λ i. IsLetIn now) (AtOr k CameIn) (λ i. IsLetIn now) s0 s1 s2 r0 r1 r2 both (by_number before)
+    (subst (λ s. Become (AtOr k CameIn) s1 r1 s r2) (sym seat.is) (subst (λ r. Become (AtOr k CameIn) s1 r1 (set s1 k seat.new) r) (sym room.is) (at_one CameIn k s1 r1 seat.old seat.new room.old room.new seat.was room.was (idle seat.old seat.was, which seat.new seat.changed, room.changed)))))
+  where
+    CameIn : Seat → Room → Seat → Room → Type 0
+    CameIn s p t q = IsIdle s × (IsVacant t ⊎ ((is_free t ≡ false) × (t.since ≡ now) × (t.turn ≡ 0))) × IsEmpty q
+
+    both : (i : ℕ) (s t u : Seat) (p q r : Room) → i < length s0 → i < length r0 → IsLetIn now s p t q → AtOr k CameIn i t q u r → IsLetIn now s p u r
+    both i s t u p q r in-s in-r (inl (t-is, q-is)) (inl (e, came)) = inr (subst (λ x. IsIdle x) t-is came.0, came.1, came.2)
+    both i s t u p q r in-s in-r (inr one) (inl (e, came)) = inr (one.0, came.1, came.2)
     both i s t u p q r in-s in-r one (inr (other, stays)) = subst (λ x. IsLetIn now s p x r) (sym stays.0) (subst (λ y. IsLetIn now s p t y) (sym stays.1) one)
 
 -- by two equations
@@ -177,38 +225,42 @@ moved R s0 s1 s2 r0 r1 r2 s r c = subst (λ x. AreAllChanged R s0 r0 x r2) (sym 
 pub one_let_in : (now most : ℕ) (peer : Peer) (s0 s1 s2 : List Seat) (r0 r1 r2 : List Room) → AreAllChanged (IsLetIn now) s0 r0 s1 r1
     → ((s2 ≡ s1) × (r2 ≡ r1)) ⊎ ((i : ℕ) × IsPlaceFor s1 peer.addr most (Some i) × IsChangedAt (λ _ seat. IsTaken peer now seat) i s1 s2 × IsChangedAt (λ _ room. IsEmpty room) i r1 r2) → AreAllChanged (IsLetIn now) s0 r0 s2 r2
 one_let_in now most peer s0 s1 s2 r0 r1 r2 before (inl (s, r)) = moved (IsLetIn now) s0 s1 s2 r0 r1 r2 s r before
-one_let_in now most peer s0 s1 s2 r0 r1 r2 before (inr (k, place, seat, room)) = let_in_more now k (IsTaken peer now) s0 s1 s2 r0 r1 r2 (λ s taken. inr (taken.0, taken.2)) before seat room
+one_let_in now most peer s0 s1 s2 r0 r1 r2 before (inr (k, place, seat, room)) = let_in_more now k (IsTaken peer now) s0 s1 s2 r0 r1 r2 (λ s taken. inr (taken.0, taken.2, taken.3)) (λ s is. idle_there s1 peer.addr most k s place is) before seat room
 
 -- room was made, or there was none
 pub room_made : (now : ℕ) (is_made : Bool) (s0 s1 s2 : List Seat) (r0 r1 r2 : List Room) → AreAllChanged (IsLetIn now) s0 r0 s1 r1
     → (is_made ≡ true → (i : ℕ) × IsLeast Oldest s1 i × IsChangedAt (λ _ seat. IsVacant seat) i s1 s2 × IsChangedAt (λ _ room. IsEmpty room) i r1 r2) → (is_made ≡ false → (s2 ≡ s1) × (r2 ≡ r1)) → AreAllChanged (IsLetIn now) s0 r0 s2 r2
-room_made now true s0 s1 s2 r0 r1 r2 before made none = let m = made refl in let_in_more now m.0 IsVacant s0 s1 s2 r0 r1 r2 (λ s vacant. inl vacant) before m.2 m.3
+room_made now true s0 s1 s2 r0 r1 r2 before made none = let m = made refl in let_in_more now m.0 IsVacant s0 s1 s2 r0 r1 r2 (λ s vacant. inl vacant) (λ s is. idle_oldest s1 m.0 s m.1 is) before m.2 m.3
 room_made now false s0 s1 s2 r0 r1 r2 before made none = let is = none refl in moved (IsLetIn now) s0 s1 s2 r0 r1 r2 is.0 is.1 before
 
 -- of the seats alone
-woken : (s0 s1 : List Seat) (rooms : List Room) → AllZip IsSameSeat s0 s1 → Become (λ i s p t q. IsSameSeat s t × (q ≡ p)) s0 rooms s1 rooms
+woken : (s0 s1 : List Seat) (rooms : List Room) → AllZip MayBeWoken s0 s1 → Become (λ i s p t q. MayBeWoken s t × (q ≡ p)) s0 rooms s1 rooms
 woken s0 s1 rooms same = record { seats_stay = long s0 s1 same; rooms_stay = refl; each = λ i seat room s r. let a = at s0 s1 i seat same s in (a.0, room, a.1, r, (a.2, refl)) }
   where
-    long : (s0 s1 : List Seat) → AllZip IsSameSeat s0 s1 → length s1 ≡ length s0
+    long : (s0 s1 : List Seat) → AllZip MayBeWoken s0 s1 → length s1 ≡ length s0
     long [] [] z = refl
     long [] (t ∷ ts) z = absurd z
     long (s ∷ ss) [] z = absurd z
     long (s ∷ ss) (t ∷ ts) z = ap suc (long ss ts z.1)
 
-    at : (s0 s1 : List Seat) (i : ℕ) (seat : Seat) → AllZip IsSameSeat s0 s1 → slice_get s0 i ≡ Some seat → (t : Seat) × (slice_get s1 i ≡ Some t) × IsSameSeat seat t
+    at : (s0 s1 : List Seat) (i : ℕ) (seat : Seat) → AllZip MayBeWoken s0 s1 → slice_get s0 i ≡ Some seat → (t : Seat) × (slice_get s1 i ≡ Some t) × MayBeWoken seat t
     at [] [] i seat z e = absurd (none-some seat e)
     at [] (t ∷ ts) i seat z e = absurd z
     at (s ∷ ss) [] i seat z e = absurd z
-    at (s ∷ ss) (t ∷ ts) zero seat z e = (t, refl, subst (λ x. IsSameSeat x t) (some_eq s seat e) z.0)
+    at (s ∷ ss) (t ∷ ts) zero seat z e = (t, refl, subst (λ x. MayBeWoken x t) (some_eq s seat e) z.0)
     at (s ∷ ss) (t ∷ ts) (suc i) seat z e = at ss ts i seat z.1 e
 
 -- seats that stay as they are
-pub all_same : (seats : List Seat) → AllZip IsSameSeat seats seats
+pub all_same : (seats : List Seat) → AllZip MayBeWoken seats seats
 all_same [] = tt
-all_same (s ∷ ss) = (((refl, refl, refl), refl, λ is. is), all_same ss)
+all_same (s ∷ ss) = (inl refl, all_same ss)
+
+-- of what there may be
+abbrev noted : Seat → Seat
+noted seat = record seat { is_readable = true; is_writable = true }
 
 -- one is woken, where there is one
-pub one_woken : (k : ℕ) (s0 s1 s2 : List Seat) → AllZip IsSameSeat s0 s1 → (k < length s1 → IsChangedAt IsSameSeat k s1 s2) → (length s1 ≤ k → s2 ≡ s1) → AllZip IsSameSeat s0 s2
+pub one_woken : (k : ℕ) (s0 s1 s2 : List Seat) → AllZip MayBeWoken s0 s1 → (k < length s1 → IsChangedAt IsWoken k s1 s2) → (length s1 ≤ k → s2 ≡ s1) → AllZip MayBeWoken s0 s2
 one_woken k s0 s1 s2 same at none = by (within k (length s1))
   where
     within : (i n : ℕ) → (i < n) ⊎ (n ≤ i)
@@ -216,75 +268,75 @@ one_woken k s0 s1 s2 same at none = by (within k (length s1))
     within zero (suc n) = inl (omega arith)
     within (suc i) (suc n) = ⊎_elim (λ lt. inl (omega (arith, lt))) (λ le. inr (omega (arith, le))) (within i n)
 
-    trans : (s t u : Seat) → IsSameSeat s t → IsSameSeat t u → IsSameSeat s u
-    trans s t u a b = ((b.0.0 ∙ a.0.0, b.0.1 ∙ a.0.1, b.0.2 ∙ a.0.2), b.1 ∙ a.1, λ is. b.2 (a.2 is))
+    trans : (s t u : Seat) → MayBeWoken s t → IsWoken t u → MayBeWoken s u
+    trans s t u (inl same) woke = inr (woke ∙ ap noted same)
+    trans s t u (inr first) woke = inr (woke ∙ ap noted first)
 
-    placed : (s0 s1 : List Seat) (k : ℕ) (old new : Seat) → AllZip IsSameSeat s0 s1 → slice_get s1 k ≡ Some old → IsSameSeat old new → AllZip IsSameSeat s0 (set s1 k new)
+    placed : (s0 s1 : List Seat) (k : ℕ) (old new : Seat) → AllZip MayBeWoken s0 s1 → slice_get s1 k ≡ Some old → IsWoken old new → AllZip MayBeWoken s0 (set s1 k new)
     placed [] [] k old new z e is = absurd (none-some old e)
     placed [] (t ∷ ts) k old new z e is = absurd z
     placed (s ∷ ss) [] k old new z e is = absurd z
-    placed (s ∷ ss) (t ∷ ts) zero old new z e is = (trans s t new z.0 (subst (λ x. IsSameSeat x new) (sym (some_eq t old e)) is), z.1)
+    placed (s ∷ ss) (t ∷ ts) zero old new z e is = (trans s t new z.0 (subst (λ x. IsWoken x new) (sym (some_eq t old e)) is), z.1)
     placed (s ∷ ss) (t ∷ ts) (suc k) old new z e is = (z.0, placed ss ts k old new z.1 e is)
 
-    by : (k < length s1) ⊎ (length s1 ≤ k) → AllZip IsSameSeat s0 s2
-    by (inl lt) = let c = at lt in subst (λ s. AllZip IsSameSeat s0 s) (sym c.is) (placed s0 s1 k c.old c.new same c.was c.changed)
-    by (inr le) = subst (λ s. AllZip IsSameSeat s0 s) (sym (none le)) same
+    by : (k < length s1) ⊎ (length s1 ≤ k) → AllZip MayBeWoken s0 s2
+    by (inl lt) = let c = at lt in subst (λ s. AllZip MayBeWoken s0 s) (sym c.is) (placed s0 s1 k c.old c.new same c.was c.changed)
+    by (inr le) = subst (λ s. AllZip MayBeWoken s0 s) (sym (none le)) same
 
-same_going : (room : Room) → IsGoingOn room room
-same_going room = (([], sym (append_nil room.coming.items)), (0, refl))
-  where
-    append_nil : (xs : List ℕ) → xs ++ [] ≡ xs
-    append_nil xs = append-nil xs
-
--- a place on which there was a wait alone
-waited_on : (now : ℕ) (s t : Seat) (p q : Room) → IsSameSeat s t → q ≡ p → IsGoneOn now s p t q
-waited_on now s t p q same is = inr (inl (same.0, subst (λ (r : Room). IsGoingOn p r) (sym is) (same_going p)))
-
--- a wait that broke
-pub broken_off : (now : ℕ) (s0 s1 : List Seat) (rooms : List Room) → AllZip IsSameSeat s0 s1 → AreAllChanged (IsGoneOn now) s0 rooms s1 rooms
-broken_off now s0 s1 rooms same =
-    let w = woken s0 s1 rooms same in
-    record { seats_stay = w.seats_stay; rooms_stay = w.rooms_stay; each = λ i seat room s r. let a = w.each i seat room s r in (a.0, a.1, a.2, a.3, waited_on now seat a.0 room a.1 a.4.0 a.4.1) }
-
--- nothing happened
-pub none_gone : (now : ℕ) (seats : List Seat) (rooms : List Room) → AreAllChanged (IsGoneOn now) seats rooms seats rooms
-none_gone now seats rooms = broken_off now seats seats rooms (all_same seats)
+-- of a place that was woken, or not
+kept_of : {A : Type 0} (f : Seat → A) → ((s : Seat) → f (noted s) ≡ f s) → (s t : Seat) → MayBeWoken s t → f t ≡ f s
+kept_of f keeps s t (inl same) = ap f same
+kept_of f keeps s t (inr woke) = ap f woke ∙ keeps s
 
 -- a wait, connections that are taken in, and all go on
-pub all_gone_on : (now : ℕ) (s0 s1 s2 s3 : List Seat) (r0 r1 r2 : List Room) → AllZip IsSameSeat s0 s1 → AreAllChanged (IsLetIn now) s1 r0 s2 r1 → AreAllChanged IsSettled s2 r1 s3 r2 → AreAllChanged (IsGoneOn now) s0 r0 s3 r2
+pub all_gone_on : (now : ℕ) (s0 s1 s2 s3 : List Seat) (r0 r1 r2 : List Room) → AllZip MayBeWoken s0 s1 → AreAllChanged (IsLetIn now) s1 r0 s2 r1 → AreAllChanged IsSettled s2 r1 s3 r2 → AreAllChanged (IsGoneOn now) s0 r0 s3 r2
 all_gone_on now s0 s1 s2 s3 r0 r1 r2 same came settled =
-    no_number (then Woken (λ i. After) (λ i. IsGoneOn now) s0 s1 s3 r0 r0 r2 (λ i s t u p q r in-s in-r a b. last s t u p q r a b) (woken s0 s1 r0 same)
-    (then (λ i. IsLetIn now) (λ i. IsSettled) (λ i. After) s1 s2 s3 r0 r1 r2 (λ i s t u p q r in-s in-r a b. (t, q, a, b)) (by_number came) (by_number settled)))
+    no_number (one_behind Woken (λ i. After) (λ i. IsGoneOn now) s0 s1 s3 r0 r0 r2 (λ i s t u p q r in-s in-r a b. last s t u p q r a b) (woken s0 s1 r0 same)
+    (one_behind (λ i. IsLetIn now) (λ i. IsSettled) (λ i. After) s1 s2 s3 r0 r1 r2 (λ i s t u p q r in-s in-r a b. (t, q, a, b)) (by_number came) (by_number settled)))
   where
     Woken : ℕ → Seat → Room → Seat → Room → Type 0
-    Woken i s p t q = IsSameSeat s t × (q ≡ p)
+    Woken i s p t q = MayBeWoken s t × (q ≡ p)
 
     After : Seat → Room → Seat → Room → Type 0
     After s p u r = (t : Seat) × (q : Room) × IsLetIn now s p t q × IsSettled t q u r
 
-    last : (s t u : Seat) (p q r : Room) → IsSameSeat s t × (q ≡ p) → After t q u r → IsGoneOn now s p u r
-    last s t u p q r (same, is) (v, w, inl (v-is, w-is), settled) =
-        let e : w ≡ p = w-is ∙ is in
-        let at : IsSettled t p u r = subst (λ (x : Seat). IsSettled x p u r) v-is (subst (λ (y : Room). IsSettled v y u r) e settled) in
-        by (is_free t) at
-      where
-        by : (b : Bool) → MatchBool b ((u ≡ t) × (r ≡ p)) ((IsVacant u × IsEmpty r) ⊎ (IsSamePlace t u × IsGoingOn p r)) → IsGoneOn now s p u r
-        by true (u-is, r-is) = inr (inl (subst (λ (x : Seat). IsSamePlace s x) (sym u-is) same.0, subst (λ (x : Room). IsGoingOn p x) (sym r-is) (same_going p)))
-        by false (inl left) = inl left
-        by false (inr (place, going)) = inr (inl ((place.0 ∙ same.0.0, place.1 ∙ same.0.1, place.2 ∙ same.0.2), going))
-    last s t u p q r (same, is) (v, w, inr (inl vacant, empty), settled) =
-        let is' = subst (λ b. MatchBool b ((u ≡ v) × (r ≡ w)) ((IsVacant u × IsEmpty r) ⊎ (IsSamePlace v u × IsGoingOn w r))) vacant.0 settled in
-        inl (subst (λ (x : Seat). IsVacant x) (sym is'.0) vacant, subst (λ (x : Room). IsEmpty x) (sym is'.1) empty)
-    last s t u p q r (same, is) (v, w, inr (inr taken, empty), settled) =
-        by (subst (λ b. MatchBool b ((u ≡ v) × (r ≡ w)) ((IsVacant u × IsEmpty r) ⊎ (IsSamePlace v u × IsGoingOn w r))) taken.0 settled)
-      where
-        drop_none : (n : ℕ) → drop {A = ℕ} n [] ≡ []
-        drop_none zero = refl
-        drop_none (suc n) = refl
+    Settled : Bool → Seat → Room → Seat → Room → Type 0
+    Settled b t q u r = MatchBool b ((u ≡ t) × (r ≡ q)) ((IsVacant u × IsEmpty r) ⊎ GoesOn t q u r)
 
-        by : (IsVacant u × IsEmpty r) ⊎ (IsSamePlace v u × IsGoingOn w r) → IsGoneOn now s p u r
-        by (inl left) = inl left
-        by (inr (place, going)) = inr (inr (place.0 ∙ taken.0, place.2 ∙ taken.1, going.1.1 ∙ subst (λ (l : List ℕ). drop going.1.0 l ≡ []) (sym empty.1) (drop_none going.1.0)))
+    drop_none : (n : ℕ) → drop {A = ℕ} n [] ≡ []
+    drop_none zero = refl
+    drop_none (suc n) = refl
+
+    free_of : (s t : Seat) → MayBeWoken s t → is_free t ≡ is_free s
+    free_of s t woke = kept_of is_free (λ x. refl) s t woke
+
+    on : (s t u : Seat) (p r : Room) → MayBeWoken s t → (b : Bool) → is_free t ≡ b → Settled b t p u r → IsGoneOn now s p u r
+    on s t u p r woke true free (u-is, r-is) = Stayed (sym (free_of s t woke) ∙ free) (subst (λ x. MayBeWoken s x) (sym u-is) woke) r-is
+    on s t u p r woke false free (inl left) = Left left.0 left.1
+    on s t u p r woke false free (inr (over, place, going, turned)) =
+        Went (sym (free_of s t woke) ∙ free) (
+          sym (kept_of (λ x. x.is_over) (λ x. refl) s t woke) ∙ over,
+          (place.0 ∙ kept_of (λ x. x.stream) (λ x. refl) s t woke, place.1 ∙ kept_of (λ x. x.peer) (λ x. refl) s t woke, place.2 ∙ kept_of (λ x. x.since) (λ x. refl) s t woke),
+          going,
+          subst (λ n. IsTurned n u r) (kept_of (λ x. x.turn) (λ x. refl) s t woke) turned,
+        )
+
+    idle_of : (s t : Seat) → MayBeWoken s t → IsIdle t → IsIdle s
+    idle_of s t woke (inl free) = inl (sym (free_of s t woke) ∙ free)
+    idle_of s t woke (inr none) = inr (sym (kept_of (λ x. x.turn) (λ x. refl) s t woke) ∙ none)
+
+    last : (s t u : Seat) (p q r : Room) → MayBeWoken s t × (q ≡ p) → After t q u r → IsGoneOn now s p u r
+    last s t u p q r (woke, is) (v, w, inl (v-is, w-is), settled) =
+        on s t u p r woke (is_free t) refl (subst (λ x. IsSettled x p u r) v-is (subst (λ y. IsSettled v y u r) (w-is ∙ is) settled))
+    last s t u p q r (woke, is) (v, w, inr (idle, inl vacant, empty), settled) =
+        let stays : Settled true v w u r = subst (λ b. Settled b v w u r) vacant.0 settled in
+        Left (subst (λ x. IsVacant x) (sym stays.0) vacant) (subst (λ x. IsEmpty x) (sym stays.1) empty)
+    last s t u p q r (woke, is) (v, w, inr (idle, inr taken, empty), settled) = by (subst (λ b. Settled b v w u r) taken.0 settled)
+      where
+        by : (IsVacant u × IsEmpty r) ⊎ GoesOn v w u r → IsGoneOn now s p u r
+        by (inl left) = Left left.0 left.1
+        by (inr (over, place, going, turned)) =
+            Came (idle_of s t woke idle, ap (λ o. not (is_some o)) place.0 ∙ taken.0, place.2 ∙ taken.1, going.1.1 ∙ subst (λ l. drop going.1.0 l ≡ []) (sym empty.1) (drop_none going.1.0), subst (λ n. IsTurned n u r) taken.2 turned)
 
 -- what a vector holds behind a call that had its items
 abbrev pub put : {A : Type 0} → ℕ → List A → List A → List A
@@ -294,17 +346,11 @@ written : {A : Type 0} (n : ℕ) (new old : List A) → n ≡ length old → len
 written n new old is same =
     ap (λ l. take n (new ++ l)) (drop_all (length new) old (omega (arith, same))) ∙ ap (take n) (append-nil new) ∙ take_all n new (omega (arith, is, same))
 
-long_woken : (s0 s1 : List Seat) → AllZip IsSameSeat s0 s1 → length s1 ≡ length s0
+long_woken : (s0 s1 : List Seat) → AllZip MayBeWoken s0 s1 → length s1 ≡ length s0
 long_woken s0 s1 same = (woken s0 s1 [] same).seats_stay
 
--- a wait that broke, in a vector
-pub broken_put : (now n : ℕ) (s0 w d1 : List Seat) (rooms : List Room) → n ≡ length s0 → d1 ≡ s0 → AllZip IsSameSeat d1 w → AreAllChanged (IsGoneOn now) s0 rooms (put n w s0) rooms
-broken_put now n s0 w d1 rooms len d1-is same =
-    let s : AllZip IsSameSeat s0 w = subst (λ l. AllZip IsSameSeat l w) d1-is same in
-    moved (IsGoneOn now) s0 w (put n w s0) rooms rooms rooms (written n w s0 len (long_woken s0 w s)) refl (broken_off now s0 w rooms s)
-
 -- all of it, in vectors
-pub all_put : (now n m : ℕ) (s0 w t f d1 d2 d4 : List Seat) (r0 q g d3 d5 : List Room) → n ≡ length s0 → m ≡ length r0 → d1 ≡ s0 → AllZip IsSameSeat d1 w
+pub all_put : (now n m : ℕ) (s0 w t f d1 d2 d4 : List Seat) (r0 q g d3 d5 : List Room) → n ≡ length s0 → m ≡ length r0 → d1 ≡ s0 → AllZip MayBeWoken d1 w
     → d2 ≡ put n w s0 → d3 ≡ r0 → AreAllChanged (IsLetIn now) d2 d3 t q
     → d4 ≡ put n t (put n w s0) → d5 ≡ put m q r0 → AreAllChanged IsSettled d4 d5 f g
     → AreAllChanged (IsGoneOn now) s0 r0 (put n f (put n t (put n w s0))) (put m g (put m q r0))
@@ -313,8 +359,8 @@ all_put now n m s0 w t f d1 d2 d4 r0 q g d3 d5 n-is m-is d1-is same d2-is d3-is 
     (ap (put n f) e2 ∙ written n f t n-t after.seats_stay) (ap (put m g) e3 ∙ written m g q m-q after.rooms_stay)
     (all_gone_on now s0 w t f r0 q g woke let_in after)
   where
-    woke : AllZip IsSameSeat s0 w
-    woke = subst (λ l. AllZip IsSameSeat l w) d1-is same
+    woke : AllZip MayBeWoken s0 w
+    woke = subst (λ l. AllZip MayBeWoken l w) d1-is same
 
     e1 : put n w s0 ≡ w
     e1 = written n w s0 n-is (long_woken s0 w woke)

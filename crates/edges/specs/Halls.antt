@@ -1,5 +1,5 @@
 -- Which connection is handed over, what becomes of all of them, and what streams tell of it.
-use Rattle.std.specs.Prelude.{◌≡◌, ◌⊎◌, ℕ, ◌<◌, Bool, true, false, List, [], ◌∷◌, All, MatchBool, Option, None, Some, length, slice_get, slice_set, take}
+use Rattle.std.specs.Prelude.{◌≡◌, ◌⊎◌, ℕ, ◌<◌, Bool, true, false, List, [], ◌∷◌, All, MatchBool, nat_lt, Option, None, Some, length, slice_get, slice_set, take}
 use Rattle.outside.specs.Streams.{Piece, Talk}
 use Rattle.outside.specs.declared.streams.Accepting.{Accepting}
 use Rattle.outside.specs.declared.streams.Accepting.TheVariants as came
@@ -8,8 +8,8 @@ use Rattle.outside.specs.declared.streams.Reading.TheVariants as read
 use Rattle.tcp_frames.specs.Split.{AreWhole, IsOverlong}
 use Rattle.tcp_frames.specs.declared.batch.Batch.{Batch}
 use Rattle.tcp_frames.specs.declared.batch.TheConstants.{MOST_MESSAGES}
-use Rattle.edges.specs.Places.{IsOverNow, IsNextTalk, IsSamePlace, IsVacant, is_free, key_of}
-use Rattle.edges.specs.Rooms.{IsChangedAt, IsEmpty, IsGoingOn, IsHandingOver}
+use Rattle.edges.specs.Places.{IsOverNow, IsNextTalk, IsSamePlace, IsVacant, MayBeWoken, is_free, key_of}
+use Rattle.edges.specs.Rooms.{IsChangedAt, IsDue, IsEmpty, IsGoingOn, IsHandingOver, IsNotDue}
 use Rattle.edges.specs.declared.places.Wanted.TheVariants.{FirstInTurn}
 use Rattle.edges.specs.declared.room.Room.{Room}
 use Rattle.edges.specs.declared.seat.Seat.{Seat}
@@ -54,17 +54,36 @@ abbrev pub IsTold : Option ℕ → Bool → List Seat → Option Talk → Type 0
 IsTold None is_read seats talk = Unit {0}
 IsTold (Some i) is_read seats talk = (seat : Seat) × (t : Talk) × (slice_get seats i ≡ Some seat) × (talk ≡ Some t) × (t.peer ≡ seat.peer) × AreHeardOnce is_read t.pieces
 
--- What becomes of a place where its connection goes on: one without a connection stays as it is. Else the connection is left, with all of its octets; or it is the same one, what comes is put behind what came, and replies go in their order.
+-- which number a connection has among those that wait to be handed over: one that waits keeps it, and another one gets one exactly where it is due
+abbrev pub IsTurned : ℕ → Seat → Room → Type 0
+IsTurned turn seat' room' = MatchBool (nat_lt 0 turn) (seat'.turn ≡ turn) (MatchBool (nat_lt 0 seat'.turn) (IsDue room') (IsNotDue room'))
+
+-- a connection goes on: it has the same socket, what comes is put behind what came, replies go in their order, and it waits where it is due
+abbrev pub GoesOn : Seat → Room → Seat → Room → Type 0
+GoesOn seat room seat' room' = (seat.is_over ≡ false) × IsSamePlace seat seat' × IsGoingOn room room' × IsTurned seat.turn seat' room'
+
+-- What becomes of a place where all go on: one without a connection stays as it is. Else the connection is left, with all of its octets, or goes on.
 abbrev pub IsSettled : Seat → Room → Seat → Room → Type 0
-IsSettled seat room seat' room' = MatchBool (is_free seat) ((seat' ≡ seat) × (room' ≡ room)) ((IsVacant seat' × IsEmpty room') ⊎ (IsSamePlace seat seat' × IsGoingOn room room'))
+IsSettled seat room seat' room' = MatchBool (is_free seat) ((seat' ≡ seat) × (room' ≡ room)) ((IsVacant seat' × IsEmpty room') ⊎ GoesOn seat room seat' room')
 
--- What becomes of a place where connections are taken in: it stays as it is; or it has none now, or one that came at that time, and no octets.
+-- nothing waits at a place to be handed over
+abbrev pub IsIdle : Seat → Type 0
+IsIdle seat = (is_free seat ≡ true) ⊎ (seat.turn ≡ 0)
+
+-- What becomes of a place where connections are taken in: it stays as it is; or nothing waited there, and it has no octets, and either no connection or one that came at that time and does not wait.
 abbrev pub IsLetIn : ℕ → Seat → Room → Seat → Room → Type 0
-IsLetIn now seat room seat' room' = ((seat' ≡ seat) × (room' ≡ room)) ⊎ ((IsVacant seat' ⊎ ((is_free seat' ≡ false) × (seat'.since ≡ now))) × IsEmpty room')
+IsLetIn now seat room seat' room' = ((seat' ≡ seat) × (room' ≡ room)) ⊎ (IsIdle seat × (IsVacant seat' ⊎ ((is_free seat' ≡ false) × (seat'.since ≡ now) × (seat'.turn ≡ 0))) × IsEmpty room')
 
--- What becomes of a place between two conversations: its connection is left, with all of its octets; or it is the same one, what comes is put behind what came, and replies go in their order; or it is one that came at that time, of which nothing is to go.
-abbrev pub IsGoneOn : ℕ → Seat → Room → Seat → Room → Type 0
-IsGoneOn now seat room seat' room' = (IsVacant seat' × IsEmpty room') ⊎ (IsSamePlace seat seat' × IsGoingOn room room') ⊎ ((is_free seat' ≡ false) × (seat'.since ≡ now) × (room'.going.items ≡ []))
+-- nothing waited at a place, and its connection has that time, with nothing to go, and waits where it is due
+abbrev pub CameAt : ℕ → Seat → Seat → Room → Type 0
+CameAt now seat seat' room' = IsIdle seat × (is_free seat' ≡ false) × (seat'.since ≡ now) × (room'.going.items ≡ []) × IsTurned 0 seat' room'
+
+-- What becomes of a place between two conversations: it has no connection and no octets; or it had none and stays as it is; or its connection goes on; or it has one that came at that time.
+pub data IsGoneOn (now : ℕ) (seat : Seat) (room : Room) (seat' : Seat) (room' : Room) : Type 0 where
+  Left : IsVacant seat' → IsEmpty room' → IsGoneOn now seat room seat' room'
+  Stayed : is_free seat ≡ true → MayBeWoken seat seat' → room' ≡ room → IsGoneOn now seat room seat' room'
+  Went : is_free seat ≡ false → GoesOn seat room seat' room' → IsGoneOn now seat room seat' room'
+  Came : CameAt now seat seat' room' → IsGoneOn now seat room seat' room'
 
 -- so many places, of which none has a connection
 abbrev pub AreFree : ℕ → List Seat → Type 0
@@ -86,7 +105,7 @@ pub record IsPlaceChangedAt (R : Seat → Room → Seat → Room → Type 0) (i 
   pub room_is : rooms' ≡ slice_set rooms i room'
   pub changed : R seat room seat' room'
 
--- each place with its room became another so, and none came or went
+-- each place that has a room became another so, with its room, and there are as many places and rooms as before
 pub record AreAllChanged (R : Seat → Room → Seat → Room → Type 0) (seats : List Seat) (rooms : List Room) (seats' : List Seat) (rooms' : List Room) : Type 0 where
   pub seats_stay : length seats' ≡ length seats
   pub rooms_stay : length rooms' ≡ length rooms

@@ -1,5 +1,5 @@
 -- Which connection has a place, gives way, or is handed over next.
-use Rattle.std.specs.Prelude.{◌≡◌, ℕ, ◌≤◌, ◌/◌, ◌^◌, ◌==◌, ◌&&◌, ◌||◌, Bool, true, false, not, nat_le, nat_lt, List, All, count_by, position, Option, None, Some, is_some, MatchBool, MatchOption, if◌then◌else◌, slice_get}
+use Rattle.std.specs.Prelude.{◌≡◌, ◌⊎◌, ℕ, ◌≤◌, ◌-◌, ◌/◌, ◌^◌, ◌==◌, ◌&&◌, ◌||◌, Bool, true, false, not, nat_le, nat_lt, List, [], All, count_by, position, Option, None, Some, is_some, MatchBool, MatchOption, if◌then◌else◌, slice_get}
 use Rattle.addr_text.specs.declared.address.Addr.{Addr}
 use Rattle.addr_text.specs.declared.address.Addr.TheVariants.{V4, V6}
 use Rattle.addr_text.specs.declared.address.Peer.{Peer}
@@ -59,9 +59,9 @@ IsVacant seat = (is_free seat ≡ true) × (seat.turn ≡ 0)
 abbrev pub IsTaken : Peer → ℕ → Seat → Type 0
 IsTaken peer now seat = (is_free seat ≡ false) × (seat.peer ≡ peer) × (seat.since ≡ now) × (seat.turn ≡ 0)
 
--- a place has the connection that it had, if any
+-- a place has the socket that it had, if any, with its peer and its time
 abbrev pub IsSamePlace : Seat → Seat → Type 0
-IsSamePlace seat seat' = (is_free seat' ≡ is_free seat) × (seat'.peer ≡ seat.peer) × (seat'.since ≡ seat.since)
+IsSamePlace seat seat' = (seat'.stream ≡ seat.stream) × (seat'.peer ≡ seat.peer) × (seat'.since ≡ seat.since)
 
 -- the same, which waits as before, and is of no use where it was of none
 abbrev pub IsSameSeat : Seat → Seat → Type 0
@@ -70,3 +70,15 @@ IsSameSeat seat seat' = IsSamePlace seat seat' × (seat'.turn ≡ seat.turn) × 
 -- the same, and it is of no use any more
 abbrev pub IsOverNow : Seat → Seat → Type 0
 IsOverNow seat seat' = IsSameSeat seat seat' × (seat'.is_over ≡ true)
+
+-- there may be something to read of a connection, and room to write
+abbrev pub IsWoken : Seat → Seat → Type 0
+IsWoken seat seat' = seat' ≡ record seat { is_readable = true; is_writable = true }
+
+-- a place stays as it is, or that is noted of it
+abbrev pub MayBeWoken : Seat → Seat → Type 0
+MayBeWoken seat seat' = (seat' ≡ seat) ⊎ IsWoken seat seat'
+
+-- A connection is left: it is over; or it does not wait to be handed over, and either its peer sends no more and nothing is to go, or it was idle for so long.
+abbrev pub IsToLeave : ℕ → ℕ → Seat → List ℕ → Type 0
+IsToLeave longest now seat going = (seat.is_over ≡ true) ⊎ ((seat.turn ≡ 0) × (((seat.is_ended ≡ true) × (going ≡ [])) ⊎ (longest ≤ now - seat.since)))

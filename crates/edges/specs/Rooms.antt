@@ -37,3 +37,11 @@ IsHandingOver buffer buffer' batch room room' = (batch.len ≤ length buffer) ×
 -- a room without octets
 abbrev pub IsEmpty : Room → Type 0
 IsEmpty room = (room.coming.items ≡ []) × (room.going.items ≡ [])
+
+-- something can be handed over, a whole message or a length that is too great, and no reply is to go
+abbrev pub IsDue : Room → Type 0
+IsDue room = (room.going.items ≡ []) × (HasNoMessage room.coming.items → IsOverlong room.coming.items)
+
+-- a reply is to go, or nothing can be handed over
+abbrev pub IsNotDue : Room → Type 0
+IsNotDue room = room.going.items ≡ [] → HasNoMessage room.coming.items × (IsOverlong room.coming.items → ⊥)

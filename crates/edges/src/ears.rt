@@ -3,7 +3,7 @@ ghost use Rattle.std.specs.Prelude.{◌≡◌, ◌⊎◌, ℕ, true, false, Some
 ghost use Rattle.std.specs.List.{AllZip};
 ghost use Rattle.edges.specs.Halls.{AreAllChanged, IsLetIn};
 ghost use Rattle.edges.specs.Judged.{next_of};
-ghost use Rattle.edges.specs.Places.{IsLeast, IsPlaceFor, IsSameSeat, IsTaken, IsVacant};
+ghost use Rattle.edges.specs.Places.{IsLeast, IsPlaceFor, IsTaken, IsVacant, MayBeWoken};
 ghost use Rattle.edges.specs.Rooms.{IsChangedAt, IsEmpty};
 
 use crate::judged::{Knock, knock_of};
@@ -99,7 +99,7 @@ impl Ears {
     /// Waits for something to happen, so many milliseconds at most, and notes it. Answers whether the wait is broken; one
     /// that a signal breaks off is not.
     pub(crate) fn wait(&mut self, millis: u64, seats: &mut [Seat]) -> bool
-        ensures { AllZip IsSameSeat seats.old seats.new }
+        ensures { AllZip MayBeWoken seats.old seats.new }
     {
         match self
             .poll
@@ -183,7 +183,7 @@ impl Ears {
 
 /// Notes what has happened.
 fn note_all(events: &Events, seats: &mut [Seat], is_knocked: &mut bool)
-    ensures { AllZip IsSameSeat seats.old seats.new }
+    ensures { AllZip MayBeWoken seats.old seats.new }
 {
     for event in events.iter() {
         let Token(number) = event.token();

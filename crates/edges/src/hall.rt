@@ -100,11 +100,12 @@ impl Hall {
         Ok(Hall::new(seats, rooms))
     }
 
-    /// Takes back the connection that was handed over, and has it go on, from now on.
+    /// Takes back the connection that was handed over: it waits no more, counts as idle since the last `advance`, and goes on.
     pub(crate) fn take_back(&mut self)
         ensures current { self.new.current ≡ None }
         ensures back { (i : ℕ) → self.old.current ≡ Some i → i < length self.old.seats.items → i < length self.old.rooms.items → IsPlaceChangedAt (λ seat. IsSettled (record seat { turn = 0; since = self.old.now })) i self.old.seats.items self.old.rooms.items self.new.seats.items self.new.rooms.items }
         ensures none { self.old.current ≡ None → self.new ≡ self.old }
+        ensures same { self.new ≡ record self.old { current = None; seats = self.new.seats; rooms = self.new.rooms; turns = self.new.turns } }
     {
         let Some(i) = self.current else {
             return;
@@ -120,10 +121,11 @@ impl Hall {
         );
     }
 
-    /// Waits for something to happen, and has all connections go on. Answers whether the listener is broken.
+    /// Waits for something to happen, takes in connections that come, and has all go on. Answers whether the listener, or the
+    /// wait for it, is broken.
     fn gather<C: Clock>(&mut self, ears: &mut Ears, clock: &C, most_of_one: usize) -> bool
         ensures current { self.new.current ≡ self.old.current }
-        ensures went { AreAllChanged (IsGoneOn self.new.now) self.old.seats.items self.old.rooms.items self.new.seats.items self.new.rooms.items }
+        ensures went { result ≡ false → AreAllChanged (IsGoneOn self.new.now) self.old.seats.items self.old.rooms.items self.new.seats.items self.new.rooms.items }
     {
         let wait = if least(self.seats.as_slice(), Wanted::FirstInTurn).is_some() {
             0
@@ -140,7 +142,7 @@ impl Hall {
     }
 
     /// Waits for something to happen, has all connections go on, and hands over the one that has waited longest. It fails
-    /// where there is no listener, or it is broken.
+    /// where there is no listener, or it or the wait for it is broken.
     pub(crate) fn advance<C: Clock>(
         &mut self,
         ears: &mut Option<Ears>,
@@ -149,7 +151,7 @@ impl Hall {
     ) -> Accepting
         requires { self.old.current ≡ None }
         ensures advance { IsAdvance result self.new.current self.new.seats.items }
-        ensures went { AreAllChanged (IsGoneOn self.new.now) self.old.seats.items self.old.rooms.items self.new.seats.items self.new.rooms.items }
+        ensures went { result ≢ Accepting.Failed → AreAllChanged (IsGoneOn self.new.now) self.old.seats.items self.old.rooms.items self.new.seats.items self.new.rooms.items }
         ensures unread { (peer : Peer) → result ≡ Accepting.Come peer → self.new.is_read ≡ false }
     {
         let Some(ears) = ears else {

@@ -1,8 +1,7 @@
 //! The octets of a connection: those that came and are to be handed over, and those of replies that are to go.
-ghost use Rattle.std.specs.Prelude.{◌≡◌, ◌≤◌, ◌<◌, ◌+◌, ◌⊎◌, ◌++◌, drop, length, slice_get, true, false, [], Some, IfNone, IfSome};
-ghost use Rattle.edges.specs.Rooms.{IsChangedAt, IsEmpty, IsHandingOver, IsKeeping};
+ghost use Rattle.std.specs.Prelude.{◌≡◌, ◌≤◌, ◌<◌, ◌+◌, ◌⊎◌, ◌++◌, drop, length, slice_get, true, false, Some, MatchBool, IfNone, IfSome};
+ghost use Rattle.edges.specs.Rooms.{IsChangedAt, IsDue, IsEmpty, IsHandingOver, IsKeeping, IsNotDue};
 ghost use Rattle.edges.specs.declared.room.Room.{Room};
-ghost use Rattle.tcp_frames.specs.Split.{HasNoMessage, IsOverlong};
 
 use arrayvec::ArrayVec;
 use tcp_frames::{Batch, LARGEST_FRAME, LARGEST_REPLY_FRAME, MOST_MESSAGES, batch_of};
@@ -69,8 +68,7 @@ impl Room {
 
     /// Whether there is something to hand over, and no reply is to go.
     pub(crate) fn is_due(&self) -> bool
-        ensures due { result ≡ true → (self.now.going.items ≡ []) × (HasNoMessage self.now.coming.items → IsOverlong self.now.coming.items) }
-        ensures none { result ≡ false → self.now.going.items ≡ [] → HasNoMessage self.now.coming.items × (IsOverlong self.now.coming.items → ⊥) }
+        ensures { MatchBool result (IsDue self.now) (IsNotDue self.now) }
     {
         self.going.is_empty() && batch_of(self.coming.as_slice()).len > 0
     }

@@ -1,10 +1,10 @@
 //! A place for a connection: whether it is taken, and what goes on with it.
 ghost use Rattle.std.specs.IoError.{error_kind};
-ghost use Rattle.std.specs.Prelude.{◌≡◌, ◌≢◌, ◌<◌, ◌≤◌, ◌⊎◌, length, true, false, []};
+ghost use Rattle.std.specs.Prelude.{◌≡◌, ◌≢◌, ◌<◌, ◌≤◌, ◌⊎◌, length, true, false};
+ghost use Rattle.outside.specs.Faults.{raised};
 ghost use Rattle.edges.specs.Halls.{IsPlaceChangedAt, IsSettled};
-ghost use Rattle.edges.specs.Places.{IsOverNow, IsSameSeat, IsTaken, IsVacant, is_free};
+ghost use Rattle.edges.specs.Places.{IsOverNow, IsSameSeat, IsTaken, IsToLeave, IsVacant, IsWoken, is_free};
 ghost use Rattle.edges.specs.Rooms.{IsChangedAt, IsEmpty, IsFilled, IsFlushed};
-ghost use Rattle.tcp_frames.specs.Split.{HasNoMessage, IsOverlong};
 
 use crate::room::Room;
 use addr_text::{Addr, Peer};
@@ -158,8 +158,8 @@ fn flush(seat: &mut Seat, room: &mut Room)
 /// Whether a connection is left: it is over; or it does not wait to be handed over, and either its peer sends no more and
 /// takes all that goes, or it was idle for too long.
 fn is_left(seat: &Seat, room: &Room, now: u64) -> bool
-    ensures over { seat.now.is_over ≡ true → result ≡ true }
-    ensures waits { 0 < seat.now.turn → result ≡ seat.now.is_over }
+    ensures left { result ≡ true → IsToLeave LONGEST_IDLE now seat.now room.now.going.items }
+    ensures stays { result ≡ false → IsToLeave LONGEST_IDLE now seat.now room.now.going.items → ⊥ }
 {
     seat.is_over
         || (seat.turn == 0
@@ -176,13 +176,12 @@ pub(crate) fn leave(seat: &mut Seat, room: &mut Room)
     room.clear();
 }
 
-/// Writes and reads what goes and comes at once, and has the connection wait to be handed over where it has whole messages
-/// and no reply of it is to go. `turns` counts those that waited.
+/// Writes and reads what can be at once, has the connection wait to be handed over where there is something to hand over
+/// and no reply of it is to go, and leaves it where that is due. `turns` is the last number that one got which waits.
 pub(crate) fn settle(seat: &mut Seat, room: &mut Room, now: u64, turns: &mut u64)
     ensures settled { IsSettled seat.old room.old seat.new room.new }
-    ensures over { seat.old.is_over ≡ true → is_free seat.new ≡ true }
-    ensures rests { seat.old.turn ≡ 0 → seat.new.turn ≡ 0 → is_free seat.new ≡ false → room.new.going.items ≡ [] → HasNoMessage room.new.coming.items × (IsOverlong room.new.coming.items → ⊥) }
-    ensures waits { seat.old.turn ≡ 0 → 0 < seat.new.turn → (room.new.going.items ≡ []) × (HasNoMessage room.new.coming.items → IsOverlong room.new.coming.items) }
+    ensures turn { seat.old.turn ≡ 0 → 0 < seat.new.turn → (turns.new ≡ raised turns.old 1) × (seat.new.turn ≡ turns.new) }
+    ensures turns { turns.old ≤ turns.new }
 {
     if seat.stream.is_none() {
         return;
@@ -198,7 +197,7 @@ pub(crate) fn settle(seat: &mut Seat, room: &mut Room, now: u64, turns: &mut u64
     }
 }
 
-/// Has the connection of a place wait no more to be handed over, and be idle from now on.
+/// Has the connection of a place wait no more to be handed over. It counts as idle since that time.
 pub(crate) fn rest_at(seats: &mut [Seat], i: usize, now: u64)
     ensures at { i < length seats.old → IsChangedAt (λ old new. new ≡ record old { turn = 0; since = now }) i seats.old seats.new }
     ensures none { length seats.old ≤ i → seats.new ≡ seats.old }
@@ -212,7 +211,7 @@ pub(crate) fn rest_at(seats: &mut [Seat], i: usize, now: u64)
 
 /// Notes that there may be something to read of a connection, and room to write.
 pub(crate) fn wake_at(seats: &mut [Seat], i: usize)
-    ensures woken { i < length seats.old → IsChangedAt IsSameSeat i seats.old seats.new }
+    ensures woken { i < length seats.old → IsChangedAt IsWoken i seats.old seats.new }
     ensures none { length seats.old ≤ i → seats.new ≡ seats.old }
 {
     if i < seats.len() {
@@ -222,7 +221,7 @@ pub(crate) fn wake_at(seats: &mut [Seat], i: usize)
     }
 }
 
-/// Has the connection of a place go on.
+/// Has the connection of a place go on, where there is such a place with a room.
 pub(crate) fn settle_at(seats: &mut [Seat], rooms: &mut [Room], i: usize, now: u64, turns: &mut u64)
     ensures at { i < length seats.old → i < length rooms.old → IsPlaceChangedAt IsSettled i seats.old rooms.old seats.new rooms.new }
     ensures none { (length seats.old ≤ i) ⊎ (length rooms.old ≤ i) → (seats.new ≡ seats.old) × (rooms.new ≡ rooms.old) }

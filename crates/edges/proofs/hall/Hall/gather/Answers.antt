@@ -1,14 +1,9 @@
 use Rattle.std.proofs.Common.{sym, ap, ◌∙◌, length}
-use Rattle.edges.proofs.Going.{all_put, broken_put}
+use Rattle.edges.proofs.Going.{all_put}
 use Rattle.edges.proofs.hall.Hall.gather.Goals as goal
 
-pub returns-then-wait-clause-went : goal.returns-then-wait-clause-went
-returns-then-wait-clause-went g c =
-    let hall = c.args.self.now in
-    broken_put hall.now hall.seats.len hall.seats.items c.wait.new.seats c.deref_mut.result.now hall.rooms.items (sym c.deref_mut.ensures.len ∙ ap length c.deref_mut.ensures.value) c.deref_mut.ensures.value c.wait.ensures
-
 pub returns-clause-went : goal.returns-clause-went
-returns-clause-went g c =
+returns-clause-went g c is =
     let hall = c.args.self.now in
     all_put c.now_of-self.result hall.seats.len hall.rooms.len hall.seats.items c.wait.new.seats c.take_all-is_broken.new.seats c.settle_all.new.seats c.deref_mut.result.now c.deref_mut-2.result.now c.deref_mut-4.result.now
     hall.rooms.items c.take_all-is_broken.new.rooms c.settle_all.new.rooms c.deref_mut-3.result.now c.deref_mut-5.result.now
