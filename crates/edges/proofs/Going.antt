@@ -15,6 +15,12 @@ use Rattle.edges.specs.declared.places.Wanted.TheVariants.{Oldest, OldestOf}
 use Rattle.edges.specs.declared.room.Room.{Room}
 use Rattle.edges.specs.declared.seat.Seat.{Seat}
 
+-- a number is below another one or not
+within : (i k : ℕ) → (i < k) ⊎ (k ≤ i)
+within i zero = inr (omega arith)
+within zero (suc k) = inl (omega arith)
+within (suc i) (suc k) = ⊎_elim (λ lt. inl (omega (arith, lt))) (λ le. inr (omega (arith, le))) (within i k)
+
 -- two numbers are the same or not
 same_or_not : (i k : ℕ) → (i ≡ k) ⊎ (i ≡ k → ⊥)
 same_or_not zero zero = inl refl
@@ -103,11 +109,6 @@ none_settled seats rooms = record { seats_stay = refl; rooms_stay = refl; each =
 pub one_settled : (n : ℕ) (s0 s1 s2 : List Seat) (r0 r1 r2 : List Room) → SettledBelow n s0 r0 s1 r1 → (n < length s1 → n < length r1 → IsPlaceChangedAt IsSettled n s1 r1 s2 r2) → ((length s1 ≤ n) ⊎ (length r1 ≤ n) → (s2 ≡ s1) × (r2 ≡ r1)) → SettledBelow (n + 1) s0 r0 s2 r2
 one_settled n s0 s1 s2 r0 r1 r2 below at none = by (within n (length s1)) (within n (length r1))
   where
-    within : (i k : ℕ) → (i < k) ⊎ (k ≤ i)
-    within i zero = inr (omega arith)
-    within zero (suc k) = inl (omega arith)
-    within (suc i) (suc k) = ⊎_elim (λ lt. inl (omega (arith, lt))) (λ le. inr (omega (arith, le))) (within i k)
-
     past : (length s1 ≤ n) ⊎ (length r1 ≤ n) → SettledBelow (n + 1) s0 r0 s2 r2
     past le =
         let is = none le in
@@ -153,7 +154,7 @@ all_settled n s0 s1 r0 r1 le below = record {
   each = λ i seat room s r. let a = below.each i seat room s r in (a.0, a.1, a.2, a.3, a.4.0 (omega (arith, le, slice_get_within s0 i seat s)));
 }
 
--- where a connection may come in, nothing waits
+-- the first free place is free
 first_free : (seats : List Seat) (i : ℕ) (seat : Seat) → position is_free seats ≡ Some i → slice_get seats i ≡ Some seat → is_free seat ≡ true
 first_free seats i seat at is = by (nat_lt (position_or_len is_free seats) (length seats)) at
   where
@@ -172,27 +173,21 @@ first_free seats i seat at is = by (nat_lt (position_or_len is_free seats) (leng
     by true at = here seats (subst (λ k. slice_get seats k ≡ Some seat) (sym (some_eq (position_or_len is_free seats) i at)) is)
     by false at = absurd (none-some i at)
 
-no_turn : (seat : Seat) (key : ℕ) → key_of Oldest seat ≡ Some key → seat.turn ≡ 0
-no_turn seat key is = by (is_some seat.stream) (seat.turn == 0) refl is
+-- one that is found by the time since when it is idle does not wait
+no_turn : (b : Bool) (seat : Seat) (key : ℕ) → (if b && (seat.turn == 0) then Some seat.since else None) ≡ Some key → seat.turn ≡ 0
+no_turn b seat key is = by b (seat.turn == 0) refl is
   where
     by : (b c : Bool) → (seat.turn == 0) ≡ c → (if b && c then Some seat.since else None) ≡ Some key → seat.turn ≡ 0
     by b true same is = eqb-true seat.turn 0 same
     by true false same is = absurd (none-some key is)
     by false false same is = absurd (none-some key is)
 
-no_turn_of : (addr : Addr) (seat : Seat) (key : ℕ) → key_of (OldestOf addr) seat ≡ Some key → seat.turn ≡ 0
-no_turn_of addr seat key is = by (is_of addr seat) (seat.turn == 0) refl is
-  where
-    by : (b c : Bool) → (seat.turn == 0) ≡ c → (if b && c then Some seat.since else None) ≡ Some key → seat.turn ≡ 0
-    by b true same is = eqb-true seat.turn 0 same
-    by true false same is = absurd (none-some key is)
-    by false false same is = absurd (none-some key is)
-
+-- where a connection may come in, nothing waits
 idle_oldest : (seats : List Seat) (i : ℕ) (seat : Seat) → IsLeast Oldest seats i → slice_get seats i ≡ Some seat → IsIdle seat
-idle_oldest seats i seat least is = inr (subst (λ s. s.turn ≡ 0) (some_eq least.0 seat (sym least.2 ∙ is)) (no_turn least.0 least.1 least.3))
+idle_oldest seats i seat least is = inr (subst (λ s. s.turn ≡ 0) (some_eq least.0 seat (sym least.2 ∙ is)) (no_turn (is_some least.0.stream) least.0 least.1 least.3))
 
 idle_oldest_of : (addr : Addr) (seats : List Seat) (i : ℕ) (seat : Seat) → IsLeast (OldestOf addr) seats i → slice_get seats i ≡ Some seat → IsIdle seat
-idle_oldest_of addr seats i seat least is = inr (subst (λ s. s.turn ≡ 0) (some_eq least.0 seat (sym least.2 ∙ is)) (no_turn_of addr least.0 least.1 least.3))
+idle_oldest_of addr seats i seat least is = inr (subst (λ s. s.turn ≡ 0) (some_eq least.0 seat (sym least.2 ∙ is)) (no_turn (is_of addr least.0) least.0 least.1 least.3))
 
 idle_there : (seats : List Seat) (addr : Addr) (most i : ℕ) (seat : Seat) → IsPlaceFor seats addr most (Some i) → slice_get seats i ≡ Some seat → IsIdle seat
 idle_there seats addr most i seat place is = by (nat_le most (count_by (is_of addr) seats)) (position is_free seats) refl place
@@ -255,7 +250,7 @@ pub all_same : (seats : List Seat) → AllZip MayBeWoken seats seats
 all_same [] = tt
 all_same (s ∷ ss) = (inl refl, all_same ss)
 
--- of what there may be
+-- what is noted of a place at an event
 abbrev noted : Seat → Seat
 noted seat = record seat { is_readable = true; is_writable = true }
 
@@ -263,11 +258,6 @@ noted seat = record seat { is_readable = true; is_writable = true }
 pub one_woken : (k : ℕ) (s0 s1 s2 : List Seat) → AllZip MayBeWoken s0 s1 → (k < length s1 → IsChangedAt IsWoken k s1 s2) → (length s1 ≤ k → s2 ≡ s1) → AllZip MayBeWoken s0 s2
 one_woken k s0 s1 s2 same at none = by (within k (length s1))
   where
-    within : (i n : ℕ) → (i < n) ⊎ (n ≤ i)
-    within i zero = inr (omega arith)
-    within zero (suc n) = inl (omega arith)
-    within (suc i) (suc n) = ⊎_elim (λ lt. inl (omega (arith, lt))) (λ le. inr (omega (arith, le))) (within i n)
-
     trans : (s t u : Seat) → MayBeWoken s t → IsWoken t u → MayBeWoken s u
     trans s t u (inl same) woke = inr (woke ∙ ap noted same)
     trans s t u (inr first) woke = inr (woke ∙ ap noted first)

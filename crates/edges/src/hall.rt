@@ -100,7 +100,8 @@ impl Hall {
         Ok(Hall::new(seats, rooms))
     }
 
-    /// Takes back the connection that was handed over: it waits no more, counts as idle since the last `advance`, and goes on.
+    /// Takes back the connection that was handed over: it waits no more, counts as idle since the last `advance`, and goes
+    /// on.
     pub(crate) fn take_back(&mut self)
         ensures current { self.new.current ≡ None }
         ensures back { (i : ℕ) → self.old.current ≡ Some i → i < length self.old.seats.items → i < length self.old.rooms.items → IsPlaceChangedAt (λ seat. IsSettled (record seat { turn = 0; since = self.old.now })) i self.old.seats.items self.old.rooms.items self.new.seats.items self.new.rooms.items }

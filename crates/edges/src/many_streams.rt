@@ -39,8 +39,8 @@ impl SharedTcp {
 /// Conversations over TCP, of many connections at once, as what they were asked and answered, and a count of the calls
 /// that failed. Each conversation is at most eight whole messages of one connection that came one behind another, or a
 /// length that is too great, which ends the connection. So a connection may come back as a further conversation: its
-/// messages are those of its conversations, one after another, and those that are still there. Its replies go in their order, as far as its peer
-/// takes them.
+/// messages are those of its conversations, one after another, and those that are still there. Its replies go in their
+/// order, as far as its peer takes them.
 ///
 /// What a peer brings about is no failure, and nor are connections or descriptors that ran out: a connection that is
 /// reset, or whose peer takes no reply for ten seconds, is left; one that brings no whole message for as long is closed;
