@@ -8,8 +8,8 @@ use Rattle.std.proofs.lemmas.Option.{slice_get_within, none-some}
 use Rattle.addr_text.specs.declared.address.Addr.{Addr}
 use Rattle.addr_text.specs.declared.address.Peer.{Peer}
 use Rattle.edges.proofs.Told.{got_at, some_eq}
-use Rattle.edges.specs.Halls.{AreAllChanged, GoesOn, IsGoneOn, Left, Stayed, Went, Came, IsIdle, IsLetIn, IsPlaceChangedAt, IsSettled, IsTurned}
-use Rattle.edges.specs.Places.{IsFound, IsLeast, IsPlaceFor, IsTaken, IsVacant, IsWoken, MayBeWoken, is_free, is_of, key_of}
+use Rattle.edges.specs.Halls.{AreAllChanged, GoesOn, IsGoneOn, Left, Stayed, Went, Came, IsIdle, IsLetIn, IsPlaceChangedAt, IsSettled, IsTurned, Stays}
+use Rattle.edges.specs.Places.{IsFound, IsLeast, IsPlaceFor, IsTaken, IsVacant, IsWoken, MayBeWoken, is_free, is_of, rested}
 use Rattle.edges.specs.Rooms.{IsChangedAt, IsEmpty}
 use Rattle.edges.specs.declared.places.Wanted.TheVariants.{Oldest, OldestOf}
 use Rattle.edges.specs.declared.room.Room.{Room}
@@ -40,31 +40,14 @@ got_other (x ∷ xs) zero (suc k) y n = refl
 got_other (x ∷ xs) (suc i) zero y n = refl
 got_other (x ∷ xs) (suc i) (suc k) y n = got_other xs i k y (λ e. n (ap suc e))
 
--- a place stays as it is
-abbrev Stays : Seat → Room → Seat → Room → Type 0
-Stays seat room seat' room' = (seat' ≡ seat) × (room' ≡ room)
-
 -- one place changed so, and each other one stays
 abbrev AtOr : ℕ → (Seat → Room → Seat → Room → Type 0) → ℕ → Seat → Room → Seat → Room → Type 0
 AtOr k R i seat room seat' room' = ((i ≡ k) × R seat room seat' room') ⊎ ((i ≡ k → ⊥) × Stays seat room seat' room')
 
--- each place, by its number
-pub record Become (R : ℕ → Seat → Room → Seat → Room → Type 0) (seats : List Seat) (rooms : List Room) (seats' : List Seat) (rooms' : List Room) : Type 0 where
-  pub seats_stay : length seats' ≡ length seats
-  pub rooms_stay : length rooms' ≡ length rooms
-  pub each : (i : ℕ) (seat : Seat) (room : Room) → slice_get seats i ≡ Some seat → slice_get rooms i ≡ Some room →
-      (seat' : Seat) × (room' : Room) × (slice_get seats' i ≡ Some seat') × (slice_get rooms' i ≡ Some room') × R i seat room seat' room'
-
-by_number : {R : Seat → Room → Seat → Room → Type 0} {seats seats' : List Seat} {rooms rooms' : List Room} → AreAllChanged R seats rooms seats' rooms' → Become (λ i. R) seats rooms seats' rooms'
-by_number c = record { seats_stay = c.seats_stay; rooms_stay = c.rooms_stay; each = c.each }
-
-no_number : {R : Seat → Room → Seat → Room → Type 0} {seats seats' : List Seat} {rooms rooms' : List Room} → Become (λ i. R) seats rooms seats' rooms' → AreAllChanged R seats rooms seats' rooms'
-no_number c = record { seats_stay = c.seats_stay; rooms_stay = c.rooms_stay; each = c.each }
-
 -- one thing behind another
 one_behind : (R S T : ℕ → Seat → Room → Seat → Room → Type 0) (s0 s1 s2 : List Seat) (r0 r1 r2 : List Room)
     → ((i : ℕ) (s t u : Seat) (p q r : Room) → i < length s0 → i < length r0 → R i s p t q → S i t q u r → T i s p u r)
-    → Become R s0 r0 s1 r1 → Become S s1 r1 s2 r2 → Become T s0 r0 s2 r2
+    → AreAllChanged R s0 r0 s1 r1 → AreAllChanged S s1 r1 s2 r2 → AreAllChanged T s0 r0 s2 r2
 one_behind R S T s0 s1 s2 r0 r1 r2 both one two = record {
   seats_stay = two.seats_stay ∙ one.seats_stay;
   rooms_stay = two.rooms_stay ∙ one.rooms_stay;
@@ -75,7 +58,7 @@ one_behind R S T s0 s1 s2 r0 r1 r2 both one two = record {
 }
 
 -- of two lists, one at a place
-at_one : (R : Seat → Room → Seat → Room → Type 0) (k : ℕ) (seats : List Seat) (rooms : List Room) (seat seat' : Seat) (room room' : Room) → slice_get seats k ≡ Some seat → slice_get rooms k ≡ Some room → R seat room seat' room' → Become (AtOr k R) seats rooms (set seats k seat') (set rooms k room')
+at_one : (R : Seat → Room → Seat → Room → Type 0) (k : ℕ) (seats : List Seat) (rooms : List Room) (seat seat' : Seat) (room room' : Room) → slice_get seats k ≡ Some seat → slice_get rooms k ≡ Some room → R seat room seat' room' → AreAllChanged (AtOr k R) seats rooms (set seats k seat') (set rooms k room')
 at_one R k seats rooms seat seat' room room' s r changed = record {
   seats_stay = length-set seats k seat';
   rooms_stay = length-set rooms k room';
@@ -100,7 +83,7 @@ abbrev IsSettledBelow : ℕ → ℕ → Seat → Room → Seat → Room → Type
 IsSettledBelow n i seat room seat' room' = (i < n → IsSettled seat room seat' room') × (n ≤ i → Stays seat room seat' room')
 
 abbrev pub SettledBelow : ℕ → List Seat → List Room → List Seat → List Room → Type 0
-SettledBelow n = Become (IsSettledBelow n)
+SettledBelow n = AreAllChanged (IsSettledBelow n)
 
 pub none_settled : (seats : List Seat) (rooms : List Room) → SettledBelow 0 seats rooms seats rooms
 none_settled seats rooms = record { seats_stay = refl; rooms_stay = refl; each = λ i seat room s r. (seat, room, s, r, ((λ lt. absurd (omega (arith, lt))), λ le. (refl, refl))) }
@@ -132,7 +115,7 @@ one_settled n s0 s1 s2 r0 r1 r2 below at none = by (within n (length s1)) (withi
     by (inl lt) (inl lt') =
         let c = at lt lt' in
         one_behind (IsSettledBelow n) (AtOr n IsSettled) (IsSettledBelow (n + 1)) s0 s1 s2 r0 r1 r2 more below
-        (subst (λ s. Become (AtOr n IsSettled) s1 r1 s r2) (sym c.seat_is) (subst (λ r. Become (AtOr n IsSettled) s1 r1 (set s1 n c.seat') r) (sym c.room_is) (at_one IsSettled n s1 r1 c.seat c.seat' c.room c.room' c.seat_was c.room_was c.changed)))
+        (subst (λ s. AreAllChanged (AtOr n IsSettled) s1 r1 s r2) (sym c.seat_is) (subst (λ r. AreAllChanged (AtOr n IsSettled) s1 r1 (set s1 n c.seat') r) (sym c.room_is) (at_one IsSettled n s1 r1 c.seat c.seat' c.room c.room' c.seat_was c.room_was c.changed)))
       where
         more : (i : ℕ) (s t u : Seat) (p q r : Room) → i < length s0 → i < length r0 → IsSettledBelow n i s p t q → AtOr n IsSettled i t q u r → IsSettledBelow (n + 1) i s p u r
         more i s t u p q r in-s in-r before (inl (e, settled)) =
@@ -147,7 +130,7 @@ one_settled n s0 s1 s2 r0 r1 r2 below at none = by (within n (length s1)) (withi
             lower less = ⊎_elim (λ lt. lt) (λ le. absurd (other (omega (arith, less, le)))) (within i n)
 
 -- all of them
-pub all_settled : (n : ℕ) (s0 s1 : List Seat) (r0 r1 : List Room) → length s0 ≤ n → SettledBelow n s0 r0 s1 r1 → AreAllChanged IsSettled s0 r0 s1 r1
+pub all_settled : (n : ℕ) (s0 s1 : List Seat) (r0 r1 : List Room) → length s0 ≤ n → SettledBelow n s0 r0 s1 r1 → AreAllChanged (λ _. IsSettled) s0 r0 s1 r1
 all_settled n s0 s1 r0 r1 le below = record {
   seats_stay = below.seats_stay;
   rooms_stay = below.rooms_stay;
@@ -199,10 +182,10 @@ idle_there seats addr most i seat place is = by (nat_le most (count_by (is_of ad
 
 -- a connection is taken in or left, or nothing happens
 pub let_in_more : (now k : ℕ) (P : Seat → Type 0) (s0 s1 s2 : List Seat) (r0 r1 r2 : List Room) → ((s : Seat) → P s → IsVacant s ⊎ ((is_free s ≡ false) × (s.since ≡ now) × (s.turn ≡ 0))) → ((s : Seat) → slice_get s1 k ≡ Some s → IsIdle s)
-    → AreAllChanged (IsLetIn now) s0 r0 s1 r1 → IsChangedAt (λ _ s. P s) k s1 s2 → IsChangedAt (λ _ r. IsEmpty r) k r1 r2 → AreAllChanged (IsLetIn now) s0 r0 s2 r2
+    → AreAllChanged (λ _. IsLetIn now) s0 r0 s1 r1 → IsChangedAt (λ _ s. P s) k s1 s2 → IsChangedAt (λ _ r. IsEmpty r) k r1 r2 → AreAllChanged (λ _. IsLetIn now) s0 r0 s2 r2
 let_in_more now k P s0 s1 s2 r0 r1 r2 which idle before seat room =
-    no_number (one_behind (λ i. IsLetIn now) (AtOr k CameIn) (λ i. IsLetIn now) s0 s1 s2 r0 r1 r2 both (by_number before)
-    (subst (λ s. Become (AtOr k CameIn) s1 r1 s r2) (sym seat.is) (subst (λ r. Become (AtOr k CameIn) s1 r1 (set s1 k seat.new) r) (sym room.is) (at_one CameIn k s1 r1 seat.old seat.new room.old room.new seat.was room.was (idle seat.old seat.was, which seat.new seat.changed, room.changed)))))
+    one_behind (λ i. IsLetIn now) (AtOr k CameIn) (λ i. IsLetIn now) s0 s1 s2 r0 r1 r2 both before
+    (subst (λ s. AreAllChanged (AtOr k CameIn) s1 r1 s r2) (sym seat.is) (subst (λ r. AreAllChanged (AtOr k CameIn) s1 r1 (set s1 k seat.new) r) (sym room.is) (at_one CameIn k s1 r1 seat.old seat.new room.old room.new seat.was room.was (idle seat.old seat.was, which seat.new seat.changed, room.changed))))
   where
     CameIn : Seat → Room → Seat → Room → Type 0
     CameIn s p t q = IsIdle s × (IsVacant t ⊎ ((is_free t ≡ false) × (t.since ≡ now) × (t.turn ≡ 0))) × IsEmpty q
@@ -213,23 +196,23 @@ let_in_more now k P s0 s1 s2 r0 r1 r2 which idle before seat room =
     both i s t u p q r in-s in-r one (inr (other, stays)) = subst (λ x. IsLetIn now s p x r) (sym stays.0) (subst (λ y. IsLetIn now s p t y) (sym stays.1) one)
 
 -- by two equations
-pub moved : (R : Seat → Room → Seat → Room → Type 0) (s0 s1 s2 : List Seat) (r0 r1 r2 : List Room) → s2 ≡ s1 → r2 ≡ r1 → AreAllChanged R s0 r0 s1 r1 → AreAllChanged R s0 r0 s2 r2
+pub moved : (R : ℕ → Seat → Room → Seat → Room → Type 0) (s0 s1 s2 : List Seat) (r0 r1 r2 : List Room) → s2 ≡ s1 → r2 ≡ r1 → AreAllChanged R s0 r0 s1 r1 → AreAllChanged R s0 r0 s2 r2
 moved R s0 s1 s2 r0 r1 r2 s r c = subst (λ x. AreAllChanged R s0 r0 x r2) (sym s) (subst (λ y. AreAllChanged R s0 r0 s1 y) (sym r) c)
 
 -- a connection came
-pub one_let_in : (now most : ℕ) (peer : Peer) (s0 s1 s2 : List Seat) (r0 r1 r2 : List Room) → AreAllChanged (IsLetIn now) s0 r0 s1 r1
-    → ((s2 ≡ s1) × (r2 ≡ r1)) ⊎ ((i : ℕ) × IsPlaceFor s1 peer.addr most (Some i) × IsChangedAt (λ _ seat. IsTaken peer now seat) i s1 s2 × IsChangedAt (λ _ room. IsEmpty room) i r1 r2) → AreAllChanged (IsLetIn now) s0 r0 s2 r2
-one_let_in now most peer s0 s1 s2 r0 r1 r2 before (inl (s, r)) = moved (IsLetIn now) s0 s1 s2 r0 r1 r2 s r before
+pub one_let_in : (now most : ℕ) (peer : Peer) (s0 s1 s2 : List Seat) (r0 r1 r2 : List Room) → AreAllChanged (λ _. IsLetIn now) s0 r0 s1 r1
+    → ((s2 ≡ s1) × (r2 ≡ r1)) ⊎ ((i : ℕ) × IsPlaceFor s1 peer.addr most (Some i) × IsChangedAt (λ _ seat. IsTaken peer now seat) i s1 s2 × IsChangedAt (λ _ room. IsEmpty room) i r1 r2) → AreAllChanged (λ _. IsLetIn now) s0 r0 s2 r2
+one_let_in now most peer s0 s1 s2 r0 r1 r2 before (inl (s, r)) = moved (λ _. IsLetIn now) s0 s1 s2 r0 r1 r2 s r before
 one_let_in now most peer s0 s1 s2 r0 r1 r2 before (inr (k, place, seat, room)) = let_in_more now k (IsTaken peer now) s0 s1 s2 r0 r1 r2 (λ s taken. inr (taken.0, taken.2, taken.3)) (λ s is. idle_there s1 peer.addr most k s place is) before seat room
 
 -- room was made, or there was none
-pub room_made : (now : ℕ) (is_made : Bool) (s0 s1 s2 : List Seat) (r0 r1 r2 : List Room) → AreAllChanged (IsLetIn now) s0 r0 s1 r1
-    → (is_made ≡ true → (i : ℕ) × IsLeast Oldest s1 i × IsChangedAt (λ _ seat. IsVacant seat) i s1 s2 × IsChangedAt (λ _ room. IsEmpty room) i r1 r2) → (is_made ≡ false → (s2 ≡ s1) × (r2 ≡ r1)) → AreAllChanged (IsLetIn now) s0 r0 s2 r2
+pub room_made : (now : ℕ) (is_made : Bool) (s0 s1 s2 : List Seat) (r0 r1 r2 : List Room) → AreAllChanged (λ _. IsLetIn now) s0 r0 s1 r1
+    → (is_made ≡ true → (i : ℕ) × IsLeast Oldest s1 i × IsChangedAt (λ _ seat. IsVacant seat) i s1 s2 × IsChangedAt (λ _ room. IsEmpty room) i r1 r2) → (is_made ≡ false → (s2 ≡ s1) × (r2 ≡ r1)) → AreAllChanged (λ _. IsLetIn now) s0 r0 s2 r2
 room_made now true s0 s1 s2 r0 r1 r2 before made none = let m = made refl in let_in_more now m.0 IsVacant s0 s1 s2 r0 r1 r2 (λ s vacant. inl vacant) (λ s is. idle_oldest s1 m.0 s m.1 is) before m.2 m.3
-room_made now false s0 s1 s2 r0 r1 r2 before made none = let is = none refl in moved (IsLetIn now) s0 s1 s2 r0 r1 r2 is.0 is.1 before
+room_made now false s0 s1 s2 r0 r1 r2 before made none = let is = none refl in moved (λ _. IsLetIn now) s0 s1 s2 r0 r1 r2 is.0 is.1 before
 
 -- of the seats alone
-woken : (s0 s1 : List Seat) (rooms : List Room) → AllZip MayBeWoken s0 s1 → Become (λ i s p t q. MayBeWoken s t × (q ≡ p)) s0 rooms s1 rooms
+woken : (s0 s1 : List Seat) (rooms : List Room) → AllZip MayBeWoken s0 s1 → AreAllChanged (λ i s p t q. MayBeWoken s t × (q ≡ p)) s0 rooms s1 rooms
 woken s0 s1 rooms same = record { seats_stay = long s0 s1 same; rooms_stay = refl; each = λ i seat room s r. let a = at s0 s1 i seat same s in (a.0, room, a.1, r, (a.2, refl)) }
   where
     long : (s0 s1 : List Seat) → AllZip MayBeWoken s0 s1 → length s1 ≡ length s0
@@ -279,10 +262,10 @@ kept_of f keeps s t (inl same) = ap f same
 kept_of f keeps s t (inr woke) = ap f woke ∙ keeps s
 
 -- a wait, connections that are taken in, and all go on
-pub all_gone_on : (now : ℕ) (s0 s1 s2 s3 : List Seat) (r0 r1 r2 : List Room) → AllZip MayBeWoken s0 s1 → AreAllChanged (IsLetIn now) s1 r0 s2 r1 → AreAllChanged IsSettled s2 r1 s3 r2 → AreAllChanged (IsGoneOn now) s0 r0 s3 r2
+pub all_gone_on : (now : ℕ) (s0 s1 s2 s3 : List Seat) (r0 r1 r2 : List Room) → AllZip MayBeWoken s0 s1 → AreAllChanged (λ _. IsLetIn now) s1 r0 s2 r1 → AreAllChanged (λ _. IsSettled) s2 r1 s3 r2 → AreAllChanged (λ _. IsGoneOn now) s0 r0 s3 r2
 all_gone_on now s0 s1 s2 s3 r0 r1 r2 same came settled =
-    no_number (one_behind Woken (λ i. After) (λ i. IsGoneOn now) s0 s1 s3 r0 r0 r2 (λ i s t u p q r in-s in-r a b. last s t u p q r a b) (woken s0 s1 r0 same)
-    (one_behind (λ i. IsLetIn now) (λ i. IsSettled) (λ i. After) s1 s2 s3 r0 r1 r2 (λ i s t u p q r in-s in-r a b. (t, q, a, b)) (by_number came) (by_number settled)))
+    one_behind Woken (λ i. After) (λ i. IsGoneOn now) s0 s1 s3 r0 r0 r2 (λ i s t u p q r in-s in-r a b. last s t u p q r a b) (woken s0 s1 r0 same)
+    (one_behind (λ i. IsLetIn now) (λ i. IsSettled) (λ i. After) s1 s2 s3 r0 r1 r2 (λ i s t u p q r in-s in-r a b. (t, q, a, b)) came settled)
   where
     Woken : ℕ → Seat → Room → Seat → Room → Type 0
     Woken i s p t q = MayBeWoken s t × (q ≡ p)
@@ -341,11 +324,11 @@ long_woken s0 s1 same = (woken s0 s1 [] same).seats_stay
 
 -- all of it, in vectors
 pub all_put : (now n m : ℕ) (s0 w t f d1 d2 d4 : List Seat) (r0 q g d3 d5 : List Room) → n ≡ length s0 → m ≡ length r0 → d1 ≡ s0 → AllZip MayBeWoken d1 w
-    → d2 ≡ put n w s0 → d3 ≡ r0 → AreAllChanged (IsLetIn now) d2 d3 t q
-    → d4 ≡ put n t (put n w s0) → d5 ≡ put m q r0 → AreAllChanged IsSettled d4 d5 f g
-    → AreAllChanged (IsGoneOn now) s0 r0 (put n f (put n t (put n w s0))) (put m g (put m q r0))
+    → d2 ≡ put n w s0 → d3 ≡ r0 → AreAllChanged (λ _. IsLetIn now) d2 d3 t q
+    → d4 ≡ put n t (put n w s0) → d5 ≡ put m q r0 → AreAllChanged (λ _. IsSettled) d4 d5 f g
+    → AreAllChanged (λ _. IsGoneOn now) s0 r0 (put n f (put n t (put n w s0))) (put m g (put m q r0))
 all_put now n m s0 w t f d1 d2 d4 r0 q g d3 d5 n-is m-is d1-is same d2-is d3-is came d4-is d5-is settled =
-    moved (IsGoneOn now) s0 f (put n f (put n t (put n w s0))) r0 g (put m g (put m q r0))
+    moved (λ _. IsGoneOn now) s0 f (put n f (put n t (put n w s0))) r0 g (put m g (put m q r0))
     (ap (put n f) e2 ∙ written n f t n-t after.seats_stay) (ap (put m g) e3 ∙ written m g q m-q after.rooms_stay)
     (all_gone_on now s0 w t f r0 q g woke let_in after)
   where
@@ -358,8 +341,8 @@ all_put now n m s0 w t f d1 d2 d4 r0 q g d3 d5 n-is m-is d1-is same d2-is d3-is 
     n-w : n ≡ length w
     n-w = n-is ∙ sym (long_woken s0 w woke)
 
-    let_in : AreAllChanged (IsLetIn now) w r0 t q
-    let_in = subst (λ s. AreAllChanged (IsLetIn now) s r0 t q) (d2-is ∙ e1) (subst (λ r. AreAllChanged (IsLetIn now) d2 r t q) d3-is came)
+    let_in : AreAllChanged (λ _. IsLetIn now) w r0 t q
+    let_in = subst (λ s. AreAllChanged (λ _. IsLetIn now) s r0 t q) (d2-is ∙ e1) (subst (λ r. AreAllChanged (λ _. IsLetIn now) d2 r t q) d3-is came)
 
     e2 : put n t (put n w s0) ≡ t
     e2 = ap (put n t) e1 ∙ written n t w n-w let_in.seats_stay
@@ -373,17 +356,13 @@ all_put now n m s0 w t f d1 d2 d4 r0 q g d3 d5 n-is m-is d1-is same d2-is d3-is 
     m-q : m ≡ length q
     m-q = m-is ∙ sym let_in.rooms_stay
 
-    after : AreAllChanged IsSettled t q f g
-    after = subst (λ s. AreAllChanged IsSettled s q f g) (d4-is ∙ e2) (subst (λ r. AreAllChanged IsSettled d4 r f g) (d5-is ∙ e3) settled)
+    after : AreAllChanged (λ _. IsSettled) t q f g
+    after = subst (λ s. AreAllChanged (λ _. IsSettled) s q f g) (d4-is ∙ e2) (subst (λ r. AreAllChanged (λ _. IsSettled) d4 r f g) (d5-is ∙ e3) settled)
 
 set_twice : {A : Type 0} (xs : List A) (i : ℕ) (x y : A) → set (set xs i x) i y ≡ set xs i y
 set_twice [] i x y = refl
 set_twice (z ∷ xs) zero x y = refl
 set_twice (z ∷ xs) (suc i) x y = ap (λ l. z ∷ l) (set_twice xs i x y)
-
--- from that time on it is idle, and does not wait
-abbrev rested : ℕ → Seat → Seat
-rested now seat = record seat { turn = 0; since = now }
 
 -- a connection that is taken back, in vectors
 pub back_put : (now n m k i : ℕ) (s0 s1 s2 d1 d2 : List Seat) (r0 r1 d3 : List Room) → n ≡ length s0 → m ≡ length r0 → d1 ≡ s0 → (k < length d1 → IsChangedAt (λ old new. new ≡ rested now old) k d1 s1)

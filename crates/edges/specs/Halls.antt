@@ -62,9 +62,13 @@ IsTurned turn seat' room' = MatchBool (nat_lt 0 turn) (seat'.turn ≡ turn) (Mat
 abbrev pub GoesOn : Seat → Room → Seat → Room → Type 0
 GoesOn seat room seat' room' = (seat.is_over ≡ false) × IsSamePlace seat seat' × IsGoingOn room room' × IsTurned seat.turn seat' room'
 
+-- a place stays as it is
+abbrev pub Stays : Seat → Room → Seat → Room → Type 0
+Stays seat room seat' room' = (seat' ≡ seat) × (room' ≡ room)
+
 -- What becomes of a place where all go on: one without a connection stays as it is. Else the connection is left, with all of its octets, or goes on.
 abbrev pub IsSettled : Seat → Room → Seat → Room → Type 0
-IsSettled seat room seat' room' = MatchBool (is_free seat) ((seat' ≡ seat) × (room' ≡ room)) ((IsVacant seat' × IsEmpty room') ⊎ GoesOn seat room seat' room')
+IsSettled seat room seat' room' = MatchBool (is_free seat) (Stays seat room seat' room') ((IsVacant seat' × IsEmpty room') ⊎ GoesOn seat room seat' room')
 
 -- nothing waits at a place to be handed over
 abbrev pub IsIdle : Seat → Type 0
@@ -72,7 +76,7 @@ IsIdle seat = (is_free seat ≡ true) ⊎ (seat.turn ≡ 0)
 
 -- What becomes of a place where connections are taken in: it stays as it is; or nothing waited there, and it has no octets, and either no connection or one that came at that time and does not wait.
 abbrev pub IsLetIn : ℕ → Seat → Room → Seat → Room → Type 0
-IsLetIn now seat room seat' room' = ((seat' ≡ seat) × (room' ≡ room)) ⊎ (IsIdle seat × (IsVacant seat' ⊎ ((is_free seat' ≡ false) × (seat'.since ≡ now) × (seat'.turn ≡ 0))) × IsEmpty room')
+IsLetIn now seat room seat' room' = Stays seat room seat' room' ⊎ (IsIdle seat × (IsVacant seat' ⊎ ((is_free seat' ≡ false) × (seat'.since ≡ now) × (seat'.turn ≡ 0))) × IsEmpty room')
 
 -- nothing waited at a place, and its connection has that time, with nothing to go, and waits where it is due
 abbrev pub CameAt : ℕ → Seat → Seat → Room → Type 0
@@ -105,9 +109,9 @@ pub record IsPlaceChangedAt (R : Seat → Room → Seat → Room → Type 0) (i 
   pub room_is : rooms' ≡ slice_set rooms i room'
   pub changed : R seat room seat' room'
 
--- each place that has a room became another so, with its room, and there are as many places and rooms as before
-pub record AreAllChanged (R : Seat → Room → Seat → Room → Type 0) (seats : List Seat) (rooms : List Room) (seats' : List Seat) (rooms' : List Room) : Type 0 where
+-- each place that has a room became another so by its number, with its room, and there are as many places and rooms as before
+pub record AreAllChanged (R : ℕ → Seat → Room → Seat → Room → Type 0) (seats : List Seat) (rooms : List Room) (seats' : List Seat) (rooms' : List Room) : Type 0 where
   pub seats_stay : length seats' ≡ length seats
   pub rooms_stay : length rooms' ≡ length rooms
   pub each : (i : ℕ) (seat : Seat) (room : Room) → slice_get seats i ≡ Some seat → slice_get rooms i ≡ Some room →
-      (seat' : Seat) × (room' : Room) × (slice_get seats' i ≡ Some seat') × (slice_get rooms' i ≡ Some room') × R seat room seat' room'
+      (seat' : Seat) × (room' : Room) × (slice_get seats' i ≡ Some seat') × (slice_get rooms' i ≡ Some room') × R i seat room seat' room'

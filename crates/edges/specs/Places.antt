@@ -71,6 +71,10 @@ IsSameSeat seat seat' = IsSamePlace seat seat' × (seat'.turn ≡ seat.turn) × 
 abbrev pub IsOverNow : Seat → Seat → Type 0
 IsOverNow seat seat' = IsSameSeat seat seat' × (seat'.is_over ≡ true)
 
+-- one that is idle from that time on, and does not wait
+abbrev pub rested : ℕ → Seat → Seat
+rested now seat = record seat { turn = 0; since = now }
+
 -- there may be something to read of a connection, and room to write
 abbrev pub IsWoken : Seat → Seat → Type 0
 IsWoken seat seat' = seat' ≡ record seat { is_readable = true; is_writable = true }

@@ -150,7 +150,7 @@ impl Ears {
         most_of_one: usize,
         now: u64,
     ) -> bool
-        ensures { AreAllChanged (IsLetIn now) seats.old rooms.old seats.new rooms.new }
+        ensures { AreAllChanged (λ _. IsLetIn now) seats.old rooms.old seats.new rooms.new }
     {
         if !self.is_knocked {
             return false;

@@ -3,6 +3,7 @@ ghost use Rattle.std.specs.Prelude.{◌≡◌, ◌≢◌, ◌<◌, ◌⊎◌, �
 ghost use Rattle.addr_text.specs.declared.address.Peer.{Peer};
 ghost use Rattle.outside.specs.Streams.{IsWithin};
 ghost use Rattle.edges.specs.Halls.{AreAllChanged, AreEmpty, AreFree, EndsBehind, IsAdvance, IsGoneOn, IsHeard, IsPlaceChangedAt, IsSameOrEnded, IsSettled};
+ghost use Rattle.edges.specs.Places.{rested};
 ghost use Rattle.edges.specs.Rooms.{IsChangedAt, IsKeeping};
 ghost use Rattle.edges.specs.declared.room.Room.{Room};
 ghost use Rattle.edges.specs.declared.room.TheConstants.{LARGEST_GOING};
@@ -69,7 +70,7 @@ fn now_of<C: Clock>(clock: &C, before: u64) -> u64 {
 
 /// Has all connections go on.
 fn settle_all(seats: &mut [Seat], rooms: &mut [Room], now: u64, turns: &mut u64)
-    ensures { AreAllChanged IsSettled seats.old rooms.old seats.new rooms.new }
+    ensures { AreAllChanged (λ _. IsSettled) seats.old rooms.old seats.new rooms.new }
 {
     for i in 0..seats.len() {
         settle_at(seats, rooms, i, now, turns);
@@ -104,7 +105,7 @@ impl Hall {
     /// on.
     pub(crate) fn take_back(&mut self)
         ensures current { self.new.current ≡ None }
-        ensures back { (i : ℕ) → self.old.current ≡ Some i → i < length self.old.seats.items → i < length self.old.rooms.items → IsPlaceChangedAt (λ seat. IsSettled (record seat { turn = 0; since = self.old.now })) i self.old.seats.items self.old.rooms.items self.new.seats.items self.new.rooms.items }
+        ensures back { (i : ℕ) → self.old.current ≡ Some i → i < length self.old.seats.items → i < length self.old.rooms.items → IsPlaceChangedAt (λ seat. IsSettled (rested self.old.now seat)) i self.old.seats.items self.old.rooms.items self.new.seats.items self.new.rooms.items }
         ensures none { self.old.current ≡ None → self.new ≡ self.old }
         ensures same { self.new ≡ record self.old { current = None; seats = self.new.seats; rooms = self.new.rooms; turns = self.new.turns } }
     {
@@ -122,11 +123,11 @@ impl Hall {
         );
     }
 
-    /// Waits for something to happen, takes in connections that come, and has all go on. Answers whether the listener, or the
-    /// wait for it, is broken.
+    /// Waits for something to happen, takes in connections that come, and has all go on. Answers whether the listener, or
+    /// the wait for it, is broken.
     fn gather<C: Clock>(&mut self, ears: &mut Ears, clock: &C, most_of_one: usize) -> bool
         ensures current { self.new.current ≡ self.old.current }
-        ensures went { result ≡ false → AreAllChanged (IsGoneOn self.new.now) self.old.seats.items self.old.rooms.items self.new.seats.items self.new.rooms.items }
+        ensures went { result ≡ false → AreAllChanged (λ _. IsGoneOn self.new.now) self.old.seats.items self.old.rooms.items self.new.seats.items self.new.rooms.items }
     {
         let wait = if least(self.seats.as_slice(), Wanted::FirstInTurn).is_some() {
             0
@@ -152,7 +153,7 @@ impl Hall {
     ) -> Accepting
         requires { self.old.current ≡ None }
         ensures advance { IsAdvance result self.new.current self.new.seats.items }
-        ensures went { result ≢ Accepting.Failed → AreAllChanged (IsGoneOn self.new.now) self.old.seats.items self.old.rooms.items self.new.seats.items self.new.rooms.items }
+        ensures went { result ≢ Accepting.Failed → AreAllChanged (λ _. IsGoneOn self.new.now) self.old.seats.items self.old.rooms.items self.new.seats.items self.new.rooms.items }
         ensures unread { (peer : Peer) → result ≡ Accepting.Come peer → self.new.is_read ≡ false }
     {
         let Some(ears) = ears else {

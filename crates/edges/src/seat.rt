@@ -3,7 +3,7 @@ ghost use Rattle.std.specs.IoError.{error_kind};
 ghost use Rattle.std.specs.Prelude.{◌≡◌, ◌≢◌, ◌<◌, ◌≤◌, ◌⊎◌, length, true, false};
 ghost use Rattle.outside.specs.Faults.{raised};
 ghost use Rattle.edges.specs.Halls.{IsPlaceChangedAt, IsSettled};
-ghost use Rattle.edges.specs.Places.{IsOverNow, IsSameSeat, IsTaken, IsToLeave, IsVacant, IsWoken, is_free};
+ghost use Rattle.edges.specs.Places.{IsOverNow, IsSameSeat, IsTaken, IsToLeave, IsVacant, IsWoken, is_free, rested};
 ghost use Rattle.edges.specs.Rooms.{IsChangedAt, IsEmpty, IsFilled, IsFlushed};
 
 use crate::room::Room;
@@ -199,7 +199,7 @@ pub(crate) fn settle(seat: &mut Seat, room: &mut Room, now: u64, turns: &mut u64
 
 /// Has the connection of a place wait no more to be handed over. It counts as idle since that time.
 pub(crate) fn rest_at(seats: &mut [Seat], i: usize, now: u64)
-    ensures at { i < length seats.old → IsChangedAt (λ old new. new ≡ record old { turn = 0; since = now }) i seats.old seats.new }
+    ensures at { i < length seats.old → IsChangedAt (λ old new. new ≡ rested now old) i seats.old seats.new }
     ensures none { length seats.old ≤ i → seats.new ≡ seats.old }
 {
     if i < seats.len() {

@@ -2,4 +2,4 @@ use Rattle.edges.specs.Halls.{AreAllChanged, IsLetIn}
 use Rattle.edges.proofs.ears.Ears.take_all.Given as goal
 
 abbrev pub invariant-loop : goal.invariant-loop
-invariant-loop l = AreAllChanged (IsLetIn l.now) l.fn.seats l.fn.rooms l.seats l.rooms
+invariant-loop l = AreAllChanged (λ _. IsLetIn l.now) l.fn.seats l.fn.rooms l.seats l.rooms
