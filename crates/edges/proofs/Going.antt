@@ -7,22 +7,23 @@ use Rattle.std.proofs.lemmas.Bool.{eqb-true}
 use Rattle.std.proofs.lemmas.Option.{slice_get_within, none-some}
 use Rattle.addr_text.specs.declared.address.Addr.{Addr}
 use Rattle.addr_text.specs.declared.address.Peer.{Peer}
+use Rattle.outside.specs.Faults.{raised}
 use Rattle.edges.proofs.Told.{got_at, some_eq}
-use Rattle.edges.specs.Halls.{AreAllChanged, GoesOn, IsGoneOn, Left, Stayed, Went, Came, IsIdle, IsLetIn, IsPlaceChangedAt, IsSettled, IsTurned, Stays}
+use Rattle.edges.specs.Halls.{AreAllChanged, GoesOn, IsGivenOut, IsGoneOn, Left, Stayed, Went, Came, IsIdle, IsLetIn, IsPlaceChangedAt, IsSettled, IsToLeaveAt, IsTurned, Stays}
 use Rattle.edges.specs.Places.{IsFound, IsLeast, IsPlaceFor, IsTaken, IsVacant, IsWoken, MayBeWoken, is_free, is_of, rested}
-use Rattle.edges.specs.Rooms.{IsChangedAt, IsEmpty}
+use Rattle.edges.specs.Rooms.{IsChangedAt, IsDue, IsEmpty, IsNotDue}
 use Rattle.edges.specs.declared.places.Wanted.TheVariants.{Oldest, OldestOf}
 use Rattle.edges.specs.declared.room.Room.{Room}
 use Rattle.edges.specs.declared.seat.Seat.{Seat}
 
 -- a number is below another one or not
-within : (i k : ℕ) → (i < k) ⊎ (k ≤ i)
+pub within : (i k : ℕ) → (i < k) ⊎ (k ≤ i)
 within i zero = inr (omega arith)
 within zero (suc k) = inl (omega arith)
 within (suc i) (suc k) = ⊎_elim (λ lt. inl (omega (arith, lt))) (λ le. inr (omega (arith, le))) (within i k)
 
 -- two numbers are the same or not
-same_or_not : (i k : ℕ) → (i ≡ k) ⊎ (i ≡ k → ⊥)
+pub same_or_not : (i k : ℕ) → (i ≡ k) ⊎ (i ≡ k → ⊥)
 same_or_not zero zero = inl refl
 same_or_not zero (suc k) = inr (λ e. omega (arith, e))
 same_or_not (suc i) zero = inr (λ e. omega (arith, e))
@@ -33,7 +34,7 @@ same_or_not (suc i) (suc k) = by (same_or_not i k)
     by (inr n) = inr (λ e. n (omega (arith, e)))
 
 -- what was set at one place changes no other one
-got_other : {A : Type 0} (xs : List A) (i k : ℕ) (y : A) → (i ≡ k → ⊥) → slice_get (set xs k y) i ≡ slice_get xs i
+pub got_other : {A : Type 0} (xs : List A) (i k : ℕ) (y : A) → (i ≡ k → ⊥) → slice_get (set xs k y) i ≡ slice_get xs i
 got_other [] i k y n = refl
 got_other (x ∷ xs) zero zero y n = absurd (n refl)
 got_other (x ∷ xs) zero (suc k) y n = refl
@@ -41,7 +42,7 @@ got_other (x ∷ xs) (suc i) zero y n = refl
 got_other (x ∷ xs) (suc i) (suc k) y n = got_other xs i k y (λ e. n (ap suc e))
 
 -- one place changed so, and each other one stays
-abbrev AtOr : ℕ → (Seat → Room → Seat → Room → Type 0) → ℕ → Seat → Room → Seat → Room → Type 0
+abbrev pub AtOr : ℕ → (Seat → Room → Seat → Room → Type 0) → ℕ → Seat → Room → Seat → Room → Type 0
 AtOr k R i seat room seat' room' = ((i ≡ k) × R seat room seat' room') ⊎ ((i ≡ k → ⊥) × Stays seat room seat' room')
 
 -- one thing behind another
@@ -58,7 +59,7 @@ one_behind R S T s0 s1 s2 r0 r1 r2 both one two = record {
 }
 
 -- of two lists, one at a place
-at_one : (R : Seat → Room → Seat → Room → Type 0) (k : ℕ) (seats : List Seat) (rooms : List Room) (seat seat' : Seat) (room room' : Room) → slice_get seats k ≡ Some seat → slice_get rooms k ≡ Some room → R seat room seat' room' → AreAllChanged (AtOr k R) seats rooms (set seats k seat') (set rooms k room')
+pub at_one : (R : Seat → Room → Seat → Room → Type 0) (k : ℕ) (seats : List Seat) (rooms : List Room) (seat seat' : Seat) (room room' : Room) → slice_get seats k ≡ Some seat → slice_get rooms k ≡ Some room → R seat room seat' room' → AreAllChanged (AtOr k R) seats rooms (set seats k seat') (set rooms k room')
 at_one R k seats rooms seat seat' room room' s r changed = record {
   seats_stay = length-set seats k seat';
   rooms_stay = length-set rooms k room';
@@ -78,60 +79,90 @@ at_one R k seats rooms seat seat' room room' s r changed = record {
           inl (e, subst (λ x. R x b seat' room') (sym a-is) (subst (λ y. R seat y seat' room') (sym b-is) changed)),
         )
 
+-- a number that was given out in a call was given out in one that began earlier and ended later
+turned_wider : (l l1 m m1 turn : ℕ) (s : Seat) (r : Room) → l ≤ l1 → m ≤ m1 → IsTurned l1 m turn s r → IsTurned l m1 turn s r
+turned_wider l l1 m m1 turn s r below above = by (nat_lt 0 turn) (nat_lt 0 s.turn)
+  where
+    by : (b c : Bool) → MatchBool b (s.turn ≡ turn) (MatchBool c (IsDue r × IsGivenOut l1 m s.turn) (IsNotDue r)) → MatchBool b (s.turn ≡ turn) (MatchBool c (IsDue r × IsGivenOut l m1 s.turn) (IsNotDue r))
+    by true c same = same
+    by false true (due, (after, before)) = (due, (omega (arith, below, after), omega (arith, above, before)))
+    by false false rests = rests
+
+goes_wider : (l l1 m m1 : ℕ) (s t : Seat) (p q : Room) → l ≤ l1 → m ≤ m1 → GoesOn l1 m s p t q → GoesOn l m1 s p t q
+goes_wider l l1 m m1 s t p q below above (over, place, going, turned) = (over, place, going, turned_wider l l1 m m1 s.turn t q below above turned)
+
+settled_wider : (now l l1 m m1 : ℕ) (s t : Seat) (p q : Room) → l ≤ l1 → m ≤ m1 → IsSettled now l1 m s p t q → IsSettled now l m1 s p t q
+settled_wider now l l1 m m1 s t p q below above = by (is_free s)
+  where
+    by : (b : Bool) → MatchBool b (Stays s p t q) ((IsVacant t × IsEmpty q) ⊎ (GoesOn l1 m s p t q × (IsToLeaveAt now t q → ⊥)))
+        → MatchBool b (Stays s p t q) ((IsVacant t × IsEmpty q) ⊎ (GoesOn l m1 s p t q × (IsToLeaveAt now t q → ⊥)))
+    by true stays = stays
+    by false (inl left) = inl left
+    by false (inr (on, stays)) = inr (goes_wider l l1 m m1 s t p q below above on, stays)
+
 -- the places before one have gone on, and those from it on stay so far
-abbrev IsSettledBelow : ℕ → ℕ → Seat → Room → Seat → Room → Type 0
-IsSettledBelow n i seat room seat' room' = (i < n → IsSettled seat room seat' room') × (n ≤ i → Stays seat room seat' room')
+abbrev IsSettledBelow : ℕ → ℕ → ℕ → ℕ → ℕ → Seat → Room → Seat → Room → Type 0
+IsSettledBelow now last last' n i seat room seat' room' = (i < n → IsSettled now last last' seat room seat' room') × (n ≤ i → Stays seat room seat' room')
 
-abbrev pub SettledBelow : ℕ → List Seat → List Room → List Seat → List Room → Type 0
-SettledBelow n = AreAllChanged (IsSettledBelow n)
+abbrev pub SettledBelow : ℕ → ℕ → ℕ → ℕ → List Seat → List Room → List Seat → List Room → Type 0
+SettledBelow now last last' n seats rooms seats' rooms' = ((last ≤ last') × (last' ≤ raised last n)) × AreAllChanged (IsSettledBelow now last last' n) seats rooms seats' rooms'
 
-pub none_settled : (seats : List Seat) (rooms : List Room) → SettledBelow 0 seats rooms seats rooms
-none_settled seats rooms = record { seats_stay = refl; rooms_stay = refl; each = λ i seat room s r. (seat, room, s, r, ((λ lt. absurd (omega (arith, lt))), λ le. (refl, refl))) }
+pub none_settled : (now last : ℕ) (seats : List Seat) (rooms : List Room) → SettledBelow now last last 0 seats rooms seats rooms
+none_settled now last seats rooms = ((omega arith, omega arith), record { seats_stay = refl; rooms_stay = refl; each = λ i seat room s r. (seat, room, s, r, ((λ lt. absurd (omega (arith, lt))), λ le. (refl, refl))) })
 
 -- one more
-pub one_settled : (n : ℕ) (s0 s1 s2 : List Seat) (r0 r1 r2 : List Room) → SettledBelow n s0 r0 s1 r1 → (n < length s1 → n < length r1 → IsPlaceChangedAt IsSettled n s1 r1 s2 r2) → ((length s1 ≤ n) ⊎ (length r1 ≤ n) → (s2 ≡ s1) × (r2 ≡ r1)) → SettledBelow (n + 1) s0 r0 s2 r2
-one_settled n s0 s1 s2 r0 r1 r2 below at none = by (within n (length s1)) (within n (length r1))
+pub one_settled : (now l m m1 n : ℕ) (s0 s1 s2 : List Seat) (r0 r1 r2 : List Room) → SettledBelow now l m n s0 r0 s1 r1 → (n < length s1 → n < length r1 → IsPlaceChangedAt (IsSettled now m m1) n s1 r1 s2 r2) → ((length s1 ≤ n) ⊎ (length r1 ≤ n) → (s2 ≡ s1) × (r2 ≡ r1)) → (m ≤ m1) × (m1 ≤ raised m 1) → SettledBelow now l m1 (n + 1) s0 r0 s2 r2
+one_settled now l m m1 n s0 s1 s2 r0 r1 r2 ((lower, few), below) at none (higher, one) = ((omega (arith, lower, higher), omega (arith, few, one)), by (within n (length s1)) (within n (length r1)))
   where
-    past : (length s1 ≤ n) ⊎ (length r1 ≤ n) → SettledBelow (n + 1) s0 r0 s2 r2
+    Below : ℕ → ℕ → ℕ → Seat → Room → Seat → Room → Type 0
+    Below m n = IsSettledBelow now l m n
+
+    wider : (s t : Seat) (p q : Room) → IsSettled now l m s p t q → IsSettled now l m1 s p t q
+    wider s t p q settled = settled_wider now l l m m1 s t p q (omega arith) higher settled
+
+    past : (length s1 ≤ n) ⊎ (length r1 ≤ n) → AreAllChanged (Below m1 (n + 1)) s0 r0 s2 r2
     past le =
         let is = none le in
-        subst (λ s. SettledBelow (n + 1) s0 r0 s r2) (sym is.0) (subst (λ r. SettledBelow (n + 1) s0 r0 s1 r) (sym is.1) (record {
+        subst (λ s. AreAllChanged (Below m1 (n + 1)) s0 r0 s r2) (sym is.0) (subst (λ r. AreAllChanged (Below m1 (n + 1)) s0 r0 s1 r) (sym is.1) (record {
           seats_stay = below.seats_stay;
           rooms_stay = below.rooms_stay;
           each = λ i seat room s r.
               let a = below.each i seat room s r in
               let lt : i < length s0 = slice_get_within s0 i seat s in
               let lt' : i < length r0 = slice_get_within r0 i room r in
-              (a.0, a.1, a.2, a.3, ((λ less. a.4.0 (before i lt lt' less le)), λ more. a.4.1 (omega (arith, more))));
+              (a.0, a.1, a.2, a.3, ((λ less. wider seat a.0 room a.1 (a.4.0 (before i lt lt' less le))), λ more. a.4.1 (omega (arith, more))));
         }))
       where
         before : (i : ℕ) → i < length s0 → i < length r0 → i < n + 1 → (length s1 ≤ n) ⊎ (length r1 ≤ n) → i < n
         before i lt lt' less (inl le) = omega (arith, lt, less, le, below.seats_stay)
         before i lt lt' less (inr le) = omega (arith, lt', less, le, below.rooms_stay)
 
-    by : (n < length s1) ⊎ (length s1 ≤ n) → (n < length r1) ⊎ (length r1 ≤ n) → SettledBelow (n + 1) s0 r0 s2 r2
+    by : (n < length s1) ⊎ (length s1 ≤ n) → (n < length r1) ⊎ (length r1 ≤ n) → AreAllChanged (Below m1 (n + 1)) s0 r0 s2 r2
     by (inr le) r = past (inl le)
     by (inl lt) (inr le) = past (inr le)
     by (inl lt) (inl lt') =
         let c = at lt lt' in
-        one_behind (IsSettledBelow n) (AtOr n IsSettled) (IsSettledBelow (n + 1)) s0 s1 s2 r0 r1 r2 more below
-        (subst (λ s. AreAllChanged (AtOr n IsSettled) s1 r1 s r2) (sym c.seat_is) (subst (λ r. AreAllChanged (AtOr n IsSettled) s1 r1 (set s1 n c.seat') r) (sym c.room_is) (at_one IsSettled n s1 r1 c.seat c.seat' c.room c.room' c.seat_was c.room_was c.changed)))
+        one_behind (Below m n) (AtOr n Settles) (Below m1 (n + 1)) s0 s1 s2 r0 r1 r2 more below
+        (subst (λ s. AreAllChanged (AtOr n Settles) s1 r1 s r2) (sym c.seat_is) (subst (λ r. AreAllChanged (AtOr n Settles) s1 r1 (set s1 n c.seat') r) (sym c.room_is) (at_one Settles n s1 r1 c.seat c.seat' c.room c.room' c.seat_was c.room_was c.changed)))
       where
-        more : (i : ℕ) (s t u : Seat) (p q r : Room) → i < length s0 → i < length r0 → IsSettledBelow n i s p t q → AtOr n IsSettled i t q u r → IsSettledBelow (n + 1) i s p u r
+        Settles : Seat → Room → Seat → Room → Type 0
+        Settles = IsSettled now m m1
+
+        more : (i : ℕ) (s t u : Seat) (p q r : Room) → i < length s0 → i < length r0 → Below m n i s p t q → AtOr n Settles i t q u r → Below m1 (n + 1) i s p u r
         more i s t u p q r in-s in-r before (inl (e, settled)) =
             let is = before.1 (omega (arith, e)) in
-            ((λ less. subst (λ x. IsSettled x p u r) is.0 (subst (λ y. IsSettled t y u r) is.1 settled)), λ le. absurd (omega (arith, le, e)))
+            ((λ less. settled_wider now l m m1 m1 s u p r lower (omega arith) (subst (λ x. Settles x p u r) is.0 (subst (λ y. Settles t y u r) is.1 settled))), λ le. absurd (omega (arith, le, e)))
         more i s t u p q r in-s in-r before (inr (other, stays)) = (
-          (λ less. subst (λ x. IsSettled s p x r) (sym stays.0) (subst (λ y. IsSettled s p t y) (sym stays.1) (before.0 (lower less)))),
+          (λ less. subst (λ x. IsSettled now l m1 s p x r) (sym stays.0) (subst (λ y. IsSettled now l m1 s p t y) (sym stays.1) (wider s t p q (before.0 (fewer less))))),
           λ le. let is = before.1 (omega (arith, le)) in (stays.0 ∙ is.0, stays.1 ∙ is.1),
         )
           where
-            lower : i < n + 1 → i < n
-            lower less = ⊎_elim (λ lt. lt) (λ le. absurd (other (omega (arith, less, le)))) (within i n)
+            fewer : i < n + 1 → i < n
+            fewer less = ⊎_elim (λ lt. lt) (λ le. absurd (other (omega (arith, less, le)))) (within i n)
 
 -- all of them
-pub all_settled : (n : ℕ) (s0 s1 : List Seat) (r0 r1 : List Room) → length s0 ≤ n → SettledBelow n s0 r0 s1 r1 → AreAllChanged (λ _. IsSettled) s0 r0 s1 r1
-all_settled n s0 s1 r0 r1 le below = record {
+pub all_settled : (now l m n : ℕ) (s0 s1 : List Seat) (r0 r1 : List Room) → length s0 ≤ n → SettledBelow now l m n s0 r0 s1 r1 → AreAllChanged (λ _. IsSettled now l m) s0 r0 s1 r1
+all_settled now l m n s0 s1 r0 r1 le (rises, below) = record {
   seats_stay = below.seats_stay;
   rooms_stay = below.rooms_stay;
   each = λ i seat room s r. let a = below.each i seat room s r in (a.0, a.1, a.2, a.3, a.4.0 (omega (arith, le, slice_get_within s0 i seat s)));
@@ -212,7 +243,7 @@ room_made now true s0 s1 s2 r0 r1 r2 before made none = let m = made refl in let
 room_made now false s0 s1 s2 r0 r1 r2 before made none = let is = none refl in moved (λ _. IsLetIn now) s0 s1 s2 r0 r1 r2 is.0 is.1 before
 
 -- of the seats alone
-woken : (s0 s1 : List Seat) (rooms : List Room) → AllZip MayBeWoken s0 s1 → AreAllChanged (λ i s p t q. MayBeWoken s t × (q ≡ p)) s0 rooms s1 rooms
+pub woken : (s0 s1 : List Seat) (rooms : List Room) → AllZip MayBeWoken s0 s1 → AreAllChanged (λ i s p t q. MayBeWoken s t × (q ≡ p)) s0 rooms s1 rooms
 woken s0 s1 rooms same = record { seats_stay = long s0 s1 same; rooms_stay = refl; each = λ i seat room s r. let a = at s0 s1 i seat same s in (a.0, room, a.1, r, (a.2, refl)) }
   where
     long : (s0 s1 : List Seat) → AllZip MayBeWoken s0 s1 → length s1 ≡ length s0
@@ -257,24 +288,27 @@ one_woken k s0 s1 s2 same at none = by (within k (length s1))
     by (inr le) = subst (λ s. AllZip MayBeWoken s0 s) (sym (none le)) same
 
 -- of a place that was woken, or not
-kept_of : {A : Type 0} (f : Seat → A) → ((s : Seat) → f (noted s) ≡ f s) → (s t : Seat) → MayBeWoken s t → f t ≡ f s
+pub kept_of : {A : Type 0} (f : Seat → A) → ((s : Seat) → f (noted s) ≡ f s) → (s t : Seat) → MayBeWoken s t → f t ≡ f s
 kept_of f keeps s t (inl same) = ap f same
 kept_of f keeps s t (inr woke) = ap f woke ∙ keeps s
 
 -- a wait, connections that are taken in, and all go on
-pub all_gone_on : (now : ℕ) (s0 s1 s2 s3 : List Seat) (r0 r1 r2 : List Room) → AllZip MayBeWoken s0 s1 → AreAllChanged (λ _. IsLetIn now) s1 r0 s2 r1 → AreAllChanged (λ _. IsSettled) s2 r1 s3 r2 → AreAllChanged (λ _. IsGoneOn now) s0 r0 s3 r2
-all_gone_on now s0 s1 s2 s3 r0 r1 r2 same came settled =
-    one_behind Woken (λ i. After) (λ i. IsGoneOn now) s0 s1 s3 r0 r0 r2 (λ i s t u p q r in-s in-r a b. last s t u p q r a b) (woken s0 s1 r0 same)
-    (one_behind (λ i. IsLetIn now) (λ i. IsSettled) (λ i. After) s1 s2 s3 r0 r1 r2 (λ i s t u p q r in-s in-r a b. (t, q, a, b)) came settled)
+pub all_gone_on : (now l m : ℕ) (s0 s1 s2 s3 : List Seat) (r0 r1 r2 : List Room) → AllZip MayBeWoken s0 s1 → AreAllChanged (λ _. IsLetIn now) s1 r0 s2 r1 → AreAllChanged (λ _. IsSettled now l m) s2 r1 s3 r2 → AreAllChanged (λ _. IsGoneOn now l m) s0 r0 s3 r2
+all_gone_on now l m s0 s1 s2 s3 r0 r1 r2 same came settled =
+    one_behind Woken (λ i. After) (λ i. Goes) s0 s1 s3 r0 r0 r2 (λ i s t u p q r in-s in-r a b. last s t u p q r a b) (woken s0 s1 r0 same)
+    (one_behind (λ i. IsLetIn now) (λ i. IsSettled now l m) (λ i. After) s1 s2 s3 r0 r1 r2 (λ i s t u p q r in-s in-r a b. (t, q, a, b)) came settled)
   where
+    Goes : Seat → Room → Seat → Room → Type 0
+    Goes = IsGoneOn now l m
+
     Woken : ℕ → Seat → Room → Seat → Room → Type 0
     Woken i s p t q = MayBeWoken s t × (q ≡ p)
 
     After : Seat → Room → Seat → Room → Type 0
-    After s p u r = (t : Seat) × (q : Room) × IsLetIn now s p t q × IsSettled t q u r
+    After s p u r = (t : Seat) × (q : Room) × IsLetIn now s p t q × IsSettled now l m t q u r
 
     Settled : Bool → Seat → Room → Seat → Room → Type 0
-    Settled b t q u r = MatchBool b ((u ≡ t) × (r ≡ q)) ((IsVacant u × IsEmpty r) ⊎ GoesOn t q u r)
+    Settled b t q u r = MatchBool b (Stays t q u r) ((IsVacant u × IsEmpty r) ⊎ (GoesOn l m t q u r × (IsToLeaveAt now u r → ⊥)))
 
     drop_none : (n : ℕ) → drop {A = ℕ} n [] ≡ []
     drop_none zero = refl
@@ -283,39 +317,41 @@ all_gone_on now s0 s1 s2 s3 r0 r1 r2 same came settled =
     free_of : (s t : Seat) → MayBeWoken s t → is_free t ≡ is_free s
     free_of s t woke = kept_of is_free (λ x. refl) s t woke
 
-    on : (s t u : Seat) (p r : Room) → MayBeWoken s t → (b : Bool) → is_free t ≡ b → Settled b t p u r → IsGoneOn now s p u r
+    goes : (s t u : Seat) (p r : Room) → MayBeWoken s t → GoesOn l m t p u r → GoesOn l m s p u r
+    goes s t u p r woke (end, place, going, turned) = (
+      ((λ is. end.0 (kept_of (λ x. x.is_over) (λ x. refl) s t woke ∙ is)), λ is. end.1 (kept_of (λ x. x.is_ended) (λ x. refl) s t woke ∙ is)),
+      (place.0 ∙ kept_of (λ x. x.stream) (λ x. refl) s t woke, place.1 ∙ kept_of (λ x. x.peer) (λ x. refl) s t woke, place.2 ∙ kept_of (λ x. x.since) (λ x. refl) s t woke),
+      going,
+      subst (λ n. IsTurned l m n u r) (kept_of (λ x. x.turn) (λ x. refl) s t woke) turned,
+    )
+
+    on : (s t u : Seat) (p r : Room) → MayBeWoken s t → (b : Bool) → is_free t ≡ b → Settled b t p u r → Goes s p u r
     on s t u p r woke true free (u-is, r-is) = Stayed (sym (free_of s t woke) ∙ free) (subst (λ x. MayBeWoken s x) (sym u-is) woke) r-is
     on s t u p r woke false free (inl left) = Left left.0 left.1
-    on s t u p r woke false free (inr (over, place, going, turned)) =
-        Went (sym (free_of s t woke) ∙ free) (
-          sym (kept_of (λ x. x.is_over) (λ x. refl) s t woke) ∙ over,
-          (place.0 ∙ kept_of (λ x. x.stream) (λ x. refl) s t woke, place.1 ∙ kept_of (λ x. x.peer) (λ x. refl) s t woke, place.2 ∙ kept_of (λ x. x.since) (λ x. refl) s t woke),
-          going,
-          subst (λ n. IsTurned n u r) (kept_of (λ x. x.turn) (λ x. refl) s t woke) turned,
-        )
+    on s t u p r woke false free (inr (went, stays)) = Went (sym (free_of s t woke) ∙ free) (goes s t u p r woke went) stays
 
     idle_of : (s t : Seat) → MayBeWoken s t → IsIdle t → IsIdle s
     idle_of s t woke (inl free) = inl (sym (free_of s t woke) ∙ free)
     idle_of s t woke (inr none) = inr (sym (kept_of (λ x. x.turn) (λ x. refl) s t woke) ∙ none)
 
-    last : (s t u : Seat) (p q r : Room) → MayBeWoken s t × (q ≡ p) → After t q u r → IsGoneOn now s p u r
+    last : (s t u : Seat) (p q r : Room) → MayBeWoken s t × (q ≡ p) → After t q u r → Goes s p u r
     last s t u p q r (woke, is) (v, w, inl (v-is, w-is), settled) =
-        on s t u p r woke (is_free t) refl (subst (λ x. IsSettled x p u r) v-is (subst (λ y. IsSettled v y u r) (w-is ∙ is) settled))
+        on s t u p r woke (is_free t) refl (subst (λ x. IsSettled now l m x p u r) v-is (subst (λ y. IsSettled now l m v y u r) (w-is ∙ is) settled))
     last s t u p q r (woke, is) (v, w, inr (idle, inl vacant, empty), settled) =
         let stays : Settled true v w u r = subst (λ b. Settled b v w u r) vacant.0 settled in
         Left (subst (λ x. IsVacant x) (sym stays.0) vacant) (subst (λ x. IsEmpty x) (sym stays.1) empty)
     last s t u p q r (woke, is) (v, w, inr (idle, inr taken, empty), settled) = by (subst (λ b. Settled b v w u r) taken.0 settled)
       where
-        by : (IsVacant u × IsEmpty r) ⊎ GoesOn v w u r → IsGoneOn now s p u r
+        by : (IsVacant u × IsEmpty r) ⊎ (GoesOn l m v w u r × (IsToLeaveAt now u r → ⊥)) → Goes s p u r
         by (inl left) = Left left.0 left.1
-        by (inr (over, place, going, turned)) =
-            Came (idle_of s t woke idle, ap (λ o. not (is_some o)) place.0 ∙ taken.0, place.2 ∙ taken.1, going.1.1 ∙ subst (λ l. drop going.1.0 l ≡ []) (sym empty.1) (drop_none going.1.0), subst (λ n. IsTurned n u r) taken.2 turned)
+        by (inr ((end, place, going, turned), stays)) =
+            Came (idle_of s t woke idle, ap (λ o. not (is_some o)) place.0 ∙ taken.0, place.2 ∙ taken.1, going.1.1 ∙ subst (λ l. drop going.1.0 l ≡ []) (sym empty.1) (drop_none going.1.0), subst (λ n. IsTurned l m n u r) taken.2 turned, stays)
 
 -- what a vector holds behind a call that had its items
 abbrev pub put : {A : Type 0} → ℕ → List A → List A → List A
 put n new old = take n (new ++ drop (length new) old)
 
-written : {A : Type 0} (n : ℕ) (new old : List A) → n ≡ length old → length new ≡ length old → put n new old ≡ new
+pub written : {A : Type 0} (n : ℕ) (new old : List A) → n ≡ length old → length new ≡ length old → put n new old ≡ new
 written n new old is same =
     ap (λ l. take n (new ++ l)) (drop_all (length new) old (omega (arith, same))) ∙ ap (take n) (append-nil new) ∙ take_all n new (omega (arith, is, same))
 
@@ -323,14 +359,14 @@ long_woken : (s0 s1 : List Seat) → AllZip MayBeWoken s0 s1 → length s1 ≡ l
 long_woken s0 s1 same = (woken s0 s1 [] same).seats_stay
 
 -- all of it, in vectors
-pub all_put : (now n m : ℕ) (s0 w t f d1 d2 d4 : List Seat) (r0 q g d3 d5 : List Room) → n ≡ length s0 → m ≡ length r0 → d1 ≡ s0 → AllZip MayBeWoken d1 w
+pub all_put : (now last last' n m : ℕ) (s0 w t f d1 d2 d4 : List Seat) (r0 q g d3 d5 : List Room) → n ≡ length s0 → m ≡ length r0 → d1 ≡ s0 → AllZip MayBeWoken d1 w
     → d2 ≡ put n w s0 → d3 ≡ r0 → AreAllChanged (λ _. IsLetIn now) d2 d3 t q
-    → d4 ≡ put n t (put n w s0) → d5 ≡ put m q r0 → AreAllChanged (λ _. IsSettled) d4 d5 f g
-    → AreAllChanged (λ _. IsGoneOn now) s0 r0 (put n f (put n t (put n w s0))) (put m g (put m q r0))
-all_put now n m s0 w t f d1 d2 d4 r0 q g d3 d5 n-is m-is d1-is same d2-is d3-is came d4-is d5-is settled =
-    moved (λ _. IsGoneOn now) s0 f (put n f (put n t (put n w s0))) r0 g (put m g (put m q r0))
+    → d4 ≡ put n t (put n w s0) → d5 ≡ put m q r0 → AreAllChanged (λ _. IsSettled now last last') d4 d5 f g
+    → AreAllChanged (λ _. IsGoneOn now last last') s0 r0 (put n f (put n t (put n w s0))) (put m g (put m q r0))
+all_put now last last' n m s0 w t f d1 d2 d4 r0 q g d3 d5 n-is m-is d1-is same d2-is d3-is came d4-is d5-is settled =
+    moved (λ _. IsGoneOn now last last') s0 f (put n f (put n t (put n w s0))) r0 g (put m g (put m q r0))
     (ap (put n f) e2 ∙ written n f t n-t after.seats_stay) (ap (put m g) e3 ∙ written m g q m-q after.rooms_stay)
-    (all_gone_on now s0 w t f r0 q g woke let_in after)
+    (all_gone_on now last last' s0 w t f r0 q g woke let_in after)
   where
     woke : AllZip MayBeWoken s0 w
     woke = subst (λ l. AllZip MayBeWoken l w) d1-is same
@@ -356,8 +392,8 @@ all_put now n m s0 w t f d1 d2 d4 r0 q g d3 d5 n-is m-is d1-is same d2-is d3-is 
     m-q : m ≡ length q
     m-q = m-is ∙ sym let_in.rooms_stay
 
-    after : AreAllChanged (λ _. IsSettled) t q f g
-    after = subst (λ s. AreAllChanged (λ _. IsSettled) s q f g) (d4-is ∙ e2) (subst (λ r. AreAllChanged (λ _. IsSettled) d4 r f g) (d5-is ∙ e3) settled)
+    after : AreAllChanged (λ _. IsSettled now last last') t q f g
+    after = subst (λ s. AreAllChanged (λ _. IsSettled now last last') s q f g) (d4-is ∙ e2) (subst (λ r. AreAllChanged (λ _. IsSettled now last last') d4 r f g) (d5-is ∙ e3) settled)
 
 set_twice : {A : Type 0} (xs : List A) (i : ℕ) (x y : A) → set (set xs i x) i y ≡ set xs i y
 set_twice [] i x y = refl
@@ -365,10 +401,10 @@ set_twice (z ∷ xs) zero x y = refl
 set_twice (z ∷ xs) (suc i) x y = ap (λ l. z ∷ l) (set_twice xs i x y)
 
 -- a connection that is taken back, in vectors
-pub back_put : (now n m k i : ℕ) (s0 s1 s2 d1 d2 : List Seat) (r0 r1 d3 : List Room) → n ≡ length s0 → m ≡ length r0 → d1 ≡ s0 → (k < length d1 → IsChangedAt (λ old new. new ≡ rested now old) k d1 s1)
-    → d2 ≡ put n s1 s0 → d3 ≡ r0 → (k < length d2 → k < length d3 → IsPlaceChangedAt IsSettled k d2 d3 s2 r1) → k ≡ i → i < length s0 → i < length r0
-    → IsPlaceChangedAt (λ seat. IsSettled (rested now seat)) i s0 r0 (put n s2 (put n s1 s0)) (put m r1 r0)
-back_put now n m k i s0 s1 s2 d1 d2 r0 r1 d3 n-is m-is d1-is rest' d2-is d3-is settled' k-is lt lt' = record {
+pub back_put : (now last last' n m k i : ℕ) (s0 s1 s2 d1 d2 : List Seat) (r0 r1 d3 : List Room) → n ≡ length s0 → m ≡ length r0 → d1 ≡ s0 → (k < length d1 → IsChangedAt (λ old new. new ≡ rested now old) k d1 s1)
+    → d2 ≡ put n s1 s0 → d3 ≡ r0 → (k < length d2 → k < length d3 → IsPlaceChangedAt (IsSettled now last last') k d2 d3 s2 r1) → k ≡ i → i < length s0 → i < length r0
+    → IsPlaceChangedAt (λ seat. IsSettled now last last' (rested now seat)) i s0 r0 (put n s2 (put n s1 s0)) (put m r1 r0)
+back_put now last last' n m k i s0 s1 s2 d1 d2 r0 r1 d3 n-is m-is d1-is rest' d2-is d3-is settled' k-is lt lt' = record {
   seat = one.old;
   room = two.room;
   seat' = two.seat';
@@ -377,14 +413,17 @@ back_put now n m k i s0 s1 s2 d1 d2 r0 r1 d3 n-is m-is d1-is rest' d2-is d3-is s
   room_was = two.room_was;
   seat_is = ap (put n s2) e1 ∙ written n s2 s1 (n-is ∙ sym long) long2 ∙ two.seat_is ∙ ap (λ l. set l i two.seat') one.is ∙ set_twice s0 i one.new two.seat';
   room_is = written m r1 r0 m-is long3 ∙ two.room_is;
-  changed = subst (λ s. IsSettled s two.room two.seat' two.room') (new-is ∙ one.changed) two.changed;
+  changed = subst (λ s. IsSettled now last last' s two.room two.seat' two.room') (new-is ∙ one.changed) two.changed;
 }
   where
     rest : i < length d1 → IsChangedAt (λ old new. new ≡ rested now old) i d1 s1
     rest = subst (λ j. j < length d1 → IsChangedAt (λ old new. new ≡ rested now old) j d1 s1) k-is rest'
 
-    settled : i < length d2 → i < length d3 → IsPlaceChangedAt IsSettled i d2 d3 s2 r1
-    settled = subst (λ j. j < length d2 → j < length d3 → IsPlaceChangedAt IsSettled j d2 d3 s2 r1) k-is settled'
+    Settles : Seat → Room → Seat → Room → Type 0
+    Settles = IsSettled now last last'
+
+    settled : i < length d2 → i < length d3 → IsPlaceChangedAt Settles i d2 d3 s2 r1
+    settled = subst (λ j. j < length d2 → j < length d3 → IsPlaceChangedAt Settles j d2 d3 s2 r1) k-is settled'
 
     one : IsChangedAt (λ old new. new ≡ rested now old) i s0 s1
     one = subst (λ l. IsChangedAt (λ old new. new ≡ rested now old) i l s1) d1-is (rest (subst (λ l. i < length l) (sym d1-is) lt))
@@ -395,8 +434,8 @@ back_put now n m k i s0 s1 s2 d1 d2 r0 r1 d3 n-is m-is d1-is rest' d2-is d3-is s
     e1 : put n s1 s0 ≡ s1
     e1 = written n s1 s0 n-is long
 
-    two : IsPlaceChangedAt IsSettled i s1 r0 s2 r1
-    two = subst (λ l. IsPlaceChangedAt IsSettled i l r0 s2 r1) (d2-is ∙ e1) (subst (λ l. IsPlaceChangedAt IsSettled i d2 l s2 r1) d3-is
+    two : IsPlaceChangedAt Settles i s1 r0 s2 r1
+    two = subst (λ l. IsPlaceChangedAt Settles i l r0 s2 r1) (d2-is ∙ e1) (subst (λ l. IsPlaceChangedAt Settles i d2 l s2 r1) d3-is
         (settled (subst (λ l. i < length l) (sym (d2-is ∙ e1)) (omega (arith, lt, long))) (subst (λ l. i < length l) (sym d3-is) lt')))
 
     long2 : length s2 ≡ length s1

@@ -4,5 +4,6 @@ pub mod Leasts
 pub mod Found
 pub mod Told
 pub mod Going
+pub mod Turns
 pub mod Ordered
 pub mod Rows

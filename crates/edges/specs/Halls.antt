@@ -1,5 +1,6 @@
 -- Which connection is handed over, what becomes of all of them, and what streams tell of it.
-use Rattle.std.specs.Prelude.{◌≡◌, ◌⊎◌, ℕ, ◌<◌, Bool, true, false, List, [], ◌∷◌, All, MatchBool, nat_lt, Option, None, Some, length, slice_get, slice_set, take}
+use Rattle.std.specs.Prelude.{◌≡◌, ◌⊎◌, ℕ, ◌<◌, ◌≤◌, Bool, true, false, List, [], ◌∷◌, All, MatchBool, nat_lt, Option, None, Some, length, slice_get, slice_set, take}
+use Rattle.outside.specs.Faults.{raised}
 use Rattle.outside.specs.Streams.{Piece, Talk}
 use Rattle.outside.specs.declared.streams.Accepting.{Accepting}
 use Rattle.outside.specs.declared.streams.Accepting.TheVariants as came
@@ -8,11 +9,12 @@ use Rattle.outside.specs.declared.streams.Reading.TheVariants as read
 use Rattle.tcp_frames.specs.Split.{AreWhole, IsOverlong}
 use Rattle.tcp_frames.specs.declared.batch.Batch.{Batch}
 use Rattle.tcp_frames.specs.declared.batch.TheConstants.{MOST_MESSAGES}
-use Rattle.edges.specs.Places.{IsOverNow, IsNextTalk, IsSamePlace, IsVacant, MayBeWoken, is_free, key_of}
+use Rattle.edges.specs.Places.{IsOverNow, IsNextTalk, IsSameEnd, IsSamePlace, IsToLeave, IsVacant, MayBeWoken, is_free, key_of}
 use Rattle.edges.specs.Rooms.{IsChangedAt, IsDue, IsEmpty, IsGoingOn, IsHandingOver, IsNotDue}
 use Rattle.edges.specs.declared.places.Wanted.TheVariants.{FirstInTurn}
 use Rattle.edges.specs.declared.room.Room.{Room}
 use Rattle.edges.specs.declared.seat.Seat.{Seat}
+use Rattle.edges.specs.declared.seat.TheConstants.{LONGEST_IDLE}
 
 -- what comes of a wait: the connection that has waited longest is handed over, with its peer; or none waits; or the listener is broken
 abbrev pub IsAdvance : Accepting → Option ℕ → List Seat → Type 0
@@ -40,6 +42,10 @@ IsSameOrEnded current seats seats' = (seats' ≡ seats) ⊎ ((i : ℕ) × (curre
 abbrev pub EndsBehind : List ℕ → Reading → Option ℕ → List Seat → List Seat → Type 0
 EndsBehind buffer' reading current seats seats' = (n i : ℕ) → reading ≡ read.Got n → (AreWhole MOST_MESSAGES (take n buffer') → ⊥) → current ≡ Some i → i < length seats → IsChangedAt IsOverNow i seats seats'
 
+-- behind octets that do not begin with a length that is too great all connections are as they were
+abbrev pub GoesOnBehind : List ℕ → Reading → List Seat → List Seat → Type 0
+GoesOnBehind buffer' reading seats seats' = (n : ℕ) → reading ≡ read.Got n → (IsOverlong (take n buffer') → ⊥) → seats' ≡ seats
+
 -- octets that are handed over at once: eight whole messages at most, or a length that is too great for one
 abbrev pub AreOfOneTalk : List ℕ → Type 0
 AreOfOneTalk octets = AreWhole MOST_MESSAGES octets ⊎ IsOverlong octets
@@ -54,21 +60,29 @@ abbrev pub IsTold : Option ℕ → Bool → List Seat → Option Talk → Type 0
 IsTold None is_read seats talk = Unit {0}
 IsTold (Some i) is_read seats talk = (seat : Seat) × (t : Talk) × (slice_get seats i ≡ Some seat) × (talk ≡ Some t) × (t.peer ≡ seat.peer) × AreHeardOnce is_read t.pieces
 
--- which number a connection has among those that wait to be handed over: one that waits keeps it, and another one gets one exactly where it is due
-abbrev pub IsTurned : ℕ → Seat → Room → Type 0
-IsTurned turn seat' room' = MatchBool (nat_lt 0 turn) (seat'.turn ≡ turn) (MatchBool (nat_lt 0 seat'.turn) (IsDue room') (IsNotDue room'))
+-- a number is one of those that were given out in a call: greater than the last one ahead of it, until numbers run out, and not greater than the last one behind it
+abbrev pub IsGivenOut : ℕ → ℕ → ℕ → Type 0
+IsGivenOut last last' turn = (raised last 1 ≤ turn) × (turn ≤ last')
 
--- a connection goes on: it has the same socket, what comes is put behind what came, replies go in their order, and it waits where it is due
-abbrev pub GoesOn : Seat → Room → Seat → Room → Type 0
-GoesOn seat room seat' room' = (seat.is_over ≡ false) × IsSamePlace seat seat' × IsGoingOn room room' × IsTurned seat.turn seat' room'
+-- which number a connection has among those that wait to be handed over: one that waits keeps it, and another one is given one exactly where it is due
+abbrev pub IsTurned : ℕ → ℕ → ℕ → Seat → Room → Type 0
+IsTurned last last' turn seat' room' = MatchBool (nat_lt 0 turn) (seat'.turn ≡ turn) (MatchBool (nat_lt 0 seat'.turn) (IsDue room' × IsGivenOut last last' seat'.turn) (IsNotDue room'))
+
+-- a connection goes on: it has the same socket, what comes is put behind what came, replies go in their order, it waits where it is due, and it is of no use, or its peer sends no more, where that was so
+abbrev pub GoesOn : ℕ → ℕ → Seat → Room → Seat → Room → Type 0
+GoesOn last last' seat room seat' room' = IsSameEnd seat seat' × IsSamePlace seat seat' × IsGoingOn room room' × IsTurned last last' seat.turn seat' room'
+
+-- a connection is to be left at that time
+abbrev pub IsToLeaveAt : ℕ → Seat → Room → Type 0
+IsToLeaveAt now seat room = IsToLeave LONGEST_IDLE now seat room.going.items
 
 -- a place stays as it is
 abbrev pub Stays : Seat → Room → Seat → Room → Type 0
 Stays seat room seat' room' = (seat' ≡ seat) × (room' ≡ room)
 
--- What becomes of a place where all go on: one without a connection stays as it is. Else the connection is left, with all of its octets, or goes on.
-abbrev pub IsSettled : Seat → Room → Seat → Room → Type 0
-IsSettled seat room seat' room' = MatchBool (is_free seat) (Stays seat room seat' room') ((IsVacant seat' × IsEmpty room') ⊎ GoesOn seat room seat' room')
+-- What becomes of a place where all go on: one without a connection stays as it is. Else the connection is left, with all of its octets, or goes on and is not to be left.
+abbrev pub IsSettled : ℕ → ℕ → ℕ → Seat → Room → Seat → Room → Type 0
+IsSettled now last last' seat room seat' room' = MatchBool (is_free seat) (Stays seat room seat' room') ((IsVacant seat' × IsEmpty room') ⊎ (GoesOn last last' seat room seat' room' × (IsToLeaveAt now seat' room' → ⊥)))
 
 -- nothing waits at a place to be handed over
 abbrev pub IsIdle : Seat → Type 0
@@ -78,16 +92,16 @@ IsIdle seat = (is_free seat ≡ true) ⊎ (seat.turn ≡ 0)
 abbrev pub IsLetIn : ℕ → Seat → Room → Seat → Room → Type 0
 IsLetIn now seat room seat' room' = Stays seat room seat' room' ⊎ (IsIdle seat × (IsVacant seat' ⊎ ((is_free seat' ≡ false) × (seat'.since ≡ now) × (seat'.turn ≡ 0))) × IsEmpty room')
 
--- nothing waited at a place, and its connection has that time, with nothing to go, and waits where it is due
-abbrev pub CameAt : ℕ → Seat → Seat → Room → Type 0
-CameAt now seat seat' room' = IsIdle seat × (is_free seat' ≡ false) × (seat'.since ≡ now) × (room'.going.items ≡ []) × IsTurned 0 seat' room'
+-- nothing waited at a place, and its connection has that time, with nothing to go, waits where it is due, and is not to be left
+abbrev pub CameAt : ℕ → ℕ → ℕ → Seat → Seat → Room → Type 0
+CameAt now last last' seat seat' room' = IsIdle seat × (is_free seat' ≡ false) × (seat'.since ≡ now) × (room'.going.items ≡ []) × IsTurned last last' 0 seat' room' × (IsToLeaveAt now seat' room' → ⊥)
 
--- What becomes of a place between two conversations: it has no connection and no octets; or it had none and stays as it is; or its connection goes on; or it has one that came at that time.
-pub data IsGoneOn (now : ℕ) (seat : Seat) (room : Room) (seat' : Seat) (room' : Room) : Type 0 where
-  Left : IsVacant seat' → IsEmpty room' → IsGoneOn now seat room seat' room'
-  Stayed : is_free seat ≡ true → MayBeWoken seat seat' → room' ≡ room → IsGoneOn now seat room seat' room'
-  Went : is_free seat ≡ false → GoesOn seat room seat' room' → IsGoneOn now seat room seat' room'
-  Came : CameAt now seat seat' room' → IsGoneOn now seat room seat' room'
+-- What becomes of a place between two conversations: it has no connection and no octets; or it had none and stays as it is; or its connection goes on, and is not to be left; or it has one that came at that time.
+pub data IsGoneOn (now last last' : ℕ) (seat : Seat) (room : Room) (seat' : Seat) (room' : Room) : Type 0 where
+  Left : IsVacant seat' → IsEmpty room' → IsGoneOn now last last' seat room seat' room'
+  Stayed : is_free seat ≡ true → MayBeWoken seat seat' → room' ≡ room → IsGoneOn now last last' seat room seat' room'
+  Went : is_free seat ≡ false → GoesOn last last' seat room seat' room' → (IsToLeaveAt now seat' room' → ⊥) → IsGoneOn now last last' seat room seat' room'
+  Came : CameAt now last last' seat seat' room' → IsGoneOn now last last' seat room seat' room'
 
 -- so many places, of which none has a connection
 abbrev pub AreFree : ℕ → List Seat → Type 0
@@ -96,6 +110,10 @@ AreFree places seats = (length seats ≡ places) × All IsVacant seats
 -- so many rooms, none of which has octets
 abbrev pub AreEmpty : ℕ → List Room → Type 0
 AreEmpty places rooms = (length rooms ≡ places) × All IsEmpty rooms
+
+-- there are as many rooms as places, and no place has a greater number than the last that was given out
+abbrev pub AreNumberedUpTo : ℕ → List Seat → List Room → Type 0
+AreNumberedUpTo last seats rooms = (length rooms ≡ length seats) × All (λ s. s.turn ≤ last) seats
 
 -- one place with its room became another so, and no other one changed
 pub record IsPlaceChangedAt (R : Seat → Room → Seat → Room → Type 0) (i : ℕ) (seats : List Seat) (rooms : List Room) (seats' : List Seat) (rooms' : List Room) : Type 0 where

@@ -55,17 +55,21 @@ IsNextTalk seats i peer = (seat : Seat) × (slice_get seats i ≡ Some seat) × 
 abbrev pub IsVacant : Seat → Type 0
 IsVacant seat = (is_free seat ≡ true) × (seat.turn ≡ 0)
 
--- a place has a connection of a peer, which came at that time, and does not wait
+-- a place has a connection of a peer, which came at that time, does not wait, and has not come to its end
 abbrev pub IsTaken : Peer → ℕ → Seat → Type 0
-IsTaken peer now seat = (is_free seat ≡ false) × (seat.peer ≡ peer) × (seat.since ≡ now) × (seat.turn ≡ 0)
+IsTaken peer now seat = (is_free seat ≡ false) × (seat.peer ≡ peer) × (seat.since ≡ now) × (seat.turn ≡ 0) × (seat.is_over ≡ false) × (seat.is_ended ≡ false)
 
 -- a place has the socket that it had, if any, with its peer and its time
 abbrev pub IsSamePlace : Seat → Seat → Type 0
 IsSamePlace seat seat' = (seat'.stream ≡ seat.stream) × (seat'.peer ≡ seat.peer) × (seat'.since ≡ seat.since)
 
--- the same, which waits as before, and is of no use where it was of none
+-- a connection is of no use where it was of none, and its peer sends no more where it sent no more
+abbrev pub IsSameEnd : Seat → Seat → Type 0
+IsSameEnd seat seat' = (seat.is_over ≡ true → seat'.is_over ≡ true) × (seat.is_ended ≡ true → seat'.is_ended ≡ true)
+
+-- the same, which waits as before, and has come to its end where it had
 abbrev pub IsSameSeat : Seat → Seat → Type 0
-IsSameSeat seat seat' = IsSamePlace seat seat' × (seat'.turn ≡ seat.turn) × (seat.is_over ≡ true → seat'.is_over ≡ true)
+IsSameSeat seat seat' = IsSamePlace seat seat' × (seat'.turn ≡ seat.turn) × IsSameEnd seat seat'
 
 -- the same, and it is of no use any more
 abbrev pub IsOverNow : Seat → Seat → Type 0

@@ -1,8 +1,9 @@
 //! The places of connections with their octets, and which of them is handed over.
-ghost use Rattle.std.specs.Prelude.{◌≡◌, ◌≢◌, ◌<◌, ◌⊎◌, ℕ, true, false, Some, None, IfOk, length, ◌+◌, slice_get};
+ghost use Rattle.std.specs.Prelude.{◌≡◌, ◌≢◌, ◌<◌, ◌≤◌, ◌⊎◌, ℕ, true, false, Some, None, IfOk, length, ◌+◌, slice_get};
 ghost use Rattle.addr_text.specs.declared.address.Peer.{Peer};
+ghost use Rattle.outside.specs.Faults.{raised};
 ghost use Rattle.outside.specs.Streams.{IsWithin};
-ghost use Rattle.edges.specs.Halls.{AreAllChanged, AreEmpty, AreFree, EndsBehind, IsAdvance, IsGoneOn, IsHeard, IsPlaceChangedAt, IsSameOrEnded, IsSettled};
+ghost use Rattle.edges.specs.Halls.{AreAllChanged, AreEmpty, AreFree, AreNumberedUpTo, EndsBehind, GoesOnBehind, IsAdvance, IsGoneOn, IsHeard, IsPlaceChangedAt, IsSameOrEnded, IsSettled};
 ghost use Rattle.edges.specs.Places.{rested};
 ghost use Rattle.edges.specs.Rooms.{IsChangedAt, IsKeeping};
 ghost use Rattle.edges.specs.declared.room.Room.{Room};
@@ -31,7 +32,7 @@ pub(crate) struct Hall {
     pub(crate) is_read: bool,
     /// The milliseconds of the clock. Where it can't be read, it stands still.
     now: u64,
-    /// How many were handed over or wait for it.
+    /// The last number that was given to a connection which waits to be handed over.
     turns: u64,
 }
 
@@ -70,7 +71,8 @@ fn now_of<C: Clock>(clock: &C, before: u64) -> u64 {
 
 /// Has all connections go on.
 fn settle_all(seats: &mut [Seat], rooms: &mut [Room], now: u64, turns: &mut u64)
-    ensures { AreAllChanged (λ _. IsSettled) seats.old rooms.old seats.new rooms.new }
+    ensures settled { AreAllChanged (λ _. IsSettled now turns.old turns.new) seats.old rooms.old seats.new rooms.new }
+    ensures turns { (turns.old ≤ turns.new) × (turns.new ≤ raised turns.old (length seats.old)) }
 {
     for i in 0..seats.len() {
         settle_at(seats, rooms, i, now, turns);
@@ -80,7 +82,7 @@ fn settle_all(seats: &mut [Seat], rooms: &mut [Room], now: u64, turns: &mut u64)
 impl Hall {
     /// These places and their octets, with none handed over.
     pub(crate) fn new(seats: Vec<Seat>, rooms: Vec<Room>) -> Hall
-        ensures { (result.current ≡ None) × (result.seats ≡ seats) × (result.rooms ≡ rooms) }
+        ensures { (result.current ≡ None) × (result.seats ≡ seats) × (result.rooms ≡ rooms) × (result.turns ≡ 0) }
     {
         Hall {
             seats,
@@ -94,7 +96,7 @@ impl Hall {
 
     /// So many places, which are free.
     pub(crate) fn with_places(alloc: Global, places: usize) -> Result<Hall, NoMemory>
-        ensures { IfOk result (λ hall. (hall.current ≡ None) × AreFree places hall.seats.items × AreEmpty places hall.rooms.items) }
+        ensures { IfOk result (λ hall. (hall.current ≡ None) × (hall.turns ≡ 0) × AreFree places hall.seats.items × AreEmpty places hall.rooms.items) }
     {
         let seats = free_seats(alloc, places)?;
         let rooms = free_rooms(alloc, places)?;
@@ -105,7 +107,9 @@ impl Hall {
     /// on.
     pub(crate) fn take_back(&mut self)
         ensures current { self.new.current ≡ None }
-        ensures back { (i : ℕ) → self.old.current ≡ Some i → i < length self.old.seats.items → i < length self.old.rooms.items → IsPlaceChangedAt (λ seat. IsSettled (rested self.old.now seat)) i self.old.seats.items self.old.rooms.items self.new.seats.items self.new.rooms.items }
+        ensures back { (i : ℕ) → self.old.current ≡ Some i → i < length self.old.seats.items → i < length self.old.rooms.items → IsPlaceChangedAt (λ seat. IsSettled self.old.now self.old.turns self.new.turns (rested self.old.now seat)) i self.old.seats.items self.old.rooms.items self.new.seats.items self.new.rooms.items }
+        ensures turns { (self.old.turns ≤ self.new.turns) × (self.new.turns ≤ raised self.old.turns 1) }
+        ensures numbered { AreNumberedUpTo self.old.turns self.old.seats.items self.old.rooms.items → AreNumberedUpTo self.new.turns self.new.seats.items self.new.rooms.items }
         ensures none { self.old.current ≡ None → self.new ≡ self.old }
         ensures same { self.new ≡ record self.old { current = None; seats = self.new.seats; rooms = self.new.rooms; turns = self.new.turns } }
     {
@@ -127,7 +131,9 @@ impl Hall {
     /// the wait for it, is broken.
     fn gather<C: Clock>(&mut self, ears: &mut Ears, clock: &C, most_of_one: usize) -> bool
         ensures current { self.new.current ≡ self.old.current }
-        ensures went { result ≡ false → AreAllChanged (λ _. IsGoneOn self.new.now) self.old.seats.items self.old.rooms.items self.new.seats.items self.new.rooms.items }
+        ensures turns { (self.old.turns ≤ self.new.turns) × (self.new.turns ≤ raised self.old.turns (length self.old.seats.items)) }
+        ensures numbered { AreNumberedUpTo self.old.turns self.old.seats.items self.old.rooms.items → AreNumberedUpTo self.new.turns self.new.seats.items self.new.rooms.items }
+        ensures went { result ≡ false → AreAllChanged (λ _. IsGoneOn self.new.now self.old.turns self.new.turns) self.old.seats.items self.old.rooms.items self.new.seats.items self.new.rooms.items }
     {
         let wait = if least(self.seats.as_slice(), Wanted::FirstInTurn).is_some() {
             0
@@ -153,7 +159,9 @@ impl Hall {
     ) -> Accepting
         requires { self.old.current ≡ None }
         ensures advance { IsAdvance result self.new.current self.new.seats.items }
-        ensures went { result ≢ Accepting.Failed → AreAllChanged (λ _. IsGoneOn self.new.now) self.old.seats.items self.old.rooms.items self.new.seats.items self.new.rooms.items }
+        ensures turns { (self.old.turns ≤ self.new.turns) × (self.new.turns ≤ raised self.old.turns (length self.old.seats.items)) }
+        ensures numbered { AreNumberedUpTo self.old.turns self.old.seats.items self.old.rooms.items → AreNumberedUpTo self.new.turns self.new.seats.items self.new.rooms.items }
+        ensures went { result ≢ Accepting.Failed → AreAllChanged (λ _. IsGoneOn self.new.now self.old.turns self.new.turns) self.old.seats.items self.old.rooms.items self.new.seats.items self.new.rooms.items }
         ensures unread { (peer : Peer) → result ≡ Accepting.Come peer → self.new.is_read ≡ false }
     {
         let Some(ears) = ears else {
@@ -178,9 +186,11 @@ impl Hall {
         ensures heard { IsHeard buffer.old buffer.new result self.old.current self.old.rooms.items self.new.rooms.items }
         ensures current { self.new.current ≡ self.old.current }
         ensures seats { IsSameOrEnded self.old.current self.old.seats.items self.new.seats.items }
+        ensures turns { self.new.turns ≡ self.old.turns }
         ensures once { self.old.is_read ≡ true → result ≡ Reading.Closed }
         ensures read { self.new.is_read ≡ true ⊎ (self.new ≡ self.old) × (self.old.current ≡ None) }
         ensures ended { EndsBehind buffer.new result self.old.current self.old.seats.items self.new.seats.items }
+        ensures goes_on { GoesOnBehind buffer.new result self.old.seats.items self.new.seats.items }
     {
         let Some(i) = self.current else {
             return Reading::Closed;

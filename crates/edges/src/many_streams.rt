@@ -60,14 +60,14 @@ pub struct ManyStreams<'a, R: Net + Clock> {
 
 impl<'a, R: Net + Clock> Model for ManyStreams<'a, R> {
     ghost use Rattle.std.specs.Prelude.{◌≡◌, false};
-    ghost use Rattle.edges.specs.Halls.{IsTold};
+    ghost use Rattle.edges.specs.Halls.{AreNumberedUpTo, IsTold};
     ghost use Rattle.edges.specs.Pasts.{StreamsNoted};
 
     ghost Value = { StreamsNoted };
 
     ghost view = { λ s. record { told = s.past.told; faults = s.faults } };
 
-    ghost invariant = { λ s. (s.past.told.is_ended ≡ false) × IsTold s.hall.current s.hall.is_read s.hall.seats.items s.past.told.current };
+    ghost invariant = { λ s. ((s.past.told.is_ended ≡ false) × IsTold s.hall.current s.hall.is_read s.hall.seats.items s.past.told.current) × AreNumberedUpTo s.hall.turns s.hall.seats.items s.hall.rooms.items };
 }
 
 impl<'a, R: Net + Clock> ManyStreams<'a, R> {

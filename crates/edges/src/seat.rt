@@ -2,7 +2,7 @@
 ghost use Rattle.std.specs.IoError.{error_kind};
 ghost use Rattle.std.specs.Prelude.{◌≡◌, ◌≢◌, ◌<◌, ◌≤◌, ◌⊎◌, length, true, false};
 ghost use Rattle.outside.specs.Faults.{raised};
-ghost use Rattle.edges.specs.Halls.{IsPlaceChangedAt, IsSettled};
+ghost use Rattle.edges.specs.Halls.{GoesOn, IsPlaceChangedAt, IsSettled};
 ghost use Rattle.edges.specs.Places.{IsOverNow, IsSameSeat, IsTaken, IsToLeave, IsVacant, IsWoken, is_free, rested};
 ghost use Rattle.edges.specs.Rooms.{IsChangedAt, IsEmpty, IsFilled, IsFlushed};
 
@@ -155,8 +155,8 @@ fn flush(seat: &mut Seat, room: &mut Room)
     }
 }
 
-/// Whether a connection is left: it is over; or it does not wait to be handed over, and either its peer sends no more and
-/// takes all that goes, or it was idle for too long.
+/// Whether a connection is to be left: it is over; or it does not wait to be handed over, and either its peer sends no
+/// more and takes all that goes, or it was idle for too long.
 fn is_left(seat: &Seat, room: &Room, now: u64) -> bool
     ensures left { result ≡ true → IsToLeave LONGEST_IDLE now seat.now room.now.going.items }
     ensures stays { result ≡ false → IsToLeave LONGEST_IDLE now seat.now room.now.going.items → ⊥ }
@@ -176,22 +176,31 @@ pub(crate) fn leave(seat: &mut Seat, room: &mut Room)
     room.clear();
 }
 
-/// Writes and reads what can be at once, has the connection wait to be handed over where there is something to hand over
-/// and no reply of it is to go, and leaves it where that is due. `turns` is the last number that one got which waits.
-pub(crate) fn settle(seat: &mut Seat, room: &mut Room, now: u64, turns: &mut u64)
-    ensures settled { IsSettled seat.old room.old seat.new room.new }
+/// Writes and reads what can be at once, and has the connection wait to be handed over where there is something to hand
+/// over and no reply of it is to go. `turns` is the last number that one got which waits.
+fn go_on(seat: &mut Seat, room: &mut Room, turns: &mut u64)
+    ensures went { GoesOn turns.old turns.new seat.old room.old seat.new room.new }
     ensures turn { seat.old.turn ≡ 0 → 0 < seat.new.turn → (turns.new ≡ raised turns.old 1) × (seat.new.turn ≡ turns.new) }
-    ensures turns { turns.old ≤ turns.new }
+    ensures turns { (turns.old ≤ turns.new) × (turns.new ≤ raised turns.old 1) }
 {
-    if seat.stream.is_none() {
-        return;
-    }
     flush(seat, room);
     fill(seat, room);
     if seat.turn == 0 && room.is_due() {
         *turns = turns.saturating_add(1);
         seat.turn = *turns;
     }
+}
+
+/// Has the connection of a place go on, and leaves it where it is to be left.
+pub(crate) fn settle(seat: &mut Seat, room: &mut Room, now: u64, turns: &mut u64)
+    ensures settled { IsSettled now turns.old turns.new seat.old room.old seat.new room.new }
+    ensures turn { seat.old.turn ≡ 0 → 0 < seat.new.turn → (turns.new ≡ raised turns.old 1) × (seat.new.turn ≡ turns.new) }
+    ensures turns { (turns.old ≤ turns.new) × (turns.new ≤ raised turns.old 1) }
+{
+    if seat.stream.is_none() {
+        return;
+    }
+    go_on(seat, room, turns);
     if is_left(seat, room, now) {
         leave(seat, room);
     }
@@ -223,8 +232,9 @@ pub(crate) fn wake_at(seats: &mut [Seat], i: usize)
 
 /// Has the connection of a place go on, where there is such a place with a room.
 pub(crate) fn settle_at(seats: &mut [Seat], rooms: &mut [Room], i: usize, now: u64, turns: &mut u64)
-    ensures at { i < length seats.old → i < length rooms.old → IsPlaceChangedAt IsSettled i seats.old rooms.old seats.new rooms.new }
+    ensures at { i < length seats.old → i < length rooms.old → IsPlaceChangedAt (IsSettled now turns.old turns.new) i seats.old rooms.old seats.new rooms.new }
     ensures none { (length seats.old ≤ i) ⊎ (length rooms.old ≤ i) → (seats.new ≡ seats.old) × (rooms.new ≡ rooms.old) }
+    ensures turns { (turns.old ≤ turns.new) × (turns.new ≤ raised turns.old 1) }
 {
     if i < seats.len() && i < rooms.len() {
         settle(&mut seats[i], &mut rooms[i], now, turns);
