@@ -70,22 +70,23 @@ all_bounded l m s0 s1 r0 r1 changed (long, low) = (changed.rooms_stay ∙ long �
         let to = changed.each i s.0 r.0 s.1 r.1 in
         subst (λ x. x.turn ≤ m) (some_eq to.0 t (sym to.2 ∙ is)) (to.4 (one_of l s0 i s.0 low s.1))
 
+-- what each place became is also something else
+also : (R S : ℕ → Seat → Room → Seat → Room → Type 0) (s0 s1 : List Seat) (r0 r1 : List Room) → ((i : ℕ) (s t : Seat) (p q : Room) → R i s p t q → S i s p t q) → AreAllChanged R s0 r0 s1 r1 → AreAllChanged S s0 r0 s1 r1
+also R S s0 s1 r0 r1 so changed = record {
+  seats_stay = changed.seats_stay;
+  rooms_stay = changed.rooms_stay;
+  each = λ i s p is has. let to = changed.each i s p is has in (to.0, to.1, to.2, to.3, so i s to.0 p to.1 to.4);
+}
+
 -- between two conversations
 pub gone_numbered : (now l m : ℕ) (s0 s1 : List Seat) (r0 r1 : List Room) → l ≤ m → AreAllChanged (λ _. IsGoneOn now l m) s0 r0 s1 r1 → AreNumberedUpTo l s0 r0 → AreNumberedUpTo m s1 r1
-gone_numbered now l m s0 s1 r0 r1 rises gone = all_bounded l m s0 s1 r0 r1 (record {
-  seats_stay = gone.seats_stay;
-  rooms_stay = gone.rooms_stay;
-  each = λ i s p is has. let to = gone.each i s p is has in (to.0, to.1, to.2, to.3, gone_bounded now l m s to.0 p to.1 rises to.4);
-})
+gone_numbered now l m s0 s1 r0 r1 rises gone = all_bounded l m s0 s1 r0 r1 (also (λ _. IsGoneOn now l m) (λ _. Bounded l m) s0 s1 r0 r1 (λ i s t p q one. gone_bounded now l m s t p q rises one) gone)
 
 -- where a wait is broken
 pub woken_numbered : (l n : ℕ) (s0 w d : List Seat) (rooms : List Room) → n ≡ length s0 → d ≡ s0 → AllZip MayBeWoken d w → AreNumberedUpTo l s0 rooms → AreNumberedUpTo l (put n w s0) rooms
 woken_numbered l n s0 w d rooms n-is d-is same =
-    all_bounded l l s0 (put n w s0) rooms rooms (moved (λ _. Bounded l l) s0 w (put n w s0) rooms rooms rooms (written n w s0 n-is woke.seats_stay) refl (record {
-      seats_stay = woke.seats_stay;
-      rooms_stay = refl;
-      each = λ i s p is has. let to = woke.each i s p is has in (to.0, to.1, to.2, to.3, (λ low. omega (arith, kept_of (λ x. x.turn) (λ x. refl) s to.0 to.4.0, low)));
-    }))
+    all_bounded l l s0 (put n w s0) rooms rooms (moved (λ _. Bounded l l) s0 w (put n w s0) rooms rooms rooms (written n w s0 n-is woke.seats_stay) refl
+    (also (λ i s p t q. MayBeWoken s t × (q ≡ p)) (λ _. Bounded l l) s0 w rooms rooms (λ i s t p q one low. omega (arith, kept_of (λ x. x.turn) (λ x. refl) s t one.0, low)) woke))
   where
     woke : AreAllChanged (λ i s p t q. MayBeWoken s t × (q ≡ p)) s0 rooms w rooms
     woke = woken s0 w rooms (subst (λ l. AllZip MayBeWoken l w) d-is same)
@@ -102,11 +103,7 @@ placed_numbered l m s0 s1 r0 r1 i R rises bounded at before = all_bounded l m s0
     so k s t p q (inr (other, stays)) = λ low. omega (arith, ap (λ x. x.turn) stays.0, low, rises)
 
     changed : AreAllChanged (λ _. Bounded l m) s0 r0 s1 r1
-    changed = record {
-      seats_stay = one.seats_stay;
-      rooms_stay = one.rooms_stay;
-      each = λ k s p is has. let to = one.each k s p is has in (to.0, to.1, to.2, to.3, so k s to.0 p to.1 to.4);
-    }
+    changed = also (AtOr i R) (λ _. Bounded l m) s0 s1 r0 r1 so one
 
 -- a connection that is taken back
 pub back_numbered : (now l m i : ℕ) (s0 s1 : List Seat) (r0 r1 : List Room) → l ≤ m → (i < length s0 → i < length r0 → IsPlaceChangedAt (λ seat. IsSettled now l m (rested now seat)) i s0 r0 s1 r1) → (length s0 ≤ i → (s1 ≡ s0) × (r1 ≡ r0)) → AreNumberedUpTo l s0 r0 → AreNumberedUpTo m s1 r1
