@@ -22,6 +22,10 @@ taken_of taken = record { packet = packet_of taken.packet; known = taken.known; 
 abbrev pub try_of : MemTry → Try
 try_of reply = record { octets = reply.octets.items; to = reply.to; serial = reply.serial; went = reply.went }
 
+-- how many answers of recv came before a reply that was tried
+abbrev pub place_of : MemTry → ℕ
+place_of reply = reply.place
+
 -- a port in memory: what it tells, and its calls of each kind
 pub record PortInMemory : Type 0 where
   pub told : PortTold

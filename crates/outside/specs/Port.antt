@@ -29,12 +29,13 @@ pub record Try : Type 0 where
   pub serial : ℕ
   pub went : Bool
 
--- What a port tells: where it was opened; the datagrams that wait, where it tells that too; those that were taken, and the replies that were tried; how many answers recv gave, how many of them were Failed, whether one was End, and the greatest serial that recv was handed.
+-- What a port tells: where it was opened; the datagrams that wait, where it tells that too; those that were taken, and the replies that were tried; beside each of these, in `places`, how many answers of recv came before it; how many answers recv gave, how many of them were Failed, whether one was End, and the greatest serial that recv was handed.
 pub record PortTold : Type 0 where
   pub opens : List Listen
   pub waiting : Option (List Packet)
   pub taken : List Taken
   pub tries : List Try
+  pub places : List ℕ
   pub recvs : ℕ
   pub failed : ℕ
   pub is_ended : Bool
@@ -97,9 +98,9 @@ abbrev pub is_sent : Sending → Bool
 is_sent sending.Sent = true
 is_sent sending.Failed = false
 
--- a port after a reply was tried
+-- a port after a reply was tried, behind as many answers of recv as there were
 abbrev pub trying : Try → PortTold → PortTold
-trying reply port = record port { tries = port.tries ++ reply ∷ [] }
+trying reply port = record port { tries = port.tries ++ reply ∷ []; places = port.places ++ port.recvs ∷ [] }
 
 -- what one send does to a port: the reply was tried, whether or not it went
 abbrev pub IsSend : List ℕ → Peer → ℕ → Sending → PortTold → PortTold → Type 0

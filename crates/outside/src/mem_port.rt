@@ -3,7 +3,7 @@ ghost use Rattle.std.specs.LinkedList.{linked_list_len};
 ghost use Rattle.std.specs.Prelude.{◌≡◌, ◌≢◌, ◌≤◌, ◌<◌, ◌+◌, ◌↔◌, ◌⊎◌, Some, [], true, false, length, not, take, map, IfOk, IfSome, Contains, vec_len, vec_capacity};
 ghost use Rattle.outside.specs.Calls.{counted};
 ghost use Rattle.outside.specs.Faults.{BothTell, Rose};
-ghost use Rattle.outside.specs.MemPort.{PortInMemory, OpenFails, RecvFails, SendFails, is_failed, is_shut, packet_of, taken_of, try_of};
+ghost use Rattle.outside.specs.MemPort.{PortInMemory, OpenFails, RecvFails, SendFails, is_failed, is_shut, packet_of, place_of, taken_of, try_of};
 ghost use Rattle.outside.specs.Port.{HasDue, IsOpen, IsRecv, IsSend, IsShort, is_sent};
 ghost use Rattle.outside.specs.declared.limits.TheConstants.{LARGEST_DATAGRAM, LARGEST_REPLY};
 
@@ -32,13 +32,14 @@ pub struct MemTaken {
     pub place: u64,
 }
 
-/// A reply that was tried, with the serial of its map, and whether it went.
+/// A reply that was tried, with the serial of its map, whether it went, and how many answers of `recv` came before it.
 #[derive(Drop)]
 pub struct MemTry {
     pub octets: ArrayVec<u8, LARGEST_REPLY>,
     pub to: Peer,
     pub serial: u64,
     pub went: bool,
+    pub place: u64,
 }
 
 /// A port in memory, with room for one opening, for all its datagrams and for as many replies. It is never idle.
@@ -58,7 +59,7 @@ pub struct MemPort {
 impl Model for MemPort {
     ghost use Rattle.std.specs.LinkedList.{linked_list_len};
     ghost use Rattle.std.specs.Prelude.{◌≤◌, ◌+◌, Some, map, vec_len, vec_capacity};
-    ghost use Rattle.outside.specs.MemPort.{PortInMemory, packet_of, taken_of, try_of};
+    ghost use Rattle.outside.specs.MemPort.{PortInMemory, packet_of, place_of, taken_of, try_of};
 
     ghost Value = { PortInMemory };
 
@@ -68,6 +69,7 @@ impl Model for MemPort {
         waiting = Some (map packet_of p.waiting);
         taken = map taken_of p.taken.items;
         tries = map try_of p.tries.items;
+        places = map place_of p.tries.items;
         recvs = p.recv_calls.made;
         failed = p.recv_calls.faults;
         is_ended = p.is_ended;
@@ -95,7 +97,7 @@ impl MemPort {
         recv_fails: Vec<u64>,
         send_fails: Vec<u64>,
     ) -> Result<MemPort, NoMemory>
-        ensures told { IfOk result (λ p. p.told ≡ record { opens = []; waiting = Some (map packet_of waiting); taken = []; tries = []; recvs = 0; failed = 0; is_ended = false; greatest = 0 }) }
+        ensures told { IfOk result (λ p. p.told ≡ record { opens = []; waiting = Some (map packet_of waiting); taken = []; tries = []; places = []; recvs = 0; failed = 0; is_ended = false; greatest = 0 }) }
         ensures opens { IfOk result (λ p. p.opens ≡ record { made = 0; fails = open_fails.items; faults = 0 }) }
         ensures recvs { IfOk result (λ p. p.recvs ≡ record { made = 0; fails = recv_fails.items; faults = 0 }) }
         ensures sends { IfOk result (λ p. p.sends ≡ record { made = 0; fails = send_fails.items; faults = 0 }) }
@@ -130,7 +132,8 @@ impl MemPort {
 
     /// The replies that were tried.
     pub fn tries(&self) -> &[MemTry]
-        ensures { map try_of result.now ≡ self.now.told.tries }
+        ensures tries { map try_of result.now ≡ self.now.told.tries }
+        ensures places { map place_of result.now ≡ self.now.told.places }
     {
         self.tries.as_slice()
     }
@@ -244,6 +247,7 @@ impl Port for MemPort {
             to: peer,
             serial,
             went,
+            place: self.recv_calls.made(),
         });
         if went {
             self.send_calls.count_done();

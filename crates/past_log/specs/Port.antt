@@ -6,7 +6,7 @@ use Rattle.past_log.specs.declared.port.PortEvent.TheVariants.{Opened, Received,
 
 -- a port that was asked nothing, and tells not what waits
 abbrev pub new_port : PortTold
-new_port = record { opens = []; waiting = None; taken = []; tries = []; recvs = 0; failed = 0; is_ended = false; greatest = 0 }
+new_port = record { opens = []; waiting = None; taken = []; tries = []; places = []; recvs = 0; failed = 0; is_ended = false; greatest = 0 }
 
 -- a port after a call
 abbrev pub noted : PortEvent → PortTold → PortTold

@@ -11,7 +11,7 @@ use published_map::MapVersion;
 use std::alloc::Global;
 use worlds::ZONE;
 
-/// Names as long as they may be, and as many servers and addresses.
+/// Names as long as they may be, and as many servers; and a pool that all clients have, whose addresses are to follow.
 const LONG: &str = r#"
 [zone]
 apex = "aaaaaaaaaaaaaaaaaaaaaaaaaaaaaaaaaaaaaaaaaaaaaaaaaaaaaaaaaaaaaa"
@@ -30,22 +30,30 @@ ns = [
   "qqqqqqqqqqqqqqqqqqqqqqqqqqqqqqqqqqqqqqqqqqqqqqqqqqqqqqqqqqqqqq",
 ]
 services = ["sssssssssssssssssssssssssssssssssssssssssssssssssssssssssssssss"]
-[[node]]
-name = "P"
-capacity = 1
-pool = true
-aaaa = [
-  "::1", "::2", "::3", "::4", "::5", "::6", "::7", "::8", "::9", "::10",
-  "::11", "::12", "::13", "::14", "::15", "::16", "::17", "::18", "::19", "::20",
-  "::21", "::22", "::23", "::24", "::25", "::26", "::27", "::28", "::29", "::30",
-  "::31", "::32", "::33", "::34", "::35", "::36", "::37", "::38", "::39", "::40",
-]
 [[group]]
 name = "g"
 demand = 1
 pools = ["P"]
 scores = [1]
 prefixes = ["0.0.0.0/0", "::/0"]
+[[node]]
+name = "P"
+capacity = 1
+pool = true
+"#;
+
+/// As many addresses as a pool may have.
+const FORTY: &str = r#"
+aaaa = [
+  "::1", "::2", "::3", "::4", "::5", "::6", "::7", "::8", "::9", "::10",
+  "::11", "::12", "::13", "::14", "::15", "::16", "::17", "::18", "::19", "::20",
+  "::21", "::22", "::23", "::24", "::25", "::26", "::27", "::28", "::29", "::30",
+  "::31", "::32", "::33", "::34", "::35", "::36", "::37", "::38", "::39", "::40",
+]
+"#;
+
+const SIX: &str = r#"
+aaaa = ["::1", "::2", "::3", "::4", "::5", "::6"]
 "#;
 
 fn push(octets: &mut ReplyBuffer, more: &[u8]) {
@@ -99,6 +107,7 @@ type LongRow = (Labels, u8, [u8; 2], Way, Shape);
 
 const SERVICE: Labels = &[(63, b's')];
 
+/// Replies where the pool has forty addresses.
 const LONG_REPLIES: &[LongRow] = &[
     // No negative reply is cut short, whatever size a client tells: no such name, no such record of a service and of the zone.
     (
@@ -127,6 +136,9 @@ const LONG_REPLIES: &[LongRow] = &[
     ),
 ];
 
+// A question of 132 octets, six records of 28, and an OPT record of 35 behind the header.
+const SIX_REPLIES: &[LongRow] = &[(SERVICE, 28, [2, 0], Way::Datagram, (0x85, 0, 347))];
+
 fn is_shaped(version: &MapVersion, row: &LongRow) -> bool
     requires { IsVersion version.now }
 {
@@ -148,9 +160,10 @@ fn are_shaped(version: &MapVersion, rows: &[LongRow]) -> bool
     true
 }
 
-fn are_bounded(alloc: Global) -> bool {
-    match version_of_text(alloc, &[LONG], &[(0, 0, 1)], &[]) {
-        Some(version) => are_shaped(&version, LONG_REPLIES),
+/// Whether the replies of the long names are so where the pool has these addresses.
+fn are_bounded(alloc: Global, addresses: &str, rows: &[LongRow]) -> bool {
+    match version_of_text(alloc, &[LONG, addresses], &[(0, 0, 1)], &[]) {
+        Some(version) => are_shaped(&version, rows),
         None => false,
     }
 }
@@ -158,7 +171,8 @@ fn are_bounded(alloc: Global) -> bool {
 /// The longest replies there are, with their flags, codes and sizes, by the formulas of RFC 1035 and RFC 6891.
 #[test]
 fn bounds_replies(rt: HostRuntime) {
-    assert!(rt; are_bounded(rt.alloc()));
+    assert!(rt; are_bounded(rt.alloc(), FORTY, LONG_REPLIES));
+    assert!(rt; are_bounded(rt.alloc(), SIX, SIX_REPLIES));
 }
 
 /// A pool of twenty addresses, and two groups that are told apart by 24 bits.
