@@ -96,7 +96,10 @@ fn has_number(reply: &[u8], query: &[u8]) -> bool {
 
 /// Whether a try went to the sender of a datagram, from the first version.
 fn is_sent_back(taken: &MemTaken, tried: &MemTry) -> bool {
-    tried.went && tried.serial == 0 && tried.to == taken.packet.from
+    tried.went
+        && tried.serial == 0
+        && tried.to == taken.packet.from
+        && tried.place == taken.place.saturating_add(1)
 }
 
 /// Whether a reply is that of the version for the worker's datagram of that number, and goes to its sender.
