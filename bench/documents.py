@@ -194,19 +194,28 @@ class Tally:
         return self.failed
 
 
+def heads(text):
+    """The name of each function, or of an `impl` None, with all that stands ahead of its clauses and its body."""
+    for at in re.finditer(r"\bfn (\w+)|^(?:unsafe )?impl\b", text, re.M):
+        yield at[1], re.split(r"\{\s*\n|\{\}|;\s*\n|\n +(?:requires|ensures)\b", text[at.start():], maxsplit=1)[0]
+
+
 def waits():
     """Looks up which functions may wait, by the bounds that they take; tests and what they stand on aside."""
     of_tests = {name for name in CRATES if name.endswith("_tests")} | {"trial_runs", "worlds", "world_versions"}
     told = Tally("functions that may wait")
-    signature = re.compile(r"\bfn (\w+)\s*(<[^({]*>)?\(([^{;]*?)(?=\{|;|\n +requires|\n +ensures)")
+    seen = set()
     for path in sorted(TOP.glob("crates/*/src/**/*.rt")):
         crate = path.relative_to(TOP).parts[1]
         if crate in of_tests or "tests" in path.stem or "tests" in path.parts:
             continue
-        for name, bounds, arguments in signature.findall(path.read_text().split("#[cfg(test)]")[0]):
-            if re.search(r"\b(Wait|Threads)\b", bounds + arguments):
+        for name, head in heads(path.read_text().split("#[cfg(test)]")[0]):
+            seen.add((crate, name))
+            if re.search(r"\b(Wait|Threads)\b", head):
                 may = crate in MAY_WAIT or crate == "map_cell" and name in MAY_WAIT_IN_THE_CELL
-                told.take(may, f"{path.relative_to(TOP)}: {name} may wait")
+                told.take(may, f"{path.relative_to(TOP)}: {name or 'an impl'} may wait")
+    for answers in (("map_cell", "look"), ("name_workers", "answer"), ("name_workers", "serve_port"), ("tcp_lane", "serve_streams")):
+        told.take(answers in seen, f"{'::'.join(answers)}: it was not looked at")
     return told.end()
 
 
