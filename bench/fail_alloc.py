@@ -40,6 +40,7 @@ FIRST = b"glb map 2\nplace g1 A 8\nplace g2 A 2\nplace g2 B 5\nfull g2 A A\nfull
 GOOD = {
     "check": b"good\n",
     "map": FIRST,
+    "places": b"place 0 10\nplace 1 5\nunplaced 1\n",
     "answer": b"answer 123485000001000100000000037777770363646e076578616d706c650000010001c00c00010001000000140004c0000201\n",
     "repair": b"glb map 2\nplace g1 A 6\nplace g2 A 3\nplace g2 B 5\nfull g2 A A\nend\n",
     "large": None,
@@ -47,6 +48,7 @@ GOOD = {
 WORDS = {
     "check": ["check", "tree.toml", "tree.map"],
     "map": ["map", "tree.toml"],
+    "places": ["places", "tree.toml"],
     "answer": ["answer", "tree.toml", "tree.map", "198.51.100.7", QUERY.hex()],
     "repair": ["repair", "tree.toml", "tree.map", "tree.changes"],
     "large": ["large", "4"],

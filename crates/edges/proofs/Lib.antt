@@ -1,3 +1,4 @@
+pub mod LimitsAre
 pub mod Ports
 pub mod Puts
 pub mod Leasts

@@ -30,9 +30,13 @@ pub record IsChangedAt {A : Type 0} (R : A → A → Type 0) (i : ℕ) (before a
 abbrev pub IsKeeping : List ℕ → Bool → Room → Room → Type 0
 IsKeeping reply is_kept room room' = MatchBool is_kept (room'.going.items ≡ room.going.items ++ reply) (room'.going.items ≡ room.going.items) × (room'.coming.items ≡ room.coming.items)
 
+-- no message is whole, and no length is too great
+abbrev pub HasNothing : Room → Type 0
+HasNothing room = HasNoMessage room.coming.items × (IsOverlong room.coming.items → ⊥)
+
 -- what stood at the front of what came was moved to the front of a buffer: whole messages, or the length that is too great for one
 abbrev pub IsHandingOver : List ℕ → List ℕ → Batch → Room → Room → Type 0
-IsHandingOver buffer buffer' batch room room' = (batch.len ≤ length buffer) × (length buffer' ≡ length buffer) × (room.coming.items ≡ take batch.len buffer' ++ room'.coming.items) × (room'.going.items ≡ room.going.items) × (batch.is_faulty ≡ false → AreWhole MOST_MESSAGES (take batch.len buffer')) × (batch.is_faulty ≡ true → (batch.len ≡ 2) × IsOverlong room.coming.items) × (LARGEST_FRAME ≤ length buffer → batch.len ≡ 0 → HasNoMessage room.coming.items)
+IsHandingOver buffer buffer' batch room room' = (batch.len ≤ length buffer) × (length buffer' ≡ length buffer) × (room.coming.items ≡ take batch.len buffer' ++ room'.coming.items) × (room'.going.items ≡ room.going.items) × (batch.is_faulty ≡ false → AreWhole MOST_MESSAGES (take batch.len buffer')) × (batch.is_faulty ≡ true → (batch.len ≡ 2) × IsOverlong room.coming.items) × (LARGEST_FRAME ≤ length buffer → batch.len ≡ 0 → HasNothing room)
 
 -- a room without octets
 abbrev pub IsEmpty : Room → Type 0
@@ -44,4 +48,4 @@ IsDue room = (room.going.items ≡ []) × (HasNoMessage room.coming.items → Is
 
 -- a reply is to go, or nothing can be handed over
 abbrev pub IsNotDue : Room → Type 0
-IsNotDue room = room.going.items ≡ [] → HasNoMessage room.coming.items × (IsOverlong room.coming.items → ⊥)
+IsNotDue room = room.going.items ≡ [] → HasNothing room

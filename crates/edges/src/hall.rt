@@ -5,9 +5,10 @@ ghost use Rattle.outside.specs.Faults.{raised};
 ghost use Rattle.outside.specs.Streams.{IsWithin};
 ghost use Rattle.edges.specs.Halls.{AreAllChanged, AreEmpty, AreFree, AreNumberedUpTo, EndsBehind, GoesOnBehind, IsAdvance, IsGoneOn, IsHeard, IsPlaceChangedAt, IsSameOrEnded, IsSettled};
 ghost use Rattle.edges.specs.Places.{rested};
-ghost use Rattle.edges.specs.Rooms.{IsChangedAt, IsKeeping};
+ghost use Rattle.edges.specs.Rooms.{HasNothing, IsChangedAt, IsKeeping};
 ghost use Rattle.edges.specs.declared.room.Room.{Room};
 ghost use Rattle.edges.specs.declared.room.TheConstants.{LARGEST_GOING};
+ghost use Rattle.tcp_frames.specs.declared.front.TheConstants.{LARGEST_FRAME};
 
 use crate::ears::Ears;
 use crate::places::{Wanted, least, next_talk};
@@ -191,6 +192,8 @@ impl Hall {
         ensures read { self.new.is_read ≡ true ⊎ (self.new ≡ self.old) × (self.old.current ≡ None) }
         ensures ended { EndsBehind buffer.new result self.old.current self.old.seats.items self.new.seats.items }
         ensures goes_on { GoesOnBehind buffer.new result self.old.seats.items self.new.seats.items }
+        // Where something whole has come it is handed over.
+        ensures due { result ≡ Reading.Closed → self.old.is_read ≡ false → LARGEST_FRAME ≤ length buffer.old → (i : ℕ) (room : Room) → self.old.current ≡ Some i → slice_get self.old.rooms.items i ≡ Some room → HasNothing room }
     {
         let Some(i) = self.current else {
             return Reading::Closed;

@@ -94,7 +94,7 @@ impl Room {
 /// Hands over what stands at the front of what has come to the room of a place, if there is such a place.
 pub(crate) fn hand_over_at(rooms: &mut [Room], i: usize, buffer: &mut [u8]) -> Option<Batch>
     ensures some { IfSome result (λ batch. IsChangedAt (IsHandingOver buffer.old buffer.new batch) i rooms.old rooms.new) }
-    ensures none { IfNone result (rooms.new ≡ rooms.old) }
+    ensures none { IfNone result ((rooms.new ≡ rooms.old) × (length rooms.old ≤ i)) }
 {
     if i >= rooms.len() {
         return None;

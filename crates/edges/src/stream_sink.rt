@@ -1,5 +1,5 @@
 //! A writer of std, as a sink.
-ghost use Rattle.std.specs.Prelude.{◌≡◌, ◌≢◌, ◌≤◌, Some};
+ghost use Rattle.std.specs.Prelude.{◌≡◌, ◌≢◌, ◌≤◌, ◌++◌, ℕ, Some, take};
 ghost use Rattle.std.specs.Io.KnownBytes.{Appends};
 ghost use Rattle.outside.specs.Faults.{BothTell, Rose};
 ghost use Rattle.outside.specs.Sink.{IsPut};
@@ -50,7 +50,9 @@ impl<W: Write> Sink for StreamSink<W> {
         ensures later { self.old.faults ≤ self.new.faults }
         ensures cause { result ≡ Put.Failed → Rose self.old.faults self.new.faults }
         ensures stays { result ≢ Put.Failed → self.new.faults ≡ self.old.faults }
-        // A writer that tells its bytes has got the whole piece, once, and nothing else.
+        // A writer that tells its bytes has got what is noted, once, and nothing else: a beginning of the piece, also where
+        // it failed, and the whole piece where not.
+        ensures took { (k : ℕ) × (self.new.written.bytes ≡ self.old.written.bytes ++ take k piece.now) × Appends (W.contents self.old.stream) (W.contents self.new.stream) (take k piece.now) }
         ensures done { result ≡ Put.Done → Appends (W.contents self.old.stream) (W.contents self.new.stream) piece.now }
     {
         let (taken, put) = put_whole(&mut self.stream, piece);

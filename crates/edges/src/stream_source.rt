@@ -36,22 +36,6 @@ impl<T: io::Read> StreamSource<T> {
             heard: Heard::new(),
         }
     }
-
-    /// The stream.
-    pub(crate) fn stream(&self) -> &T
-        ensures { result.now ≡ self.now.stream }
-    {
-        &self.stream
-    }
-
-    /// Goes on over another stream.
-    pub(crate) fn go_on_over(&mut self, stream: T)
-    where
-        T: Drop,
-        ensures { self.new ≡ record self.old { stream = stream } }
-    {
-        self.stream = stream;
-    }
 }
 
 impl<T: io::Read> Source for StreamSource<T> {

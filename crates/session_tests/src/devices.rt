@@ -32,6 +32,11 @@ const COMMANDS: &[Command] = &[
         pieces: &[REGION_MAP],
     },
     Command {
+        words: &["glb", "places", "t"],
+        files: &[("t", Topology(REGION))],
+        pieces: &["place 0 10\nplace 1 5\nunplaced 1\n"],
+    },
+    Command {
         words: &[
             "glb",
             "answer",

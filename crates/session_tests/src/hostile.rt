@@ -265,8 +265,53 @@ fn lines_of_the_feed(rt: HostRuntime) -> Result<(), Fail> {
 
 const CHANGES: &[u8] = b"demand g1 6\ncapacity A 9\n";
 
-const FEED: &[u8] =
-    b"demand g2 4\ncapacity R 12\ncommit\nask 198.51.100.7 00\nshow\ncommit\nstop\n";
+/// A feed, line by line, with what is written of each line.
+const FEED: &[FeedLine] = &[
+    FeedLine {
+        octets: b"demand g2 4\n",
+        times: 1,
+        text: "",
+    },
+    FeedLine {
+        octets: b"capacity R 12\n",
+        times: 1,
+        text: "",
+    },
+    FeedLine {
+        octets: b"commit\n",
+        times: 1,
+        text: "published 1\n",
+    },
+    FeedLine {
+        octets: b"ask 198.51.100.7 00\n",
+        times: 1,
+        text: "answer 1 -\n",
+    },
+    // Twelve units are at A and B, so that A and R are full.
+    FeedLine {
+        octets: b"show\n",
+        times: 1,
+        text: "show 1 placed 12 unplaced 0 full 2\n",
+    },
+    FeedLine {
+        octets: b"commit\n",
+        times: 1,
+        text: "published 1\n",
+    },
+    FeedLine {
+        octets: b"stop\n",
+        times: 1,
+        text: "",
+    },
+];
+
+fn whole_feed(alloc: Global) -> Result<Vec<u8>, NoMemory> {
+    let mut feed = Vec::new(alloc);
+    for line in FEED {
+        feed.extend_from_slice(line.octets)?;
+    }
+    Ok(feed)
+}
 
 /// What an octet is changed to, in turn.
 const OTHERS: &[u8] = &[0, b'\n', b' ', b'"', b'9', b'=', 0x80, 0xff];
@@ -287,12 +332,6 @@ fn harm_text(text: &mut Vec<u8>, at: usize, harm: Harm) {
             }
         }
     }
-}
-
-fn harmed(alloc: Global, text: &[u8], at: usize, harm: Harm) -> Result<Vec<u8>, NoMemory> {
-    let mut text = Vec::from_slice(alloc, text)?;
-    harm_text(&mut text, at, harm);
-    Ok(text)
 }
 
 /// Whether a status is one that any files may lead to, and the text one of a refusal exactly where it is that.
@@ -448,15 +487,60 @@ fn is_control_line(line: &[u8]) -> bool {
         || line.starts_with(b"show ")
 }
 
-/// Whether a session over a harmed feed ends well and puts lines of control text.
+fn count_lines(text: &[u8]) -> usize {
+    text.iter().filter(|octet| **octet == b'\n').count()
+}
+
+/// Whether a text is what is written of the lines of the feed that end before a place, and at most one line more.
+fn is_said_before(text: &[u8], at: usize) -> bool {
+    let mut rest = text;
+    let mut end = 0usize;
+    for line in FEED {
+        end = end.saturating_add(line.octets.len());
+        if end <= at {
+            if !rest.starts_with(line.text.as_bytes()) {
+                return false;
+            }
+            rest = rest.get(line.text.len()..).unwrap_or(&[]);
+        }
+    }
+    count_lines(rest) <= 1
+}
+
+/// Of how many lines of the feed something is written, whatever octet stands at a place: those that don't have it, nor
+/// stand right behind it.
+fn count_untouched(at: usize) -> usize {
+    let mut begin = 0usize;
+    let mut count = 0usize;
+    for line in FEED {
+        let end = begin.saturating_add(line.octets.len());
+        let is_touched = begin <= at.saturating_add(1) && at < end;
+        if !line.text.is_empty() && !is_touched {
+            count = count.saturating_add(1);
+        }
+        begin = end;
+    }
+    count
+}
+
+/// Whether a text is one that may come of the feed, harmed at that place.
+fn may_be_said(text: &[u8], at: usize, harm: Harm) -> bool {
+    match harm {
+        Harm::Cut => is_said_before(text, at),
+        Harm::Change(_) => count_untouched(at) <= count_lines(text),
+    }
+}
+
+/// Whether a session over the feed, harmed at that place, ends well and puts lines of control text that may be.
 fn ends_well<R: Threads + Wait + Sync + AllocGlobal>(
     rt: &R,
     at: usize,
     harm: Harm,
 ) -> Result<bool, NoMemory> {
-    let feed = harmed(rt.alloc(), FEED, at, harm)?;
+    let mut feed = whole_feed(rt.alloc())?;
+    harm_text(&mut feed, at, harm);
     let came = session_over(rt, feed.as_slice())?;
-    Ok(says_lines(&came))
+    Ok(says_lines(&came) && may_be_said(came.text(), at, harm))
 }
 
 fn assert_feed<R: Abort + Threads + Wait + Sync + AllocGlobal>(
@@ -490,10 +574,12 @@ fn assert_changed_feeds<R: Abort + Threads + Wait + Sync + AllocGlobal>(
 
 #[test]
 fn cut_feeds(rt: HostRuntime) -> Result<(), Fail> {
-    assert_cut_feeds(&rt, FEED.len())
+    let length = whole_feed(rt.alloc())?.len();
+    assert_cut_feeds(&rt, length)
 }
 
 #[test]
 fn changed_feeds(rt: HostRuntime) -> Result<(), Fail> {
-    assert_changed_feeds(&rt, FEED.len())
+    let length = whole_feed(rt.alloc())?.len();
+    assert_changed_feeds(&rt, length)
 }

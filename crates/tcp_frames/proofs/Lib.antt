@@ -1,3 +1,4 @@
+pub mod LimitsAre
 pub mod Splits
 pub mod Batches
 pub mod Rows

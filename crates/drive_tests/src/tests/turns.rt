@@ -20,7 +20,7 @@ use std::test::Fail;
 use topology_text::read_topology;
 use worlds::EXAMPLE_TREE;
 
-/// A client of the first group, all of whose units are at one pool: no draw changes its replies.
+/// A client of the first group, all of whose units are at one pool in each map: no draw changes its replies.
 const FIRST_CLIENT: Peer = Peer {
     addr: Addr::V4(0xcb00_7109),
     port: 4053,
@@ -97,7 +97,7 @@ fn turns_once<J: Naming>(
     }
 }
 
-/// Whether a commit publishes: the second group asks for four units after an even number, and for eight after an odd one.
+/// Whether a commit publishes: the pool where the first group was takes nobody after an even number, and ten units after an odd one, so the group goes to the other pool and comes back.
 fn publishes<J: Naming, R: Wait>(
     rt: &R,
     mapper: &mut Mapper<J>,
@@ -108,9 +108,9 @@ fn publishes<J: Naming, R: Wait>(
     ensures { mapper.new.newest.serial ≤ mapper.old.newest.serial + 1 }
 {
     batch.clear();
-    let line = Line::Demand {
-        group: b"g2",
-        number: if number % 2 == 0 { 4 } else { 8 },
+    let line = Line::Capacity {
+        node: b"A",
+        number: if number % 2 == 0 { 0 } else { 10 },
     };
     if batch.add(mapper.topology(), &line).is_err() {
         return false;
