@@ -17,10 +17,12 @@ measure() {
     python3 "$here/generate.py" "$1" "$2" "$3" "$4" "$work/topology" "$work/map" >"$work/proposals"
     printf '%6d groups, %4d pools, %d levels, %3d %%: topology %3d MB, map %3d MB; ' \
         "$1" "$2" "$3" "$4" "$(megabytes "$work/topology")" "$(megabytes "$work/map")"
-    printf 'bare TOML %s; ' "$(python3 "$here/measure.py" 3 0 "$bare" "$work/topology")"
+    local by_bare reading checking
+    by_bare=$(python3 "$here/measure.py" 3 0 "$bare" "$work/topology")
     # a map of no octets is refused, once the topology is read
-    printf 'reading %s; ' "$(python3 "$here/measure.py" 3 2 "$glb" check "$work/topology" "$work/nothing")"
-    printf 'check %s\n' "$(python3 "$here/measure.py" 3 0 "$glb" check "$work/topology" "$work/map")"
+    reading=$(python3 "$here/measure.py" 3 2 "$glb" check "$work/topology" "$work/nothing")
+    checking=$(python3 "$here/measure.py" 3 0 "$glb" check "$work/topology" "$work/map")
+    printf 'bare TOML %s; reading %s; check %s\n' "$by_bare" "$reading" "$checking"
 }
 
 for groups in ${1:-1024 8192 65536}; do

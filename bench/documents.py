@@ -2,7 +2,7 @@
 """Runs each example that the documents show, looks up each path, name and clause that they cite, and which functions may wait.
 
     documents.py             all
-    documents.py examples    each `$ glb ..`, and what stands below it
+    documents.py examples    each `$ glb ..`, and what stands below it, and README's session
     documents.py names       each path, word and clause in backquotes
     documents.py waits       each function that takes a handle by which it may wait or start threads
 
@@ -56,9 +56,26 @@ def examples_of(path):
     return shown
 
 
+def run_session():
+    """Runs README's server session, in a folder that looks like the top, and compares what it says with what stands behind
+    its commands. It wants dig."""
+    block = re.search(r"(?:^    .*\n)*?^    mkfifo feed\n(?:^    .*\n)*", (TOP / "README.md").read_text(), re.M)[0]
+    wanted = [said for said in re.split(r", |\n", "\n".join(re.findall(r" # (.*)$", block, re.M))) if said != "the server's status"]
+    with tempfile.TemporaryDirectory() as work:
+        os.makedirs(f"{work}/crates/glb_program/out")
+        os.symlink(GLB, f"{work}/crates/glb_program/out/glb_program")
+        os.symlink(TOP / "examples", f"{work}/examples")
+        done = subprocess.run(["bash", "-c", block], cwd=work, capture_output=True, text=True, timeout=60)
+    if done.stdout.splitlines() == wanted:
+        return 0
+    print(f"README.md: the session writes\n{done.stdout}{done.stderr}in place of\n{wanted}")
+    return 1
+
+
 def run_examples():
-    """Runs the examples in a folder that has the example files, by their names alone and under examples/."""
-    failed = count = 0
+    """Runs the examples in a folder that has the example files, by their names alone and under examples/, and README's
+    session."""
+    failed, count = run_session(), 1
     with tempfile.TemporaryDirectory() as work:
         shutil.copytree(TOP / "examples", f"{work}/examples")
         for file in (TOP / "examples").iterdir():

@@ -232,7 +232,7 @@ def main():
     if missing:
         sys.exit(f"not installed: {' '.join(missing)}")
     if "GLB" not in os.environ:
-        subprocess.run(["rt", "run", "--", "check", *FILES], cwd=TOP / "crates/glb_program", capture_output=True)
+        subprocess.run(["rt", "run", "--", "check", *FILES], cwd=TOP / "crates/glb_program", capture_output=True, check=True)
     while_served(FILES, ask_all)
     while_served(EMPTY, ask_empty)
     with tempfile.TemporaryDirectory() as folder:

@@ -190,6 +190,12 @@ def forge(host, port, count):
             raw.sendto(ip + udp, (host, 0))
 
 
+def is_there(program):
+    """Whether a program is installed. One that is not counts as failed."""
+    expect(f"{program} is installed", shutil.which(program) is not None, True)
+    return shutil.which(program) is not None
+
+
 def raw():
     for host in HOSTS:
         with Server(FILES[0], host) as server:
@@ -199,6 +205,8 @@ def raw():
                 expect(f"{what} @{host}", got, wanted)
                 if reply is not None:
                     expect(f"{what} @{host}: ID, QR and counts", (reply[:2], reply[2] & 0x80, len(reply) > 12 or reply[4:] == bytes(8)), (b"\x12\x34", 0x80, True))
+            if host == "127.0.0.1" and os.geteuid() != 0:
+                print("no forged datagrams: they want root")
             if host == "127.0.0.1" and os.geteuid() == 0:
                 # each of two workers gets more than eight of them
                 forge(host, server.port, 200)
@@ -225,6 +233,12 @@ class Asking(threading.Thread):
             self.replies.append((start, time.monotonic(), reply and frozenset(addresses(reply))))
 
 
+def dig_short(host, port):
+    """The addresses that dig gets."""
+    words = ["dig", "+short", "+tries=1", "+time=2", f"@{host}", "-p", str(port), "www.cdn.example", "A"]
+    return set(subprocess.run(words, capture_output=True, text=True).stdout.split())
+
+
 def feed():
     for host in HOSTS:
         with Server(FILES[0], host) as server:
@@ -238,7 +252,9 @@ def feed():
                 expect("published", server.line(), f"published {serial}")
                 start = time.monotonic()
                 time.sleep(0.02)
-                spans.append((start, time.monotonic(), B if serial % 2 else A))
+                wanted = B if serial % 2 else A
+                expect(f"dig behind map {serial} @{host}", dig_short(host, server.port), {wanted})
+                spans.append((start, time.monotonic(), wanted))
             asking.ends = True
             asking.join()
             judge_replies(host, asking.replies, spans)
@@ -387,8 +403,7 @@ def long():
                 ask_again(host, server.port)
         with Server(long_topology(work), "127.0.0.1") as server:
             for name, start in [("unbound", start_unbound), ("pdns_recursor", start_recursor)]:
-                if shutil.which(name) is None:
-                    print(f"{name} is not installed")
+                if not is_there(name):
                     continue
                 port = free_port()
                 behind_long(name, start(work, port, server.port, APEX), port)
@@ -463,8 +478,7 @@ def tcp():
             ask_long_over_tcp(host, server.port)
     with tempfile.TemporaryDirectory() as work, Server(long_topology(work), "127.0.0.1", tcp=True) as server:
         for name, start, more in [("unbound", start_unbound, ""), ("unbound with TCP alone", start_unbound, "tcp-upstream: yes"), ("pdns_recursor", start_recursor, "")]:
-            if shutil.which(name.split()[0]) is None:
-                print(f"{name.split()[0]} is not installed")
+            if not is_there(name.split()[0]):
                 continue
             port = free_port()
             words = start(work, port, server.port, APEX)
@@ -571,8 +585,7 @@ def behind(name, words, between, port):
 def resolvers():
     with Server(FILES[0], "127.0.0.1") as server, tempfile.TemporaryDirectory() as work:
         for name, start in [("unbound", start_unbound), ("pdns_recursor", start_recursor)]:
-            if shutil.which(name) is None:
-                print(f"{name} is not installed")
+            if not is_there(name):
                 continue
             between = Between(server.port)
             between.start()

@@ -4,12 +4,25 @@
     large_world.py N            the topology on standard output
     large_world.py N --feed     the feed
     large_world.py N --sums     length and FNV-1a checksum of both, as the table of big_world's test has them
+    large_world.py N --compare  runs `glb large N`, and compares its lines with what a server makes of both texts
+
+Of the server every map is judged and each reply is made by second.py; only the number of proposals is not compared. GLB
+names the program, the built one if it is not set.
 
 Numbers follow on N by x -> 6364136223846793005 x + 1442695040888963407 modulo 2^64; a draw below m is the next
 number, its upper 31 bits modulo m.
 """
+import os
+import subprocess
 import sys
+import tempfile
+from pathlib import Path
 
+import second
+
+TOP = Path(__file__).resolve().parent.parent
+GLB = os.environ.get("GLB", str(TOP / "crates/glb_program/out/glb_program"))
+QUERY = bytes.fromhex("000000000001000000000000037777770363646e076578616d706c650000010001")
 ZONE = """[zone]
 apex = "cdn.example"
 expire = 86400
@@ -77,7 +90,36 @@ def fnv(text):
     return h
 
 
+def summary(n):
+    """The lines that `large` is to write, without the proposals', or what is wrong."""
+    topology, feed = world(n)
+    feed = feed.replace("stop\n", "show\nstop\n").encode()
+    with tempfile.TemporaryDirectory() as work:
+        Path(work, "t").write_text(topology)
+        done = subprocess.run([GLB, "serve", f"{work}/t", "--listen", "127.0.0.1:0"], input=feed, capture_output=True)
+    read = second.Topology(topology.encode())
+    maps = [second.Map(read, text + b"end\n") for text in done.stderr.split(b"end\n")[:-1]]
+    said, are_good = second.control_text(read, feed, maps)
+    if (done.returncode, done.stdout.decode(), are_good) != (0, said, True):
+        return [f"the server: status {done.returncode}, {done.stdout.decode()[-200:]}, maps good: {are_good}"]
+    _, _, _, placed, _, unplaced, _, full = said.splitlines()[-1].split()
+    clients = ["192.0.2.9", *(f"100.{64 + i // 256}.{i % 256}.9" for i in range(1, n))]
+    codes = [second.replies(read, maps[-1], second.read_address(client), QUERY).at(0)[3] & 15 for client in clients]
+    counts = [("large", n), ("nodes", topology.count("[[node]]")), ("maps", len(maps)), ("good", len(maps)), ("placed", placed), ("unplaced", unplaced), ("full", full)]
+    return [f"{word} {number}" for word, number in [*counts, ("answered", codes.count(0)), ("servfail", codes.count(2))]]
+
+
+def compare(n):
+    wanted = summary(n)
+    done = subprocess.run([GLB, "large", str(n)], capture_output=True, text=True)
+    got = [line for line in done.stdout.splitlines() if not line.startswith("proposals ")]
+    print(f"large {n}: {'the same' if got == wanted else f'{got} in place of {wanted}'}")
+    return got != wanted or done.returncode != 0
+
+
 def main():
+    if "--compare" in sys.argv:
+        sys.exit(compare(int(sys.argv[1])))
     topology, feed = world(int(sys.argv[1]))
     if "--sums" in sys.argv:
         print(f"({sys.argv[1]}, {len(topology)}, {fnv(topology):#018x}, {len(feed)}, {fnv(feed):#018x}),")

@@ -12,14 +12,15 @@ source "$(dirname "$0")/set-up.sh"
 
 # groups, levels, per cent of the demand that the roots hold
 measure() {
-    local pools
+    local pools mapping checking
     pools=$(python3 -c "print(round($3 / 0.95 ** ($2 - 1)))")
     python3 "$here/generate.py" "$1" 2048 "$2" "$pools" "$work/topology" >/dev/null
     "$glb" map "$work/topology" >"$work/map"
     printf '%6d groups, %d levels, %3d %% at the roots: topology %3d MB, map %3d MB; ' \
         "$1" "$2" "$3" "$(megabytes "$work/topology")" "$(megabytes "$work/map")"
-    printf 'map %s; ' "$(python3 "$here/measure.py" 3 0 "$glb" map "$work/topology")"
-    printf 'check %s\n' "$(python3 "$here/measure.py" 3 0 "$glb" check "$work/topology" "$work/map")"
+    mapping=$(python3 "$here/measure.py" 3 0 "$glb" map "$work/topology")
+    checking=$(python3 "$here/measure.py" 3 0 "$glb" check "$work/topology" "$work/map")
+    printf 'map %s; check %s\n' "$mapping" "$checking"
 }
 
 for groups in ${1:-1024 16384 65536}; do

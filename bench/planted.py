@@ -88,6 +88,8 @@ def outcome_of(functions, found):
             if path.split("::")[-1] == function or f"::fn::{function}::" in path
         ]
         answers += [answer for path, answer in named if f"::{module}::" in path] or [answer for _, answer in named]
+    if not answers:
+        return None
     if all(answer in ("no holes", "proved") for answer in answers):
         return "let through"
     by_others = r"it (calls|passes the block) .*, which (is|are) not proved"

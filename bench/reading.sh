@@ -9,20 +9,25 @@
 source "$(dirname "$0")/set-up.sh"
 source "$here/bare.sh"
 
+# of a program that ends with this status
 instructions() {
-    profile "$@" || true
+    local wanted=$1 status=0
+    rm -f "$work/profile"
+    profile "${@:2}" || status=$?
+    [ "$status" = "$wanted" ]
     awk '/^(summary|totals):/ { print $2; exit }' "$work/profile"
 }
 
 touch "$work/nothing"
 for pools in 4096 8192; do
     python3 "$here/generate.py" "${1:-65536}" "$pools" 1 150 "$work/topology" >/dev/null
-    bare_count=$(instructions "$bare" "$work/topology")
-    glb_count=$(instructions "$glb" check "$work/topology" "$work/nothing")
+    bare_count=$(instructions 0 "$bare" "$work/topology")
+    glb_count=$(instructions 2 "$glb" check "$work/topology" "$work/nothing")
     printf '%d groups, %d pools: bare %d, glb %d instructions: ratio %s\n' "${1:-65536}" "$pools" \
         "$bare_count" "$glb_count" "$(python3 -c "print(round($glb_count / $bare_count, 2))")"
     for turn in 1 2 3 4 5; do
-        printf '    bare %s; glb %s\n' "$(python3 "$here/measure.py" 1 0 "$bare" "$work/topology")" \
-            "$(python3 "$here/measure.py" 1 2 "$glb" check "$work/topology" "$work/nothing")"
+        by_bare=$(python3 "$here/measure.py" 1 0 "$bare" "$work/topology")
+        by_glb=$(python3 "$here/measure.py" 1 2 "$glb" check "$work/topology" "$work/nothing")
+        printf '    bare %s; glb %s\n' "$by_bare" "$by_glb"
     done
 done

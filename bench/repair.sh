@@ -14,20 +14,21 @@ least() { python3 "$here/measure.py" 3 0 "$@"; }
 
 # groups, per cent of the demand that the roots hold
 measure() {
-    local pools count lines
+    local pools count lines checking repairing mapping
     pools=$(python3 -c "print(round($2 / 0.95 ** 7))")
     python3 "$here/generate.py" "$1" 2048 8 "$pools" "$work/topology" >/dev/null
     "$glb" map "$work/topology" >"$work/map"
-    printf '%6d groups, %3d %% at the roots: check of the map %s\n' "$1" "$2" "$(least "$glb" check "$work/topology" "$work/map")"
+    checking=$(least "$glb" check "$work/topology" "$work/map")
+    printf '%6d groups, %3d %% at the roots: check of the map %s\n' "$1" "$2" "$checking"
     for count in 1 4 64 4096; do
         if [ "$count" -gt "$1" ]; then continue; fi
         python3 "$here/changes.py" "$work/topology" "$count" "$work/changes" "$work/changed"
         "$glb" repair "$work/topology" "$work/map" "$work/changes" >"$work/repaired"
         [ "$("$glb" check "$work/changed" "$work/repaired")" = good ]
         lines=$(diff "$work/map" "$work/repaired" | grep -c '^[<>]' || true)
-        printf '    %4d changes: repair %s; map %s; %d lines differ\n' "$count" \
-            "$(least "$glb" repair "$work/topology" "$work/map" "$work/changes")" \
-            "$(least "$glb" map "$work/changed")" "$lines"
+        repairing=$(least "$glb" repair "$work/topology" "$work/map" "$work/changes")
+        mapping=$(least "$glb" map "$work/changed")
+        printf '    %4d changes: repair %s; map %s; %d lines differ\n' "$count" "$repairing" "$mapping" "$lines"
     done
 }
 

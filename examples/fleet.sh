@@ -219,11 +219,12 @@ follower() {
 }
 
 # The leading member of etcd is killed in the middle of a hundred appends by four writers.
-member_dies() { sleep 1; led=$(leader); kill -9 "$(cat "$work/etcd$led.pid")"; }
+member_dies() { sleep 1; led=$(leader); kill -9 "$(cat "$work/etcd$led.pid")" && killed=1; }
 member() {
-    local begun
+    local begun killed=0
     begun=$(now)
     write 4 25 member_dies
+    ok 'a leading member was killed' [ "$killed" = 1 ]
     echo "100 appends by four writers, the leading member killed amid them: $(since "$begun") ms"
     ok 'all agree with two members' agreed
     start_member "$led"
@@ -269,7 +270,7 @@ base() {
     ok 'and answers meanwhile' answered 3
     put_base 3
     ok 'all agree behind the base' agreed
-    tool 1 glb-append --cut
+    ok 'what stands before it is cut away' tool 1 glb-append --cut
     ok 'and go on from it' agreed
     ok 'with serials of their own' [ "$(grep -c 'serial 3,' "$work/fleet")" = 3 ]
 }
@@ -315,7 +316,7 @@ early() {
     put_base 1 2
     append 1 >/dev/null
     for host in 1 2; do ok "host$host goes on" until_line "$host" ': there'; done
-    tool 1 glb-append --cut
+    ok 'what stands before the base is cut away' tool 1 glb-append --cut
     : >"$work/follow3.log"
     rm "$work/held3"
     ok 'its follower says what is wrong' bash -c "for _ in \$(seq 100); do grep -q 'is not the newest base' $work/follow3.log && exit 0; sleep 0.1; done; exit 1"

@@ -74,6 +74,10 @@ class Server:
             os.execv(GLB, words)
         os.close(feed)
 
+    def holds(self, descriptors):
+        """Whether it has all of these open."""
+        return all(os.path.exists(f"/proc/{self.pid}/fd/{fd}") for fd in descriptors)
+
     def kill(self):
         os.kill(self.pid, signal.SIGKILL)
         return self.end()
@@ -83,6 +87,14 @@ class Server:
             os.close(self.feed)
             self.feed = None
         return os.waitstatus_to_exitcode(os.waitpid(self.pid, 0)[1])
+
+
+def waiting_at(one):
+    """The datagram that waits at a socket, if there is one."""
+    try:
+        return one.recv(4096, socket.MSG_DONTWAIT)
+    except BlockingIOError:
+        return None
 
 
 def client(port, at="127.0.0.1"):
@@ -160,8 +172,11 @@ def main():
     handed, port = datagrams(2)
     with open("/dev/null", "rb") as file:
         server = Server([file, *other, handed[0], listener(port), handed[1]], port)
+        client(elsewhere).send(QUERY)
         expect("two sockets among others", ask(port), 64)
+        expect("all others are still open", server.holds(range(3, 8)), True)
         server.kill()
+    expect("what came elsewhere was left there", waiting_at(other[0]), QUERY)
     probe, port = datagrams(1)
     probe[0].close()
     server = Server(other, port)

@@ -166,6 +166,8 @@ if command -v promtool >/dev/null; then
     "$(command -v promtool)" check rules examples/glb-alerts.yml >"$work/rules" 2>&1
     expect 0 3 bash -c "grep -oE '[0-9]+ rules found' $work/rules | cut -d' ' -f1"
     expect 0 SUCCESS bash -c 'promtool test rules examples/glb-alerts-test.yml 2>&1 | grep -oE "SUCCESS|FAILED"'
+else
+    skipped=", without the alerts"
 fi
 if [ -n "${GLB:-}" ] && command -v dpkg-deb >/dev/null && command -v strip >/dev/null; then
     DEBEMAIL=ops@cdn.example tools/deb.sh 1.0 "$work" >/dev/null
@@ -174,6 +176,8 @@ if [ -n "${GLB:-}" ] && command -v dpkg-deb >/dev/null && command -v strip >/dev
     dpkg-deb -x "$work/glb_1.0_amd64.deb" "$work/package"
     expect 0 "$(cat examples/tree.map)" "$work/package/usr/bin/glb" map examples/tree.toml
     expect 1 '' grep -rl /usr/local "$work/package/usr/lib/systemd"
+else
+    skipped="${skipped:-}, without the package"
 fi
-echo "$passed passed, $failed failed"
+echo "$passed passed, $failed failed${skipped:-}"
 [ "$failed" = 0 ]
