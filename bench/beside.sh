@@ -17,9 +17,12 @@ ratio() { python3 -c "print(round($2 / $1, 3))"; }
 
 # instructions of mapping by a program, whose map is $work/FILE
 mapping() {
+    local run finish
     profile "$1" map "$work/topology"
     tail -n +2 "$work/out" >"$work/$2"
-    echo $(($(of '^deferred_accept::running::run') + $(of '^deferred_accept::finishing::finish')))
+    run=$(of '^deferred_accept::running::run')
+    finish=$(of '^deferred_accept::finishing::finish')
+    echo $((run + finish))
 }
 
 for levels in 5 8; do
@@ -29,14 +32,18 @@ for levels in 5 8; do
         old=$(mapping "$other" old)
         new=$(mapping "$glb" new)
         cmp "$work/old" "$work/new"
-        printf 'map, %d groups, paths of %d, %3d %% at the roots: %d and %d, ratio %s\n' "${1:-4096}" "$levels" "$percent" "$old" "$new" "$(ratio "$old" "$new")"
+        by=$(ratio "$old" "$new")
+        printf 'map, %d groups, paths of %d, %3d %% at the roots: %d and %d, ratio %s\n' "${1:-4096}" "$levels" "$percent" "$old" "$new" "$by"
     done
 done
 
 # instructions of a reply by a program, over a thousand questions of the feed
 reply() {
+    local sum count
     profile "$1" serve "$work/topology" --listen 127.0.0.1:0 <"$work/feed"
-    echo $(($(of '^answer_core::replying::reply') / $(calls '^answer_core::replying::reply')))
+    sum=$(of '^answer_core::replying::reply')
+    count=$(calls '^answer_core::replying::reply')
+    echo $((sum / count))
 }
 
 for subnets in 0 1; do
@@ -44,7 +51,9 @@ for subnets in 0 1; do
     python3 "$here/asks.py" "$work/topology" 1000 "$subnets" >"$work/feed"
     old=$(reply "$other")
     new=$(reply "$glb")
-    printf 'reply, 2,000 prefixes, client subnets %d: %d and %d, ratio %s\n' "$subnets" "$old" "$new" "$(ratio "$old" "$new")"
+    by=$(ratio "$old" "$new")
+    printf 'reply, 2,000 prefixes, client subnets %d: %d and %d, ratio %s\n' "$subnets" "$old" "$new" "$by"
     python3 "$here/generate.py" --classes 1000 500 2048 1 1000 "$work/topology" >/dev/null
-    printf '    where each group has a class for the service: %d\n' "$(reply "$glb")"
+    new=$(reply "$glb")
+    printf '    where each group has a class for the service: %d\n' "$new"
 done

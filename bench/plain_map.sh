@@ -18,7 +18,9 @@ for levels in 5 8; do
         pools=$(python3 -c "print(round($percent / 0.95 ** ($levels - 1)))")
         python3 "$here/generate.py" "${1:-65536}" 2048 "$levels" "$pools" "$work/topology" >/dev/null
         profile "$work/plain" "$work/topology" "$work/map"
-        plain=$(($(of '^plain_map::map$') + $(of '^plain_map::names$')))
+        plain_map=$(of '^plain_map::map$')
+        plain_names=$(of '^plain_map::names$')
+        plain=$((plain_map + plain_names))
         seconds=$("$work/plain" "$work/topology" 2>&1)
         profile "$glb" map "$work/topology"
         cmp "$work/map" "$work/out"

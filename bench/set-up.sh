@@ -1,7 +1,7 @@
 # What the scripts beside this one begin with: `here` is their folder, `top` the repository, `work` a folder
 # that goes when they end, and `glb` the program: that of GLB, where it is given, and else proved and built here.
 set -euo pipefail
-# a command that fails within $(..) ends the script, too
+# a command that fails within x=$(..) ends the script, too; within the words of another command its failure is lost
 shopt -s inherit_errexit
 here=$(cd "$(dirname "${BASH_SOURCE[0]}")" && pwd)
 top=$(dirname "$here")

@@ -74,9 +74,9 @@ class Server:
             os.execv(GLB, words)
         os.close(feed)
 
-    def holds(self, descriptors):
-        """Whether it has all of these open."""
-        return all(os.path.exists(f"/proc/{self.pid}/fd/{fd}") for fd in descriptors)
+    def holds(self, handed):
+        """Whether it has these open, each at its descriptor."""
+        return [os.readlink(f"/proc/{self.pid}/fd/{3 + n}") for n in range(len(handed))] == [os.readlink(f"/proc/self/fd/{it.fileno()}") for it in handed]
 
     def kill(self):
         os.kill(self.pid, signal.SIGKILL)
@@ -171,10 +171,11 @@ def main():
     other, elsewhere = datagrams(1)
     handed, port = datagrams(2)
     with open("/dev/null", "rb") as file:
-        server = Server([file, *other, handed[0], listener(port), handed[1]], port)
+        all_of_it = [file, *other, handed[0], listener(port), handed[1]]
+        server = Server(all_of_it, port)
         client(elsewhere).send(QUERY)
         expect("two sockets among others", ask(port), 64)
-        expect("all others are still open", server.holds(range(3, 8)), True)
+        expect("all of it is still open", server.holds(all_of_it), True)
         server.kill()
     expect("what came elsewhere was left there", waiting_at(other[0]), QUERY)
     probe, port = datagrams(1)

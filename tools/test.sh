@@ -160,6 +160,8 @@ if [ -n "${GLB:-}" ]; then
     "$GLB" map "$work/small.toml" >"$work/made.map"
     expect 0 "$(cat "$work/small.map" | head -1)" head -1 "$work/made.map"
     expect 0 good "$GLB" check "$work/small.toml" "$work/made.map"
+else
+    skipped=", without the program"
 fi
 # the alerts, where Prometheus' tool is, and a package, where Debian's is
 if command -v promtool >/dev/null; then
@@ -167,7 +169,7 @@ if command -v promtool >/dev/null; then
     expect 0 3 bash -c "grep -oE '[0-9]+ rules found' $work/rules | cut -d' ' -f1"
     expect 0 SUCCESS bash -c 'promtool test rules examples/glb-alerts-test.yml 2>&1 | grep -oE "SUCCESS|FAILED"'
 else
-    skipped=", without the alerts"
+    skipped="${skipped:-}, without the alerts"
 fi
 if [ -n "${GLB:-}" ] && command -v dpkg-deb >/dev/null && command -v strip >/dev/null; then
     DEBEMAIL=ops@cdn.example tools/deb.sh 1.0 "$work" >/dev/null
