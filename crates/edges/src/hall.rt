@@ -192,7 +192,7 @@ impl Hall {
         ensures read { self.new.is_read ≡ true ⊎ (self.new ≡ self.old) × (self.old.current ≡ None) }
         ensures ended { EndsBehind buffer.new result self.old.current self.old.seats.items self.new.seats.items }
         ensures goes_on { GoesOnBehind buffer.new result self.old.seats.items self.new.seats.items }
-        // Where something whole has come, something is handed over.
+        // Where something whole has come it is handed over.
         ensures due { result ≡ Reading.Closed → self.old.is_read ≡ false → LARGEST_FRAME ≤ length buffer.old → (i : ℕ) (room : Room) → self.old.current ≡ Some i → slice_get self.old.rooms.items i ≡ Some room → HasNothing room }
     {
         let Some(i) = self.current else {
