@@ -74,7 +74,7 @@ log_over a first rest w log shown m m' f served e n n' j k port port' gate gate'
       port_faults = h.all.port_faults;
       port_stays = h.all.port_stays;
       refusal = λ x. later_rose m.eyes.faults m'.eyes.faults f.faults (h.all.refusal x) h.closing.rise.faults;
-      missed = h.all.missed;
+      fates = h.all.fates;
       learned = let known = prefix_length (first ∷ rest) f.heard h.closing.learned in omega (arith, one, known, rise.above);
       rising = (rise.rising, rise.faults);
       which = which;

@@ -3,7 +3,7 @@ use Rattle.std.specs.Prelude.{◌≡◌, ◌⊎◌, ℕ, ◌+◌, ◌<◌, ◌�
 use Rattle.std.specs.List.{flat_map, range_with_len}
 use mathlib.Core.List.{IsPrefix}
 use Rattle.outside.specs.Faults.{BothTell, Rose, raised}
-use Rattle.outside.specs.Port.{Packet, PortTold}
+use Rattle.outside.specs.Port.{PortTold}
 use Rattle.outside.specs.Gate.{GateTold}
 use Rattle.outside.specs.Streams.{StreamsTold}
 use Rattle.published_map.specs.Version.{Version}
@@ -12,7 +12,7 @@ use Rattle.lane_model.specs.declared.ended.Ended.{Ended}
 use Rattle.lane_model.specs.declared.ended.Ended.TheVariants.{Above, CellFault}
 use Rattle.lane_model.specs.Lanes.{Answers, IsLaneRun}
 use Rattle.lane_model.specs.Replies.{replies}
-use Rattle.lane_model.specs.Turns.{Turn, IsTold, entries_of, failures, floor_after, looks_of, port_turn, refused, refused_of, took, tries_of}
+use Rattle.lane_model.specs.Turns.{Turn, IsFated, IsTold, entries_of, failures, floor_after, looks_of, port_turn, refused_of, tries_of}
 use Rattle.lane_model.specs.Calls.{IsEnd, IsGateRun}
 use Rattle.drive.specs.Closing.{shut}
 
@@ -71,7 +71,7 @@ pub record IsOverPast {T : Type 0} (h over : List Version) (log : List Turn) (en
   pub newest_is : newest + 1 ≡ length h
   pub ended_is : ended ≡ Above last newest
 
--- The turns of lane w of a drive, whose worker knew the first version alone: that they are a lane run; what was told; that the notes that its worker was given are those of the first versions, as many as it tells, in their order, each once; that what its gate was shown last is no less than what was known by then; that its door was asked for no place, and for one look for each datagram that isn't silent, and one more; that its port's count rose by at least as many as its calls failed, and stands where none did; that a datagram whose look was refused has a reply, which it missed; that the whole history was learned ahead of the closing look; and over which history it stands.
+-- The turns of lane w of a drive, whose worker knew the first version alone: that they are a lane run; what was told; that the notes that its worker was given are those of the first versions, as many as it tells, in their order, each once; that what its gate was shown last is no less than what was known by then; that its door was asked for no place, and for one look for each datagram that isn't silent, and one more; that its port's count rose by at least as many as its calls failed, and stands where none did; that a datagram was passed over just where it has no reply, and one whose look was refused has one, which it missed; that the whole history was learned ahead of the closing look; and over which history it stands.
 pub record IsServedLog {T : Type 0} (a : Answers Version) (first : Version) (rest : List Version) (w : ℕ) (log : List Turn) (served ended : Ended) (shown : ℕ) (before after : ServerTold T) : Type 0 where
   pub over : List Version
   pub run : IsLaneRun a over w 0 0 (entries_of a.way log) (tries_of log)
@@ -85,7 +85,7 @@ pub record IsServedLog {T : Type 0} (a : Answers Version) (first : Version) (res
   pub port_faults : raised before.port_faults (failures log) ≤ after.port_faults
   pub port_stays : failures log ≡ 0 → after.port_faults ≡ before.port_faults
   pub refusal : 0 < sum_by (λ t. refused_of t.came) log → Rose before.door_faults after.door_faults
-  pub missed : All (λ t. (d : Packet) → t.came ≡ took d refused → a.silent d.octets ≡ false) log
+  pub fates : All (λ t. IsFated a t.came) log
   pub learned : length (first ∷ rest) ≤ after.greatest + 1
   pub rising : (before.greatest ≤ after.greatest) × (before.door_faults ≤ after.door_faults)
   pub which : IsOverNewest (first ∷ rest) over log served ended before after ⊎ IsOverSeen first (first ∷ rest) over served ended before after ⊎ IsOverPast (first ∷ rest) over log ended before after

@@ -90,6 +90,7 @@ well_done turns first rest w b c e d well =
       shown = d.shown;
       run = subst (λ h. IsLaneRun replies h w 0 0 (entries_of replies.way d.log) (tries_of d.log)) newest.same d.served_log.run;
       told = d.served_log.told;
+      fates = d.served_log.fates;
       notes = d.served_log.notes;
       noted = newest.noted;
       last = d.served_log.last.0;
@@ -126,6 +127,7 @@ stream_well_done turns first rest w b c e d well =
       );
       rules = d.rules;
       told = d.served_log.told;
+      fates = d.served_log.fates;
       notes = d.served_log.notes;
       noted = newest.noted;
       last = d.served_log.last.0;

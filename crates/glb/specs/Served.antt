@@ -1,5 +1,5 @@
 -- What status 0 of `serve` says.
-use Rattle.std.specs.Prelude.{◌≡◌, ◌⊎◌, ℕ, zero, suc, ◌+◌, ◌≤◌, Bool, List, [], ◌∷◌, ◌++◌, Option, None, Some, fold, length, map, take}
+use Rattle.std.specs.Prelude.{◌≡◌, ◌⊎◌, ℕ, zero, suc, ◌+◌, ◌≤◌, All, Bool, List, [], ◌∷◌, ◌++◌, Option, None, Some, fold, length, map, take}
 use Rattle.std.specs.List.{flat_map, range_with_len}
 use Rattle.outside.specs.Faults.{BothTell, raised}
 use Rattle.topology_text.specs.Plan.{IsPlan, Plan}
@@ -10,7 +10,7 @@ use Rattle.lane_model.specs.Lanes.{IsLaneRun}
 use Rattle.lane_model.specs.Machine.{GoesOn}
 use Rattle.lane_model.specs.Replies.{replies}
 use Rattle.lane_model.specs.Calls.{IsEnd, IsGateRun}
-use Rattle.lane_model.specs.Turns.{IsTold, Turn, entries_of, failures, port_turn, tries_of}
+use Rattle.lane_model.specs.Turns.{IsFated, IsTold, Turn, entries_of, failures, port_turn, tries_of}
 use Rattle.demand_feed.specs.declared.run.FeedEnd.TheVariants as feed
 use Rattle.mapper.specs.Scenes.{IsPrinted, scene}
 use Rattle.mapper.specs.Words.{map_text}
@@ -35,6 +35,7 @@ pub record IsWellDone (turns : ℕ) (history : List Version) (w : ℕ) (before a
   pub shown : ℕ
   pub run : IsLaneRun replies history w 0 0 (entries_of replies.way log) (tries_of log)
   pub told : IsTold 0 log
+  pub fates : All (λ t. IsFated replies t.came) log
   pub notes : flat_map (λ t. t.notes) log ≡ range_with_len 0 after.noted
   pub noted : after.noted ≤ length history
   pub last : floor_behind 0 log ≤ shown
@@ -61,6 +62,7 @@ pub record IsStreamWellDone (turns : ℕ) (history : List Version) (w : ℕ) (be
       → (talks : List Talk) × ((closing_if closes (fold stream_turn b log)).closed ≡ b.closed ++ talks) × ((closing_if closes (fold stream_turn b log)).current ≡ None) × IsStreamRun stream_replies history w 0 0 0 talks (entries_of stream_replies.way (lane_of log)) (tries_of (lane_of log))
   pub rules : (talk : TalkState) × AreRuled no_talk log talk × (closes ≡ talk.is_open)
   pub told : IsTold 0 (lane_of log)
+  pub fates : All (λ t. IsFated stream_replies t.came) (lane_of log)
   pub notes : flat_map (λ t. t.notes) (lane_of log) ≡ range_with_len 0 after.noted
   pub noted : after.noted ≤ length history
   pub last : floor_behind 0 (lane_of log) ≤ shown

@@ -3,12 +3,11 @@ use Rattle.std.proofs.Common.{◌≡◌, ℕ, zero, suc, ◌+◌, ◌-◌, ◌<�
 use Rattle.std.proofs.lemmas.List.Sums.{sum_by-cons, sum_by_push}
 use Rattle.outside.specs.Faults.{BothTell, Rose, raised}
 use Rattle.outside.specs.Gate.{GateTold, IsTurning}
-use Rattle.outside.specs.Port.{Packet}
 use Rattle.outside.specs.declared.gate.Turning.TheVariants.{Stop}
 use Rattle.lane_model.specs.declared.ended.Ended.{Ended}
 use Rattle.lane_model.specs.declared.ended.Ended.TheVariants as end
 use Rattle.lane_model.specs.Lanes.{Answers}
-use Rattle.lane_model.specs.Turns.{Turn, Came, AreCalm, IsCame, count_after, fails_of, failures, floor_after, gate_turn, is_calm, is_refused, looks_of, refused_of, idle, oversize, ended, failed, took, silent, refused, tried}
+use Rattle.lane_model.specs.Turns.{Turn, Came, AreCalm, IsCame, IsFated, count_after, fails_of, failures, floor_after, gate_turn, is_calm, is_refused, looks_of, refused_of, idle, oversize, ended, failed, took, silent, refused, tried}
 use Rattle.lane_model.specs.Calls.{IsEnd, IsGateRun, IsLaneCall, IsLaneLog, IsLast, AreTurns, Moment}
 use Rattle.lane_model.proofs.Prefixes.{prefix_length}
 use Rattle.lane_model.proofs.Runs.{IsInOrder, turns_gate, turns_notes, turns_port, turns_rises, turns_run, turns_told, tells_on}
@@ -118,11 +117,19 @@ turns_stays a w (t ∷ log) m m' s none =
     let sum = sum_by-cons (λ x. refused_of x.came) t log in
     turns_stays a w log s.0 m' s.2 (omega (arith, sum, none)) ∙ s.1.stays (calm_by (is_refused t.came) (refused_of t.came) refl (omega (arith, sum, none)))
 
--- a datagram whose look was refused isn't silent
-turns_missed : {V : Type 0} (a : Answers V) (w : ℕ) (log : List Turn) (m m' : Moment V) → AreTurns a w log m m' → All (λ t. (d : Packet) → t.came ≡ took d refused → a.silent d.octets ≡ false) log
-turns_missed a w [] m m' s = λ k d lt. absurd (omega (arith, lt))
-turns_missed a w (t ∷ log) m m' s =
-    all_cons (λ x. (d : Packet) → x.came ≡ took d refused → a.silent d.octets ≡ false) t log (λ d is. subst (λ (c : Came). IsCame a s.0.eyes.seen w m.count t.known c) is s.1.came) (turns_missed a w log s.0 m' s.2)
+-- what became of a datagram fits its octets
+fated : {V : Type 0} (a : Answers V) (h : List V) (w n known : ℕ) (c : Came) → IsCame a h w n known c → IsFated a c
+fated a h w n known idle is = tt
+fated a h w n known oversize is = tt
+fated a h w n known ended is = tt
+fated a h w n known failed is = tt
+fated a h w n known (took d silent) is = is
+fated a h w n known (took d refused) is = is
+fated a h w n known (took d (tried serial octets went)) is = is.0
+
+turns_fates : {V : Type 0} (a : Answers V) (w : ℕ) (log : List Turn) (m m' : Moment V) → AreTurns a w log m m' → All (λ t. IsFated a t.came) log
+turns_fates a w [] m m' s = λ k d lt. absurd (omega (arith, lt))
+turns_fates a w (t ∷ log) m m' s = all_cons (λ x. IsFated a x.came) t log (fated a s.0.eyes.seen w m.count t.known t.came s.1.came) (turns_fates a w log s.0 m' s.2)
 
 -- datagrams are counted on
 turns_count : {V : Type 0} (a : Answers V) (w : ℕ) (log : List Turn) (m m' : Moment V) → AreTurns a w log m m' → m'.count ≡ fold (λ n t. count_after n t.came) m.count log
@@ -156,13 +163,13 @@ log_of a w log m m' s o = record {
   port_stays = turns_port_stays a w log m m' s;
   refusal = turns_refusal a w log m m' s;
   stays = turns_stays a w log m m' s;
-  missed = turns_missed a w log m m' s;
+  fates = turns_fates a w log m m' s;
   count = turns_count a w log m m' s;
 }
 
 -- a gate alone was asked
 log_gate : {V : Type 0} (a : Answers V) (w : ℕ) (log : List Turn) (m mid : Moment V) (gate : Option GateTold) (faults : ℕ) → IsLaneLog a w log m mid → IsLaneLog a w log m (record mid { gate = gate; gate_faults = faults })
-log_gate a w log m mid gate faults c = record { run = c.run; told = c.told; port = c.port; notes = c.notes; rise = c.rise; known = c.known; within = c.within; looks = c.looks; port_faults = c.port_faults; port_stays = c.port_stays; refusal = c.refusal; stays = c.stays; missed = c.missed; count = c.count }
+log_gate a w log m mid gate faults c = record { run = c.run; told = c.told; port = c.port; notes = c.notes; rise = c.rise; known = c.known; within = c.within; looks = c.looks; port_faults = c.port_faults; port_stays = c.port_stays; refusal = c.refusal; stays = c.stays; fates = c.fates; count = c.count }
 
 call_same : {V : Type 0} (a : Answers V) (w turns : ℕ) (log : List Turn) (m mid m' : Moment V) (e : Ended) → 0 < length m.eyes.heard → AreTurns a w log m mid → IsEnd turns log e
     → ((shown : ℕ) → BothTell m.gate mid.gate (λ b c. c ≡ fold gate_turn b log) → BothTell m.gate mid.gate (IsGateRun shown log e)) → m' ≡ mid → IsLaneCall a w turns m m' e

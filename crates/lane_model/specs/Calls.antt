@@ -2,14 +2,14 @@
 use Rattle.std.specs.Prelude.{◌≡◌, ℕ, ◌+◌, ◌<◌, ◌≤◌, true, false, List, [], ◌∷◌, ◌++◌, All, length, max, fold, sum_by, Option}
 use mathlib.Core.List.{IsPrefix}
 use Rattle.outside.specs.Faults.{BothTell, Rose, raised}
-use Rattle.outside.specs.Port.{Packet, PortTold}
+use Rattle.outside.specs.Port.{PortTold}
 use Rattle.outside.specs.Gate.{GateTold, IsTurning, going}
 use Rattle.outside.specs.declared.gate.Turning.TheVariants.{Stop}
 use Rattle.outside.specs.Notes.{NotesTold}
 use Rattle.lane_model.specs.declared.ended.Ended.{Ended}
 use Rattle.lane_model.specs.declared.ended.Ended.TheVariants as end
 use Rattle.lane_model.specs.Lanes.{Answers, IsLaneRun}
-use Rattle.lane_model.specs.Turns.{Turn, AreCalm, AreGiven, IsCame, IsGiven, IsTold, count_after, entries_of, fails_of, failures, floor_after, gate_turn, is_refused, looks_of, refused_of, port_after, port_turn, tries_of, ended, refused, took}
+use Rattle.lane_model.specs.Turns.{Turn, AreCalm, AreGiven, IsCame, IsFated, IsGiven, IsTold, count_after, entries_of, fails_of, failures, floor_after, gate_turn, is_refused, looks_of, refused_of, port_after, port_turn, tries_of, ended}
 
 -- what a viewer has seen and was told of, and its door's numbers
 pub record Eyes (V : Type 0) : Type 0 where
@@ -94,7 +94,7 @@ abbrev pub IsGateRun : ℕ → List Turn → Ended → GateTold → GateTold →
 IsGateRun shown log end.Stopped before after = IsTurning shown Stop (fold gate_turn before log) after
 IsGateRun shown log _ before after = after ≡ fold gate_turn before log
 
--- What a call of a lane promises, over the turns that it made: a lane run over what its viewer has seen by then; that what was told is minded; what port and notes tell by then; one look for each datagram that isn't silent; that nothing that was handed out is past what is known by then; that the port's count rose by at least as many as its calls failed, and stands where none did; that the door's count rose where a look was refused, and stands where none was; that a datagram whose look was refused has a reply, which it missed; and that datagrams are counted on.
+-- What a call of a lane promises, over the turns that it made: a lane run over what its viewer has seen by then; that what was told is minded; what port and notes tell by then; one look for each datagram that isn't silent; that nothing that was handed out is past what is known by then; that the port's count rose by at least as many as its calls failed, and stands where none did; that the door's count rose where a look was refused, and stands where none was; that a datagram was passed over just where it has no reply, and one whose look was refused has one, which it missed; and that datagrams are counted on.
 pub record IsLaneLog {V : Type 0} (a : Answers V) (w : ℕ) (log : List Turn) (m m' : Moment V) : Type 0 where
   pub run : (floor : ℕ) → floor < length m.eyes.heard → IsLaneRun a m'.eyes.seen w m.count floor (entries_of a.way log) (tries_of log)
   pub told : (floor : ℕ) → floor < length m.eyes.heard → IsTold floor log
@@ -108,7 +108,7 @@ pub record IsLaneLog {V : Type 0} (a : Answers V) (w : ℕ) (log : List Turn) (m
   pub port_stays : failures log ≡ 0 → m'.port_faults ≡ m.port_faults
   pub refusal : 0 < sum_by (λ t. refused_of t.came) log → Rose m.eyes.faults m'.eyes.faults
   pub stays : sum_by (λ t. refused_of t.came) log ≡ 0 → m'.eyes.faults ≡ m.eyes.faults
-  pub missed : All (λ t. (d : Packet) → t.came ≡ took d refused → a.silent d.octets ≡ false) log
+  pub fates : All (λ t. IsFated a t.came) log
   pub count : m'.count ≡ fold (λ n t. count_after n t.came) m.count log
 
 -- what a call of a lane promises

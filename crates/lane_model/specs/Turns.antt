@@ -117,6 +117,16 @@ IsCame a h w n known ended = Unit {0}
 IsCame a h w n known failed = Unit {0}
 IsCame a h w n known (took d fate) = IsFate a h w n known d fate
 
+-- what is noted of a datagram fits its octets: one that was passed over has no reply, and any other has one
+abbrev pub IsFated : {V : Type 0} → Answers V → Came → Type 0
+IsFated a idle = Unit {0}
+IsFated a oversize = Unit {0}
+IsFated a ended = Unit {0}
+IsFated a failed = Unit {0}
+IsFated a (took d silent) = a.silent d.octets ≡ true
+IsFated a (took d refused) = a.silent d.octets ≡ false
+IsFated a (took d (tried serial octets went)) = a.silent d.octets ≡ false
+
 -- how many datagrams were answered or silent or refused: each counts
 abbrev pub count_after : ℕ → Came → ℕ
 count_after n idle = n
