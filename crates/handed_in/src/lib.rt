@@ -6,11 +6,13 @@
 #![tactic(auto)]
 
 ghost use Rattle.std.specs.Prelude.{◌≡◌, ◌+◌, ◌<◌, ◌≤◌, ◌≤ℤ◌, IfSome, pos};
+ghost use Rattle.std.specs.Net.Udp.{udp_raw_fd};
+ghost use Rattle.std.specs.Net.Tcp.{listener_raw_fd};
 
 use libc::net as c;
 use os::FromRawFd;
 use std::net::{Net, SocketAddr, TcpListener, UdpSocket};
-use std::os::fd::IntoRawFd;
+use std::os::fd::{AsRawFd, IntoRawFd};
 
 /// The descriptor of the first one.
 const FIRST: i32 = 3;
@@ -61,10 +63,13 @@ fn is_tcp(fd: i32) -> bool {
 
 /// Takes the socket of that number, if it is one of UDP that is bound there; any other descriptor is left as it is. Take
 /// each number once.
-pub fn take_udp<N: Net>(_net: &N, number: u32, place: SocketAddr) -> Option<UdpSocket> {
+pub fn take_udp<N: Net>(_net: &N, number: u32, place: SocketAddr) -> Option<UdpSocket>
+    ensures place { IfSome result (λ s. udp_raw_fd s ≡ pos (3 + number)) }
+    ensures few { IfSome result (λ _. number < 64) }
+{
     let fd = descriptor(number)?;
     let socket = unsafe { UdpSocket::from_raw_fd(fd) };
-    if !is_tcp(fd) && socket.local_addr().ok() == Some(place) {
+    if socket.as_raw_fd() == fd && !is_tcp(fd) && socket.local_addr().ok() == Some(place) {
         return Some(socket);
     }
     let _ = socket.into_raw_fd();
@@ -73,10 +78,14 @@ pub fn take_udp<N: Net>(_net: &N, number: u32, place: SocketAddr) -> Option<UdpS
 
 /// Takes the listener of that number, if it is one of TCP that is bound there, and lets it wait for nothing; any other
 /// descriptor is left as it is. Take each number once.
-pub fn take_tcp<N: Net>(_net: &N, number: u32, place: SocketAddr) -> Option<TcpListener> {
+pub fn take_tcp<N: Net>(_net: &N, number: u32, place: SocketAddr) -> Option<TcpListener>
+    ensures place { IfSome result (λ l. listener_raw_fd l ≡ pos (3 + number)) }
+    ensures few { IfSome result (λ _. number < 64) }
+{
     let fd = descriptor(number)?;
     let listener = unsafe { TcpListener::from_raw_fd(fd) };
-    if is_tcp(fd)
+    if listener.as_raw_fd() == fd
+        && is_tcp(fd)
         && listener.local_addr().ok() == Some(place)
         && listener.set_nonblocking(true).is_ok()
     {
