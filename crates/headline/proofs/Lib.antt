@@ -1,0 +1,10 @@
+mod Lists
+mod Trees
+mod Good
+mod Events
+mod Order
+mod Serving
+mod Streams
+mod Texts
+mod Held
+mod Rows

@@ -1,0 +1,274 @@
+-- Conversations.
+use Rattle.std.proofs.Common.{◌≡◌, ◌⊎◌, inl, inr, ℕ, suc, ◌+◌, ◌≤◌, Bool, true, false, List, [], ◌∷◌, ◌++◌, length, map, fold, flat_map, take, All, Option, None, Some, refl, ap, ap₂, sym, subst, ◌∙◌, arith, append_assoc, append-nil}
+use Rattle.std.specs.List.{range_with_len}
+use Rattle.std.proofs.lemmas.Bool.{cases_Bool}
+use Rattle.std.proofs.lemmas.List.{map-append}
+use Rattle.std.proofs.lemmas.List.Concat.{flat_map-append}
+use Rattle.std.proofs.lemmas.List.Elements.{All-append, All-map, All-nil}
+use Rattle.addr_text.specs.declared.address.Listen.{Listen}
+use Rattle.addr_text.specs.declared.address.Peer.{Peer}
+use Rattle.outside.specs.Faults.{BothTell, Rose}
+use Rattle.outside.specs.Port.{Packet, Try}
+use Rattle.outside.specs.Streams.{Piece, StreamsTold, Talk}
+use Rattle.outside.specs.Streams as streams
+use Rattle.outside.specs.declared.port.Opening.{Opening}
+use Rattle.outside.specs.declared.port.Opening.TheVariants as opening
+use Rattle.tcp_frames.specs.Split.{framed}
+use Rattle.topology_text.specs.Plan.{Plan}
+use Rattle.published_map.specs.Version.{Version}
+use Rattle.answer_core.specs.declared.way.Way.{Way}
+use Rattle.answer_core.specs.declared.way.Way.TheVariants as way
+use Rattle.lane_model.specs.declared.ended.Ended.{Ended}
+use Rattle.lane_model.specs.Lanes.{Entry, IsLaneRun, IsTryOf, following}
+use Rattle.lane_model.specs.Replies.{is_silent, replies_by}
+use Rattle.lane_model.specs.Turns.{Came, Fate, Turn, entries_of, entries_of_came, idle, oversize, ended, failed, took, tries_of}
+use Rattle.lane_model.specs.Turns as fate
+use Rattle.tcp_lane.specs.Replies.{stream_replies}
+use Rattle.tcp_lane.specs.Stream.{AreRounds, Conversation, HasFailed, HasMissed, IsRound, IsStreamRun, IsTakenInPart, IsWhole, Round, messages_of}
+use Rattle.tcp_lane.specs.Stream as tcp
+use Rattle.tcp_lane.specs.Turns.{StreamTurn, closing_if, lane_of, stream_turn}
+use Rattle.drive.specs.Done.{StreamLaneTold}
+use Rattle.drive.specs.Streams.{AreStreamsDone}
+use Rattle.glb.specs.declared.status.Status.{Status}
+use Rattle.glb.specs.declared.status.Status.TheVariants as status
+use Rattle.glb.specs.Serve.{IsStreamOpening, IsStreamReady, IsStreamShut}
+use Rattle.glb.specs.Served.{IsStreamWell}
+use Rattle.headline.specs.Headline.{AreMaps, AreTalks, Event, HaveTalked, IsStreamLane, IsTalk, Share, taken, tried}
+use Rattle.headline.proofs.Events.{heard_made, made, right, spoken, tell, tried_made, turned}
+use Rattle.headline.proofs.Serving.{cause_from, stands, tells_on, tells_so}
+
+-- WHAT WAS TAKEN
+
+abbrev packets : List Entry → List Packet
+packets es = map (λ (e : Entry). e.packet) es
+
+taken_tell : (notes : List ℕ) (events : List Event) → flat_map taken (tell notes events) ≡ flat_map taken events
+taken_tell [] events = refl
+taken_tell (n ∷ notes) events = taken_tell notes events
+
+abbrev AllTaken : Way → List Version → ℕ → List Turn → Type 0
+AllTaken by h w log = (n r : ℕ) (tries : List Try) → IsLaneRun (replies_by by) h w n r (entries_of by log) tries → flat_map taken (made is_silent log tries) ≡ packets (entries_of by log)
+
+entry_taken : (by : Way) (h : List Version) (w n r known : ℕ) (d : Packet) (log : List Turn) (tries : List Try) → IsLaneRun (replies_by by) h w n r (record { packet = d; known = known; way = by } ∷ entries_of by log) tries → AllTaken by h w log
+    → flat_map taken (spoken known d (is_silent d.octets) tries (λ ts. made is_silent log ts)) ≡ d ∷ packets (entries_of by log)
+entry_taken by h w n r known d log [] run all = rw run.1 (ap (λ ps. d ∷ ps) (all (following n) known [] run.2))
+entry_taken by h w n r known d log (s ∷ tries) run all = elim (cases_Bool (is_silent d.octets)) [
+  | inl e ↦ let rest : IsLaneRun (replies_by by) h w (following n) known (entries_of by log) (s ∷ tries) = rw e at run.1 in rw e (ap (λ ps. d ∷ ps) (all (following n) known (s ∷ tries) rest))
+  | inr e ↦ let both : IsTryOf (replies_by by) h w n (record { packet = d; known = known; way = by }) s × IsLaneRun (replies_by by) h w (following n) s.serial (entries_of by log) tries = rw e at run.1 in
+      rw e (ap (λ ps. d ∷ ps) (all (following n) s.serial tries both.1))
+]
+
+step_taken : (by : Way) (h : List Version) (w n r known : ℕ) (c : Came) (log : List Turn) (tries : List Try) → IsLaneRun (replies_by by) h w n r (entries_of_came by known c ++ entries_of by log) tries → AllTaken by h w log
+    → flat_map taken (turned is_silent known c tries (λ ts. made is_silent log ts)) ≡ packets (entries_of_came by known c ++ entries_of by log)
+step_taken by h w n r known idle log tries run all = all n r tries run
+step_taken by h w n r known oversize log tries run all = all n r tries run
+step_taken by h w n r known ended log tries run all = all n r tries run
+step_taken by h w n r known failed log tries run all = all n r tries run
+step_taken by h w n r known (took d fate.silent) log tries run all = entry_taken by h w n r known d log tries run all
+step_taken by h w n r known (took d fate.refused) log tries run all = all n r tries run
+step_taken by h w n r known (took d (fate.tried serial octets went)) log tries run all = entry_taken by h w n r known d log tries run all
+
+taken_made : (by : Way) (h : List Version) (w : ℕ) (log : List Turn) → AllTaken by h w log
+taken_made by h w [] n r tries run = refl
+taken_made by h w (t ∷ log) n r tries run = taken_tell t.notes (turned is_silent t.known t.came tries (λ ts. made is_silent log ts)) ∙ step_taken by h w n r t.known t.came log tries run (taken_made by h w log)
+
+-- ONE CONVERSATION
+
+abbrev octets_of : List Round → List ℕ
+octets_of rounds = flat_map (λ (r : Round). r.piece.octets) rounds
+
+abbrev entries : List Round → List Entry
+entries rounds = flat_map (λ (r : Round). r.entries) rounds
+
+abbrev octets_in : List Entry → List (List ℕ)
+octets_in es = map (λ (e : Entry). e.packet.octets) es
+
+messages_are : (rounds : List Round) → flat_map messages_of rounds ≡ octets_in (entries rounds)
+messages_are [] = refl
+messages_are (r ∷ rounds) = ap (λ ms. messages_of r ++ ms) (messages_are rounds) ∙ sym (map-append (λ (e : Entry). e.packet.octets) r.entries (entries rounds))
+
+-- octets, as messages behind their lengths and more
+record Reads (octets : List ℕ) (messages : List (List ℕ)) : Type 0 where
+  more : List ℕ
+  are : octets ≡ flat_map framed messages ++ more
+
+reads_on : (quiet : List ℕ → Bool) (peer : Peer) (octets : List ℕ) (messages : List (List ℕ)) (rounds : List Round) → Reads octets messages → AreRounds quiet peer octets messages rounds → Reads (octets ++ octets_of rounds) (messages ++ flat_map messages_of rounds)
+reads_on quiet peer octets messages [] h are = record { more = h.more; are = append-nil octets ∙ h.are ∙ ap (λ ms. flat_map framed ms ++ h.more) (sym (append-nil messages)) }
+reads_on quiet peer octets messages (r ∷ rounds) h are =
+    let here : Reads (octets ++ r.piece.octets) (messages ++ messages_of r) = record { more = are.0.split.rest; are = are.0.split.parts ∙ ap (λ ms. flat_map framed ms ++ are.0.split.rest) (append-nil (messages ++ messages_of r)) } in
+    let on = reads_on quiet peer (octets ++ r.piece.octets) (messages ++ messages_of r) rounds here are.1 in
+    record { more = on.more; are = sym (append_assoc octets r.piece.octets (octets_of rounds)) ∙ on.are ∙ ap (λ ms. flat_map framed ms ++ on.more) (append_assoc messages (messages_of r) (flat_map messages_of rounds)) }
+
+from_on : (quiet : List ℕ → Bool) (peer : Peer) (octets : List ℕ) (messages : List (List ℕ)) (rounds : List Round) → AreRounds quiet peer octets messages rounds → All (λ (e : Entry). e.packet.from ≡ peer) (entries rounds)
+from_on quiet peer octets messages [] are = All-nil (λ (e : Entry). e.packet.from ≡ peer)
+from_on quiet peer octets messages (r ∷ rounds) are = All-append (λ (e : Entry). e.packet.from ≡ peer) r.entries (entries rounds) are.0.from (from_on quiet peer (octets ++ r.piece.octets) (messages ++ messages_of r) rounds are.1)
+
+pieces_are : (rounds : List Round) → flat_map (λ (x : Piece). x.octets) (map (λ (r : Round). r.piece) rounds) ≡ octets_of rounds
+pieces_are [] = refl
+pieces_are (r ∷ rounds) = ap (λ xs. r.piece.octets ++ xs) (pieces_are rounds)
+
+framed_are : (es : List Entry) → flat_map (λ (p : Packet). framed p.octets) (packets es) ≡ flat_map framed (octets_in es)
+framed_are [] = refl
+framed_are (e ∷ es) = ap (λ xs. framed e.packet.octets ++ xs) (framed_are es)
+
+abbrev replies_in : List Try → List ℕ
+replies_in tries = flat_map (λ (r : Try). framed r.octets) tries
+
+take_more : {A : Type 0} (xs ys : List A) (k : ℕ) → take (length xs + k) (xs ++ ys) ≡ xs ++ take k ys
+take_more {A = A} [] ys k = let e : length {A = A} [] + k ≡ k = omega arith in ap (λ n. take n ys) e
+take_more {A = A} (x ∷ xs) ys k = let e : length (x ∷ xs) + k ≡ suc (length xs + k) = omega arith in ap (λ n. take n (x ∷ (xs ++ ys))) e ∙ ap (λ zs. x ∷ zs) (take_more xs ys k)
+
+whole : {A : Type 0} (xs : List A) → xs ≡ take (length xs) xs
+whole [] = refl
+whole (x ∷ xs) = let e : length (x ∷ xs) ≡ suc (length xs) = omega arith in ap (λ zs. x ∷ zs) (whole xs) ∙ ap (λ n. take n (x ∷ xs)) (sym e)
+
+is_whole : (quiet : List ℕ → Bool) (t : Talk) (es : List Entry) (tries : List Try) → IsWhole quiet t es tries → IsTalk t (packets es) tries
+is_whole quiet t es tries w =
+    let reads = reads_on quiet t.peer [] [] w.rounds (record { more = []; are = refl }) w.rounds_are in
+    record {
+      from = All-map (λ (p : Packet). p.from ≡ t.peer) (λ (e : Entry). e.packet) es (subst (λ xs. All (λ (e : Entry). e.packet.from ≡ t.peer) xs) (sym w.taken_are) (from_on quiet t.peer [] [] w.rounds w.rounds_are));
+      more = reads.more;
+      read = ap (flat_map (λ (x : Piece). x.octets)) w.pieces ∙ pieces_are w.rounds ∙ reads.are
+          ∙ ap (λ xs. xs ++ reads.more) (ap (flat_map framed) (messages_are w.rounds ∙ ap octets_in (sym w.taken_are)) ∙ sym (framed_are es));
+      cut = length (replies_in tries);
+      written = w.written ∙ whole (replies_in tries);
+    }
+
+why_written : (blind : Bool) (quiet : List ℕ → Bool) (es : List Entry) (more : List (List ℕ)) (tries : List Try) (written : List ℕ) → tcp.IsWhy blind quiet es more tries written → (k : ℕ) × (written ≡ take k (replies_in tries))
+why_written true quiet es more tries written why = (length (replies_in tries), why.written_is ∙ whole (replies_in tries))
+why_written false quiet es more tries written why =
+    let one : replies_in (why.before ++ why.reply ∷ []) ≡ replies_in why.before ++ framed why.reply.octets = flat_map-append (λ (r : Try). framed r.octets) why.before (why.reply ∷ []) ∙ ap (λ xs. replies_in why.before ++ xs) (append-nil (framed why.reply.octets)) in
+    (length (replies_in why.before) + why.octets, why.written_is ∙ sym (ap (λ xs. take (length (replies_in why.before) + why.octets) xs) (ap replies_in why.tries_are ∙ one) ∙ take_more (replies_in why.before) (framed why.reply.octets) why.octets))
+
+is_in_part : (blind : Bool) (quiet : List ℕ → Bool) (t : Talk) (es : List Entry) (tries : List Try) → IsTakenInPart blind quiet t es tries → IsTalk t (packets es) tries
+is_in_part blind quiet t es tries w =
+    let last = w.last in
+    let split = w.last_is.split in
+    let wrote = why_written blind quiet last.entries w.more tries t.written w.why in
+    let all : octets_of w.rounds ++ last.piece.octets ≡ flat_map framed (octets_in es) ++ (flat_map framed w.more ++ split.rest) =
+    split.parts ∙ ap (λ xs. xs ++ split.rest) (flat_map-append framed (flat_map messages_of w.rounds ++ messages_of last) w.more)
+    ∙ append_assoc (flat_map framed (flat_map messages_of w.rounds ++ messages_of last)) (flat_map framed w.more) split.rest
+    ∙ ap (λ ms. flat_map framed ms ++ (flat_map framed w.more ++ split.rest)) (ap (λ ms. ms ++ messages_of last) (messages_are w.rounds) ∙ sym (map-append (λ (e : Entry). e.packet.octets) (entries w.rounds) last.entries) ∙ ap octets_in (sym w.taken_are)) in
+    record {
+      from = All-map (λ (p : Packet). p.from ≡ t.peer) (λ (e : Entry). e.packet) es (subst (λ xs. All (λ (e : Entry). e.packet.from ≡ t.peer) xs) (sym w.taken_are) (All-append (λ (e : Entry). e.packet.from ≡ t.peer) (entries w.rounds) last.entries (from_on quiet t.peer [] [] w.rounds w.rounds_are) w.last_is.from));
+      more = flat_map framed w.more ++ split.rest;
+      read = ap (flat_map (λ (x : Piece). x.octets)) w.pieces ∙ flat_map-append (λ (x : Piece). x.octets) (map (λ (r : Round). r.piece) w.rounds) (last.piece ∷ []) ∙ ap₂ (λ xs ys. xs ++ ys) (pieces_are w.rounds) (append-nil last.piece.octets) ∙ all
+          ∙ ap (λ xs. xs ++ (flat_map framed w.more ++ split.rest)) (sym (framed_are es));
+      cut = wrote.0;
+      written = wrote.1;
+    }
+
+is_talk : (blind : Bool) (quiet : List ℕ → Bool) (t : Talk) (es : List Entry) (tries : List Try) → tcp.IsTalk blind quiet t es tries → IsTalk t (packets es) tries
+is_talk true quiet t es tries h = is_in_part true quiet t es tries h
+is_talk false quiet t es tries (inl h) = is_whole quiet t es tries h
+is_talk false quiet t es tries (inr h) = is_in_part false quiet t es tries h
+
+-- ALL CONVERSATIONS
+
+abbrev share : Conversation → Share
+share c = record { messages = packets c.taken; replies = c.tries }
+
+are_talks : (quiet : List ℕ → Bool) (cs : List Conversation) → All (λ (c : Conversation). tcp.IsTalk c.blind quiet c.talk c.taken c.tries) cs → AreTalks (map (λ (c : Conversation). c.talk) cs) (map share cs)
+are_talks quiet [] all = refl
+are_talks quiet (c ∷ cs) all = (is_talk c.blind quiet c.talk c.taken c.tries (all 0 c (omega arith)), are_talks quiet cs (λ k d within. all (suc k) d (omega arith)))
+
+all_messages : (cs : List Conversation) → flat_map (λ (s : Share). s.messages) (map share cs) ≡ packets (flat_map (λ (c : Conversation). c.taken) cs)
+all_messages [] = refl
+all_messages (c ∷ cs) = ap (λ ps. packets c.taken ++ ps) (all_messages cs) ∙ sym (map-append (λ (e : Entry). e.packet) c.taken (flat_map (λ (c : Conversation). c.taken) cs))
+
+all_replies : (cs : List Conversation) → flat_map (λ (s : Share). s.replies) (map share cs) ≡ flat_map (λ (c : Conversation). c.tries) cs
+all_replies [] = refl
+all_replies (c ∷ cs) = ap (λ ps. c.tries ++ ps) (all_replies cs)
+
+-- the streams tell of no conversation more; the door's count did not fall
+abbrev pub IsStreamIdle : StreamLaneTold → StreamLaneTold → Type 0
+IsStreamIdle before after = BothTell before.port after.port (λ b a. (a.closed ≡ b.closed) × (a.current ≡ b.current)) × (before.door_faults ≤ after.door_faults)
+
+-- the streams were opened at most
+same_streams : (s : Option StreamsTold) → BothTell s s (λ b a. (a.closed ≡ b.closed) × (a.current ≡ b.current))
+same_streams None = tt
+same_streams (Some b) = (refl, refl)
+
+open_streams : (listen : Listen) (r : Opening) (b c : StreamsTold) → streams.IsOpening listen r b c → (c.closed ≡ b.closed) × (c.current ≡ b.current)
+open_streams listen opening.Ready b c h = (ap (λ (p : StreamsTold). p.closed) h, ap (λ (p : StreamsTold). p.current) h)
+open_streams listen opening.Failed b c h = (ap (λ (p : StreamsTold). p.closed) h.1, ap (λ (p : StreamsTold). p.current) h.1)
+
+pub idle_streams : (a b c : StreamLaneTold) → IsStreamIdle a b → IsStreamIdle b c → IsStreamIdle a c
+idle_streams a b c h i = (
+  tells_on a.port b.port c.port (λ x y. (y.closed ≡ x.closed) × (y.current ≡ x.current)) (λ x y. (y.closed ≡ x.closed) × (y.current ≡ x.current)) (λ x y. (y.closed ≡ x.closed) × (y.current ≡ x.current)) (λ x y z f g. (g.0 ∙ f.0, g.1 ∙ f.1)) h.0 i.0,
+  let l = h.1 in
+      let m = i.1 in
+      omega (arith, l, m),
+)
+
+pub stream_same : (a b : StreamLaneTold) → a ≡ b → IsStreamIdle b a
+stream_same a b same = subst (IsStreamIdle b) (sym same) (same_streams b.port, omega arith)
+
+opened : (listen : Listen) (r : Opening) (b c : StreamLaneTold) → IsStreamOpening listen r b c → IsStreamIdle b c
+opened listen r b c h = (
+  tells_so b.port c.port (streams.IsOpening listen r) (λ x y. (y.closed ≡ x.closed) × (y.current ≡ x.current)) (open_streams listen r) h.port,
+  let same = ap (λ (l : StreamLaneTold). l.door_faults) h.rest in
+      omega (arith, same),
+)
+
+pub stream_ready : (tcp : Option Listen) (b c : StreamLaneTold) → IsStreamReady tcp b c → IsStreamIdle b c
+stream_ready None b c h = stream_same c b h
+stream_ready (Some at) b c h = opened at opening.Ready b c h
+
+pub stream_shut : (tcp : Option Listen) (b c : StreamLaneTold) → IsStreamShut tcp b c → IsStreamIdle b c
+stream_shut None b c h = absurd h
+stream_shut (Some at) b c h = opened at opening.Failed b c h
+
+pub stream_idle : (t : Option Plan) (maps : List Version) (result : Status) (a c : StreamLaneTold) → AreMaps t maps → IsStreamIdle a c → IsStreamLane t maps result a c
+stream_idle t maps result a c good h = record {
+  events = [];
+  worker = record { further = []; good = subst (AreMaps t) (sym (append-nil maps)) good; none = λ ok. refl; cause = inl refl; right = tt; notes = inl refl };
+  talks = tells_so a.port c.port (λ x y. (y.closed ≡ x.closed) × (y.current ≡ x.current)) (HaveTalked [] []) (λ x y g none. ([], [], g.0 ∙ sym (append-nil x.closed), refl, refl, refl)) h.0;
+}
+
+-- what a lane's turns tell of conversations
+abbrev Runs : List Version → ℕ → Bool → List StreamTurn → ℕ → Type 0
+Runs over w closes log refusals = (b : StreamsTold) → b.current ≡ None → (talks : List Talk) × ((closing_if closes (fold stream_turn b log)).closed ≡ b.closed ++ talks) × ((closing_if closes (fold stream_turn b log)).current ≡ None)
+    × IsStreamRun stream_replies over w 0 0 refusals talks (entries_of stream_replies.way (lane_of log)) (tries_of (lane_of log))
+
+made_stream : (t : Option Plan) (maps further over : List Version) (result : Status) (a b c : StreamLaneTold) (w refusals : ℕ) (closes : Bool) (log : List StreamTurn) → AreMaps t (maps ++ further) → (result ≡ status.Ok → further ≡ []) → (further ≡ []) ⊎ Rose b.door_faults c.door_faults ⊎ (length maps ≤ c.greatest)
+    → IsLaneRun stream_replies (maps ++ further) w 0 0 (entries_of stream_replies.way (lane_of log)) (tries_of (lane_of log)) → fate.IsTold 0 (lane_of log) → flat_map (λ (x : Turn). x.notes) (lane_of log) ≡ range_with_len 0 c.noted → IsStreamIdle a b
+    → BothTell b.port c.port (λ x y. y ≡ closing_if closes (fold stream_turn x log)) → Runs over w closes log refusals → IsStreamLane t maps result a c
+made_stream t maps further over result a b c w refusals closes log good none cause run minded notes still port runs =
+    let events = made is_silent (lane_of log) (tries_of (lane_of log)) in
+    record {
+      events = events;
+      worker = record { further = further; good = good; none = none; cause = cause_from a.door_faults b.door_faults c.door_faults (further ≡ []) (length maps ≤ c.greatest) still.1 cause; right = right way.Stream (maps ++ further) w (lane_of log) 0 0 0 0 (tries_of (lane_of log)) run minded (omega arith); notes = inr (heard_made is_silent (lane_of log) (tries_of (lane_of log)) ∙ notes) };
+      talks = tells_on a.port b.port c.port (λ x y. (y.closed ≡ x.closed) × (y.current ≡ x.current)) (λ x y. y ≡ closing_if closes (fold stream_turn x log)) (HaveTalked (flat_map taken events) (flat_map tried events)) (λ x y z f g. talked x y z f g) still.0 port;
+    }
+  where
+    talked : (x y z : StreamsTold) → (y.closed ≡ x.closed) × (y.current ≡ x.current) → z ≡ closing_if closes (fold stream_turn y log) → HaveTalked (flat_map taken (made is_silent (lane_of log) (tries_of (lane_of log)))) (flat_map tried (made is_silent (lane_of log) (tries_of (lane_of log)))) x z
+    talked x y z f g none =
+        let r = runs y (f.1 ∙ none) in
+        let s = r.3 in (
+          r.0,
+          map share s.conversations,
+          ap (λ (p : StreamsTold). p.closed) g ∙ r.1 ∙ ap (λ xs. xs ++ r.0) f.0,
+          subst (λ ts. AreTalks ts (map share s.conversations)) (sym s.talks_are) (are_talks is_silent s.conversations s.each),
+          all_messages s.conversations ∙ ap packets (sym s.taken_are) ∙ sym (taken_made way.Stream (maps ++ further) w (lane_of log) 0 0 (tries_of (lane_of log)) run),
+          all_replies s.conversations ∙ sym s.tries_are ∙ sym (tried_made way.Stream (maps ++ further) w (lane_of log) 0 0 (tries_of (lane_of log)) run),
+        )
+
+pub stream_done : (t : Plan) (turns : ℕ) (first : Version) (rest : List Version) (w : ℕ) (result : Status) (x b c : StreamLaneTold) (e : Option Ended) → first.plan ≡ t → AreMaps (Some t) (first ∷ rest) → (result ≡ status.Ok → ⊥) → IsStreamIdle x b → AreStreamsDone turns first rest w e b c
+    → IsStreamLane (Some t) (first ∷ rest) result x c
+stream_done t turns first rest w result x b c None plan good not_ok still d = stream_idle (Some t) (first ∷ rest) result x c good (subst (IsStreamIdle x) (sym d) still)
+stream_done t turns first rest w result x b c (Some e) plan good not_ok still d =
+    let s = stands t stream_replies first rest w (lane_of d.log) d.served e d.shown b c plan good d.served_log in
+    made_stream (Some t) (first ∷ rest) s.further d.served_log.over result x b c w _ d.closes d.log s.good (λ ok. absurd (not_ok ok)) s.cause s.run d.served_log.told d.served_log.notes still d.streams d.runs
+
+-- streams that tell of nothing
+abbrev nothing : StreamsTold
+nothing = record { opens = []; closed = []; current = None; answers = 0; failed = 0; is_ended = false; greatest = 0; shortest = None }
+
+pub stream_well : (t : Plan) (tcp : Option Listen) (turns : ℕ) (maps : List Version) (w : ℕ) (result : Status) (x b c : StreamLaneTold) → AreMaps (Some t) maps → IsStreamIdle x b → IsStreamWell tcp turns maps w b c → IsStreamLane (Some t) maps result x c
+stream_well t None turns maps w result x b c good still d = stream_idle (Some t) maps result x c good (subst (IsStreamIdle x) (sym d) still)
+stream_well t (Some at) turns maps w result x b c good still d =
+    made_stream (Some t) maps [] maps result x b c w 0 d.closes d.log (subst (AreMaps (Some t)) (sym (append-nil maps)) good) (λ ok. refl) (inl refl) (subst (λ h. IsLaneRun stream_replies h w 0 0 (entries_of stream_replies.way (lane_of d.log)) (tries_of (lane_of d.log))) (sym (append-nil maps)) (run_of maps w d.log d.closes d.runs)) d.told d.notes still d.streams d.runs
+  where
+    run_of : (maps : List Version) (w : ℕ) (log : List StreamTurn) (closes : Bool) → Runs maps w closes log 0 → IsLaneRun stream_replies maps w 0 0 (entries_of stream_replies.way (lane_of log)) (tries_of (lane_of log))
+    run_of maps w log closes runs = (runs nothing refl).3.run
