@@ -3,7 +3,7 @@
 
     documents.py             all
     documents.py examples    each `$ glb ..`, and what stands below it, and README's session
-    documents.py names       each path, word and clause in backquotes
+    documents.py names       each path, word and clause in backquotes, and the names of docs/STATEMENT.md
     documents.py waits       each function that takes a handle by which it may wait or start threads
 
 A path has to be there: from the top, or in a crate that the same line or heading names, of a table's row also the words
@@ -36,6 +36,8 @@ MADE = re.compile(r"/(run|var|etc|proc|dev|usr)(/|$)|.*/out/")
 # the crates whose functions may wait, and in the map cell, which workers use, those functions: no other does, so no reply waits
 MAY_WAIT = {"big_run", "drive", "feed_queue", "glb", "glb_program", "mapper"}
 MAY_WAIT_IN_THE_CELL = {"admit", "close", "fill", "open", "publish", "put", "put_at", "put_back", "put_shown", "show", "start"}
+# words of docs/STATEMENT.md that are no definitions: the program, its commands, and `code`
+COMMANDS = {"glb", "serve", "map", "places", "check", "answer", "repair", "large", "good", "code"}
 # words in capitals stand for others
 STANDS_FOR_OTHERS = re.compile(r"[A-Z]+")
 
@@ -193,6 +195,29 @@ def clauses():
     return told.end()
 
 
+def statement():
+    """The names of docs/STATEMENT.md: each has to be a definition of the page, or, behind `of CRATE`, one of that crate."""
+    told = Tally("names of the page")
+    text = (TOP / "docs/STATEMENT.md").read_text()
+    for line in text.splitlines():
+        for name, crate in re.findall(r"`([A-Za-z_]\w*)`(?: of (\w+))?", line):
+            if name in CRATES or name in COMMANDS or name in crate_functions("headline"):
+                continue
+            told.take(name in definitions(crate if crate in CRATES else "headline"), f"docs/STATEMENT.md: no definition {name}")
+    for name in ("AreMaps", "IsFeasible", "IsGood", "Refuses", "IsReply", "AreRight", "IsRepaired", "IsHeadline"):
+        told.take(f"`{name}`" in text, f"docs/STATEMENT.md: it does not name {name}")
+    return told.end()
+
+
+def definitions(crate):
+    """What the specifications of a crate define."""
+    return {name for path in (TOP / "crates" / crate / "specs").glob("*.antt") for name in re.findall(r"^(?:abbrev|unfoldable|data|record|pub) (?:pub |record |data )*(\w+)", path.read_text(), re.M)}
+
+
+def crate_functions(crate):
+    return {name for path in (TOP / "crates" / crate / "src").glob("*.rt") for name in re.findall(r"\bfn (\w+)", path.read_text())}
+
+
 class Tally:
     """Counts what is found, and says what is not."""
 
@@ -240,7 +265,7 @@ def main():
     asked = sys.argv[1:] or ["examples", "names", "waits"]
     failed = run_examples() if "examples" in asked else 0
     if "names" in asked:
-        failed += look_up() + clauses()
+        failed += look_up() + clauses() + statement()
     if "waits" in asked:
         failed += waits()
     sys.exit(1 if failed else 0)

@@ -1,19 +1,21 @@
 -- What happened to a worker, by its turns and by its replies in their order.
-use Rattle.std.proofs.Common.{◌≡◌, inl, inr, ℕ, ◌≤◌, max, Bool, true, false, List, [], ◌∷◌, ◌++◌, map, fold, flat_map, All, None, refl, ap, ap₂, sym, ◌∙◌, arith, append_assoc, append-nil}
+use Rattle.std.proofs.Common.{◌≡◌, inl, inr, ℕ, ◌≤◌, max, Bool, true, false, List, [], ◌∷◌, ◌++◌, map, fold, flat_map, get_or, All, None, refl, true≢false, ap, ap₂, sym, ◌∙◌, arith, append_assoc, append-nil}
 use Rattle.std.proofs.lemmas.Bool.{cases_Bool}
 use Rattle.std.proofs.lemmas.List.{map-append}
-use Rattle.std.proofs.lemmas.List.Elements.{All-head, All-tail}
+use Rattle.std.proofs.lemmas.List.Elements.{All-append, All-cons, All-head, All-nil, All-tail}
 use Rattle.outside.specs.Port.{Packet, PortTold, Taken, Try}
 use Rattle.addr_text.specs.declared.address.Addr.{Addr}
 use Rattle.published_map.specs.Version.{Version}
 use Rattle.answer_core.specs.declared.way.Way.{Way}
 use Rattle.answer_core.specs.Reply as stated
 use Rattle.answer_core.proofs.Silence.{unanswered}
-use Rattle.lane_model.specs.Lanes.{IsLaneRun, IsTryOf, draw, following}
+use Rattle.lane_model.specs.Lanes.{IsLaneRun, IsTryOf, following}
 use Rattle.lane_model.specs.Replies.{is_silent, replies_by, reply_of}
-use Rattle.lane_model.specs.Turns.{Came, Fate, IsTold, Turn, entries_of, entries_of_came, floor_after, idle, oversize, ended, failed, port_after, port_turn, refused, took, tries_of, tries_of_came}
+use Rattle.lane_model.specs.Turns.{AreCalm, Came, Fate, IsTold, Turn, entries_of, entries_of_came, floor_after, idle, is_calm, is_refused, oversize, ended, failed, port_after, port_turn, refused, took, tries_of, tries_of_came}
 use Rattle.lane_model.specs.Turns as fate
-use Rattle.headline.specs.Headline.{AreRight, Event, IsReply, came, heard, knew, missed, replied, silent, told, tried}
+use Rattle.headline.specs.Headline.{AreRight, IsReply}
+use Rattle.headline.specs.View.{Event, came, heard, knew, lost, missed, replied, silent, told, tried}
+use Rattle.headline.specs.Headline as page
 
 -- notes ahead of what happens
 abbrev pub tell : List ℕ → List Event → List Event
@@ -48,22 +50,22 @@ quiet_none : (v : Version) (from : Addr) (octets : List ℕ) (number : ℕ) (by 
 unfolding is_silent
 quiet_none v from octets number by h = unanswered v from octets number by h
 
-is_reply : (by : Way) (h : List Version) (w n known : ℕ) (d : Packet) (s : Try) → IsTryOf (replies_by by) h w n (record { packet = d; known = known; way = by }) s → IsReply by h d s
+is_reply : (by : Way) (h : List Version) (w n known : ℕ) (d : Packet) (s : Try) → IsTryOf (replies_by by) h w n (record { packet = d; known = known; way = by }) s → IsReply by h (page.draw w n) d s
 unfolding reply_of
-is_reply by h w n known d s t = record { to = t.to; map = t.version.0; draw = draw w n; is_map = t.version.1; octets = t.version.2 }
+is_reply by h w n known d s t = record { to = t.to; map = t.version.0; is_map = t.version.1; octets = t.version.2 }
 
-tells : (by : Way) (h : List Version) (newest most : ℕ) (notes : List ℕ) (events : List Event) → newest ≤ most → All (λ s. s ≤ most) notes → ((m : ℕ) → m ≤ most → AreRight by h m events) → AreRight by h newest (tell notes events)
-tells by h newest most [] events l all on = on newest l
-tells by h newest most (n ∷ notes) events l all on =
-    let first : n ≤ most = All-head (λ s. s ≤ most) n notes all in
-    tells by h (max newest n) most notes events (omega (arith, l, first)) (All-tail (λ s. s ≤ most) n notes all) on
+tells : (by : Way) (h : List Version) (w n newest most : ℕ) (notes : List ℕ) (events : List Event) → newest ≤ most → All (λ s. s ≤ most) notes → ((m : ℕ) → m ≤ most → AreRight by h w n m events) → AreRight by h w n newest (tell notes events)
+tells by h w n newest most [] events l all on = on newest l
+tells by h w n newest most (o ∷ notes) events l all on =
+    let first : o ≤ most = All-head (λ s. s ≤ most) o notes all in
+    tells by h w n (max newest o) most notes events (omega (arith, l, first)) (All-tail (λ s. s ≤ most) o notes all) on
 
 -- that all is right from behind some turns on
 abbrev pub IsOn : Way → List Version → ℕ → List Turn → Type 0
-IsOn by h w log = (n r f newest : ℕ) (tries : List Try) → IsLaneRun (replies_by by) h w n r (entries_of by log) tries → IsTold f log → newest ≤ max r f → AreRight by h newest (made is_silent log tries)
+IsOn by h w log = (n r f newest : ℕ) (tries : List Try) → IsLaneRun (replies_by by) h w n r (entries_of by log) tries → IsTold f log → newest ≤ max r f → AreRight by h w n newest (made is_silent log tries)
 
 entry : (by : Way) (h : List Version) (w n r known f m : ℕ) (d : Packet) (log : List Turn) (tries : List Try) → m ≤ max r known → IsLaneRun (replies_by by) h w n r (record { packet = d; known = known; way = by } ∷ entries_of by log) tries → IsTold f log → IsOn by h w log
-    → AreRight by h m (spoken known d (is_silent d.octets) tries (λ ts. made is_silent log ts))
+    → AreRight by h w n m (spoken known d (is_silent d.octets) tries (λ ts. made is_silent log ts))
 entry by h w n r known f m d log [] l run known_by on =
     let low = run.0 in
     rw run.1 (omega (arith, l, low), (λ v number. quiet_none v d.from.addr d.octets number by run.1), on (following n) known f known [] run.2 known_by (omega arith))
@@ -77,7 +79,7 @@ entry by h w n r known f m d log (s ∷ tries) l run known_by on = elim (cases_B
 ]
 
 step : (by : Way) (h : List Version) (w n r known m : ℕ) (c : Came) (log : List Turn) (tries : List Try) → m ≤ max r known → IsLaneRun (replies_by by) h w n r (entries_of_came by known c ++ entries_of by log) tries → IsTold (floor_after known c) log → IsOn by h w log
-    → AreRight by h m (turned is_silent known c tries (λ ts. made is_silent log ts))
+    → AreRight by h w n m (turned is_silent known c tries (λ ts. made is_silent log ts))
 step by h w n r known m idle log tries l run known_by on = on n r known m tries run known_by l
 step by h w n r known m oversize log tries l run known_by on = on n r known m tries run known_by l
 step by h w n r known m ended log tries l run known_by on = on n r known m tries run known_by l
@@ -93,7 +95,7 @@ right by h w (t ∷ log) n r f newest tries run known_by l =
     let a : f ≤ t.shown = known_by.0 in
     let b : t.shown ≤ known = known_by.1 in
     let notes : All (λ s. s ≤ max r known) t.notes = λ k d within. let one = known_by.2 k d within in omega (arith, one) in
-    tells by h newest (max r known) t.notes (turned is_silent t.known t.came tries (λ ts. made is_silent log ts)) (omega (arith, l, a, b)) notes (λ m low. step by h w n r known m t.came log tries low run known_by.3 (right by h w log))
+    tells by h w n newest (max r known) t.notes (turned is_silent t.known t.came tries (λ ts. made is_silent log ts)) (omega (arith, l, a, b)) notes (λ m low. step by h w n r known m t.came log tries low run known_by.3 (right by h w log))
 
 -- WHAT IS TOLD OF IT
 
@@ -208,6 +210,56 @@ pub tried_made : (by : Way) (h : List Version) (w : ℕ) (log : List Turn) → I
 tried_made by h w [] n r [] run = refl
 tried_made by h w [] n r (s ∷ tries) run = absurd run
 tried_made by h w (t ∷ log) n r tries run = tried_tell t.notes (turned is_silent t.known t.came tries (λ ts. made is_silent log ts)) ∙ step_all by h w n r t.known t.came log tries run (tried_made by h w log)
+
+-- where no look was refused, no message that has a reply stays without
+lost_tell : (notes : List ℕ) (events : List Event) → flat_map lost (tell notes events) ≡ flat_map lost events
+lost_tell [] events = refl
+lost_tell (n ∷ notes) events = lost_tell notes events
+
+abbrev pub IsNoneLost : Way → List Version → ℕ → List Turn → Type 0
+IsNoneLost by h w log = (n r : ℕ) (tries : List Try) → IsLaneRun (replies_by by) h w n r (entries_of by log) tries → flat_map lost (made is_silent log tries) ≡ []
+
+entry_lost : (by : Way) (h : List Version) (w n r known : ℕ) (d : Packet) (log : List Turn) (tries : List Try) → IsLaneRun (replies_by by) h w n r (record { packet = d; known = known; way = by } ∷ entries_of by log) tries → IsNoneLost by h w log
+    → flat_map lost (spoken known d (is_silent d.octets) tries (λ ts. made is_silent log ts)) ≡ []
+entry_lost by h w n r known d log [] run all = rw run.1 (all (following n) known [] run.2)
+entry_lost by h w n r known d log (s ∷ tries) run all = elim (cases_Bool (is_silent d.octets)) [
+  | inl e ↦ let rest : IsLaneRun (replies_by by) h w (following n) known (entries_of by log) (s ∷ tries) = rw e at run.1 in rw e (all (following n) known (s ∷ tries) rest)
+  | inr e ↦ let both : IsTryOf (replies_by by) h w n (record { packet = d; known = known; way = by }) s × IsLaneRun (replies_by by) h w (following n) s.serial (entries_of by log) tries = rw e at run.1 in
+      rw e (all (following n) s.serial tries both.1)
+]
+
+step_lost : (by : Way) (h : List Version) (w n r known : ℕ) (c : Came) (log : List Turn) (tries : List Try) → is_refused c ≡ false → IsLaneRun (replies_by by) h w n r (entries_of_came by known c ++ entries_of by log) tries → IsNoneLost by h w log → flat_map lost (turned is_silent known c tries (λ ts. made is_silent log ts)) ≡ []
+step_lost by h w n r known idle log tries calm run all = all n r tries run
+step_lost by h w n r known oversize log tries calm run all = all n r tries run
+step_lost by h w n r known ended log tries calm run all = all n r tries run
+step_lost by h w n r known failed log tries calm run all = all n r tries run
+step_lost by h w n r known (took d fate.silent) log tries calm run all = entry_lost by h w n r known d log tries run all
+step_lost by h w n r known (took d fate.refused) log tries calm run all = absurd (true≢false calm)
+step_lost by h w n r known (took d (fate.tried serial octets went)) log tries calm run all = entry_lost by h w n r known d log tries run all
+
+abbrev pub AreLooked : List Turn → Type 0
+AreLooked log = All (λ t. is_refused t.came ≡ false) log
+
+pub none_lost : (by : Way) (h : List Version) (w : ℕ) (log : List Turn) → AreLooked log → IsNoneLost by h w log
+none_lost by h w [] calm n r tries run = refl
+none_lost by h w (t ∷ log) calm n r tries run =
+    lost_tell t.notes (turned is_silent t.known t.came tries (λ ts. made is_silent log ts))
+    ∙ step_lost by h w n r t.known t.came log tries (All-head (λ (x : Turn). is_refused x.came ≡ false) t log calm) run (none_lost by h w log (All-tail (λ (x : Turn). is_refused x.came ≡ false) t log calm))
+
+calm_looked : (c : Came) → is_calm c ≡ true → is_refused c ≡ false
+calm_looked idle h = refl
+calm_looked oversize h = refl
+calm_looked ended h = refl
+calm_looked failed h = refl
+calm_looked (took d fate.silent) h = refl
+calm_looked (took d fate.refused) h = absurd (true≢false (sym h))
+calm_looked (took d (fate.tried serial octets went)) h = refl
+
+pub all_looked : (log : List Turn) → AreCalm log → AreLooked log
+all_looked log calm k d l = calm_looked (get_or log k d).came (calm k d l)
+
+pub last_looked : (before : List Turn) (t : Turn) → AreCalm before → t.came ≡ ended → AreLooked (before ++ t ∷ [])
+last_looked before t calm is = All-append (λ (x : Turn). is_refused x.came ≡ false) before (t ∷ []) (all_looked before calm) (All-cons (λ (x : Turn). is_refused x.came ≡ false) t [] (ap is_refused is) (All-nil (λ (x : Turn). is_refused x.came ≡ false)))
 
 -- WHAT A PORT TELLS
 

@@ -1,8 +1,8 @@
 -- A good map of the program is a good map.
-use Rattle.std.proofs.Common.{◌≡◌, inl, inr, ℕ, ◌+◌, ◌-◌, ◌<◌, ◌≤◌, ◌==◌, ◌&&◌, nat_lt, nat_le, Bool, true, false, if◌then◌else◌, List, [], ◌∷◌, length, map, sum_by, All, Contains, slice_get, Option, None, Some, IsSome, IsTrue, option_map, option_and_then, refl, ap, sym, subst, ◌∙◌, arith, nat_cmp}
+use Rattle.std.proofs.Common.{◌≡◌, inl, inr, ℕ, zero, suc, ◌+◌, ◌-◌, ◌<◌, ◌≤◌, ◌==◌, ◌&&◌, ◌||◌, nat_lt, nat_le, Bool, true, false, if◌then◌else◌, List, [], ◌∷◌, length, map, sum_by, All, Contains, slice_get, slice_index_or, Option, None, Some, IsSome, IsTrue, option_map, option_and_then, refl, ap, sym, subst, ◌∙◌, arith, nat_cmp}
 use Rattle.std.specs.Ordering.{ordering_then, is_le}
-use Rattle.std.specs.List.{list_any, range_with_len}
-use Rattle.std.proofs.lemmas.Bool.{cases_Bool, cases_order, cases_lt, and_parts, and_from, eqb-true, eq-eqb, ne_eqb, ltb-true, lt-ltb, le-ltb, false≢true}
+use Rattle.std.specs.List.{AllPairs, list_any, range_with_len}
+use Rattle.std.proofs.lemmas.Bool.{cases_Bool, cases_order, cases_lt, and_parts, and_from, eqb-true, eq-eqb, ne_eqb, ltb-true, lt-ltb, le-ltb, or_cases, false≢true}
 use Rattle.std.proofs.lemmas.Bool.Decides.{nat_tests}
 use Rattle.std.proofs.lemmas.List.Sums.{sum_by-cons}
 use Rattle.std.proofs.lemmas.List.Elements.{All-from_get_or}
@@ -15,11 +15,11 @@ use Rattle.map_model.specs.declared.lines.By.TheVariants as by
 use Rattle.map_model.specs.declared.lines.MapLine.{MapLine}
 use Rattle.map_model.specs.declared.lines.NameLine.{NameLine}
 use Rattle.map_model.specs.Market.{Market, capacity_of, choice_at, choices_of, demand_of, group_at, key_of, limit_of, node_at, path, pool_of}
-use Rattle.map_model.specs.Allocation.{AreLines, IsOffer, amount_at, counts_at, is_at_limit, is_full_of_better, is_line, is_wanted, key_le, line_at, line_key, load, name_of, names_of, none_worse, offers_from, offers_of, placed_through, refuser_of, refusing_node, units_of}
+use Rattle.map_model.specs.Allocation.{AreLines, IsOffer, amount_at, counts_at, is_at_limit, is_before, is_full_of_better, is_line, is_wanted, key_le, line_at, line_key, load, name_of, names_of, none_worse, offers_from, offers_of, placed_through, refuser_of, refusing_node, units_of}
 use Rattle.map_model.specs.Allocation as code
-use Rattle.headline.specs.Headline.{Has, IsAtLeast, IsGood, Refuses, Wants, is_under, pool_at, units, up}
-use Rattle.headline.specs.Headline as page
+use Rattle.headline.specs.Headline.{Has, IsAhead, IsAtLeast, IsFeasible, IsGood, Refuses, Wants, is_under, pool_at, units, up}
 use Rattle.headline.specs.View.{Choice, Group, Line, Name, Node, choice, group, instance, line, name, node, node_of}
+use Rattle.headline.specs.Headline as page
 use Rattle.headline.proofs.Lists.{In, all_in, contains_from, found, from_flat, from_kept, from_map, from_range, got, in_flat, in_from, in_kept, in_map, in_range, sum_kept}
 use Rattle.headline.proofs.Trees.{IsForest, climb_all, path_there, up_is}
 
@@ -31,14 +31,29 @@ no_choice = record { pool = record { 0 = 0 }; score = 0; limit = 0 }
 pub has_of : (m : Market) (g k : ℕ) → IsOffer m g k → Has (instance m) g k (choice (choice_at m g k))
 has_of m g k o = (group (group_at m g), got group m.groups g (record { demand = 0; choices = [] }) o.group, got choice (choices_of m g) k (record { pool = record { 0 = 0 }; score = 0; limit = 0 }) o.place)
 
-at_same : {X : Type 0} (o : Option X) (x y : X) → o ≡ Some x → o ≡ Some y → x ≡ y
+pub at_same : {X : Type 0} (o : Option X) (x y : X) → o ≡ Some x → o ≡ Some y → x ≡ y
 at_same o x y a b = same_Some x y (sym a ∙ b)
 
-group_of : (m : Market) (g : ℕ) (G : Group) → slice_get (map group m.groups) g ≡ Some G → (g < length m.groups) × (group (group_at m g) ≡ G)
+pub group_of : (m : Market) (g : ℕ) (G : Group) → slice_get (map group m.groups) g ≡ Some G → (g < length m.groups) × (group (group_at m g) ≡ G)
 group_of m g G h =
     let within : g < length (map group m.groups) = slice_get_within (map group m.groups) g G h in
     let l : g < length m.groups = omega (arith, within, length-map m.groups group) in
     (l, at_same (slice_get (map group m.groups) g) _ G (got group m.groups g (record { demand = 0; choices = [] }) l) h)
+
+pub group_has : (m : Market) (g : ℕ) → g < length m.groups → slice_get (instance m).groups g ≡ Some (group (group_at m g))
+group_has m g l = got group m.groups g (record { demand = 0; choices = [] }) l
+
+pub node_has : (m : Market) (n : ℕ) → n < length m.nodes → slice_get (instance m).nodes n ≡ Some (node (node_at m n))
+node_has m n l = got node m.nodes n (record { capacity = 0; parent = None; is_pool = false }) l
+
+pub node_of_page : (m : Market) (n : ℕ) (N : Node) → slice_get (map node m.nodes) n ≡ Some N → (n < length m.nodes) × (N.capacity ≡ capacity_of m n)
+node_of_page m n N at =
+    let within : n < length (map node m.nodes) = slice_get_within (map node m.nodes) n N at in
+    let l : n < length m.nodes = omega (arith, within, length-map m.nodes node) in
+    (l, ap (λ (x : Node). x.capacity) (sym (at_same (slice_get (map node m.nodes) n) _ N (node_has m n l) at)))
+
+pub demand_is : (m : Market) (g : ℕ) (G : Group) → slice_get (map group m.groups) g ≡ Some G → (g < length m.groups) × (G.demand ≡ demand_of m g)
+demand_is m g G at = let r = group_of m g G at in (r.0, ap (λ (x : Group). x.demand) (sym r.1))
 
 pub offer_of : (m : Market) (g k : ℕ) (c : Choice) → Has (instance m) g k c → IsOffer m g k × (choice (choice_at m g k) ≡ c)
 offer_of m g k c (G, at, h) =
@@ -48,7 +63,7 @@ offer_of m g k c (G, at, h) =
     let l : k < length (choices_of m g) = omega (arith, within, length-map (choices_of m g) choice) in
     (record { group = there.0; place = l }, at_same (slice_get (map choice (choices_of m g)) k) _ c (got choice (choices_of m g) k (record { pool = record { 0 = 0 }; score = 0; limit = 0 }) l) chosen)
 
-pool_there : (m : Market) → IsForest m → (g k : ℕ) → IsOffer m g k → pool_of m g k < length m.nodes
+pub pool_there : (m : Market) → IsForest m → (g k : ℕ) → IsOffer m g k → pool_of m g k < length m.nodes
 pool_there m ok g k o = ok.pools g k o
 
 pool_is : (m : Market) (g k : ℕ) → IsOffer m g k → pool_at (instance m) g k ≡ Some (pool_of m g k)
@@ -70,14 +85,14 @@ offered m lines i h =
     let c = and_parts _ _ b.0 in
     record { group = ltb-true _ _ c.0; place = ltb-true _ _ c.1 }
 
-some_units : (m : Market) (lines : List MapLine) (i : ℕ) → is_line m lines i ≡ true → 0 < (line_at lines i).amount
+pub some_units : (m : Market) (lines : List MapLine) (i : ℕ) → is_line m lines i ≡ true → 0 < (line_at lines i).amount
 some_units m lines i h = ltb-true _ _ (and_parts _ _ (and_parts _ _ h).0).1
 
 -- a line at an offer
 abbrev At : Market → MapLine → Type 0
 At m l = IsOffer m l.group.0 l.place
 
-all_at : (m : Market) (lines : List MapLine) → AreLines m lines → (l : MapLine) → In lines l → At m l
+pub all_at : (m : Market) (lines : List MapLine) → AreLines m lines → (l : MapLine) → In lines l → At m l
 all_at m lines form l i = from (contains_from lines l i)
   where
     from : Contains lines l → At m l
@@ -85,9 +100,17 @@ all_at m lines form l i = from (contains_from lines l i)
         let all : All (At m) lines = All-from_get_or (At m) lines (record { group = record { 0 = 0 }; place = 0; amount = 0 }) (λ j low. offered m lines j (form j low)) in
         subst (At m) is (all k l within)
 
+pub some_units_in : (m : Market) (lines : List MapLine) → AreLines m lines → (l : MapLine) → In lines l → 0 < l.amount
+some_units_in m lines form l i = from (contains_from lines l i)
+  where
+    from : Contains lines l → 0 < l.amount
+    from (k, within, is) =
+        let all : All (λ (x : MapLine). 0 < x.amount) lines = All-from_get_or (λ (x : MapLine). 0 < x.amount) lines (record { group = record { 0 = 0 }; place = 0; amount = 0 }) (λ j low. some_units m lines j (form j low)) in
+        subst (λ (x : MapLine). 0 < x.amount) is (all k l within)
+
 -- SUMS
 
-tested : (T : Line → Bool) (t : ℕ → ℕ → Bool) (lines : List MapLine) → ((l : MapLine) → In lines l → T (line l) ≡ t l.group.0 l.place) → units T (map line lines) ≡ units_of t lines
+pub tested : (T : Line → Bool) (t : ℕ → ℕ → Bool) (lines : List MapLine) → ((l : MapLine) → In lines l → T (line l) ≡ t l.group.0 l.place) → units T (map line lines) ≡ units_of t lines
 tested T t lines same = sum_kept (λ (l : Line). l.units) T (map line lines) ∙ go lines same
   where
     go : (ls : List MapLine) → ((l : MapLine) → In ls l → T (line l) ≡ t l.group.0 l.place) → sum_by (λ (l : Line). if T l then l.units else 0) (map line ls) ≡ units_of t ls
@@ -103,17 +126,17 @@ tested T t lines same = sum_kept (λ (l : Line). l.units) T (map line lines) ∙
           rest,
         )
 
-placed_is : (lines : List MapLine) (g : ℕ) → page.placed (map line lines) g ≡ code.placed lines g
+pub placed_is : (lines : List MapLine) (g : ℕ) → page.placed (map line lines) g ≡ code.placed lines g
 placed_is lines g = tested (λ l. l.group == g) (λ h _. h == g) lines (λ l i. refl)
 
-amount_is : (lines : List MapLine) (g k : ℕ) → page.amount (map line lines) g k ≡ amount_at lines g k
+pub amount_is : (lines : List MapLine) (g k : ℕ) → page.amount (map line lines) g k ≡ amount_at lines g k
 amount_is lines g k = tested (λ l. l.group == g && l.place == k) (λ h j. (h == g) && (j == k)) lines (λ l i. refl)
 
-under_is : (m : Market) → IsForest m → (n : ℕ) (l : MapLine) → At m l → is_under (instance m) n (line l) ≡ counts_at m n l.group.0 l.place
+pub under_is : (m : Market) → IsForest m → (n : ℕ) (l : MapLine) → At m l → is_under (instance m) n (line l) ≡ counts_at m n l.group.0 l.place
 under_is m ok n l o =
     ap (λ at. list_any (λ x. x == n) (page.path (instance m) at)) (pool_is m l.group.0 l.place o) ∙ ap (list_any (λ x. x == n)) (path_is m ok (pool_of m l.group.0 l.place) (pool_there m ok l.group.0 l.place o))
 
-load_is : (m : Market) → IsForest m → (lines : List MapLine) → AreLines m lines → (n : ℕ) → page.load (instance m) (map line lines) n ≡ load m lines n
+pub load_is : (m : Market) → IsForest m → (lines : List MapLine) → AreLines m lines → (n : ℕ) → page.load (instance m) (map line lines) n ≡ load m lines n
 load_is m ok lines form n = tested (is_under (instance m) n) (counts_at m n) lines (λ l i. under_is m ok n l (all_at m lines form l i))
 
 -- PLACES THAT A GROUP WOULD RATHER USE
@@ -134,7 +157,7 @@ split (l ∷ ls) g k = omega (
     one b j a = grind (arith, nat_tests)
 
 -- units that pass a test are those of some line, and of any line that passes it
-some_line : (t : ℕ → ℕ → Bool) (lines : List MapLine) → 0 < units_of t lines → (l : MapLine) × In lines l × (t l.group.0 l.place ≡ true) × (0 < l.amount)
+pub some_line : (t : ℕ → ℕ → Bool) (lines : List MapLine) → 0 < units_of t lines → (l : MapLine) × In lines l × (t l.group.0 l.place ≡ true) × (0 < l.amount)
 some_line t [] h = absurd (omega (arith, h))
 some_line t (l ∷ ls) h = by (λ more. some_line t ls more) (t l.group.0 l.place) refl
   where
@@ -148,7 +171,7 @@ some_line t (l ∷ ls) h = by (λ more. some_line t ls more) (t l.group.0 l.plac
     ]
     by rest false is = let c : (if t l.group.0 l.place then l.amount else 0) ≡ 0 = rw is refl in let r = rest (omega (arith, c, sum_is, h)) in (r.0, inr r.1, r.2, r.3)
 
-at_least : (t : ℕ → ℕ → Bool) (lines : List MapLine) (l : MapLine) → In lines l → t l.group.0 l.place ≡ true → l.amount ≤ units_of t lines
+pub at_least : (t : ℕ → ℕ → Bool) (lines : List MapLine) (l : MapLine) → In lines l → t l.group.0 l.place ≡ true → l.amount ≤ units_of t lines
 at_least t [] l i h = absurd i
 at_least t (x ∷ xs) l (inl e) h =
     let is : t x.group.0 x.place ≡ true = subst (λ (v : MapLine). t v.group.0 v.place ≡ true) (sym e) h in
@@ -157,7 +180,7 @@ at_least t (x ∷ xs) l (inl e) h =
     omega (arith, c, sum_by-cons (λ (v : MapLine). if t v.group.0 v.place then v.amount else 0) x xs, same)
 at_least t (x ∷ xs) l (inr i) h = omega (arith, sum_by-cons (λ (v : MapLine). if t v.group.0 v.place then v.amount else 0) x xs, at_least t xs l i h)
 
-wanted_from : (m : Market) (lines : List MapLine) (g k : ℕ) → code.placed lines g ≤ demand_of m g → Wants (instance m) (map line lines) g k → IsTrue (is_wanted m lines g k)
+pub wanted_from : (m : Market) (lines : List MapLine) (g k : ℕ) → code.placed lines g ≤ demand_of m g → Wants (instance m) (map line lines) g k → IsTrue (is_wanted m lines g k)
 wanted_from m lines g k fits (G, at, h) =
     let there = group_of m g G at in
     let asks : G.demand ≡ demand_of m g = ap (λ (x : Group). x.demand) (sym there.1) in
@@ -175,7 +198,7 @@ wanted_from m lines g k fits (G, at, h) =
         let test : ((r.0.group.0 == g) && nat_lt k r.0.place) ≡ true = and_from _ _ (eq-eqb _ _ of') (lt-ltb _ _ (omega (arith, past, place))) in
         omega (arith, fits, split lines g k, at_least (λ h j. (h == g) && nat_lt k j) lines r.0 r.1 test, units, some)
 
-wants_from : (m : Market) (lines : List MapLine) (g k : ℕ) → g < length m.groups → IsTrue (is_wanted m lines g k) → Wants (instance m) (map line lines) g k
+pub wants_from : (m : Market) (lines : List MapLine) (g k : ℕ) → g < length m.groups → IsTrue (is_wanted m lines g k) → Wants (instance m) (map line lines) g k
 wants_from m lines g k l h = (
   group (group_at m g),
   got group m.groups g (record { demand = 0; choices = [] }) l,
@@ -294,29 +317,75 @@ of_name m lines o x h = elim (cases_Bool (is_wanted m lines o.group.0 o.place)) 
     made None is e = absurd (none-some x e)
     made (Some b) is e = (b, is, same_Some _ x e)
 
+-- ORDER
+
+ahead_on : (a b c : Line) → IsAhead a b → IsAhead b c → IsAhead a c
+ahead_on a b c (inl x) (inl y) = inl (omega (arith, x, y))
+ahead_on a b c (inl x) (inr (e, y)) = inl (omega (arith, x, e))
+ahead_on a b c (inr (e, x)) (inl y) = inl (omega (arith, e, y))
+ahead_on a b c (inr (e, x)) (inr (f, y)) = inr (e ∙ f, omega (arith, x, y))
+
+ahead_from : (a b : MapLine) → is_before a b ≡ true → IsAhead (line a) (line b)
+ahead_from a b h = elim (or_cases _ _ h) [
+  | inl less ↦ inl (ltb-true _ _ less)
+  | inr same ↦ let p = and_parts _ _ same in inr (eqb-true _ _ p.0, ltb-true _ _ p.1)
+]
+
+ahead_next : (m : Market) (lines : List MapLine) → AreLines m lines → (i : ℕ) → suc i < length lines → IsAhead (line (line_at lines i)) (line (line_at lines (suc i)))
+ahead_next m lines form i l =
+    let here : Bool = is_before (line_at lines (suc i - 1)) (line_at lines (suc i)) in
+    let p = and_parts (nat_lt (line_at lines (suc i)).group.0 (length m.groups) && nat_lt (line_at lines (suc i)).place (length (choices_of m (line_at lines (suc i)).group.0)) && nat_lt 0 (line_at lines (suc i)).amount) ((suc i == 0) || here) (form (suc i) l) in
+    let e : suc i - 1 ≡ i = omega arith in
+    elim (or_cases (suc i == 0) here p.1) [
+      | inl none ↦ absurd (omega (arith, eqb-true (suc i) 0 none))
+      | inr before ↦ ahead_from (line_at lines i) (line_at lines (suc i)) (subst (λ k. is_before (line_at lines k) (line_at lines (suc i)) ≡ true) e before)
+    ]
+
+ahead_all : (m : Market) (lines : List MapLine) → AreLines m lines → (i j : ℕ) → i < j → j < length lines → IsAhead (line (line_at lines i)) (line (line_at lines j))
+ahead_all m lines form i zero low l = absurd (omega (arith, low))
+ahead_all m lines form i (suc j) low l = elim (cases_lt i j) [
+  | inl less ↦ ahead_on (line (line_at lines i)) (line (line_at lines j)) (line (line_at lines (suc j))) (ahead_all m lines form i j less (omega (arith, l))) (ahead_next m lines form j l)
+  | inr all ↦ let e : j ≡ i = omega (arith, low, all) in subst (λ n. IsAhead (line (line_at lines n)) (line (line_at lines (suc j)))) e (ahead_next m lines form j l)
+]
+
+line_at_page : (lines : List MapLine) (i : ℕ) (d : Line) → i < length lines → slice_index_or (map line lines) i d ≡ line (line_at lines i)
+line_at_page [] i d l = absurd (omega (arith, l))
+line_at_page (x ∷ xs) zero d l = refl
+line_at_page (x ∷ xs) (suc i) d l = line_at_page xs i d (omega (arith, l))
+
+in_order : (m : Market) (lines : List MapLine) → AreLines m lines → AllPairs IsAhead (map line lines)
+in_order m lines form i j d low l =
+    let there : j < length lines = omega (arith, l, length-map lines line) in
+    subst (λ x. IsAhead x (slice_index_or (map line lines) j d)) (sym (line_at_page lines i d (omega (arith, low, there))))
+    (subst (λ y. IsAhead (line (line_at lines i)) y) (sym (line_at_page lines j d there)) (ahead_all m lines form i j low there))
+
+all_some : (m : Market) (lines : List MapLine) → AreLines m lines → All (λ (l : Line). 0 < l.units) (map line lines)
+all_some m lines form i d l =
+    let there : i < length lines = omega (arith, l, length-map lines line) in
+    subst (λ (x : Line). 0 < x.units) (sym (line_at_page lines i d there)) (some_units m lines i (form i there))
+
+pub feasible_is : (m : Market) → IsForest m → (lines : List MapLine) → AreLines m lines → code.IsFeasible m lines → IsFeasible (instance m) (map line lines)
+feasible_is m ok lines form feasible = record {
+  order = in_order m lines form;
+  some = all_some m lines form;
+  there = λ l c. there l (from_map line lines l (in_from (map line lines) l c));
+  demands = λ g G at. let r = demand_is m g G at in let h = feasible.demands g r.0 in omega (arith, placed_is lines g, r.1, h);
+  capacities = λ n N at. let r = node_of_page m n N at in let h = feasible.capacities n r.0 in omega (arith, load_is m ok lines form n, r.1, h);
+  limits = λ g k c has. let r = offer_of m g k c has in let d : c.limit ≡ limit_of m g k = ap (λ (x : Choice). x.limit) (sym r.1) in omega (arith, amount_is lines g k, d, feasible.limits g k r.0);
+}
+  where
+    there : (l : Line) → (x : MapLine) × In lines x × (line x ≡ l) → (c : Choice) × Has (instance m) l.group l.place c
+    there l (x, i, e) = (choice (choice_at m x.group.0 x.place), subst (λ (v : Line). Has (instance m) v.group v.place (choice (choice_at m x.group.0 x.place))) e (has_of m x.group.0 x.place (all_at m lines form x i)))
+
 -- ALL TOGETHER
 
 pub good_is_good : (m : Market) (lines : List MapLine) (names : List NameLine) → IsForest m → code.IsGood m lines names → IsGood (instance m) (map line lines) (map name names)
 good_is_good m lines names ok good = record {
-  there = λ l c. there l (from_map line lines l (in_from (map line lines) l c));
-  demands = λ g G at. let r = group_of m g G at in let d : G.demand ≡ demand_of m g = ap (λ (x : Group). x.demand) (sym r.1) in omega (arith, placed_is lines g, d, good.feasible.demands g r.0);
-  capacities = λ n N at. capacity n N at;
-  limits = λ g k c has. let r = offer_of m g k c has in let d : c.limit ≡ limit_of m g k = ap (λ (x : Choice). x.limit) (sym r.1) in omega (arith, amount_is lines g k, d, good.feasible.limits g k r.0);
+  feasible = feasible_is m ok lines good.form good.feasible;
   named = λ g k c has wants. named g k c (offer_of m g k c has) wants;
   no_more = λ x c. no_more x (from_map name names x (in_from (map name names) x c));
 }
   where
-    there : (l : Line) → (x : MapLine) × In lines x × (line x ≡ l) → (c : Choice) × Has (instance m) l.group l.place c
-    there l (x, i, e) = (choice (choice_at m x.group.0 x.place), subst (λ (v : Line). Has (instance m) v.group v.place (choice (choice_at m x.group.0 x.place))) e (has_of m x.group.0 x.place (all_at m lines good.form x i)))
-
-    capacity : (n : ℕ) (N : Node) → slice_get (map node m.nodes) n ≡ Some N → page.load (instance m) (map line lines) n ≤ N.capacity
-    capacity n N at =
-        let within : n < length (map node m.nodes) = slice_get_within (map node m.nodes) n N at in
-        let l : n < length m.nodes = omega (arith, within, length-map m.nodes node) in
-        let is : node (node_at m n) ≡ N = at_same (slice_get (map node m.nodes) n) _ N (got node m.nodes n (record { capacity = 0; parent = None; is_pool = false }) l) at in
-        let d : N.capacity ≡ capacity_of m n = ap (λ (x : Node). x.capacity) (sym is) in
-        omega (arith, load_is m ok lines good.form n, d, good.feasible.capacities n l)
-
     named : (g k : ℕ) (c : Choice) → IsOffer m g k × (choice (choice_at m g k) ≡ c) → Wants (instance m) (map line lines) g k
         → (b : Option ℕ) × Contains (map name names) (record { group = g; place = k; node = b }) × Refuses (instance m) (map line lines) g k c b
     named g k c (o, is) wants =

@@ -1,10 +1,15 @@
-mod Lists
-mod Trees
-mod Good
-mod Events
-mod Order
-mod Serving
-mod Streams
-mod Texts
-mod Held
+pub mod Lists
+pub mod Trees
 mod Rows
+pub mod Good
+pub mod Best
+pub mod Repaired
+pub mod Events
+pub mod Order
+pub mod Serving
+pub mod Changes
+pub mod Streams
+pub mod Texts
+pub mod Held
+pub mod Twice
+pub mod Both

@@ -6,7 +6,8 @@ use Rattle.outside.specs.Port.{Packet, PortTold, Taken, Try}
 use Rattle.lane_model.specs.Replies.{is_silent, replies}
 use Rattle.lane_model.specs.Turns.{Came, IsFated, Turn, idle, oversize, ended, failed, port_after, port_turn, took, tries_of, tries_of_came}
 use Rattle.lane_model.specs.Turns as fate
-use Rattle.headline.specs.Headline.{Event, places_of}
+use Rattle.headline.specs.Headline.{places_of}
+use Rattle.headline.specs.View.{Event}
 use Rattle.headline.proofs.Events.{made, tell, turned}
 
 -- what a port tells of some turns, behind what it told

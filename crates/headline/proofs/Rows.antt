@@ -1,7 +1,7 @@
 -- Maps that are not good, so that the page's words say something: the README's example with one thing wrong.
 use Rattle.std.proofs.Common.{ℕ, ◌≤◌, [], ◌∷◌, None, Some, refl, inl, arith}
-use Rattle.headline.specs.View.{Choice, Group, Instance, Line, Name}
 use Rattle.headline.specs.Headline.{IsGood}
+use Rattle.headline.specs.View.{Choice, Group, Instance, Line, Name}
 
 abbrev choice : ℕ → ℕ → Choice
 choice pool score = record { pool = pool; score = score; limit = 4294967295 }
@@ -21,11 +21,11 @@ name g k n = record { group = g; place = k; node = Some n }
 
 -- nine units of the first group, which asks for eight
 over_demand : IsGood two_level (line 0 0 9 ∷ line 1 0 1 ∷ line 1 1 5 ∷ []) (name 1 0 1 ∷ name 1 1 0 ∷ []) → ⊥
-over_demand good = let h : 9 ≤ 8 = good.demands 0 (record { demand = 8; choices = choice 1 1 ∷ choice 2 2 ∷ [] }) refl in absurd (omega (arith, h))
+over_demand good = let h : 9 ≤ 8 = good.feasible.demands 0 (record { demand = 8; choices = choice 1 1 ∷ choice 2 2 ∷ [] }) refl in absurd (omega (arith, h))
 
 -- sixteen under the root, which holds fifteen
 over_capacity : IsGood two_level (line 0 0 8 ∷ line 1 0 2 ∷ line 1 1 6 ∷ []) (name 1 0 1 ∷ []) → ⊥
-over_capacity good = let h : 16 ≤ 15 = good.capacities 0 (record { capacity = 15; parent = None }) refl in absurd (omega (arith, h))
+over_capacity good = let h : 16 ≤ 15 = good.feasible.capacities 0 (record { capacity = 15; parent = None }) refl in absurd (omega (arith, h))
 
 -- the good map without its names
 unnamed : IsGood two_level (line 0 0 8 ∷ line 1 0 2 ∷ line 1 1 5 ∷ []) [] → ⊥

@@ -9,12 +9,14 @@ use Rattle.outside.specs.Faults.{BothTell, Rose}
 use Rattle.outside.specs.Port.{IsOpen, PortTold, Taken, Try}
 use Rattle.outside.specs.declared.port.Opening.{Opening}
 use Rattle.outside.specs.declared.port.Opening.TheVariants as opening
-use Rattle.map_model.specs.Market.{IsMarket, IsSameShape}
+use Rattle.map_model.specs.Market.{IsMarket, IsSameShape, Market}
 use Rattle.topology_text.specs.Plan.{IsPlan, Plan}
 use Rattle.published_map.specs.Version.{IsVersion, Version}
 use Rattle.answer_core.specs.declared.way.Way.TheVariants as way
 use Rattle.map_cell.specs.Histories.{IsHistory}
 use Rattle.lane_model.specs.declared.ended.Ended.{Ended}
+use Rattle.lane_model.specs.declared.ended.Ended.TheVariants as end
+use Rattle.lane_model.specs.Calls.{IsEnd}
 use Rattle.lane_model.specs.Lanes.{Answers, Entry, IsLaneRun, IsTryOf, following}
 use Rattle.lane_model.specs.Machine.{GoesOn}
 use Rattle.lane_model.specs.Replies.{is_silent, replies}
@@ -25,13 +27,14 @@ use Rattle.glb.specs.declared.status.Status.{Status}
 use Rattle.glb.specs.declared.status.Status.TheVariants as status
 use Rattle.glb.specs.Serve.{AreOpened, AskedFirst, IsFirstOf, PlacedFirst}
 use Rattle.glb.specs.Served.{AreWellDone, IsWellDone}
-use Rattle.headline.specs.View.{Group, Node, choice, group, node}
-use Rattle.headline.specs.Headline.{AreLanes, AreMaps, IsLane, IsMap, came, knew, places_of, tried}
+use Rattle.headline.specs.Headline.{AreMaps, IsAlike, IsLane, IsMap, places_of}
+use Rattle.headline.specs.Runs.{AreLanes}
+use Rattle.headline.specs.View.{Group, Node, came, choice, group, instance, knew, lost, node, tried}
 use Rattle.map_model.specs.Allocation as code
 use Rattle.headline.proofs.Trees.{IsForest, forest, number}
 use Rattle.headline.proofs.Good.{good_is_good}
 use Rattle.headline.proofs.Order.{in_order}
-use Rattle.headline.proofs.Events.{came_made, knew_made, known_folded, known_of, heard_made, made, packet_of, right, taken_folded, tried_made, tries_folded}
+use Rattle.headline.proofs.Events.{AreLooked, all_looked, came_made, knew_made, known_folded, last_looked, none_lost, known_of, heard_made, made, packet_of, right, taken_folded, tried_made, tries_folded}
 
 -- MAPS
 
@@ -41,13 +44,18 @@ same_made f g d [] (y ∷ ys) l h = absurd (omega (arith, l))
 same_made f g d (x ∷ xs) [] l h = absurd (omega (arith, l))
 same_made f g d (x ∷ xs) (y ∷ ys) l h = ap₂ (λ a others. a ∷ others) (h 0) (same_made f g d xs ys (omega (arith, l)) (λ i. h (suc i)))
 
+pub alike_is : (m m' : Market) → IsSameShape m m' → IsAlike (instance m) (instance m')
+alike_is m m' shape = (
+  same_made (λ (g : Group). g.choices) group (record { demand = 0; choices = [] }) m'.groups m.groups shape.groups (λ i. ap (map choice) (shape.lists i)),
+  same_made (λ (x : Node). x.parent) node (record { capacity = 0; parent = None; is_pool = false }) m'.nodes m.nodes shape.nodes (λ i. ap number (shape.trees i)),
+)
+
 -- a good map for the trees and lists of a topology
 pub map_like : (t : Plan) (n : ℕ) (v : Version) → IsForest v.market → IsSameShape t.market v.market → code.IsGood v.market v.lines v.names → v.serial ≡ n → v.plan ≡ t → IsMap t n v
 map_like t n v forest shape good serial plan = record {
   number = serial;
   topology = plan;
-  lists = same_made (λ (g : Group). g.choices) group (record { demand = 0; choices = [] }) v.market.groups t.market.groups shape.groups (λ i. ap (map choice) (shape.lists i));
-  trees = same_made (λ (x : Node). x.parent) node (record { capacity = 0; parent = None; is_pool = false }) v.market.nodes t.market.nodes shape.nodes (λ i. ap number (shape.trees i));
+  alike = alike_is t.market v.market shape;
   good = good_is_good v.market v.lines v.names forest good;
 }
 
@@ -55,7 +63,7 @@ is_map : (t : Plan) (n : ℕ) (v : Version) → IsVersion v → v.serial ≡ n �
 is_map t n v version serial plan = map_like t n v (forest v.market version.market) (subst (λ (p : Plan). IsSameShape p.market v.market) plan version.shape) version.good serial plan
 
 -- one version more
-one_of : {A : Type 0} (xs : List A) (x y : A) (n : ℕ) → slice_get (xs ++ x ∷ []) n ≡ Some y → (slice_get xs n ≡ Some y) ⊎ ((n ≡ length xs) × (x ≡ y))
+pub one_of : {A : Type 0} (xs : List A) (x y : A) (n : ℕ) → slice_get (xs ++ x ∷ []) n ≡ Some y → (slice_get xs n ≡ Some y) ⊎ ((n ≡ length xs) × (x ≡ y))
 one_of [] x y zero h = inr (refl, same_Some x y h)
 one_of [] x y (suc n) h = absurd (none-some y h)
 one_of (z ∷ zs) x y zero h = inl h
@@ -78,19 +86,22 @@ all_maps t h (v ∷ rest) maps on =
     let is : IsMap t (length h) v = is_map t (length h) v next.4 (omega (arith, within, number, up)) (next.3.plan ∙ last.topology) in
     subst (AreMaps (Some t)) (append_assoc h (v ∷ []) rest) (all_maps t (h ++ v ∷ []) rest (more_maps t h v maps is) on.1)
 
+pub first_version : (t : Plan) (first : Version) → IsPlan t → IsFirstOf t first → IsVersion first
+first_version t first plan is =
+    let p : first.plan ≡ t = is.0.plan in
+    let m : first.market ≡ t.market = is.0.market in
+    record {
+      plan = subst IsPlan (sym p) plan;
+      market = subst IsMarket (sym m) plan.market;
+      shape = rw (p, m) (record { groups = refl; nodes = refl; lists = λ g. refl; trees = λ k. refl; pools = λ k. refl });
+      good = rw m is.0.good;
+    }
+
 pub first_maps : (t : Plan) (first : Version) → IsPlan t → IsFirstOf t first → AreMaps (Some t) (first ∷ [])
 first_maps t first plan is n v at = by n at
   where
     version : IsVersion first
-    version =
-        let p : first.plan ≡ t = is.0.plan in
-        let m : first.market ≡ t.market = is.0.market in
-        record {
-          plan = subst IsPlan (sym p) plan;
-          market = subst IsMarket (sym m) plan.market;
-          shape = rw (p, m) (record { groups = refl; nodes = refl; lists = λ g. refl; trees = λ k. refl; pools = λ k. refl });
-          good = rw m is.0.good;
-        }
+    version = first_version t first plan is
 
     by : (k : ℕ) → slice_get (first ∷ []) k ≡ Some v → IsMap t k v
     by zero h = subst (λ x. IsMap t 0 x) (same_Some first v h) (is_map t 0 first version is.0.serial is.0.plan)
@@ -184,20 +195,20 @@ opened_idle listen (r ∷ rs) (x ∷ xs) (y ∷ ys) h = ((tells_so x.port y.port
 
 -- LANES
 
-idle_lane : (t : Option Plan) (maps : List Version) (result : Status) (a c : LaneTold) → AreMaps t maps → IsIdle a c → IsLane t maps result a c
-idle_lane t maps result a c good h = record {
+idle_lane : (w : ℕ) (t : Option Plan) (maps : List Version) (result : Status) (a c : LaneTold) → AreMaps t maps → IsIdle a c → IsLane w t maps result a c
+idle_lane w t maps result a c good h = record {
   events = [];
-  worker = record { further = []; good = subst (AreMaps t) (sym (append-nil maps)) good; none = λ ok. refl; cause = inl refl; right = tt; notes = inl refl };
+  worker = record { further = []; good = subst (AreMaps t) (sym (append-nil maps)) good; none = λ ok. refl; cause = inl refl; right = tt; notes = inl refl; answered = λ ok. refl };
   messages = tells_so a.port c.port (λ x y. (y.taken ≡ x.taken) × (y.tries ≡ x.tries) × (y.places ≡ x.places)) (λ x y. map (λ (z : Taken). z.packet) y.taken ≡ map (λ (z : Taken). z.packet) x.taken ++ flat_map came []) (λ x y g. ap (map (λ (z : Taken). z.packet)) g.0 ∙ sym (append-nil (map (λ (z : Taken). z.packet) x.taken))) h.0;
   known = tells_so a.port c.port (λ x y. (y.taken ≡ x.taken) × (y.tries ≡ x.tries) × (y.places ≡ x.places)) (λ x y. map (λ (z : Taken). z.known) y.taken ≡ map (λ (z : Taken). z.known) x.taken ++ flat_map knew []) (λ x y g. ap (map (λ (z : Taken). z.known)) g.0 ∙ sym (append-nil (map (λ (z : Taken). z.known) x.taken))) h.0;
   order = tells_so a.port c.port (λ x y. (y.taken ≡ x.taken) × (y.tries ≡ x.tries) × (y.places ≡ x.places)) (λ x y. (new : List Taken) × (y.taken ≡ x.taken ++ new) × (y.places ≡ x.places ++ places_of [] new)) (λ x y g. ([], g.0 ∙ sym (append-nil x.taken), g.2 ∙ sym (append-nil x.places))) h.0;
   replies = tells_so a.port c.port (λ x y. (y.taken ≡ x.taken) × (y.tries ≡ x.tries) × (y.places ≡ x.places)) (λ x y. y.tries ≡ x.tries ++ flat_map tried []) (λ x y g. g.1 ∙ sym (append-nil x.tries)) h.0;
 }
 
-pub all_idle : (t : Option Plan) (maps : List Version) (result : Status) (xs ys : List LaneTold) → AreMaps t maps → AreIdle xs ys → AreLanes t maps result xs ys
-all_idle t maps result [] ys good h = h
-all_idle t maps result (x ∷ xs) [] good h = h
-all_idle t maps result (x ∷ xs) (y ∷ ys) good h = (idle_lane t maps result x y good h.0, all_idle t maps result xs ys good h.1)
+pub all_idle : (w : ℕ) (t : Option Plan) (maps : List Version) (result : Status) (xs ys : List LaneTold) → AreMaps t maps → AreIdle xs ys → AreLanes w t maps result xs ys
+all_idle w t maps result [] ys good h = h
+all_idle w t maps result (x ∷ xs) [] good h = h
+all_idle w t maps result (x ∷ xs) (y ∷ ys) good h = (idle_lane w t maps result x y good h.0, all_idle (w + 1) t maps result xs ys good h.1)
 
 -- a count that rose behind one that did not fall
 pub cause_from : (a b c : ℕ) (P Q : Type 0) → a ≤ b → P ⊎ Rose b c ⊎ Q → P ⊎ Rose a c ⊎ Q
@@ -207,13 +218,13 @@ cause_from a b c P Q low h = elim h [
   | inr (inr q) ↦ inr (inr q)
 ]
 
-made_lane : (t : Option Plan) (maps further : List Version) (result : Status) (a b c : LaneTold) (w : ℕ) (log : List Turn) → AreMaps t (maps ++ further) → (result ≡ status.Ok → further ≡ []) → (further ≡ []) ⊎ Rose b.door_faults c.door_faults ⊎ (length maps ≤ c.greatest) → IsLaneRun replies (maps ++ further) w 0 0 (entries_of replies.way log) (tries_of log) → IsTold 0 log → All (λ t. IsFated replies t.came) log
-    → flat_map (λ t. t.notes) log ≡ range_with_len 0 c.noted → IsIdle a b → BothTell b.port c.port (λ x y. y ≡ fold port_turn x log) → IsLane t maps result a c
-made_lane t maps further result a b c w log good none cause run told fates notes idle port =
+made_lane : (t : Option Plan) (maps further : List Version) (result : Status) (a b c : LaneTold) (w : ℕ) (log : List Turn) → AreMaps t (maps ++ further) → (result ≡ status.Ok → (further ≡ []) × AreLooked log) → (further ≡ []) ⊎ Rose b.door_faults c.door_faults ⊎ (length maps ≤ c.greatest) → IsLaneRun replies (maps ++ further) w 0 0 (entries_of replies.way log) (tries_of log) → IsTold 0 log → All (λ t. IsFated replies t.came) log
+    → flat_map (λ t. t.notes) log ≡ range_with_len 0 c.noted → IsIdle a b → BothTell b.port c.port (λ x y. y ≡ fold port_turn x log) → IsLane w t maps result a c
+made_lane t maps further result a b c w log good well cause run told fates notes idle port =
     let events = made is_silent log (tries_of log) in
     record {
       events = events;
-      worker = record { further = further; good = good; none = none; cause = cause_from a.door_faults b.door_faults c.door_faults (further ≡ []) (length maps ≤ c.greatest) idle.1 cause; right = right way.Datagram (maps ++ further) w log 0 0 0 0 (tries_of log) run told (omega arith); notes = inr (heard_made is_silent log (tries_of log) ∙ notes) };
+      worker = record { further = further; good = good; none = λ ok. (well ok).0; answered = λ ok. none_lost way.Datagram (maps ++ further) w log (well ok).1 0 0 (tries_of log) run; cause = cause_from a.door_faults b.door_faults c.door_faults (further ≡ []) (length maps ≤ c.greatest) idle.1 cause; right = right way.Datagram (maps ++ further) w log 0 0 0 0 (tries_of log) run told (omega arith); notes = inr (heard_made is_silent log (tries_of log) ∙ notes) };
       messages = tells_on a.port b.port c.port (λ x y. (y.taken ≡ x.taken) × (y.tries ≡ x.tries) × (y.places ≡ x.places)) (λ x y. y ≡ fold port_turn x log) (λ x y. map (λ (z : Taken). z.packet) y.taken ≡ map (λ (z : Taken). z.packet) x.taken ++ flat_map came events)
           (λ x y z f g. ap (λ (p : PortTold). map packet_of p.taken) g ∙ taken_folded log y ∙ ap₂ (λ ps qs. ps ++ qs) (ap (map packet_of) f.0) (sym (came_made is_silent log (tries_of log)))) idle.0 port;
       known = tells_on a.port b.port c.port (λ x y. (y.taken ≡ x.taken) × (y.tries ≡ x.tries) × (y.places ≡ x.places)) (λ x y. y ≡ fold port_turn x log) (λ x y. map (λ (z : Taken). z.known) y.taken ≡ map (λ (z : Taken). z.known) x.taken ++ flat_map knew events)
@@ -257,26 +268,35 @@ stands {T = T} t a first rest w log served e shown b c plan good d = elim d.whic
       run = subst (λ h. IsLaneRun a h w 0 0 (entries_of a.way log) (tries_of log)) (sym begins.1) run;
     }
 
-done_lane : (t : Plan) (turns : ℕ) (first : Version) (rest : List Version) (w : ℕ) (result : Status) (x b c : LaneTold) (e : Ended) → first.plan ≡ t → AreMaps (Some t) (first ∷ rest) → (result ≡ status.Ok → ⊥) → IsIdle x b → IsDone turns first rest w b c e → IsLane (Some t) (first ∷ rest) result x c
+done_lane : (t : Plan) (turns : ℕ) (first : Version) (rest : List Version) (w : ℕ) (result : Status) (x b c : LaneTold) (e : Ended) → first.plan ≡ t → AreMaps (Some t) (first ∷ rest) → (result ≡ status.Ok → ⊥) → IsIdle x b → IsDone turns first rest w b c e → IsLane w (Some t) (first ∷ rest) result x c
 done_lane t turns first rest w result x b c e plan good not_ok idle d =
     let s = stands t replies first rest w d.log d.served e d.shown b c plan good d.served_log in
     made_lane (Some t) (first ∷ rest) s.further result x b c w d.log s.good (λ ok. absurd (not_ok ok)) s.cause s.run d.served_log.told d.served_log.fates d.served_log.notes idle d.port
 
 pub all_done : (t : Plan) (turns : ℕ) (first : Version) (rest : List Version) (w : ℕ) (result : Status) (ends : List Ended) (xs bs cs : List LaneTold) → first.plan ≡ t → AreMaps (Some t) (first ∷ rest) → (result ≡ status.Ok → ⊥) → AreIdle xs bs → AreDone turns first rest w ends bs cs
-    → AreLanes (Some t) (first ∷ rest) result xs cs
-all_done t turns first rest w result [] xs bs cs plan good not_ok idle d = all_idle (Some t) (first ∷ rest) result xs cs good (subst (AreIdle xs) (sym d) idle)
+    → AreLanes w (Some t) (first ∷ rest) result xs cs
+all_done t turns first rest w result [] xs bs cs plan good not_ok idle d = all_idle w (Some t) (first ∷ rest) result xs cs good (subst (AreIdle xs) (sym d) idle)
 all_done t turns first rest w result (e ∷ ends) xs [] cs plan good not_ok idle d = absurd d
 all_done t turns first rest w result (e ∷ ends) xs (b ∷ bs) [] plan good not_ok idle d = absurd d
 all_done t turns first rest w result (e ∷ ends) [] (b ∷ bs) (c ∷ cs) plan good not_ok idle d = absurd (cc)
 all_done t turns first rest w result (e ∷ ends) (x ∷ xs) (b ∷ bs) (c ∷ cs) plan good not_ok idle d =
     (done_lane t turns first rest w result x b c e plan good not_ok idle.0 d.0, all_done t turns first rest (w + 1) result ends xs bs cs plan good not_ok idle.1 d.1)
 
-well_lane : (t : Plan) (turns : ℕ) (maps : List Version) (w : ℕ) (result : Status) (x b c : LaneTold) → AreMaps (Some t) maps → IsIdle x b → IsWellDone turns maps w b c → IsLane (Some t) maps result x c
-well_lane t turns maps w result x b c good idle d =
-    made_lane (Some t) maps [] result x b c w d.log (subst (AreMaps (Some t)) (sym (append-nil maps)) good) (λ ok. refl) (inl refl) (subst (λ h. IsLaneRun replies h w 0 0 (entries_of replies.way d.log) (tries_of d.log)) (sym (append-nil maps)) d.run) d.told d.fates d.notes idle d.port
+-- a lane that ended well had no look refused
+well_looked : (turns : ℕ) (log : List Turn) (e : Ended) → IsEnd turns log e → (e ≡ end.Stopped) ⊎ (e ≡ end.PortEnd) → AreLooked log
+well_looked turns log end.Stopped ending well = all_looked log ending.0
+well_looked turns log end.PortEnd (before, t, is, calm, few, came, within) well = subst AreLooked (sym is) (last_looked before t calm came)
+well_looked turns log end.PortFault ending well = elim well [ inl e ↦ absurd (cc) | inr e ↦ absurd (cc) ]
+well_looked turns log end.CellFault ending well = elim well [ inl e ↦ absurd (cc) | inr e ↦ absurd (cc) ]
+well_looked turns log (end.Above known newest) ending well = absurd ending
+well_looked turns log end.Spent ending well = elim well [ inl e ↦ absurd (cc) | inr e ↦ absurd (cc) ]
 
-pub all_well : (t : Plan) (turns : ℕ) (maps : List Version) (w n : ℕ) (result : Status) (xs bs cs : List LaneTold) → AreMaps (Some t) maps → AreIdle xs bs → AreWellDone turns maps w n bs cs → AreLanes (Some t) maps result xs cs
-all_well t turns maps w zero result xs bs cs good idle d = all_idle (Some t) maps result xs cs good (subst (AreIdle xs) (sym d) idle)
+well_lane : (t : Plan) (turns : ℕ) (maps : List Version) (w : ℕ) (result : Status) (x b c : LaneTold) → AreMaps (Some t) maps → IsIdle x b → IsWellDone turns maps w b c → IsLane w (Some t) maps result x c
+well_lane t turns maps w result x b c good idle d =
+    made_lane (Some t) maps [] result x b c w d.log (subst (AreMaps (Some t)) (sym (append-nil maps)) good) (λ ok. (refl, well_looked turns d.log d.ended d.ending d.well)) (inl refl) (subst (λ h. IsLaneRun replies h w 0 0 (entries_of replies.way d.log) (tries_of d.log)) (sym (append-nil maps)) d.run) d.told d.fates d.notes idle d.port
+
+pub all_well : (t : Plan) (turns : ℕ) (maps : List Version) (w n : ℕ) (result : Status) (xs bs cs : List LaneTold) → AreMaps (Some t) maps → AreIdle xs bs → AreWellDone turns maps w n bs cs → AreLanes w (Some t) maps result xs cs
+all_well t turns maps w zero result xs bs cs good idle d = all_idle w (Some t) maps result xs cs good (subst (AreIdle xs) (sym d) idle)
 all_well t turns maps w (suc n) result xs [] cs good idle d = absurd d
 all_well t turns maps w (suc n) result xs (b ∷ bs) [] good idle d = absurd d
 all_well t turns maps w (suc n) result [] (b ∷ bs) (c ∷ cs) good idle d = absurd (cc)

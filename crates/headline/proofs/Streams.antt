@@ -19,6 +19,8 @@ use Rattle.published_map.specs.Version.{Version}
 use Rattle.answer_core.specs.declared.way.Way.{Way}
 use Rattle.answer_core.specs.declared.way.Way.TheVariants as way
 use Rattle.lane_model.specs.declared.ended.Ended.{Ended}
+use Rattle.lane_model.specs.declared.ended.Ended.TheVariants as end
+use Rattle.tcp_lane.specs.Calls.{AreRuled, IsStreamEnd}
 use Rattle.lane_model.specs.Lanes.{Entry, IsLaneRun, IsTryOf, following}
 use Rattle.lane_model.specs.Replies.{is_silent, replies_by}
 use Rattle.lane_model.specs.Turns.{Came, Fate, Turn, entries_of, entries_of_came, idle, oversize, ended, failed, took, tries_of}
@@ -26,15 +28,17 @@ use Rattle.lane_model.specs.Turns as fate
 use Rattle.tcp_lane.specs.Replies.{stream_replies}
 use Rattle.tcp_lane.specs.Stream.{AreRounds, Conversation, HasFailed, HasMissed, IsRound, IsStreamRun, IsTakenInPart, IsWhole, Round, messages_of}
 use Rattle.tcp_lane.specs.Stream as tcp
-use Rattle.tcp_lane.specs.Turns.{StreamTurn, closing_if, lane_of, stream_turn}
+use Rattle.tcp_lane.specs.Turns.{IsRuled, Said, StreamTurn, TalkState, closing_if, lane_came, lane_of, lead_of, no_talk, stream_turn, turn_of, turns_of}
+use Rattle.tcp_lane.specs.Turns as turn
 use Rattle.drive.specs.Done.{StreamLaneTold}
 use Rattle.drive.specs.Streams.{AreStreamsDone}
 use Rattle.glb.specs.declared.status.Status.{Status}
 use Rattle.glb.specs.declared.status.Status.TheVariants as status
 use Rattle.glb.specs.Serve.{IsStreamOpening, IsStreamReady, IsStreamShut}
 use Rattle.glb.specs.Served.{IsStreamWell}
-use Rattle.headline.specs.Headline.{AreMaps, AreTalks, Event, HaveTalked, IsStreamLane, IsTalk, Share, taken, tried}
-use Rattle.headline.proofs.Events.{heard_made, made, right, spoken, tell, tried_made, turned}
+use Rattle.headline.specs.Headline.{AreMaps, AreTalks, HaveTalked, IsStreamLane, IsTalk, Share}
+use Rattle.headline.specs.View.{Event, taken, tried}
+use Rattle.headline.proofs.Events.{AreLooked, all_looked, heard_made, last_looked, none_lost, made, right, spoken, tell, tried_made, turned}
 use Rattle.headline.proofs.Serving.{cause_from, stands, tells_on, tells_so}
 
 -- WHAT WAS TAKEN
@@ -219,10 +223,10 @@ pub stream_shut : (tcp : Option Listen) (b c : StreamLaneTold) → IsStreamShut 
 stream_shut None b c h = absurd h
 stream_shut (Some at) b c h = opened at opening.Failed b c h
 
-pub stream_idle : (t : Option Plan) (maps : List Version) (result : Status) (a c : StreamLaneTold) → AreMaps t maps → IsStreamIdle a c → IsStreamLane t maps result a c
-stream_idle t maps result a c good h = record {
+pub stream_idle : (w : ℕ) (t : Option Plan) (maps : List Version) (result : Status) (a c : StreamLaneTold) → AreMaps t maps → IsStreamIdle a c → IsStreamLane w t maps result a c
+stream_idle w t maps result a c good h = record {
   events = [];
-  worker = record { further = []; good = subst (AreMaps t) (sym (append-nil maps)) good; none = λ ok. refl; cause = inl refl; right = tt; notes = inl refl };
+  worker = record { further = []; good = subst (AreMaps t) (sym (append-nil maps)) good; none = λ ok. refl; cause = inl refl; right = tt; notes = inl refl; answered = λ ok. refl };
   talks = tells_so a.port c.port (λ x y. (y.closed ≡ x.closed) × (y.current ≡ x.current)) (HaveTalked [] []) (λ x y g none. ([], [], g.0 ∙ sym (append-nil x.closed), refl, refl, refl)) h.0;
 }
 
@@ -231,14 +235,14 @@ abbrev Runs : List Version → ℕ → Bool → List StreamTurn → ℕ → Type
 Runs over w closes log refusals = (b : StreamsTold) → b.current ≡ None → (talks : List Talk) × ((closing_if closes (fold stream_turn b log)).closed ≡ b.closed ++ talks) × ((closing_if closes (fold stream_turn b log)).current ≡ None)
     × IsStreamRun stream_replies over w 0 0 refusals talks (entries_of stream_replies.way (lane_of log)) (tries_of (lane_of log))
 
-made_stream : (t : Option Plan) (maps further over : List Version) (result : Status) (a b c : StreamLaneTold) (w refusals : ℕ) (closes : Bool) (log : List StreamTurn) → AreMaps t (maps ++ further) → (result ≡ status.Ok → further ≡ []) → (further ≡ []) ⊎ Rose b.door_faults c.door_faults ⊎ (length maps ≤ c.greatest)
+made_stream : (t : Option Plan) (maps further over : List Version) (result : Status) (a b c : StreamLaneTold) (w refusals : ℕ) (closes : Bool) (log : List StreamTurn) → AreMaps t (maps ++ further) → (result ≡ status.Ok → (further ≡ []) × AreLooked (lane_of log)) → (further ≡ []) ⊎ Rose b.door_faults c.door_faults ⊎ (length maps ≤ c.greatest)
     → IsLaneRun stream_replies (maps ++ further) w 0 0 (entries_of stream_replies.way (lane_of log)) (tries_of (lane_of log)) → fate.IsTold 0 (lane_of log) → flat_map (λ (x : Turn). x.notes) (lane_of log) ≡ range_with_len 0 c.noted → IsStreamIdle a b
-    → BothTell b.port c.port (λ x y. y ≡ closing_if closes (fold stream_turn x log)) → Runs over w closes log refusals → IsStreamLane t maps result a c
-made_stream t maps further over result a b c w refusals closes log good none cause run minded notes still port runs =
+    → BothTell b.port c.port (λ x y. y ≡ closing_if closes (fold stream_turn x log)) → Runs over w closes log refusals → IsStreamLane w t maps result a c
+made_stream t maps further over result a b c w refusals closes log good well cause run minded notes still port runs =
     let events = made is_silent (lane_of log) (tries_of (lane_of log)) in
     record {
       events = events;
-      worker = record { further = further; good = good; none = none; cause = cause_from a.door_faults b.door_faults c.door_faults (further ≡ []) (length maps ≤ c.greatest) still.1 cause; right = right way.Stream (maps ++ further) w (lane_of log) 0 0 0 0 (tries_of (lane_of log)) run minded (omega arith); notes = inr (heard_made is_silent (lane_of log) (tries_of (lane_of log)) ∙ notes) };
+      worker = record { further = further; good = good; none = λ ok. (well ok).0; answered = λ ok. none_lost way.Stream (maps ++ further) w (lane_of log) (well ok).1 0 0 (tries_of (lane_of log)) run; cause = cause_from a.door_faults b.door_faults c.door_faults (further ≡ []) (length maps ≤ c.greatest) still.1 cause; right = right way.Stream (maps ++ further) w (lane_of log) 0 0 0 0 (tries_of (lane_of log)) run minded (omega arith); notes = inr (heard_made is_silent (lane_of log) (tries_of (lane_of log)) ∙ notes) };
       talks = tells_on a.port b.port c.port (λ x y. (y.closed ≡ x.closed) × (y.current ≡ x.current)) (λ x y. y ≡ closing_if closes (fold stream_turn x log)) (HaveTalked (flat_map taken events) (flat_map tried events)) (λ x y z f g. talked x y z f g) still.0 port;
     }
   where
@@ -255,8 +259,8 @@ made_stream t maps further over result a b c w refusals closes log good none cau
         )
 
 pub stream_done : (t : Plan) (turns : ℕ) (first : Version) (rest : List Version) (w : ℕ) (result : Status) (x b c : StreamLaneTold) (e : Option Ended) → first.plan ≡ t → AreMaps (Some t) (first ∷ rest) → (result ≡ status.Ok → ⊥) → IsStreamIdle x b → AreStreamsDone turns first rest w e b c
-    → IsStreamLane (Some t) (first ∷ rest) result x c
-stream_done t turns first rest w result x b c None plan good not_ok still d = stream_idle (Some t) (first ∷ rest) result x c good (subst (IsStreamIdle x) (sym d) still)
+    → IsStreamLane w (Some t) (first ∷ rest) result x c
+stream_done t turns first rest w result x b c None plan good not_ok still d = stream_idle w (Some t) (first ∷ rest) result x c good (subst (IsStreamIdle x) (sym d) still)
 stream_done t turns first rest w result x b c (Some e) plan good not_ok still d =
     let s = stands t stream_replies first rest w (lane_of d.log) d.served e d.shown b c plan good d.served_log in
     made_stream (Some t) (first ∷ rest) s.further d.served_log.over result x b c w _ d.closes d.log s.good (λ ok. absurd (not_ok ok)) s.cause s.run d.served_log.told d.served_log.notes still d.streams d.runs
@@ -265,10 +269,29 @@ stream_done t turns first rest w result x b c (Some e) plan good not_ok still d 
 abbrev nothing : StreamsTold
 nothing = record { opens = []; closed = []; current = None; answers = 0; failed = 0; is_ended = false; greatest = 0; shortest = None }
 
-pub stream_well : (t : Plan) (tcp : Option Listen) (turns : ℕ) (maps : List Version) (w : ℕ) (result : Status) (x b c : StreamLaneTold) → AreMaps (Some t) maps → IsStreamIdle x b → IsStreamWell tcp turns maps w b c → IsStreamLane (Some t) maps result x c
-stream_well t None turns maps w result x b c good still d = stream_idle (Some t) maps result x c good (subst (IsStreamIdle x) (sym d) still)
+-- a lane for conversations that ended well had no look refused
+last_said : (s s' : TalkState) (before : List StreamTurn) (t : StreamTurn) → AreRuled s (before ++ t ∷ []) s' → t.came ≡ turn.ended → t.said ≡ []
+last_said s s' [] t ruled is = (subst (λ came. IsRuled came s t ruled.0) is ruled.1).1
+last_said s s' (b ∷ before) t ruled is = last_said ruled.0 s' before t ruled.2 is
+
+last_turns : (t : StreamTurn) → t.said ≡ [] → lane_of (t ∷ []) ≡ lead_of t ∷ []
+last_turns t none = ap (λ (said : List Said). (lead_of t ∷ map (turn_of t.peer) said) ++ []) none
+
+stream_looked : (turns : ℕ) (log : List StreamTurn) (e : Ended) → IsStreamEnd turns log e → (e ≡ end.Stopped) ⊎ (e ≡ end.PortEnd) → (talk : TalkState) → AreRuled no_talk log talk → AreLooked (lane_of log)
+stream_looked turns log end.Stopped ending well talk ruled = all_looked (lane_of log) ending.0
+stream_looked turns log end.PortEnd (before, t, is, calm, few, came, within) well talk ruled =
+    let none : t.said ≡ [] = last_said no_talk talk before t (subst (λ ts. AreRuled no_talk ts talk) is ruled) came in
+    let turns_are : lane_of log ≡ lane_of before ++ lead_of t ∷ [] = ap lane_of is ∙ flat_map-append turns_of before (t ∷ []) ∙ ap (λ ts. lane_of before ++ ts) (last_turns t none) in
+    subst AreLooked (sym turns_are) (last_looked (lane_of before) (lead_of t) calm (ap lane_came came))
+stream_looked turns log end.PortFault ending well talk ruled = elim well [ inl e ↦ absurd (cc) | inr e ↦ absurd (cc) ]
+stream_looked turns log end.CellFault ending well talk ruled = elim well [ inl e ↦ absurd (cc) | inr e ↦ absurd (cc) ]
+stream_looked turns log (end.Above known newest) ending well talk ruled = absurd ending
+stream_looked turns log end.Spent ending well talk ruled = elim well [ inl e ↦ absurd (cc) | inr e ↦ absurd (cc) ]
+
+pub stream_well : (t : Plan) (tcp : Option Listen) (turns : ℕ) (maps : List Version) (w : ℕ) (result : Status) (x b c : StreamLaneTold) → AreMaps (Some t) maps → IsStreamIdle x b → IsStreamWell tcp turns maps w b c → IsStreamLane w (Some t) maps result x c
+stream_well t None turns maps w result x b c good still d = stream_idle w (Some t) maps result x c good (subst (IsStreamIdle x) (sym d) still)
 stream_well t (Some at) turns maps w result x b c good still d =
-    made_stream (Some t) maps [] maps result x b c w 0 d.closes d.log (subst (AreMaps (Some t)) (sym (append-nil maps)) good) (λ ok. refl) (inl refl) (subst (λ h. IsLaneRun stream_replies h w 0 0 (entries_of stream_replies.way (lane_of d.log)) (tries_of (lane_of d.log))) (sym (append-nil maps)) (run_of maps w d.log d.closes d.runs)) d.told d.notes still d.streams d.runs
+    made_stream (Some t) maps [] maps result x b c w 0 d.closes d.log (subst (AreMaps (Some t)) (sym (append-nil maps)) good) (λ ok. (refl, stream_looked turns d.log d.ended d.ending d.well d.rules.0 d.rules.1)) (inl refl) (subst (λ h. IsLaneRun stream_replies h w 0 0 (entries_of stream_replies.way (lane_of d.log)) (tries_of (lane_of d.log))) (sym (append-nil maps)) (run_of maps w d.log d.closes d.runs)) d.told d.notes still d.streams d.runs
   where
     run_of : (maps : List Version) (w : ℕ) (log : List StreamTurn) (closes : Bool) → Runs maps w closes log 0 → IsLaneRun stream_replies maps w 0 0 (entries_of stream_replies.way (lane_of log)) (tries_of (lane_of log))
     run_of maps w log closes runs = (runs nothing refl).3.run

@@ -23,7 +23,7 @@ use Rattle.mapper.specs.Words.{map_text}
 use Rattle.drive.specs.Driven.{Lent}
 use Rattle.drive.specs.Feeds.{AreFed, FeedTold}
 use Rattle.glb.specs.Feeds.{with_feeds}
-use Rattle.headline.specs.Headline.{ArePut, ArePutInPart, text_of}
+use Rattle.headline.specs.Runs.{ArePut, ArePutInPart, text_of}
 use Rattle.headline.proofs.Serving.{tells_on, tells_so}
 
 pub text_is : (v : Version) → map_text v ≡ text_of v
