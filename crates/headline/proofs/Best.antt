@@ -1,12 +1,11 @@
 -- A good map of the page is a stable map of the program, and so the best ones are the same.
-use Rattle.std.proofs.Common.{◌≡◌, ◌⊎◌, inl, inr, ℕ, zero, suc, ◌+◌, ◌-◌, ◌<◌, ◌≤◌, ◌==◌, ◌&&◌, ◌||◌, nat_lt, nat_le, nat_cmp, Bool, true, false, if◌then◌else◌, List, [], ◌∷◌, length, map, All, Contains, slice_index_or, slice_get, find, cond, Option, None, Some, IsSome, IsTrue, refl, ap, ap₂, sym, subst, ◌∙◌, arith}
+use Rattle.std.proofs.Common.{◌≡◌, inl, inr, ℕ, zero, suc, ◌-◌, ◌<◌, ◌≤◌, ◌==◌, ◌&&◌, nat_lt, nat_le, nat_cmp, Bool, true, false, if◌then◌else◌, List, [], ◌∷◌, length, map, slice_index_or, find, cond, Option, None, Some, IsSome, refl, ap, sym, subst, ◌∙◌, arith}
 use Rattle.std.specs.Ordering.{ordering_then, is_le}
-use Rattle.std.specs.List.{AllPairs, list_any, list_all}
-use Rattle.std.proofs.lemmas.Bool.{cases_Bool, cases_eq, cases_order, cases_lt, and_parts, and_from, eqb-true, eq-eqb, ne_eqb, ltb-true, lt-ltb, le-ltb, or_right, false≢true}
+use Rattle.std.specs.List.{list_all}
+use Rattle.std.proofs.lemmas.Bool.{cases_Bool, cases_lt, and_from, eq-eqb, lt-ltb, le-ltb, false≢true}
 use Rattle.std.proofs.lemmas.List.{length-map}
-use Rattle.std.proofs.lemmas.Option.{slice_get_within}
 use Rattle.map_model.specs.declared.lines.MapLine.{MapLine}
-use Rattle.map_model.specs.Market.{IsMarket, Market, capacity_of, choice_at, demand_of, group_at, key_of, limit_of, node_at, path, pool_of}
+use Rattle.map_model.specs.Market.{IsMarket, Market, capacity_of, choice_at, group_at, key_of, node_at, path, pool_of}
 use Rattle.map_model.specs.Allocation.{AreLines, IsOffer, amount_at, counts_at, is_full_of_better, is_line, is_before, is_wanted, key_le, line_at, line_key, load, names_of, none_worse, placed_through, refuser_of, refusing_node}
 use Rattle.map_model.specs.Allocation as code
 use Rattle.map_model.specs.Progress.{IsGroupBest}
@@ -16,11 +15,11 @@ use Rattle.best_laws.specs.Ahead.{IsRightMap}
 use Rattle.agree_laws.proofs.Amounts.{same_amounts}
 use Rattle.agree_laws.proofs.Same.{same_lines}
 use Rattle.headline.specs.Headline.{Has, IsAhead, IsAtLeast, IsBestOf, IsFeasible, IsGood, Refuses, Wants, is_under, units}
-use Rattle.headline.specs.View.{Choice, Group, Line, Name, Node, choice, group, instance, line, name, node}
+use Rattle.headline.specs.View.{Choice, Line, Name, choice, group, instance, line, name, node}
 use Rattle.headline.specs.Headline as page
-use Rattle.headline.proofs.Lists.{In, any_in, contains_from, found, in_from, in_map}
-use Rattle.headline.proofs.Trees.{IsForest, forest, path_there}
-use Rattle.headline.proofs.Good.{all_at, good_is_good, amount_is, group_has, has_of, load_is, node_has, node_of_page, offer_of, path_is, placed_is, pool_there, tested, under_is, wanted_from, wants_from}
+use Rattle.headline.proofs.Lists.{In, contains_from, in_from, in_map}
+use Rattle.headline.proofs.Trees.{IsForest, forest}
+use Rattle.headline.proofs.Good.{all_at, good_is_good, amount_is, group_has, has_of, load_is, node_has, node_of_page, offer_of, path_is, placed_is, pool_there, tested, under_is, wants_from}
 
 -- LINES
 
@@ -61,8 +60,8 @@ form_of m xs f i l =
     let o : IsOffer m x.group.0 x.place = (offer_of m x.group.0 x.place t.0 t.1).0 in
     let some : 0 < x.amount = subst (λ (y : Line). 0 < y.units) (at_map line xs i no_line) (f.some i (line no_line) (omega (arith, l, length-map xs line))) in
     let before : 0 < i → is_before (line_at xs (i - 1)) x ≡ true = λ behind.
-        before_from (line_at xs (i - 1)) x (subst (λ (y : Line). IsAhead (line (line_at xs (i - 1))) y) (at_map line xs i no_line)
-        (subst (λ (y : Line). IsAhead y (slice_index_or (map line xs) i (line no_line))) (at_map line xs (i - 1) no_line) (f.order (i - 1) i (line no_line) (omega (arith, behind)) (omega (arith, l, length-map xs line))))) in
+    before_from (line_at xs (i - 1)) x (subst (λ (y : Line). IsAhead (line (line_at xs (i - 1))) y) (at_map line xs i no_line)
+    (subst (λ (y : Line). IsAhead y (slice_index_or (map line xs) i (line no_line))) (at_map line xs (i - 1) no_line) (f.order (i - 1) i (line no_line) (omega (arith, behind)) (omega (arith, l, length-map xs line))))) in
     and_from _ _ (and_from _ _ (and_from _ _ (lt-ltb _ _ o.group) (lt-ltb _ _ o.place)) (lt-ltb _ _ some)) (first_or i _ before)
 
 feasible_of : (m : Market) → IsForest m → (xs : List MapLine) → IsFeasible (instance m) (map line xs) → code.IsFeasible m xs
@@ -83,9 +82,9 @@ finds test [] n i h = absurd i
 finds test (x ∷ xs) n i h = elim (cases_Bool (test x)) [
   | inl e ↦ subst (λ b. IsSome (cond b (Some x) (find test xs))) (sym e) refl
   | inr e ↦ subst (λ b. IsSome (cond b (Some x) (find test xs))) (sym e) (elim i [
-      | inl same ↦ absurd (false≢true (sym e ∙ ap test same ∙ h))
-      | inr more ↦ finds test xs n more h
-    ])
+    | inl same ↦ absurd (false≢true (sym e ∙ ap test same ∙ h))
+    | inr more ↦ finds test xs n more h
+  ])
 ]
 
 at_least_is : (s g p t h q : ℕ) → IsAtLeast s g p t h q → is_le (ordering_then (nat_cmp s t) (ordering_then (nat_cmp g h) (nat_cmp p q))) ≡ true
@@ -126,7 +125,7 @@ refused_of m ok xs form g k o (Some n) (on, full, better) =
           | inl e ↦
               let at = all_at m xs form x i in
               let le = at_least_is (choice_at m x.group.0 x.place).score x.group.0 (choice_at m x.group.0 x.place).pool.0 (choice_at m g k).score g (choice_at m g k).pool.0
-                  (better (line x) (choice (choice_at m x.group.0 x.place)) (contains_from (map line xs) (line x) (in_map line xs x i)) (under_is m ok n x at ∙ e) (has_of m x.group.0 x.place at)) in
+              (better (line x) (choice (choice_at m x.group.0 x.place)) (contains_from (map line xs) (line x) (in_map line xs x i)) (under_is m ok n x at ∙ e) (has_of m x.group.0 x.place at)) in
               rw e le
         ]
 
@@ -149,8 +148,11 @@ through_is lines g k = tested (λ l. l.group == g && nat_le l.place k) (λ h j. 
 -- the best of some maps of the program is the best of those of the page that are among them
 pub best_of : (m : Market) → IsForest m → (P : List MapLine → Type 0) (Q : List Line → Type 0) (xs : List MapLine) → Q (map line xs) → ((ys : List MapLine) → IsRightMap m ys → Q (map line ys) → P ys)
     → ((other : List MapLine) → IsRightMap m other → P other → (g k : ℕ) → IsOffer m g k → placed_through other g k ≤ placed_through xs g k) → IsBestOf (instance m) Q (map line xs)
-best_of m ok P Q xs is among best = (is, λ other names good q. subst (λ (ls : List Line). (g k : ℕ) (c : Choice) → Has (instance m) g k c → page.through ls g k ≤ page.through (map line xs) g k) (lines_of other)
-    (of (map line_of other) names (subst (λ (ls : List Line). IsGood (instance m) ls names) (sym (lines_of other)) good) (subst Q (sym (lines_of other)) q)))
+best_of m ok P Q xs is among best = (
+  is,
+  λ other names good q. subst (λ (ls : List Line). (g k : ℕ) (c : Choice) → Has (instance m) g k c → page.through ls g k ≤ page.through (map line xs) g k) (lines_of other)
+      (of (map line_of other) names (subst (λ (ls : List Line). IsGood (instance m) ls names) (sym (lines_of other)) good) (subst Q (sym (lines_of other)) q)),
+)
   where
     of : (ys : List MapLine) (names : List Name) → IsGood (instance m) (map line ys) names → Q (map line ys) → (g k : ℕ) (c : Choice) → Has (instance m) g k c → page.through (map line ys) g k ≤ page.through (map line xs) g k
     of ys names good q g k c has =
@@ -179,8 +181,8 @@ pub one_best : (m : Market) → IsMarket m → (P : List Line → Type 0) (xs ys
 one_best m market P xs ys of_xs of_ys good also best other =
     let ok = forest m market in
     let same : (g k : ℕ) → IsOffer m g k → placed_through xs g k ≡ placed_through ys g k =
-        λ g k o.
-        let a = best.1 (map line ys) of_ys also other.0 g k (choice (choice_at m g k)) (has_of m g k o) in
-        let b = other.1 (map line xs) of_xs good best.0 g k (choice (choice_at m g k)) (has_of m g k o) in
-        omega (arith, a, b, through_is xs g k, through_is ys g k) in
+    λ g k o.
+    let a = best.1 (map line ys) of_ys also other.0 g k (choice (choice_at m g k)) (has_of m g k o) in
+    let b = other.1 (map line xs) of_xs good best.0 g k (choice (choice_at m g k)) (has_of m g k o) in
+    omega (arith, a, b, through_is xs g k, through_is ys g k) in
     same_lines m market xs ys (right_of m ok xs of_xs good).form (right_of m ok ys of_ys also).form (same_amounts m xs ys same)

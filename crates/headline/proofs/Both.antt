@@ -1,5 +1,4 @@
 -- The page's words for maps are the program's.
-use Rattle.std.proofs.Common.{ℕ, List, map}
 use Rattle.headline.specs.Headline.{IsWithin}
 use Rattle.headline.specs.Laws.{OneIsRepaired, Same}
 use Rattle.headline.specs.View.{instance}

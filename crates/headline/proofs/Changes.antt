@@ -1,5 +1,5 @@
 -- Batches, histories, and what the lines of a feed come to.
-use Rattle.std.proofs.Common.{◌≡◌, ◌⊎◌, inl, inr, ℕ, zero, suc, ◌+◌, ◌-◌, ◌<◌, ◌≤◌, List, [], ◌∷◌, ◌++◌, length, map, filter_map, slice_get, Option, None, Some, refl, ap, ap₂, sym, subst, ◌∙◌, arith, append_assoc, append-nil}
+use Rattle.std.proofs.Common.{◌≡◌, inl, inr, ℕ, zero, suc, ◌+◌, ◌-◌, List, [], ◌∷◌, ◌++◌, length, map, filter_map, slice_get, Option, None, Some, refl, ap, ap₂, sym, subst, ◌∙◌, arith, append_assoc, append-nil}
 use Rattle.std.specs.Prelude.{unwrap_or}
 use Rattle.std.specs.List.{cons_option, last_or}
 use Rattle.std.proofs.lemmas.Option.{none-some, same_Some, slice_get_within}
@@ -14,7 +14,7 @@ use Rattle.published_map.specs.Version.{IsVersion, Version}
 use Rattle.demand_feed.specs.Task as feed
 use Rattle.lane_model.specs.Machine.{GoesOn}
 use Rattle.mapper.specs.Control.{AllCome, Course, before_commit, with_line, with_version}
-use Rattle.mapper.specs.Control as code
+use Rattle.mapper.specs.Control as control
 use Rattle.mapper.specs.Texts as line_of
 use Rattle.mapper.specs.Words.{reply_by}
 use Rattle.drive.specs.Driven.{Succeeds}
@@ -63,7 +63,7 @@ set_is m m' batch a = record {
 
 -- MAPS THAT FOLLOW
 
-pub next_is : (v w : Version) (batch : List code_change.Change) → IsVersion v → code.IsNext v batch w → IsNext v (map change batch) w
+pub next_is : (v w : Version) (batch : List code_change.Change) → IsVersion v → control.IsNext v batch w → IsNext v (map change batch) w
 next_is v w batch version n = record {
   numbers = set_is v.market w.market batch n.applied;
   repaired =
@@ -119,17 +119,17 @@ one_follows first n x y at then = absurd (none-some y (subst (λ k. slice_get (f
 pub history_is : (t : Plan) (first : Version) (rest : List Version) → IsPlan t → IsFirstOf t first → GoesOn Succeeds (first ∷ []) rest → AreVersions (first ∷ rest) × IsHistory (Some t) (first ∷ rest)
 history_is t first rest plan is on =
     let all = all_follow (first ∷ []) rest (one_version first (first_version t first plan is)) (one_follows first) on in
-    (all.0, first_is t first plan is, all.1)
+    (all.0, (first_is t first plan is, all.1))
 
 -- WHAT THE LINES OF A FEED COME TO
 
 -- what some tasks add to a course
-record Adds (v : Version) (ts : List feed.Task) (c d : Course) : Type 0 where
-  maps : List Version
-  lines : List (List ℕ)
-  versions : d.versions ≡ c.versions ++ maps
-  out : d.out ≡ c.out ++ lines
-  course : IsCourse v ts maps lines
+pub record Adds (v : Version) (ts : List feed.Task) (c d : Course) : Type 0 where
+  pub maps : List Version
+  pub lines : List (List ℕ)
+  pub versions : d.versions ≡ c.versions ++ maps
+  pub out : d.out ≡ c.out ++ lines
+  pub course : IsCourse v ts maps lines
 
 -- every version that is added is in the end
 grows : (ts : List feed.Task) (c d : Course) → AllCome ts c d → (more : List Version) × (d.versions ≡ c.versions ++ more)
@@ -139,7 +139,7 @@ grows (t ∷ ts) c d (mid, here, rest) =
     let s = step t c mid here in
     (s.0 ++ r.0, r.1 ∙ ap (λ xs. xs ++ r.0) s.1 ∙ append_assoc c.versions s.0 r.0)
   where
-    step : (t : feed.Task) (c mid : Course) → code.Comes t c mid → (more : List Version) × (mid.versions ≡ c.versions ++ more)
+    step : (t : feed.Task) (c mid : Course) → control.Comes t c mid → (more : List Version) × (mid.versions ≡ c.versions ++ more)
     step (feed.refused n why) c mid h = ([], ap (λ (x : Course). x.versions) h ∙ sym (append-nil c.versions))
     step (feed.batch batch) c mid (inl (v, next, h)) = (v ∷ [], ap (λ (x : Course). x.versions) h)
     step (feed.batch batch) c mid (inr h) = ([], ap (λ (x : Course). x.versions) h ∙ sym (append-nil c.versions))
@@ -172,7 +172,7 @@ course_is v (feed.batch batch ∷ ts) c d newest is all (mid, inl (w, next, h), 
     let in_mid : mid.versions ≡ c.versions ++ w ∷ [] = ap (λ (x : Course). x.versions) h in
     let there : In d.versions w = subst (λ xs. In xs w) (sym (g.1 ∙ ap (λ xs. xs ++ g.0) in_mid)) (in_left (c.versions ++ w ∷ []) g.0 w (in_right c.versions (w ∷ []) w (inl refl))) in
     let r = course_is w ts mid d (ap (λ (x : Course). x.newest) h) (all w there) all rest in
-    let next' : IsNext v (map change batch) w = next_is v w batch is (subst (λ (o : Version). code.IsNext o batch w) newest next) in
+    let next' : IsNext v (map change batch) w = next_is v w batch is (subst (λ (o : Version). control.IsNext o batch w) newest next) in
     record {
       maps = w ∷ r.maps;
       lines = line_of.published w.serial ∷ r.lines;

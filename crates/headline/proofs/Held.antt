@@ -124,6 +124,14 @@ one ask t first before after result says good history not_ok still put = record 
   stream = stream_idle ask.workers (Some t) (first ∷ []) result before.stage.lent.stream after.stage.lent.stream good still.1;
 }
 
+tail : List Version → List Version
+tail [] = []
+tail (x ∷ xs) = xs
+
+same_tail : (x : Version) (xs ys : List Version) → x ∷ xs ≡ x ∷ ys → xs ≡ ys
+unfolding tail
+same_tail x xs ys h = ap tail h
+
 -- what the one feed's lines came to
 fed_is : (turns : ℕ) (ask : Service) (before after : Surroundings) (w : IsWellServed turns ask before after) → ((n : ℕ) (x : Version) → slice_get (w.first ∷ w.rest) n ≡ Some x → IsVersion x) → IsFed ask before after (Some w.topology) (w.first ∷ w.rest)
 fed_is turns ask before after w all octets alone are =
@@ -135,13 +143,6 @@ fed_is turns ask before after w all octets alone are =
     let versions : w.rest ≡ a.maps = sym rest ∙ a.versions in
     (w.first, a.maps, a.lines, ap (λ vs. w.first ∷ vs) versions, a.course, tells_so before.stage.lent.out after.stage.lent.out (IsPrinted c.out) (Puts (concat a.lines)) (λ b x p. p.bytes ∙ ap (λ (ls : List (List ℕ)). b.bytes ++ concat ls) a.out) r.1.out)
   where
-    same_tail : (x : Version) (xs ys : List Version) → x ∷ xs ≡ x ∷ ys → xs ≡ ys
-    same_tail x xs ys h = ap tail h
-
-    tail : List Version → List Version
-    tail [] = []
-    tail (x ∷ xs) = xs
-
     get_from : (xs : List Version) (x : Version) → In xs x → (n : ℕ) × (slice_get xs n ≡ Some x)
     get_from [] x i = absurd i
     get_from (y ∷ ys) x (inl e) = (0, ap (λ (z : Version). Some z) e)
@@ -257,11 +258,20 @@ repaired topology m changes before after (t, old, c, pieces, plan, says, says_ma
     let w : Version = record { serial = 0; market = r.changed; lines = r.repaired.lines; names = r.repaired.names; plan = t } in
     let ok = forest t.market plan.market in
     let new = forest_like t.market r.changed ok r.applied.shape in
-    let one = map_repair.repaired_is t.market old.lines r.changed r.repaired.lines 0 r.steps r.counted r.good_again.stable in
-    (t, v, w, c, (says, (old, says_map, refl), own_map t old plan r.good), says_changes, map_like t 0 w new r.applied.shape r.good_again refl refl, record {
-      numbers = set_is t.market r.changed c r.applied;
-      repaired = repaired_is t.market r.changed ok r.applied.shape old.lines r.good.form r.good.feasible.demands new r.repaired.lines one r.local;
-    }, one_piece pieces (text_of w) before.stage.lent.out after.stage.lent.out r.text put)
+    let one = map_repair.repaired_is t.market old.lines r.changed r.repaired.lines 0 r.steps r.counted r.good_again.stable in (
+      t,
+      v,
+      w,
+      c,
+      (says, (old, says_map, refl), own_map t old plan r.good),
+      says_changes,
+      map_like t 0 w new r.applied.shape r.good_again refl refl,
+      record {
+        numbers = set_is t.market r.changed c r.applied;
+        repaired = repaired_is t.market r.changed ok r.applied.shape old.lines r.good.form r.good.feasible.demands new r.repaired.lines one r.local;
+      },
+      one_piece pieces (text_of w) before.stage.lent.out after.stage.lent.out r.text put,
+    )
 
 summed : (n : ℕ) (before after : Surroundings) → IsSummedRun n before after → (s : Summary) × IsWorldRun n s × PutsOut (concat (world.lines_of s)) before after
 summed n before after (s, is, put) = (s, is, tells_so before.stage.lent.out after.stage.lent.out (IsPrinted (world.lines_of s)) (Puts (concat (world.lines_of s))) (λ x y p. p.bytes) put)

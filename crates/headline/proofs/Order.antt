@@ -1,8 +1,8 @@
 -- Each reply was tried right behind its message.
-use Rattle.std.proofs.Common.{◌≡◌, ℕ, ◌≤◌, true, false, List, [], ◌∷◌, ◌++◌, fold, All, refl, ap, sym, subst, ◌∙◌, append_assoc, append-nil}
+use Rattle.std.proofs.Common.{◌≡◌, ℕ, List, [], ◌∷◌, ◌++◌, fold, All, refl, ap, sym, ◌∙◌, append_assoc, append-nil}
 use Rattle.std.proofs.lemmas.List.Elements.{All-head, All-tail}
 use Rattle.outside.specs.Faults.{raised}
-use Rattle.outside.specs.Port.{Packet, PortTold, Taken, Try}
+use Rattle.outside.specs.Port.{PortTold, Taken}
 use Rattle.lane_model.specs.Replies.{is_silent, replies}
 use Rattle.lane_model.specs.Turns.{Came, IsFated, Turn, idle, oversize, ended, failed, port_after, port_turn, took, tries_of, tries_of_came}
 use Rattle.lane_model.specs.Turns as fate

@@ -1,28 +1,26 @@
 -- The repaired map of the program is that of the page, which is said of maps alone.
-use Rattle.std.proofs.Common.{◌≡◌, ◌≢◌, ◌⊎◌, inl, inr, ℕ, zero, suc, ◌+◌, ◌-◌, ◌<◌, ◌≤◌, ◌==◌, ◌&&◌, nat_lt, nat_le, Bool, true, false, if◌then◌else◌, List, [], ◌∷◌, length, map, All, Contains, slice_index, slice_index_or, slice_get, Option, None, Some, IsTrue, refl, ap, ap₂, sym, subst, ◌∙◌, arith}
+use Rattle.std.proofs.Common.{◌≡◌, inl, inr, ℕ, ◌-◌, ◌<◌, ◌≤◌, ◌==◌, ◌&&◌, nat_lt, nat_le, Bool, true, false, List, length, map, slice_index, slice_index_or, refl, ap, ap₂, sym, subst, ◌∙◌, arith}
 use Rattle.std.proofs.lemmas.Bool.{cases_Bool, cases_eq, cases_lt, and_parts, and_from, eqb-true, eq-eqb, ltb-true, lt-ltb, le-leb, false≢true}
 use Rattle.map_model.specs.declared.lines.MapLine.{MapLine}
-use Rattle.map_model.specs.Market.{Market, IsSameShape, capacity_of, choice_at, demand_of, group_at, node_at, path, pool_of}
+use Rattle.map_model.specs.Market.{Market, IsSameShape, capacity_of, choice_at, demand_of, group_at, node_at, pool_of}
 use Rattle.map_model.specs.Allocation.{AreLines, IsOffer, amount_at, is_wanted, load, units_of}
 use Rattle.map_model.specs.Allocation as code
 use Rattle.map_model.specs.Progress as progress
 use Rattle.map_model.specs.Progress.{root_of, tree_of}
 use Rattle.map_model.proofs.Shapes.{IsOffer-shape, root_of-shape, shape_sym, tree_of-shape}
-use Rattle.evict.specs.Standing.{IsPastWanted, Standing}
+use Rattle.evict.specs.Standing.{Standing}
 use Rattle.evict.proofs.Shaped.{load-shape, units_of-same}
 use Rattle.best_laws.specs.Ahead.{IsRightMap}
 use Rattle.best_laws.specs.Ahead as state
-use Rattle.reopen.specs.Cutting.{IsCut, IsFitting}
-use Rattle.reopen.specs.Rolling.{IsBackAt, IsRolledBack, is_marked}
-use Rattle.agree_laws.specs.Below.{IsBestBelow}
-use Rattle.map_repair.specs.Determined.{IsCutFor, IsRepairedOf}
+use Rattle.reopen.specs.Cutting.{IsFitting}
+use Rattle.reopen.specs.Rolling.{is_marked}
+use Rattle.map_repair.specs.Determined.{IsRepairedOf}
 use Rattle.map_repair.specs.Repaired as repair
-use Rattle.headline.specs.Headline.{AreClosed, AreSpread, Has, HoldsIn, IsBestOf, IsLeft, IsReached, IsRepaired, IsSpread, IsWithin, Wants, WantsIn, tree}
-use Rattle.headline.specs.View.{Choice, Group, Line, Node, choice, group, instance, line, node}
-use Rattle.headline.specs.Headline as page
+use Rattle.headline.specs.Headline.{AreClosed, Has, HoldsIn, IsBestOf, IsLeft, IsReached, IsRepaired, IsSpread, IsWithin, WantsIn, tree}
+use Rattle.headline.specs.View.{Choice, Line, choice, group, instance, line, node}
 use Rattle.headline.proofs.Lists.{In, contains_from, from_map, in_from, in_map}
 use Rattle.headline.proofs.Trees.{IsForest}
-use Rattle.headline.proofs.Good.{all_at, amount_is, at_least, demand_is, group_has, has_of, node_has, node_of_page, offer_of, path_is, pool_there, some_line, some_units_in, wanted_from, wants_from}
+use Rattle.headline.proofs.Good.{amount_is, at_least, demand_is, group_has, has_of, node_has, node_of_page, offer_of, path_is, pool_there, some_line, some_units_in, wanted_from, wants_from}
 use Rattle.headline.proofs.Best.{best_of}
 
 -- TREES
@@ -159,8 +157,7 @@ module _ (m m' : Market) (ok : IsForest m) (shape : IsSameShape m m') (xs : List
     before_left g k o low =
         let l : g < length m'.groups = group_there g o.group in
         let at = r.rolled_back.pointers g l in
-        let within = at.within in
-        (
+        let within = at.within in (
           wants_from m xs g k o.group (wanted_is g k o ∙ lt-ltb k (slice_index from.pointers g) (omega (arith, low, within, old_pointer g))),
           λ j c le has reached.
               let p = offer_of m g j c has in

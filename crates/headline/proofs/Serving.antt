@@ -29,7 +29,7 @@ use Rattle.glb.specs.Serve.{AreOpened, AskedFirst, IsFirstOf, PlacedFirst}
 use Rattle.glb.specs.Served.{AreWellDone, IsWellDone}
 use Rattle.headline.specs.Headline.{AreMaps, IsAlike, IsLane, IsMap, places_of}
 use Rattle.headline.specs.Runs.{AreLanes}
-use Rattle.headline.specs.View.{Group, Node, came, choice, group, instance, knew, lost, node, tried}
+use Rattle.headline.specs.View.{Group, Node, came, choice, group, instance, knew, node, tried}
 use Rattle.map_model.specs.Allocation as code
 use Rattle.headline.proofs.Trees.{IsForest, forest, number}
 use Rattle.headline.proofs.Good.{good_is_good}

@@ -10,12 +10,9 @@ use Rattle.mapper.specs.Scenes.{IsPrinted}
 use Rattle.mapper.specs.Words.{map_text}
 use Rattle.published_map.specs.Version.{Version}
 use Rattle.glb.specs.Files.{Says, said, topology_file}
-use Rattle.glb.specs.Laws.{CameBy}
 use Rattle.glb.specs.Served.{IsWellServed}
-use Rattle.glb.specs.Told.{Surroundings}
-use Rattle.glb.specs.Words.{Service}
 use Rattle.glb.proofs.Agree.{serves_agree}
-use Rattle.headline.specs.Laws.{Agree, IsOver, PutsMaps}
+use Rattle.headline.specs.Laws.{Agree, PutsMaps}
 use Rattle.headline.specs.Runs.{Puts, PutsOut}
 use Rattle.headline.proofs.Serving.{tells_so}
 
@@ -27,8 +24,8 @@ said_is (Some s) shelf name octets t told holds (bytes, held, is) =
     let one : bytes ≡ octets = same_Some bytes octets (sym held ∙ ap (λ (x : Shelved). x.holds name) same ∙ holds) in
     subst (λ (o : List ℕ). said topology_file o ≡ Ok t) one is
 
-ok_one : {T E : Type 0} (x y : T) → Ok {E = E} x ≡ Ok y → x ≡ y
-ok_one x y h = cc
+ok_one : (r : Result Plan (List ℕ)) (x y : Plan) → r ≡ Ok x → r ≡ Ok y → x ≡ y
+ok_one r x y a b = cc
 
 printed : (pieces : List (List ℕ)) (b a : Written) → IsPrinted pieces b a → Puts (concat pieces) b a
 printed pieces b a p = p.bytes
@@ -39,7 +36,7 @@ agree turns others ask other before after then later topology feed x y quiet sil
     let v : IsWellServed others other then later = y.promised.good refl in
     let a = said_is before.files x.shelf ask.topology topology w.topology x.told x.holds w.says in
     let b = said_is then.files y.shelf other.topology topology v.topology y.told y.holds v.says in
-    let one : w.topology ≡ v.topology = ok_one w.topology v.topology (sym a ∙ b) in
+    let one : w.topology ≡ v.topology = ok_one (said topology_file topology) w.topology v.topology a b in
     let r = serves_agree turns others ask other before after then later w v feed x.alone y.alone one x.gave y.gave in
     let c : Course = r.0 in
     let d : Course = r.1 in
@@ -49,8 +46,7 @@ agree turns others ask other before after then later topology feed x y quiet sil
     let maps_c : List (List ℕ) = map map_text (w.first ∷ c.versions) in
     let maps_d : List (List ℕ) = map map_text (v.first ∷ d.versions) in
     let put_c : PutsMaps (concat maps_c) before after = tells_so before.stage.lent.maps after.stage.lent.maps (IsPrinted maps_c) (Puts (concat maps_c)) (printed maps_c) r.2.maps in
-    let put_d : PutsMaps (concat maps_d) then later = tells_so then.stage.lent.maps later.stage.lent.maps (IsPrinted maps_d) (Puts (concat maps_d)) (printed maps_d) r.3.maps in
-    (
+    let put_d : PutsMaps (concat maps_d) then later = tells_so then.stage.lent.maps later.stage.lent.maps (IsPrinted maps_d) (Puts (concat maps_d)) (printed maps_d) r.3.maps in (
       concat c.out,
       concat maps_c,
       out_c,

@@ -7,14 +7,14 @@
 -- `drive`), the octets of a reply (`reply_of`), and plain words for what happens (View). Runs says
 -- which of it each command promises, and src/laws.rt carries the proof from the clauses of `glb`.
 use Rattle.std.specs.Prelude.{◌≡◌, ◌≢◌, ◌⊎◌, ℕ, zero, suc, ◌+◌, ◌-◌, ◌*◌, ◌^◌, ◌%◌, ◌<◌, ◌≤◌, max}
-use Rattle.std.specs.Prelude.{Bool, ◌&&◌, ◌==◌, nat_le, IsTrue, if◌then◌else◌}
+use Rattle.std.specs.Prelude.{Bool, ◌&&◌, ◌==◌, nat_le, IsTrue}
 use Rattle.std.specs.Prelude.{List, [], ◌∷◌, ◌++◌, length, map, filter, sum, take, flat_map}
 use Rattle.std.specs.Prelude.{All, AllPairs, Contains, slice_get, slice_index_or}
 use Rattle.std.specs.Prelude.{Option, None, Some, option_and_then, option_map}
 use Rattle.std.specs.List.{filter_map, last_or, list_any, range_with_len}
 use Rattle.std.specs.Option.{unwrap_or}
 use Rattle.outside.specs.Faults.{BothTell, Rose, raised}
-use Rattle.outside.specs.Port.{Packet, PortTold, Taken, Try}
+use Rattle.outside.specs.Port.{Packet, Taken, Try}
 use Rattle.outside.specs.Streams.{Piece, StreamsTold, Talk}
 use Rattle.tcp_frames.specs.Split.{framed}
 use Rattle.topology_text.specs.Plan.{Plan}
@@ -144,8 +144,9 @@ WantsIn i lines g root =
 pub record AreClosed (old new : Instance) (lines : List Line) (trees : ℕ → Bool) : Type 0 where
   pub capacity : (n : ℕ) (x y : Node) → slice_get old.nodes n ≡ Some x →
       slice_get new.nodes n ≡ Some y → y.capacity ≢ x.capacity → IsTrue (trees (tree old n))
-  pub lowered : (g root : ℕ) (x y : Group) → slice_get old.groups g ≡ Some x → slice_get new.groups g
-      ≡ Some y → y.demand < x.demand → HoldsIn old lines g root → IsTrue (trees root)
+  pub lowered : (g root : ℕ) (x y : Group) → slice_get old.groups g ≡ Some x →
+      slice_get new.groups g ≡ Some y → y.demand < x.demand →
+      HoldsIn old lines g root → IsTrue (trees root)
   pub wanting : (g from to : ℕ) → IsTrue (trees from) → WantsIn old lines g from →
       HoldsIn old lines g to → IsTrue (trees to)
 
