@@ -21,6 +21,7 @@ chmod 755 "$root"
 install -D -s -m 755 "$glb" "$root/usr/bin/glb"
 install -D -m 755 -t "$root/usr/lib/glb" "$top"/tools/glb-append "$top"/tools/glb-follow "$top"/tools/glb-fleet
 install -D -m 644 -t "$root/usr/lib/glb" "$top"/tools/{batches,places,texts}.py
+install -D -m 644 -t "$root/usr/lib/glb/glb_tools" "$top"/tools/glb_tools/*.py
 for tool in numbers why moves metrics picture; do install -m 755 "$top/tools/$tool.py" "$root/usr/lib/glb/$tool.py"; done
 # the units name the places of a program that was put there by hand
 for unit in "$top"/examples/*.service "$top"/examples/*.timer; do
@@ -72,7 +73,7 @@ if [ "$1" = remove ] && [ -d /run/systemd/system ]; then
     systemctl stop 'glb*.socket' 'glb*.service' 'glb*.timer' || true
 fi
 # what Python keeps of the tools that were run
-rm -rf /usr/lib/glb/__pycache__
+rm -rf /usr/lib/glb/__pycache__ /usr/lib/glb/glb_tools/__pycache__
 SCRIPT
 cat >"$root/DEBIAN/postrm" <<'SCRIPT'
 #!/bin/sh

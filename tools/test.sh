@@ -86,7 +86,7 @@ printf '\xef\xbb\xbf' | cat - examples/tree.toml >"$work/mark.toml"
 expect 0 "$(cat examples/tree.toml)" tools/numbers.py "$work/mark.toml" /dev/null
 expect 1 '' tools/numbers.py "$work/small.map" /dev/null
 expect 1 '' tools/numbers.py "$work/nowhere" /dev/null
-expect 1 '' tools/numbers.py
+expect 64 '' tools/numbers.py
 
 # why.py
 expect 0 'group g2: 4 of 8 nowhere

@@ -1,0 +1,76 @@
+#!/usr/bin/env python3
+"""Writes a topology with the numbers that logs of changes leave, as a server that has read all of them holds them.
+
+    numbers.py TOPOLOGY LOG.. > NEW
+    numbers.py --json TOPOLOGY LOG..        the numbers alone, and what came of the batches
+
+The logs are read one behind the other, as one feed. A batch counts where no line since the commit before it is
+refused; what stands behind the last commit, or behind `stop`, does not count. A batch that one server dropped for
+want of memory counts here. Only the digits of `demand` and `capacity` change: comments and order stay as they are.
+What was dropped is said on standard error. Check what it writes: `glb map NEW | head -n 1`.
+
+It needs Python 3.11 alone, and is no part of the proved program.
+"""
+
+import json
+import sys
+from pathlib import Path
+
+from glb_tools.options import parser
+from glb_tools.text import Replay
+from glb_tools.topology import Topology, written
+
+
+def report(topology, replay):
+    names = {
+        "demand": [unit.name for unit in topology.units],
+        "capacity": [node.name for node in topology.nodes],
+    }
+    numbers = {
+        word: {
+            names[word][number]: value
+            for (of, number), value in replay.numbers.items()
+            if of == word
+        }
+        for word in names
+    }
+    dropped = [
+        {"commit": line, "refused": [{"line": at, "why": why} for at, why in refused]}
+        for line, refused in replay.dropped
+    ]
+    return {
+        **numbers,
+        "published": replay.published,
+        "dropped": dropped,
+        "open": len(replay.batch),
+        "stopped": replay.is_stopped,
+    }
+
+
+def warn(replay):
+    for line, refused in replay.dropped:
+        said = ", ".join(f"{at} {why}" for at, why in refused[:4])
+        print(f"the batch that ends in line {line} was dropped: refused {said}", file=sys.stderr)
+    if replay.batch or replay.refused:
+        print(f"{len(replay.batch)} changes behind the last commit do not count", file=sys.stderr)
+    if replay.is_stopped:
+        print(
+            f"line {replay.line} is `stop`: a server that reads this log ends there",
+            file=sys.stderr,
+        )
+
+
+def main():
+    words = parser("glb-numbers", __doc__, json=True)
+    words.add_argument("topology")
+    words.add_argument("log", nargs="+")
+    options = words.parse_args()
+    octets = Path(options.topology).read_bytes()
+    topology = Topology(octets, options.topology)
+    replay = Replay(topology)
+    replay.take(b"".join(Path(log).read_bytes() for log in options.log))
+    if options.json:
+        print(json.dumps(report(topology, replay), indent=2))
+        return
+    warn(replay)
+    sys.stdout.write(written(octets.decode("utf-8-sig"), topology, replay.numbers))

@@ -1,0 +1,85 @@
+#!/usr/bin/env python3
+"""Runs the tools' tests by Python's own unittest, with no other package.
+
+    tools/tests/run.py [NAME..]        all tests, or those of the modules test_NAME
+
+What a test needs and the machine lacks is told, and such a test counts as skipped, never as passed. The last line is
+`N passed, N failed`, with `, N skipped` where there are any. The status is 1 where one failed, or none passed. The
+tests are also pytest's: `pytest tools`.
+"""
+
+import sys
+import time
+import unittest
+from pathlib import Path
+
+HERE = Path(__file__).resolve().parent
+
+
+class Counted(unittest.TextTestResult):
+    """Counts each test once, whatever becomes of its parts."""
+
+    def __init__(self, stream, descriptions, verbosity):  # type: ignore[no-untyped-def]
+        super().__init__(stream, descriptions, verbosity)
+        self.ended: dict[str, str] = {}
+
+    def addSuccess(self, test):  # type: ignore[no-untyped-def]
+        super().addSuccess(test)
+        self.ended.setdefault(test.id(), "passed")
+
+    def fail(self, test):  # type: ignore[no-untyped-def]
+        self.ended[test.id()] = "failed"
+
+    def addFailure(self, test, err):  # type: ignore[no-untyped-def]
+        super().addFailure(test, err)
+        self.fail(test)
+
+    def addError(self, test, err):  # type: ignore[no-untyped-def]
+        super().addError(test, err)
+        self.fail(test)
+
+    def addUnexpectedSuccess(self, test):  # type: ignore[no-untyped-def]
+        super().addUnexpectedSuccess(test)
+        self.fail(test)
+
+    def addExpectedFailure(self, test, err):  # type: ignore[no-untyped-def]
+        super().addExpectedFailure(test, err)
+        self.ended[test.id()] = "skipped"
+        print(f"left out: {test.id()}: known to fail", file=sys.stderr)
+
+    def addSkip(self, test, reason):  # type: ignore[no-untyped-def]
+        super().addSkip(test, reason)
+        self.ended[test.id()] = "skipped"
+        print(f"left out: {test.id()}: {reason}", file=sys.stderr)
+
+    def addSubTest(self, test, subtest, err):  # type: ignore[no-untyped-def]
+        super().addSubTest(test, subtest, err)
+        if err is not None:
+            self.fail(test)
+
+
+def main() -> int:
+    sys.path.insert(0, str(HERE))
+    sys.path.append(str(HERE.parent))
+    loader, names = unittest.TestLoader(), sys.argv[1:]
+    if names:
+        suite = loader.loadTestsFromNames([f"test_{name}" for name in names])
+    else:
+        suite = loader.discover(str(HERE), "test_*.py", str(HERE))
+    began = time.monotonic()
+    runner = unittest.TextTestRunner(stream=sys.stderr, resultclass=Counted, verbosity=0)
+    found = runner.run(suite)
+    assert isinstance(found, Counted)
+    counts = {
+        word: list(found.ended.values()).count(word) for word in ("passed", "failed", "skipped")
+    }
+    # what fails outside of a test, as a module that cannot be read, is one too
+    counts["failed"] = max(counts["failed"], min(1, len(found.errors) + len(found.failures)))
+    left = f", {counts['skipped']} skipped" if counts["skipped"] else ""
+    print(f"{time.monotonic() - began:.1f} s", file=sys.stderr)
+    print(f"{counts['passed']} passed, {counts['failed']} failed{left}")
+    return 1 if counts["failed"] or not counts["passed"] else 0
+
+
+if __name__ == "__main__":
+    sys.exit(main())
