@@ -14,4 +14,4 @@ from glb_tools.text import (  # noqa: F401
     number_in,
     words_of as read_line,
 )
-from glb_tools.topology import NO_LIMIT, Node, Topology, Unit, document, read_topology  # noqa: F401
+from glb_tools.topology import NO_LIMIT, Node, Topology, Unit, read_topology  # noqa: F401

@@ -73,4 +73,4 @@ def main():
         print(json.dumps(report(topology, replay), indent=2))
         return
     warn(replay)
-    sys.stdout.write(written(octets.decode("utf-8-sig"), topology, replay.numbers))
+    sys.stdout.write(written(topology, replay.numbers))

@@ -21,7 +21,8 @@ from pathlib import Path
 
 from glb_tools.map import map_of
 from glb_tools.options import parser
-from glb_tools.topology import Topology, document
+from glb_tools.toml import Document
+from glb_tools.topology import Topology
 
 WIDTH, ROW, INDENT, LEFT, BAR = 1000, 20, 18, 20, 300
 NAMES, BARS, NUMBERS, WORDS = LEFT, 210, 520, 630
@@ -292,7 +293,7 @@ def main():
     octets, text = Path(asked.topology).read_bytes(), Path(asked.map).read_bytes()
     # refuses what cannot be drawn
     map_of(Topology(octets, asked.topology), text, asked.map)
-    topology = document(octets, asked.topology)
+    topology = Document(octets, asked.topology).top
     world = World(topology, text.decode("ascii"))
     apex = topology["zone"]["apex"]
     sys.stdout.write(draw(world, f"A map of {apex}", asked.trees, asked.nodes, asked.groups) + "\n")

@@ -1,6 +1,7 @@
 """The lines of a feed, and what a server takes of them, as docs/FORMATS.md has them."""
 
 import ipaddress
+import re
 import string
 from collections.abc import Mapping
 from typing import Protocol
@@ -10,6 +11,7 @@ Change = tuple[str, int]
 MOST_CHANGES, LONGEST_LINE = 4096, 8300
 MOST_UNITS, MOST_CAPACITY = 2**32 - 1, 2**48
 WORD_COUNTS = {"demand": 3, "capacity": 3, "commit": 1, "ask": 3, "show": 1, "stop": 1}
+PRINTED, DIGITS = re.compile(rb"[ -~]*"), re.compile(r"[0-9]{1,19}")
 
 
 class Names(Protocol):
@@ -35,7 +37,7 @@ def lines_of(octets: bytes) -> list[bytes]:
 
 
 def number_in(text: str) -> int:
-    if not 1 <= len(text) <= 19 or any(c not in string.digits for c in text):
+    if not DIGITS.fullmatch(text):
         raise Refused("bad number")
     return int(text)
 
@@ -44,7 +46,7 @@ def words_of(line: bytes) -> list[str]:
     """The words of a line of a feed, each of them checked by itself."""
     if len(line) > LONGEST_LINE:
         raise Refused("too long")
-    if any(not 0x20 <= octet <= 0x7E for octet in line):
+    if not PRINTED.fullmatch(line):
         raise Refused("bad byte")
     words = [word for word in line.decode().split(" ") if word]
     if not words or words[0] not in WORD_COUNTS:

@@ -5,8 +5,7 @@ file: `glb map` does.
 """
 
 import ipaddress
-import re
-import tomllib
+import socket
 from collections.abc import Iterator, Mapping
 from dataclasses import dataclass
 from pathlib import Path
@@ -14,6 +13,7 @@ from typing import Any
 
 from glb_tools.options import Fault
 from glb_tools.text import MOST_CAPACITY, MOST_UNITS, Change
+from glb_tools.toml import Document, Place, without_collections
 
 # the limit of an offer that has none of its own
 NO_LIMIT = 2**32 - 1
@@ -50,12 +50,7 @@ class Unit:
         return "group" if self.owner is None else "class"
 
 
-def document(octets: bytes, path: str | Path = "the topology") -> dict[str, Any]:
-    """The table that a document of TOML is."""
-    try:
-        return tomllib.loads(octets.decode("utf-8-sig"))
-    except (UnicodeDecodeError, tomllib.TOMLDecodeError, RecursionError) as why:
-        raise Fault(f"{path}: {why}") from None
+STR, INT = frozenset([str]), frozenset([int])
 
 
 class Entry:
@@ -89,17 +84,16 @@ class Entry:
 
     def texts(self, key: str) -> list[str]:
         items: list[str] = self.key(key, list)
-        if any(type(item) is not str for item in items):
+        if not STR.issuperset(map(type, items)):
             raise Wrong(f"an item in `{key}` of {self.place} is of a wrong kind")
         return items
 
     def numbers(self, key: str, least: int) -> list[int]:
         items: list[int] = self.key(key, list)
-        for item in items:
-            if type(item) is not int:
-                raise Wrong(f"an item in `{key}` of {self.place} is of a wrong kind")
-            if not least <= item <= MOST_UNITS:
-                raise Wrong(f"an item in `{key}` of {self.place} is out of range")
+        if not INT.issuperset(map(type, items)):
+            raise Wrong(f"an item in `{key}` of {self.place} is of a wrong kind")
+        if items and not least <= min(items) <= max(items) <= MOST_UNITS:
+            raise Wrong(f"an item in `{key}` of {self.place} is out of range")
         return items
 
     def tables(self, key: str) -> list["Entry"]:
@@ -110,12 +104,29 @@ class Wrong(Exception):
     """What is wrong with a topology, and where."""
 
 
+def prefix_in(text: str, group: int) -> tuple[int, int, int]:
+    """Family, first address and length of a prefix (ipaddress takes ten times as long)."""
+    addr, _, digits = text.partition("/")
+    is_old = ":" not in addr
+    family, kind, bits = (4, socket.AF_INET, 32) if is_old else (6, socket.AF_INET6, 128)
+    try:
+        if not is_old and "." in addr:
+            raise ValueError
+        start, length = int.from_bytes(socket.inet_pton(kind, addr), "big"), int(digits)
+        if str(length) != digits or length > bits or start & (1 << bits - length) - 1:
+            raise ValueError
+    except (OSError, ValueError):
+        raise Wrong(f"`{text}` of group {group} is no prefix") from None
+    return family, start, length
+
+
 class Topology:
     """Nodes, and units: the groups in their order, and behind them the classes."""
 
     def __init__(self, octets: bytes, path: str | Path = "the topology") -> None:
         self.nodes: list[Node] = []
         self.node_at: dict[str, int] = {}
+        self.pool_at: dict[str, int] = {}
         self.units: list[Unit] = []
         self.unit_at: dict[str, int] = {}
         # of a group and a service in small letters, the class
@@ -125,9 +136,10 @@ class Topology:
         # by family and length, the groups by the first bits
         self.prefixes: dict[int, dict[int, dict[int, int]]] = {4: {}, 6: {}}
         self.apex = ""
-        top = Entry(document(octets, path), "the top")
+        self.document = Document(octets, path)
         try:
-            self.take(top)
+            with without_collections():
+                self.take(Entry(self.document.top, "the top"))
         except Wrong as why:
             raise Fault(f"{path} is no topology: {why} (`glb map` names its first fault)") from None
 
@@ -157,8 +169,11 @@ class Topology:
                 raise Wrong(f"`parent` of {entry.place} is no node ahead of it, or a pool")
         capacity = entry.number("capacity", 0, MOST_CAPACITY)
         hosts = [entry.texts(key) if key in entry.keys else [] for key in ("a", "aaaa")]
+        node = Node(name, capacity, parent, entry.flag("pool"), *hosts)
         self.node_at[name] = len(self.nodes)
-        self.nodes.append(Node(name, capacity, parent, entry.flag("pool"), *hosts))
+        if node.is_pool:
+            self.pool_at[name] = len(self.nodes)
+        self.nodes.append(node)
 
     def take_unit(self, entry: Entry) -> Unit:
         unit = self.unit(entry)
@@ -180,12 +195,9 @@ class Topology:
         self.class_of[owner, unit.service] = len(self.units) - 1
 
     def unit(self, entry: Entry) -> Unit:
-        pools = []
-        for name in entry.texts("pools"):
-            pool = self.node_at.get(name)
-            if pool is None or not self.nodes[pool].is_pool:
-                raise Wrong(f"an item in `pools` of {entry.place} is no pool")
-            pools.append(pool)
+        pools = [self.pool_at.get(name, -1) for name in entry.texts("pools")]
+        if -1 in pools:
+            raise Wrong(f"an item in `pools` of {entry.place} is no pool")
         if len(set(pools)) < len(pools):
             raise Wrong(f"{entry.place} has a pool twice")
         scores = entry.numbers("scores", 0)
@@ -197,11 +209,11 @@ class Topology:
         )
 
     def take_prefix(self, text: str, group: int) -> None:
-        try:
-            net = ipaddress.ip_network(text)
-        except ValueError as why:
-            raise Wrong(f"`prefixes` of group {group}: {why}") from None
-        self.prefixes[net.version].setdefault(net.prefixlen, {})[int(net.network_address)] = group
+        family, start, length = prefix_in(text, group)
+        groups = self.prefixes[family].setdefault(length, {})
+        if start in groups:
+            raise Wrong(f"the prefix {text} of group {group} stands twice")
+        groups[start] = group
 
     def path(self, node: int | None) -> Iterator[int]:
         """A node, and all above it, up to its root."""
@@ -220,8 +232,9 @@ class Topology:
             start = number >> bits - length << bits - length
             group = self.prefixes[address.version][length].get(start)
             if group is not None:
-                family = ipaddress.IPv4Network if address.version == 4 else ipaddress.IPv6Network
-                return group, family((start, length))
+                if address.version == 4:
+                    return group, ipaddress.IPv4Network((start, length))
+                return group, ipaddress.IPv6Network((start, length))
         raise Fault(f"no group has {address}")
 
 
@@ -229,131 +242,9 @@ def read_topology(path: str | Path) -> Topology:
     return Topology(Path(path).read_bytes(), path)
 
 
-# Numbers in the text of a topology.
-
-BLANK = re.compile(r"(?:[ \t\r\n]|#[^\n]*)*")
-BARE_KEY = re.compile(r"[A-Za-z0-9_-]+")
-BARE_VALUE = re.compile(r"[^\s,\]}#]+")
-TEXTS = [
-    re.compile(r'"""(?:[^\\]|\\.)*?"{3,5}', re.S),
-    re.compile(r"'''.*?'{3,5}", re.S),
-    re.compile(r'"(?:[^"\\\n]|\\.)*"'),
-    re.compile(r"'[^'\n]*'"),
-]
-Where = tuple[str | int, ...]
-
-
-class Places:
-    """Where in a document of TOML its bare values stand: a walk over its text, by its tables."""
-
-    def __init__(self, text: str) -> None:
-        self.text, self.at = text, 0
-        # by the path of keys and numbers, where the value begins and ends
-        self.found: dict[Where, tuple[int, int]] = {}
-        # how many tables stand in each array of tables
-        self.tables: dict[Where, int] = {}
-        self.walk()
-
-    def sees(self, mark: str) -> bool:
-        found = BLANK.match(self.text, self.at)
-        assert found
-        self.at = found.end()
-        return self.text.startswith(mark, self.at)
-
-    def takes(self, mark: str) -> bool:
-        if not self.sees(mark):
-            return False
-        self.at += len(mark)
-        return True
-
-    def must(self, mark: str) -> None:
-        if not self.takes(mark):
-            raise Fault(f"no `{mark}` at octet {self.at} of the topology")
-
-    def walk(self) -> None:
-        table: Where = ()
-        while not self.sees("") or self.at < len(self.text):
-            if self.takes("[["):
-                table = self.header()
-                self.must("]]")
-                self.tables[table] = self.tables.get(table, -1) + 1
-                table = (*table, self.tables[table])
-            elif self.takes("["):
-                table = self.header()
-                self.must("]")
-            else:
-                self.pair(table)
-
-    def header(self) -> Where:
-        """The path of a table, with the number of the last table of each array of tables above it."""
-        path: Where = ()
-        keys = self.keys()
-        for place, key in enumerate(keys):
-            path = (*path, key)
-            if path in self.tables and place + 1 < len(keys):
-                path = (*path, self.tables[path])
-        return path
-
-    def keys(self) -> list[str]:
-        keys = [self.key()]
-        while self.takes("."):
-            keys.append(self.key())
-        return keys
-
-    def key(self) -> str:
-        self.sees("")
-        if quoted := self.quoted():
-            return next(iter(document(f"{quoted} = 0".encode())))
-        found = BARE_KEY.match(self.text, self.at)
-        if not found:
-            raise Fault(f"no key at octet {self.at} of the topology")
-        self.at = found.end()
-        return found[0]
-
-    def quoted(self) -> str | None:
-        for kind in TEXTS:
-            if found := kind.match(self.text, self.at):
-                self.at = found.end()
-                return found[0]
-        return None
-
-    def pair(self, table: Where) -> None:
-        keys = self.keys()
-        self.must("=")
-        self.value((*table, *keys))
-
-    def value(self, path: Where) -> None:
-        self.sees("")
-        if self.takes("["):
-            self.items(path)
-        elif self.takes("{"):
-            self.members(path)
-        elif self.quoted() is None:
-            found = BARE_VALUE.match(self.text, self.at)
-            if not found:
-                raise Fault(f"no value at octet {self.at} of the topology")
-            self.at = found.end()
-            self.found[path] = found.span()
-
-    def items(self, path: Where) -> None:
-        number = 0
-        while not self.takes("]"):
-            self.value((*path, number))
-            number += 1
-            if not self.takes(","):
-                self.must("]")
-                return
-
-    def members(self, path: Where) -> None:
-        while not self.takes("}"):
-            self.pair(path)
-            if not self.takes(","):
-                self.must("}")
-                return
-
-
-def place_of(topology: Topology, word: str, number: int) -> tuple[str, int, str]:
-    """Where a number stands in the document: an array of tables, a table of it, and a key."""
+def place_of(topology: Topology, change: Change) -> Place:
+    """Where the number of a change stands in the document."""
+    word, number = change
     if word == "capacity":
         return "node", number, word
     if number < topology.groups:
@@ -361,24 +252,8 @@ def place_of(topology: Topology, word: str, number: int) -> tuple[str, int, str]
     return "class", number - topology.groups, word
 
 
-def written(text: str, topology: Topology, numbers: Mapping[Change, int]) -> str:
-    """The text with these numbers: only the digits of values change, remarks and order stay."""
-    places = Places(text)
-    due = document(text.encode())
-    cuts: list[tuple[int, int, str]] = []
-    for (word, number), value in numbers.items():
-        table, entry, key = place_of(topology, word, number)
-        due[table][entry][key] = value
-        span = places.found.get((table, entry, key))
-        if span is None:
-            raise Fault(f"where `{key}` of {table} {entry} stands was not found")
-        cuts.append((*span, str(value)))
-    pieces: list[str] = []
-    at = 0
-    for begin, end, digits in sorted(cuts):
-        pieces += [text[at:begin], digits]
-        at = end
-    text = "".join([*pieces, text[at:]])
-    if document(text.encode()) != due:
-        raise Fault("the numbers were not found in the text: write them by hand")
-    return text
+def written(topology: Topology, numbers: Mapping[Change, int]) -> str:
+    """The topology's text with these numbers: only the digits of values change, remarks and order stay."""
+    return topology.document.written(
+        {place_of(topology, change): number for change, number in numbers.items()}
+    )
