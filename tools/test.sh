@@ -62,33 +62,6 @@ scores = [1]
 TOML
 printf 'glb map 2\nplace g1 A 5\nplace g1 B 3\nplace g2 A 4\nplace g2www B 3\nlimit g1 A\nfull g2 B R\nend\n' >"$work/small.map"
 
-# metrics.py
-printf 'published 1\nshow 1 placed 12 unplaced 3 full 2\nrefused 3 bad number\nrefused commit lines 1\nanswer 1 -\nrefused commit memory\nrefused 9 bad hex' | tools/metrics.py "$work/glb.prom" east
-expect 0 'glb_serial{server="east"} 1
-glb_placed_units{server="east"} 12
-glb_unplaced_units{server="east"} 3
-glb_full_nodes{server="east"} 2
-glb_refused_batches_total{why="lines",server="east"} 1
-glb_refused_batches_total{why="memory",server="east"} 1
-glb_refused_lines_total{server="east"} 2' bash -c "grep -v -e '^#' -e timestamp $work/glb.prom"
-expect 0 2 grep -c '^glb.*timestamp' "$work/glb.prom"
-printf '2 published 1\n1 show 1 placed 12 unplaced 3 full 2\n3 refused 3 bad number\n' | tools/metrics.py "$work/several.prom"
-expect 0 'glb_serial 1
-glb_placed_units 12
-glb_unplaced_units 3
-glb_full_nodes 2
-glb_refused_batches_total{why="lines"} 0
-glb_refused_batches_total{why="memory"} 0
-glb_refused_lines_total 1' bash -c "grep -v -e '^#' -e timestamp $work/several.prom"
-tools/metrics.py "$work/none.prom" </dev/null
-expect 0 'glb_refused_batches_total{why="lines"} 0
-glb_refused_batches_total{why="memory"} 0
-glb_refused_lines_total 0' grep -v '^#' "$work/none.prom"
-
-# picture.py
-expect 0 "$(cat docs/example.svg)" tools/picture.py examples/tree.toml examples/tree.map
-expect 1 '' tools/picture.py examples/tree.toml examples/flat.map
-
 # beside the program
 if [ -n "${GLB:-}" ]; then
     printf 'demand g2 4\ncommit\ndemand g1 x\ncommit\ncapacity A 9\ncapacity B 3\ncommit\ndemand g1 1\n' >"$work/log"
@@ -103,14 +76,7 @@ if [ -n "${GLB:-}" ]; then
 else
     skipped=", without the program"
 fi
-# the alerts, where Prometheus' tool is, and a package, where Debian's is
-if command -v promtool >/dev/null; then
-    "$(command -v promtool)" check rules examples/glb-alerts.yml >"$work/rules" 2>&1
-    expect 0 3 bash -c "grep -oE '[0-9]+ rules found' $work/rules | cut -d' ' -f1"
-    expect 0 SUCCESS bash -c 'promtool test rules examples/glb-alerts-test.yml 2>&1 | grep -oE "SUCCESS|FAILED"'
-else
-    skipped="${skipped:-}, without the alerts"
-fi
+# a package, where Debian's tools are
 if [ -n "${GLB:-}" ] && command -v dpkg-deb >/dev/null && command -v strip >/dev/null; then
     DEBEMAIL=ops@cdn.example tools/deb.sh 1.0 "$work" >/dev/null
     expect 0 'glb 1.0 Whoever built it <ops@cdn.example>' bash -c "dpkg-deb -W --showformat='\${Package} \${Version} \${Maintainer}' $work/glb_1.0_amd64.deb"
