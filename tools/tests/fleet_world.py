@@ -1,0 +1,532 @@
+"""A fleet in memory: etcd, hosts with a server and a follower each, and whatever may happen to them.
+
+The followers are the real ones of glb_tools, and so are the log and the report. Faked are the members of etcd (a table of
+keys with revisions and leases), the server (which has a map that follows from its base and all batches that it worked), and
+the files of a host. At each call of a follower to the outside a fault can be planned: it ends ahead of the call or behind
+it, or etcd does the call or not and does not answer.
+"""
+
+import base64
+import hashlib
+import json
+from contextlib import redirect_stderr
+from io import StringIO
+
+from glb_tools import fleet, follow
+from glb_tools.etcd import Etcd, Item, NoLease, Unreachable, after, put
+from glb_tools.log import (
+    ALIVE,
+    Base,
+    Entry,
+    Log,
+    Names,
+    Signed,
+    checksum_of,
+    place_of,
+    read_entry,
+    with_place,
+)
+from glb_tools.options import Fault
+from glb_tools.place import Identity
+from glb_tools.server import Shown, Worked
+
+CRASH_BEFORE, CRASH_AFTER, LOST_BEFORE, LOST_AFTER = "crash before", "crash after", "lost before", "lost after"
+FAULTS = (CRASH_BEFORE, CRASH_AFTER, LOST_BEFORE, LOST_AFTER)
+OPS = Signed("ops", time=1)
+
+
+class Crash(BaseException):
+    """The end of a process, by kill -9."""
+
+
+def decoded(text):
+    return base64.b64decode(text).decode()
+
+
+class Table:
+    """What the members of etcd keep."""
+
+    def __init__(self):
+        self.revision, self.items, self.leases, self.given = 1, {}, {}, 0
+
+    def copy(self):
+        """A snapshot of etcd's own: leases begin anew when it is restored."""
+        other = Table()
+        other.revision, other.items, other.given = self.revision, dict(self.items), self.given
+        other.leases = {lease: [seconds, seconds] for lease, (seconds, _) in self.leases.items()}
+        return other
+
+    def within(self, key, end):
+        if end is None:
+            return [self.items[key]] if key in self.items else []
+        return [self.items[name] for name in sorted(self.items) if key <= name < end]
+
+    def txn(self, message):
+        for compare in message["compare"]:
+            there = self.items.get(decoded(compare["key"]))
+            if (there.revision if there else 0) != int(compare["mod_revision"]):
+                return {"header": {"revision": str(self.revision)}, "responses": []}
+        parts = message["success"]
+        for part in parts:
+            lease = int(part.get("request_put", {}).get("lease", 0))
+            if lease and lease not in self.leases:
+                raise NoLease("requested lease not found")
+        self.revision += any("request_range" not in part for part in parts)
+        responses = [self.part(part) for part in parts]
+        return {"header": {"revision": str(self.revision)}, "succeeded": True, "responses": responses}
+
+    def part(self, part):
+        kind, request = next(iter(part.items()))
+        key, end = decoded(request["key"]), request.get("range_end")
+        end = None if end is None else decoded(end)
+        if kind == "request_put":
+            octets = base64.b64decode(request["value"])
+            self.items[key] = Item(key, octets, self.revision, int(request.get("lease", 0)))
+            return {"response_put": {}}
+        found = self.within(key, end)
+        if kind == "request_delete_range":
+            for item in found:
+                del self.items[item.key]
+            return {"response_delete_range": {}}
+        if request.get("sort_order") == "DESCEND":
+            found.reverse()
+        return {"response_range": {"kvs": [as_kv(item) for item in found[: request.get("limit")]]}}
+
+    def tick(self, seconds):
+        for lease in list(self.leases):
+            self.leases[lease][1] -= seconds
+            if self.leases[lease][1] <= 0:
+                self.end(lease)
+
+    def end(self, lease):
+        self.leases.pop(lease, None)
+        self.items = {key: item for key, item in self.items.items() if item.lease != lease}
+
+
+def as_kv(item):
+    kv = {"key": base64.b64encode(item.key.encode()).decode(), "mod_revision": str(item.revision)}
+    return kv | {"value": base64.b64encode(item.octets).decode(), "lease": str(item.lease)}
+
+
+class Client(Etcd):
+    """A process's way to etcd."""
+
+    def __init__(self, world, outside):
+        super().__init__(["http://faked"])
+        self.world, self.outside = world, outside
+
+    def call(self, path, message):
+        return self.outside.call(lambda: self.answer(path, message), is_etcd=True)
+
+    def answer(self, path, message):
+        table = self.world.table
+        if path == "/v3/kv/txn":
+            return table.txn(message)
+        lease = int(message.get("ID", 0))
+        if path == "/v3/lease/grant":
+            table.given += 1
+            table.leases[table.given] = [int(message["TTL"])] * 2
+            return {"ID": str(table.given)}
+        if path == "/v3/lease/keepalive":
+            if lease not in table.leases:
+                return {"result": {}}
+            table.leases[lease][1] = table.leases[lease][0]
+            return {"result": {"TTL": str(table.leases[lease][0])}}
+        assert path == "/v3/lease/revoke", path
+        table.end(lease)
+        return {}
+
+
+class Outside:
+    """All calls of a process to the outside, with the fault that is planned for one of them, by its number from 1."""
+
+    def __init__(self):
+        self.count, self.at, self.fault, self.cut_off = 0, 0, None, False
+
+    def plan(self, at=0, fault=None):
+        self.count, self.at, self.fault = 0, at, fault
+
+    def call(self, do, is_etcd=False):
+        self.count += 1
+        fault = self.fault if self.count == self.at else None
+        if fault == CRASH_BEFORE:
+            raise Crash
+        if is_etcd and (fault == LOST_BEFORE or self.cut_off):
+            raise Unreachable("lost")
+        answer = do()
+        if fault == CRASH_AFTER:
+            raise Crash
+        if is_etcd and fault == LOST_AFTER:
+            raise Unreachable("lost")
+        return answer
+
+
+# A topology of the model: its names, a word each.
+
+
+def topology_of(names, upto=0, chain="", salt=""):
+    return with_place(f"names {' '.join(names)} {salt}".encode(), upto, chain)
+
+
+def names_of(topology):
+    return topology.split(b"names ")[1].decode().split(" ")[:-1]
+
+
+def map_of(base, worked):
+    """The map of a server: it follows from its base and the batches that it worked, in their order."""
+    return hashlib.sha256(json.dumps([base, worked]).encode()).hexdigest()
+
+
+def lines_left(lines, own, newest):
+    """By the words of the definition: a line goes only where the newest base at the entry has its name, and the own not."""
+    each = lines.splitlines(keepends=True)
+    return "".join(line for line in each if not (line.split()[1] in newest and line.split()[1] not in own))
+
+
+def is_taken(lines, names):
+    return all(line.split()[1] in names for line in lines.splitlines())
+
+
+class Machine:
+    """A server. Its follower's calls to it may be broken off; what was written it works."""
+
+    version = "2"
+
+    def __init__(self, topology, outside):
+        self.base, self.names, self.outside = checksum_of(topology), names_of(topology), outside
+        self.worked, self.is_unread, self.has_no_memory = [], False, False
+        self.is_alive = True
+
+    @property
+    def map(self):
+        return map_of(self.base, self.worked)
+
+    def shown(self):
+        return Shown(len(self.worked), 0, 0)
+
+    def find(self, idle):
+        return self.outside.call(self.found)
+
+    def found(self):
+        unread, self.is_unread = self.is_unread, False
+        return Worked(self.shown(), self.map if unread or not self.worked else None)
+
+    def work(self, lines, idle):
+        worked = self.outside.call(lambda: self.take(lines))
+        self.is_unread = False
+        return worked
+
+    def take(self, lines):
+        if self.has_no_memory:
+            self.has_no_memory = False
+            return Worked(self.shown(), no_memory=True)
+        if not is_taken(lines, self.names):
+            return Worked(self.shown(), dropped="refused 1 unknown name")
+        self.worked, self.is_unread = [*self.worked, lines], True
+        return Worked(self.shown(), self.map)
+
+    def show(self, idle):
+        return self.shown()
+
+    def stop(self):
+        self.outside.call(self.die)
+
+    def die(self):
+        self.is_alive = False
+
+
+class Place:
+    """The folder of a server that runs."""
+
+    def __init__(self, outside):
+        self.outside, self.kept, self.topology = outside, None, None
+
+    def identity(self):
+        return self.kept
+
+    def keep(self, identity):
+        self.outside.call(lambda: setattr(self, "kept", identity))
+
+    def prepare(self, topology, identity):
+        self.kept, self.topology = identity, topology
+
+
+class Bases:
+    """The folder of topologies."""
+
+    def __init__(self, outside):
+        self.outside, self.files, self.choice = outside, {}, None
+
+    def topology(self, checksum):
+        return self.files.get(checksum)
+
+    def put(self, checksum, octets):
+        self.outside.call(lambda: self.files.update({checksum: octets}))
+
+    def chosen(self):
+        return self.choice
+
+    def choose(self, checksum):
+        self.outside.call(lambda: setattr(self, "choice", checksum))
+
+    def prune(self, kept):
+        pass
+
+    def refused(self, checksum):
+        return None
+
+    def program_checksum(self):
+        return "program"
+
+
+class Hooks:
+    """Lets queries in, and keeps them out."""
+
+    ready, unready = True, False
+
+    def __init__(self, host):
+        self.host = host
+
+    def run(self, command):
+        self.host.outside.call(lambda: self.host.let_in(command))
+
+
+class Host:
+    """One server of the fleet, and what its units do."""
+
+    def __init__(self, world, name):
+        self.world, self.name, self.outside = world, name, Outside()
+        self.place, self.bases = Place(self.outside), Bases(self.outside)
+        self.machine = self.follower = None
+        self.is_in = False
+
+    def let_in(self, is_in):
+        if is_in:
+            self.world.check_ready(self)
+        self.is_in = is_in
+
+    def log(self):
+        return Log(Client(self.world, self.outside), "glb")
+
+    def lose_memory(self):
+        if self.machine:
+            self.machine.has_no_memory = True
+
+    def lose_files(self):
+        self.bases.files.clear()
+        self.bases.choice = None
+
+    def follower_ends(self):
+        """As glb-follow@ has it: whatever ends the follower, queries are kept out."""
+        self.follower, self.is_in = None, False
+
+    def server_ends(self):
+        """As glb-fleet@ and glb-follow@ have it: the follower ends with the server."""
+        self.machine = None
+        self.follower_ends()
+
+    def run(self, at=0, fault=None):
+        """What comes next here: a start of the server, of its follower, or a step of that one. Whether it did something."""
+        self.outside.plan(at, fault)
+        try:
+            with redirect_stderr(StringIO()):
+                return self.go_on()
+        except Crash:
+            self.follower_ends()
+        except follow.Over:
+            self.follower_ends()
+        except Unreachable:
+            return False
+        except Fault:
+            self.follower_ends()
+            return False
+        finally:
+            if self.machine and not self.machine.is_alive:
+                self.server_ends()
+        return True
+
+    def go_on(self):
+        if self.machine is None:
+            self.is_in = False
+            follow.prepare(self.name, self.log(), self.place, self.bases)
+            self.machine = Machine(self.place.topology, self.outside)
+        elif self.follower is None:
+            hooks = Hooks(self)
+            made = follow.Follower(self.name, self.log(), self.machine, self.place, self.bases, hooks)
+            made.begin()
+            self.follower = made
+        else:
+            return self.follower.step()
+        return True
+
+
+class Clock:
+    """The time of the model: who sleeps lets it go by."""
+
+    def __init__(self, world):
+        self.world, self.now = world, 1000.0
+
+    def monotonic(self):
+        return self.now
+
+    time = monotonic
+
+    def sleep(self, seconds):
+        self.world.tick(seconds)
+
+
+class World:
+    def __init__(self, hosts=2):
+        self.table, self.snapshot, self.made = Table(), None, 0
+        self.hosts, self.topologies = [], {}
+        # what glb-fleet asked last
+        self.asked = ""
+        self.clock = follow.time = Clock(self)
+        self.log = Log(Client(self, Outside()), "glb")
+        self.roll(["A"])
+        self.hosts = [Host(self, f"h{number}") for number in range(hosts)]
+
+    # What operators do.
+
+    def ident(self):
+        self.made += 1
+        return f"id{self.made}"
+
+    def append(self, lines):
+        """A batch, as a client would that checks nothing."""
+        return self.log.append(self.ident(), OPS, lines, lambda names: None)
+
+    def raw(self, octets=b"stop\n"):
+        self.log.etcd.txn([put(self.log.key(self.log.look().last + 1), octets)])
+
+    def take_raw(self):
+        """Deletes the last entry where it was put by hand."""
+        look = self.log.look()
+        if look.entries and look.entries[-1].kind == "none":
+            del self.table.items[self.log.key(look.last)]
+
+    def roll(self, names, back=0):
+        """A base with the numbers up to so many entries before the last one."""
+        look = self.log.look()
+        upto = max(look.last - back, look.first - 1 if look.first > 1 else 0, 0)
+        there = self.log.entry(upto) if upto else None
+        topology = topology_of(names, upto if there else 0, there.checksum if there else "", self.ident())
+        self.put_base(topology)
+
+    def put_base(self, topology):
+        checksum, names = checksum_of(topology), names_of(topology)
+        self.topologies[checksum] = topology
+        self.log.put_file("names", checksum, Names(names, names).octets())
+        self.log.put_file("file", checksum, topology)
+        return self.log.append_base(self.ident(), OPS, topology)
+
+    def go_back(self):
+        """The base before the newest one, once more."""
+        bases = self.log.look().bases
+        others = [base for base in bases if base.checksum != bases[-1].checksum]
+        if others and (topology := self.log.topology(others[-1].checksum)):
+            self.log.append_base(self.ident(), OPS, topology)
+
+    def cut(self):
+        from glb_tools.append import cut
+
+        try:
+            cut(self.log)
+        except Fault:
+            pass
+
+    def forget_gone(self):
+        """As `glb-fleet --forget` does, of the servers that nothing is heard of."""
+        look = self.log.look()
+        for name in look.servers.keys() - look.states.keys():
+            self.log.forget(name)
+
+    def save(self):
+        self.snapshot = self.table.copy()
+
+    def restore(self):
+        if self.snapshot:
+            self.table = self.snapshot.copy()
+            self.ask()
+
+    def ask(self):
+        """As glb-fleet does first of all."""
+        self.asked = self.ident()
+        self.log.ask(self.asked)
+
+    def tick(self, seconds=ALIVE + 5):
+        """Time goes by; followers that live and reach etcd keep their leases."""
+        self.clock.now += seconds
+        for host in self.hosts:
+            if host.follower and not host.outside.cut_off:
+                follower = host.follower
+                for lease in (follower.lease, follower.turn_lease):
+                    if lease in self.table.leases:
+                        self.table.leases[lease][1] += seconds
+                if follower.lease not in self.table.leases:
+                    follower.lease, follower.told = None, {}
+                if follower.turn_lease not in self.table.leases:
+                    follower.turn_lease = None
+        self.table.tick(seconds)
+        for host in self.hosts:
+            if host.follower and not host.outside.cut_off:
+                for lease in (host.follower.lease, host.follower.turn_lease):
+                    if lease in self.table.leases:
+                        self.table.leases[lease][1] = self.table.leases[lease][0]
+
+    # What has to hold.
+
+    def entries(self):
+        """The log itself, read off the table."""
+        start = self.log.at("log", "")
+        items = self.table.within(start, after(start))
+        return [read_entry(int(item.name), item.octets) for item in items]
+
+    def due(self, checksum, last):
+        """The batches that a server of a base has worked at an entry, by the words of the definition."""
+        topology = self.topologies[checksum]
+        upto, own = place_of(topology)[0], names_of(topology)
+        newest, worked = own, []
+        for entry in self.entries():
+            if entry.number > last:
+                break
+            if entry.kind == "base":
+                newest = names_of(self.topologies[entry.base.checksum])
+            elif entry.kind == "batch" and entry.number > upto:
+                lines = lines_left(entry.lines, own, newest)
+                if lines and is_taken(lines, own):
+                    worked.append(lines)
+        return worked
+
+    def report(self):
+        return fleet.report(self.log, self.log.look(), self.asked)
+
+    def check_there(self):
+        """Whoever is told to be there serves the map of the newest entry, and lets queries in."""
+        found = self.report()
+        for server in found.servers:
+            host = next(host for host in self.hosts if host.name == server["name"])
+            if server["state"] == "there" and host.machine and not found.differ:
+                right = map_of(found.base, self.due(found.base, found.last))
+                assert host.machine.map == right, f"{host.name} is told to be there, and is not"
+        return found
+
+    def check_ready(self, host):
+        """Queries are let in only to a server that has worked all entries."""
+        base, last = host.machine.base, self.log.look().last
+        assert host.machine.map == map_of(base, self.due(base, last)), f"{host.name} lets queries in too early"
+
+    def settle(self, rounds=60):
+        """What comes of it when nothing more happens."""
+        for host in self.hosts:
+            host.outside.cut_off = False
+        for _ in range(rounds):
+            moved = [host.run() for host in self.hosts]
+            if not any(moved):
+                self.ask()
+                self.tick()
+                moved = [host.run() for host in self.hosts]
+                if not any(moved) and self.report().status in (0, 2):
+                    break
+        return self.check_there()
+
