@@ -200,7 +200,7 @@ class Fleet(Collector):
     def look(self) -> None:
         found: Report | None = None
         try:
-            found = report(self.log)
+            found = report(self.log, self.log.look())
             look_at_members(self.log.etcd, found)
             self.quotas = {member: quota_of(self.log.etcd, member) for member in found.members}
         except Exception as why:
@@ -238,7 +238,7 @@ class Fleet(Collector):
         yield from self.servers(found)
         yield from self.members(found)
 
-    STATES = ("there", "behind", "waits", "starts", "hangs", "gone", "ended")
+    STATES = ("there", "behind", "waits", "starts", "hangs", "silent", "gone", "ended")
 
     def servers(self, found: Report) -> Iterable[Metric]:
         up = gauge(

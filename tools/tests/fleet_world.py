@@ -30,7 +30,12 @@ from glb_tools.options import Fault
 from glb_tools.place import Identity
 from glb_tools.server import Shown, Worked
 
-CRASH_BEFORE, CRASH_AFTER, LOST_BEFORE, LOST_AFTER = "crash before", "crash after", "lost before", "lost after"
+CRASH_BEFORE, CRASH_AFTER, LOST_BEFORE, LOST_AFTER = (
+    "crash before",
+    "crash after",
+    "lost before",
+    "lost after",
+)
 FAULTS = (CRASH_BEFORE, CRASH_AFTER, LOST_BEFORE, LOST_AFTER)
 OPS = Signed("ops", time=1)
 
@@ -73,7 +78,11 @@ class Table:
                 raise NoLease("requested lease not found")
         self.revision += any("request_range" not in part for part in parts)
         responses = [self.part(part) for part in parts]
-        return {"header": {"revision": str(self.revision)}, "succeeded": True, "responses": responses}
+        return {
+            "header": {"revision": str(self.revision)},
+            "succeeded": True,
+            "responses": responses,
+        }
 
     def part(self, part):
         kind, request = next(iter(part.items()))
@@ -180,7 +189,9 @@ def map_of(base, worked):
 def lines_left(lines, own, newest):
     """By the words of the definition: a line goes only where the newest base at the entry has its name, and the own not."""
     each = lines.splitlines(keepends=True)
-    return "".join(line for line in each if not (line.split()[1] in newest and line.split()[1] not in own))
+    return "".join(
+        line for line in each if not (line.split()[1] in newest and line.split()[1] not in own)
+    )
 
 
 def is_taken(lines, names):
@@ -352,7 +363,9 @@ class Host:
             self.machine = Machine(self.place.topology, self.outside)
         elif self.follower is None:
             hooks = Hooks(self)
-            made = follow.Follower(self.name, self.log(), self.machine, self.place, self.bases, hooks)
+            made = follow.Follower(
+                self.name, self.log(), self.machine, self.place, self.bases, hooks
+            )
             made.begin()
             self.follower = made
         else:
@@ -410,7 +423,9 @@ class World:
         look = self.log.look()
         upto = max(look.last - back, look.first - 1 if look.first > 1 else 0, 0)
         there = self.log.entry(upto) if upto else None
-        topology = topology_of(names, upto if there else 0, there.checksum if there else "", self.ident())
+        topology = topology_of(
+            names, upto if there else 0, there.checksum if there else "", self.ident()
+        )
         self.put_base(topology)
 
     def put_base(self, topology):
@@ -514,7 +529,9 @@ class World:
     def check_ready(self, host):
         """Queries are let in only to a server that has worked all entries."""
         base, last = host.machine.base, self.log.look().last
-        assert host.machine.map == map_of(base, self.due(base, last)), f"{host.name} lets queries in too early"
+        assert host.machine.map == map_of(
+            base, self.due(base, last)
+        ), f"{host.name} lets queries in too early"
 
     def settle(self, rounds=60):
         """What comes of it when nothing more happens."""
@@ -529,4 +546,3 @@ class World:
                 if not any(moved) and self.report().status in (0, 2):
                     break
         return self.check_there()
-

@@ -55,7 +55,9 @@ class Random(unittest.TestCase):
             for _ in range(steps):
                 if draw.random() < 0.6:
                     number = draw.randrange(hosts)
-                    at, fault = draw.choice([(0, None), (draw.randrange(1, 12), draw.choice(FAULTS))])
+                    at, fault = draw.choice(
+                        [(0, None), (draw.randrange(1, 12), draw.choice(FAULTS))]
+                    )
                     done.append(f"run {number} {at} {fault}")
                     world.hosts[number].run(at, fault)
                 else:
