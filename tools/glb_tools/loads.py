@@ -16,6 +16,7 @@ from dataclasses import dataclass, field
 from pathlib import Path
 from typing import BinaryIO
 
+from glb_tools.etcd import Unreachable
 from glb_tools.log import Base, Entry, Log, Look, left_in
 from glb_tools.options import Fault, tell
 from glb_tools.text import Replay
@@ -99,22 +100,24 @@ class Beside:
 
     def __init__(self, program: str, topology: bytes) -> None:
         self.world = World(Topology(topology))
-        self.folder = tempfile.mkdtemp(prefix="glb-exporter.")
-        path = Path(self.folder, "topology.toml")
-        path.write_bytes(topology)
         self.text, self.maps = b"", 0
         self.came = threading.Condition()
-        self.process = subprocess.Popen(
-            [program, "serve", str(path), "--listen", "127.0.0.1:0"],
-            stdin=subprocess.PIPE,
-            stdout=subprocess.PIPE,
-            stderr=subprocess.PIPE,
-        )
-        self.reader = threading.Thread(target=self.read, daemon=True)
-        self.reader.start()
-        self.wait_for_map(0)
-        # it is read once, at the start
-        shutil.rmtree(self.folder, ignore_errors=True)
+        self.folder = tempfile.mkdtemp(prefix="glb-exporter.")
+        try:
+            path = Path(self.folder, "topology.toml")
+            path.write_bytes(topology)
+            self.process = subprocess.Popen(
+                [program, "serve", str(path), "--listen", "127.0.0.1:0"],
+                stdin=subprocess.PIPE,
+                stdout=subprocess.PIPE,
+                stderr=subprocess.PIPE,
+            )
+            self.reader = threading.Thread(target=self.read, daemon=True)
+            self.reader.start()
+            self.wait_for_map(0)
+        finally:
+            # it is read once, at the start
+            shutil.rmtree(self.folder, ignore_errors=True)
 
     def read(self) -> None:
         """Keeps the newest whole text."""
@@ -179,7 +182,6 @@ class Beside:
                     stream.close()
                 except OSError:
                     pass
-        shutil.rmtree(self.folder, ignore_errors=True)
 
 
 class Over(Exception):
@@ -204,9 +206,9 @@ class Worker:
                 pass
             except Exception as why:
                 # whatever it is: a thread that has ended would serve old values for ever
+                self.is_up, self.loads = False, None
                 tell(why)
-            self.is_up, self.loads = False, None
-            self.over.wait(AGAIN)
+                self.over.wait(AGAIN)
 
     def rest(self, seconds: float) -> None:
         if self.over.wait(seconds):
@@ -288,33 +290,54 @@ class FleetWorker(Worker):
             raise Fault(f"the topology of {newest} is not in etcd")
         beside = Beside(self.program, topology)
         try:
-            entry, chain, summed = newest.upto, newest.chain, -1
-            while True:
-                look = self.log.look(max(entry, 1))
-                if look.newest != newest:
-                    # goes over, at once
-                    return
-                new = look.entries[1:] if entry else look.entries
-                if entry and not (look.entries and look.entries[0].checksum == chain):
-                    raise Fault(f"entry {entry} of the log is not the one that was worked")
-                for found in new:
-                    if not found.follows(chain):
-                        raise Fault(f"entry {found.number} does not follow the one before it")
-                    if lines := self.lines_of(found, newest, look):
-                        beside.work(lines)
-                    entry, chain = found.number, found.checksum
-                if not new:
-                    if summed != entry:
-                        self.sum_up(beside, entry)
-                        summed = entry
-                    self.rest(min(self.every, SELDOM))
+            self.follow_from(beside, newest)
         finally:
             beside.end()
 
-    def lines_of(self, entry: Entry, newest: Base, look: Look) -> str:
+    def follow_from(self, beside: Beside, base: Base) -> None:
+        """Works the entries behind a base, until there is a newer one: then it goes over, at once."""
+        entry, chain, summed = base.upto, base.chain, -1
+        while (look := self.look(entry)) is None or look.newest == base:
+            new = in_chain(look, entry, chain) if look else []
+            for found in new:
+                if lines := self.lines_of(found, base, look):
+                    beside.work(lines)
+                entry, chain = found.number, found.checksum
+            if look is None:
+                summed = -1
+            elif not new and summed != entry:
+                self.sum_up(beside, entry)
+                summed = entry
+            if not new:
+                self.rest(min(self.every, SELDOM))
+
+    def look(self, entry: int) -> Look | None:
+        """What stands behind an entry; nothing where no member answers: then it waits where it is, as servers do."""
+        try:
+            return self.log.look(max(entry, 1))
+        except Unreachable as why:
+            self.is_up = False
+            tell(why)
+            return None
+
+    def lines_of(self, entry: Entry, newest: Base, look: Look | None) -> str:
         """The lines that a server of the newest base is handed."""
-        base = look.base_at(entry.number)
+        base = look.base_at(entry.number) if look else None
         lines = entry.lines
         if not lines or base is None or base.checksum == newest.checksum:
             return lines
         return left_in(lines, self.log.names(newest.checksum), self.log.names(base.checksum))
+
+
+def in_chain(look: Look, entry: int, chain: str) -> list[Entry]:
+    """The entries behind one that was worked; a fault where the log has another one there."""
+    new = look.entries
+    if entry:
+        if not new or new[0].checksum != chain:
+            raise Fault(f"entry {entry} of the log is not the one that was worked")
+        new = new[1:]
+    for found in new:
+        if not found.follows(chain):
+            raise Fault(f"entry {found.number} does not follow the one before it")
+        chain = found.checksum
+    return new

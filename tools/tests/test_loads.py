@@ -10,6 +10,7 @@ from types import SimpleNamespace
 from unittest import mock
 
 from glb_tools import loads
+from glb_tools.etcd import Unreachable
 from glb_tools.loads import Beside, FileWorker, FleetWorker, World, split_at_commits
 from glb_tools.options import Fault
 from glb_tools.topology import Topology
@@ -131,8 +132,10 @@ class BesideServers(Played):
         self.assertIsNotNone(process.returncode)
 
     def test_no_program(self):
-        self.assertRaises(OSError, Beside, "/nowhere/glb", SMALL.encode())
-        self.assertRaisesRegex(Fault, "no map 0 came", Beside, "/bin/false", SMALL.encode())
+        with mock.patch.object(loads.tempfile, "tempdir", str(self.folder)):
+            self.assertRaises(OSError, Beside, "/nowhere/glb", SMALL.encode())
+            self.assertRaisesRegex(Fault, "no map 0 came", Beside, "/bin/false", SMALL.encode())
+        self.assertEqual([path.name for path in self.folder.iterdir()], ["glb"])
 
     def test_a_program_that_hangs(self):
         program = self.file("hangs", "#!/bin/sh\nexec sleep 60\n")
@@ -176,7 +179,7 @@ class Entries:
 
     def __init__(self, topology, *batches):
         self.base = SimpleNamespace(number=1, checksum="b" * 64, upto=0, chain="")
-        self.text = topology
+        self.text, self.is_away = topology, False
         self.batches = list(batches)
 
     def newest_base(self):
@@ -186,6 +189,8 @@ class Entries:
         return self.text if checksum == self.base.checksum else None
 
     def look(self, number):
+        if self.is_away:
+            raise Unreachable("nobody answers")
         every = [
             SimpleNamespace(
                 number=n,
@@ -202,6 +207,7 @@ class Entries:
 
 
 @mock.patch.object(loads, "AGAIN", 0.05)
+@mock.patch.object(loads, "SELDOM", 0.05)
 class Fleets(Played):
     def test_a_log(self):
         log = Entries(SMALL.encode(), "", "demand g1 5\n", "demand g1 3\n")
@@ -211,6 +217,12 @@ class Fleets(Played):
         self.assertEqual(worker.loads.entry, 3)
         log.batches.append("demand g1 6\n")
         until(lambda: worker.loads and worker.loads.placed == 6)
+        # etcd is away for a while: nothing is begun anew
+        log.is_away = True
+        until(lambda: not worker.is_up)
+        log.text, log.is_away = None, False
+        until(lambda: worker.is_up and worker.loads.placed == 6)
+        log.text = SMALL.encode()
         # another log, whose entries have the same numbers
         log.batches[1:] = ["demand g1 2\n", "demand g1 1\n"]
         until(lambda: worker.loads and worker.loads.placed == 1)
