@@ -21,7 +21,7 @@ def started(path, **settings):
     """The words with which a unit starts the program, by systemd's and the shell's rules."""
     line = value(path, "ExecStart")
     script = re.fullmatch(r"/bin/sh -c '(.*)'", line)[1]
-    assert not re.search(r"(?<!\$)\$(?!\$)", script), "a $ that systemd would replace"
+    assert not re.search(r"(?<!\$)\$\{", script), "a ${ that systemd would replace"
     script = script.replace("$$", "$").replace("exec /usr/local/bin/glb", "printf '%s\\n'")
     script = re.sub(r" [0-2]<>\S+", "", script)
     out = subprocess.run(["/bin/sh", "-c", script], env=settings, capture_output=True, check=True)
