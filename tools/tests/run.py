@@ -12,6 +12,7 @@ import sys
 import time
 import unittest
 from pathlib import Path
+from typing import IO
 
 HERE = Path(__file__).resolve().parent
 
@@ -58,6 +59,15 @@ class Counted(unittest.TextTestResult):
             self.fail(test)
 
 
+def counted(suite: unittest.TestSuite, stream: IO[str]) -> dict[str, int]:
+    """How many tests passed, failed, and were left out."""
+    found = unittest.TextTestRunner(stream=stream, resultclass=Counted, verbosity=0).run(suite)
+    assert isinstance(found, Counted)
+    return {
+        word: list(found.ended.values()).count(word) for word in ("passed", "failed", "skipped")
+    }
+
+
 def main() -> int:
     sys.path.insert(0, str(HERE))
     sys.path.append(str(HERE.parent))
@@ -67,17 +77,10 @@ def main() -> int:
     else:
         suite = loader.discover(str(HERE), "test_*.py", str(HERE))
     began = time.monotonic()
-    runner = unittest.TextTestRunner(stream=sys.stderr, resultclass=Counted, verbosity=0)
-    found = runner.run(suite)
-    assert isinstance(found, Counted)
-    counts = {
-        word: list(found.ended.values()).count(word) for word in ("passed", "failed", "skipped")
-    }
-    # what fails outside of a test, as a module that cannot be read, is one too
-    counts["failed"] = max(counts["failed"], min(1, len(found.errors) + len(found.failures)))
+    counts = counted(suite, sys.stderr)
     left = f", {counts['skipped']} skipped" if counts["skipped"] else ""
     print(f"{time.monotonic() - began:.1f} s", file=sys.stderr)
-    print(f"{counts['passed']} passed, {counts['failed']} failed{left}")
+    print(f"{counts['passed']} passed, {counts['failed']} failed{left}", flush=True)
     return 1 if counts["failed"] or not counts["passed"] else 0
 
 
