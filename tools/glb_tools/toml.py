@@ -36,12 +36,14 @@ STATEMENT = re.compile(
 
 @contextmanager
 def without_collections() -> Iterator[None]:
-    """Runs without looking for cycles: where a million objects come and none goes, that takes half of the time."""
+    """Runs without looking for cycles, where a million objects come and none goes: that takes half of the time. Nor are
+    these looked at later; without cycles they go as soon as nobody has them."""
     was_enabled = gc.isenabled()
     gc.disable()
     try:
         yield
     finally:
+        gc.freeze()
         if was_enabled:
             gc.enable()
 
