@@ -116,6 +116,9 @@ def asked_of_all(log: Log, seconds: float) -> tuple[str, Look]:
         look = log.look()
         if look.revision < revision:
             raise Fault("etcd has less than a moment ago: it was restored; look again")
+        if look.asked != asked:
+            # another one asked meanwhile
+            log.ask(asked)
         told = [state for state in look.states.values() if "hangs" not in state]
         if all(state.get("heard") == asked for state in told) or time.monotonic() >= end:
             return asked, look

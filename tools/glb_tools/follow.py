@@ -31,6 +31,7 @@ from glb_tools.etcd import (
 from glb_tools.log import (
     ALIVE,
     BASE,
+    LOOKED_BACK,
     NONE,
     TURN,
     Base,
@@ -52,6 +53,8 @@ HANGS, ONCE = 10, 3600
 # how long nothing is told of a server that catches up; how long nobody looks where something is waited for; how long a
 # hook may take: in seconds
 PAUSE, SOON, HOOK = 0.5, 1.0, 30
+# how long others have to answer whether they are there, in seconds
+PATIENT = 5
 
 
 class Over(Exception):
@@ -113,10 +116,11 @@ class Follower:
         self.told: dict[str, Any] = {}
         self.shown = Shown(0, 0, 0)
         self.maps: collections.OrderedDict[int, str] = collections.OrderedDict()
-        self.dropped: dict[int, dict[str, Any]] = {}
         self.is_ready = False
         # how far it was looked into etcd, and what glb-fleet asked
         self.revision, self.heard = 0, ""
+        # what this follower asked all others, and when
+        self.asks, self.asked_at = "", 0.0
         # why the server has to begin anew; what it waits for; which base is here that is not its own
         self.broken: str | None = None
         self.waits: str | None = None
@@ -147,15 +151,23 @@ class Follower:
         return state | {key: value for key, value in more.items() if value}
 
     def tell(self, more: dict[str, Any] | None = None) -> None:
-        """Tells the state, and the batches that were dropped, where it is news; without a majority a later call does."""
+        """Tells the state where it is news, and the batches that were dropped, where the log is known to have them.
+        Without a majority a later call does."""
         state = self.state() | (more or {})
-        if state == self.told and not self.dropped:
+        base, dropped = self.identity.base, {} if more or self.broken else self.identity.dropped
+        if state == self.told and not dropped:
             return
+        notes = {
+            int(number): {"server": self.name, "base": base, "why": why}
+            for number, why in dropped.items()
+        }
         try:
             if self.lease is None:
                 self.lease, self.kept = self.log.etcd.lease(ALIVE), time.monotonic()
-            self.log.tell(self.name, state | {"time": int(time.time())}, self.lease, self.dropped)
-            self.told, self.told_at, self.dropped = state, time.monotonic(), {}
+            self.log.tell(self.name, state | {"time": int(time.time())}, self.lease, notes)
+            self.told, self.told_at = state, time.monotonic()
+            if notes:
+                self.identity = replace(self.identity, dropped={})
         except NoLease:
             self.lease = None
         except (Unreachable, Full):
@@ -283,7 +295,8 @@ class Follower:
 
     def drop(self, entry: Entry, why: str) -> None:
         say(f"entry {entry.number} was dropped whole: {why}")
-        self.dropped[entry.number] = {"server": self.name, "base": self.identity.base, "why": why}
+        newest = list((self.identity.dropped | {str(entry.number): why}).items())[-LOOKED_BACK:]
+        self.identity = replace(self.identity, dropped=dict(newest))
 
     def lines_of(self, entry: Entry, look: Look) -> str:
         """The lines of an entry that the server is handed."""
@@ -372,32 +385,50 @@ class Follower:
 
     def begin_anew(self, look: Look, why: str, base: Base | None, patiently: bool = False) -> None:
         """In its turn has the server begin anew from a base; patiently: only when all others are there."""
-        self.waits = f"{why}; {without_base(look)}" if base is None else self.lacks(base.checksum)
-        if base and not self.waits:
-            others = absent(look, self.name) if patiently else None
-            if others:
-                self.waits = f"{why}; {others}"
-            elif self.takes_turn(look, why):
-                self.bases.choose(base.checksum)
-                self.waits = self.get_unready()
-                if not self.waits:
-                    say(f"begins anew from {base}: {why}")
-                    self.server.stop()
-                    raise Over(why)
-        if self.waits:
-            # nobody waits for one that waits
-            self.end_turn(look)
+        hindered = self.hindered(look, base, why, patiently)
+        if hindered is None and base:
+            self.bases.choose(base.checksum)
+            hindered = self.get_unready()
+            if hindered is None:
+                say(f"begins anew from {base}: {why}")
+                self.server.stop()
+                raise Over(why)
+        self.waits = f"{why}; {hindered}"
         self.tell()
 
+    def hindered(self, look: Look, base: Base | None, why: str, patiently: bool) -> str | None:
+        """What keeps the server from beginning anew now. Whoever waits for others has no turn meanwhile."""
+        hindered = self.lacks(base.checksum) if base else without_base(look)
+        if hindered is None and patiently:
+            hindered = absent(look, self.name)
+        if hindered is None:
+            holder = look.turn.get("server", self.name)
+            if holder != self.name or not self.takes_turn(look, why):
+                return f"it is the turn of {holder}"
+            if not patiently or self.hears_all(look):
+                return None
+            if time.monotonic() - self.asked_at < PATIENT:
+                return "asks whether all others are there"
+            hindered, self.asks = absent(look, self.name, self.asks), ""
+        self.end_turn(look)
+        return hindered or "not all others are there"
+
     def takes_turn(self, look: Look, why: str) -> bool:
-        holder = look.turn.get("server", self.name)
-        if holder != self.name:
-            self.waits = f"{why}; it is the turn of {holder}"
-            return False
         if self.turn_lease is None:
             self.turn_lease = self.log.etcd.lease(TURN)
+        elif look.turn:
+            return True
         told = {"server": self.name, "why": why, "time": int(time.time())}
         return self.log.take("turn", told, look.turn_revision, self.turn_lease)
+
+    def hears_all(self, look: Look) -> bool:
+        """Whether all others are there, as they told since they were asked: what was told before stands for a while."""
+        if not self.asks:
+            self.asks, self.asked_at = secrets.token_hex(4), time.monotonic()
+        if look.asked != self.asks:
+            self.log.ask(self.asks)
+            return False
+        return absent(look, self.name, self.asks) is None
 
     def keep_turn(self, look: Look) -> None:
         """The turn of a server that begins anew outlives its follower: the next one keeps it."""
@@ -464,14 +495,16 @@ class Follower:
             say(str(fault))
 
 
-def absent(look: Look, name: str) -> str | None:
-    """Which other server of the fleet is not there for its clients."""
+def absent(look: Look, name: str, asked: str = "") -> str | None:
+    """Which other server of the fleet is not there for its clients, or did not say so since it was asked."""
     for other in sorted(look.servers.keys() | look.states.keys()):
         if other != name:
             if other not in look.states:
                 return f"{other} is gone (glb-fleet --forget {other} if it is no more)"
             if not look.states[other].get("ready"):
                 return f"{other} is not there yet"
+            if asked and look.states[other].get("heard") != asked:
+                return f"{other} does not answer"
     return None
 
 

@@ -3,7 +3,7 @@
 import json
 import os
 import subprocess
-from dataclasses import asdict, dataclass
+from dataclasses import asdict, dataclass, field
 from pathlib import Path
 
 from glb_tools.log import checksum_of, told_in
@@ -17,7 +17,7 @@ BASES = "/var/lib/glb/bases"
 @dataclass(frozen=True)
 class Identity:
     """What a server is: its base and its program, the last entry that it worked with its checksum, and what it showed then;
-    and the entry that it was handed next."""
+    the entry that it was handed next."""
 
     base: str
     program: str
@@ -29,6 +29,8 @@ class Identity:
     map: str | None = None
     next_entry: int | None = None
     next_chain: str | None = None
+    # batches that it dropped whole, with the reasons, which are not told yet
+    dropped: dict[str, str] = field(default_factory=dict)
 
 
 class Place:

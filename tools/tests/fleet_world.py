@@ -7,13 +7,14 @@ it, or etcd does the call or not and does not answer.
 """
 
 import base64
+import functools
 import hashlib
 import json
 from contextlib import redirect_stderr
 from io import StringIO
 
 from glb_tools import fleet, follow
-from glb_tools.etcd import Etcd, Item, NoLease, Unreachable, after, put
+from glb_tools.etcd import Answer, Etcd, Item, NoLease, Unreachable, after, put
 from glb_tools.log import (
     ALIVE,
     Base,
@@ -44,6 +45,7 @@ class Crash(BaseException):
     """The end of a process, by kill -9."""
 
 
+@functools.lru_cache(None)
 def decoded(text):
     return base64.b64decode(text).decode()
 
@@ -66,40 +68,42 @@ class Table:
             return [self.items[key]] if key in self.items else []
         return [self.items[name] for name in sorted(self.items) if key <= name < end]
 
-    def txn(self, message):
-        for compare in message["compare"]:
+    def txn(self, parts, conditions):
+        for compare in conditions:
             there = self.items.get(decoded(compare["key"]))
             if (there.revision if there else 0) != int(compare["mod_revision"]):
-                return {"header": {"revision": str(self.revision)}, "responses": []}
-        parts = message["success"]
+                return Answer(False, [], self.revision)
         for part in parts:
             lease = int(part.get("request_put", {}).get("lease", 0))
             if lease and lease not in self.leases:
                 raise NoLease("requested lease not found")
         self.revision += any("request_range" not in part for part in parts)
+<<<<<<< HEAD
         responses = [self.part(part) for part in parts]
         return {
             "header": {"revision": str(self.revision)},
             "succeeded": True,
             "responses": responses,
         }
+=======
+        found = [self.part(*next(iter(part.items()))) for part in parts]
+        return Answer(True, [items for items in found if items is not None], self.revision)
+>>>>>>> 366552e445136de7c7f22263b383ca15ad8c948e
 
-    def part(self, part):
-        kind, request = next(iter(part.items()))
+    def part(self, kind, request):
         key, end = decoded(request["key"]), request.get("range_end")
-        end = None if end is None else decoded(end)
         if kind == "request_put":
             octets = base64.b64decode(request["value"])
             self.items[key] = Item(key, octets, self.revision, int(request.get("lease", 0)))
-            return {"response_put": {}}
-        found = self.within(key, end)
+            return None
+        found = self.within(key, None if end is None else decoded(end))
         if kind == "request_delete_range":
             for item in found:
                 del self.items[item.key]
-            return {"response_delete_range": {}}
+            return None
         if request.get("sort_order") == "DESCEND":
             found.reverse()
-        return {"response_range": {"kvs": [as_kv(item) for item in found[: request.get("limit")]]}}
+        return found[: request.get("limit")]
 
     def tick(self, seconds):
         for lease in list(self.leases):
@@ -107,49 +111,49 @@ class Table:
             if self.leases[lease][1] <= 0:
                 self.end(lease)
 
+    def grant(self, seconds):
+        self.given += 1
+        self.leases[self.given] = [seconds, seconds]
+        return self.given
+
+    def renew(self, lease):
+        if lease in self.leases:
+            self.leases[lease][1] = self.leases[lease][0]
+        return lease in self.leases
+
     def end(self, lease):
         self.leases.pop(lease, None)
         self.items = {key: item for key, item in self.items.items() if item.lease != lease}
-
-
-def as_kv(item):
-    kv = {"key": base64.b64encode(item.key.encode()).decode(), "mod_revision": str(item.revision)}
-    return kv | {"value": base64.b64encode(item.octets).decode(), "lease": str(item.lease)}
 
 
 class Client(Etcd):
     """A process's way to etcd."""
 
     def __init__(self, world, outside):
-        super().__init__(["http://faked"])
         self.world, self.outside = world, outside
 
-    def call(self, path, message):
-        return self.outside.call(lambda: self.answer(path, message), is_etcd=True)
+    def txn(self, parts, conditions=None):
+        return self.reach(lambda: self.world.table.txn(parts, conditions or []))
 
-    def answer(self, path, message):
-        table = self.world.table
-        if path == "/v3/kv/txn":
-            return table.txn(message)
-        lease = int(message.get("ID", 0))
-        if path == "/v3/lease/grant":
-            table.given += 1
-            table.leases[table.given] = [int(message["TTL"])] * 2
-            return {"ID": str(table.given)}
-        if path == "/v3/lease/keepalive":
-            if lease not in table.leases:
-                return {"result": {}}
-            table.leases[lease][1] = table.leases[lease][0]
-            return {"result": {"TTL": str(table.leases[lease][0])}}
-        assert path == "/v3/lease/revoke", path
-        table.end(lease)
-        return {}
+    def reach(self, do):
+        return self.outside.call(do, is_etcd=True)
+
+    def lease(self, seconds):
+        return self.reach(lambda: self.world.table.grant(seconds))
+
+    def keep(self, lease):
+        return self.reach(lambda: self.world.table.renew(lease))
+
+    def end_lease(self, lease):
+        self.reach(lambda: self.world.table.end(lease))
 
 
 class Outside:
-    """All calls of a process to the outside, with the fault that is planned for one of them, by its number from 1."""
+    """All calls of a process to the outside, with what is planned for one of them, by its number from 1: a fault, or what
+    somebody else does right before it."""
 
-    def __init__(self):
+    def __init__(self, world):
+        self.world = world
         self.count, self.at, self.fault, self.cut_off = 0, 0, None, False
 
     def plan(self, at=0, fault=None):
@@ -157,7 +161,10 @@ class Outside:
 
     def call(self, do, is_etcd=False):
         self.count += 1
+        self.world.note_who_is_in()
         fault = self.fault if self.count == self.at else None
+        if callable(fault):
+            fault()
         if fault == CRASH_BEFORE:
             raise Crash
         if is_etcd and (fault == LOST_BEFORE or self.cut_off):
@@ -203,9 +210,12 @@ class Machine:
 
     version = "2"
 
-    def __init__(self, topology, outside):
-        self.base, self.names, self.outside = checksum_of(topology), names_of(topology), outside
+    def __init__(self, topology, host):
+        self.base, self.names = checksum_of(topology), names_of(topology)
+        self.host, self.outside = host, host.outside
         self.worked, self.is_unread, self.has_no_memory = [], False, False
+        # whether it was made to have another map than it should
+        self.is_wrong = False
         self.is_alive = True
 
     @property
@@ -243,6 +253,7 @@ class Machine:
         self.outside.call(self.die)
 
     def die(self):
+        self.host.world.check_stop(self.host)
         self.is_alive = False
 
 
@@ -306,10 +317,11 @@ class Host:
     """One server of the fleet, and what its units do."""
 
     def __init__(self, world, name):
-        self.world, self.name, self.outside = world, name, Outside()
+        self.world, self.name, self.outside = world, name, Outside(world)
         self.place, self.bases = Place(self.outside), Bases(self.outside)
         self.machine = self.follower = None
-        self.is_in = False
+        # whether queries are let in, when they were last, and when its follower asked the others
+        self.is_in, self.last_in, self.asked_at = False, 0, 0
 
     def let_in(self, is_in):
         if is_in:
@@ -317,11 +329,23 @@ class Host:
         self.is_in = is_in
 
     def log(self):
-        return Log(Client(self.world, self.outside), "glb")
+        log = Log(Client(self.world, self.outside), "glb")
+        ask = log.ask
+
+        def noted(words):
+            self.asked_at = self.world.moment
+            return ask(words)
+
+        log.ask = noted
+        return log
 
     def lose_memory(self):
         if self.machine:
             self.machine.has_no_memory = True
+
+    def go_wrong(self):
+        if self.machine and self.machine.worked:
+            self.machine.worked[-1], self.machine.is_wrong = "wrong", True
 
     def lose_files(self):
         self.bases.files.clear()
@@ -339,6 +363,7 @@ class Host:
     def run(self, at=0, fault=None):
         """What comes next here: a start of the server, of its follower, or a step of that one. Whether it did something."""
         self.outside.plan(at, fault)
+        self.last = self.world.entries()[-1].number
         try:
             with redirect_stderr(StringIO()):
                 return self.go_on()
@@ -360,17 +385,26 @@ class Host:
         if self.machine is None:
             self.is_in = False
             follow.prepare(self.name, self.log(), self.place, self.bases)
-            self.machine = Machine(self.place.topology, self.outside)
+            self.machine = Machine(self.place.topology, self)
         elif self.follower is None:
             hooks = Hooks(self)
             made = follow.Follower(
                 self.name, self.log(), self.machine, self.place, self.bases, hooks
             )
+<<<<<<< HEAD
             made.begin()
+=======
+>>>>>>> 366552e445136de7c7f22263b383ca15ad8c948e
             self.follower = made
+            made.begin()
         else:
             return self.follower.step()
         return True
+
+
+@functools.lru_cache(None)
+def entry_of(item):
+    return read_entry(int(item.name), item.octets)
 
 
 class Clock:
@@ -391,11 +425,12 @@ class Clock:
 class World:
     def __init__(self, hosts=2):
         self.table, self.snapshot, self.made = Table(), None, 0
-        self.hosts, self.topologies = [], {}
-        # what glb-fleet asked last
-        self.asked = ""
+        self.hosts, self.topologies, self.before = [], {}, {}
+        # what glb-fleet asked last, and how often a server was told to be there
+        self.asked, self.seen_there = "", 0
         self.clock = follow.time = Clock(self)
-        self.log = Log(Client(self, Outside()), "glb")
+        self.moment = 0
+        self.log = Log(Client(self, Outside(self)), "glb")
         self.roll(["A"])
         self.hosts = [Host(self, f"h{number}") for number in range(hosts)]
 
@@ -494,50 +529,138 @@ class World:
     def entries(self):
         """The log itself, read off the table."""
         start = self.log.at("log", "")
-        items = self.table.within(start, after(start))
-        return [read_entry(int(item.name), item.octets) for item in items]
+        found = [entry_of(item) for item in self.table.within(start, after(start))]
+        for before, entry in zip(found, found[1:]):
+            self.before[entry.number, entry.checksum] = before
+        return found
+
+    def history(self):
+        """The log with what was cut off it."""
+        found = self.entries()
+        while found and (before := self.before.get((found[0].number, found[0].checksum))):
+            found.insert(0, before)
+        return found
 
     def due(self, checksum, last):
-        """The batches that a server of a base has worked at an entry, by the words of the definition."""
+        """What a server of a base has worked at an entry, by the words of the definition: its batches, and the numbers of
+        those that it dropped whole."""
         topology = self.topologies[checksum]
         upto, own = place_of(topology)[0], names_of(topology)
-        newest, worked = own, []
-        for entry in self.entries():
+        newest, worked, dropped = own, [], []
+        for entry in self.history():
             if entry.number > last:
                 break
             if entry.kind == "base":
                 newest = names_of(self.topologies[entry.base.checksum])
-            elif entry.kind == "batch" and entry.number > upto:
+            elif entry.number > upto:
                 lines = lines_left(entry.lines, own, newest)
-                if lines and is_taken(lines, own):
+                if entry.kind == "none" or not is_taken(lines, own):
+                    dropped.append(entry.number)
+                elif lines:
                     worked.append(lines)
-        return worked
+        return worked, dropped
 
     def report(self):
         return fleet.report(self.log, self.log.look(), self.asked)
 
-    def check_there(self):
-        """Whoever is told to be there serves the map of the newest entry, and lets queries in."""
+    def note_who_is_in(self):
+        """Which hosts let queries in, at the moments between calls to the outside."""
+        self.moment += 1
+        for host in self.hosts:
+            if host.is_in:
+                host.last_in = self.moment
+
+    def were_in(self, host):
+        """Whether each other server of the list let queries in, at a moment since the host asked for it."""
+        listed = {item.name for item in self.table.within("glb/server/", "glb/server0")} - {
+            host.name
+        }
+        return all(other.last_in >= host.asked_at for other in self.hosts if other.name in listed)
+
+    def right_map(self, base, number):
+        return map_of(base, self.due(base, number)[0])
+
+    def check(self):
+        """Whoever is told to be there serves the map of the newest entry; and each follower knows where its server is."""
         found = self.report()
         for server in found.servers:
             host = next(host for host in self.hosts if host.name == server["name"])
-            if server["state"] == "there" and host.machine and not found.differ:
-                right = map_of(found.base, self.due(found.base, found.last))
+            if server["state"] == "there" and host.machine and not host.machine.is_wrong:
+                self.seen_there += 1
+                right = self.right_map(found.base, found.last)
                 assert host.machine.map == right, f"{host.name} is told to be there, and is not"
+        for host in self.hosts:
+            self.check_identity(host)
         return found
 
+<<<<<<< HEAD
     def check_ready(self, host):
         """Queries are let in only to a server that has worked all entries."""
         base, last = host.machine.base, self.log.look().last
         assert host.machine.map == map_of(
             base, self.due(base, last)
         ), f"{host.name} lets queries in too early"
+=======
+    def check_identity(self, host):
+        if not host.follower or not host.machine or host.follower.broken or host.machine.is_wrong:
+            return
+        identity, entries = host.follower.identity, {
+            entry.number: entry for entry in self.entries()
+        }
+        upto = place_of(self.topologies[host.machine.base])[0]
+        if all(number in entries for number in range(upto + 1, identity.entry + 1)):
+            entry = entries.get(identity.entry)
+            if entry and entry.checksum == identity.chain and host.machine.base == identity.base:
+                right = self.right_map(host.machine.base, identity.entry)
+                assert host.machine.map == right, f"{host.name} is not where its follower has it"
+>>>>>>> 366552e445136de7c7f22263b383ca15ad8c948e
 
-    def settle(self, rounds=60):
-        """What comes of it when nothing more happens."""
+    def check_ready(self, host):
+        """Queries are let in only to a server that has worked all entries that there were."""
+        identity = host.follower.identity
+        assert identity.entry >= self.last_of(host), f"{host.name} lets queries in too early"
+        assert host.machine.is_wrong or host.machine.map == self.right_map(
+            host.machine.base, identity.entry
+        )
+
+    def last_of(self, host):
+        return min(host.last, self.entries()[-1].number)
+
+    def check_stop(self, host):
+        """A server is stopped in its turn, with queries kept out, and for another base only where all others are there."""
+        turn = self.table.items.get("glb/turn")
+        assert (
+            turn and json.loads(turn.octets)["server"] == host.name
+        ), f"{host.name} stops out of its turn"
+        assert not host.is_in, f"{host.name} stops with queries let in"
+        follower = host.follower
+        if (
+            follower.broken is None
+            and host.bases.choice != host.machine.base
+            and not host.machine.is_wrong
+        ):
+            assert self.were_in(host), f"{host.name} goes over though another one is not there"
+
+    def check_end(self, found):
+        """What has to be when nothing happens any more: all are there, or it is said why not."""
+        wrong = [host.name for host in self.hosts if host.machine and host.machine.is_wrong]
+        if wrong:
+            assert found.status == fleet.DIFFER or wrong == [host.name for host in self.hosts]
+            assert len(self.hosts) < 3 or len(wrong) > 1, f"{wrong} did not begin anew"
+            return
+        left = [words for _, words in found.advice if "dropped" not in words]
+        assert not left, left
+        assert all(host.is_in for host in self.hosts)
+        missed = set(self.due(found.base, found.last)[1]) - set(found.dropped)
+        assert not missed, f"nobody says that {missed} were dropped"
+
+    def settle(self, rounds=15):
+        """What comes of it when nothing more happens than one batch."""
+        self.append("demand A 3\n")
         for host in self.hosts:
             host.outside.cut_off = False
         for _ in range(rounds):
+<<<<<<< HEAD
             moved = [host.run() for host in self.hosts]
             if not any(moved):
                 self.ask()
@@ -546,3 +669,16 @@ class World:
                 if not any(moved) and self.report().status in (0, 2):
                     break
         return self.check_there()
+=======
+            for _ in range(6):
+                for host in self.hosts:
+                    host.run()
+                self.tick(1)
+            self.ask()
+            for host in self.hosts:
+                host.run()
+            if self.report().status == 0:
+                break
+            self.tick(10)
+        return self.check()
+>>>>>>> 366552e445136de7c7f22263b383ca15ad8c948e
