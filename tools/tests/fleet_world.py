@@ -78,17 +78,8 @@ class Table:
             if lease and lease not in self.leases:
                 raise NoLease("requested lease not found")
         self.revision += any("request_range" not in part for part in parts)
-<<<<<<< HEAD
-        responses = [self.part(part) for part in parts]
-        return {
-            "header": {"revision": str(self.revision)},
-            "succeeded": True,
-            "responses": responses,
-        }
-=======
         found = [self.part(*next(iter(part.items()))) for part in parts]
         return Answer(True, [items for items in found if items is not None], self.revision)
->>>>>>> 366552e445136de7c7f22263b383ca15ad8c948e
 
     def part(self, kind, request):
         key, end = decoded(request["key"]), request.get("range_end")
@@ -391,10 +382,6 @@ class Host:
             made = follow.Follower(
                 self.name, self.log(), self.machine, self.place, self.bases, hooks
             )
-<<<<<<< HEAD
-            made.begin()
-=======
->>>>>>> 366552e445136de7c7f22263b383ca15ad8c948e
             self.follower = made
             made.begin()
         else:
@@ -593,14 +580,6 @@ class World:
             self.check_identity(host)
         return found
 
-<<<<<<< HEAD
-    def check_ready(self, host):
-        """Queries are let in only to a server that has worked all entries."""
-        base, last = host.machine.base, self.log.look().last
-        assert host.machine.map == map_of(
-            base, self.due(base, last)
-        ), f"{host.name} lets queries in too early"
-=======
     def check_identity(self, host):
         if not host.follower or not host.machine or host.follower.broken or host.machine.is_wrong:
             return
@@ -613,7 +592,6 @@ class World:
             if entry and entry.checksum == identity.chain and host.machine.base == identity.base:
                 right = self.right_map(host.machine.base, identity.entry)
                 assert host.machine.map == right, f"{host.name} is not where its follower has it"
->>>>>>> 366552e445136de7c7f22263b383ca15ad8c948e
 
     def check_ready(self, host):
         """Queries are let in only to a server that has worked all entries that there were."""
@@ -660,16 +638,6 @@ class World:
         for host in self.hosts:
             host.outside.cut_off = False
         for _ in range(rounds):
-<<<<<<< HEAD
-            moved = [host.run() for host in self.hosts]
-            if not any(moved):
-                self.ask()
-                self.tick()
-                moved = [host.run() for host in self.hosts]
-                if not any(moved) and self.report().status in (0, 2):
-                    break
-        return self.check_there()
-=======
             for _ in range(6):
                 for host in self.hosts:
                     host.run()
@@ -681,4 +649,3 @@ class World:
                 break
             self.tick(10)
         return self.check()
->>>>>>> 366552e445136de7c7f22263b383ca15ad8c948e
