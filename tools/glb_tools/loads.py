@@ -206,8 +206,8 @@ class Worker:
                 pass
             except Exception as why:
                 # whatever it is: a thread that has ended would serve old values for ever
-                self.is_up, self.loads = False, None
                 tell(why)
+                self.is_up, self.loads = False, None
                 self.over.wait(AGAIN)
 
     def rest(self, seconds: float) -> None:
@@ -316,8 +316,8 @@ class FleetWorker(Worker):
         try:
             return self.log.look(max(entry, 1))
         except Unreachable as why:
-            self.is_up = False
             tell(why)
+            self.is_up = False
             return None
 
     def lines_of(self, entry: Entry, newest: Base, look: Look | None) -> str:

@@ -96,6 +96,10 @@ class Played(Case):
         return found
 
     def start(self, worker):
+        # by what it says why it begins anew
+        told = mock.patch.object(loads, "tell").start()
+        self.addCleanup(mock.patch.stopall)
+        self.told = lambda: [str(call.args[0]) for call in told.call_args_list]
         thread = threading.Thread(target=worker.run)
         thread.start()
         self.addCleanup(thread.join)
@@ -172,6 +176,8 @@ class Files(Played):
         until(lambda: worker.loads and worker.loads.placed == 8)
         log.unlink()
         until(lambda: not worker.is_up and worker.loads is None)
+        self.assertEqual(sum("is worked anew" in why for why in self.told()), 2)
+        self.assertIn("No such file", self.told()[-1])
 
 
 class Entries:
@@ -232,6 +238,9 @@ class Fleets(Played):
         log.text = None
         log.base = SimpleNamespace(number=4, checksum="d" * 64, upto=2, chain="x")
         until(lambda: not worker.is_up and worker.loads is None)
+        self.assertIn("nobody answers", self.told()[0])
+        self.assertTrue(any("entry 4 of the log is not the one" in why for why in self.told()))
+        self.assertIn("is not in etcd", self.told()[-1])
 
 
 @unittest.skipUnless(os.environ.get("GLB"), "GLB does not name the program")
