@@ -202,7 +202,8 @@ class Fleet(Collector):
         try:
             found = report(self.log, self.log.look())
             look_at_members(self.log.etcd, found)
-            self.quotas = {member: quota_of(self.log.etcd, member) for member in found.members}
+            answering = [member for member, told in found.members.items() if told is not None]
+            self.quotas = {member: quota_of(self.log.etcd, member) for member in answering}
         except Exception as why:
             # whatever it is: a thread that has ended would serve old values for ever
             tell(why)
