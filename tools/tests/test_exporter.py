@@ -1,17 +1,18 @@
 """glb-exporter: what it serves of one server, of a fleet, and of loads."""
 
+import contextlib
 import importlib.util
 import os
+import shutil
 import socket
 import subprocess
 import sys
-import threading
 import time
 import unittest
 import urllib.request
 from types import SimpleNamespace
 
-from samples import TOOLS, Case, command
+from samples import SMALL, TOOLS, Case, command
 
 if importlib.util.find_spec("prometheus_client") is None:
     raise unittest.SkipTest("python3-prometheus-client is not installed")
@@ -20,8 +21,11 @@ from prometheus_client import CollectorRegistry, generate_latest
 from prometheus_client.parser import text_string_to_metric_families
 
 from glb_tools import exporter
+from glb_tools.etcd import Etcd
 from glb_tools.fleet import Report
 from glb_tools.loads import Loads
+from glb_tools.log import Log, Names, Signed, checksum_of
+from glb_tools.options import Fault
 
 SAID = (
     "published 1\nshow 1 placed 12 unplaced 3 full 2\nrefused 3 bad number\nrefused commit lines 1\nanswer 1 -\n"
@@ -305,6 +309,109 @@ class Commands(Case):
         self.assertEqual(found["glb_unplaced_units",], 3)
         running.stdin.close()
         self.assertEqual(running.wait(30), 0)
+
+
+def free_ports(count):
+    with contextlib.ExitStack() as open_ones:
+        sockets = [open_ones.enter_context(socket.socket()) for _ in range(count)]
+        for each in sockets:
+            each.bind(("127.0.0.1", 0))
+        return [each.getsockname()[1] for each in sockets]
+
+
+@unittest.skipUnless(shutil.which("etcd"), "etcd is not installed (Debian: etcd-server)")
+class WithEtcd(Case):
+    """The exporter over a log in a real etcd, of which one member is not there."""
+
+    def setUp(self):
+        super().setUp()
+        client, peer, self.port = free_ports(3)
+        self.member, other = f"http://127.0.0.1:{client}", f"http://127.0.0.1:{peer}"
+        words = [
+            "--name",
+            "m1",
+            "--data-dir",
+            str(self.folder / "etcd"),
+            "--quota-backend-bytes",
+            "123456789",
+        ]
+        words += ["--listen-client-urls", self.member, "--advertise-client-urls", self.member]
+        words += [
+            "--listen-peer-urls",
+            other,
+            "--initial-advertise-peer-urls",
+            other,
+            "--initial-cluster",
+            f"m1={other}",
+        ]
+        self.etcd = subprocess.Popen(
+            ["etcd", *words], stderr=subprocess.DEVNULL, stdout=subprocess.DEVNULL
+        )
+        self.addCleanup(self.etcd.wait)
+        self.addCleanup(self.etcd.kill)
+        self.log = Log(Etcd([self.member]), "glb")
+
+    def until(self, call, holds):
+        """What a call gives, once it is as it should be."""
+        for _ in range(200):
+            with contextlib.suppress(OSError, Fault):
+                if holds(found := call()):
+                    return found
+            time.sleep(0.05)
+        raise AssertionError(f"it did not come: {found}")
+
+    def metrics(self):
+        with urllib.request.urlopen(f"http://127.0.0.1:{self.port}/metrics", timeout=5) as answer:
+            return values(answer.read().decode())
+
+    def test_a_fleet(self):
+        self.until(lambda: self.log.etcd.answers(self.member), bool)
+        topology = SMALL.encode()
+        self.log.put_file("file", checksum_of(topology), topology)
+        names = Names(["g1", "g2", "g2www"], ["R", "A", "B"])
+        self.log.put_file("names", checksum_of(topology), names.octets())
+        self.assertEqual(self.log.append_base("a", Signed("me"), topology), 1)
+        self.assertEqual(self.log.append("b", Signed("me"), "demand g1 5\n", lambda _: None), 2)
+        self.log.put_server("host1", {})
+        self.log.put_server("host2", {})
+        state = {
+            "base": checksum_of(topology)[:16],
+            "entry": 1,
+            "serial": 0,
+            "placed": 15,
+            "unplaced": 4,
+            "ready": True,
+        }
+        self.log.tell("host1", state, 0)
+        # nobody listens at the discard port
+        etcd = f"{self.member},http://127.0.0.1:9"
+        words = ["--fleet", "--etcd", etcd, "--every", "0.1", "--listen", f"127.0.0.1:{self.port}"]
+        running = subprocess.Popen(
+            [sys.executable, "-B", str(TOOLS / "glb-exporter"), *words], stderr=subprocess.DEVNULL
+        )
+        self.addCleanup(running.wait)
+        self.addCleanup(running.kill)
+        found = self.until(self.metrics, lambda found: found["glb_log_up",])
+        for key, value in {
+            ("glb_log_entry",): 2,
+            ("glb_log_base_entry",): 1,
+            ("glb_servers",): 2,
+            ("glb_server_up", "host1"): 1,
+            ("glb_server_up", "host2"): 0,
+            ("glb_server_behind_entries", "host1"): 1,
+            ("glb_server_at_newest_base", "host1"): 1,
+            ("glb_unplaced_units", "host1"): 4,
+            ("glb_etcd_member_up", self.member): 1,
+            ("glb_etcd_member_up", "http://127.0.0.1:9"): 0,
+            ("glb_etcd_quota_bytes", self.member): 123456789,
+            ("glb_etcd_full",): 0,
+        }.items():
+            with self.subTest(key):
+                self.assertEqual(found[key], value)
+        self.assertGreater(found["glb_etcd_database_bytes", self.member], 0)
+        self.etcd.kill()
+        gone = self.until(self.metrics, lambda found: not found["glb_log_up",])
+        self.assertEqual(set(gone), {("glb_log_up",), ("glb_looked_timestamp_seconds",)})
 
 
 if __name__ == "__main__":
