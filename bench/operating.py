@@ -47,7 +47,7 @@ BLOCKS = {
         ("dpkg -r glb-tools >/dev/null 2>&1; ls /var/lib/prometheus/node-exporter/ | grep -c '^glb'", "0"),
         ("apt-get remove -y glb >/dev/null; ls /etc/glb; systemctl is-active glb@v4", "(?s)topology.toml\nv4.conf\ninactive"),
         ("apt-get purge -y glb >/dev/null 2>&1; dpkg --purge glb-tools >/dev/null 2>&1; ls -d /etc/glb /etc/default/glb* /var/lib/glb /usr/lib/glb /usr/share/glb /etc/systemd/system/*/*glb* 2>/dev/null; systemctl list-units --all --no-legend 'glb*'; id glb 2>&1", "id: .glb.: no such user"),
-        before="systemctl disable --now glb-fleet@v4 glb@v6; rm -rf /etc/glb /var/lib/glb /etc/systemd/system/*glb* /etc/systemd/system/*/*glb*; systemctl daemon-reload; userdel glb",
+        before="systemctl disable --now glb-fleet@v4 glb@v6; rm -rf /etc/glb /etc/default/glb* /var/lib/glb /etc/systemd/system/*glb* /etc/systemd/system/*/*glb*; systemctl daemon-reload; userdel glb",
         last=True,
     ),
     "mkdir -p /run/glb\nmkfifo -m 600 /run/glb/feed\n": Block(("ls /run/glb 2>&1", ".*No such file.*")),
