@@ -114,6 +114,8 @@ class Follower:
         # when the leases were kept, the server asked, and the state told, the last time
         self.kept = self.asked = self.told_at = 0.0
         self.told: dict[str, Any] = {}
+        # whether there may be batches that it dropped and nobody was told of
+        self.untold = True
         self.shown = Shown(0, 0, 0)
         self.maps: collections.OrderedDict[int, str] = collections.OrderedDict()
         self.is_ready = False
@@ -154,7 +156,9 @@ class Follower:
         """Tells the state where it is news, and the batches that were dropped, where the log is known to have them.
         Without a majority a later call does."""
         state = self.state() | (more or {})
-        base, dropped = self.identity.base, {} if more or self.broken else self.identity.dropped
+        base, dropped = self.identity.base, self.identity.dropped
+        if not self.untold or more or self.broken:
+            dropped = {}
         if state == self.told and not dropped:
             return
         notes = {
@@ -166,8 +170,7 @@ class Follower:
                 self.lease, self.kept = self.log.etcd.lease(ALIVE), time.monotonic()
             self.log.tell(self.name, state | {"time": int(time.time())}, self.lease, notes)
             self.told, self.told_at = state, time.monotonic()
-            if notes:
-                self.identity = replace(self.identity, dropped={})
+            self.untold = self.untold and not notes
         except NoLease:
             self.lease = None
         except (Unreachable, Full):
@@ -224,11 +227,6 @@ class Follower:
         self.record(look)
         new = look.entries[1:] if identity.entry else look.entries
         for entry in new:
-            if not entry.follows(self.identity.chain):
-                self.broken = (
-                    f"entry {entry.number} of the log does not follow the one that it worked last"
-                )
-                return True
             self.work(entry, look)
             self.idle(silent=False)
             if time.monotonic() - self.told_at > PAUSE:
@@ -295,8 +293,13 @@ class Follower:
 
     def drop(self, entry: Entry, why: str) -> None:
         say(f"entry {entry.number} was dropped whole: {why}")
-        newest = list((self.identity.dropped | {str(entry.number): why}).items())[-LOOKED_BACK:]
-        self.identity = replace(self.identity, dropped=dict(newest))
+        newest = {
+            number: words
+            for number, words in self.identity.dropped.items()
+            if int(number) > entry.number - LOOKED_BACK
+        }
+        self.identity = replace(self.identity, dropped=newest | {str(entry.number): why})
+        self.untold = True
 
     def lines_of(self, entry: Entry, look: Look) -> str:
         """The lines of an entry that the server is handed."""
@@ -335,7 +338,8 @@ class Follower:
             self.see()
             self.heard = look.asked
         if look.states.get(self.name, {}).get("entry") != self.identity.entry:
-            self.told = {}
+            # etcd was restored, and has not what was told
+            self.told, self.untold = {}, True
         self.tell()
 
     def see(self) -> None:
