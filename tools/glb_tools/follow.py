@@ -222,7 +222,7 @@ class Follower:
         self.keep_turn(look)
         self.broken = self.broken or self.breaks(look)
         if self.broken:
-            self.begin_anew(look, self.broken, look.newest)
+            self.begin_anew(look, self.broken, self.due_base(look))
             return False
         self.record(look)
         new = look.entries[1:] if identity.entry else look.entries
@@ -400,6 +400,14 @@ class Follower:
         self.waits = f"{why}; {hindered}"
         self.tell()
 
+    def due_base(self, look: Look) -> Base | None:
+        """The base that it began from, where the log still has all behind it; else the newest one."""
+        chosen = self.bases.chosen()
+        for base in look.bases:
+            if base.checksum == chosen and look.first <= max(base.upto, 1):
+                return base
+        return look.newest
+
     def hindered(self, look: Look, base: Base | None, why: str, patiently: bool) -> str | None:
         """What keeps the server from beginning anew now. Whoever waits for others has no turn meanwhile."""
         hindered = self.lacks(base.checksum) if base else without_base(look)
@@ -473,7 +481,7 @@ class Follower:
             return
         self.record(look, differed=[*own, self.identity.run, int(time.time())])
         why = "its map is not that of more than half of the servers"
-        self.begin_anew(look, why, look.newest)
+        self.begin_anew(look, why, self.due_base(look))
 
     # The list of servers.
 
