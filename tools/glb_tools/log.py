@@ -61,6 +61,8 @@ LARGEST_BATCH, PIECE = 1 << 20, 1 << 19
 # how many entries are read at once, and of how many glb-fleet looks whether they were dropped
 PAGE, LOOKED_BACK = 64, 100
 BATCH, BASE, NONE = "batch", "base", "none"
+# what is said of a follower that ended with its server, which begins anew
+ANEW = "begins anew"
 # the first line of a base; without a checksum it is one of a release whose logs had no chain
 UP_TO = re.compile(rb"# the numbers up to entry (\d{1,16}) of the log(?:, ([0-9a-f]{64}))?\n")
 NUMBER = re.compile(r"\d{16}")
@@ -210,6 +212,17 @@ def told_in(octets: bytes) -> dict[str, Any]:
         return told if isinstance(told, dict) else {}
     except (ValueError, RecursionError):
         return {}
+
+
+def spot_of(number: int, checksum: str) -> str:
+    """An entry in a few letters, by its number and its checksum: of another log's entry with that number it is another."""
+    return f"{number}.{checksum[:6]}"
+
+
+def maps_of(state: dict[str, Any]) -> dict[str, str]:
+    """The maps that a server told, by the spots of their entries."""
+    maps = state.get("maps")
+    return maps if isinstance(maps, dict) else {}
 
 
 def bases_in(items: list[Item]) -> list[Base]:
