@@ -16,7 +16,7 @@ from glb_tools.etcd import (
     add_etcd_options,
     etcd_of,
 )
-from glb_tools.log import LOOKED_BACK, Log, Look
+from glb_tools.log import ANEW, LOOKED_BACK, Log, Look, maps_of, spot_of
 from glb_tools.options import DONE, Fault, parser, run
 
 NOT_THERE, DIFFER, GONE, HANGS, MEMBER = 1, 2, 5, 6, 7
@@ -65,12 +65,9 @@ def judged(name: str, look: Look, asked: str) -> State:
     """A server's state, in one word and in all that it tells; silent where its follower did not hear what was asked."""
     record, told = look.servers.get(name, {}), look.states.get(name)
     if told is None:
-        ended = record.get("ended")
-        return {
-            "name": name,
-            "state": "ended" if ended else "gone",
-            "why": ended or "it says nothing",
-        }
+        ended = str(record.get("ended", ""))
+        state = "starts" if ended.startswith(ANEW) else "ended" if ended else "gone"
+        return {"name": name, "state": state, "why": ended or "it says nothing"}
     behind = look.last - number_in(told, "entry")
     found = {"name": name, "state": "there", **told, "behind": max(behind, 0)}
     newest, last = look.newest, look.entries[-1] if look.entries else None
@@ -100,12 +97,11 @@ def differing(servers: list[State]) -> dict[int, dict[str, list[str]]]:
     """Entries at which two servers of one base have different maps, with the servers by checksum."""
     found: dict[tuple[Any, ...], dict[str, list[str]]] = {}
     for server in servers:
-        maps = server.get("maps")
-        for number, checksum in maps.items() if isinstance(maps, dict) else ():
-            alike = int(number), server.get("base"), server.get("version")
+        for spot, checksum in maps_of(server).items():
+            alike = spot, server.get("base"), server.get("version")
             found.setdefault(alike, {}).setdefault(checksum, []).append(server["name"])
-    differ = {int(alike[0]): names for alike, names in found.items() if len(names) > 1}
-    return dict(sorted(differ.items()))
+    differ = {alike[0]: names for alike, names in found.items() if len(names) > 1}
+    return {int(spot.split(".")[0]): differ[spot] for spot in sorted(differ)}
 
 
 def asked_of_all(log: Log, seconds: float) -> tuple[str, Look]:
@@ -179,6 +175,8 @@ def advise_of(server: State, found: Report) -> None:
         found.advise(HANGS, f"{words} look at its process, and start glb-fleet@ again there")
     elif state == "waits":
         found.advise(NOT_THERE, f"{name} waits: {server['waits']}")
+    elif "behind" not in server:
+        found.advise(NOT_THERE, f"{name} starts: it {server['why']}")
     elif state != "there":
         found.advise(NOT_THERE, f"{name} is {server['behind']} entries behind, and catches up")
 
@@ -201,8 +199,8 @@ def look_at_members(etcd: Etcd, found: Report) -> None:
 def line_of(server: State) -> str:
     if "entry" not in server:
         return f"{server['name']}: {server['state']}: {server['why']}"
-    maps = server.get("maps") or {}
-    checksum = str(maps.get(str(server["entry"]), "-"))[:12]
+    spot = spot_of(number_in(server, "entry"), str(server.get("chain")))
+    checksum = str(maps_of(server).get(spot, "-"))[:12]
     age = max(int(time.time()) - number_in(server, "time"), 0)
     line = (
         f"{server['name']}: {server['state']}, entry {server['entry']} (behind {server['behind']}),"
@@ -230,6 +228,9 @@ statuses hold, the first of 3, 2, 4, 6, 5, 1 and 7 is the command's."""
 def main() -> int:
     words = parser("glb-fleet", ABOUT, STATUSES, json=True)
     add_etcd_options(words)
+    words.add_argument(
+        "--wait", type=float, default=3, metavar="N", help="how long followers have to answer (3)"
+    )
     words.add_argument(
         "--forget", metavar="NAME", help="takes a server off the list that is no more"
     )

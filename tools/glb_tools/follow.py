@@ -30,6 +30,7 @@ from glb_tools.etcd import (
 )
 from glb_tools.log import (
     ALIVE,
+    ANEW,
     BASE,
     LOOKED_BACK,
     NONE,
@@ -39,7 +40,9 @@ from glb_tools.log import (
     Log,
     Look,
     left_in,
+    maps_of,
     place_of,
+    spot_of,
     without_base,
 )
 from glb_tools.options import Fault, parser, run
@@ -114,8 +117,11 @@ class Follower:
         # when the leases were kept, the server asked, and the state told, the last time
         self.kept = self.asked = self.told_at = 0.0
         self.told: dict[str, Any] = {}
+        # whether there may be batches that it dropped and nobody was told of
+        self.untold = True
         self.shown = Shown(0, 0, 0)
-        self.maps: collections.OrderedDict[int, str] = collections.OrderedDict()
+        # by number and checksum of entries, the last maps' checksums
+        self.maps: collections.OrderedDict[str, str] = collections.OrderedDict()
         self.is_ready = False
         # how far it was looked into etcd, and what glb-fleet asked
         self.revision, self.heard = 0, ""
@@ -139,7 +145,7 @@ class Follower:
             "serial": self.shown.serial,
             "placed": self.shown.placed,
             "unplaced": self.shown.unplaced,
-            "maps": {str(number): checksum[:LETTERS] for number, checksum in self.maps.items()},
+            "maps": dict(self.maps),
             "ready": self.is_ready,
         }
         more = {
@@ -154,7 +160,9 @@ class Follower:
         """Tells the state where it is news, and the batches that were dropped, where the log is known to have them.
         Without a majority a later call does."""
         state = self.state() | (more or {})
-        base, dropped = self.identity.base, {} if more or self.broken else self.identity.dropped
+        base, dropped = self.identity.base, self.identity.dropped
+        if not self.untold or more or self.broken:
+            dropped = {}
         if state == self.told and not dropped:
             return
         notes = {
@@ -166,8 +174,7 @@ class Follower:
                 self.lease, self.kept = self.log.etcd.lease(ALIVE), time.monotonic()
             self.log.tell(self.name, state | {"time": int(time.time())}, self.lease, notes)
             self.told, self.told_at = state, time.monotonic()
-            if notes:
-                self.identity = replace(self.identity, dropped={})
+            self.untold = self.untold and not notes
         except NoLease:
             self.lease = None
         except (Unreachable, Full):
@@ -209,26 +216,23 @@ class Follower:
         self.identity = replace(
             identity, serial=serial, map=checksum, next_entry=None, next_chain=None
         )
-        if checksum:
-            self.maps[self.identity.entry] = checksum
+        self.note(checksum)
 
     def step(self) -> bool:
         identity = self.identity
         look = self.log.look(max(identity.entry, 1))
         self.revision = look.revision
+        if look.asked != self.heard:
+            self.see()
+            self.heard = look.asked
         self.keep_turn(look)
         self.broken = self.broken or self.breaks(look)
         if self.broken:
-            self.begin_anew(look, self.broken, look.newest)
+            self.begin_anew(look, self.broken, self.due_base(look))
             return False
         self.record(look)
         new = look.entries[1:] if identity.entry else look.entries
         for entry in new:
-            if not entry.follows(self.identity.chain):
-                self.broken = (
-                    f"entry {entry.number} of the log does not follow the one that it worked last"
-                )
-                return True
             self.work(entry, look)
             self.idle(silent=False)
             if time.monotonic() - self.told_at > PAUSE:
@@ -278,8 +282,12 @@ class Follower:
         )
         if not lines:
             self.place.keep(self.identity)
+        self.note(checksum)
+
+    def note(self, checksum: str | None) -> None:
+        """What map the server has at its last entry."""
         if checksum:
-            self.maps[entry.number] = checksum
+            self.maps[spot_of(self.identity.entry, self.identity.chain)] = checksum[:LETTERS]
             while len(self.maps) > MOST_MAPS:
                 self.maps.popitem(last=False)
 
@@ -295,8 +303,13 @@ class Follower:
 
     def drop(self, entry: Entry, why: str) -> None:
         say(f"entry {entry.number} was dropped whole: {why}")
-        newest = list((self.identity.dropped | {str(entry.number): why}).items())[-LOOKED_BACK:]
-        self.identity = replace(self.identity, dropped=dict(newest))
+        newest = {
+            number: words
+            for number, words in self.identity.dropped.items()
+            if int(number) > entry.number - LOOKED_BACK
+        }
+        self.identity = replace(self.identity, dropped=newest | {str(entry.number): why})
+        self.untold = True
 
     def lines_of(self, entry: Entry, look: Look) -> str:
         """The lines of an entry that the server is handed."""
@@ -327,15 +340,15 @@ class Follower:
             if self.is_outvoted(look):
                 self.anew_for_its_map(look)
             elif newest.checksum != self.identity.base:
-                self.begin_anew(look, f"goes over to {newest}", newest, patiently=True)
+                self.begin_anew(
+                    look, f"it goes over to base {newest.number}", newest, patiently=True
+                )
             else:
                 self.end_turn(look)
         self.fetch_ahead(look)
-        if look.asked != self.heard:
-            self.see()
-            self.heard = look.asked
         if look.states.get(self.name, {}).get("entry") != self.identity.entry:
-            self.told = {}
+            # etcd was restored, and has not what was told
+            self.told, self.untold = {}, True
         self.tell()
 
     def see(self) -> None:
@@ -390,11 +403,19 @@ class Follower:
             self.bases.choose(base.checksum)
             hindered = self.get_unready()
             if hindered is None:
-                say(f"begins anew from {base}: {why}")
+                say(f"{self.name} {ANEW} from {base}: {why}")
                 self.server.stop()
                 raise Over(why)
         self.waits = f"{why}; {hindered}"
         self.tell()
+
+    def due_base(self, look: Look) -> Base | None:
+        """The base that it began from, where the log still has all behind it; else the newest one."""
+        chosen = self.bases.chosen()
+        for base in look.bases:
+            if base.checksum == chosen and look.first <= max(base.upto, 1):
+                return base
+        return look.newest
 
     def hindered(self, look: Look, base: Base | None, why: str, patiently: bool) -> str | None:
         """What keeps the server from beginning anew now. Whoever waits for others has no turn meanwhile."""
@@ -449,15 +470,14 @@ class Follower:
 
     def is_outvoted(self, look: Look) -> bool:
         """Whether at the newest entry that another server tells of, too, more than half have another map."""
-        own = {str(number): checksum[:LETTERS] for number, checksum in self.maps.items()}
         others = [state for name, state in look.states.items() if name != self.name]
         alike = [maps_of(state) for state in others if is_comparable(state, self.state())]
-        for number in sorted(own, key=int, reverse=True):
-            votes = collections.Counter(maps[number] for maps in alike if number in maps)
+        for spot, own in reversed(self.maps.items()):
+            votes = collections.Counter(maps[spot] for maps in alike if spot in maps)
             if votes:
-                votes[own[number]] += 1
+                votes[own] += 1
                 best, count = votes.most_common(1)[0]
-                return best != own[number] and 2 * count > votes.total()
+                return best != own and 2 * count > votes.total()
         return False
 
     def anew_for_its_map(self, look: Look) -> None:
@@ -466,10 +486,11 @@ class Follower:
         *same, run, moment = look.servers.get(self.name, {}).get("differed") or ["", "", "", 0]
         if same == own and run != self.identity.run and abs(int(time.time()) - moment) < ONCE:
             self.waits = "its map is another one, also since it began anew for that"
+            self.end_turn(look)
             return
         self.record(look, differed=[*own, self.identity.run, int(time.time())])
         why = "its map is not that of more than half of the servers"
-        self.begin_anew(look, why, look.newest)
+        self.begin_anew(look, why, self.due_base(look))
 
     # The list of servers.
 
@@ -511,11 +532,6 @@ def absent(look: Look, name: str, asked: str = "") -> str | None:
 def is_comparable(state: dict[str, Any], own: dict[str, Any]) -> bool:
     """Whether two servers of equal maps have equal texts of them."""
     return all(state.get(key) == own.get(key) for key in ("base", "version"))
-
-
-def maps_of(state: dict[str, Any]) -> dict[str, str]:
-    maps = state.get("maps")
-    return maps if isinstance(maps, dict) else {}
 
 
 def say(words: str) -> None:
@@ -641,7 +657,7 @@ def main() -> int:
     try:
         follow(follower)
     except Over as end:
-        why = f"begins anew: {end}"
+        why = f"{ANEW}: {end}"
         return 0
     except Fault as fault:
         why = str(fault)

@@ -14,8 +14,8 @@
 **An entry** is a text of JSON: `kind` (`batch` or `base`), `before`, `time` (seconds since 1970), `author`, `why`, and of a
 batch `lines`, of a base `base`, `upto` and `chain`. Its checksum is the SHA-256 of its octets. `before` is the checksum
 of the entry before it, which the transaction that puts it looks at: so the checksum of an entry stands for the whole log
-up to it, **the chain**. What stands among the entries and is none, put there by hand, is handed to no server; it has a
-checksum as an entry has, and nobody takes its word for what stands before it.
+up to it, **the chain**. What stands among the entries and is none, or does not say the checksum of the one before it, was
+put there by hand: it is handed to no server. It has a checksum as an entry has, which the next one says.
 
 **A base** is a topology whose numbers are those of the log up to entry `upto`, whose checksum is `chain`: its first line
 says both, so its own checksum, `base`, says all of it. Who begins from it works the entries behind `upto`. The base may
@@ -61,6 +61,8 @@ LARGEST_BATCH, PIECE = 1 << 20, 1 << 19
 # how many entries are read at once, and of how many glb-fleet looks whether they were dropped
 PAGE, LOOKED_BACK = 64, 100
 BATCH, BASE, NONE = "batch", "base", "none"
+# what is said of a follower that ended with its server, which begins anew
+ANEW = "begins anew"
 # the first line of a base; without a checksum it is one of a release whose logs had no chain
 UP_TO = re.compile(rb"# the numbers up to entry (\d{1,16}) of the log(?:, ([0-9a-f]{64}))?\n")
 NUMBER = re.compile(r"\d{16}")
@@ -116,8 +118,9 @@ class Entry:
     def checksum(self) -> str:
         return checksum_of(self.octets)
 
-    def follows(self, checksum: str) -> bool:
-        return self.kind == NONE or self.before == checksum
+    def behind(self, checksum: str) -> "Entry":
+        """Itself behind an entry with that checksum; none where it says another one."""
+        return self if self.before == checksum else Entry(self.number, self.octets, NONE)
 
 
 def check_batch(lines: str) -> None:
@@ -211,6 +214,17 @@ def told_in(octets: bytes) -> dict[str, Any]:
         return {}
 
 
+def spot_of(number: int, checksum: str) -> str:
+    """An entry in a few letters, by its number and its checksum: of another log's entry with that number it is another."""
+    return f"{number}.{checksum[:6]}"
+
+
+def maps_of(state: dict[str, Any]) -> dict[str, str]:
+    """The maps that a server told, by the spots of their entries."""
+    maps = state.get("maps")
+    return maps if isinstance(maps, dict) else {}
+
+
 def bases_in(items: list[Item]) -> list[Base]:
     if not items:
         return []
@@ -300,22 +314,19 @@ class Log:
         return read_entry(number, item.octets) if item else None
 
     def entries(self, number: int, last: int) -> Iterator[Entry]:
-        """The entries from a number on up to another one; a fault where the chain breaks."""
-        before: Entry | None = None
+        """The entries from a number on up to another one; a fault where one is not there."""
         while number <= last:
-            page = in_row(self.page(number), number)
+            # the one before them is read, too, since they say its checksum
+            first = max(number - 1, 1)
+            page = [entry for entry in self.page(first) if entry.number >= number]
             if not page:
                 raise Fault(f"entry {number} is not there: it was cut away, or taken away by hand")
-            for entry in page[: last - number + 1]:
-                if before and not entry.follows(before.checksum):
-                    raise Fault(f"entry {entry.number} does not follow the one before it")
-                before = entry
-                yield entry
+            yield from page[: last - number + 1]
             number += len(page)
 
-    def page(self, number: int) -> list[Item]:
+    def page(self, number: int) -> list[Entry]:
         ask = span(self.key(number), after(self.at("log", "")), limit=PAGE, sort_target="KEY")
-        return self.etcd.txn([ask]).found[0]
+        return in_row(self.etcd.txn([ask]).found[0], number)
 
     def newest_base(self) -> Base:
         look = self.look()
@@ -511,15 +522,17 @@ def delete_under(key: str) -> Message:
 
 
 def in_row(items: list[Item], number: int) -> list[Entry]:
-    """Entries one behind the other, from a number on (from whichever is first at 0)."""
+    """Entries one behind the other, from a number on (from whichever is first at 0). Of the first one nobody looks behind
+    which it stands, but of entry 1, which stands behind none."""
     row: list[Entry] = []
     for item in items:
-        if not NUMBER.fullmatch(item.name):
+        due = row[-1].number + 1 if row else number or int(item.name)
+        if not NUMBER.fullmatch(item.name) or int(item.name) != due:
             break
-        due = number + len(row) if number else int(item.name)
-        if int(item.name) != due:
-            break
-        row.append(read_entry(due, item.octets))
+        entry = read_entry(due, item.octets)
+        if row or due == 1:
+            entry = entry.behind(row[-1].checksum if row else "")
+        row.append(entry)
     return row
 
 

@@ -29,7 +29,7 @@ class Identity:
     map: str | None = None
     next_entry: int | None = None
     next_chain: str | None = None
-    # batches that it dropped whole, with the reasons, which are not told yet
+    # the last batches that it dropped whole, by their numbers, with the reasons
     dropped: dict[str, str] = field(default_factory=dict)
 
 

@@ -330,6 +330,13 @@ class Host:
         log.ask = noted
         return log
 
+    def start_by_hand(self):
+        """Somebody ends the server, and starts it where it ran, past its unit."""
+        if self.machine:
+            self.server_ends()
+            self.machine = Machine(self.place.topology, self)
+            self.world.ask()
+
     def lose_memory(self):
         if self.machine:
             self.machine.has_no_memory = True
@@ -355,6 +362,8 @@ class Host:
         """What comes next here: a start of the server, of its follower, or a step of that one. Whether it did something."""
         self.outside.plan(at, fault)
         self.last = self.world.entries()[-1].number
+        if not self.follower or not self.follower.asks:
+            self.asked_at = self.world.moment
         try:
             with redirect_stderr(StringIO()):
                 return self.go_on()
@@ -434,11 +443,17 @@ class World:
     def raw(self, octets=b"stop\n"):
         self.log.etcd.txn([put(self.log.key(self.log.look().last + 1), octets)])
 
+    def forge(self):
+        """Puts a batch once more by hand, as it stands in the log."""
+        batches = [entry for entry in self.entries() if entry.kind == "batch"]
+        if batches:
+            self.raw(batches[-1].octets)
+
     def take_raw(self):
         """Deletes the last entry where it was put by hand."""
-        look = self.log.look()
-        if look.entries and look.entries[-1].kind == "none":
-            del self.table.items[self.log.key(look.last)]
+        last = self.entries()[-1]
+        if last.kind == "none":
+            del self.table.items[self.log.key(last.number)]
 
     def roll(self, names, back=0):
         """A base with the numbers up to so many entries before the last one."""
@@ -517,8 +532,10 @@ class World:
         """The log itself, read off the table."""
         start = self.log.at("log", "")
         found = [entry_of(item) for item in self.table.within(start, after(start))]
-        for before, entry in zip(found, found[1:]):
+        for number, (before, entry) in enumerate(zip(found, found[1:]), 1):
             self.before[entry.number, entry.checksum] = before
+            if entry.kind != "none" and entry.before != before.checksum:
+                found[number] = Entry(entry.number, entry.octets, "none")
         return found
 
     def history(self):
