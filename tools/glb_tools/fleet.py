@@ -106,15 +106,16 @@ def differing(servers: list[State]) -> dict[int, dict[str, list[str]]]:
 
 def asked_of_all(log: Log, seconds: float) -> tuple[str, Look]:
     """Asks each follower whether its server answers; what stands in etcd as soon as all told, or after that time."""
-    asked, end = secrets.token_hex(4), time.monotonic() + seconds
-    revision = log.ask(asked)
+    asked, end, revision = "", time.monotonic() + seconds, 0
     while True:
         look = log.look()
         if look.revision < revision:
             raise Fault("etcd has less than a moment ago: it was restored; look again")
-        if look.asked != asked:
-            # another one asked meanwhile
-            log.ask(asked)
+        if not asked or look.asked != asked:
+            # anew where another one asked meanwhile
+            asked = secrets.token_hex(4)
+            revision = log.ask(asked)
+            continue
         told = [state for state in look.states.values() if "hangs" not in state]
         if all(state.get("heard") == asked for state in told) or time.monotonic() >= end:
             return asked, look

@@ -444,9 +444,10 @@ class Follower:
 
     def hears_all(self, look: Look) -> bool:
         """Whether all others are there, as they told since they were asked: what was told before stands for a while."""
-        if not self.asks:
-            self.asks, self.asked_at = secrets.token_hex(4), time.monotonic()
-        if look.asked != self.asks:
+        if not self.asks or look.asked != self.asks:
+            # anew where another one asked meanwhile
+            self.asked_at = self.asked_at if self.asks else time.monotonic()
+            self.asks = secrets.token_hex(4)
             self.log.ask(self.asks)
             return False
         return absent(look, self.name, self.asks) is None
