@@ -298,7 +298,7 @@ class FleetWorker(Worker):
         """Works the entries behind a base, until there is a newer one: then it goes over, at once."""
         entry, chain, summed = base.upto, base.chain, -1
         while (look := self.look(entry)) is None or look.newest == base:
-            new = in_chain(look, entry, chain) if look else []
+            new = behind(look, entry, chain) if look else []
             for found in new:
                 if lines := self.lines_of(found, base, look):
                     beside.work(lines)
@@ -329,15 +329,10 @@ class FleetWorker(Worker):
         return left_in(lines, self.log.names(newest.checksum), self.log.names(base.checksum))
 
 
-def in_chain(look: Look, entry: int, chain: str) -> list[Entry]:
+def behind(look: Look, entry: int, chain: str) -> list[Entry]:
     """The entries behind one that was worked; a fault where the log has another one there."""
-    new = look.entries
-    if entry:
-        if not new or new[0].checksum != chain:
-            raise Fault(f"entry {entry} of the log is not the one that was worked")
-        new = new[1:]
-    for found in new:
-        if not found.follows(chain):
-            raise Fault(f"entry {found.number} does not follow the one before it")
-        chain = found.checksum
-    return new
+    if not entry:
+        return look.entries
+    if not look.entries or look.entries[0].checksum != chain:
+        raise Fault(f"entry {entry} of the log is not the one that was worked")
+    return look.entries[1:]

@@ -202,8 +202,6 @@ class Entries:
                 number=n,
                 lines=lines,
                 checksum=f"sum {n} {lines}",
-                follows=lambda chain, n=n: chain
-                == (f"sum {n - 1} {self.batches[n - 2]}" if n > 1 else ""),
             )
             for n, lines in enumerate(self.batches, 1)
         ]

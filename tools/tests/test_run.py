@@ -88,13 +88,13 @@ class Ends(Case):
     def ended(self, *names):
         words = [sys.executable, "-B", str(TOOLS / "tests" / "run.py"), *names]
         found = subprocess.run(words, capture_output=True, timeout=60)
-        return found.returncode, found.stdout.decode().splitlines()[-1]
+        return found.returncode, found.stdout.decode().rpartition("\n")[0].rpartition("\n")[2]
 
     def test_statuses(self):
         self.assertEqual(self.ended("run.Tried.good"), (0, "1 passed, 0 failed"))
         self.assertEqual(self.ended("run.Tried.good", "run.Tried.fails"), (1, "1 passed, 1 failed"))
         self.assertEqual(self.ended("run.Tried.left_out"), (1, "0 passed, 0 failed, 1 skipped"))
-        self.assertEqual(self.ended("no_such_module"), (1, "0 passed, 1 failed"))
+        self.assertEqual(self.ended("run.Tried.good", "no_such_module"), (64, ""))
 
 
 if __name__ == "__main__":
