@@ -22,9 +22,12 @@ server=$roots/glb
 tools=$roots/glb-tools
 install -d "$server" "$tools"
 
+# The module whose main a command is.
+module_of() { sed -n 's/^start("\(.*\)")$/\1/p' "$top/tools/$1"; }
+
 # The modules of glb_tools that those of the server's commands read.
 server_modules() {
-    python3 - "$top/tools/glb_tools" $server_commands <<'PYTHON'
+    python3 - "$top/tools/glb_tools" $(for name in $server_commands; do module_of "glb-$name"; done) <<'PYTHON'
 import re, sys
 from pathlib import Path
 
@@ -58,7 +61,8 @@ install_command() {
 
 # A manual page: what a command says by --help, or, where it needs what is not installed here, what its module says.
 manual() {
-    local module=$top/tools/glb_tools/${1#glb-}.py about help
+    local module about help
+    module=$top/tools/glb_tools/$(module_of "$1").py
     about=$(sed -n '1s/^"""//;1s/[."]*$//p' "$module" | sed 's/^glb-[a-z]*: //')
     help=$(COLUMNS=100 python3 -B "$top/tools/$1" --help 2>/dev/null) || help=$(sed -n '/^"""/,/"""$/p;/"""$/q' "$module" | tr -d '"')
     printf '.TH %s 1 "" "glb %s" "User Commands"\n.SH NAME\n%s \\- %s\n' "${1^^}" "$version" "$1" "${about,}"
@@ -87,7 +91,7 @@ modules=$(server_modules)
 for module in $modules; do install -D -m 644 "$top/tools/glb_tools/$module.py" "$server/usr/share/glb/glb_tools/$module.py"; done
 sed -i "s/^VERSION = .*/VERSION = \"$version\"/" "$server/usr/share/glb/glb_tools/__init__.py"
 for name in $server_commands; do
-    if [ -e "$top/tools/glb-$name" ]; then install_command "$server" "glb-$name"; fi
+    install_command "$server" "glb-$name"
 done
 for unit in "$top"/examples/*.service "$top"/examples/*.timer; do
     case $(basename "$unit") in
