@@ -1,55 +1,17 @@
 #!/usr/bin/env python3
-"""Writes a topology with the numbers that logs of changes leave, as a server that has read all of them holds them.
+"""An old name of glb-numbers, until the next release of the package."""
 
-    numbers.py TOPOLOGY LOG.. > NEW
-    numbers.py --json TOPOLOGY LOG..        the numbers alone, and what came of the batches
-
-The logs are read one behind the other, as one feed. A batch counts where no line since the commit before it is
-refused; what stands behind the last commit, or behind `stop`, does not count. A batch that one server dropped for
-want of memory counts here. Only the digits of `demand` and `capacity` change: comments and order stay as they are.
-What was dropped is said on standard error. Check what it writes: `glb map NEW | head -n 1`.
-
-It needs Python 3.11 alone, and is no part of the proved program.
-"""
-
-import json
 import sys
+import sysconfig
 from pathlib import Path
 
-from places import written
-from texts import Fault, Replay, Topology, told
-
-def report(topology, replay):
-    names = {"demand": [unit.name for unit in topology.units], "capacity": [node.name for node in topology.nodes]}
-    numbers = {word: {names[word][number]: value for (of, number), value in replay.numbers.items() if of == word} for word in names}
-    dropped = [{"commit": line, "refused": [{"line": at, "why": why} for at, why in refused]} for line, refused in replay.dropped]
-    return {**numbers, "published": replay.published, "dropped": dropped, "open": len(replay.batch), "stopped": replay.is_stopped}
-
-
-def warn(replay):
-    for line, refused in replay.dropped:
-        said = ", ".join(f"{at} {why}" for at, why in refused[:4])
-        print(f"the batch that ends in line {line} was dropped: refused {said}", file=sys.stderr)
-    if replay.batch or replay.refused:
-        print(f"{len(replay.batch)} changes behind the last commit do not count", file=sys.stderr)
-    if replay.is_stopped:
-        print(f"line {replay.line} is `stop`: a server that reads this log ends there", file=sys.stderr)
-
-
-def main():
-    words = [word for word in sys.argv[1:] if word != "--json"]
-    if len(words) < 2:
-        raise Fault("numbers.py [--json] TOPOLOGY LOG..")
-    octets = Path(words[0]).read_bytes()
-    topology = Topology(octets, words[0])
-    replay = Replay(topology)
-    replay.take(b"".join(Path(log).read_bytes() for log in words[1:]))
-    if "--json" in sys.argv:
-        print(json.dumps(report(topology, replay), indent=2))
-        return
-    warn(replay)
-    sys.stdout.write(written(octets.decode("utf-8-sig"), topology, replay.numbers))
-
-
 if __name__ == "__main__":
-    told(main)
+    # the standard library comes first: it has a module of this name
+    sys.path.append(sys.path.pop(0))
+
+    from glb_tools.options import start
+
+    start("numbers")
+else:
+    # whoever has this folder ahead in the path means the module of the standard library
+    exec(Path(sysconfig.get_path("stdlib"), "numbers.py").read_text())
