@@ -88,7 +88,7 @@ def bound(problem: Problem, price: Numbers) -> int:
     taken = np.clip(problem.demand[unit] - (before - before[first][unit]), 0, limit)
     rest = problem.demand - np.bincount(unit, taken, len(problem.demand)).astype(np.int64)
     least = product(taken, reduced[order]) + int(rest.sum()) * problem.unplaced
-    paid = sum(p * c for p, c in zip(price.tolist(), problem.capacity.tolist()) if p)
+    paid: int = sum(p * c for p, c in zip(price.tolist(), problem.capacity.tolist()) if p)
     return least - paid
 
 

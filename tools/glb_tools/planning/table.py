@@ -92,14 +92,14 @@ class Table:
         self.path = path
         self.reader = csv.reader(io.StringIO(self.text(), newline=""), strict=True)
         header = [cell.strip() for cell in self.next_row() or []]
-        self.at = {column: number for number, column in enumerate(header)}
+        self.at: dict[str, int] = {}
         for number, column in enumerate(header):
             if column not in needed and column not in allowed:
                 columns = ", ".join([*needed, *(f"[{column}]" for column in allowed)])
                 raise Fault(
                     f"{path}, line 1, column {number + 1}: there is no column {shown(column)}; the columns are {columns}"
                 )
-            if self.at[column] != number:
+            if self.at.setdefault(column, number) != number:
                 raise Fault(f"{path}, line 1, column {number + 1}: {shown(column)} stands twice")
         missing = [column for column in needed if column not in self.at]
         if missing:

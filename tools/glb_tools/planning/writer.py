@@ -3,7 +3,7 @@
 from collections.abc import Iterator
 
 from glb_tools.options import Fault
-from glb_tools.planning.choices import MOST_GROUPS, MOST_PREFIXES, Choices
+from glb_tools.planning.choices import MOST_GROUPS, Choices
 from glb_tools.planning.lists import Lists
 from glb_tools.planning.prefixes import text_of
 from glb_tools.planning.world import Node, Numbers, World
@@ -59,9 +59,9 @@ class Writer:
             raise Fault(
                 f"there are {len(world.units):,} groups and classes; `glb` takes {MOST_GROUPS:,}: set `groups` in {choices.path}"
             )
-        if len(prefixes) > MOST_PREFIXES:
+        if len(prefixes) > choices.lists.prefixes:
             raise Fault(
-                f"there are {len(prefixes):,} prefixes when those that say the same are joined; `glb` takes {MOST_PREFIXES:,}"
+                f"there are {len(prefixes):,} prefixes when those that say the same are joined; {choices.lists.prefixes:,} are allowed"
             )
         self.world = world
         self.head = "[zone]\n" + "".join(
