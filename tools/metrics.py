@@ -1,13 +1,11 @@
 #!/usr/bin/env python3
-"""Metrics of one server, until glb-exporter has them: see glb_tools/metrics.py."""
+"""Metrics of one server, an old form of glb-exporter: see glb_tools/metrics.py."""
 
 import sys
 
-# the standard library comes first: of numbers.py it has a module of its own
+# the standard library comes first: it has a module `numbers`, too
 sys.path.append(sys.path.pop(0))
 
-from glb_tools.metrics import main  # noqa: E402
-from glb_tools.options import run  # noqa: E402
+from glb_tools.options import start  # noqa: E402
 
-if __name__ == "__main__":
-    run(main)
+start("metrics")

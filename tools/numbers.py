@@ -9,10 +9,9 @@ if __name__ == "__main__":
     # the standard library comes first: it has a module of this name
     sys.path.append(sys.path.pop(0))
 
-    from glb_tools.numbers import main
-    from glb_tools.options import run
+    from glb_tools.options import start
 
-    run(main)
+    start("numbers")
 else:
     # whoever has this folder ahead in the path means the module of the standard library
     exec(Path(sysconfig.get_path("stdlib"), "numbers.py").read_text())

@@ -3,11 +3,9 @@
 
 import sys
 
-# the standard library comes first: of numbers.py it has a module of its own
+# the standard library comes first: it has a module `numbers`, too
 sys.path.append(sys.path.pop(0))
 
-from glb_tools.picture import main  # noqa: E402
-from glb_tools.options import run  # noqa: E402
+from glb_tools.options import start  # noqa: E402
 
-if __name__ == "__main__":
-    run(main)
+start("picture")

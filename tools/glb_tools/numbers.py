@@ -1,39 +1,35 @@
-#!/usr/bin/env python3
 """Writes a topology with the numbers that logs of changes leave, as a server that has read all of them holds them.
 
-    numbers.py TOPOLOGY LOG.. > NEW
-    numbers.py --json TOPOLOGY LOG..        the numbers alone, and what came of the batches
+    glb-numbers TOPOLOGY LOG.. > NEW
+    glb-numbers --json TOPOLOGY LOG..     the numbers alone, and what came of the batches
 
 The logs are read one behind the other, as one feed. A batch counts where no line since the commit before it is
 refused; what stands behind the last commit, or behind `stop`, does not count. A batch that one server dropped for
 want of memory counts here. Only the digits of `demand` and `capacity` change: comments and order stay as they are.
 What was dropped is said on standard error. Check what it writes: `glb map NEW | head -n 1`.
-
-It needs Python 3.11 alone, and is no part of the proved program.
 """
 
 import json
 import sys
 from pathlib import Path
+from typing import Any
 
-from glb_tools.options import parser
+from glb_tools.options import Progress, parser
 from glb_tools.text import Replay
-from glb_tools.topology import Topology, written
+from glb_tools.topology import Topology, read_topology, written
+
+# how many refused lines of a batch are said
+MOST_REFUSED = 4
 
 
-def report(topology, replay):
+def report(topology: Topology, replay: Replay) -> dict[str, Any]:
     names = {
         "demand": [unit.name for unit in topology.units],
         "capacity": [node.name for node in topology.nodes],
     }
-    numbers = {
-        word: {
-            names[word][number]: value
-            for (of, number), value in replay.numbers.items()
-            if of == word
-        }
-        for word in names
-    }
+    numbers: dict[str, dict[str, int]] = {word: {} for word in names}
+    for (word, number), value in replay.numbers.items():
+        numbers[word][names[word][number]] = value
     dropped = [
         {"commit": line, "refused": [{"line": at, "why": why} for at, why in refused]}
         for line, refused in replay.dropped
@@ -47,9 +43,9 @@ def report(topology, replay):
     }
 
 
-def warn(replay):
+def warn(replay: Replay) -> None:
     for line, refused in replay.dropped:
-        said = ", ".join(f"{at} {why}" for at, why in refused[:4])
+        said = ", ".join(f"{at} {why}" for at, why in refused[:MOST_REFUSED])
         print(f"the batch that ends in line {line} was dropped: refused {said}", file=sys.stderr)
     if replay.batch or replay.refused:
         print(f"{len(replay.batch)} changes behind the last commit do not count", file=sys.stderr)
@@ -60,17 +56,18 @@ def warn(replay):
         )
 
 
-def main():
-    words = parser("glb-numbers", __doc__, json=True)
-    words.add_argument("topology")
-    words.add_argument("log", nargs="+")
+def main() -> None:
+    words = parser("glb-numbers", __doc__ or "", json=True)
+    words.add_argument("topology", metavar="TOPOLOGY")
+    words.add_argument("log", metavar="LOG", nargs="+")
     options = words.parse_args()
-    octets = Path(options.topology).read_bytes()
-    topology = Topology(octets, options.topology)
-    replay = Replay(topology)
-    replay.take(b"".join(Path(log).read_bytes() for log in options.log))
+    with Progress("reads topology and logs"):
+        topology = read_topology(options.topology)
+        replay = Replay(topology)
+        replay.take(b"".join(Path(log).read_bytes() for log in options.log))
+        text = "" if options.json else written(topology, replay.numbers)
     if options.json:
         print(json.dumps(report(topology, replay), indent=2))
         return
     warn(replay)
-    sys.stdout.write(written(topology, replay.numbers))
+    sys.stdout.write(text)

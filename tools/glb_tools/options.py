@@ -2,6 +2,7 @@
 
 import argparse
 import errno
+import importlib
 import os
 import sys
 import tempfile
@@ -12,7 +13,7 @@ from collections.abc import Callable, Iterator, Mapping
 from contextlib import contextmanager
 from pathlib import Path
 from types import TracebackType
-from typing import NoReturn
+from typing import IO, NoReturn
 
 from glb_tools import VERSION
 
@@ -28,6 +29,14 @@ STATUSES = {
     OWN_FAULT: "a fault of the command itself (with GLB_TRACE=1 it shows where)",
     INTERRUPTED: "interrupted from the keyboard",
     CLOSED_PIPE: "whoever read the output has gone",
+}
+# by module, Debian's package of it
+PACKAGES = {
+    "jinja2": "python3-jinja2",
+    "maxminddb": "python3-maxminddb",
+    "prometheus_client": "python3-prometheus-client",
+    "requests": "python3-requests",
+    "scipy": "python3-scipy",
 }
 # how long a command works before it shows its progress, in seconds
 SILENT = 2.0
@@ -45,8 +54,11 @@ class Parser(argparse.ArgumentParser):
     """Options as all commands have them: in whole words, and a wrong one is told in one line."""
 
     def error(self, message: str) -> NoReturn:
-        print(f"{self.prog}: {message} (see {self.prog} --help)", file=sys.stderr)
-        sys.exit(WRONG_WORDS)
+        raise Fault(f"{message} (see {self.prog} --help)", WRONG_WORDS)
+
+    def _print_message(self, message: str, file: IO[str] | None = None) -> None:
+        # a help that cannot be written is a fault, which argparse leaves out
+        (file or sys.stderr).write(message)
 
 
 def parser(
@@ -119,11 +131,11 @@ def said(why: object, status: int) -> int:
 
 def run(main: Callable[[], int | None]) -> NoReturn:
     """Runs a command to its end, and ends the process with its status."""
+    if sys.stderr is None:
+        sys.stderr = open(os.devnull, "w")
+    if sys.stdout is None:
+        sys.exit(said("standard output is closed", FAULT))
     status = told(main)
-    try:
-        sys.stdout.flush()
-    except OSError:
-        pass
     # what could not be written is not tried again at the end, which would say a traceback
     try:
         nothing = os.open(os.devnull, os.O_WRONLY)
@@ -132,6 +144,22 @@ def run(main: Callable[[], int | None]) -> NoReturn:
     except OSError:
         pass
     sys.exit(status)
+
+
+def start(name: str) -> NoReturn:
+    """Runs the command whose `main` is that of the module `name` of this package."""
+
+    def main() -> int | None:
+        try:
+            found: int | None = importlib.import_module(f"glb_tools.{name}").main()
+        except ModuleNotFoundError as why:
+            package = PACKAGES.get(str(why.name).partition(".")[0])
+            if package is None:
+                raise
+            raise Fault(f"the package {package} is not installed") from None
+        return found
+
+    run(main)
 
 
 class Progress:

@@ -221,6 +221,15 @@ class Topology:
             yield node
             node = self.nodes[node].parent
 
+    def last_resort(self) -> list[int]:
+        """The pools of last resort: roots of their own, which never fill, as docs/FORMATS.md advises."""
+        nodes = enumerate(self.nodes)
+        return [
+            number
+            for number, node in nodes
+            if node.is_pool and node.parent is None and node.capacity == MOST_CAPACITY
+        ]
+
     def key(self, unit: int, place: int) -> tuple[int, int, int]:
         """How an offer is ranked: the lower, the better."""
         return self.units[unit].scores[place], unit, self.units[unit].pools[place]
