@@ -41,35 +41,34 @@ def by_round_trip(problem: Problem, length: int) -> Lists:
 def by_price(problem: Problem, plan: Plan, length: int, weight: float) -> Lists:
     above = np.rint(weight * path_prices(problem, plan.price)[problem.pool]).astype(np.int64)
     whole = problem.cost + above
-    rank, tie = ranks(problem, plan)
+    best = np.minimum(last_used(problem, plan, whole), problem.unplaced)
+    rank, tie = ranks(problem, plan, whole, best)
     order = np.lexsort((problem.pool, rank, whole, problem.unit))
     order = order[places(problem.unit[order]) < length]
     unit, kept = problem.unit[order], whole[order]
-    units = len(problem.demand)
-    best = np.minimum(last_used(problem, plan, whole, least(kept, unit, units)), problem.unplaced)
     # whom the optimum leaves without a place loses nothing where it is refused; others lose it twice
-    out = np.where(best < problem.unplaced, 2 * problem.unplaced, problem.unplaced)
+    out = np.where(best < problem.unplaced, 2, 1) * problem.unplaced
     is_last = np.append(unit[1:] != unit[:-1], True)
     following = np.where(is_last, out[unit], np.minimum(np.append(kept[1:], 0), out[unit]))
     with_room = np.where(above[order] == 0, kept, np.iinfo(np.int64).max)
-    nearest = np.minimum(least(with_room, unit, units), out)[unit]
+    nearest = np.minimum(least(with_room, unit, len(best)), out)[unit]
     loss = np.where(following > kept, np.maximum(following, nearest) - kept, 0)
-    score = LARGEST_LOSS + np.maximum(kept - best[unit], 0) - np.maximum(loss, 0)
+    score = LARGEST_LOSS + np.maximum(kept - best[unit], 0) - loss
     return Lists(order, np.clip(TIES * score + tie[order], 0, MOST_UNITS))
+
+
+def last_used(problem: Problem, plan: Plan, whole: Numbers) -> Numbers:
+    """Of each unit the dearest offer that the optimum uses (with limits it is not the cheapest), or the cheapest."""
+    found = least(whole, problem.unit, len(problem.demand))
+    used = plan.flow > 0
+    np.maximum.at(found, problem.unit[used], whole[used])
+    return found
 
 
 def places(unit: Numbers) -> Numbers:
     """Of offers in the order of their units the place of each in its list."""
     starts = np.searchsorted(unit, unit)
     found: Numbers = np.arange(len(unit)) - starts
-    return found
-
-
-def last_used(problem: Problem, plan: Plan, whole: Numbers, best: Numbers) -> Numbers:
-    """Of each unit the dearest offer that the optimum uses: with limits it is not the cheapest one alone."""
-    found = best.copy()
-    used = plan.flow > 0
-    np.maximum.at(found, problem.unit[used], whole[used])
     return found
 
 
@@ -80,69 +79,88 @@ def least(values: Numbers, unit: Numbers, units: int) -> Numbers:
     return found
 
 
-# A unit is split where the optimum leaves open how much goes to each of its pools. Nodes with room belong together with
-# the node above them, to the sink at last; units that are split join what belongs together to trees. In each such tree
-# whoever stands between a full node and the rest of the tree is the one whom that node refuses.
+# The optimum as a forest. Nodes with room belong together with the node above them, and at the roots to the sink. A unit
+# joins what it is sent to, where the optimum leaves open how much: so a unit that is split joins several. Seen from the
+# sink, whoever stands between a full node and the rest is the one whom that node refuses.
 
 
-def ranks(problem: Problem, plan: Plan) -> tuple[Numbers, Numbers]:
+def ranks(problem: Problem, plan: Plan, whole: Numbers, best: Numbers) -> tuple[Numbers, Numbers]:
     """Of each offer where it comes among those that cost the same, and the lower digits of its score."""
-    has_room = loads(problem, plan.flow) < problem.capacity
-    nodes = len(problem.capacity)
-    # of each node the highest one that it reaches through nodes with room; `nodes` is the sink
-    top = np.arange(nodes)
-    for node, parent in enumerate(problem.parent.tolist()):
-        if has_room[node]:
-            top[node] = nodes if parent < 0 else top[parent]
-    limit = np.minimum(problem.limit, problem.demand[problem.unit])
-    is_open = (plan.flow > 0) & (
-        (plan.flow < limit) | (problem.limit >= problem.demand[problem.unit])
-    )
-    count = np.bincount(problem.unit[is_open], minlength=len(problem.demand)) + (plan.left > 0)
-    offers = np.flatnonzero(is_open & (count[problem.unit] > 1)).tolist()
-    neighbours = joined(
-        problem, plan, top, offers, np.flatnonzero((plan.left > 0) & (count > 1)).tolist()
-    )
-    parents = rooted(neighbours, nodes)
-    rank = np.where(plan.flow > 0, 0, 2)
-    tie = np.zeros(len(problem.unit), np.int64)
+    top = tops(problem, plan)
+    is_used = plan.flow > 0
+    parents = rooted(edges(problem, plan, top, whole, best), len(problem.capacity), plan.price)
+    # whom the optimum has not at a pool that costs it the same comes behind all that are there
+    rank = np.where(is_used, 1, 2)
+    tie = np.where(is_used, 0, TIES - 1)
     levels = depths(problem)
-    for offer in offers:
-        unit, above = -1 - int(problem.unit[offer]), int(top[problem.pool[offer]])
-        if parents.get(above) == unit:
-            tie[offer] = TIES - 1 - levels[above]
-        else:
-            rank[offer] = 1
+    for offer in np.flatnonzero(is_used).tolist():
+        node = int(top[problem.pool[offer]])
+        if parents[node] == -1 - int(problem.unit[offer]):
+            rank[offer], tie[offer] = 0, TIES - 2 - levels[node]
     return rank, tie
 
 
-def joined(
-    problem: Problem, plan: Plan, top: Numbers, offers: list[int], left: list[int]
-) -> dict[int, list[int]]:
-    """What is joined to what: nodes by their numbers, units by -1 less theirs."""
-    found: dict[int, list[int]] = {len(problem.capacity): []}
-    pairs = [(int(top[problem.pool[offer]]), int(problem.unit[offer])) for offer in offers]
-    pairs += [(len(problem.capacity), unit) for unit in left]
-    for node, unit in pairs:
-        found.setdefault(node, []).append(-1 - unit)
-        found.setdefault(-1 - unit, []).append(node)
+def tops(problem: Problem, plan: Plan) -> Numbers:
+    """Of each node the highest one that it reaches through nodes with room; the sink has the number behind all nodes."""
+    sink = len(problem.capacity)
+    has_room = loads(problem, plan.flow) < problem.capacity
+    found = np.arange(sink)
+    for node, parent in enumerate(problem.parent.tolist()):
+        if has_room[node]:
+            found[node] = sink if parent < 0 else found[parent]
     return found
 
 
-def rooted(neighbours: dict[int, list[int]], sink: int) -> dict[int, int | None]:
-    """The parent of each in trees, of which the sink's comes first."""
+@dataclass(frozen=True)
+class Edges:
+    """What is joined to what: nodes by their numbers, units by -1 less theirs; `weak` where nothing goes that way."""
+
+    strong: dict[int, list[int]]
+    weak: dict[int, list[int]]
+
+
+def edges(problem: Problem, plan: Plan, top: Numbers, whole: Numbers, best: Numbers) -> Edges:
+    sink = len(problem.capacity)
+    found = Edges({}, {})
+
+    def join(edges: dict[int, list[int]], node: int, other: int) -> None:
+        edges.setdefault(node, []).append(other)
+        edges.setdefault(other, []).append(node)
+
+    above = top[problem.pool]
+    is_open = (plan.flow > 0) & (
+        (plan.flow < problem.limit) | (problem.limit >= problem.demand[problem.unit])
+    )
+    is_tied = (plan.flow == 0) & (whole == best[problem.unit])
+    for offer in np.flatnonzero(is_open).tolist():
+        join(found.strong, int(above[offer]), -1 - int(problem.unit[offer]))
+    for offer in np.flatnonzero(is_tied).tolist():
+        join(found.weak, int(above[offer]), -1 - int(problem.unit[offer]))
+    for unit in np.flatnonzero(plan.left > 0).tolist():
+        join(found.strong, sink, -1 - unit)
+    for unit in np.flatnonzero((plan.left == 0) & (best == problem.unplaced)).tolist():
+        join(found.weak, sink, -1 - unit)
+    for node, parent in enumerate(problem.parent.tolist()):
+        if top[node] == node and plan.price[node] == 0:
+            join(found.weak, node, sink if parent < 0 else int(top[parent]))
+    return found
+
+
+def rooted(found: Edges, sink: int, price: Numbers) -> dict[int, int | None]:
+    """The parent of each in trees: that of the sink first, and weak edges only where no other leads on."""
     parents: dict[int, int | None] = {}
-    for root in [sink, *(key for key in neighbours if key >= 0)]:
-        if root in parents:
-            continue
-        parents[root] = None
-        waiting = [root]
-        while waiting:
-            at = waiting.pop()
-            for other in neighbours[at]:
-                if other not in parents:
-                    parents[other] = at
-                    waiting.append(other)
+    strong: list[tuple[int, int | None]] = []
+    weak: list[tuple[int, int | None]] = []
+    roots = sorted(range(sink), key=lambda node: int(price[node]), reverse=True) + [sink]
+    while strong or weak or roots:
+        if strong or weak:
+            at, parent = strong.pop() if strong else weak.pop()
+        else:
+            at, parent = roots.pop(), None
+        if at not in parents:
+            parents[at] = parent
+            strong.extend((other, at) for other in found.strong.get(at, ()))
+            weak.extend((other, at) for other in found.weak.get(at, ()))
     return parents
 
 
