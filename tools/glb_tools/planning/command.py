@@ -2,7 +2,7 @@
 
     glb-topology CHOICES --out TOPOLOGY             makes the topology, and says how far its map is from the optimum
     glb-topology CHOICES --explain GROUP            the list of a group or class: round trips, prices, scores
-    glb-topology --import KIND FILE.. --into FOLDER tables from the files of another program
+    glb-topology --import KIND FILE.. --into FOLDER tables of what another program has
 
 CHOICES is a file of TOML; the tables (CSV) stand beside it: pools, nodes, prefixes, demand, rtt. docs/TOPOLOGY.md says
 what is in each, and what the choices are. Nothing is written where anything is at fault.
@@ -26,12 +26,19 @@ from glb_tools.planning.lists import Lists, by_price, by_round_trip
 from glb_tools.planning.merge import merged
 from glb_tools.planning.prefixes import aggregated
 from glb_tools.planning.prices import MOST_SECONDS, Plan, Problem, loads, path_prices, solved
+from glb_tools.planning.readers.found import Found, places_of, put
+from glb_tools.planning.readers.gdnsd import read_gdnsd
+from glb_tools.planning.readers.geo import BY, read_geolite, read_mmdb
+from glb_tools.planning.readers.knot import read_knot
+from glb_tools.planning.readers.powerdns import read_powerdns
+from glb_tools.planning.readers.routes import read_routes
 from glb_tools.planning.world import PER_MS, Numbers, Prefix, World, read_world
 from glb_tools.planning.writer import Writer
 from glb_tools.text import MOST_UNITS
 
 # the demand that is drawn to try a plan against is the same in each run
 SEED = 20151
+KINDS = ("gdnsd", "knot", "powerdns", "geolite", "mmdb", "routes")
 
 
 @dataclass
@@ -84,6 +91,26 @@ def options_of() -> Parser:
         help="how long an optimum may take (600)",
     )
     words.add_argument(
+        "--import",
+        dest="kind",
+        choices=KINDS,
+        help="read FILE.. of this kind, and write tables (gdnsd: its configuration; knot: the file of its module"
+        " geoip; powerdns: the zones file of its backend geoip; geolite: blocks and locations, CSV; mmdb: a"
+        " database; routes: lines of a prefix and its origin)",
+    )
+    words.add_argument("--into", type=Path, metavar="FOLDER", help="where the tables are put")
+    words.add_argument("--name", help="which map, name or service of the file is read")
+    words.add_argument("--mmdb", type=Path, metavar="FILE", help="the database that tells places")
+    words.add_argument(
+        "--by", choices=BY, default="country", help="what a group is, of a database (country)"
+    )
+    words.add_argument(
+        "--pools",
+        type=Path,
+        metavar="FILE",
+        help="a table of pools with lat and lon, for round trips by distance",
+    )
+    words.add_argument(
         "--members", type=Path, metavar="FILE", help="write which group is part of which (CSV)"
     )
     return words
@@ -107,6 +134,8 @@ def positive(text: str) -> float:
 
 def main() -> int | None:
     options = options_of().parse_args()
+    if options.kind:
+        return import_files(options)
     if len(options.files) != 1:
         raise Fault("one file of choices is wanted")
     glb = None if options.no_map or options.explain else judge.program(options.glb)
@@ -132,6 +161,43 @@ def write(made: Made, glb: str | None, options: argparse.Namespace) -> int:
         report["written"] = {"file": str(options.out), "octets": len(octets)}
     say(report, options.json)
     return 0
+
+
+# Importing.
+
+
+def import_files(options: argparse.Namespace) -> int:
+    if options.into is None:
+        raise Fault("where are the tables to be put? Name a folder with --into")
+    paths = [Path(file) for file in options.files]
+    if len(paths) > 1 and options.kind not in ("geolite", "routes"):
+        raise Fault(f"{options.kind} is one file")
+    places = {} if options.pools is None else places_of(options.pools)
+    with Progress(f"reads {options.kind}"):
+        found = found_in(paths, options)
+        if places:
+            found.pool_places, found.pools = places, {name: [] for name in places}
+        written = put(found, options.into, bool(places))
+    report = {"written": written, "prefixes": len(found.prefixes), "not_carried_over": found.lost}
+    report["groups"] = len(set(found.prefixes.values()))
+    if options.json:
+        print(json.dumps(report, indent=2))
+        return 0
+    print(f"{report['prefixes']:,} prefixes of {report['groups']:,} groups: {', '.join(written)}")
+    for lost in found.lost:
+        print(f"not carried over: {lost}")
+    return 0
+
+
+def found_in(paths: list[Path], options: argparse.Namespace) -> Found:
+    if options.kind == "geolite":
+        return read_geolite(paths, options.by)
+    if options.kind == "mmdb":
+        return read_mmdb(paths[0], options.by)
+    if options.kind == "routes":
+        return read_routes(paths)
+    reader = {"gdnsd": read_gdnsd, "knot": read_knot, "powerdns": read_powerdns}[options.kind]
+    return reader(paths[0], options.name, options.mmdb)
 
 
 # The plan.
