@@ -77,10 +77,10 @@ class GeoMap:
         return self.nearest(site) if answer == "auto" else self.order(answer)
 
     def nearest(self, site: Site) -> tuple[str, ...]:
-        place = site.place
-        if place is None:
+        if site.place is None:
             return self.datacenters
-        names = sorted(self.coordinates, key=lambda name: kilometres(place, self.coordinates[name]))
+        far = {name: kilometres(site.place, at) for name, at in self.coordinates.items()}
+        names = sorted(far, key=far.__getitem__)
         return tuple(names[: self.limit or len(names)])
 
 

@@ -83,7 +83,7 @@ def rows_of(path: Path) -> Iterator[tuple[int, dict[str, str]]]:
         raise Fault(f"{path}: an octet that is no UTF-8") from None
     reader = csv.reader(io.StringIO(text, newline=""), strict=True)
     try:
-        header = next(reader, [])
+        header: list[str] = next(reader, [])
         for cells in reader:
             if len(cells) != len(header):
                 raise Fault(

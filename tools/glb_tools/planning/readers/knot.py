@@ -20,8 +20,8 @@ def read_knot(path: Path, name: str | None, database: Path | None) -> Found:
             f"{path}: no file of the module geoip: names with lists of `net`, `geo` or `weight`"
         )
     if name is None and len(top) == 1:
-        name = next(iter(top))
-    if name not in top:
+        name = str(next(iter(top)))
+    if name is None or name not in top:
         raise Fault(f"{path}: choose a name with --name: {', '.join(map(str, top))}")
     found = Found()
     names = Names(found)
