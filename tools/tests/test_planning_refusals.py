@@ -309,7 +309,7 @@ CASES = {
         "plan.toml",
         'rest = "rest"',
         'rest = "rest"\ngroups = 2',
-        "3 groups and classes are left, and 2 are allowed: what is left has too few pools in common",
+        "3 groups and classes are left, and 2 are allowed: what is left has no pools in common",
     ),
     "a table that is not there": (
         "plan.toml",

@@ -272,8 +272,7 @@ def fewer(
     """The world with as few groups as are allowed, and of each group the one that it is part of."""
     problem = problem_of(choices, world, limits_of(choices, world))
     before = solved(problem, seconds)
-    whole = problem.cost + path_prices(problem, before.price)[problem.pool]
-    found = merged(world, choices.lists.groups, whole)
+    found = merged(world, choices.lists.groups, path_prices(problem, before.price))
     after = solved(problem_of(choices, found.world, limits_of(choices, found.world)), seconds)
     total = int(world.demand.sum()) * PER_MS
     notes.append(

@@ -13,8 +13,8 @@ import numpy as np
 from glb_tools.options import Fault
 from glb_tools.planning.world import Numbers, World
 
-# pools that both of two groups have, at least, as a share of those of either: else the two are not merged
-COMMON = 0.5
+# how many pools two groups have in common, at least, where they are merged: fewer only where that does not do
+COMMON = (8, 4, 2, 1)
 
 
 @dataclass
@@ -40,26 +40,34 @@ class Part:
     is_over: bool = False
 
 
-def merged(world: World, most: int, whole: Numbers) -> Merged:
-    """A world of at most `most` groups and classes; `whole` is what ranks the offers, cost and prices."""
-    parts, lists = parts_of(world, whole)
-    count = sum(1 + len(part.kind) for part in parts)
-    order = sorted(range(len(parts)), key=lambda at: (parts[at].kind, lists[at], at))
-    parts, lists = [parts[at] for at in order], [lists[at] for at in order]
-    if count > most:
-        parts, lists, count = agreeing(parts, lists, count)
-    if count > most:
-        count = nearest(parts, count, most)
-    parts = [part for part in parts if not part.is_over]
+def merged(world: World, most: int, price: Numbers) -> Merged:
+    """A world of at most `most` groups and classes; `price` is what ranks pools beside their round trips."""
+    parts = parts_of(world)
+    count = len(world.units)
+    above = price.tolist()
+    for least in (0, *COMMON):
+        if count > most:
+            parts = [part for part in parts if not part.is_over]
+            lists = {id(part): list_of(part, above) for part in parts}
+            parts.sort(key=lambda part: (part.kind, lists[id(part)], part.members[0]))
+            if least:
+                count = nearest(parts, count, most, least)
+            else:
+                count = agreeing(parts, lists, count)
     if count > most:
         raise Fault(
-            f"{count:,} groups and classes are left, and {most:,} are allowed: what is left has too few pools in common"
+            f"{count:,} groups and classes are left, and {most:,} are allowed: what is left has no pools in common"
         )
-    return rebuilt(world, parts)
+    return rebuilt(world, [part for part in parts if not part.is_over])
 
 
-def parts_of(world: World, whole: Numbers) -> tuple[list[Part], list[tuple[int, ...]]]:
-    """Each group as a part of its own, and its list."""
+def list_of(part: Part, above: list[int]) -> tuple[int, ...]:
+    """The part's pools, the best first."""
+    return tuple(sorted(part.cost, key=lambda pool: (part.cost[pool] + above[pool], pool)))
+
+
+def parts_of(world: World) -> list[Part]:
+    """Each group as a part of its own."""
     groups = world.groups
     kinds: list[list[str]] = [[] for _ in range(groups)]
     for unit in range(groups, len(world.units)):
@@ -68,33 +76,23 @@ def parts_of(world: World, whole: Numbers) -> tuple[list[Part], list[tuple[int, 
         Part(demand, {}, [group], tuple(kind))
         for group, (demand, kind) in enumerate(zip(world.demand[:groups].tolist(), kinds))
     ]
-    order = np.lexsort((world.offer_pool, whole, world.offer_unit))
-    lists: list[list[int]] = [[] for _ in range(groups)]
-    order = order[world.offer_unit[order] < groups]
-    for unit, pool, cost in zip(
-        world.offer_unit[order].tolist(),
-        world.offer_pool[order].tolist(),
-        world.offer_cost[order].tolist(),
-    ):
+    end = int(np.searchsorted(world.offer_unit, groups))
+    columns = (world.offer_unit, world.offer_pool, world.offer_cost)
+    for unit, pool, cost in zip(*(column[:end].tolist() for column in columns)):
         parts[unit].cost[pool] = cost
-        lists[unit].append(pool)
-    return parts, [tuple(found) for found in lists]
+    return parts
 
 
-def agreeing(
-    parts: list[Part], lists: list[tuple[int, ...]], count: int
-) -> tuple[list[Part], list[tuple[int, ...]], int]:
+def agreeing(parts: list[Part], lists: dict[int, tuple[int, ...]], count: int) -> int:
     """Neighbours of one kind whose lists are the same become one."""
-    kept: list[Part] = []
-    names: list[tuple[int, ...]] = []
-    for part, pools in zip(parts, lists):
-        if kept and names[-1] == pools and kept[-1].kind == part.kind:
-            join(kept[-1], part)
+    last = parts[0]
+    for part in parts[1:]:
+        if last.kind == part.kind and lists[id(last)] == lists[id(part)]:
+            join(last, part)
             count -= 1 + len(part.kind)
         else:
-            kept.append(part)
-            names.append(pools)
-    return kept, names, count
+            last = part
+    return count
 
 
 def join(part: Part, other: Part) -> None:
@@ -114,8 +112,8 @@ def join(part: Part, other: Part) -> None:
     other.is_over = True
 
 
-def distance(part: Part, other: Part) -> float | None:
-    """What joining the two moves, in microseconds times units."""
+def distance(part: Part, other: Part, least: int) -> float | None:
+    """What joining the two moves, in microseconds times units, and more where they have few pools in common."""
     if part.kind != other.kind:
         return None
     moved, common = 0.0, 0
@@ -123,12 +121,14 @@ def distance(part: Part, other: Part) -> float | None:
         theirs = other.cost.get(pool)
         if theirs is not None:
             moved, common = moved + abs(own - theirs), common + 1
-    if common == 0 or common < COMMON * max(len(part.cost), len(other.cost)):
+    longest = max(len(part.cost), len(other.cost))
+    if common < min(least, longest):
         return None
-    return 2 * part.demand * other.demand / (part.demand + other.demand) * moved / common
+    units = 2 * part.demand * other.demand / (part.demand + other.demand)
+    return units * moved / common * longest / common
 
 
-def nearest(parts: list[Part], count: int, most: int) -> int:
+def nearest(parts: list[Part], count: int, most: int, least: int) -> int:
     """Neighbours in the order of lists are joined, the nearest two first, until few enough are left."""
     after = list(range(1, len(parts))) + [-1]
     before = [-1] + list(range(len(parts) - 1))
@@ -136,7 +136,7 @@ def nearest(parts: list[Part], count: int, most: int) -> int:
     waiting: list[tuple[float, int, int, int, int]] = []
 
     def offer(at: int, other: int) -> None:
-        far = distance(parts[at], parts[other])
+        far = distance(parts[at], parts[other], least)
         if far is not None:
             heapq.heappush(waiting, (far, at, other, version[at], version[other]))
 
