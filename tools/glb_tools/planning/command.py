@@ -54,6 +54,8 @@ class Made:
     lists: Lists
     limits: Numbers | None
     prefixes: dict[Prefix, int]
+    # the number of the pool of last resort, or -1
+    last: int
     # of each group of the tables the number of the one that it is part of
     into: list[int]
     names: list[str]
@@ -229,7 +231,17 @@ def plan_of(path: Path, options: argparse.Namespace) -> Made:
     else:
         planned = with_head_room(choices, problem)
         lists = by_price(planned, plan, choices.lists.length, choices.lists.price_weight)
-    return Made(choices, world, problem, best, plan, lists, limits, prefixes, into, names, notes)
+    last = next(
+        (at for at, node in enumerate(world.nodes) if node.name == choices.lists.last_resort), -1
+    )
+    far = int((world.offer_cost[world.offer_pool != last] >= problem.unplaced).sum())
+    if far:
+        notes.append(
+            f"{far:,} round trips are as long as `unplaced`, {choices.lists.unplaced:g} ms, or longer: the optimum does not use them, and maps do"
+        )
+    return Made(
+        choices, world, problem, best, plan, lists, limits, prefixes, last, into, names, notes
+    )
 
 
 def limits_of(choices: Choices, world: World) -> Numbers | None:
@@ -301,7 +313,9 @@ def report_of(made: Made) -> dict[str, Any]:
         "notes": made.notes,
         "method": best.method,
         "bound": best.bound / total / PER_MS,
-        "optimum": asdict(judge.judged(made.problem, best.flow, best.bound, best.seconds)),
+        "optimum": asdict(
+            judge.judged(made.problem, best.flow, best.bound, best.seconds, made.last)
+        ),
         "prices": dearest(made),
     }
 
@@ -321,7 +335,7 @@ def try_map(made: Made, glb: str, octets: bytes, report: dict[str, Any]) -> None
     with Progress("glb map"):
         text, seconds = judge.mapped(glb, octets)
     flow = judge.flow_of(made.world, text)
-    report["map"] = asdict(judge.judged(made.problem, flow, made.best.bound, seconds))
+    report["map"] = asdict(judge.judged(made.problem, flow, made.best.bound, seconds, made.last))
 
 
 def try_moved(
@@ -333,7 +347,7 @@ def try_moved(
     with Progress("tries moved demands"):
         best = solved(problem, options.seconds)
         text, seconds = judge.mapped(glb, writer.octets(made.lists, demand, made.limits))
-    found = judge.judged(problem, judge.flow_of(made.world, text), best.bound, seconds)
+    found = judge.judged(problem, judge.flow_of(made.world, text), best.bound, seconds, made.last)
     report["moved"] = {"percent": options.moved, **asdict(found)}
 
 

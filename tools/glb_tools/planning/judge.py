@@ -25,6 +25,8 @@ class Judged:
     p99: float
     # the share of the demand that is placed nowhere
     unplaced: float
+    # the share that is placed at the pool of last resort
+    last_resort: float
     # what it costs with these, a unit, in milliseconds
     cost: float
     # above the bound, as a share of it
@@ -76,7 +78,10 @@ def flow_of(world: World, octets: bytes) -> Numbers:
     return flow
 
 
-def judged(problem: Problem, flow: Numbers, bound: int, seconds: float) -> Judged:
+def judged(
+    problem: Problem, flow: Numbers, bound: int, seconds: float, last_resort: int = -1
+) -> Judged:
+    """What a placement comes to; `last_resort` is the number of that pool, where there is one."""
     total, placed = int(problem.demand.sum()), int(flow.sum())
     cost = cost_of(problem, flow)
     used = np.flatnonzero(flow)
@@ -94,6 +99,7 @@ def judged(problem: Problem, flow: Numbers, bound: int, seconds: float) -> Judge
         p95,
         p99,
         (total - placed) / total,
+        int(flow[problem.pool == last_resort].sum()) / total,
         cost / total / PER_MS,
         cost / bound - 1 if bound else 0.0,
         seconds,
@@ -114,6 +120,7 @@ def sentence(name: str, found: Judged, words: Sequence[str] = ()) -> str:
         f"95 % within {found.p95:.1f}",
         f"99 % within {found.p99:.1f}",
         f"{found.unplaced:.2%} unplaced",
+        *([f"{found.last_resort:.2%} at the last resort"] if found.last_resort else []),
         *words,
     ]
     return f"{name}: {', '.join(parts)} ({found.seconds:.1f} s)"
