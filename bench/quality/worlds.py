@@ -3,8 +3,9 @@
 The same words give the same world. Groups of clients are spread around the cities of cities.csv, by people; what they
 ask for has a heavy tail (a Pareto distribution of shape 1.3). A round trip is 2 ms, the way over a globe at 1 ms for 100
 kilometres, and a part that has nothing to do with it, 6 ms in the mean. Each group has the sixteen pools of the least
-round trips. Pools have capacity for the demand nearby and, to a half, all the same; the head room is of them all. A region
-holds 93 % of its pools. With classes the first groups ask for video, too, twice as much as for all else.
+round trips. Of the capacity four fifths are where the demand is, and a fifth is the same at each pool; the head room is
+that of all pools together. A region holds 93 % of its pools. With classes the first groups ask for video, too, twice as
+much as for all else.
 """
 
 import csv
@@ -55,7 +56,7 @@ def made(groups, pools, head_room, classes=0):
     demand = np.rint(20 * (1 + draw.pareto(1.3, groups))).clip(1, 200_000).astype(np.int64)
     wanted = np.bincount(pool[:, :3].ravel(), np.outer(demand, [0.5, 0.3, 0.2]).ravel(), pools)
     total = demand.sum() + 2 * demand[:classes].sum()
-    room = (1 + head_room) * total * (0.5 * wanted / wanted.sum() + 0.5 / pools)
+    room = (1 + head_room) * total * (0.8 * wanted / wanted.sum() + 0.2 / pools)
     capacity = np.rint(room).astype(np.int64)
     region = region_of[home]
     above = np.rint(0.93 * np.bincount(region, capacity, len(names))).astype(np.int64)

@@ -108,7 +108,7 @@ class Groups(unittest.TestCase):
         return read_world(read_choices(folder.path / "plan.toml"))
 
     def merged(self, world, most):
-        return merged(world, most, np.zeros(len(world.nodes), np.int64))
+        return merged(world, most)
 
     def test_lists_that_agree_come_first(self):
         # a and b rank fra, ams; d and the rest rank nyc: three are left, whatever the demands

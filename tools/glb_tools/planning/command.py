@@ -25,7 +25,7 @@ from glb_tools.planning.choices import Choices, read_choices
 from glb_tools.planning.lists import Lists, by_price, by_round_trip
 from glb_tools.planning.merge import merged
 from glb_tools.planning.prefixes import aggregated
-from glb_tools.planning.prices import MOST_SECONDS, Plan, Problem, loads, path_prices, solved
+from glb_tools.planning.prices import MOST_SECONDS, Plan, Problem, bound, path_prices, solved
 from glb_tools.planning.readers.found import Found, places_of, put
 from glb_tools.planning.readers.gdnsd import read_gdnsd
 from glb_tools.planning.readers.geo import BY, read_geolite, read_mmdb
@@ -282,15 +282,15 @@ def fewer(
     choices: Choices, world: World, seconds: float, notes: list[str]
 ) -> tuple[World, list[int]]:
     """The world with as few groups as are allowed, and of each group the one that it is part of."""
-    problem = problem_of(choices, world, limits_of(choices, world))
-    before = solved(problem, seconds)
-    found = merged(world, choices.lists.groups, path_prices(problem, before.price))
+    found = merged(world, choices.lists.groups)
     after = solved(problem_of(choices, found.world, limits_of(choices, found.world)), seconds)
+    # the bound of all groups by these prices: their optimum is not looked for
+    before = bound(problem_of(choices, world, limits_of(choices, world)), after.price)
     total = int(world.demand.sum()) * PER_MS
     notes.append(
         f"{len(world.units):,} groups and classes became {len(found.world.units):,}: round trips are"
-        f" {found.milliseconds:.3f} ms off in the mean, and the optimum goes from"
-        f" {before.bound / total:.3f} to {after.bound / total:.3f} ms a unit"
+        f" {found.milliseconds:.3f} ms off in the mean; the optimum, {before / total:.3f} ms a unit or more"
+        f" before, is {after.cost / total:.3f}"
     )
     return found.world, found.into
 

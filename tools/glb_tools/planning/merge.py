@@ -40,15 +40,14 @@ class Part:
     is_over: bool = False
 
 
-def merged(world: World, most: int, price: Numbers) -> Merged:
-    """A world of at most `most` groups and classes; `price` is what ranks pools beside their round trips."""
+def merged(world: World, most: int) -> Merged:
+    """A world of at most `most` groups and classes."""
     parts = parts_of(world)
     count = len(world.units)
-    above = price.tolist()
     for least in (0, *COMMON):
         if count > most:
             parts = [part for part in parts if not part.is_over]
-            lists = {id(part): list_of(part, above) for part in parts}
+            lists = {id(part): list_of(part) for part in parts}
             parts.sort(key=lambda part: (part.kind, lists[id(part)], part.members[0]))
             if least:
                 count = nearest(parts, count, most, least)
@@ -61,9 +60,9 @@ def merged(world: World, most: int, price: Numbers) -> Merged:
     return rebuilt(world, [part for part in parts if not part.is_over])
 
 
-def list_of(part: Part, above: list[int]) -> tuple[int, ...]:
-    """The part's pools, the best first."""
-    return tuple(sorted(part.cost, key=lambda pool: (part.cost[pool] + above[pool], pool)))
+def list_of(part: Part) -> tuple[int, ...]:
+    """The part's pools, the nearest first."""
+    return tuple(sorted(part.cost, key=lambda pool: (part.cost[pool], pool)))
 
 
 def parts_of(world: World) -> list[Part]:
