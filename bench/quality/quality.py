@@ -1,13 +1,13 @@
 #!/usr/bin/env python3
 """How good the maps are: those of several ways to map, beside the optimum of the linear program.
 
-    quality.py GROUPS POOLS PERCENT..       a table for each head room, in percent
+    quality.py GROUPS POOLS PERCENT..       tables for each head room, in percent
 
 GLB names the built program. The ways: the nearest pool, as DNS by geography has it; the three nearest by weights that
 follow their capacities, as gdnsd's weights do; greedy, the largest groups first, each to the nearest pools with room;
 `glb map` with lists and scores by round trip, and with those of glb-topology; and the optimum, which moves whomever it
-likes. Each also with demands moved by up to 30 %, one region up by a fifth more, under the lists of before; and then with
-the largest pool out. A unit that is placed nowhere costs 400 ms; `above` is the whole cost above the optimum's.
+likes. Then the same lists with other demands, and with the largest pool out. A unit that is placed nowhere costs 400 ms;
+`above` is the whole cost above the optimum's.
 """
 
 import os
@@ -25,6 +25,8 @@ from glb_tools.planning.prices import loads, solved
 from glb_tools.planning.writer import Writer
 
 GLB = os.environ.get("GLB", "glb")
+# East Asia among the regions, which stand first among the nodes in the order of their names
+BUSY = 3
 ZONE = {
     "apex": "cdn.example",
     "mname": "ns1.ops.example",
@@ -122,7 +124,8 @@ def table(name, writer, problem, lists):
     )
     print("|---|---|---|---|---|---|---|---|---|")
     for words, way in (("nearest pool", nearest), ("weights", weights), ("greedy", greedy)):
-        row(words, problem, *way(problem)[:1], best.bound, way(problem)[1])
+        flow, seconds = way(problem)
+        row(words, problem, flow, best.bound, seconds)
     for words, mine in lists:
         flow, seconds = by_glb(writer, mine, problem)
         row(words, problem, flow, best.bound, seconds)
@@ -142,17 +145,13 @@ def main():
             f"\n## {groups:,} groups, {pools:,} pools, head room {percent} %: prices and lists in {time.monotonic() - began:.1f} s"
         )
         table("As planned", writer, problem, lists)
-        draw = np.random.default_rng(5)
-        nearest_pool = world.offer_pool[np.searchsorted(world.offer_unit, np.arange(groups))]
-        busy = world.parent[nearest_pool] == 3
-        share = draw.uniform(0.7, 1.3, groups) * np.where(busy, 1.2, 1)
+        share = np.random.default_rng(5).uniform(0.7, 1.3, groups)
         demand = np.maximum(1, np.rint(world.demand * share)).astype(np.int64)
-        table(
-            "Demand moved by up to 30 %, one region a fifth more",
-            writer,
-            problem_of(world, demand),
-            lists,
-        )
+        table("Demand moved by up to 30 %", writer, problem_of(world, demand), lists)
+        nearest_pool = world.offer_pool[np.searchsorted(world.offer_unit, np.arange(groups))]
+        busy = np.where(world.parent[nearest_pool] == BUSY, 1.2, 1)
+        demand = np.maximum(1, np.rint(world.demand * share * busy)).astype(np.int64)
+        table("And a fifth more in East Asia", writer, problem_of(world, demand), lists)
         capacity = world.capacity.copy()
         capacity[np.argmax(np.where(world.parent >= 0, capacity, 0))] = 0
         table("And the largest pool out", writer, problem_of(world, demand, capacity), lists)
