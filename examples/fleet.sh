@@ -1,6 +1,6 @@
 #!/usr/bin/env bash
 # Three servers on three hosts of their own (network namespaces) that follow one log of batches in etcd, and what may
-# happen to them. It compares what came, and ends by itself within two minutes.
+# happen to them. It compares what came, and ends by itself within some minutes.
 #
 #     apt-get install etcd-server etcd-client iproute2 dnsutils
 #     sudo GLB=/usr/local/bin/glb examples/fleet.sh               the parts of the list `usual` below
@@ -9,8 +9,8 @@
 # GLB names the program, as a whole path, and GLB_OTHER another build of it, for the part `build`; the part `memory` wants a
 # C compiler, `clock` the package faketime. Nothing is left behind but what it prints.
 set -uo pipefail
-usual="writers answers server follower member cut_off base sums"
-others="behind early build memory clock"
+usual="writers answers server follower member cut_off roll skip adopt restore hand dropped cut hang hung sums"
+others="behind full build memory clock"
 for part in "$@"; do case " $usual $others " in *" $part "*) ;; *) echo "no such part: $part" && exit 1 ;; esac; done
 if ip netns list | grep -q glbfleet; then echo 'another run is there, or was cut off: ip netns del glbfleet0, ..1, ..2, ..3' && exit 1; fi
 here=$(cd "$(dirname "$0")/.." && pwd)
@@ -80,21 +80,28 @@ serve() {
     local host=$1 place=$work/host$1
     while [ ! -e "$work/over" ]; do
         if [ -e "$work/held$host" ]; then sleep 0.1 && continue; fi
-        rm -rf "$place"
-        mkdir "$place"
-        mkfifo "$place/feed" "$place/said" "$place/maps"
-        be_on "$host" env $(cat "$work/preload$host" 2>/dev/null) "$(program_of "$host")" serve "$work/topology$host.toml" --listen "$net.$host:53" --workers 2 0<>"$place/feed" 1<>"$place/said" 2<>"$place/maps" &
+        follow_on "$host" --prepare || { sleep 0.3 && continue; }
+        be_on "$host" env $(cat "$work/preload$host" 2>/dev/null) "$(program_of "$host")" serve "$place/topology.toml" --listen "$net.$host:53" --workers 2 0<>"$place/feed" 1<>"$place/said" 2<>"$place/maps" &
         echo $! >"$place/server"
         local server=$!
         while kill -0 "$server" 2>/dev/null && [ ! -e "$work/over" ]; do
-            be_on "$host" env GLB_ETCD="$(etcd_of "$host")" $(cat "$work/clock$host" 2>/dev/null) "$here/tools/glb-follow" --name "host$host" --topology "$work/topology$host.toml" --feed "$place/feed" --said "$place/said" --maps "$place/maps" --state "$place/state" >>"$work/follow$host.log" 2>&1 &
+            follow_on "$host" &
             echo $! >"$place/follower"
             wait -n "$server" $! 2>/dev/null
+            # whatever ends the follower, queries are kept out
+            echo out >>"$work/queries$host"
             sleep 0.2
             if ! kill -0 "$server" 2>/dev/null; then kill "$(cat "$place/follower")" 2>/dev/null; fi
         done
     done
 }
+# The follower of a host, with hooks that note whether queries are let in.
+follow_on() {
+    local host=$1; shift
+    be_on "$host" env GLB_ETCD="$(etcd_of "$host")" $(cat "$work/clock$host" 2>/dev/null) "$here/tools/glb-follow" --name "host$host" --run "$work/host$host" --bases "$work/bases$host" --program "$(program_of "$host")" \
+        --ready "echo in >>$work/queries$host" --unready "echo out >>$work/queries$host" "$@" >>"$work/follow$host.log" 2>&1
+}
+lets_in() { [ "$(tail -n 1 "$work/queries$1")" = in ]; }
 
 # One append by the host, whose number is said.
 append() { local host=$1; shift; appends=$((appends + 1)); printf 'demand g2 %s\n' "$((appends % 9 + 1))" | tool "$host" glb-append "$@"; }

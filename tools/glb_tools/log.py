@@ -1,264 +1,545 @@
-"""The log of batches that several servers follow: keys in etcd, over its HTTP gateway (/v3).
+"""The log of batches that the servers of a fleet follow, and what they tell of themselves: keys in etcd.
 
-    PREFIX/log/0000000000000001    a batch: the lines of its changes; or `base SHA256`: from here on every server starts
-                                   from the topology with this checksum
-    PREFIX/by/ID                   the number that an append got, for an hour: so none is appended twice
-    PREFIX/server/NAME             a server that there should be
-    PREFIX/at/NAME                 how far it is, as long as its follower lives
+    PREFIX/log/0000000000000001   an entry: a batch of changes, or a base
+    PREFIX/bases                  the bases of the log: where each stands, and which it is
+    PREFIX/file/SHA256            the topology of a base, and PREFIX/names/SHA256 its names, in pieces
+    PREFIX/by/ID                  the number that an append got, for an hour: so none is appended twice
+    PREFIX/dropped/0000000000000001   which server dropped that batch whole, and why
+    PREFIX/server/NAME            a server that there should be, and the base that it was last at
+    PREFIX/at/NAME                how far it is, as long as its follower lives (15 s)
+    PREFIX/look                   what glb-fleet asks: each follower tells that it heard it, once its server answered
+    PREFIX/turn                   which server begins anew: one at a time (60 s)
+    PREFIX/roll                   who rolls which base, as long as glb-roll lives (60 s)
 
-It needs Python 3.11 alone, and is no part of the proved program.
+**An entry** is a text of JSON: `kind` (`batch` or `base`), `before`, `time` (seconds since 1970), `author`, `why`, and of a
+batch `lines`, of a base `base`, `upto` and `chain`. Its checksum is the SHA-256 of its octets. `before` is the checksum
+of the entry before it, which the transaction that puts it looks at: so the checksum of an entry stands for the whole log
+up to it, **the chain**. What stands among the entries and is none, or does not say the checksum of the one before it, was
+put there by hand: it is handed to no server. It has a checksum as an entry has, which the next one says.
+
+**A base** is a topology whose numbers are those of the log up to entry `upto`, whose checksum is `chain`: its first line
+says both, so its own checksum, `base`, says all of it. Who begins from it works the entries behind `upto`. The base may
+stand further behind: entries that came meanwhile are worked by both. A log begins with a base (`upto` 0, `chain` empty).
+
+**A server's identity** is its base, its program, and the checksum of the last entry that it worked. It is kept beside the
+server and told in etcd. A server goes on behind an entry only where the log has that entry, with that checksum.
+
+**Its map** follows from its base and the entries alone. A line is left out by a server whose base does not have its name,
+where the base that was the newest at the entry has it: so a batch is not lost to servers that wait for their turn, nor one
+that came before a base without that name. Any other line that a server refuses drops the batch whole.
 """
 
-import base64
+import hashlib
 import json
-import os
-import ssl
-import urllib.error
-import urllib.request
-from dataclasses import dataclass
+import re
+import time
+import zlib
+from collections.abc import Callable, Iterator
+from dataclasses import asdict, dataclass, field
+from typing import Any
 
+from glb_tools import text
+from glb_tools.etcd import (
+    Etcd,
+    Item,
+    Message,
+    after,
+    delete,
+    is_at,
+    one,
+    put,
+    span,
+    under,
+)
 from glb_tools.options import Fault
 
-# how long an append's number is kept by its id, and how long a server counts as alive, in seconds
-KEPT, ALIVE = 3600, 15
-# the largest batch, in octets: etcd takes 1.5 MiB in one request
-LARGEST_BATCH = 1 << 20
-# how many entries are read at once
-PAGE = 100
-BASE = "base "
+# how long an append's number is kept by its id, how long a server counts as alive, and how long its turn is its own
+# while nobody says so, in seconds
+KEPT, ALIVE, TURN = 3600, 15, 60
+# the largest batch, and the largest piece of a file, in octets: etcd takes 1.5 MiB in one request
+LARGEST_BATCH, PIECE = 1 << 20, 1 << 19
+# how many entries are read at once, and of how many glb-fleet looks whether they were dropped
+PAGE, LOOKED_BACK = 64, 100
+BATCH, BASE, NONE = "batch", "base", "none"
+# what is said of a follower that ended with its server, which begins anew
+ANEW = "begins anew"
+# the first line of a base; without a checksum it is one of a release whose logs had no chain
+UP_TO = re.compile(rb"# the numbers up to entry (\d{1,16}) of the log(?:, ([0-9a-f]{64}))?\n")
+NUMBER = re.compile(r"\d{16}")
+OF_BEFORE = re.compile(rb"(?:demand|capacity|base) ")
 
 
-class Unreachable(Exception):
-    """No member of etcd answered, or none that has a majority."""
+def checksum_of(octets: bytes) -> str:
+    return hashlib.sha256(octets).hexdigest()
 
 
-def add_options(parser):
-    parser.add_argument(
-        "--etcd",
-        default=os.environ.get("GLB_ETCD", "http://127.0.0.1:2379"),
-        help="addresses of members, joined by commas (GLB_ETCD)",
-    )
-    parser.add_argument(
-        "--prefix",
-        default=os.environ.get("GLB_PREFIX", "glb"),
-        help="what all keys begin with (GLB_PREFIX)",
-    )
-    parser.add_argument("--cacert", help="who signs the members' certificates")
-    parser.add_argument("--cert", help="this client's certificate")
-    parser.add_argument("--key", help="and its key")
-    parser.add_argument("--user", help="a user of etcd; its password stands in the file --password")
-    parser.add_argument("--password", help="a file whose first line is the password")
+@dataclass(frozen=True)
+class Base:
+    """The entry where it stands, its topology's checksum, and the entry up to which its numbers go, with its checksum."""
+
+    number: int
+    checksum: str
+    upto: int
+    chain: str
+
+    def __str__(self) -> str:
+        return f"base {self.number} ({self.checksum[:12]})"
 
 
-def encoded(text):
-    return base64.b64encode(text if isinstance(text, bytes) else text.encode()).decode()
+def place_of(topology: bytes) -> tuple[int, str]:
+    """Up to which entry the numbers of a topology go, and that entry's checksum."""
+    found = UP_TO.match(topology)
+    return (int(found[1]), (found[2] or b"").decode()) if found else (0, "")
 
 
-def after(key):
-    """The end of the range of all keys that begin so."""
-    return key[:-1] + chr(ord(key[-1]) + 1)
+def with_place(topology: bytes, upto: int, chain: str) -> bytes:
+    bare = UP_TO.sub(b"", topology, count=1)
+    if not upto:
+        return bare
+    return f"# the numbers up to entry {upto} of the log, {chain}\n".encode() + bare
 
 
-class Etcd:
-    """Members of one etcd: calls go to the one that answered last, and to the next where it does not."""
+# Entries.
 
-    def __init__(self, options):
-        self.members = [member.rstrip("/") for member in options.etcd.split(",")]
-        self.context = (
-            ssl.create_default_context(cafile=options.cacert)
-            if options.etcd.startswith("https")
-            else None
-        )
-        if options.cert:
-            self.context.load_cert_chain(options.cert, options.key)
-        self.login, self.token = None, None
-        if options.user:
-            with open(options.password) as file:
-                self.login = {"name": options.user, "password": file.readline().rstrip("\n")}
 
-    def open(self, member, path, message, seconds):
-        headers = {"Content-Type": "application/json"}
-        if self.token and path != "/v3/auth/authenticate":
-            headers["Authorization"] = self.token
-        request = urllib.request.Request(member + path, json.dumps(message).encode(), headers)
-        return urllib.request.urlopen(request, timeout=seconds, context=self.context)
+@dataclass(frozen=True)
+class Entry:
+    number: int
+    octets: bytes
+    kind: str
+    before: str = ""
+    time: int = 0
+    author: str = ""
+    why: str = ""
+    lines: str = ""
+    base: Base | None = None
 
-    def sign_in(self, member):
-        if self.login and not self.token:
-            with self.open(member, "/v3/auth/authenticate", self.login, 5) as answer:
-                self.token = json.load(answer)["token"]
+    @property
+    def checksum(self) -> str:
+        return checksum_of(self.octets)
 
-    def reach(self, path, message, seconds, use):
-        """What comes of a call at the first member that answers it."""
-        why = None
-        for _ in range(len(self.members)):
-            member = self.members[0]
-            try:
-                self.sign_in(member)
-                with self.open(member, path, message, seconds) as answer:
-                    return use(answer)
-            except urllib.error.HTTPError as error:
-                why = error.read().decode(errors="replace")
-                if error.code == 401:
-                    self.token = None
-                elif error.code not in (500, 502, 503, 504) and "no leader" not in why:
-                    raise Fault(f"etcd at {member}: {why}") from None
-            except (OSError, ValueError, KeyError) as error:
-                why = error
-            self.members.append(self.members.pop(0))
-        raise Unreachable(f"etcd: {why}")
+    def behind(self, checksum: str) -> "Entry":
+        """Itself behind an entry with that checksum; none where it says another one."""
+        return self if self.before == checksum else Entry(self.number, self.octets, NONE)
 
-    def call(self, path, message, seconds=5):
-        return self.reach(path, message, seconds, json.load)
 
-    def lease(self, seconds):
-        return self.call("/v3/lease/grant", {"TTL": seconds})["ID"]
+def check_batch(lines: str) -> None:
+    """That it is changes alone, each line whole."""
+    if not lines.endswith("\n"):
+        raise text.Refused("wrong count")
+    each = text.lines_of(lines.encode())
+    if len(each) > text.MOST_CHANGES:
+        raise text.Refused("batch full")
+    for line in each:
+        if text.words_of(line)[0] not in ("demand", "capacity"):
+            raise text.Refused("unknown word")
 
-    def keep(self, lease):
-        """Whether the lease still lives."""
-        answer = self.call("/v3/lease/keepalive", {"ID": lease})
-        return int(answer.get("result", {}).get("TTL", 0)) > 0
 
-    def put(self, key, text, lease=0):
-        self.call("/v3/kv/put", {"key": encoded(key), "value": encoded(text), "lease": lease})
+def read_entry(number: int, octets: bytes) -> Entry:
+    """The entry that the octets are; one of the kind `none` where they are no entry."""
+    try:
+        told = json.loads(octets)
+        kind, before, lines, base = told["kind"], str(told["before"]), "", None
+        if kind == BATCH:
+            lines = str(told["lines"])
+            check_batch(lines)
+        elif kind == BASE:
+            base = Base(number, str(told["base"]), int(told["upto"]), str(told["chain"]))
+        else:
+            raise ValueError
+        moment, author, why = int(told["time"]), str(told["author"]), str(told["why"])
+        return Entry(number, octets, kind, before, moment, author, why, lines, base)
+    except (ValueError, KeyError, TypeError, OverflowError, RecursionError, text.Refused):
+        return Entry(number, octets, NONE)
 
-    def delete(self, key, end=None):
-        message = {"key": encoded(key)}
-        if end:
-            message["range_end"] = encoded(end)
-        self.call("/v3/kv/deleterange", message)
 
-    def get(self, key):
-        found = self.call("/v3/kv/range", {"key": encoded(key)}).get("kvs", [])
-        return base64.b64decode(found[0]["value"]).decode() if found else None
+@dataclass(frozen=True)
+class Signed:
+    """Who appends, and why."""
 
-    def under(self, key, **more):
-        """Names and texts of the keys that begin so, by name."""
-        message = {"key": encoded(key), "range_end": encoded(after(key)), **more}
-        found = self.call("/v3/kv/range", message, 30).get("kvs", [])
-        return [
-            (
-                base64.b64decode(entry["key"]).decode(),
-                base64.b64decode(entry.get("value", "")).decode(),
-            )
-            for entry in found
-        ]
+    author: str
+    why: str = ""
+    time: int = field(default_factory=lambda: int(time.time()))
 
-    def wait(self, key, seconds):
-        """Waits until a key is put, or for so long; the caller looks itself."""
 
-        def heard(answer):
-            try:
-                # the first line says that the watch is made: what was put before it is looked up
-                answer.readline()
-                if self.get(key) is None:
-                    answer.readline()
-            except TimeoutError:
-                # nothing came, which is no fault of this member
-                pass
+def entry_octets(kind: str, before: str, signed: Signed, content: Message) -> bytes:
+    return json.dumps({"kind": kind, "before": before, **asdict(signed), **content}).encode()
 
-        try:
-            self.reach("/v3/watch", {"create_request": {"key": encoded(key)}}, seconds, heard)
-        except Unreachable:
-            pass
+
+# Names of a base.
+
+
+class Names:
+    """The names of a topology: groups and classes, and nodes. What a batch is checked by."""
+
+    def __init__(self, units: list[str], nodes: list[str]) -> None:
+        self.unit_at = {name: number for number, name in enumerate(units)}
+        self.node_at = {name: number for number, name in enumerate(nodes)}
+
+    def __contains__(self, words: list[str]) -> bool:
+        """Whether it has the name of a change."""
+        return words[1] in (self.unit_at if words[0] == "demand" else self.node_at)
+
+    def octets(self) -> bytes:
+        return json.dumps([list(self.unit_at), list(self.node_at)]).encode()
+
+
+def names_in(octets: bytes) -> Names:
+    try:
+        units, nodes = json.loads(octets)
+        return Names([str(name) for name in units], [str(name) for name in nodes])
+    except (ValueError, TypeError) as why:
+        raise Fault(f"the names of a base cannot be read: {why}") from None
+
+
+def left_in(lines: str, own: Names, newest: Names) -> str:
+    """The lines of a batch but those whose names the newest base has and the own one has not."""
+    kept = []
+    for line in lines.splitlines(keepends=True):
+        words = text.words_of(line[:-1].encode())
+        if words in own or words not in newest:
+            kept.append(line)
+    return "".join(kept)
+
+
+# What stands in etcd at one moment.
+
+
+def told_in(octets: bytes) -> dict[str, Any]:
+    """What a text of JSON says; nothing where it was put by hand and is none."""
+    try:
+        told = json.loads(octets)
+        return told if isinstance(told, dict) else {}
+    except (ValueError, RecursionError):
+        return {}
+
+
+def spot_of(number: int, checksum: str) -> str:
+    """An entry in a few letters, by its number and its checksum: of another log's entry with that number it is another."""
+    return f"{number}.{checksum[:6]}"
+
+
+def maps_of(state: dict[str, Any]) -> dict[str, str]:
+    """The maps that a server told, by the spots of their entries."""
+    maps = state.get("maps")
+    return maps if isinstance(maps, dict) else {}
+
+
+def bases_in(items: list[Item]) -> list[Base]:
+    if not items:
+        return []
+    try:
+        return [Base(*each) for each in json.loads(items[0].octets)]
+    except (ValueError, TypeError) as why:
+        raise Fault(f"{items[0].key} cannot be read: {why}") from None
 
 
 @dataclass
-class Entry:
-    number: int
-    text: str
+class Look:
+    """What stands in etcd at one moment: entries from a number on, one behind the other, and what servers tell."""
+
+    first: int
+    last: int
+    entries: list[Entry]
+    bases: list[Base]
+    turn: dict[str, Any]
+    roll: dict[str, Any]
+    asked: str
+    servers: dict[str, dict[str, Any]]
+    states: dict[str, dict[str, Any]]
+    revision: int
+    bases_revision: int
+    last_revision: int
+    turn_revision: int
 
     @property
-    def base(self):
-        """The checksum of the topology from which all begin here, where it is a base."""
-        return self.text[len(BASE) :].strip() if self.text.startswith(BASE) else None
+    def newest(self) -> Base | None:
+        return self.bases[-1] if self.bases else None
+
+    def base_at(self, number: int) -> Base | None:
+        """The newest base at an entry."""
+        return next((base for base in reversed(self.bases) if base.number <= number), None)
 
 
 class Log:
-    def __init__(self, options):
-        self.etcd, self.prefix = Etcd(options), options.prefix
+    def __init__(self, etcd: Etcd, prefix: str) -> None:
+        self.etcd, self.prefix = etcd, prefix
+        self.known: dict[str, Names] = {}
 
-    def key(self, number):
-        return f"{self.prefix}/log/{number:016d}"
+    def at(self, *words: str) -> str:
+        return "/".join((self.prefix, *words))
 
-    def ends(self):
-        """The numbers of the first entry and of the last one, 0 where there is none."""
-        key = f"{self.prefix}/log/"
-        numbers = []
-        for order in ("ASCEND", "DESCEND"):
-            found = self.etcd.under(
-                key, sort_order=order, sort_target="KEY", limit=1, keys_only=True
-            )
-            numbers.append(int(found[0][0].rsplit("/", 1)[1]) if found else 0)
-        return tuple(numbers)
+    def key(self, number: int) -> str:
+        return self.at("log", f"{number:016d}")
 
-    def page(self, number):
-        """Entries from a number on, as far as they are there one behind the other, and at most so many."""
-        message = {
-            "key": encoded(self.key(number)),
-            "range_end": encoded(after(f"{self.prefix}/log/")),
-            "limit": PAGE,
-            "sort_order": "ASCEND",
-            "sort_target": "KEY",
-        }
-        found = self.etcd.call("/v3/kv/range", message, 30).get("kvs", [])
-        page = []
-        for entry in found:
-            if base64.b64decode(entry["key"]).decode() != self.key(number + len(page)):
-                break
-            page.append(Entry(number + len(page), base64.b64decode(entry["value"]).decode()))
-        return page
+    def look(self, number: int = 0, limit: int = PAGE) -> Look:
+        """Entries from a number on (from the last one on at 0), and all that servers tell."""
+        entries, end = self.at("log", ""), after(self.at("log", ""))
+        by_key: Message = {"sort_target": "KEY"}
+        answer = self.etcd.txn(
+            [
+                span(self.key(number), end, limit=limit if number else 1, **by_key),
+                under(entries, limit=1, sort_order="ASCEND", keys_only=True, **by_key),
+                under(entries, limit=1, sort_order="DESCEND", **by_key),
+                one(self.at("bases")),
+                one(self.at("turn")),
+                one(self.at("roll")),
+                one(self.at("look")),
+                under(self.at("server", "")),
+                under(self.at("at", "")),
+            ]
+        )
+        page, first, last, bases, turn, roll, asked, servers, states = answer.found
+        for item in first + last:
+            if not NUMBER.fullmatch(item.name):
+                raise Fault(f"{item.key} was put by hand: delete it (etcdctl del {item.key})")
+        return Look(
+            int(first[0].name) if first else 0,
+            int(last[0].name) if last else 0,
+            in_row(page if number else last, number),
+            bases_in(bases),
+            told_in(turn[0].octets) if turn else {},
+            told_in(roll[0].octets) if roll else {},
+            asked[0].octets.decode(errors="replace") if asked else "",
+            {item.name: told_in(item.octets) for item in servers},
+            {item.name: told_in(item.octets) for item in states},
+            answer.revision,
+            bases[0].revision if bases else 0,
+            last[0].revision if last else 0,
+            turn[0].revision if turn else 0,
+        )
 
-    def entries(self, number):
-        """The entries from a number on, as far as they are there one behind the other."""
-        while page := self.page(number):
-            yield from page
+    def entry(self, number: int) -> Entry | None:
+        item = self.etcd.get(self.key(number))
+        return read_entry(number, item.octets) if item else None
+
+    def entries(self, number: int, last: int) -> Iterator[Entry]:
+        """The entries from a number on up to another one; a fault where one is not there."""
+        while number <= last:
+            # the one before them is read, too, since they say its checksum
+            first = max(number - 1, 1)
+            page = [entry for entry in self.page(first) if entry.number >= number]
+            if not page:
+                raise Fault(f"entry {number} is not there: it was cut away, or taken away by hand")
+            yield from page[: last - number + 1]
             number += len(page)
 
-    def newest_base(self):
-        """The last base of the log, none where there is no base."""
-        first, last = self.ends()
-        newest = None
-        for entry in self.entries(first) if last else ():
-            if entry.base:
-                newest = entry
-        return newest
+    def page(self, number: int) -> list[Entry]:
+        ask = span(self.key(number), after(self.at("log", "")), limit=PAGE, sort_target="KEY")
+        return in_row(self.etcd.txn([ask]).found[0], number)
 
-    def number_of(self, ident):
-        text = self.etcd.get(f"{self.prefix}/by/{ident}")
-        return None if text is None else int(text)
+    def newest_base(self) -> Base:
+        look = self.look()
+        if not look.newest:
+            raise Fault(without_base(look))
+        return look.newest
 
-    def append(self, text, ident, last=None):
-        """Appends an entry, once whatever happens on the way, and says its number. Whoever finds no majority may ask again by the same id. With `last` it is appended behind that entry alone, and none is said where others came between."""
-        by, lease = encoded(f"{self.prefix}/by/{ident}"), self.etcd.lease(KEPT)
+    # Appending.
+
+    def append(self, ident: str, signed: Signed, lines: str, check: Callable[[Names], None]) -> int:
+        """Appends a batch, once whatever happens on the way, and says its number; it is checked by the newest base. Whoever
+        finds no majority may ask again by the same id."""
+        checked: Base | None = None
         while True:
-            number = self.ends()[1] + 1
-            if last is not None and number != last + 1:
-                return self.number_of(ident)
-            key = encoded(self.key(number))
-            puts = [
-                {"request_put": {"key": key, "value": encoded(text)}},
-                {"request_put": {"key": by, "value": encoded(str(number)), "lease": lease}},
-            ]
-            compare = [
-                {"key": name, "target": "VERSION", "result": "EQUAL", "version": "0"}
-                for name in (key, by)
-            ]
-            if number > 1:
-                # no gap: the entry before it is there
-                compare.append(
-                    {
-                        "key": encoded(self.key(number - 1)),
-                        "target": "VERSION",
-                        "result": "GREATER",
-                        "version": "0",
-                    }
-                )
-            if self.etcd.call("/v3/kv/txn", {"compare": compare, "success": puts}).get("succeeded"):
+            look = self.look()
+            if (number := self.number_of(ident)) is not None:
                 return number
-            if (there := self.number_of(ident)) is not None:
-                return there
+            if not look.newest:
+                raise Fault(without_base(look))
+            if look.newest != checked:
+                check(self.names(look.newest.checksum))
+                checked = look.newest
+            content = {"lines": lines}
+            if self.put_entry(look, BATCH, signed, content, ident):
+                return look.last + 1
 
-    def cut(self, number):
-        """Takes away all entries before that number."""
-        self.etcd.delete(self.key(0), self.key(number))
+    def append_base(self, ident: str, signed: Signed, topology: bytes) -> int | None:
+        """Appends a base, and says its number; nothing where it is not one of this log."""
+        checksum, (upto, chain) = checksum_of(topology), place_of(topology)
+        while True:
+            look = self.look()
+            if (number := self.number_of(ident)) is not None:
+                return number
+            there = self.entry(upto) if upto else None
+            if upto and (not there or there.checksum != chain):
+                return None
+            if not look.bases and upto != look.last:
+                # a log of before: nobody else works its entries
+                return None
+            if not upto and look.first > 1:
+                return None
+            content = {"base": checksum, "upto": upto, "chain": chain}
+            bases = [*look.bases, Base(look.last + 1, checksum, upto, chain)]
+            more = [self.put_bases(bases)]
+            if self.put_entry(look, BASE, signed, content, ident, more):
+                return look.last + 1
+
+    def put_entry(
+        self,
+        look: Look,
+        kind: str,
+        signed: Signed,
+        content: Message,
+        ident: str,
+        more: list[Message] | None = None,
+    ) -> bool:
+        """Puts an entry behind the last one that was seen, with its checksum; not where another came between."""
+        before = look.entries[-1].checksum if look.entries else ""
+        octets, by = entry_octets(kind, before, signed, content), self.at("by", ident)
+        conditions = [
+            is_at(self.key(look.last + 1), 0),
+            is_at(by, 0),
+            is_at(self.at("bases"), look.bases_revision),
+        ]
+        if look.last:
+            conditions.append(is_at(self.key(look.last), look.last_revision))
+        puts = [
+            put(self.key(look.last + 1), octets),
+            put(by, str(look.last + 1), self.etcd.lease(KEPT)),
+        ]
+        return self.etcd.txn(puts + (more or []), conditions).held
+
+    def put_bases(self, bases: list[Base]) -> Message:
+        listed = [[base.number, base.checksum, base.upto, base.chain] for base in bases]
+        return put(self.at("bases"), json.dumps(listed))
+
+    def number_of(self, ident: str) -> int | None:
+        item = self.etcd.get(self.at("by", ident))
+        return int(item.octets) if item and item.octets.isdigit() else None
+
+    def cut(self, look: Look, base: Base) -> int:
+        """Takes away what stands before a base's numbers, and the bases that nobody needs then; says the first entry
+        that stays. The entry that the numbers go up to stays: the chain goes on from it."""
+        kept = self.kept(look, base)
+        gone = {old.checksum for old in look.bases} - {left.checksum for left in kept}
+        parts = [
+            delete(self.key(0), self.key(base.upto)),
+            delete(self.at("dropped", ""), self.at("dropped", f"{base.upto:016d}")),
+            self.put_bases(kept),
+        ]
+        for checksum in sorted(gone):
+            for kind in ("file", "names"):
+                parts += [
+                    delete(self.at(kind, checksum)),
+                    delete_under(self.at(kind, checksum, "")),
+                ]
+        if not self.etcd.txn(parts, [is_at(self.at("bases"), look.bases_revision)]).held:
+            raise Fault("a base came meanwhile: nothing was cut")
+        return base.upto
+
+    def kept(self, look: Look, base: Base) -> list[Base]:
+        """The bases that stay with that one: those behind it, and what entries before it were checked by."""
+        first = look.base_at(base.upto + 1) or base
+        return [left for left in look.bases if left.number >= min(first.number, base.number)]
+
+    # Files of bases.
+
+    def put_file(self, kind: str, checksum: str, octets: bytes) -> None:
+        """Puts a file in pieces; how many they are stands there when all are."""
+        packed = zlib.compress(octets)
+        pieces = [packed[at : at + PIECE] for at in range(0, len(packed), PIECE)]
+        for number, piece in enumerate(pieces):
+            self.etcd.txn([put(self.at(kind, checksum, f"{number:04d}"), piece)])
+        self.etcd.txn([put(self.at(kind, checksum), str(len(pieces)))])
+
+    def file(self, kind: str, checksum: str) -> bytes | None:
+        """A file of a base, where it is there."""
+        count = self.etcd.get(self.at(kind, checksum))
+        if not count or not count.octets.isdigit():
+            return None
+        unpacked, packer = bytearray(), zlib.decompressobj()
+        try:
+            for number in range(int(count.octets)):
+                piece = self.etcd.get(self.at(kind, checksum, f"{number:04d}"))
+                if piece is None:
+                    return None
+                unpacked += packer.decompress(piece.octets)
+        except zlib.error:
+            return None
+        return bytes(unpacked) if packer.eof else None
+
+    def topology(self, checksum: str) -> bytes | None:
+        octets = self.file("file", checksum)
+        return octets if octets is not None and checksum_of(octets) == checksum else None
+
+    def names(self, checksum: str) -> Names:
+        """The names of a base."""
+        if checksum not in self.known:
+            octets = self.file("names", checksum)
+            if octets is None:
+                raise Fault(f"the names of base {checksum[:12]} are not in etcd: roll it again")
+            self.known[checksum] = names_in(octets)
+        return self.known[checksum]
+
+    # What servers tell.
+
+    def tell(
+        self, name: str, state: Message, lease: int, dropped: dict[int, Message] | None = None
+    ) -> None:
+        """Puts a server's state, and which batches it dropped, at one moment."""
+        notes = [
+            put(self.at("dropped", f"{number:016d}"), json.dumps(why))
+            for number, why in (dropped or {}).items()
+        ]
+        self.etcd.txn([*notes, put(self.at("at", name), json.dumps(state), lease)])
+
+    def ask(self, words: str) -> int:
+        """Asks each follower whether its server answers, and says the revision of that."""
+        return self.etcd.txn([put(self.at("look"), words)]).revision
+
+    def news(self) -> tuple[str, str]:
+        """The range of keys whose change is news for a follower: entries, and what glb-fleet asks."""
+        return self.at("log", ""), after(self.at("look"))
+
+    def put_server(self, name: str, told: Message) -> None:
+        self.etcd.txn([put(self.at("server", name), json.dumps(told))])
+
+    def forget(self, name: str) -> None:
+        self.etcd.txn([delete(self.at("server", name)), delete(self.at("at", name))])
+
+    def dropped(self, number: int) -> dict[int, Message]:
+        """The batches from a number on that a server dropped whole."""
+        start, end = self.at("dropped", f"{number:016d}"), after(self.at("dropped", ""))
+        items = self.etcd.txn([span(start, end)]).found[0]
+        return {
+            int(item.name): told_in(item.octets) for item in items if NUMBER.fullmatch(item.name)
+        }
+
+    # One at a time.
+
+    def take(self, what: str, told: Message, revision: int, lease: int) -> bool:
+        """Takes the turn or the roll, which nobody has (revision 0), or which is one's own as that revision put it."""
+        key = self.at(what)
+        return self.etcd.txn([put(key, json.dumps(told), lease)], [is_at(key, revision)]).held
+
+    def give_back(self, what: str, revision: int) -> None:
+        key = self.at(what)
+        self.etcd.txn([delete(key)], [is_at(key, revision)])
+
+
+def delete_under(key: str) -> Message:
+    return delete(key, after(key))
+
+
+def in_row(items: list[Item], number: int) -> list[Entry]:
+    """Entries one behind the other, from a number on (from whichever is first at 0). Of the first one nobody looks behind
+    which it stands, but of entry 1, which stands behind none."""
+    row: list[Entry] = []
+    for item in items:
+        due = row[-1].number + 1 if row else number or int(item.name)
+        if not NUMBER.fullmatch(item.name) or int(item.name) != due:
+            break
+        entry = read_entry(due, item.octets)
+        if row or due == 1:
+            entry = entry.behind(row[-1].checksum if row else "")
+        row.append(entry)
+    return row
+
+
+def without_base(look: Look) -> str:
+    if any(entry.kind == NONE and OF_BEFORE.match(entry.octets) for entry in look.entries):
+        return (
+            "the log is one of an older release, whose entries have no chain: a base begins it anew"
+            " (docs/OPERATING.md, `From an older release`)"
+        )
+    return "the log has no base yet: glb-roll TOPOLOGY makes one"

@@ -129,6 +129,12 @@ def said(why: object, status: int) -> int:
     return status
 
 
+def tell(why: Exception) -> None:
+    """Says why something failed that is tried again."""
+    kind = "" if isinstance(why, (Fault, OSError)) else f"{type(why).__name__}: "
+    said(f"{kind}{why}", FAULT)
+
+
 def run(main: Callable[[], int | None]) -> NoReturn:
     """Runs a command to its end, and ends the process with its status."""
     if sys.stderr is None:

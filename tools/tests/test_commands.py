@@ -1,5 +1,6 @@
 """Each command, as an operator starts it: its help, and how it ends where something is in its way."""
 
+import importlib.util
 import os
 import re
 import signal
@@ -27,9 +28,27 @@ WRITERS = {
     "numbers.py": ("TOPOLOGY", "/dev/null"),
     "picture.py": ("TOPOLOGY", "MAP"),
 }
+# the modules that a command needs beside Python's own
+NEEDS = {"glb-exporter": "prometheus_client", "metrics.py": "prometheus_client"}
+
+
+def is_there(name):
+    """Whether what a command needs is installed."""
+    return name not in NEEDS or importlib.util.find_spec(NEEDS[name]) is not None
+
+
+THERE = [name for name in COMMANDS if is_there(name)]
 
 
 class Commands(Case):
+    def test_none_is_left_out(self):
+        for name in COMMANDS:
+            with self.subTest(name):
+                if not is_there(name):
+                    self.skipTest(
+                        f"{name} needs the module {NEEDS[name]}: none of its cases is tried"
+                    )
+
     def words(self, name):
         files = {
             "TOPOLOGY": self.file("small.toml", SMALL),
@@ -48,7 +67,7 @@ class Commands(Case):
         self.assertLessEqual(set(WRITERS), set(COMMANDS))
 
     def test_help(self):
-        for name in COMMANDS:
+        for name in THERE:
             with self.subTest(name):
                 found = command(name, "--help")
                 self.assertEqual((found.returncode, found.stderr), (0, b""))
@@ -57,13 +76,13 @@ class Commands(Case):
                     self.assertRegex(text, rf"(?m)^  {status} ")
 
     def test_version(self):
-        for name in COMMANDS:
+        for name in THERE:
             with self.subTest(name):
                 found = command(name, "--version")
                 self.assertRegex(found.stdout.decode(), r"^[a-z.-]+ \d+\.\d+\n$")
 
     def test_wrong_words(self):
-        for name in COMMANDS:
+        for name in THERE:
             with self.subTest(name):
                 self.one_line(command(name, "--no-such-word"), name, 64)
 
@@ -71,7 +90,7 @@ class Commands(Case):
         for name in WRITERS:
             with self.subTest(name), open("/dev/full", "wb") as full:
                 self.one_line(command(name, *self.words(name), stdout=full), name, 1)
-        for name in COMMANDS:
+        for name in THERE:
             for word in ("--help", "--version"):
                 with self.subTest(f"{name} {word}"), open("/dev/full", "wb") as full:
                     self.one_line(command(name, word, stdout=full), name, 1)

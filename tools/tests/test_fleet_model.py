@@ -1,0 +1,245 @@
+"""The fleet as a model: real followers over a faked etcd and faked servers, with faults at every step."""
+
+import itertools
+import random
+import unittest
+from unittest import mock
+
+from fleet_world import FAULTS, Place, World
+from glb_tools import follow, log
+from glb_tools.place import Identity
+
+
+def operations():
+    """What operators do, and what happens to etcd, by name."""
+    return {
+        "append A": lambda world: world.append("demand A 1\n"),
+        "append A B": lambda world: world.append("demand A 2\ndemand B 1\n"),
+        "append X": lambda world: world.append("demand X 1\n"),
+        "raw": lambda world: world.raw(),
+        "forge": lambda world: world.forge(),
+        "take raw": lambda world: world.take_raw(),
+        "roll A": lambda world: world.roll(["A"]),
+        "roll A late": lambda world: world.roll(["A"], back=2),
+        "roll A B": lambda world: world.roll(["A", "B"]),
+        "roll A B late": lambda world: world.roll(["A", "B"], back=2),
+        "go back": lambda world: world.go_back(),
+        "cut": lambda world: world.cut(),
+        "save": lambda world: world.save(),
+        "restore": lambda world: world.restore(),
+        "ask": lambda world: world.ask(),
+        "tick": lambda world: world.tick(),
+        "forget": lambda world: world.forget_gone(),
+    }
+
+
+def mishaps(number):
+    """What may happen to a host, by name."""
+
+    def host(world):
+        return world.hosts[number]
+
+    return {
+        f"run {number}": lambda world: host(world).run(),
+        f"kill server {number}": lambda world: host(world).server_ends(),
+        f"kill follower {number}": lambda world: host(world).follower_ends(),
+        f"cut off {number}": lambda world: setattr(host(world).outside, "cut_off", True),
+        f"join {number}": lambda world: setattr(host(world).outside, "cut_off", False),
+        f"by hand {number}": lambda world: host(world).start_by_hand(),
+        f"memory {number}": lambda world: host(world).lose_memory(),
+        f"files {number}": lambda world: host(world).lose_files(),
+        f"wrong {number}": lambda world: host(world).go_wrong(),
+    }
+
+
+def drawn(draw, every, hosts):
+    """A step: a name, and a function of the world."""
+    if draw.random() < 0.4:
+        name = draw.choice(sorted(every))
+        return name, every[name]
+    number = draw.randrange(hosts)
+    kind = draw.choice(["", "fault", "amid"])
+    if not kind:
+        return f"run {number}", every[f"run {number}"]
+    at = draw.randrange(1, 12)
+    if kind == "fault":
+        fault = draw.choice(FAULTS)
+        return f"run {number} {at} {fault}", lambda world: world.hosts[number].run(at, fault)
+    others = [
+        name for name in sorted(every) if not name.endswith(str(number)) and "restore" != name
+    ]
+    other = draw.choice(others)
+
+    def amid(world):
+        world.hosts[number].run(at, lambda: every[other](world))
+
+    return f"run {number} {at} {other}", amid
+
+
+def explore(seed, hosts, steps):
+    """A run of many steps at random, and what comes of it in the end."""
+    draw, world, done = random.Random(seed), World(hosts), []
+    every = operations()
+    for number in range(hosts):
+        every |= mishaps(number)
+    try:
+        for _ in range(steps):
+            name, step = drawn(draw, every, hosts)
+            done.append(name)
+            step(world)
+            world.check()
+        done.append("settle")
+        world.check_end(world.settle())
+    except Exception as why:
+        why.add_note(f"explore({seed}, {hosts}, {steps}): {'; '.join(done)}")
+        raise
+    return world.seen_there
+
+
+class Random(unittest.TestCase):
+    def test_many_things_at_random(self):
+        there = sum(explore(seed, 1 + seed % 3, 40) for seed in range(60))
+        self.assertGreater(there, 500)
+
+
+# What an operator does, or what befalls a fleet of two that is there, a word each.
+SCENARIOS = [
+    ["append A", "append A"],
+    ["append A B", "roll A B late", "append A B"],
+    ["roll A B", "append A B", "go back", "append A"],
+    ["save", "append A", "append A", "restore", "append A B", "append A"],
+    ["append X", "raw", "append A", "take raw"],
+    ["append A", "memory 0", "append A"],
+    ["append A", "roll A late", "kill server 0", "append A"],
+    ["append A", "cut", "kill server 1", "roll A", "cut"],
+]
+
+
+def scenario(names, number, at, fault):
+    """A scenario, with one fault at one call of one host to the outside; whether that call came."""
+    world = World(2)
+    world.settle()
+    every = operations() | mishaps(0) | mishaps(1)
+    calls = 0
+    for name in names + [""] * 4:
+        if name:
+            every[name](world)
+        for host in world.hosts:
+            planned = host.name == f"h{number}" and calls < at
+            host.run(at - calls if planned else 0, fault)
+            calls += host.outside.count if planned else 0
+            world.check()
+    world.check_end(world.settle())
+    return calls >= at
+
+
+class EachCall(unittest.TestCase):
+    """One fault at each call of a host to the outside, in each scenario."""
+
+    def test_each_fault_at_each_call(self):
+        reached = 0
+        for names in SCENARIOS:
+            for fault in FAULTS:
+                at = 1
+                while scenario(names, at % 2, at, fault):
+                    at, reached = at + 1, reached + 1
+        self.assertGreater(reached, 500)
+
+
+class Short(unittest.TestCase):
+    """All short sequences of what may happen to a fleet of two that is there."""
+
+    NAMES = ["append A B", "roll A B late", "go back", "save", "restore", "kill server 0"]
+    NAMES += ["kill follower 1", "cut"]
+
+    def test_each_sequence(self):
+        for names in itertools.product(self.NAMES, repeat=3):
+            with self.subTest(names):
+                self.one(names)
+
+    def one(self, names):
+        world, every = World(2), operations() | mishaps(0) | mishaps(1)
+        for _ in range(4):
+            for host in world.hosts:
+                host.run()
+        for name in names:
+            every[name](world)
+            for host in world.hosts:
+                host.run()
+            world.check()
+        world.check_end(world.settle())
+
+
+# Faults of the follower that a run has to show, each as what stands in the place of what.
+
+
+def adopts_by_serial(self):
+    """Takes any server for one that began from the base that is chosen."""
+    begin_as_it_is(self)
+    if self.broken:
+        base = self.bases.chosen()
+        last = self.log.look().entries[-1]
+        self.identity = Identity(base or "", "", "", last.number, last.checksum)
+        self.broken = None
+
+
+def ready_at_once(self):
+    begin_as_it_is(self)
+    self.get_ready()
+
+
+def keeps_late(self, entry, look):
+    """Keeps what the server is handed only behind it."""
+    kept, self.place.keep = self.place.keep, lambda identity: None
+    try:
+        work_as_it_is(self, entry, look)
+    finally:
+        self.place.keep = kept
+    self.place.keep(self.identity)
+
+
+begin_as_it_is, work_as_it_is = follow.Follower.begin, follow.Follower.work
+PLANTED = {
+    "the chain is not looked at": (follow.Follower, "breaks", lambda self, look: None),
+    "an entry's link is not looked at": (log.Entry, "behind", lambda self, checksum: self),
+    "a server is adopted by its serial": (follow.Follower, "begin", adopts_by_serial),
+    "queries are let in ahead of the last entry": (follow.Follower, "begin", ready_at_once),
+    "what was told of the server before stays": (follow, "silence", lambda name, log: None),
+    "there is no turn": (follow.Follower, "takes_turn", lambda self, look, why: True),
+    "nobody asks whether others are there": (follow, "absent", lambda *words: None),
+    "others are not asked again": (follow.Follower, "hears_all", lambda self, look: True),
+    "queries are let in while it stops": (follow.Follower, "get_unready", lambda self: None),
+    "no line is left out": (follow, "left_in", lambda lines, own, newest: lines),
+    "what a server said of a drop is lost": (
+        follow.Follower,
+        "drop",
+        lambda self, entry, why: None,
+    ),
+    "the identity of the run before stays": (
+        Place,
+        "prepare",
+        lambda self, topology, identity: None,
+    ),
+    "maps are not compared": (follow.Follower, "is_outvoted", lambda self, look: False),
+}
+
+
+class Planted(unittest.TestCase):
+    """Each planted fault is found."""
+
+    def test_each_is_found(self):
+        for name, (place, what, instead) in PLANTED.items():
+            with self.subTest(name), mock.patch.object(place, what, instead):
+                self.assertTrue(self.is_found(), f"not found: {name}")
+
+    def is_found(self):
+        for seed in range(300):
+            try:
+                explore(seed, 1 + seed % 3, 40)
+            except Exception:
+                return True
+        return False
+
+
+if __name__ == "__main__":
+    unittest.main()
