@@ -81,7 +81,8 @@ def run_examples():
     with tempfile.TemporaryDirectory() as work:
         shutil.copytree(TOP / "examples", f"{work}/examples")
         for file in (TOP / "examples").iterdir():
-            shutil.copy(file, work)
+            if file.is_file():
+                shutil.copy(file, work)
         os.mkdir(f"{work}/bin")
         os.symlink(GLB, f"{work}/bin/glb")
         environment = {**os.environ, "PATH": f"{work}/bin:{os.environ['PATH']}"}
