@@ -23,8 +23,8 @@ from glb_tools.options import DONE, FAULT, WRONG_WORDS, Fault, parser, said
 ABOUT = """Starts `glb serve` on sockets made for it. Behind `--` come the server's words, the program first.
 
 Each worker gets a UDP socket of its own, with a filter that drops what has no reply (fewer than twelve octets, or a
-reply itself), and with the interface's MTU whatever ICMP says. The server takes the sockets as it takes systemd's.
-Without --stay the launcher becomes the server. With it, it stays beside the server: it tells systemd (Type=notify) when
+reply itself), and with the interface's MTU whatever ICMP says. The server takes the sockets as it takes systemd's; those that
+systemd hands to the launcher are shielded and handed on. Without --stay the launcher becomes the server. With it, it stays beside the server: it tells systemd (Type=notify) when
 the server answers, keeps a watchdog by asking it, and at SIGTERM ends it by a line `stop` in --feed."""
 STATUSES = {
     DONE: "the server ended so (its own statuses are handed on)",
@@ -137,9 +137,26 @@ def grow(made: socket.socket, octets: int) -> None:
         made.setsockopt(socket.SOL_SOCKET, socket.SO_RCVBUF, octets)
 
 
+def handed_in() -> list[socket.socket]:
+    """The sockets that this process was handed in, as systemd does it: their places stay the server's."""
+    if os.environ.get("LISTEN_PID") != str(os.getpid()):
+        return []
+    count = os.environ.get("LISTEN_FDS", "")
+    if not (count.isascii() and count.isdigit() and int(count) <= MOST):
+        raise Fault(f"LISTEN_FDS is {count}: at most {MOST} sockets can be handed in")
+    try:
+        return [socket.socket(fileno=FIRST + place) for place in range(int(count))]
+    except OSError as why:
+        raise Fault(f"what is handed in is no socket: {why.strerror}") from None
+
+
 def sockets_for(words: Words, options: argparse.Namespace) -> list[socket.socket]:
-    """One for each worker, shielded, and one for conversations where they are asked for."""
-    made = []
+    """Those that are handed in, or one for each worker and one for conversations where they are asked for."""
+    if made := handed_in():
+        for each in made:
+            if each.type == socket.SOCK_DGRAM and not options.no_filter:
+                shield(each)
+        return made
     for _ in range(words.workers):
         worker = bound(socket.SOCK_DGRAM, words.listen, options.freebind)
         if not options.no_filter:

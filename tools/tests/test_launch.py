@@ -166,6 +166,40 @@ class Runs(unittest.TestCase):
         process.terminate()
         self.assertEqual(process.wait(), -signal.SIGTERM)
 
+    def test_sockets_of_systemd_are_shielded_and_handed_on(self):
+        with socket.socket(socket.AF_INET, socket.SOCK_DGRAM) as made:
+            made.bind(("127.0.0.1", self.port))
+            hands = (
+                f"import os, sys\nos.dup2({made.fileno()}, 3)\n"
+                "os.environ.update(LISTEN_PID=str(os.getpid()), LISTEN_FDS='1')\nos.execv(sys.executable, [sys.executable, *sys.argv[1:]])"
+            )
+            process = subprocess.Popen(
+                [
+                    sys.executable,
+                    "-c",
+                    hands,
+                    LAUNCH,
+                    "--",
+                    self.played,
+                    "serve",
+                    "T",
+                    "--listen",
+                    "192.0.2.1:53",
+                ],
+                stdout=subprocess.PIPE,
+                text=True,
+                pass_fds=[made.fileno()],
+            )
+        self.addCleanup(process.communicate)
+        self.addCleanup(process.kill)
+        self.assertEqual(process.stdout.readline(), f"True 127.0.0.1 {self.port} True\n")
+        with socket.socket(socket.AF_INET, socket.SOCK_DGRAM) as client:
+            client.settimeout(0.3)
+            client.connect(("127.0.0.1", self.port))
+            client.send(bytes(11))
+            client.send(bytes(12))
+            self.assertEqual(client.recv(100), bytes(12))
+
     def test_an_address_that_somebody_has(self):
         with socket.socket(socket.AF_INET, socket.SOCK_DGRAM) as other:
             other.bind(("127.0.0.1", self.port))
