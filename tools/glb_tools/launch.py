@@ -246,7 +246,7 @@ class Server:
         if self.stops_at is None:
             self.stops_at = time.monotonic() + self.options.grace
             notify("STOPPING=1")
-            if not self.options.feed or not self.feeds(b"\nstop\n"):
+            if not self.options.feed or not self.feeds(b"stop\n"):
                 self.signals(number)
 
     def feeds(self, line: bytes) -> bool:

@@ -285,7 +285,7 @@ class Runs(unittest.TestCase):
         process.stdout.readline()
         process.terminate()
         self.assertEqual(process.wait(10), -signal.SIGTERM)
-        self.assertEqual(os.read(keeps, 100), b"\nstop\n")
+        self.assertEqual(os.read(keeps, 100), b"stop\n")
 
     def test_without_a_feed_the_signal_is_handed_on(self):
         process = self.launch("--stay", "--feed", str(self.at / "nowhere"))
