@@ -22,8 +22,8 @@ server=$roots/glb
 tools=$roots/glb-tools
 install -d "$server" "$tools"
 
-# The module whose main a command is.
-module_of() { sed -n 's/^start("\(.*\)")$/\1/p' "$top/tools/$1"; }
+# The module whose main a command is, by its path; nothing of what is no command of Python.
+module_of() { sed -n -e 's/^ *start("\(.*\)")$/\1/p' -e 's/^ *from glb_tools\.\(.*\) import main$/\1/p' "$top/tools/$1" | tr . /; }
 
 # The modules of glb_tools that those of the server's commands read.
 server_modules() {
@@ -122,8 +122,16 @@ echo /etc/glb/v4.conf >>"$server.conffiles"
 done
 for command in "$top"/tools/glb-*; do
     name=$(basename "$command")
-    case " $server_commands " in *" ${name#glb-} "*) ;; *) install_command "$tools" "$name" ;; esac
+    case " $server_commands " in *" ${name#glb-} "*) continue ;; esac
+    if [ -n "$(module_of "$name")" ]; then install_command "$tools" "$name"; fi
 done
+# the one that is compiled, where it was built (tools/native/build.sh)
+compiled=
+if [ -x "$top/tools/glb-prices" ]; then
+    install -D -s -m 755 "$top/tools/glb-prices" "$tools/usr/lib/glb/glb-prices"
+    ln -s ../lib/glb/glb-prices "$tools/usr/bin/glb-prices"
+    compiled="libc6, libstdc++6, libgcc-s1, "
+fi
 # names of before, until the next release of the package
 install -d "$tools/usr/lib/glb"
 for old in "$top"/tools/*.py; do
@@ -162,11 +170,11 @@ CONTROL
 cat >"$tools/DEBIAN/control" <<CONTROL
 Package: glb-tools
 Version: $version
-Architecture: all
+Architecture: amd64
 Maintainer: $maintainer
 Installed-Size: $(size "$tools")
-Depends: glb (= $version), python3 (>= 3.11), python3-prometheus-client, python3-requests, python3-scipy, python3-jinja2
-Recommends: python3-maxminddb
+Depends: ${compiled}glb (= $version), python3 (>= 3.11), python3-jinja2, python3-numpy, python3-prometheus-client, python3-requests, python3-scipy
+Recommends: python3-maxminddb, python3-yaml
 Suggests: prometheus, prometheus-node-exporter
 Breaks: glb (<< $version)
 Replaces: glb (<< $version)
@@ -244,4 +252,4 @@ SCRIPT
 chmod 755 "$server"/DEBIAN/{postinst,prerm,postrm} "$tools"/DEBIAN/{postinst,prerm,postrm}
 chmod 644 "$server/DEBIAN/conffiles" "$tools/DEBIAN/conffiles"
 dpkg-deb --root-owner-group --build "$server" "$folder/glb_${version}_amd64.deb"
-dpkg-deb --root-owner-group --build "$tools" "$folder/glb-tools_${version}_all.deb"
+dpkg-deb --root-owner-group --build "$tools" "$folder/glb-tools_${version}_amd64.deb"

@@ -12,11 +12,11 @@ from pathlib import Path
 
 from samples import EXAMPLES, SMALL, SMALL_MAP, TOOLS, Case, command
 
-# the commands of this package: those that start a module of it
+# the commands of this package: those that run a module of it
 COMMANDS = sorted(
     path.name
     for path in TOOLS.iterdir()
-    if path.is_file() and re.search(r"^ *start\(", path.read_text(errors="replace"), re.M)
+    if path.is_file() and re.search(r"^ *(?:start|run)\(", path.read_text(errors="replace"), re.M)
 )
 # words with which a command writes more than a pipe holds unread, or anything at all
 WRITERS = {
@@ -29,7 +29,11 @@ WRITERS = {
     "picture.py": ("TOPOLOGY", "MAP"),
 }
 # the modules that a command needs beside Python's own
-NEEDS = {"glb-exporter": "prometheus_client", "metrics.py": "prometheus_client"}
+NEEDS = {
+    "glb-exporter": "prometheus_client",
+    "glb-topology": "numpy",
+    "metrics.py": "prometheus_client",
+}
 
 
 def is_there(name):
