@@ -30,13 +30,24 @@ class Block:
 # by how a block begins
 BLOCKS = {
     "install -m 755 crates": Block(("glb map examples/tree.toml | head -n 1", "glb map 2")),
-    "install -D -m 755 -t /usr/local/lib/glb": Block(("/usr/local/lib/glb/moves.py examples/tree.map examples/tree.map", "0 groups, .*")),
+    "install -D -m 755 -t /usr/local/lib/glb": Block(
+        ("/usr/local/lib/glb/glb-moves examples/tree.map examples/tree.map", "0 groups, .*"),
+        ("/usr/local/lib/glb/moves.py examples/tree.map examples/tree.map", "0 groups, .*"),
+    ),
     "DEBFULLNAME": Block(
         ("dpkg -s glb", "(?s).*Status: install ok installed.*"),
         ("cp examples/tree.toml /etc/glb/topology.toml; systemctl start glb@v4; sleep 2; " + ANSWER.format("127.0.0.1"), ADDRESS),
+        (ANSWER.format("127.0.0.1").replace("+short", "+short +tcp"), ADDRESS),
+        ("journalctl -t glb@v4 -n 1 -o cat; echo show >/run/glb-v4/feed; sleep 1; journalctl -t glb@v4 -n 1 -o cat", "(?s).*show 0 placed 15 unplaced 1 full 2"),
+        ("grep -c '^commit ' /usr/share/doc/glb/build; sha256sum /usr/bin/glb | cut -d' ' -f1 | grep -cf - /usr/share/doc/glb/build", "1\n[12]"),
+        ("dpkg -i --force-depends glb-tools_1.1_amd64.deb >/dev/null 2>&1; systemctl enable --now glb 2>/dev/null; systemctl stop glb@v4; systemctl restart glb; systemctl enable --now glb-metrics 2>/dev/null; sleep 3; ls /var/lib/prometheus/node-exporter/glb.prom", ".*glb.prom"),
+        ("systemctl stop glb; sleep 1; ls /var/lib/prometheus/node-exporter/ | grep -c '^glb'; systemctl is-active glb-metrics", "0\ninactive"),
+        ("systemctl start glb; sleep 3; systemctl is-active glb-metrics; ls /var/lib/prometheus/node-exporter/glb.prom", "active\n.*glb.prom"),
+        ("kill -9 $(systemctl show --value -p MainPID glb); sleep 0.5; systemctl is-active glb-metrics; ls /var/lib/prometheus/node-exporter/glb.prom; systemctl start glb@v4", "active\n.*glb.prom"),
+        ("dpkg -r glb-tools >/dev/null 2>&1; ls /var/lib/prometheus/node-exporter/ | grep -c '^glb'", "0"),
         ("apt-get remove -y glb >/dev/null; ls /etc/glb; systemctl is-active glb@v4", "(?s)topology.toml\nv4.conf\ninactive"),
-        ("apt-get purge -y glb >/dev/null 2>&1; ls -d /etc/glb /var/lib/glb /usr/lib/glb 2>/dev/null; id glb 2>&1", "id: .glb.: no such user"),
-        before="systemctl disable --now glb-fleet@v4 glb@v6; rm -rf /etc/glb /var/lib/glb /etc/systemd/system/*glb* /etc/systemd/system/*/*glb*; systemctl daemon-reload; userdel glb",
+        ("apt-get purge -y glb >/dev/null 2>&1; dpkg --purge glb-tools >/dev/null 2>&1; ls -d /etc/glb /etc/default/glb* /var/lib/glb /usr/lib/glb /usr/share/glb /etc/systemd/system/*/*glb* 2>/dev/null; systemctl list-units --all --no-legend 'glb*'; id glb 2>&1", "id: .glb.: no such user"),
+        before="systemctl disable --now glb-fleet@v4 glb@v6; rm -rf /etc/glb /etc/default/glb* /var/lib/glb /etc/systemd/system/*glb* /etc/systemd/system/*/*glb*; systemctl daemon-reload; userdel glb",
         last=True,
     ),
     "mkdir -p /run/glb\nmkfifo -m 600 /run/glb/feed\n": Block(("ls /run/glb 2>&1", ".*No such file.*")),
@@ -58,16 +69,22 @@ BLOCKS = {
     "flock": Block(("sleep 1; journalctl -u glb@v4 -n 1 -o cat; journalctl -u glb@v6 -n 1 -o cat", "published 3\npublished 3")),
     "nft add table": Block(("nft list ruleset | grep -c 'limit rate over 200/second burst 400 packets'; nft delete table inet glb", "2")),
     "grep -avE": Block(("head -n 1 now.map; cat said", "glb map 2\npublished 1\npublished 2\npublished 3")),
-    "tools/numbers.py": Block(("glb check now.toml now.map", "good"), ("grep -c 'capacity = 9$' now.toml", "1")),
-    "{ cat log": Block(("glb check <(sed 's/capacity = 9$/capacity = 0/' now.toml) then.map", "good"), ("tools/moves.py now.map then.map | tail -n 1", r"\d+ groups, \d+ units moved, .*")),
-    "install -m 644 examples/glb-metrics.service": Block(
+    "tools/glb-numbers": Block(("glb check now.toml now.map", "good"), ("grep -c 'capacity = 9$' now.toml", "1")),
+    "{ cat log": Block(("glb check <(sed 's/capacity = 9$/capacity = 0/' now.toml) then.map", "good"), ("tools/glb-moves now.map then.map | tail -n 1", r"\d+ groups, \d+ units moved, .*")),
+    "apt-get install --no-install-recommends python3-prometheus-client": Block(
         ("grep -c '^glb_placed_units 15' /var/lib/prometheus/node-exporter/glb.prom", "1"),
-        ("systemctl disable --now glb glb-metrics glb-show.timer 2>/dev/null; rm /var/lib/prometheus/node-exporter/glb.prom; systemctl enable --now glb@v4 2>/dev/null; sleep 2; " + FOUR, "active\n" * 3 + "active"),
+        ("systemctl disable --now glb glb-show.timer 2>/dev/null; sleep 1; ls /var/lib/prometheus/node-exporter/glb.prom 2>/dev/null; systemctl is-active glb-metrics", "inactive"),
+        ("systemctl disable glb-metrics 2>/dev/null; systemctl enable --now glb@v4 2>/dev/null; sleep 2; " + FOUR, "active\n" * 3 + "active"),
         before="systemctl disable --now glb@v4; systemctl enable --now glb; systemctl start prometheus-node-exporter",
     ),
     "install -m 644 examples/glb-metrics@.service": Block(
         ("grep -c '^glb_placed_units{server=\"v6\"} 15' /var/lib/prometheus/node-exporter/glb-v6.prom", "1"),
         ("python3 -c 'import urllib.request; print(urllib.request.urlopen(\"http://127.0.0.1:9100/metrics\").read().decode().count(\"\\nglb_shown_timestamp_seconds{\"))'", "2"),
+    ),
+    # no etcd is there yet
+    "install -m 644 examples/glb-exporter.service": Block(
+        ("curl -s http://127.0.0.1:9853/metrics | grep '^glb_log_up'; journalctl -t glb-exporter -n 1 -o cat", "glb_log_up 0.0\nglb-exporter: etcd: .*"),
+        ("systemctl disable --now glb-exporter 2>/dev/null; systemctl is-active glb-exporter", "inactive"),
     ),
     "tail -n +1 -f": Block(("journalctl -u glb -n 3 -o cat; systemctl disable --now glb 2>/dev/null; systemctl start glb@v4; sleep 1; systemctl is-active glb@v4", "published 1\npublished 2\npublished 3\nactive"), before="systemctl stop glb@v4; systemctl disable glb-feed; sed -i '/^stop$/d' /var/lib/glb/changes.log; systemctl start glb; sleep 1", seconds=3),
     # its feed has ended already, so it opens both, and ends

@@ -1,5 +1,8 @@
 #!/usr/bin/env python3
-"""Metrics of one server, an old form of glb-exporter: see glb_tools/metrics.py."""
+"""An old name of `glb-exporter --said - --text-file FILE.prom [--server SERVER]`, until the next release of the package.
+
+metrics.py FILE.prom [SERVER]
+"""
 
 import sys
 
@@ -8,4 +11,8 @@ sys.path.append(sys.path.pop(0))
 
 from glb_tools.options import start  # noqa: E402
 
-start("metrics")
+words = sys.argv[1:]
+if 1 <= len(words) <= 2 and not words[0].startswith("-"):
+    server = ["--server", words[1]] if len(words) == 2 else []
+    sys.argv[1:] = ["--said", "-", "--text-file", words[0], *server]
+start("exporter")

@@ -2,7 +2,7 @@
 
 from collections.abc import Iterator
 
-from glb_tools.log import BATCH, Base, Log, Look, left_in, place_of, with_place
+from glb_tools.log import BATCH, Base, Log, Look, checksum_of, left_in, place_of, with_place
 from glb_tools.options import Fault
 from glb_tools.text import Change, Replay
 from glb_tools.topology import Topology, written
@@ -68,7 +68,9 @@ def with_numbers(log: Log, octets: bytes, path: str) -> bytes:
     if chain:
         return octets
     base = base_of(log, look, look.last)
-    old, new = Topology(topology_of(log, base), str(base)), Topology(octets, path)
+    old = new = Topology(octets, path)
+    if checksum_of(octets) != base.checksum:
+        old = Topology(topology_of(log, base), str(base))
     replay = numbers_at(log, look, base, old, look.last)
     numbers: dict[Change, int] = {}
     for name, at in new.unit_at.items():

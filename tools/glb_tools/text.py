@@ -48,7 +48,8 @@ def words_of(line: bytes) -> list[str]:
         raise Refused("too long")
     if not PRINTED.fullmatch(line):
         raise Refused("bad byte")
-    words = [word for word in line.decode().split(" ") if word]
+    # of blanks there are spaces alone
+    words = line.decode().split()
     if not words or words[0] not in WORD_COUNTS:
         raise Refused("unknown word")
     if len(words) != WORD_COUNTS[words[0]]:

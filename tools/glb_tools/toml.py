@@ -1,9 +1,9 @@
 """Documents of TOML, and where in their text the numbers stand.
 
 Python's tomllib takes eleven seconds for the largest topologies, and says nothing of places. So a document that has the
-plain form of most topologies is read here at once, in two seconds: tables `[NAME]` and `[[NAME]]`, and in each line a bare key
-with a number, a text without escapes, true, false, or a list of such texts or numbers, which may take several lines.
-Whatever else a document has, and each fault, is tomllib's, and the places are those of a walk over the text.
+plain form of most topologies is read here, in two seconds: tables `[NAME]` and `[[NAME]]`, and in each line a bare key with
+a number, a text without escapes, true, false, or a list of such texts and numbers, which may take several lines. Whatever
+else a document has, and each fault, is tomllib's, and the places are those of a walk over the text.
 """
 
 import gc
@@ -26,22 +26,28 @@ NAME, TEXT, NUMBER = r"[A-Za-z0-9_-]++", r'"[^"\\\x00-\x1f\x7f]*+"', r"(?:0|-?[1
 SPACE, LINE_END = r"[ \t]*+", r"(?:\#[^\x00-\x08\x0a-\x1f\x7f]*+)?+(?:\r?\n|\Z)"
 BETWEEN = r"(?:[ \t\n]|\r\n)*+"
 ITEM = rf"{BETWEEN}(?:{TEXT}|{NUMBER}){BETWEEN}"
-LIST = rf"\[(?:{ITEM}(?:,{ITEM})*+|{BETWEEN})\]"
-# by the number of the last group: a number, a text, a flag, a list; a table of an array; a table
+ITEMS = rf"\[{ITEM}(?:,{ITEM})*+"
+LIST, LIST_WITH_COMMA = rf"(?:{ITEMS}|\[{BETWEEN})\]", rf"{ITEMS},{BETWEEN}\]"
+LITERAL = r"'[^'\x00-\x08\x0a-\x1f\x7f]*+'"
+# by the number of the last group: a number, a text, a literal text, a flag, a list, a list that ends with a comma; a table of
+# an array; a table
 STATEMENT = re.compile(
-    rf"{BETWEEN}(?:({NAME}){SPACE}={SPACE}(?:({NUMBER})|({TEXT})|(true|false)|({LIST}))"
+    rf"{BETWEEN}(?:({NAME}){SPACE}={SPACE}"
+    rf"(?:({NUMBER})|({TEXT})|({LITERAL})|(true|false)|({LIST})|({LIST_WITH_COMMA}))"
     rf"|\[\[{SPACE}({NAME}){SPACE}\]\]|\[{SPACE}({NAME}){SPACE}\]|){SPACE}{LINE_END}"
 )
 
 
 @contextmanager
 def without_collections() -> Iterator[None]:
-    """Runs without looking for cycles: where a million objects come and none goes, that takes half of the time."""
+    """Runs without looking for cycles, where a million objects come and none goes: that takes half of the time. Nor are
+    these looked at later; without cycles they go as soon as nobody has them."""
     was_enabled = gc.isenabled()
     gc.disable()
     try:
         yield
     finally:
+        gc.freeze()
         if was_enabled:
             gc.enable()
 
@@ -72,18 +78,21 @@ class Plain:
             kind = found.lastindex
             if kind is None:
                 continue
-            if kind == 6:
-                self.open_array(found[6])
-            elif kind == 7:
-                self.open_table(found[7])
+            if kind == 8:
+                self.open_array(found[8])
+            elif kind == 9:
+                self.open_table(found[9])
             elif found[1] in self.table:
                 raise Unusual
             elif kind == 2:
                 self.table[found[1]] = int(found[2])
                 if self.array:
                     self.spans[self.array, self.number, found[1]] = found.span(2)
-            elif kind == 3:
-                self.table[found[1]] = found[3][1:-1]
+            elif kind in (3, 4):
+                self.table[found[1]] = found[kind][1:-1]
+            elif kind == 7:
+                last = text.rindex(",", *found.span(kind))
+                self.table[found[1]] = json.loads(text[found.start(kind) : last] + "]")
             else:
                 # of these TOML and JSON mean the same
                 self.table[found[1]] = decoded(text, found.start(kind))[0]
@@ -107,7 +116,7 @@ class Plain:
 BLANK = re.compile(r"(?:[ \t\r\n]|#[^\n]*)*+")
 BARE_KEY = re.compile(NAME)
 BARE_VALUE = re.compile(r"[^\s,\]}#]+")
-PLAIN_LIST = re.compile(LIST)
+PLAIN_LIST = re.compile(rf"{LIST}|{LIST_WITH_COMMA}")
 TEXTS = [
     re.compile(r'"""(?:[^\\]|\\.)*?"{3,5}', re.S),
     re.compile(r"'''.*?'{3,5}", re.S),

@@ -1,7 +1,7 @@
 #!/usr/bin/env python3
 """Runs the tools' tests by Python's own unittest, with no other package.
 
-    tools/tests/run.py [NAME..]        all tests, or those of the modules test_NAME
+    tools/tests/run.py [NAME..]        all tests, or those of the modules test_NAME (of their classes and tests: NAME.CLASS..)
 
 What a test needs and the machine lacks is told, and such a test counts as skipped, never as passed. The last line is
 `N passed, N failed`, with `, N skipped` where there are any. The status is 1 where one failed, or none passed. The
@@ -12,6 +12,7 @@ import sys
 import time
 import unittest
 from pathlib import Path
+from typing import IO
 
 HERE = Path(__file__).resolve().parent
 
@@ -58,26 +59,36 @@ class Counted(unittest.TextTestResult):
             self.fail(test)
 
 
+def counted(suite: unittest.TestSuite, stream: IO[str]) -> dict[str, int]:
+    """How many tests passed, failed, and were left out."""
+    found = unittest.TextTestRunner(stream=stream, resultclass=Counted, verbosity=0).run(suite)
+    assert isinstance(found, Counted)
+    return {
+        word: list(found.ended.values()).count(word) for word in ("passed", "failed", "skipped")
+    }
+
+
+def tests_of(name: str) -> unittest.TestSuite:
+    """The tests of a module, or a class or a test of it; one that cannot be read is a test that fails."""
+    loader = unittest.TestLoader()
+    module = name.partition(".")[0]
+    if module != "*" and not (HERE / f"test_{module}.py").exists():
+        print(f"run.py: there is no test_{module}.py", file=sys.stderr)
+        sys.exit(64)
+    if module != name:
+        return loader.loadTestsFromName(f"test_{name}")
+    return loader.discover(str(HERE), f"test_{name}.py", str(HERE))
+
+
 def main() -> int:
     sys.path.insert(0, str(HERE))
     sys.path.append(str(HERE.parent))
-    loader, names = unittest.TestLoader(), sys.argv[1:]
-    if names:
-        suite = loader.loadTestsFromNames([f"test_{name}" for name in names])
-    else:
-        suite = loader.discover(str(HERE), "test_*.py", str(HERE))
+    suite = unittest.TestSuite(tests_of(name) for name in sys.argv[1:] or ["*"])
     began = time.monotonic()
-    runner = unittest.TextTestRunner(stream=sys.stderr, resultclass=Counted, verbosity=0)
-    found = runner.run(suite)
-    assert isinstance(found, Counted)
-    counts = {
-        word: list(found.ended.values()).count(word) for word in ("passed", "failed", "skipped")
-    }
-    # what fails outside of a test, as a module that cannot be read, is one too
-    counts["failed"] = max(counts["failed"], min(1, len(found.errors) + len(found.failures)))
+    counts = counted(suite, sys.stderr)
     left = f", {counts['skipped']} skipped" if counts["skipped"] else ""
     print(f"{time.monotonic() - began:.1f} s", file=sys.stderr)
-    print(f"{counts['passed']} passed, {counts['failed']} failed{left}")
+    print(f"{counts['passed']} passed, {counts['failed']} failed{left}", flush=True)
     return 1 if counts["failed"] or not counts["passed"] else 0
 
 

@@ -18,6 +18,8 @@ PLAIN = [
     'a = "x # y"\nb = [ "x", "]",\n "z" ]\nc = []\nd = [\n]\n',
     'a = true\nb = [1, 2]\nc = [1, "x"]\n',
     "[ t ]\n  a=1\n[[ u ]]\n",
+    "a = 'x \\t\\n\t# \"'\nb = ''\n",
+    'a = [1, 2,]\nb = [\n  "x",\n  ",]",\n]\nc = [ 1 , ] # r\n',
     "a-b_C3 = 999999999999999999",
     'a = "\u00e4\U0001f600"',
 ]
@@ -30,10 +32,8 @@ OTHERS = [
     "a = +1",
     "a = 1.5",
     "a = 1979-05-27",
-    "a = 'x'",
     'a = """x"""',
     'a = "\\u0041"',
-    "a = [1, 2,]",
     "a = [[1], [2]]",
     "a = [1, # one\n 2]",
     "a = {b = 1}",
@@ -43,6 +43,9 @@ OTHERS = [
     "a = [true]",
     "a = 9999999999999999999999",
     'a = "\t"',
+    "a = ['x']",
+    "a = [1, 'y']",
+    "a = '''x'''",
 ]
 # and these are no TOML
 WRONG = [
@@ -58,6 +61,9 @@ WRONG = [
     "a = 1 b = 2",
     "a = [1 2]",
     "a = [,]",
+    "a = [1,,]",
+    "a = 'x\ny'",
+    "a = 'x'y'",
     'a = "x\ny"',
     'a = "\x7f"',
     "a = nul",
@@ -102,7 +108,7 @@ class Readers(unittest.TestCase):
     def test_harmed(self):
         """Whatever is done to a text, the plain reader says what tomllib says, or nothing."""
         chance = random.Random(75)
-        text = '[z]\na = "x # y" # r\nb = [ "x",\n "]" ]\n[[u]]\nc = true\nd = -12\n[[u]]\n\nd = [1, 20]\r\n'
+        text = '[z]\na = "x # y" # r\nb = [ "x",\n "]" ]\n[[u]]\nc = true\ne = \'y\'\nf = [1, 2,\n]\nd = -12\n[[u]]\n\nd = [1, 20]\r\n'
         marks = "[]\"=#,\n\r\t 019-_\\'{}.ab\x00é"
         agreed = 0
         for _ in range(4000):

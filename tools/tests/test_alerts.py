@@ -1,0 +1,83 @@
+"""The alerts fire where they should: promtool says so, and says otherwise of each one that is changed."""
+
+import re
+import shutil
+import subprocess
+import tempfile
+import unittest
+from concurrent.futures import ThreadPoolExecutor
+from pathlib import Path
+
+from samples import EXAMPLES, Case
+
+RULES, TEST = EXAMPLES / "glb-alerts.yml", EXAMPLES / "glb-alerts-test.yml"
+# the numbers of an alert: what it compares with, how far it looks back, and how long it waits
+NUMBER = re.compile(r"(?m)^ +expr: .*?(?:[<>=] |\[)(?P<limit>[0-9.]+)|^ +for: (?P<wait>[0-9]+m)")
+
+
+def others(found):
+    """Numbers near that of an alert, in its place."""
+    if found["wait"]:
+        # in quarters of a minute
+        seconds = int(found["wait"][:-1]) * 60
+        return f"{seconds + 15}s", f"{seconds - 15}s"
+    number = float(found["limit"])
+    return (
+        (f"{number + 0.001:g}", f"{number - 0.001:g}")
+        if number % 1
+        else (f"{number + 1:g}", f"{number - 1:g}")
+    )
+
+
+@unittest.skipUnless(shutil.which("promtool"), "promtool is not installed (Debian: prometheus)")
+class Alerts(Case):
+    def ends_well(self, rules, test):
+        """Whether the test of the alerts passes with these rules."""
+        folder = Path(tempfile.mkdtemp(dir=self.folder))
+        head = (
+            ""
+            if rules.lstrip().startswith(("#", "groups:"))
+            else "groups:\n  - name: glb\n    rules:\n"
+        )
+        (folder / RULES.name).write_text(head + rules)
+        (folder / TEST.name).write_text(test)
+        words = ["promtool", "test", "rules", TEST.name]
+        return subprocess.run(words, cwd=folder, capture_output=True, timeout=60).returncode == 0
+
+    def test_they_fire(self):
+        self.assertTrue(self.ends_well(RULES.read_text(), TEST.read_text()))
+
+    def test_each_changed_number_is_noticed(self):
+        _, *rules = re.split(r"(?m)^(?=      - alert: )", RULES.read_text())
+        first, *tests = re.split(r"(?m)^(?=  - interval: )", TEST.read_text())
+        # by name, an alert alone with its tests; and how it passes
+        tried = {}
+        for rule in rules:
+            rule = rule.partition("\n  - name:")[0]
+            name = re.search(r"alert: (\w+)", rule)[1]
+            own = first + "".join(test for test in tests if f"alertname: {name}\n" in test)
+            tried[name] = rule, own
+            for found in NUMBER.finditer(rule):
+                for digits in others(found):
+                    begin, end = found.span("limit" if found["limit"] else "wait")
+                    changed = rule[:begin] + digits + rule[end:]
+                    tried[f"{name}, {found[0].strip()}, by {digits}"] = changed, own
+        self.assertGreater(len(tried), 3 * len(rules))
+        with ThreadPoolExecutor(4) as pool:
+            passed = pool.map(self.ends_well, *zip(*tried.values()))
+            well = [name for name, passes in zip(tried, passed) if passes]
+        self.assertEqual(well, [name for name in tried if "," not in name])
+
+    def test_none_by_absent(self):
+        expressions = re.findall(r"(?m)^ +expr: (.*)$", RULES.read_text())
+        self.assertEqual(len(expressions), RULES.read_text().count("alert:"))
+        self.assertFalse([text for text in expressions if "absent" in text])
+
+    def test_each_has_a_test(self):
+        names = set(re.findall(r"- alert: (\w+)", RULES.read_text()))
+        fired = set(re.findall(r"alertname: (\w+)\n +exp_alerts:", TEST.read_text()))
+        self.assertEqual(names, fired)
+
+
+if __name__ == "__main__":
+    unittest.main()

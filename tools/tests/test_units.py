@@ -1,0 +1,112 @@
+"""The units: what they start, and that systemd takes them."""
+
+import re
+import shutil
+import subprocess
+import unittest
+from pathlib import Path
+
+from samples import EXAMPLES, Case
+
+SERVICES = sorted(EXAMPLES.glob("*.service"))
+SERVERS = [path for path in SERVICES if "glb serve" in path.read_text().partition("ExecStart=")[2]]
+
+
+def value(path, key):
+    found = re.findall(rf"(?m)^{key}=(.*)$", path.read_text())
+    return found[0] if found else None
+
+
+def started(path, **settings):
+    """The words with which a unit starts the program, by systemd's and the shell's rules."""
+    line = value(path, "ExecStart")
+    script = re.fullmatch(r"/bin/sh -c '(.*)'", line)[1]
+    assert not re.search(r"(?<!\$)\$\{", script), "a ${ that systemd would replace"
+    script = script.replace("$$", "$").replace("exec /usr/local/bin/glb", "printf '%s\\n'")
+    script = re.sub(r" [0-2]<>\S+", "", script)
+    out = subprocess.run(["/bin/sh", "-c", script], env=settings, capture_output=True, check=True)
+    return out.stdout.decode().splitlines()
+
+
+class Units(unittest.TestCase):
+    def test_each_has_a_name_in_the_journal(self):
+        for path in SERVICES:
+            with self.subTest(path.name):
+                name = path.name.removesuffix(".service")
+                self.assertEqual(
+                    value(path, "SyslogIdentifier"), name + ("%i" if name.endswith("@") else "")
+                )
+
+    def test_servers(self):
+        self.assertEqual(
+            [path.name for path in SERVERS], ["glb-fleet@.service", "glb.service", "glb@.service"]
+        )
+        for path in SERVERS:
+            for settings, rest in (
+                (
+                    {"LISTEN": "[::1]:53", "WORKERS": "4"},
+                    ["[::1]:53", "--workers", "4", "--tcp", "[::1]:53"],
+                ),
+                ({"LISTEN": "[::1]:53", "WORKERS": "4", "TCP": ""}, ["[::1]:53", "--workers", "4"]),
+                (
+                    {"LISTEN": "a:1", "WORKERS": "4", "TCP": "b:2"},
+                    ["a:1", "--workers", "4", "--tcp", "b:2"],
+                ),
+                ({"LISTEN": "a b", "WORKERS": "$x"}, ["a b", "--workers", "$x", "--tcp", "a b"]),
+            ):
+                with self.subTest(path.name, **settings):
+                    # the second word is the topology
+                    serve, _, *words = started(path, **settings)
+                    self.assertEqual([serve, *words], ["serve", "--listen", *rest])
+
+    def test_settings_are_there(self):
+        """Whatever file a unit reads its settings from is one that is shipped, or one for each address."""
+        for path in SERVICES:
+            with self.subTest(path.name):
+                file = value(path, "EnvironmentFile")
+                if file and file != "/etc/glb/%i.conf":
+                    self.assertTrue((EXAMPLES / f"{Path(file).name}.default").is_file(), file)
+
+    def test_metrics_go_with_their_server(self):
+        for path in EXAMPLES.glob("glb-metrics*.service"):
+            with self.subTest(path.name):
+                written = re.search(r"--text-file (\S+?)[ ']", path.read_text())[1]
+                self.assertEqual(value(path, "ExecStopPost"), f"/bin/rm -f {written}")
+                self.assertEqual(value(path, "PartOf"), value(path, "After"))
+                self.assertIn(value(path, "PartOf"), value(path, "WantedBy"))
+
+
+@unittest.skipUnless(
+    shutil.which("systemd-analyze"), "systemd-analyze is not installed (Debian: systemd)"
+)
+class Verified(Case):
+    def test_systemd_takes_them(self):
+        for path in EXAMPLES.iterdir():
+            if path.suffix in (".service", ".timer", ".socket"):
+                text = re.sub(
+                    r"/usr/local/(bin|lib/glb)/[a-z-]+(?= \$OPTIONS|$)",
+                    "/bin/true",
+                    path.read_text(),
+                    flags=re.M,
+                )
+                (self.folder / path.name).write_text(text)
+        names = [path.name.replace("@.", "@v4.") for path in self.folder.iterdir()]
+        for path in list(self.folder.glob("*@.*")):
+            (self.folder / path.name.replace("@.", "@v4.")).symlink_to(path)
+        words = [
+            "systemd-analyze",
+            "verify",
+            "--man=no",
+            *(str(self.folder / name) for name in sorted(names)),
+        ]
+        found = subprocess.run(words, capture_output=True, timeout=120)
+        lines = [
+            line
+            for line in found.stderr.decode().splitlines()
+            if str(self.folder) in line or "glb" in line
+        ]
+        self.assertEqual(lines, [])
+
+
+if __name__ == "__main__":
+    unittest.main()
