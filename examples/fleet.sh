@@ -9,7 +9,7 @@
 # GLB names the program, as a whole path, and GLB_OTHER another build of it, for the part `build`; the part `memory` wants a
 # C compiler, `clock` the package faketime. Nothing is left behind but what it prints.
 set -uo pipefail
-usual="writers answers server follower member cut_off roll skip adopt restore hand dropped cut hang hung sums"
+usual="writers answers server follower member cut_off roll skip adopt restore hand dropped cut_log hang hung sums"
 others="behind full build memory clock"
 for part in "$@"; do case " $usual $others " in *" $part "*) ;; *) echo "no such part: $part" && exit 1 ;; esac; done
 if ip netns list | grep -q glbfleet; then echo 'another run is there, or was cut off: ip netns del glbfleet0, ..1, ..2, ..3' && exit 1; fi
@@ -378,7 +378,7 @@ PYTHON
 }
 
 # The log is not cut where a server needs it; one that comes back from before a cut begins from the newest base.
-cut() {
+cut_log() {
     ok 'what stands before the newest base is cut away' tool 1 glb-append --cut
     touch "$work/held3"
     kill -9 "$(pid 3 server)" "$(pid 3 follower)"

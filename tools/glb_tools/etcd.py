@@ -19,6 +19,8 @@ from glb_tools.options import WRONG_WORDS, Fault
 
 # how long a member may be silent, in seconds
 PATIENCE = 3.0
+# how long it may take to give back the room that history had
+DEFRAGMENT = 120.0
 # the status of a command that found no majority, and that of one that found etcd full
 NO_MAJORITY, FULL = 3, 4
 ETCD_STATUSES = {
@@ -231,6 +233,18 @@ class Etcd:
                 return told
         except (OSError, ValueError, KeyError, TypeError, HTTPException):
             return None
+
+    def make_room(self) -> int:
+        """Gives up all history, has each member give back the room, and takes back the alarm; says the revision."""
+        revision = self.txn([one("/")]).revision
+        self.call("/v3/kv/compaction", {"revision": str(revision), "physical": True})
+        for member in list(self.members):
+            # a member stands still meanwhile
+            with self.open(member, "/v3/maintenance/defragment", {}, DEFRAGMENT) as answer:
+                answer.read()
+        for alarm in self.alarms():
+            self.call("/v3/maintenance/alarm", {"action": "DEACTIVATE", **alarm})
+        return revision
 
     def alarms(self) -> list[Message]:
         told: list[Message] = self.call("/v3/maintenance/alarm", {"action": "GET"}).get(
