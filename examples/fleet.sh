@@ -119,6 +119,8 @@ all_there() {
     cat "$work/fleet"
     return 1
 }
+# A roll from host 1, what it says into a file.
+rolled() { tool 1 glb-roll --program "$glb" "$@" >"$work/roll" 2>&1; }
 status_of() { tool 1 glb-fleet >"$work/fleet"; echo $?; }
 # The last number of the log, and one server's line.
 last() { tool 1 glb-log --last 1 | cut -d' ' -f1; }
@@ -270,18 +272,18 @@ roll() {
     sed 's/^ttl = .*/ttl = 30/' "$here/examples/tree.toml" >"$work/next.toml"
     for i in $(seq 40); do append 2 >>"$work/rolled"; sleep 0.1; done &
     writing=$!
-    ok 'a roll comes to its end' tool 1 glb-roll "$work/next.toml" --program "$glb" --why 'another TTL' >"$work/roll" 2>&1
+    ok 'a roll comes to its end' rolled "$work/next.toml" --why 'another TTL'
     cat "$work/roll"
     wait "$writing"
     ok 'no append waited for it, or was lost' [ "$(sort -n "$work/rolled" | uniq | wc -l)" = 40 ]
     ok 'all agree behind it' agreed
     ok 'clients get the new one' bash -c "ip netns exec glbfleet3 dig +noall +answer @$net.3 www.cdn.example A | grep -q '\b30\b'"
     for host in $hosts; do ok "host$host went over once" [ "$(grep -c 'goes over to base' "$work/follow$host.log")" = 1 ]; done
-    ok 'and back' tool 1 glb-roll --back --why 'as before' >"$work/roll" 2>&1
+    ok 'and back' rolled --back --why 'as before'
     ok 'all agree behind that, too' agreed
     ok 'clients get the old one' bash -c "ip netns exec glbfleet3 dig +noall +answer @$net.3 www.cdn.example A | grep -q '\b20\b'"
     echo 'nonsense = 1' >>"$work/next.toml"
-    tool 1 glb-roll "$work/next.toml" --program "$glb" >"$work/roll" 2>&1
+    rolled "$work/next.toml"
     ok 'a topology that is none is refused' [ $? = 1 ]
     cat "$work/roll"
 }
@@ -291,10 +293,10 @@ skip() {
     all_there >/dev/null
     kill -STOP "$(pid 3 follower)"
     echo 'capacity A 0' | tool 1 glb-append --wait 0 >/dev/null
-    tool 1 glb-roll "$here/examples/tree.toml" --program "$glb" --seconds 2 >"$work/roll" 2>&1
+    rolled "$here/examples/tree.toml" --seconds 2
     ok 'nothing is rolled while a follower hangs' [ $? = 1 ]
     kill -9 "$(pid 3 follower)"
-    ok 'and then it is' tool 1 glb-roll "$here/examples/tree.toml" --program "$glb" >"$work/roll" 2>&1
+    ok 'and then it is' rolled "$here/examples/tree.toml"
     ok 'all agree' agreed
     for host in $hosts; do ok "host$host answers with what is left" [ "$(on "$host" dig +short "@$net.$host" www.cdn.example A)" = 192.0.2.2 ]; done
     echo 'capacity A 10' | tool 1 glb-append >/dev/null
@@ -306,12 +308,12 @@ adopt() {
     touch "$work/held3"
     kill -9 "$(pid 3 server)" "$(pid 3 follower)"
     echo 'capacity A 0' | tool 1 glb-append >/dev/null
-    tool 1 glb-roll "$here/examples/tree.toml" --program "$glb" --seconds 2 >"$work/roll" 2>&1
+    rolled "$here/examples/tree.toml" --seconds 2
     ok 'nothing is rolled while a server is away' [ $? = 1 ]
     grep host3 "$work/roll"
     ok 'and glb-fleet says so' [ "$(status_of)" = 5 ]
     rm "$work/held3"
-    ok 'it goes on when it is back' tool 1 glb-roll "$here/examples/tree.toml" --program "$glb" >"$work/roll" 2>&1
+    ok 'it goes on when it is back' rolled "$here/examples/tree.toml"
     ok 'all agree' agreed
     for host in $hosts; do ok "host$host answers with what is left" [ "$(on "$host" dig +short "@$net.$host" www.cdn.example A)" = 192.0.2.2 ]; done
     echo 'capacity A 10' | tool 1 glb-append >/dev/null
@@ -384,7 +386,7 @@ cut_log() {
     kill -9 "$(pid 3 server)" "$(pid 3 follower)"
     for _ in $(seq 50); do status_of >/dev/null; grep -q 'host3: \(gone\|ended\)' "$work/fleet" && break; sleep 0.5; done
     tool 1 glb-fleet --forget host3
-    ok 'without host3 the others go over' tool 1 glb-roll "$here/examples/tree.toml" --program "$glb" >"$work/roll" 2>&1
+    ok 'without host3 the others go over' rolled "$here/examples/tree.toml"
     ok 'and the log is cut' tool 1 glb-append --cut
     rm "$work/held3"
     ok 'all agree with host3 back' agreed

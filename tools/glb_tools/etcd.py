@@ -30,6 +30,9 @@ ETCD_STATUSES = {
 # codes of gRPC in the answers of the gateway
 DEADLINE, NOT_FOUND, EXHAUSTED, INTERNAL, UNAVAILABLE, UNAUTHENTICATED = 4, 5, 8, 13, 14, 16
 
+# what comes of an answer that is none of etcd's
+NONSENSE = (ValueError, KeyError, TypeError, AttributeError)
+
 Message = dict[str, Any]
 Found = TypeVar("Found")
 
@@ -156,7 +159,7 @@ class Etcd:
                     return use(answer)
             except urllib.error.HTTPError as error:
                 why = self.refused(member, error)
-            except (OSError, ValueError, KeyError, TypeError, HTTPException) as error:
+            except (OSError, HTTPException, *NONSENSE) as error:
                 why = f"{member}: {error}"
             self.members.append(self.members.pop(0))
         raise Unreachable(why)
@@ -166,7 +169,7 @@ class Etcd:
         try:
             told = json.loads(error.read())
             code, words = int(told["code"]), str(told.get("message") or told.get("error"))
-        except (OSError, ValueError, KeyError, TypeError, AttributeError, HTTPException):
+        except (OSError, HTTPException, *NONSENSE):
             return f"{member}: {error}"
         if code == EXHAUSTED and "space" in words:
             raise Full(words)
@@ -179,24 +182,34 @@ class Etcd:
         return f"{member}: {words}"
 
     def call(self, path: str, message: Message) -> Message:
-        answer: Message = self.reach(path, message, json.load)
-        return answer
+        def told(answer: Any) -> Message:
+            found = json.load(answer)
+            if not isinstance(found, dict):
+                raise ValueError("no answer of etcd")
+            return found
+
+        return self.reach(path, message, told)
 
     def txn(self, parts: list[Message], conditions: list[Message] | None = None) -> Answer:
         """Does all parts at one moment, where all conditions hold at it."""
-        answer = self.call("/v3/kv/txn", {"compare": conditions or [], "success": parts})
-        found = [
-            [item(kv) for kv in response["response_range"].get("kvs", [])]
-            for response in answer.get("responses", [])
-            if "response_range" in response
-        ]
-        return Answer(bool(answer.get("succeeded")), found, int(answer["header"]["revision"]))
+
+        def told(octets: Any) -> Answer:
+            answer = json.load(octets)
+            found = [
+                [item(kv) for kv in response["response_range"].get("kvs", [])]
+                for response in answer.get("responses", [])
+                if "response_range" in response
+            ]
+            return Answer(bool(answer.get("succeeded")), found, int(answer["header"]["revision"]))
+
+        return self.reach("/v3/kv/txn", {"compare": conditions or [], "success": parts}, told)
 
     def get(self, key: str) -> Item | None:
         return next(iter(self.txn([one(key)]).found[0]), None)
 
     def lease(self, seconds: int) -> int:
-        return int(self.call("/v3/lease/grant", {"TTL": str(seconds)})["ID"])
+        grant = {"TTL": str(seconds)}
+        return self.reach("/v3/lease/grant", grant, lambda answer: int(json.load(answer)["ID"]))
 
     def keep(self, lease: int) -> bool:
         """Whether the lease still lives; from now on for its whole time."""
@@ -231,7 +244,7 @@ class Etcd:
             with self.open(member, "/v3/maintenance/status", {}, PATIENCE) as answer:
                 told: Message = json.load(answer)
                 return told
-        except (OSError, ValueError, KeyError, TypeError, HTTPException):
+        except (OSError, HTTPException, *NONSENSE):
             return None
 
     def make_room(self) -> int:
