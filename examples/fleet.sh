@@ -113,7 +113,7 @@ agreed() {
 all_there() {
     for _ in $(seq "${1:-300}"); do
         tool 1 glb-fleet >"$work/fleet" 2>/dev/null
-        [ "$(grep -c ': there' "$work/fleet")" = 3 ] && ! grep '^!' "$work/fleet" | grep -qv 'was dropped whole' && return 0
+        [ "$(grep -c ': there' "$work/fleet")" = 3 ] && ! grep '^!' "$work/fleet" | grep -qv 'was dropped whole\|a member of etcd' && return 0
         sleep 0.1
     done
     cat "$work/fleet"

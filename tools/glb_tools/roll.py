@@ -82,9 +82,8 @@ class Roll:
     def has(self, name: str, look: Look) -> bool:
         state = look.states.get(name)
         if state is None:
-            raise Fault(
-                f"{name} is gone: bring it back, or glb-fleet --forget {name}; nothing was rolled"
-            )
+            self.say(name, f"is gone: bring it back, or glb-fleet --forget {name}")
+            return False
         if self.checksum[:16] in (state.get("has"), state.get("base")):
             self.say(name, "has the base")
             return True
