@@ -234,6 +234,9 @@ class Follower:
         new = look.entries[1:] if identity.entry else look.entries
         for entry in new:
             self.work(entry, look)
+            if self.broken:
+                # nothing behind it may be worked
+                return True
             self.idle(silent=False)
             if time.monotonic() - self.told_at > PAUSE:
                 self.tell()

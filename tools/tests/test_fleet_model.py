@@ -109,6 +109,7 @@ SCENARIOS = [
     ["save", "append A", "append A", "restore", "append A B"],
     ["append X", "raw", "memory 0", "append A"],
     ["append A", "cut", "kill server 1", "roll A late"],
+    ["cut off 0", "append A", "append A", "memory 0", "join 0"],
 ]
 
 
