@@ -524,7 +524,7 @@ import json, sys
 by_number = {}
 for line in open(sys.argv[1]):
     for server in json.loads(line)["servers"]:
-            for spot, checksum in server.get("maps", {}).items():
+        for spot, checksum in server.get("maps", {}).items():
             by_number.setdefault((server["base"], spot), {}).setdefault(server["name"], set()).add(checksum)
 of_three = [n for n, servers in by_number.items() if len(servers) == 3]
 differ = [n for n, servers in by_number.items() if len(set().union(*servers.values())) > 1]
