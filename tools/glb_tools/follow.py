@@ -562,9 +562,9 @@ def prepare(name: str, log: Log, place: Place, bases: Bases, topology: bytes | N
     place.prepare(octets, Identity(checksum, bases.program_checksum(), run, entry, chain))
 
 
-def silence(name: str, log: Log) -> None:
-    """Takes away what was told of the server; where etcd cannot be reached, it is gone after that time."""
-    end = time.monotonic() + ALIVE
+def silence(name: str, log: Log, seconds: float = ALIVE) -> None:
+    """Takes away what was told of the server; where etcd cannot be reached, it is gone after that time by itself."""
+    end = time.monotonic() + seconds
     while True:
         try:
             log.etcd.txn([delete(log.at("at", name))])
@@ -632,6 +632,9 @@ def main() -> int:
         "--prepare", action="store_true", help="makes what the server begins with, and ends"
     )
     words.add_argument(
+        "--ended", action="store_true", help="keeps queries out behind a command that ended anyhow"
+    )
+    words.add_argument(
         "--ready",
         default=os.environ.get("GLB_READY"),
         metavar="COMMAND",
@@ -651,6 +654,12 @@ def main() -> int:
         if failed := hooks.run(hooks.unready):
             raise Fault(failed)
         prepare(options.name, log, place, bases)
+        return 0
+    if options.ended:
+        failed = hooks.run(hooks.unready)
+        silence(options.name, log, SOON)
+        if failed:
+            raise Fault(failed)
         return 0
     follower = Follower(options.name, log, Server(options.run), place, bases, hooks)
     signal.signal(signal.SIGTERM, lambda *_: sys.exit(0))

@@ -415,8 +415,10 @@ class Log:
         parts = [
             delete(self.key(0), self.key(base.upto)),
             delete(self.at("dropped", ""), self.at("dropped", f"{base.upto:016d}")),
-            self.put_bases(kept),
         ]
+        if kept != look.bases:
+            # an etcd that is full takes what only takes away
+            parts.append(self.put_bases(kept))
         for checksum in sorted(gone):
             for kind in ("file", "names"):
                 parts += [
@@ -425,7 +427,7 @@ class Log:
                 ]
         if not self.etcd.txn(parts, [is_at(self.at("bases"), look.bases_revision)]).held:
             raise Fault("a base came meanwhile: nothing was cut")
-        return base.upto
+        return max(base.upto, 1)
 
     def kept(self, look: Look, base: Base) -> list[Base]:
         """The bases that stay with that one: those behind it, and what entries before it were checked by."""

@@ -121,6 +121,7 @@ def write_at(log: Log, number: int, options: argparse.Namespace) -> None:
 ABOUT = """Lists the entries of the log: who appended what, when, and why; and writes topology and map as of any entry.
 
     glb-log                  the last 20 entries
+    glb-log --compact        gives up etcd's history of its keys, and gives back the room
     glb-log --at N           writes at-N.toml and at-N.map, which glb check, glb-why and glb-moves read"""
 
 
@@ -149,10 +150,16 @@ def main() -> int:
         "--at", type=int, metavar="N", help="writes topology and map as of that entry"
     )
     words.add_argument("--to", metavar="STEM", help="writes them to STEM.toml and STEM.map")
+    words.add_argument(
+        "--compact", action="store_true", help="makes room in an etcd that is full or nearly so"
+    )
     words.add_argument("--program", default="glb", help="the servers' program, for the map (glb)")
     options = words.parse_args()
     log = Log(etcd_of(options), options.prefix)
-    if options.at is not None:
+    if options.compact:
+        with Progress("makes room in etcd"):
+            print(f"etcd has no history before revision {log.etcd.make_room()}")
+    elif options.at is not None:
         write_at(log, options.at, options)
     elif options.json:
         json.dump([as_json(entry) for entry in listed(log, options)], sys.stdout, indent=2)
