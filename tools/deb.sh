@@ -95,8 +95,8 @@ for name in $server_commands; do
 done
 for unit in "$top"/examples/*.service "$top"/examples/*.timer; do
     case $(basename "$unit") in
-    glb-metrics* | glb-exporter*) install_unit "$tools" "$unit" ;;
-    *) install_unit "$server" "$unit" ;;
+    glb.* | glb@* | glb-feed* | glb-show* | glb-fleet@* | glb-follow@*) install_unit "$server" "$unit" ;;
+    *) install_unit "$tools" "$unit" ;;
     esac
 done
 install -D -m 644 "$top/docs/glb.1" "$server/usr/share/man/man1/glb.1"
@@ -140,7 +140,9 @@ for old in "$top"/tools/*.py; do
     ln -s "../../share/glb/$name" "$tools/usr/lib/glb/$name"
 done
 install -D -m 644 -t "$tools/usr/share/doc/glb-tools/examples" "$top"/examples/*.yml
-install_settings "$tools" "$top/examples/glb-exporter.default" etc/default/glb-exporter
+for settings in "$top"/examples/glb-*.default; do install_settings "$tools" "$settings" "etc/default/$(basename "$settings" .default)"; done
+# its units, those of a name with all that were made of them
+tool_units=$(ls "$tools/usr/lib/systemd/system" | sed 's/@\./@*./' | tr '\n' ' ')
 
 for package in glb glb-tools; do
     root=$roots/$package
@@ -231,21 +233,26 @@ cat >"$tools/DEBIAN/prerm" <<SCRIPT
 #!/bin/sh
 set -e
 if [ "\$1" = remove ] && [ -d /run/systemd/system ]; then
-    systemctl stop 'glb-metrics*.service' glb-exporter.service || true
+    # the stars are systemd's
+    set -f
+    systemctl stop $tool_units || true
+    set +f
 fi
 $prerm_of_both
 SCRIPT
-cat >"$tools/DEBIAN/postrm" <<'SCRIPT'
+cat >"$tools/DEBIAN/postrm" <<SCRIPT
 #!/bin/sh
 set -e
-if [ "$1" = remove ] || [ "$1" = purge ]; then
+if [ "\$1" = remove ] || [ "\$1" = purge ]; then
     # metrics that nobody writes any more would be served for ever
     rm -f /var/lib/prometheus/node-exporter/glb.prom /var/lib/prometheus/node-exporter/glb-*.prom
 fi
-if [ "$1" = purge ]; then
-    rm -f /etc/systemd/system/*.wants/glb-metrics*.service /etc/systemd/system/*.wants/glb-exporter.service
+if [ "\$1" = purge ]; then
+    for unit in $tool_units; do rm -f /etc/systemd/system/*.wants/\$unit; done
     rmdir /etc/systemd/system/glb*.wants 2>/dev/null || true
-    if [ -d /run/systemd/system ]; then systemctl reset-failed 'glb-metrics*' glb-exporter 2>/dev/null || true; fi
+    set -f
+    if [ -d /run/systemd/system ]; then systemctl reset-failed $tool_units 2>/dev/null || true; fi
+    set +f
 fi
 if [ -d /run/systemd/system ]; then systemctl daemon-reload; fi
 SCRIPT
