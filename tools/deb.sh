@@ -22,8 +22,8 @@ server=$roots/glb
 tools=$roots/glb-tools
 install -d "$server" "$tools"
 
-# The module whose main a command is.
-module_of() { sed -n 's/^start("\(.*\)")$/\1/p' "$top/tools/$1"; }
+# The module whose main a command is, by its path; nothing of what is no command of Python.
+module_of() { sed -n -e 's/^ *start("\(.*\)")$/\1/p' -e 's/^ *from glb_tools\.\(.*\) import main$/\1/p' "$top/tools/$1" | tr . /; }
 
 # The modules of glb_tools that those of the server's commands read.
 server_modules() {
@@ -95,14 +95,15 @@ for name in $server_commands; do
 done
 for unit in "$top"/examples/*.service "$top"/examples/*.timer; do
     case $(basename "$unit") in
-    glb-metrics* | glb-exporter*) install_unit "$tools" "$unit" ;;
-    *) install_unit "$server" "$unit" ;;
+    glb.* | glb@* | glb-feed* | glb-show* | glb-fleet@* | glb-follow@*) install_unit "$server" "$unit" ;;
+    *) install_unit "$tools" "$unit" ;;
     esac
 done
 install -D -m 644 "$top/docs/glb.1" "$server/usr/share/man/man1/glb.1"
 gzip -9n "$server/usr/share/man/man1/glb.1"
 install -D -m 644 -t "$server/usr/share/doc/glb" "$top"/README.md "$top"/docs/{FORMATS,OPERATING,PROVED,DECISIONS}.md
-install -D -m 644 -t "$server/usr/share/doc/glb/examples" "$top"/examples/*.toml "$top"/examples/*.map "$top"/examples/*.changes "$top"/examples/*.socket "$top"/examples/queries.txt
+install -D -m 644 -t "$server/usr/share/doc/glb/examples" "$top"/examples/*.toml "$top"/examples/*.map "$top"/examples/*.changes "$top"/examples/*.socket "$top"/examples/glb-ready.nft "$top"/examples/queries.txt
+install -D -m 755 "$top/examples/glb-ready" "$server/usr/bin/glb-ready"
 install_settings "$server" "$top/examples/glb.default" etc/default/glb
 install -d "$server/etc/glb"
 printf '# LISTEN, WORKERS, TCP and GLB_ETCD of the units glb@v4 and glb-fleet@v4: see /usr/share/doc/glb/OPERATING.md\nLISTEN=127.0.0.1:53\nWORKERS=1\n' >"$server/etc/glb/v4.conf"
@@ -122,8 +123,16 @@ echo /etc/glb/v4.conf >>"$server.conffiles"
 done
 for command in "$top"/tools/glb-*; do
     name=$(basename "$command")
-    case " $server_commands " in *" ${name#glb-} "*) ;; *) install_command "$tools" "$name" ;; esac
+    case " $server_commands " in *" ${name#glb-} "*) continue ;; esac
+    if [ -n "$(module_of "$name")" ]; then install_command "$tools" "$name"; fi
 done
+# the one that is compiled, where it was built (tools/native/build.sh)
+compiled=
+if [ -x "$top/tools/glb-prices" ]; then
+    install -D -s -m 755 "$top/tools/glb-prices" "$tools/usr/lib/glb/glb-prices"
+    ln -s ../lib/glb/glb-prices "$tools/usr/bin/glb-prices"
+    compiled="libc6, libstdc++6, libgcc-s1, "
+fi
 # names of before, until the next release of the package
 install -d "$tools/usr/lib/glb"
 for old in "$top"/tools/*.py; do
@@ -132,7 +141,9 @@ for old in "$top"/tools/*.py; do
     ln -s "../../share/glb/$name" "$tools/usr/lib/glb/$name"
 done
 install -D -m 644 -t "$tools/usr/share/doc/glb-tools/examples" "$top"/examples/*.yml
-install_settings "$tools" "$top/examples/glb-exporter.default" etc/default/glb-exporter
+for settings in "$top"/examples/glb-*.default; do install_settings "$tools" "$settings" "etc/default/$(basename "$settings" .default)"; done
+# its units, those of a name with all that were made of them
+tool_units=$(ls "$tools/usr/lib/systemd/system" | sed 's/@\./@*./' | tr '\n' ' ')
 
 for package in glb glb-tools; do
     root=$roots/$package
@@ -149,7 +160,7 @@ Architecture: amd64
 Maintainer: $maintainer
 Installed-Size: $(size "$server")
 Depends: libc6, python3 (>= 3.11), adduser
-Suggests: glb-tools, etcd-server
+Suggests: glb-tools, etcd-server, nftables
 Section: net
 Priority: optional
 Description: mapping system of a content delivery network, proved correct
@@ -162,11 +173,11 @@ CONTROL
 cat >"$tools/DEBIAN/control" <<CONTROL
 Package: glb-tools
 Version: $version
-Architecture: all
+Architecture: amd64
 Maintainer: $maintainer
 Installed-Size: $(size "$tools")
-Depends: glb (= $version), python3 (>= 3.11), python3-prometheus-client, python3-requests, python3-scipy, python3-jinja2
-Recommends: python3-maxminddb
+Depends: ${compiled}glb (= $version), python3 (>= 3.11), python3-jinja2, python3-numpy, python3-prometheus-client, python3-requests, python3-scipy
+Recommends: python3-maxminddb, python3-yaml
 Suggests: prometheus, prometheus-node-exporter
 Breaks: glb (<< $version)
 Replaces: glb (<< $version)
@@ -223,25 +234,30 @@ cat >"$tools/DEBIAN/prerm" <<SCRIPT
 #!/bin/sh
 set -e
 if [ "\$1" = remove ] && [ -d /run/systemd/system ]; then
-    systemctl stop 'glb-metrics*.service' glb-exporter.service || true
+    # the stars are systemd's
+    set -f
+    systemctl stop $tool_units || true
+    set +f
 fi
 $prerm_of_both
 SCRIPT
-cat >"$tools/DEBIAN/postrm" <<'SCRIPT'
+cat >"$tools/DEBIAN/postrm" <<SCRIPT
 #!/bin/sh
 set -e
-if [ "$1" = remove ] || [ "$1" = purge ]; then
+if [ "\$1" = remove ] || [ "\$1" = purge ]; then
     # metrics that nobody writes any more would be served for ever
     rm -f /var/lib/prometheus/node-exporter/glb.prom /var/lib/prometheus/node-exporter/glb-*.prom
 fi
-if [ "$1" = purge ]; then
-    rm -f /etc/systemd/system/*.wants/glb-metrics*.service /etc/systemd/system/*.wants/glb-exporter.service
+if [ "\$1" = purge ]; then
+    for unit in $tool_units; do rm -f /etc/systemd/system/*.wants/\$unit; done
     rmdir /etc/systemd/system/glb*.wants 2>/dev/null || true
-    if [ -d /run/systemd/system ]; then systemctl reset-failed 'glb-metrics*' glb-exporter 2>/dev/null || true; fi
+    set -f
+    if [ -d /run/systemd/system ]; then systemctl reset-failed $tool_units 2>/dev/null || true; fi
+    set +f
 fi
 if [ -d /run/systemd/system ]; then systemctl daemon-reload; fi
 SCRIPT
 chmod 755 "$server"/DEBIAN/{postinst,prerm,postrm} "$tools"/DEBIAN/{postinst,prerm,postrm}
 chmod 644 "$server/DEBIAN/conffiles" "$tools/DEBIAN/conffiles"
 dpkg-deb --root-owner-group --build "$server" "$folder/glb_${version}_amd64.deb"
-dpkg-deb --root-owner-group --build "$tools" "$folder/glb-tools_${version}_all.deb"
+dpkg-deb --root-owner-group --build "$tools" "$folder/glb-tools_${version}_amd64.deb"

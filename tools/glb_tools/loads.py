@@ -14,7 +14,7 @@ import threading
 import time
 from dataclasses import dataclass, field
 from pathlib import Path
-from typing import BinaryIO
+from typing import BinaryIO, NoReturn
 
 from glb_tools.etcd import Unreachable
 from glb_tools.log import Base, Entry, Log, Look, left_in
@@ -143,31 +143,39 @@ class Beside:
         if self.maps <= serial:
             self.fail(f"no map {serial} came")
 
-    def fail(self, why: str) -> None:
+    def fail(self, why: str) -> NoReturn:
         self.end()
         raise Fault(f"the program beside: {why} (status {self.process.returncode})")
 
     def work(self, lines: str) -> None:
         """Works a batch: whatever its lines are, it is answered."""
-        assert self.process.stdin and self.process.stdout
-        if self.process.poll() is not None:
-            self.fail("it has ended")
+        # a program that hangs is ended, and has ended then
+        ends = threading.Timer(PATIENCE, self.process.kill)
+        ends.start()
         try:
-            # the text of a map is put ahead of its line `published`
-            self.process.stdin.write(lines.encode("latin-1", errors="replace") + b"commit\n")
-            self.process.stdin.flush()
-            while line := self.process.stdout.readline():
-                if line.startswith(b"published "):
-                    self.wait_for_map(int(line.split()[1]))
-                    self.world.work(lines)
-                    return
-                if line.startswith(b"refused commit"):
-                    if b"memory" in line:
-                        self.fail("it had no memory for a batch")
-                    return
+            answer = self.answer(lines)
         except OSError as why:
             self.fail(str(why))
-        self.fail("it has ended")
+        finally:
+            ends.cancel()
+        if answer.startswith(b"published "):
+            # the text of a map is put ahead of its line
+            self.wait_for_map(int(answer.split()[1]))
+            self.world.work(lines)
+        elif b"memory" in answer:
+            self.fail("it had no memory for a batch")
+        elif not answer:
+            self.fail("it has ended")
+
+    def answer(self, lines: str) -> bytes:
+        """The line that answers a batch; nothing where the program has ended."""
+        assert self.process.stdin and self.process.stdout
+        self.process.stdin.write(lines.encode("latin-1", errors="replace") + b"commit\n")
+        self.process.stdin.flush()
+        while line := self.process.stdout.readline():
+            if line.startswith((b"published ", b"refused commit")):
+                return line
+        return b""
 
     def loads(self, entry: int) -> Loads:
         return self.world.loads(self.text, entry)
@@ -233,15 +241,15 @@ class FileWorker(Worker):
         self.topology, self.path = Path(topology), Path(log)
 
     def follow(self) -> None:
-        octets = self.topology.read_bytes()
-        beside = Beside(self.program, octets)
+        was = file_at(self.topology)
+        beside = Beside(self.program, self.topology.read_bytes())
         try:
             with open(self.path, "rb") as file:
-                self.follow_file(beside, octets, file)
+                self.follow_file(beside, was, file)
         finally:
             beside.end()
 
-    def follow_file(self, beside: Beside, octets: bytes, file: BinaryIO) -> None:
+    def follow_file(self, beside: Beside, topology: tuple[int, ...], file: BinaryIO) -> None:
         rest, entry, is_new = b"", 0, True
         while True:
             piece = file.read(1 << 20)
@@ -255,16 +263,17 @@ class FileWorker(Worker):
                 self.sum_up(beside, entry)
                 is_new = False
             self.rest(min(self.every, SELDOM))
-            if self.topology.read_bytes() != octets:
+            if file_at(self.topology) != topology:
                 raise Fault(f"{self.topology} is another one: the log is worked anew")
-            there = os.stat(self.path)
-            if (there.st_ino, there.st_dev) != file_of(file) or there.st_size < file.tell():
+            there, own = os.stat(self.path), os.fstat(file.fileno())
+            if there.st_ino != own.st_ino or there.st_size < file.tell():
                 raise Fault(f"{self.path} was put in its place or made shorter: it is worked anew")
 
 
-def file_of(file: BinaryIO) -> tuple[int, int]:
-    found = os.fstat(file.fileno())
-    return found.st_ino, found.st_dev
+def file_at(path: Path) -> tuple[int, ...]:
+    """By what a file is known that may be put in its place or written anew."""
+    found = os.stat(path)
+    return found.st_ino, found.st_mtime_ns, found.st_size
 
 
 COMMIT, STOP = re.compile(rb"(?m)^ *commit *\n"), re.compile(rb"(?m)^ *stop *\n")

@@ -18,7 +18,7 @@ from samples import SMALL, SMALL_MAP, Case
 
 # plays `glb serve`: its map gives g1 at A as many units as its demand
 PLAYED = """#!/usr/bin/env python3
-import sys
+import sys, time
 assert sys.argv[1] == "serve" and sys.argv[3:] == ["--listen", "127.0.0.1:0"]
 open(sys.argv[2]).read()
 demand, serial, batch = 8, 0, []
@@ -35,6 +35,8 @@ for line in sys.stdin:
             print("refused commit memory", flush=True)
         elif any(each[0] == "end" for each in batch):
             sys.exit(5)
+        elif any(each[0] == "hang" for each in batch):
+            time.sleep(60)
         else:
             for each in batch:
                 demand = int(each[2]) if each[1] == "g1" else demand
@@ -128,6 +130,11 @@ class BesideServers(Played):
             with self.subTest(line), self.assertRaisesRegex(Fault, why):
                 self.beside().work(line)
 
+    def test_hangs(self):
+        beside = self.beside()
+        with mock.patch.object(loads, "PATIENCE", 0.2), self.assertRaisesRegex(Fault, "has ended"):
+            beside.work("hang 1 2\n")
+
     def test_nothing_is_left(self):
         beside = self.beside()
         self.assertFalse(Path(beside.folder).exists())
@@ -174,9 +181,12 @@ class Files(Played):
         # and one that was made shorter, too
         log.write_text("")
         until(lambda: worker.loads and worker.loads.placed == 8)
+        # another topology
+        Path(topology).write_text(SMALL.replace("capacity = 15", "capacity = 16"))
+        until(lambda: worker.loads and worker.loads.nodes["R"][1] == 16)
         log.unlink()
         until(lambda: not worker.is_up and worker.loads is None)
-        self.assertEqual(sum("is worked anew" in why for why in self.told()), 2)
+        self.assertEqual(sum("worked anew" in why for why in self.told()), 3)
         self.assertIn("No such file", self.told()[-1])
 
 
