@@ -113,7 +113,7 @@ agreed() {
 all_there() {
     for _ in $(seq "${1:-300}"); do
         tool 1 glb-fleet >"$work/fleet" 2>/dev/null
-        [ "$(grep -c ': there' "$work/fleet")" = 3 ] && ! grep '^!' "$work/fleet" | grep -qv 'was dropped whole' && return 0
+        [ "$(grep -c ': there' "$work/fleet")" = 3 ] && ! grep '^!' "$work/fleet" | grep -qv 'was dropped whole\|a member of etcd' && return 0
         sleep 0.1
     done
     cat "$work/fleet"
@@ -524,7 +524,8 @@ import json, sys
 by_number = {}
 for line in open(sys.argv[1]):
     for server in json.loads(line)["servers"]:
-    XX
+        for spot, checksum in server.get("maps", {}).items():
+            by_number.setdefault((server["base"], spot), {}).setdefault(server["name"], set()).add(checksum)
 of_three = [n for n, servers in by_number.items() if len(servers) == 3]
 differ = [n for n, servers in by_number.items() if len(set().union(*servers.values())) > 1]
 print(len(of_three), len(differ))

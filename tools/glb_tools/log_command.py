@@ -12,7 +12,7 @@ from typing import IO, Any
 
 from glb_tools.etcd import ETCD_STATUSES, add_etcd_options, etcd_of
 from glb_tools.history import base_of, feed, topology_at, topology_of
-from glb_tools.log import BASE, BATCH, NONE, Entry, Log
+from glb_tools.log import BASE, BATCH, NONE, Base, Entry, Log
 from glb_tools.options import DONE, Fault, Progress, parser, run, write_file
 from glb_tools.server import END
 
@@ -85,10 +85,11 @@ def last_map(texts: IO[bytes]) -> bytes:
     return last
 
 
-def map_at(log: Log, number: int, program: str) -> bytes:
-    """The map of the servers at an entry: the program works the log once more, and answers nobody."""
+def map_at(log: Log, number: int, program: str, base: Base | None = None) -> bytes:
+    """The map of the servers of a base at an entry (of the newest one there): the program works the log once more, and
+    answers nobody."""
     look = log.look()
-    base = base_of(log, look, number)
+    base = base or base_of(log, look, number)
     with tempfile.TemporaryDirectory() as folder:
         topology, batches = Path(folder, "base.toml"), Path(folder, "feed")
         topology.write_bytes(topology_of(log, base))
