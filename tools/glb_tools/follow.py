@@ -629,7 +629,7 @@ def wait(follower: Follower) -> None:
 
 
 def words_beside(options: argparse.Namespace) -> list[str]:
-    """How a server is run beside (glb_tools/beside.py)."""
+    """How a server is run beside: by glb_tools.beside."""
     code = f"import sys; sys.argv[0] = 'glb-beside'; sys.path.append({str(Path(__file__).parent.parent)!r})"
     code += "; from glb_tools.options import start; start('beside')"
     words = [sys.executable, "-c", code, "--name", options.name, "--prefix", options.prefix]
