@@ -120,6 +120,13 @@ for command in "$top"/tools/glb-*; do
     name=$(basename "$command")
     case " $server_commands " in *" ${name#glb-} "*) ;; *) install_command "$tools" "$name" ;; esac
 done
+# the solver of glb-topology; where it cannot be built (Debian: g++, liblemon-dev), SciPy's takes its place
+architecture=all
+install -d "$tools/usr/lib/glb"
+if "$top/tools/native/build.sh" "$tools/usr/lib/glb/glb-prices" 2>/dev/null; then
+    strip "$tools/usr/lib/glb/glb-prices"
+    architecture=amd64
+fi
 # names of before, until the next release of the package
 install -d "$tools/usr/lib/glb"
 for old in "$top"/tools/*.py; do
@@ -128,6 +135,8 @@ for old in "$top"/tools/*.py; do
     ln -s "../../share/glb/$name" "$tools/usr/lib/glb/$name"
 done
 install -D -m 644 -t "$tools/usr/share/doc/glb-tools/examples" "$top"/examples/*.yml
+install -D -m 644 -t "$tools/usr/share/doc/glb-tools/examples/network" "$top"/examples/network/*
+install -D -m 644 -t "$tools/usr/share/doc/glb-tools" "$top/docs/TOPOLOGY.md"
 install_settings "$tools" "$top/examples/glb-exporter.default" etc/default/glb-exporter
 
 for package in glb glb-tools; do
@@ -158,11 +167,11 @@ CONTROL
 cat >"$tools/DEBIAN/control" <<CONTROL
 Package: glb-tools
 Version: $version
-Architecture: all
+Architecture: $architecture
 Maintainer: $maintainer
 Installed-Size: $(size "$tools")
-Depends: glb (= $version), python3 (>= 3.11), python3-prometheus-client, python3-requests, python3-scipy, python3-jinja2
-Recommends: python3-maxminddb
+Depends: glb (= $version), python3 (>= 3.11), $([ $architecture = all ] || echo 'libc6, libgcc-s1, libstdc++6, ')python3-numpy, python3-prometheus-client, python3-requests, python3-scipy, python3-jinja2
+Recommends: python3-maxminddb, python3-yaml
 Suggests: prometheus, prometheus-node-exporter
 Breaks: glb (<< $version)
 Replaces: glb (<< $version)

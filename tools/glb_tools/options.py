@@ -34,9 +34,11 @@ STATUSES = {
 PACKAGES = {
     "jinja2": "python3-jinja2",
     "maxminddb": "python3-maxminddb",
+    "numpy": "python3-numpy",
     "prometheus_client": "python3-prometheus-client",
     "requests": "python3-requests",
     "scipy": "python3-scipy",
+    "yaml": "python3-yaml",
 }
 # how long a command works before it shows its progress, in seconds
 SILENT = 2.0

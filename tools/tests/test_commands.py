@@ -29,7 +29,11 @@ WRITERS = {
     "picture.py": ("TOPOLOGY", "MAP"),
 }
 # the modules that a command needs beside Python's own
-NEEDS = {"glb-exporter": "prometheus_client", "metrics.py": "prometheus_client"}
+NEEDS = {
+    "glb-exporter": "prometheus_client",
+    "glb-topology": "numpy",
+    "metrics.py": "prometheus_client",
+}
 
 
 def is_there(name):
