@@ -25,7 +25,7 @@ from glb_tools.planning.choices import Choices, read_choices
 from glb_tools.planning.lists import Lists, by_price, by_round_trip
 from glb_tools.planning.merge import merged
 from glb_tools.planning.prefixes import aggregated
-from glb_tools.planning.prices import MOST_SECONDS, Plan, Problem, bound, path_prices, solved
+from glb_tools.planning.prices import MOST_SECONDS, Plan, Problem, path_prices, solved
 from glb_tools.planning.readers.found import Found, places_of, put
 from glb_tools.planning.readers.gdnsd import read_gdnsd
 from glb_tools.planning.readers.geo import BY, read_geolite, read_mmdb
@@ -283,14 +283,18 @@ def fewer(
 ) -> tuple[World, list[int]]:
     """The world with as few groups as are allowed, and of each group the one that it is part of."""
     found = merged(world, choices.lists.groups)
-    after = solved(problem_of(choices, found.world, limits_of(choices, found.world)), seconds)
-    # the bound of all groups by these prices: their optimum is not looked for
-    before = bound(problem_of(choices, world, limits_of(choices, world)), after.price)
-    total = int(world.demand.sum()) * PER_MS
+    costs = []
+    for some in (world, found.world):
+        problem = problem_of(choices, some, limits_of(choices, some))
+        try:
+            costs.append(f"{solved(problem, seconds).cost / int(some.demand.sum()) / PER_MS:.3f}")
+        except Fault:
+            # a world that is too large to be solved has to become smaller all the same
+            costs.append("unknown")
     notes.append(
         f"{len(world.units):,} groups and classes became {len(found.world.units):,}: round trips are"
-        f" {found.milliseconds:.3f} ms off in the mean; the optimum, {before / total:.3f} ms a unit or more"
-        f" before, is {after.cost / total:.3f}"
+        f" {found.milliseconds:.3f} ms off in the mean, and the optimum goes from {costs[0]} to"
+        f" {costs[1]} ms a unit"
     )
     return found.world, found.into
 

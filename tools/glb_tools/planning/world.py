@@ -301,20 +301,25 @@ class RoundTrips:
 def read_round_trips(
     choices: Choices, groups: dict[str, int], nodes: list[Node], node_at: dict[str, int]
 ) -> RoundTrips:
+    """The pairs, in the order of groups and pools. Millions of rows repeat few names and numbers: those are looked up."""
     found: dict[int, int] = {}
     width = len(nodes)
-    prefixes = choices.tables["prefixes"]
-    for row in Table(choices.tables["rtt"], ("group", "pool", "milliseconds")):
-        group, pool = groups.get(row["group"]), node_at.get(row["pool"])
-        if group is None:
-            group = group_in(row, groups, prefixes)
-        if pool is None or not nodes[pool].is_pool:
-            raise unknown_pool(row, pool, nodes)
-        cost = round(row.decimal("milliseconds", MOST_MILLISECONDS) * PER_MS)
+    table = Table(choices.tables["rtt"], ("group", "pool", "milliseconds"))
+    columns = [table.at[column] for column in ("group", "pool", "milliseconds")]
+    pools = {name: at for name, at in node_at.items() if nodes[at].is_pool}
+    known: dict[str, int] = {}
+    for line, cells in table.lines():
+        name, other, text = (cells[column] for column in columns)
+        group, pool, cost = groups.get(name), pools.get(other), known.get(text)
+        if group is None or pool is None or cost is None:
+            row = table.row(line, cells)
+            group = group_in(row, groups, choices.tables["prefixes"])
+            pool = pool_in(row, nodes, node_at)
+            cost = known[text] = round(row.decimal("milliseconds", MOST_MILLISECONDS) * PER_MS)
         if found.setdefault(group * width + pool, cost) != cost:
-            raise row.fault(
+            raise table.row(line, cells).fault(
                 "milliseconds",
-                f"{row['group']} to {row['pool']} is {found[group * width + pool] / PER_MS:g} in an earlier line",
+                f"{name.strip()} to {other.strip()} is {found[group * width + pool] / PER_MS:g} in an earlier line",
             )
     keys = np.fromiter(found.keys(), np.int64, len(found))
     costs = np.fromiter(found.values(), np.int64, len(found))
@@ -323,11 +328,14 @@ def read_round_trips(
     return RoundTrips(keys // width, keys % width, costs[order])
 
 
-def unknown_pool(row: Row, pool: int | None, nodes: list[Node]) -> Fault:
-    if pool is not None:
-        return row.fault("pool", f"{shown(row['pool'])} is a node, and no pool")
-    hint = near(row["pool"], [node.name for node in nodes if node.is_pool])
-    return row.fault("pool", f"there is no pool {shown(row['pool'])}{hint}")
+def pool_in(row: Row, nodes: list[Node], node_at: dict[str, int]) -> int:
+    pool = node_at.get(row["pool"])
+    if pool is None:
+        hint = near(row["pool"], [node.name for node in nodes if node.is_pool])
+        raise row.fault("pool", f"there is no pool {shown(row['pool'])}{hint}")
+    if not nodes[pool].is_pool:
+        raise row.fault("pool", f"{shown(row['pool'])} is a node, and no pool")
+    return pool
 
 
 # All together.
