@@ -192,14 +192,18 @@ def import_files(options: argparse.Namespace) -> int:
 
 
 def found_in(paths: list[Path], options: argparse.Namespace) -> Found:
-    if options.kind == "geolite":
-        return read_geolite(paths, options.by)
-    if options.kind == "mmdb":
-        return read_mmdb(paths[0], options.by)
-    if options.kind == "routes":
-        return read_routes(paths)
-    reader = {"gdnsd": read_gdnsd, "knot": read_knot, "powerdns": read_powerdns}[options.kind]
-    return reader(paths[0], options.name, options.mmdb)
+    try:
+        if options.kind == "geolite":
+            return read_geolite(paths, options.by)
+        if options.kind == "mmdb":
+            return read_mmdb(paths[0], options.by)
+        if options.kind == "routes":
+            return read_routes(paths)
+        reader = {"gdnsd": read_gdnsd, "knot": read_knot, "powerdns": read_powerdns}[options.kind]
+        return reader(paths[0], options.name, options.mmdb)
+    except (AttributeError, KeyError, IndexError, TypeError, ValueError) as why:
+        # a value of another kind than the program's own reader takes
+        raise Fault(f"{paths[0]}: not laid out as {options.kind} has it: {why}") from None
 
 
 # The plan.

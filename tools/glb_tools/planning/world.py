@@ -152,28 +152,25 @@ def services_in(row: Row, choices: Choices) -> frozenset[str]:
 
 def parents_first(found: dict[str, Node]) -> list[Node]:
     """The nodes in the tables' order, but for each behind its parent."""
-    ordered: dict[str, Node] = {}
+    levels: dict[str, int] = {}
     for node in found.values():
-        path: list[Node] = []
+        path: dict[str, Node] = {}
         at: Node | None = node
-        while at is not None and at.name not in ordered:
-            if at in path:
-                loop = " under ".join(x.name for x in [*path[path.index(at) :], at])
+        while at is not None and at.name not in levels:
+            if at.name in path:
+                names = list(path)
+                loop = " under ".join([*names[names.index(at.name) :], at.name])
                 raise at.row.fault("parent", f"a loop of parents: {loop}")
-            path.append(at)
+            path[at.name] = at
             at = parent_of(at, found)
-        for at in reversed(path):
-            ordered[at.name] = at
-    for node in ordered.values():
-        depth, at = 1, parent_of(node, found)
-        while at is not None:
-            depth, at = depth + 1, parent_of(at, found)
-        if depth > DEEPEST:
-            raise node.row.fault(
-                "parent",
-                f"{shown(node.name)} stands under {depth - 1} others; {DEEPEST - 1} are allowed",
-            )
-    return list(ordered.values())
+        for at in reversed(path.values()):
+            levels[at.name] = levels.get(at.parent, 0) + 1
+            if levels[at.name] > DEEPEST:
+                raise at.row.fault(
+                    "parent",
+                    f"{shown(at.name)} stands under {DEEPEST} others or more; {DEEPEST - 1} are allowed",
+                )
+    return [found[name] for name in levels]
 
 
 def parent_of(node: Node, found: dict[str, Node]) -> Node | None:
@@ -445,9 +442,8 @@ def check_offers(choices: Choices, world: World, rows: list[Row]) -> None:
     has = np.zeros(len(world.units), bool)
     has[world.offer_unit] = True
     for unit in np.flatnonzero(~has).tolist():
-        group = (
-            max(unit, int(world.owner[unit])) if world.owner[unit] < 0 else int(world.owner[unit])
-        )
+        owner = int(world.owner[unit])
+        group = unit if owner < 0 else owner
         service = f", which asks for {world.services[unit]}," if world.services[unit] else ""
         why = f"no row of {choices.tables['rtt']} offers {shown(world.units[group])}{service} a pool that can serve it"
         raise rows[group].fault("group", why)
