@@ -40,7 +40,7 @@ BLOCKS = {
         (ANSWER.format("127.0.0.1").replace("+short", "+short +tcp"), ADDRESS),
         ("journalctl -t glb@v4 -n 1 -o cat; echo show >/run/glb-v4/feed; sleep 1; journalctl -t glb@v4 -n 1 -o cat", "(?s).*show 0 placed 15 unplaced 1 full 2"),
         ("grep -c '^commit ' /usr/share/doc/glb/build; sha256sum /usr/bin/glb | cut -d' ' -f1 | grep -cf - /usr/share/doc/glb/build", "1\n[12]"),
-        ("dpkg -i --force-depends glb-tools_1.1_all.deb >/dev/null 2>&1; systemctl enable --now glb 2>/dev/null; systemctl stop glb@v4; systemctl restart glb; systemctl enable --now glb-metrics 2>/dev/null; sleep 3; ls /var/lib/prometheus/node-exporter/glb.prom", ".*glb.prom"),
+        ("dpkg -i --force-depends glb-tools_1.1_amd64.deb >/dev/null 2>&1; systemctl enable --now glb 2>/dev/null; systemctl stop glb@v4; systemctl restart glb; systemctl enable --now glb-metrics 2>/dev/null; sleep 3; ls /var/lib/prometheus/node-exporter/glb.prom", ".*glb.prom"),
         ("systemctl stop glb; sleep 1; ls /var/lib/prometheus/node-exporter/ | grep -c '^glb'; systemctl is-active glb-metrics", "0\ninactive"),
         ("systemctl start glb; sleep 3; systemctl is-active glb-metrics; ls /var/lib/prometheus/node-exporter/glb.prom", "active\n.*glb.prom"),
         ("kill -9 $(systemctl show --value -p MainPID glb); sleep 0.5; systemctl is-active glb-metrics; ls /var/lib/prometheus/node-exporter/glb.prom; systemctl start glb@v4", "active\n.*glb.prom"),

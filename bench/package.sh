@@ -37,14 +37,14 @@ fi
 
 ok 'glb is installed, with what it needs alone' inside dpkg -i /packages/glb_1.1_amd64.deb
 ok 'its program maps' inside sh -c 'glb map /packages/tree.toml | cmp - /packages/tree.map'
-for name in append follow fleet; do ok "glb-$name runs as glb" inside su -s /bin/sh glb -c "glb-$name --version | grep -q '^glb-$name 1.1$'"; done
+for name in append follow fleet log roll; do ok "glb-$name runs as glb" inside su -s /bin/sh glb -c "glb-$name --version | grep -q '^glb-$name 1.1$'"; done
 ok 'what it was built from' inside sh -c 'grep -q "^program $(sha256sum </usr/bin/glb | cut -d" " -f1)" /usr/share/doc/glb/build'
 # of what glb-tools needs nothing is here
-ok 'glb-tools is unpacked' inside dpkg -i --force-depends /packages/glb-tools_1.1_all.deb
+ok 'glb-tools is unpacked' inside dpkg -i --force-depends /packages/glb-tools_1.1_amd64.deb
 ok 'glb-why runs' inside glb-why /packages/tree.toml /packages/tree.map
 ok 'and by its old name' inside /usr/lib/glb/why.py /packages/tree.toml /packages/tree.map
 ok 'glb-exporter says what it needs' inside sh -c 'glb-exporter --fleet 2>&1 | grep -q python3-prometheus-client'
-ok 'both are upgraded' inside dpkg -i --force-depends /packages/glb_1.2_amd64.deb /packages/glb-tools_1.2_all.deb
+ok 'both are upgraded' inside dpkg -i --force-depends /packages/glb_1.2_amd64.deb /packages/glb-tools_1.2_amd64.deb
 ok 'glb-why is the new one' inside sh -c 'glb-why --version | grep -q " 1.2$"'
 
 # what servers leave, and units that were enabled

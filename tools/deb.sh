@@ -22,9 +22,12 @@ server=$roots/glb
 tools=$roots/glb-tools
 install -d "$server" "$tools"
 
+# The module whose main a command is, by its path; nothing of what is no command of Python.
+module_of() { sed -n -e 's/^ *start("\(.*\)")$/\1/p' -e 's/^ *from glb_tools\.\(.*\) import main$/\1/p' "$top/tools/$1" | tr . /; }
+
 # The modules of glb_tools that those of the server's commands read.
 server_modules() {
-    python3 - "$top/tools/glb_tools" $server_commands <<'PYTHON'
+    python3 - "$top/tools/glb_tools" $(for name in $server_commands; do module_of "glb-$name"; done) <<'PYTHON'
 import re, sys
 from pathlib import Path
 
@@ -58,7 +61,8 @@ install_command() {
 
 # A manual page: what a command says by --help, or, where it needs what is not installed here, what its module says.
 manual() {
-    local module=$top/tools/glb_tools/${1#glb-}.py about help
+    local module about help
+    module=$top/tools/glb_tools/$(module_of "$1").py
     about=$(sed -n '1s/^"""//;1s/[."]*$//p' "$module" | sed 's/^glb-[a-z]*: //')
     help=$(COLUMNS=100 python3 -B "$top/tools/$1" --help 2>/dev/null) || help=$(sed -n '/^"""/,/"""$/p;/"""$/q' "$module" | tr -d '"')
     printf '.TH %s 1 "" "glb %s" "User Commands"\n.SH NAME\n%s \\- %s\n' "${1^^}" "$version" "$1" "${about,}"
@@ -87,12 +91,12 @@ modules=$(server_modules)
 for module in $modules; do install -D -m 644 "$top/tools/glb_tools/$module.py" "$server/usr/share/glb/glb_tools/$module.py"; done
 sed -i "s/^VERSION = .*/VERSION = \"$version\"/" "$server/usr/share/glb/glb_tools/__init__.py"
 for name in $server_commands; do
-    if [ -e "$top/tools/glb-$name" ]; then install_command "$server" "glb-$name"; fi
+    install_command "$server" "glb-$name"
 done
 for unit in "$top"/examples/*.service "$top"/examples/*.timer; do
     case $(basename "$unit") in
-    glb-metrics* | glb-exporter*) install_unit "$tools" "$unit" ;;
-    *) install_unit "$server" "$unit" ;;
+    glb.* | glb@* | glb-feed* | glb-show* | glb-fleet@* | glb-follow@*) install_unit "$server" "$unit" ;;
+    *) install_unit "$tools" "$unit" ;;
     esac
 done
 install -D -m 644 "$top/docs/glb.1" "$server/usr/share/man/man1/glb.1"
@@ -118,14 +122,15 @@ echo /etc/glb/v4.conf >>"$server.conffiles"
 done
 for command in "$top"/tools/glb-*; do
     name=$(basename "$command")
-    case " $server_commands " in *" ${name#glb-} "*) ;; *) install_command "$tools" "$name" ;; esac
+    case " $server_commands " in *" ${name#glb-} "*) continue ;; esac
+    if [ -n "$(module_of "$name")" ]; then install_command "$tools" "$name"; fi
 done
-# the solver of glb-topology; where it cannot be built (Debian: g++, liblemon-dev), SciPy's takes its place
-architecture=all
-install -d "$tools/usr/lib/glb"
-if "$top/tools/native/build.sh" "$tools/usr/lib/glb/glb-prices" 2>/dev/null; then
-    strip "$tools/usr/lib/glb/glb-prices"
-    architecture=amd64
+# the one that is compiled, where it was built (tools/native/build.sh)
+compiled=
+if [ -x "$top/tools/native/glb-prices" ]; then
+    install -D -s -m 755 "$top/tools/native/glb-prices" "$tools/usr/lib/glb/glb-prices"
+    ln -s ../lib/glb/glb-prices "$tools/usr/bin/glb-prices"
+    compiled="libc6, libstdc++6, libgcc-s1, "
 fi
 # names of before, until the next release of the package
 install -d "$tools/usr/lib/glb"
@@ -137,7 +142,9 @@ done
 install -D -m 644 -t "$tools/usr/share/doc/glb-tools/examples" "$top"/examples/*.yml
 install -D -m 644 -t "$tools/usr/share/doc/glb-tools/examples/network" "$top"/examples/network/*
 install -D -m 644 -t "$tools/usr/share/doc/glb-tools" "$top/docs/TOPOLOGY.md"
-install_settings "$tools" "$top/examples/glb-exporter.default" etc/default/glb-exporter
+for settings in "$top"/examples/glb-*.default; do install_settings "$tools" "$settings" "etc/default/$(basename "$settings" .default)"; done
+# its units, those of a name with all that were made of them
+tool_units=$(ls "$tools/usr/lib/systemd/system" | sed 's/@\./@*./' | tr '\n' ' ')
 
 for package in glb glb-tools; do
     root=$roots/$package
@@ -167,10 +174,10 @@ CONTROL
 cat >"$tools/DEBIAN/control" <<CONTROL
 Package: glb-tools
 Version: $version
-Architecture: $architecture
+Architecture: amd64
 Maintainer: $maintainer
 Installed-Size: $(size "$tools")
-Depends: glb (= $version), python3 (>= 3.11), $([ $architecture = all ] || echo 'libc6, libgcc-s1, libstdc++6, ')python3-numpy, python3-prometheus-client, python3-requests, python3-scipy, python3-jinja2
+Depends: ${compiled}glb (= $version), python3 (>= 3.11), python3-jinja2, python3-numpy, python3-prometheus-client, python3-requests, python3-scipy
 Recommends: python3-maxminddb, python3-yaml
 Suggests: prometheus, prometheus-node-exporter
 Breaks: glb (<< $version)
@@ -215,7 +222,9 @@ if [ "$1" = purge ]; then
     rm -f /etc/systemd/system/*.wants/glb*.service /etc/systemd/system/*.wants/glb*.timer /etc/systemd/system/*.wants/glb*.socket
     rmdir /etc/systemd/system/glb*.wants 2>/dev/null || true
     if [ -d /run/systemd/system ]; then systemctl reset-failed 'glb*' 2>/dev/null || true; fi
-    if command -v deluser >/dev/null; then deluser --system --quiet glb || true; fi
+    if command -v deluser >/dev/null; then
+        deluser --system --quiet glb || echo "glb: the user glb is left: end its processes, then deluser --system glb" >&2
+    fi
 fi
 if [ -d /run/systemd/system ]; then systemctl daemon-reload; fi
 SCRIPT
@@ -228,25 +237,30 @@ cat >"$tools/DEBIAN/prerm" <<SCRIPT
 #!/bin/sh
 set -e
 if [ "\$1" = remove ] && [ -d /run/systemd/system ]; then
-    systemctl stop 'glb-metrics*.service' glb-exporter.service || true
+    # the stars are systemd's
+    set -f
+    systemctl stop $tool_units || true
+    set +f
 fi
 $prerm_of_both
 SCRIPT
-cat >"$tools/DEBIAN/postrm" <<'SCRIPT'
+cat >"$tools/DEBIAN/postrm" <<SCRIPT
 #!/bin/sh
 set -e
-if [ "$1" = remove ] || [ "$1" = purge ]; then
+if [ "\$1" = remove ] || [ "\$1" = purge ]; then
     # metrics that nobody writes any more would be served for ever
     rm -f /var/lib/prometheus/node-exporter/glb.prom /var/lib/prometheus/node-exporter/glb-*.prom
 fi
-if [ "$1" = purge ]; then
-    rm -f /etc/systemd/system/*.wants/glb-metrics*.service /etc/systemd/system/*.wants/glb-exporter.service
+if [ "\$1" = purge ]; then
+    for unit in $tool_units; do rm -f /etc/systemd/system/*.wants/\$unit; done
     rmdir /etc/systemd/system/glb*.wants 2>/dev/null || true
-    if [ -d /run/systemd/system ]; then systemctl reset-failed 'glb-metrics*' glb-exporter 2>/dev/null || true; fi
+    set -f
+    if [ -d /run/systemd/system ]; then systemctl reset-failed $tool_units 2>/dev/null || true; fi
+    set +f
 fi
 if [ -d /run/systemd/system ]; then systemctl daemon-reload; fi
 SCRIPT
 chmod 755 "$server"/DEBIAN/{postinst,prerm,postrm} "$tools"/DEBIAN/{postinst,prerm,postrm}
 chmod 644 "$server/DEBIAN/conffiles" "$tools/DEBIAN/conffiles"
 dpkg-deb --root-owner-group --build "$server" "$folder/glb_${version}_amd64.deb"
-dpkg-deb --root-owner-group --build "$tools" "$folder/glb-tools_${version}_all.deb"
+dpkg-deb --root-owner-group --build "$tools" "$folder/glb-tools_${version}_amd64.deb"

@@ -46,7 +46,7 @@ fi
 # a package, where Debian's tools are
 if [ -n "${GLB:-}" ] && command -v dpkg-deb >/dev/null && command -v strip >/dev/null; then
     DEBEMAIL=ops@cdn.example tools/deb.sh 1.0 "$work" >/dev/null
-    for package in glb_1.0_amd64 glb-tools_1.0_all; do
+    for package in glb_1.0_amd64 glb-tools_1.0_amd64; do
         expect 0 "${package%%_*} 1.0 Whoever built it <ops@cdn.example>" dpkg-deb -W --showformat='${Package} ${Version} ${Maintainer}' "$work/$package.deb"
         dpkg-deb -x "$work/$package.deb" "$work/${package%%_*}"
     done

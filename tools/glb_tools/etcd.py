@@ -19,6 +19,8 @@ from glb_tools.options import WRONG_WORDS, Fault
 
 # how long a member may be silent, in seconds
 PATIENCE = 3.0
+# how long it may take to give back the room that history had
+DEFRAGMENT = 120.0
 # the status of a command that found no majority, and that of one that found etcd full
 NO_MAJORITY, FULL = 3, 4
 ETCD_STATUSES = {
@@ -27,6 +29,9 @@ ETCD_STATUSES = {
 }
 # codes of gRPC in the answers of the gateway
 DEADLINE, NOT_FOUND, EXHAUSTED, INTERNAL, UNAVAILABLE, UNAUTHENTICATED = 4, 5, 8, 13, 14, 16
+
+# what comes of an answer that is none of etcd's
+NONSENSE = (ValueError, KeyError, TypeError, AttributeError)
 
 Message = dict[str, Any]
 Found = TypeVar("Found")
@@ -154,7 +159,7 @@ class Etcd:
                     return use(answer)
             except urllib.error.HTTPError as error:
                 why = self.refused(member, error)
-            except (OSError, ValueError, KeyError, TypeError, HTTPException) as error:
+            except (OSError, HTTPException, *NONSENSE) as error:
                 why = f"{member}: {error}"
             self.members.append(self.members.pop(0))
         raise Unreachable(why)
@@ -164,7 +169,7 @@ class Etcd:
         try:
             told = json.loads(error.read())
             code, words = int(told["code"]), str(told.get("message") or told.get("error"))
-        except (OSError, ValueError, KeyError, TypeError, AttributeError, HTTPException):
+        except (OSError, HTTPException, *NONSENSE):
             return f"{member}: {error}"
         if code == EXHAUSTED and "space" in words:
             raise Full(words)
@@ -177,24 +182,34 @@ class Etcd:
         return f"{member}: {words}"
 
     def call(self, path: str, message: Message) -> Message:
-        answer: Message = self.reach(path, message, json.load)
-        return answer
+        def told(answer: Any) -> Message:
+            found = json.load(answer)
+            if not isinstance(found, dict):
+                raise ValueError("no answer of etcd")
+            return found
+
+        return self.reach(path, message, told)
 
     def txn(self, parts: list[Message], conditions: list[Message] | None = None) -> Answer:
         """Does all parts at one moment, where all conditions hold at it."""
-        answer = self.call("/v3/kv/txn", {"compare": conditions or [], "success": parts})
-        found = [
-            [item(kv) for kv in response["response_range"].get("kvs", [])]
-            for response in answer.get("responses", [])
-            if "response_range" in response
-        ]
-        return Answer(bool(answer.get("succeeded")), found, int(answer["header"]["revision"]))
+
+        def told(octets: Any) -> Answer:
+            answer = json.load(octets)
+            found = [
+                [item(kv) for kv in response["response_range"].get("kvs", [])]
+                for response in answer.get("responses", [])
+                if "response_range" in response
+            ]
+            return Answer(bool(answer.get("succeeded")), found, int(answer["header"]["revision"]))
+
+        return self.reach("/v3/kv/txn", {"compare": conditions or [], "success": parts}, told)
 
     def get(self, key: str) -> Item | None:
         return next(iter(self.txn([one(key)]).found[0]), None)
 
     def lease(self, seconds: int) -> int:
-        return int(self.call("/v3/lease/grant", {"TTL": str(seconds)})["ID"])
+        grant = {"TTL": str(seconds)}
+        return self.reach("/v3/lease/grant", grant, lambda answer: int(json.load(answer)["ID"]))
 
     def keep(self, lease: int) -> bool:
         """Whether the lease still lives; from now on for its whole time."""
@@ -229,8 +244,20 @@ class Etcd:
             with self.open(member, "/v3/maintenance/status", {}, PATIENCE) as answer:
                 told: Message = json.load(answer)
                 return told
-        except (OSError, ValueError, KeyError, TypeError, HTTPException):
+        except (OSError, HTTPException, *NONSENSE):
             return None
+
+    def make_room(self) -> int:
+        """Gives up all history, has each member give back the room, and takes back the alarm; says the revision."""
+        revision = self.txn([one("/")]).revision
+        self.call("/v3/kv/compaction", {"revision": str(revision), "physical": True})
+        for member in list(self.members):
+            # a member stands still meanwhile
+            with self.open(member, "/v3/maintenance/defragment", {}, DEFRAGMENT) as answer:
+                answer.read()
+        for alarm in self.alarms():
+            self.call("/v3/maintenance/alarm", {"action": "DEACTIVATE", **alarm})
+        return revision
 
     def alarms(self) -> list[Message]:
         told: list[Message] = self.call("/v3/maintenance/alarm", {"action": "GET"}).get(

@@ -12,7 +12,7 @@ from glb_tools.etcd import (
     FULL,
     NO_MAJORITY,
     Etcd,
-    Unreachable,
+    Full,
     add_etcd_options,
     etcd_of,
 )
@@ -114,7 +114,10 @@ def asked_of_all(log: Log, seconds: float) -> tuple[str, Look]:
         if not asked or look.asked != asked:
             # anew where another one asked meanwhile
             asked = secrets.token_hex(4)
-            revision = log.ask(asked)
+            try:
+                revision = log.ask(asked)
+            except Full:
+                return "", look
             continue
         told = [state for state in look.states.values() if "hangs" not in state]
         if all(state.get("heard") == asked for state in told) or time.monotonic() >= end:

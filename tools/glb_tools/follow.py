@@ -104,6 +104,27 @@ class Hooks:
             return f"`{command}` took longer than {HOOK} s"
 
 
+class Canary:
+    """Runs a server beside that of the follower, as long as somebody asks for it, in a process of its own."""
+
+    def __init__(self, words: list[str] | None = None) -> None:
+        self.words, self.base = words, ""
+        self.process: subprocess.Popen[bytes] | None = None
+
+    def ask(self, asked: dict[str, Any]) -> None:
+        base = str(asked.get("base", ""))
+        if self.words is None or base == self.base:
+            return
+        if self.process:
+            self.process.terminate()
+            self.process.wait()
+            self.process = None
+        self.base = base
+        if base:
+            say(f"runs base {base[:12]} beside, for {asked.get('author')}")
+            self.process = subprocess.Popen([*self.words, "--base", base], stdin=subprocess.DEVNULL)
+
+
 class Follower:
     """One step of it looks into etcd once, works what is new, and says whether there may be more at once."""
 
@@ -112,6 +133,7 @@ class Follower:
     ) -> None:
         self.name, self.log, self.server = name, log, server
         self.place, self.bases, self.hooks = place, bases, hooks
+        self.canary = Canary()
         self.lease: int | None = None
         self.turn_lease: int | None = None
         # when the leases were kept, the server asked, and the state told, the last time
@@ -234,6 +256,9 @@ class Follower:
         new = look.entries[1:] if identity.entry else look.entries
         for entry in new:
             self.work(entry, look)
+            if self.broken:
+                # nothing behind it may be worked
+                return True
             self.idle(silent=False)
             if time.monotonic() - self.told_at > PAUSE:
                 self.tell()
@@ -346,6 +371,7 @@ class Follower:
             else:
                 self.end_turn(look)
         self.fetch_ahead(look)
+        self.canary.ask(look.canary if look.canary.get("server") == self.name else {})
         if look.states.get(self.name, {}).get("entry") != self.identity.entry:
             # etcd was restored, and has not what was told
             self.told, self.untold = {}, True
@@ -507,6 +533,7 @@ class Follower:
         """Keeps queries out, and says that nobody follows any more."""
         if failed := self.hooks.run(self.hooks.unready):
             say(failed)
+        self.canary.ask({})
         try:
             record = {"base": self.identity.base, "ended": why, "time": int(time.time())}
             known = self.log.look().servers.get(self.name, {})
@@ -562,9 +589,9 @@ def prepare(name: str, log: Log, place: Place, bases: Bases, topology: bytes | N
     place.prepare(octets, Identity(checksum, bases.program_checksum(), run, entry, chain))
 
 
-def silence(name: str, log: Log) -> None:
-    """Takes away what was told of the server; where etcd cannot be reached, it is gone after that time."""
-    end = time.monotonic() + ALIVE
+def silence(name: str, log: Log, seconds: float = ALIVE) -> None:
+    """Takes away what was told of the server; where etcd cannot be reached, it is gone after that time by itself."""
+    end = time.monotonic() + seconds
     while True:
         try:
             log.etcd.txn([delete(log.at("at", name))])
@@ -601,6 +628,19 @@ def wait(follower: Follower) -> None:
     follower.idle(silent=False)
 
 
+def words_beside(options: argparse.Namespace) -> list[str]:
+    """How a server is run beside (glb_tools/beside.py)."""
+    code = f"import sys; sys.argv[0] = 'glb-beside'; sys.path.append({str(Path(__file__).parent.parent)!r})"
+    code += "; from glb_tools.options import start; start('beside')"
+    words = [sys.executable, "-c", code, "--name", options.name, "--prefix", options.prefix]
+    words += ["--run", str(options.run / "beside"), "--bases", str(options.bases)]
+    words += ["--program", str(options.program), "--etcd", options.etcd]
+    for name in ("cacert", "cert", "key", "user", "password"):
+        if value := getattr(options, name):
+            words += [f"--{name}", value]
+    return words
+
+
 ABOUT = """Follows the log of batches for one server, and tells how far that server is.
 
 The server runs in the folder --run, which --prepare makes ahead of its start: a copy of its topology, and pipes that
@@ -632,6 +672,9 @@ def main() -> int:
         "--prepare", action="store_true", help="makes what the server begins with, and ends"
     )
     words.add_argument(
+        "--ended", action="store_true", help="keeps queries out behind a command that ended anyhow"
+    )
+    words.add_argument(
         "--ready",
         default=os.environ.get("GLB_READY"),
         metavar="COMMAND",
@@ -652,7 +695,14 @@ def main() -> int:
             raise Fault(failed)
         prepare(options.name, log, place, bases)
         return 0
+    if options.ended:
+        failed = hooks.run(hooks.unready)
+        silence(options.name, log, SOON)
+        if failed:
+            raise Fault(failed)
+        return 0
     follower = Follower(options.name, log, Server(options.run), place, bases, hooks)
+    follower.canary = Canary(words_beside(options))
     signal.signal(signal.SIGTERM, lambda *_: sys.exit(0))
     why = "it was ended"
     try:

@@ -1,8 +1,8 @@
 """What stands where in the newest map, for the exporter: a `glb` of its own works the log beside the servers.
 
 The servers of a fleet tell checksums of their maps, and no loads: a map has up to 256 MiB. So the exporter starts `glb
-serve` at a port of the loopback that nobody asks, hands it the batches, and sums up the newest map. No server waits for
-it, or has to be reached by it.
+serve` at a port of the loopback that nobody asks, a shadow, hands it the batches, and sums up the newest map. No server
+waits for it, or has to be reached by it.
 """
 
 import os
@@ -14,7 +14,7 @@ import threading
 import time
 from dataclasses import dataclass, field
 from pathlib import Path
-from typing import BinaryIO
+from typing import BinaryIO, NoReturn
 
 from glb_tools.etcd import Unreachable
 from glb_tools.log import Base, Entry, Log, Look, left_in
@@ -95,7 +95,7 @@ class World:
         )
 
 
-class Beside:
+class Shadow:
     """A `glb serve` that nobody asks: it works batches, and its newest map's text is kept."""
 
     def __init__(self, program: str, topology: bytes) -> None:
@@ -143,31 +143,39 @@ class Beside:
         if self.maps <= serial:
             self.fail(f"no map {serial} came")
 
-    def fail(self, why: str) -> None:
+    def fail(self, why: str) -> NoReturn:
         self.end()
-        raise Fault(f"the program beside: {why} (status {self.process.returncode})")
+        raise Fault(f"the shadow: {why} (status {self.process.returncode})")
 
     def work(self, lines: str) -> None:
         """Works a batch: whatever its lines are, it is answered."""
-        assert self.process.stdin and self.process.stdout
-        if self.process.poll() is not None:
-            self.fail("it has ended")
+        # a program that hangs is ended, and has ended then
+        ends = threading.Timer(PATIENCE, self.process.kill)
+        ends.start()
         try:
-            # the text of a map is put ahead of its line `published`
-            self.process.stdin.write(lines.encode("latin-1", errors="replace") + b"commit\n")
-            self.process.stdin.flush()
-            while line := self.process.stdout.readline():
-                if line.startswith(b"published "):
-                    self.wait_for_map(int(line.split()[1]))
-                    self.world.work(lines)
-                    return
-                if line.startswith(b"refused commit"):
-                    if b"memory" in line:
-                        self.fail("it had no memory for a batch")
-                    return
+            answer = self.answer(lines)
         except OSError as why:
             self.fail(str(why))
-        self.fail("it has ended")
+        finally:
+            ends.cancel()
+        if answer.startswith(b"published "):
+            # the text of a map is put ahead of its line
+            self.wait_for_map(int(answer.split()[1]))
+            self.world.work(lines)
+        elif b"memory" in answer:
+            self.fail("it had no memory for a batch")
+        elif not answer:
+            self.fail("it has ended")
+
+    def answer(self, lines: str) -> bytes:
+        """The line that answers a batch; nothing where the program has ended."""
+        assert self.process.stdin and self.process.stdout
+        self.process.stdin.write(lines.encode("latin-1", errors="replace") + b"commit\n")
+        self.process.stdin.flush()
+        while line := self.process.stdout.readline():
+            if line.startswith((b"published ", b"refused commit")):
+                return line
+        return b""
 
     def loads(self, entry: int) -> Loads:
         return self.world.loads(self.text, entry)
@@ -218,9 +226,9 @@ class Worker:
         """Works the log for ever; it ends by a fault, or where the log begins anew."""
         raise NotImplementedError
 
-    def sum_up(self, beside: Beside, entry: int) -> None:
+    def sum_up(self, shadow: Shadow, entry: int) -> None:
         """Sums up the newest map; of a large one seldom, so that it takes a tenth of the time at most."""
-        loads = beside.loads(entry)
+        loads = shadow.loads(entry)
         self.loads, self.is_up = loads, True
         self.rest(9 * loads.took)
 
@@ -233,38 +241,39 @@ class FileWorker(Worker):
         self.topology, self.path = Path(topology), Path(log)
 
     def follow(self) -> None:
-        octets = self.topology.read_bytes()
-        beside = Beside(self.program, octets)
+        was = file_at(self.topology)
+        shadow = Shadow(self.program, self.topology.read_bytes())
         try:
             with open(self.path, "rb") as file:
-                self.follow_file(beside, octets, file)
+                self.follow_file(shadow, was, file)
         finally:
-            beside.end()
+            shadow.end()
 
-    def follow_file(self, beside: Beside, octets: bytes, file: BinaryIO) -> None:
+    def follow_file(self, shadow: Shadow, topology: tuple[int, ...], file: BinaryIO) -> None:
         rest, entry, is_new = b"", 0, True
         while True:
             piece = file.read(1 << 20)
             *batches, rest = split_at_commits(rest + piece)
             for batch in batches:
-                beside.work(batch.decode("latin-1"))
+                shadow.work(batch.decode("latin-1"))
                 entry, is_new = entry + 1, True
             if piece:
                 continue
             if is_new:
-                self.sum_up(beside, entry)
+                self.sum_up(shadow, entry)
                 is_new = False
             self.rest(min(self.every, SELDOM))
-            if self.topology.read_bytes() != octets:
+            if file_at(self.topology) != topology:
                 raise Fault(f"{self.topology} is another one: the log is worked anew")
-            there = os.stat(self.path)
-            if (there.st_ino, there.st_dev) != file_of(file) or there.st_size < file.tell():
+            there, own = os.stat(self.path), os.fstat(file.fileno())
+            if there.st_ino != own.st_ino or there.st_size < file.tell():
                 raise Fault(f"{self.path} was put in its place or made shorter: it is worked anew")
 
 
-def file_of(file: BinaryIO) -> tuple[int, int]:
-    found = os.fstat(file.fileno())
-    return found.st_ino, found.st_dev
+def file_at(path: Path) -> tuple[int, ...]:
+    """By what a file is known that may be put in its place or written anew."""
+    found = os.stat(path)
+    return found.st_ino, found.st_mtime_ns, found.st_size
 
 
 COMMIT, STOP = re.compile(rb"(?m)^ *commit *\n"), re.compile(rb"(?m)^ *stop *\n")
@@ -288,25 +297,25 @@ class FleetWorker(Worker):
         topology = self.log.topology(newest.checksum)
         if topology is None:
             raise Fault(f"the topology of {newest} is not in etcd")
-        beside = Beside(self.program, topology)
+        shadow = Shadow(self.program, topology)
         try:
-            self.follow_from(beside, newest)
+            self.follow_from(shadow, newest)
         finally:
-            beside.end()
+            shadow.end()
 
-    def follow_from(self, beside: Beside, base: Base) -> None:
+    def follow_from(self, shadow: Shadow, base: Base) -> None:
         """Works the entries behind a base, until there is a newer one: then it goes over, at once."""
         entry, chain, summed = base.upto, base.chain, -1
         while (look := self.look(entry)) is None or look.newest == base:
             new = behind(look, entry, chain) if look else []
             for found in new:
                 if lines := self.lines_of(found, base, look):
-                    beside.work(lines)
+                    shadow.work(lines)
                 entry, chain = found.number, found.checksum
             if look is None:
                 summed = -1
             elif not new and summed != entry:
-                self.sum_up(beside, entry)
+                self.sum_up(shadow, entry)
                 summed = entry
             if not new:
                 self.rest(min(self.every, SELDOM))

@@ -9,6 +9,7 @@
     PREFIX/at/NAME                how far it is, as long as its follower lives (15 s)
     PREFIX/look                   what glb-fleet asks: each follower tells that it heard it, once its server answered
     PREFIX/turn                   which server begins anew: one at a time (60 s)
+    PREFIX/canary                 which server is to run which base beside its own, and PREFIX/beside/NAME how far that is
     PREFIX/roll                   who rolls which base, as long as glb-roll lives (60 s)
 
 **An entry** is a text of JSON: `kind` (`batch` or `base`), `before`, `time` (seconds since 1970), `author`, `why`, and of a
@@ -244,6 +245,7 @@ class Look:
     bases: list[Base]
     turn: dict[str, Any]
     roll: dict[str, Any]
+    canary: dict[str, Any]
     asked: str
     servers: dict[str, dict[str, Any]]
     states: dict[str, dict[str, Any]]
@@ -265,6 +267,8 @@ class Log:
     def __init__(self, etcd: Etcd, prefix: str) -> None:
         self.etcd, self.prefix = etcd, prefix
         self.known: dict[str, Names] = {}
+        # under which word servers tell their states
+        self.states = "at"
 
     def at(self, *words: str) -> str:
         return "/".join((self.prefix, *words))
@@ -284,12 +288,13 @@ class Log:
                 one(self.at("bases")),
                 one(self.at("turn")),
                 one(self.at("roll")),
+                one(self.at("canary")),
                 one(self.at("look")),
                 under(self.at("server", "")),
                 under(self.at("at", "")),
             ]
         )
-        page, first, last, bases, turn, roll, asked, servers, states = answer.found
+        page, first, last, bases, turn, roll, canary, asked, servers, states = answer.found
         for item in first + last:
             if not NUMBER.fullmatch(item.name):
                 raise Fault(f"{item.key} was put by hand: delete it (etcdctl del {item.key})")
@@ -300,6 +305,7 @@ class Log:
             bases_in(bases),
             told_in(turn[0].octets) if turn else {},
             told_in(roll[0].octets) if roll else {},
+            told_in(canary[0].octets) if canary else {},
             asked[0].octets.decode(errors="replace") if asked else "",
             {item.name: told_in(item.octets) for item in servers},
             {item.name: told_in(item.octets) for item in states},
@@ -415,8 +421,10 @@ class Log:
         parts = [
             delete(self.key(0), self.key(base.upto)),
             delete(self.at("dropped", ""), self.at("dropped", f"{base.upto:016d}")),
-            self.put_bases(kept),
         ]
+        if kept != look.bases:
+            # an etcd that is full takes what only takes away
+            parts.append(self.put_bases(kept))
         for checksum in sorted(gone):
             for kind in ("file", "names"):
                 parts += [
@@ -425,7 +433,7 @@ class Log:
                 ]
         if not self.etcd.txn(parts, [is_at(self.at("bases"), look.bases_revision)]).held:
             raise Fault("a base came meanwhile: nothing was cut")
-        return base.upto
+        return max(base.upto, 1)
 
     def kept(self, look: Look, base: Base) -> list[Base]:
         """The bases that stay with that one: those behind it, and what entries before it were checked by."""
@@ -481,7 +489,7 @@ class Log:
             put(self.at("dropped", f"{number:016d}"), json.dumps(why))
             for number, why in (dropped or {}).items()
         ]
-        self.etcd.txn([*notes, put(self.at("at", name), json.dumps(state), lease)])
+        self.etcd.txn([*notes, put(self.at(self.states, name), json.dumps(state), lease)])
 
     def ask(self, words: str) -> int:
         """Asks each follower whether its server answers, and says the revision of that."""

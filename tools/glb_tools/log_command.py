@@ -12,7 +12,7 @@ from typing import IO, Any
 
 from glb_tools.etcd import ETCD_STATUSES, add_etcd_options, etcd_of
 from glb_tools.history import base_of, feed, topology_at, topology_of
-from glb_tools.log import BASE, BATCH, NONE, Entry, Log
+from glb_tools.log import BASE, BATCH, NONE, Base, Entry, Log
 from glb_tools.options import DONE, Fault, Progress, parser, run, write_file
 from glb_tools.server import END
 
@@ -85,10 +85,11 @@ def last_map(texts: IO[bytes]) -> bytes:
     return last
 
 
-def map_at(log: Log, number: int, program: str) -> bytes:
-    """The map of the servers at an entry: the program works the log once more, and answers nobody."""
+def map_at(log: Log, number: int, program: str, base: Base | None = None) -> bytes:
+    """The map of the servers of a base at an entry (of the newest one there): the program works the log once more, and
+    answers nobody."""
     look = log.look()
-    base = base_of(log, look, number)
+    base = base or base_of(log, look, number)
     with tempfile.TemporaryDirectory() as folder:
         topology, batches = Path(folder, "base.toml"), Path(folder, "feed")
         topology.write_bytes(topology_of(log, base))
@@ -121,6 +122,7 @@ def write_at(log: Log, number: int, options: argparse.Namespace) -> None:
 ABOUT = """Lists the entries of the log: who appended what, when, and why; and writes topology and map as of any entry.
 
     glb-log                  the last 20 entries
+    glb-log --compact        gives up etcd's history of its keys, and gives back the room
     glb-log --at N           writes at-N.toml and at-N.map, which glb check, glb-why and glb-moves read"""
 
 
@@ -149,10 +151,16 @@ def main() -> int:
         "--at", type=int, metavar="N", help="writes topology and map as of that entry"
     )
     words.add_argument("--to", metavar="STEM", help="writes them to STEM.toml and STEM.map")
+    words.add_argument(
+        "--compact", action="store_true", help="makes room in an etcd that is full or nearly so"
+    )
     words.add_argument("--program", default="glb", help="the servers' program, for the map (glb)")
     options = words.parse_args()
     log = Log(etcd_of(options), options.prefix)
-    if options.at is not None:
+    if options.compact:
+        with Progress("makes room in etcd"):
+            print(f"etcd has no history before revision {log.etcd.make_room()}")
+    elif options.at is not None:
         write_at(log, options.at, options)
     elif options.json:
         json.dump([as_json(entry) for entry in listed(log, options)], sys.stdout, indent=2)

@@ -20,8 +20,12 @@ Placed = dict[str, dict[str, int]]
 
 
 def placed_in(path: str) -> Placed:
+    return placed_of(Path(path).read_bytes(), path)
+
+
+def placed_of(octets: bytes, path: str = "the map") -> Placed:
     placed: Placed = {}
-    for words in map_lines(Path(path).read_bytes(), path):
+    for words in map_lines(octets, path):
         if words[0] != "place":
             continue
         try:

@@ -1,6 +1,8 @@
 """glb-roll: takes a fleet to another topology, one server after another."""
 
 import argparse
+import json
+import math
 import subprocess
 import sys
 import tempfile
@@ -11,10 +13,24 @@ from shutil import which
 from typing import Any
 
 from glb_tools.append import add_signature, signed_of
-from glb_tools.etcd import ETCD_STATUSES, Unreachable, add_etcd_options, etcd_of
+from glb_tools.etcd import ETCD_STATUSES, Unreachable, add_etcd_options, etcd_of, put
 from glb_tools.fleet import judged
 from glb_tools.history import with_numbers
-from glb_tools.log import TURN, Log, Look, Names, Signed, checksum_of
+from glb_tools import moves
+from glb_tools.log import (
+    TURN,
+    Base,
+    Log,
+    Look,
+    Names,
+    Signed,
+    checksum_of,
+    maps_of,
+    place_of,
+    spot_of,
+    told_in,
+)
+from glb_tools.log_command import map_at
 from glb_tools.options import DONE, FAULT, Fault, Progress, parser, run
 from glb_tools.topology import Topology
 
@@ -27,6 +43,8 @@ STATUSES = {
 }
 # how often it is looked, in seconds
 AGAIN = 0.5
+# how often what would move is said anew, in seconds
+COMPARED = 60
 
 
 class Roll:
@@ -42,6 +60,7 @@ class Roll:
                 f"{look.roll.get('author', 'somebody')} is rolling base {str(look.roll.get('base'))[:12]}"
             )
         self.said: dict[str, str] = {}
+        self.compared_at = -math.inf
         self.kept = time.monotonic()
 
     def end(self) -> None:
@@ -82,9 +101,8 @@ class Roll:
     def has(self, name: str, look: Look) -> bool:
         state = look.states.get(name)
         if state is None:
-            raise Fault(
-                f"{name} is gone: bring it back, or glb-fleet --forget {name}; nothing was rolled"
-            )
+            self.say(name, f"is gone: bring it back, or glb-fleet --forget {name}")
+            return False
         if self.checksum[:16] in (state.get("has"), state.get("base")):
             self.say(name, "has the base")
             return True
@@ -92,6 +110,33 @@ class Roll:
         if "refused" in waits and self.checksum[:12] in waits:
             raise Fault(f"{name} waits: {waits}; nothing was rolled")
         return False
+
+    def run_beside(self, name: str, topology: bytes, options: argparse.Namespace) -> int:
+        """Has a server run the base beside for a while, and says what would be another than it is."""
+        told = {"server": name, "base": self.checksum, "author": self.signed.author}
+        self.log.etcd.txn([put(self.log.at("canary"), json.dumps(told), self.lease)])
+        base, end = (
+            Base(0, self.checksum, *place_of(topology)),
+            time.monotonic() + 60 * options.minutes,
+        )
+        compared = 0
+        while time.monotonic() < end or not compared:
+            look = self.look()
+            item = self.log.etcd.get(self.log.at("beside", name))
+            state, own = told_in(item.octets) if item else {}, look.states.get(name, {})
+            entry = state.get("entry")
+            if entry == look.last == own.get("entry"):
+                self.say(
+                    "beside", f"entry {entry}, {units_of(state)}; {name} itself: {units_of(own)}"
+                )
+                if compared < entry and time.monotonic() - self.compared_at > COMPARED:
+                    compared, self.compared_at = entry, time.monotonic()
+                    compare(self.log, entry, base, state, options.program)
+            elif time.monotonic() > end + 60:
+                raise Fault(f"nothing is heard of a server beside {name}: look at its journal")
+            time.sleep(AGAIN)
+        print("nothing was rolled: glb-roll without --canary does")
+        return DONE
 
     def watch(self, seconds: float) -> int:
         """Waits until each server is there, at the base; says how each goes over."""
@@ -129,6 +174,22 @@ def progress_of(state: dict[str, Any], checksum: str) -> str:
     return f"{state['state']}, {at}" if "base" in state else str(state["state"])
 
 
+def units_of(state: dict[str, Any]) -> str:
+    return f"{state.get('placed')} units placed, {state.get('unplaced')} not"
+
+
+def compare(log: Log, entry: int, base: Base, state: dict[str, Any], program: str) -> None:
+    """Says what would move at an entry, by the maps that the program makes here; and whether the one beside is that."""
+    if which(program) is None:
+        print(f"{program} is not on this host: what would move is not shown")
+        return
+    now, then = map_at(log, entry, program), map_at(log, entry, program, base)
+    moves.say(moves.report(moves.placed_of(now), moves.placed_of(then)))
+    chain = str(state.get("chain"))
+    if maps_of(state).get(spot_of(entry, chain)) not in (None, checksum_of(then)[:16]):
+        raise Fault("the server beside has another map than the program here")
+
+
 def try_it(topology: bytes, program: str) -> None:
     """Has the program map the topology, where it is on this host; each server's follower does so before it goes over."""
     if which(program) is None:
@@ -164,21 +225,19 @@ def roll(log: Log, topology: bytes, signed: Signed, options: argparse.Namespace)
     rolling = Roll(log, signed, checksum)
     try:
         if look.newest is None or look.newest.checksum != checksum:
-            put_base(log, topology, checksum, rolling, signed, options)
+            spread(log, topology, checksum, rolling, options)
+            if options.canary:
+                return rolling.run_beside(options.canary, topology, options)
+            append_base(log, topology, checksum, signed)
         return rolling.watch(options.seconds)
     finally:
         rolling.end()
 
 
-def put_base(
-    log: Log,
-    topology: bytes,
-    checksum: str,
-    rolling: Roll,
-    signed: Signed,
-    options: argparse.Namespace,
+def spread(
+    log: Log, topology: bytes, checksum: str, rolling: Roll, options: argparse.Namespace
 ) -> None:
-    """Puts the file, waits until each server has it, and appends the base."""
+    """Puts the file, and waits until each server has it."""
     with Progress("puts the topology into etcd"):
         parsed = Topology(topology, str(options.topology or "the base before"))
         names = Names(list(parsed.unit_at), list(parsed.node_at))
@@ -186,6 +245,9 @@ def put_base(
         if not options.folder:
             log.put_file("file", checksum, topology)
     rolling.spread(options.seconds)
+
+
+def append_base(log: Log, topology: bytes, checksum: str, signed: Signed) -> None:
     number = log.append_base(uuid.uuid4().hex, signed, topology)
     if number is None:
         raise Fault(
@@ -197,6 +259,8 @@ def put_base(
 ABOUT = """Takes a fleet to another topology: it becomes the newest base, and servers go over one at a time.
 
     glb-roll TOPOLOGY     with the numbers that the log has for its names (or those of glb-append --numbers)
+    glb-roll TOPOLOGY --canary NAME     rolls nothing: server NAME runs it beside its own for a while, and it is said
+                                        what would move
     glb-roll --back       to the base before the newest one, and all entries behind its numbers once more
 
 The file goes to every server first, whose program has to take it. Until its turn a server goes on with its old base. A
@@ -213,6 +277,12 @@ def main() -> int:
         "--folder",
         action="store_true",
         help="the file is put into each host's folder of bases by other means, as CHECKSUM.toml, and not into etcd",
+    )
+    words.add_argument(
+        "--canary", metavar="NAME", help="has that server run it beside, and rolls nothing"
+    )
+    words.add_argument(
+        "--minutes", type=float, default=10, metavar="N", help="how long it runs beside (10)"
     )
     words.add_argument(
         "--seconds", type=float, default=600, metavar="N", help="how long to wait for servers (600)"

@@ -17,6 +17,7 @@ PIPES = ("feed", "said", "maps")
 PUBLISHED = re.compile(r"published (\d+)")
 DROPPED = re.compile(r"refused commit lines \d+")
 NO_MEMORY = "refused commit memory"
+REFUSED = re.compile(r"refused (\d+) (.*)")
 SHOWN = re.compile(r"show (\d+) placed (\d+) unplaced (\d+) full (\d+)")
 # how many octets are read at once, and how many letters are told of why a batch was dropped
 PIECE, MOST_WORDS = 1 << 16, 80
@@ -92,6 +93,8 @@ class Server:
         except BlockingIOError:
             raise Fault(f"{folder}: another follower speaks to this server") from None
         self.to_write, self.rest = b"", b""
+        # how many lines the server was fed, by its own count
+        self.fed = 0
         self.lines: collections.deque[str] = collections.deque()
         self.texts = Texts()
 
@@ -133,21 +136,25 @@ class Server:
         label = secrets.token_hex(LABEL // 2)
         query = f"{QUERY}{LABEL:02x}{label.encode().hex()}0000010001"
         self.to_write += f"\nfrom here\ncommit\nask 192.0.2.1 {query}\nshow\n".encode()
-        while label.encode().hex() not in self.line(idle):
-            pass
+        while label.encode().hex() not in (line := self.line(idle)):
+            if refused := REFUSED.fullmatch(line):
+                # the last one is the second line of these
+                self.fed = int(refused[1]) + 3
         return Worked(self.shown(idle), self.text_of_last())
 
     def work(self, lines: str, idle: Callable[[], None]) -> Worked:
         """Works a batch."""
         self.to_write += f"{lines}commit\nshow\n".encode()
-        refused = None
+        before, self.fed = self.fed, self.fed + lines.count("\n") + 2
+        why = None
         while (answer := self.line(idle)) != NO_MEMORY and not (
             PUBLISHED.fullmatch(answer) or DROPPED.fullmatch(answer)
         ):
-            refused = refused or answer[:MOST_WORDS]
+            if refused := REFUSED.fullmatch(answer):
+                why = why or f"line {int(refused[1]) - before}: {refused[2][:MOST_WORDS]}"
         worked = Worked(self.shown(idle), no_memory=answer == NO_MEMORY)
         if DROPPED.fullmatch(answer):
-            worked.dropped = refused or answer
+            worked.dropped = why or answer
         elif not worked.no_memory:
             worked.map = self.text_of_last()
         return worked
@@ -162,6 +169,7 @@ class Server:
 
     def show(self, idle: Callable[[], None]) -> Shown:
         self.to_write += b"show\n"
+        self.fed += 1
         return self.shown(idle)
 
     def stop(self) -> None:

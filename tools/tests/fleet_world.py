@@ -662,7 +662,7 @@ class World:
             self.ask()
             for host in self.hosts:
                 host.run()
-            if self.report().status == 0:
+            if self.report().status == 0 and all(host.is_in for host in self.hosts):
                 break
             self.tick(10)
         return self.check()

@@ -1,20 +1,29 @@
 #!/usr/bin/env python3
 """Runs the tools' tests by Python's own unittest, with no other package.
 
-    tools/tests/run.py [NAME..]        all tests, or those of the modules test_NAME (of their classes and tests: NAME.CLASS..)
+    tools/tests/run.py                 all tests: each module in a process of its own, several at once
+    tools/tests/run.py NAME..          those of the modules test_NAME, or of classes and tests of them, NAME.CLASS..
 
 What a test needs and the machine lacks is told, and such a test counts as skipped, never as passed. The last line is
 `N passed, N failed`, with `, N skipped` where there are any. The status is 1 where one failed, or none passed. The
 tests are also pytest's: `pytest tools`.
 """
 
+import os
+import re
+import subprocess
 import sys
 import time
 import unittest
+from collections import Counter
+from collections.abc import Mapping
+from concurrent.futures import ThreadPoolExecutor
 from pathlib import Path
 from typing import IO
 
 HERE = Path(__file__).resolve().parent
+WORDS = ("passed", "failed", "skipped")
+LAST = re.compile(r"(?P<passed>\d+) passed, (?P<failed>\d+) failed(?:, (?P<skipped>\d+) skipped)?")
 
 
 class Counted(unittest.TextTestResult):
@@ -59,20 +68,18 @@ class Counted(unittest.TextTestResult):
             self.fail(test)
 
 
-def counted(suite: unittest.TestSuite, stream: IO[str]) -> dict[str, int]:
+def counted(suite: unittest.TestSuite, stream: IO[str]) -> Counter[str]:
     """How many tests passed, failed, and were left out."""
     found = unittest.TextTestRunner(stream=stream, resultclass=Counted, verbosity=0).run(suite)
     assert isinstance(found, Counted)
-    return {
-        word: list(found.ended.values()).count(word) for word in ("passed", "failed", "skipped")
-    }
+    return Counter(found.ended.values())
 
 
 def tests_of(name: str) -> unittest.TestSuite:
     """The tests of a module, or a class or a test of it; one that cannot be read is a test that fails."""
     loader = unittest.TestLoader()
     module = name.partition(".")[0]
-    if module != "*" and not (HERE / f"test_{module}.py").exists():
+    if not (HERE / f"test_{module}.py").exists():
         print(f"run.py: there is no test_{module}.py", file=sys.stderr)
         sys.exit(64)
     if module != name:
@@ -80,15 +87,45 @@ def tests_of(name: str) -> unittest.TestSuite:
     return loader.discover(str(HERE), f"test_{name}.py", str(HERE))
 
 
+def alone(name: str) -> tuple[str, dict[str, int]]:
+    """What a module's tests say in a process of their own, and their counts; one that dies is a test that fails."""
+    words = [sys.executable, "-B", __file__, name]
+    found = subprocess.run(words, stdout=subprocess.PIPE, stderr=subprocess.PIPE, text=True)
+    last = LAST.fullmatch(found.stdout.rpartition("\n")[0].rpartition("\n")[2])
+    if last is None or found.returncode not in (0, 1):
+        return f"{found.stderr}ended with {found.returncode}\n", {"failed": 1}
+    return found.stderr, {word: int(last[word] or 0) for word in WORDS}
+
+
+def all_of_them() -> Counter[str]:
+    """The counts of all modules, each by itself, as many at once as there are processors."""
+    names = sorted(path.stem.removeprefix("test_") for path in HERE.glob("test_*.py"))
+    counts: Counter[str] = Counter()
+    with ThreadPoolExecutor(os.cpu_count() or 1) as pool:
+        for name, (said, found) in zip(names, pool.map(alone, names)):
+            counts.update(found)
+            print(f"-- {name}: {said_of(found)}", file=sys.stderr)
+            # what failed whole, and what was left out
+            left = [line for line in said.splitlines(True) if line.startswith("left out: ")]
+            sys.stderr.write(said if found.get("failed") else "".join(left))
+    return counts
+
+
+def said_of(counts: Mapping[str, int]) -> str:
+    left = f", {counts['skipped']} skipped" if counts.get("skipped") else ""
+    return f"{counts.get('passed', 0)} passed, {counts.get('failed', 0)} failed{left}"
+
+
 def main() -> int:
     sys.path.insert(0, str(HERE))
     sys.path.append(str(HERE.parent))
-    suite = unittest.TestSuite(tests_of(name) for name in sys.argv[1:] or ["*"])
-    began = time.monotonic()
-    counts = counted(suite, sys.stderr)
-    left = f", {counts['skipped']} skipped" if counts["skipped"] else ""
+    names, began = sys.argv[1:], time.monotonic()
+    if names:
+        counts = counted(unittest.TestSuite(tests_of(name) for name in names), sys.stderr)
+    else:
+        counts = all_of_them()
     print(f"{time.monotonic() - began:.1f} s", file=sys.stderr)
-    print(f"{counts['passed']} passed, {counts['failed']} failed{left}", flush=True)
+    print(said_of(counts), flush=True)
     return 1 if counts["failed"] or not counts["passed"] else 0
 
 

@@ -8,15 +8,16 @@ import subprocess
 import sys
 import time
 import unittest
+from concurrent.futures import ThreadPoolExecutor
 from pathlib import Path
 
 from samples import EXAMPLES, SMALL, SMALL_MAP, TOOLS, Case, command
 
-# the commands of this package: those that start a module of it
+# the commands of this package: those that run a module of it
 COMMANDS = sorted(
     path.name
     for path in TOOLS.iterdir()
-    if path.is_file() and re.search(r"^ *start\(", path.read_text(errors="replace"), re.M)
+    if path.is_file() and re.search(r"^ *(?:start|run)\(", path.read_text(errors="replace"), re.M)
 )
 # words with which a command writes more than a pipe holds unread, or anything at all
 WRITERS = {
@@ -44,6 +45,12 @@ def is_there(name):
 THERE = [name for name in COMMANDS if is_there(name)]
 
 
+def at_once(run, names):
+    """What becomes of each command, by name; four run at a time."""
+    with ThreadPoolExecutor(4) as pool:
+        return zip(names, pool.map(run, names))
+
+
 class Commands(Case):
     def test_none_is_left_out(self):
         for name in COMMANDS:
@@ -53,13 +60,16 @@ class Commands(Case):
                         f"{name} needs the module {NEEDS[name]}: none of its cases is tried"
                     )
 
-    def words(self, name):
-        files = {
+    def setUp(self):
+        super().setUp()
+        self.files = {
             "TOPOLOGY": self.file("small.toml", SMALL),
             "MAP": self.file("small.map", SMALL_MAP),
             "OTHER": str(EXAMPLES / "tree.map"),
         }
-        return [files.get(word, word) for word in WRITERS[name]]
+
+    def words(self, name):
+        return [self.files.get(word, word) for word in WRITERS[name]]
 
     def one_line(self, found, name, status):
         said = found.stderr.decode()
@@ -71,60 +81,64 @@ class Commands(Case):
         self.assertLessEqual(set(WRITERS), set(COMMANDS))
 
     def test_help(self):
-        for name in THERE:
+        for name, found in at_once(lambda name: command(name, "--help"), THERE):
             with self.subTest(name):
-                found = command(name, "--help")
                 self.assertEqual((found.returncode, found.stderr), (0, b""))
-                text = found.stdout.decode()
                 for status in (0, 1, 64, 130):
-                    self.assertRegex(text, rf"(?m)^  {status} ")
+                    self.assertRegex(found.stdout.decode(), rf"(?m)^  {status} ")
 
     def test_version(self):
-        for name in THERE:
+        for name, found in at_once(lambda name: command(name, "--version"), THERE):
             with self.subTest(name):
-                found = command(name, "--version")
                 self.assertRegex(found.stdout.decode(), r"^[a-z.-]+ \d+\.\d+\n$")
 
     def test_wrong_words(self):
-        for name in THERE:
+        for name, found in at_once(lambda name: command(name, "--no-such-word"), THERE):
             with self.subTest(name):
-                self.one_line(command(name, "--no-such-word"), name, 64)
+                self.one_line(found, name, 64)
 
     def test_full_disk(self):
-        for name in WRITERS:
-            with self.subTest(name), open("/dev/full", "wb") as full:
-                self.one_line(command(name, *self.words(name), stdout=full), name, 1)
-        for name in THERE:
+        with open("/dev/full", "wb") as full:
             for word in ("--help", "--version"):
-                with self.subTest(f"{name} {word}"), open("/dev/full", "wb") as full:
-                    self.one_line(command(name, word, stdout=full), name, 1)
+                for name, found in at_once(lambda name: command(name, word, stdout=full), THERE):
+                    with self.subTest(f"{name} {word}"):
+                        self.one_line(found, name, 1)
+            run = lambda name: command(name, *self.words(name), stdout=full)  # noqa: E731
+            for name, found in at_once(run, WRITERS):
+                with self.subTest(name):
+                    self.one_line(found, name, 1)
 
     def test_closed_pipe(self):
-        for name in WRITERS:
+        def run(name):
+            ours, theirs = os.pipe()
+            os.close(ours)
+            with os.fdopen(theirs, "wb") as pipe:
+                return command(name, *self.words(name), stdout=pipe)
+
+        for name, found in at_once(run, WRITERS):
             with self.subTest(name):
-                ours, theirs = os.pipe()
-                os.close(ours)
-                with os.fdopen(theirs, "wb") as pipe:
-                    found = command(name, *self.words(name), stdout=pipe)
                 self.assertEqual((found.returncode, found.stderr), (141, b""))
 
     def test_closed_output(self):
-        for name in WRITERS:
+        def run(name):
+            words = [sys.executable, "-B", str(TOOLS / name), *self.words(name)]
+            closed = ["sh", "-c", 'exec >&-; exec "$@"', "sh", *words]
+            return subprocess.run(closed, stderr=subprocess.PIPE, timeout=60)
+
+        for name, found in at_once(run, WRITERS):
             with self.subTest(name):
-                script = 'exec >&-; exec "$@"'
-                words = [sys.executable, "-B", str(TOOLS / name), *self.words(name)]
-                found = subprocess.run(
-                    ["sh", "-c", script, "sh", *words], stderr=subprocess.PIPE, timeout=60
-                )
-                self.assertNotIn(b"Traceback", found.stderr)
-                self.assertLessEqual(found.stderr.count(b"\n"), 1)
+                self.one_line(found, name, 1)
 
     def test_unreadable(self):
-        for name in WRITERS:
-            for path in ("/", "/nowhere/at/all", "/proc/self/mem"):
+        for path in ("/", "/nowhere/at/all", "/proc/self/mem"):
+
+            def run(name):
+                words = [path if Path(word).is_file() else word for word in self.words(name)]
+                return command(name, *words)
+
+            for name, found in at_once(run, WRITERS):
                 with self.subTest(f"{name} {path}"):
-                    words = [path if Path(word).is_file() else word for word in self.words(name)]
-                    self.one_line(command(name, *words), name, 1)
+                    self.one_line(found, name, 1)
 
     def test_interrupted(self):
         for name in WRITERS:

@@ -3,6 +3,7 @@
 import contextlib
 import importlib.util
 import os
+import re
 import shutil
 import socket
 import subprocess
@@ -12,7 +13,7 @@ import unittest
 import urllib.request
 from types import SimpleNamespace
 
-from samples import SMALL, TOOLS, Case, command
+from samples import EXAMPLES, SMALL, TOOLS, TOP, Case, command
 
 if importlib.util.find_spec("prometheus_client") is None:
     raise unittest.SkipTest("python3-prometheus-client is not installed")
@@ -309,6 +310,39 @@ class Commands(Case):
         self.assertEqual(found["glb_unplaced_units",], 3)
         running.stdin.close()
         self.assertEqual(running.wait(30), 0)
+
+
+def collectors():
+    """One of each kind, with all that it may serve."""
+    said = exporter.Said("east")
+    for line in SAID.splitlines():
+        said.take(line, 1000)
+    loads = Loads({"R": (15, 15)}, {"L": 4}, 30, 19, 2, 7, 0.1, 1000)
+    fleet = exporter.Fleet(None, 5)
+    fleet.report = report()
+    return said, exporter.Loaded(SimpleNamespace(loads=loads, is_up=True)), fleet
+
+
+class Named(unittest.TestCase):
+    @unittest.skipUnless(shutil.which("promtool"), "promtool is not installed (Debian: prometheus)")
+    def test_as_prometheus_would_have_them(self):
+        for collector in collectors():
+            registry = CollectorRegistry(auto_describe=False)
+            registry.register(collector)
+            words = ["promtool", "check", "metrics"]
+            found = subprocess.run(words, input=generate_latest(registry), capture_output=True)
+            self.assertEqual((found.returncode, found.stdout, found.stderr), (0, b"", b""))
+
+    def test_documents_and_alerts_have_them(self):
+        names = {sample[0] for collector in collectors() for sample in served(collector)}
+        table = (TOP / "docs" / "OPERATING.md").read_text().partition("| Metric | Is |")[2]
+        rows = re.match(r"\n(?:\|.*\n)+", table)[0].splitlines()
+        told = {name for row in rows for name in re.findall(r"`(glb_\w+)`", row)}
+        self.assertEqual(told, names)
+        rules = (EXAMPLES / "glb-alerts.yml").read_text()
+        used = set(re.findall(r"\bglb_\w+", " ".join(re.findall(r"expr: (.*)", rules))))
+        self.assertLessEqual(used, names)
+        self.assertGreater(len(used), 15)
 
 
 def free_ports(count):

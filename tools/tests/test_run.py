@@ -2,6 +2,7 @@
 
 import contextlib
 import io
+import shutil
 import subprocess
 import sys
 import unittest
@@ -89,6 +90,29 @@ class Ends(Case):
         words = [sys.executable, "-B", str(TOOLS / "tests" / "run.py"), *names]
         found = subprocess.run(words, capture_output=True, timeout=60)
         return found.returncode, found.stdout.decode().rpartition("\n")[0].rpartition("\n")[2]
+
+    def test_a_module_that_dies_fails(self):
+        """In a folder of its own, with modules of each kind."""
+        shutil.copy(run.__file__, self.folder / "run.py")
+        for name, text in (
+            ("good", "import unittest\nclass A(unittest.TestCase):\n    def test_a(self): pass\n"),
+            ("dies", "import os\nos._exit(0)\n"),
+            ("wrong", "x x\n"),
+            ("left", "import unittest\nraise unittest.SkipTest('why')\n"),
+            ("empty", ""),
+        ):
+            self.file(f"test_{name}.py", text)
+        words = [sys.executable, "-B", str(self.folder / "run.py")]
+        found = subprocess.run(words, capture_output=True, timeout=60, text=True)
+        self.assertEqual(
+            (found.returncode, found.stdout), (1, "1 passed, 2 failed, 1 skipped\n"), found.stderr
+        )
+        (self.folder / "test_dies.py").unlink()
+        (self.folder / "test_wrong.py").unlink()
+        found = subprocess.run(words, capture_output=True, timeout=60, text=True)
+        self.assertEqual(
+            (found.returncode, found.stdout), (0, "1 passed, 0 failed, 1 skipped\n"), found.stderr
+        )
 
     def test_statuses(self):
         self.assertEqual(self.ended("run.Tried.good"), (0, "1 passed, 0 failed"))
