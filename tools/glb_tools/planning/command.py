@@ -1,4 +1,4 @@
-"""The command glb-topology: from tables of what is measured to a topology whose maps are near the optimum.
+"""Makes a topology of what is measured, with lists and scores whose maps are near the optimum.
 
     glb-topology CHOICES --out TOPOLOGY             makes the topology, and says how far its map is from the optimum
     glb-topology CHOICES --explain GROUP            the list of a group or class: round trips, prices, scores
