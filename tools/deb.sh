@@ -128,8 +128,8 @@ for command in "$top"/tools/glb-*; do
 done
 # the one that is compiled, where it was built (tools/native/build.sh)
 compiled=
-if [ -x "$top/tools/glb-prices" ]; then
-    install -D -s -m 755 "$top/tools/glb-prices" "$tools/usr/lib/glb/glb-prices"
+if [ -x "$top/tools/native/glb-prices" ]; then
+    install -D -s -m 755 "$top/tools/native/glb-prices" "$tools/usr/lib/glb/glb-prices"
     ln -s ../lib/glb/glb-prices "$tools/usr/bin/glb-prices"
     compiled="libc6, libstdc++6, libgcc-s1, "
 fi
@@ -141,6 +141,8 @@ for old in "$top"/tools/*.py; do
     ln -s "../../share/glb/$name" "$tools/usr/lib/glb/$name"
 done
 install -D -m 644 -t "$tools/usr/share/doc/glb-tools/examples" "$top"/examples/*.yml
+install -D -m 644 -t "$tools/usr/share/doc/glb-tools/examples/network" "$top"/examples/network/*
+install -D -m 644 -t "$tools/usr/share/doc/glb-tools" "$top/docs/TOPOLOGY.md"
 for settings in "$top"/examples/glb-*.default; do install_settings "$tools" "$settings" "etc/default/$(basename "$settings" .default)"; done
 # its units, those of a name with all that were made of them
 tool_units=$(ls "$tools/usr/lib/systemd/system" | sed 's/@\./@*./' | tr '\n' ' ')

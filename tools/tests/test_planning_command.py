@@ -3,6 +3,7 @@
 import csv
 import json
 import os
+import random
 import shutil
 import stat
 import subprocess
@@ -296,6 +297,62 @@ class WithTheProgram(Command):
         # eu holds 100 of 110 that would rather be there
         self.assertEqual(sum(placed.values()), 115)
         self.assertEqual(placed["fra"] + placed["ams"], 100)
+
+    def drawn(self, draw, choices):
+        """A network with three levels, classes, and nodes that hold nothing."""
+        folder = self.folder()
+        folder.swap("plan.toml", "length = 3", f"length = 16\n{choices}")
+        names = [f"p{at}" for at in range(9)]
+        nodes = [
+            "w,,700",
+            *(f"r{at},w,{draw.choice([0, 250, 300])}" for at in range(3)),
+            "alone,,90",
+        ]
+        folder.put("nodes.csv", "node,parent,capacity\n" + "\n".join(nodes) + "\n")
+        rows = [
+            f"{name},{draw.choice(['r0', 'r1', 'r2', 'w', 'alone', ''])},{draw.choice([0, 40, 90, 120])},192.0.2.{at}"
+            for at, name in enumerate(names)
+        ]
+        rows.append("last,,max,192.0.2.99")
+        folder.put("pools.csv", "pool,parent,capacity,addresses\n" + "\n".join(rows) + "\n")
+        groups = ["rest", *(f"g{at}" for at in range(25))]
+        prefixes = "".join(f"10.{at}.0.0/16,{name}\n" for at, name in enumerate(groups))
+        folder.put("prefixes.csv", "prefix,group\n" + prefixes)
+        demands = "".join(f"{name},{draw.randint(1, 60)},\n" for name in groups)
+        demands += "".join(
+            f"{name},{draw.randint(1, 60)},video\n" for name in draw.sample(groups, 8)
+        )
+        folder.put("demand.csv", "group,units,service\n" + demands)
+        trips = "".join(
+            f"{name},{pool},{draw.uniform(1, 150):.3f}\n"
+            for name in groups
+            for pool in draw.sample(names, draw.randint(1, 9))
+        )
+        folder.put("rtt.csv", "group,pool,milliseconds\n" + trips)
+        return folder
+
+    def test_drawn_networks_are_mapped_to_their_optimum(self):
+        draw = random.Random(4)
+        for number in range(12):
+            choices = draw.choice(["", 'last_resort = "last"'])
+            folder = self.drawn(draw, choices)
+            with self.subTest(number=number):
+                status, out, said = self.run_in(folder, "--json", "--moved", "0", glb=GLB)
+                self.assertEqual((status, said), (0, ""))
+                report = json.loads(out)
+                self.assertAlmostEqual(report["optimum"]["cost"], report["bound"], 9)
+                self.assertAlmostEqual(report["map"]["cost"], report["bound"], 9)
+
+    def test_drawn_networks_with_limits_are_near(self):
+        draw = random.Random(5)
+        for number in range(6):
+            folder = self.drawn(draw, 'most_at_one_pool = 0.4\nlast_resort = "last"')
+            with self.subTest(number=number):
+                status, out, said = self.run_in(folder, "--json", "--moved", "0", glb=GLB)
+                self.assertEqual((status, said), (0, ""))
+                report = json.loads(out)
+                self.assertAlmostEqual(report["optimum"]["cost"], report["bound"], 9)
+                self.assertLess(report["map"]["above"], 0.02)
 
     def test_the_zone_is_judged_by_it(self):
         folder = self.folder()

@@ -296,6 +296,13 @@ class Gdnsd(Import):
                 said = self.refused("gdnsd", path)
                 self.assertIn(said.removeprefix("gdnsd/config"), (f", {expected}", f": {expected}"))
 
+    def test_values_of_another_kind(self):
+        for text in ("nets => [a]", "map => [a]", "auto_dc_limit => x", "auto_dc_coords => a"):
+            with self.subTest(text):
+                maps = "plugins => { geoip => { maps => { m => { datacenters => [a], %s } } } }"
+                path = self.put("gdnsd/config", maps % text)
+                self.assertIn("gdnsd/config: ", self.refused("gdnsd", path))
+
     def test_files_that_include_themselves(self):
         path = self.put("gdnsd/config", "a => $include{config}")
         self.assertIn("nested too deep", self.refused("gdnsd", path))
@@ -466,6 +473,18 @@ class Places(Import):
         groups = {row["group"] for row in self.rows("prefixes.csv")}
         self.assertEqual(groups, {"EU-DE-BE-Berlin", "NA-US-TX-Dallas-TX"})
         self.assertFalse((self.path / "tables/rtt.csv").exists())
+
+    def test_cities_whose_names_are_the_same_for_glb(self):
+        rows = LOCATIONS + "".join(
+            f"{at},en,EU,Europe,DE,Germany,BE,Berlin,,,{name},,,1\n"
+            for at, name in ((3, "Berlin Ost"), (4, "Berlin/Ost"))
+        )
+        blocks = BLOCKS + "14.0.0.0/8,3,,,0,0,,,,\n15.0.0.0/8,4,,,0,0,,,,\n"
+        files = self.put("blocks.csv", blocks), self.put("locations.csv", rows)
+        self.imported("geolite", *files, "--by", "city")
+        groups = {row["prefix"]: row["group"] for row in self.rows("prefixes.csv")}
+        self.assertEqual(groups["14.0.0.0/8"], "EU-DE-BE-Berlin-Ost")
+        self.assertEqual(groups["15.0.0.0/8"], "EU-DE-BE-Berlin-Ost-2")
 
     def test_faults(self):
         blocks, locations = self.put("blocks.csv", BLOCKS), self.put("locations.csv", LOCATIONS)

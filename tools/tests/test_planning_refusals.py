@@ -10,7 +10,6 @@ except ImportError:
 from glb_tools.planning.command import main
 from planning_files import Folder
 
-FOURTH_ROW = "pools.csv, line 5, column "
 # file, what is replaced, by what, and what is said
 CASES = {
     "a loop of parents": (
@@ -368,7 +367,8 @@ class Refusals(unittest.TestCase):
         folder.put("nodes.csv", "node,parent,capacity\neu,,100\nus,,60\n" + levels)
         folder.swap("pools.csv", "ams,eu", "ams,n7")
         self.refused(
-            folder, "pools.csv, line 3, column parent: `ams` stands under 8 others; 7 are allowed"
+            folder,
+            "pools.csv, line 3, column parent: `ams` stands under 8 others or more; 7 are allowed",
         )
 
     def test_too_many_nodes(self):

@@ -15,6 +15,8 @@ from glb_tools.planning.world import Numbers, World
 
 # how many pools two groups have in common, at least, where they are merged: fewer only where that does not do
 COMMON = (8, 4, 2, 1)
+# of how many that follow in the order of lists each one looks for the nearest
+WIDTH = 6
 
 
 @dataclass
@@ -127,41 +129,68 @@ def distance(part: Part, other: Part, least: int) -> float | None:
     return units * moved / common * longest / common
 
 
-def nearest(parts: list[Part], count: int, most: int, least: int) -> int:
-    """Neighbours in the order of lists are joined, the nearest two first, until few enough are left."""
-    after = list(range(1, len(parts))) + [-1]
-    before = [-1] + list(range(len(parts) - 1))
-    version = [0] * len(parts)
-    waiting: list[tuple[float, int, int, int, int]] = []
+class Neighbours:
+    """Parts in a row; those that are near each other there may be joined, the two first that differ least."""
 
-    def offer(at: int, other: int) -> None:
-        far = distance(parts[at], parts[other], least)
+    def __init__(self, parts: list[Part], least: int) -> None:
+        self.parts, self.least = parts, least
+        self.after = list(range(1, len(parts))) + [-1]
+        self.before = [-1] + list(range(len(parts) - 1))
+        self.version = [0] * len(parts)
+        self.waiting: list[tuple[float, int, int, int, int]] = []
+        for at in range(len(parts)):
+            self.offer_all(at, self.after)
+
+    def offer_all(self, at: int, step: list[int]) -> None:
+        """The part with each of those that follow, or come before."""
+        other = step[at]
+        for _ in range(WIDTH):
+            if other < 0:
+                break
+            self.offer(min(at, other), max(at, other))
+            other = step[other]
+
+    def offer(self, at: int, other: int) -> None:
+        far = distance(self.parts[at], self.parts[other], self.least)
         if far is not None:
-            heapq.heappush(waiting, (far, at, other, version[at], version[other]))
+            pair = (far, at, other, self.version[at], self.version[other])
+            heapq.heappush(self.waiting, pair)
 
-    for at in range(len(parts) - 1):
-        offer(at, at + 1)
-    while count > most and waiting:
-        _, at, other, seen, seen_other = heapq.heappop(waiting)
-        if version[at] != seen or version[other] != seen_other or parts[other].is_over:
-            continue
-        join(parts[at], parts[other])
-        count -= 1 + len(parts[at].kind)
-        version[at] += 1
-        version[other] += 1
-        after[at] = after[other]
-        if after[at] >= 0:
-            before[after[at]] = at
-            offer(at, after[at])
-        if before[at] >= 0:
-            offer(before[at], at)
+    def join(self) -> int:
+        """Joins the first two: how many groups and classes there are fewer, or 0 where there are no two."""
+        while self.waiting:
+            _, at, other, seen, seen_other = heapq.heappop(self.waiting)
+            if self.version[at] == seen and self.version[other] == seen_other:
+                join(self.parts[at], self.parts[other])
+                self.version[at] += 1
+                self.version[other] += 1
+                self.leave_out(other)
+                self.offer_all(at, self.after)
+                self.offer_all(at, self.before)
+                return 1 + len(self.parts[other].kind)
+        return 0
+
+    def leave_out(self, at: int) -> None:
+        """One that has others before it."""
+        before, after = self.before[at], self.after[at]
+        self.after[before] = after
+        if after >= 0:
+            self.before[after] = before
+
+
+def nearest(parts: list[Part], count: int, most: int, least: int) -> int:
+    """Neighbours in the order of lists are joined until few enough are left."""
+    row = Neighbours(parts, least)
+    while count > most and (fewer := row.join()):
+        count -= fewer
     return count
 
 
 def rebuilt(world: World, parts: list[Part]) -> Merged:
     """The world of the parts, each under the name of its member with the most demand, in the members' order."""
     parts = sorted(parts, key=lambda part: min(part.members))
-    into = [0] * world.groups
+    groups = world.groups
+    into = [0] * groups
     names, demand = [], []
     for number, part in enumerate(parts):
         leader = max(part.members, key=lambda group: (int(world.demand[group]), -group))
@@ -170,13 +199,18 @@ def rebuilt(world: World, parts: list[Part]) -> Merged:
         for group in part.members:
             into[group] = number
     classes: dict[tuple[int, str], int] = {}
-    for unit in range(world.groups, len(world.units)):
+    for unit in range(groups, len(world.units)):
         key = into[int(world.owner[unit])], world.services[unit]
         classes[key] = classes.get(key, 0) + int(world.demand[unit])
     keys = sorted(classes)
     units = names + [f"{names[group]}.{service}" for group, service in keys]
     offered = offers_of(world, parts, into, keys)
-    moved = sum(part.moved for part in parts) / max(1, int(world.demand[: world.groups].sum()))
+    missing = set(range(len(units))).difference(offered[0].tolist())
+    if missing:
+        raise Fault(
+            f"the members of {units[min(missing)]} have no pool in common that has its service: set `groups` higher"
+        )
+    moved = sum(part.moved for part in parts) / max(1, int(world.demand[:groups].sum()))
     found = World(
         world.nodes,
         world.parent,
@@ -201,21 +235,20 @@ def offers_of(
         found += [(number, pool, round(cost)) for pool, cost in sorted(part.cost.items())]
     at = {key: len(parts) + number for number, key in enumerate(keys)}
     sums: dict[tuple[int, int], list[int]] = {}
-    members = [0] * len(keys)
-    for unit in range(world.groups, len(world.units)):
+    members, groups = [0] * len(keys), world.groups
+    for unit in range(groups, len(world.units)):
         members[at[into[int(world.owner[unit])], world.services[unit]] - len(parts)] += 1
-    for unit, pool, cost in zip(
-        world.offer_unit.tolist(), world.offer_pool.tolist(), world.offer_cost.tolist()
-    ):
-        if unit >= world.groups:
-            new = at[into[int(world.owner[unit])], world.services[unit]]
-            weight = int(world.demand[unit])
-            entry = sums.setdefault((new, pool), [0, 0, 0])
-            entry[0], entry[1], entry[2] = entry[0] + 1, entry[1] + weight, entry[2] + weight * cost
+    start = int(np.searchsorted(world.offer_unit, groups))
+    columns = (world.offer_unit, world.offer_pool, world.offer_cost)
+    for unit, pool, cost in zip(*(column[start:].tolist() for column in columns)):
+        new = at[into[int(world.owner[unit])], world.services[unit]]
+        weight = int(world.demand[unit])
+        entry = sums.setdefault((new, pool), [0, 0, 0])
+        entry[0], entry[1], entry[2] = entry[0] + 1, entry[1] + weight, entry[2] + weight * cost
     found += [
         (new, pool, total // weight)
         for (new, pool), (count, weight, total) in sorted(sums.items())
         if count == members[new - len(parts)]
     ]
-    columns = np.array(found, np.int64).reshape(-1, 3)
-    return columns[:, 0], columns[:, 1], columns[:, 2]
+    offers = np.array(found, np.int64).reshape(-1, 3)
+    return offers[:, 0], offers[:, 1], offers[:, 2]

@@ -20,7 +20,11 @@ from glb_tools.options import Fault
 from glb_tools.planning.world import Numbers
 
 MOST_SECONDS = 600.0
-BESIDE = Path(__file__).resolve().parent.parent.parent / "glb-prices"
+# where `glb-prices` is built, and where the package has it
+PLACES = (
+    Path(__file__).resolve().parent.parent.parent / "native" / "glb-prices",
+    Path("/usr/lib/glb/glb-prices"),
+)
 ENDS = {
     2: "it could not read the problem",
     3: "there was not enough memory",
@@ -99,11 +103,12 @@ def cost_of(problem: Problem, flow: Numbers) -> int:
 
 
 def program() -> str | None:
-    """Where `glb-prices` is: as GLB_PRICES says, beside the tools, or in the path."""
+    """Where `glb-prices` is: as GLB_PRICES says (nowhere, if that is empty), beside the tools, or in the path."""
     named = os.environ.get("GLB_PRICES")
     if named is not None:
         return named or None
-    return str(BESIDE) if os.access(BESIDE, os.X_OK) else shutil.which("glb-prices")
+    found = next((str(place) for place in PLACES if os.access(place, os.X_OK)), None)
+    return found or shutil.which("glb-prices")
 
 
 def solved(problem: Problem, seconds: float = MOST_SECONDS) -> Plan:

@@ -125,7 +125,8 @@ class Table:
             raise Fault(f"{self.path}, line {self.reader.line_num}: {why}") from None
         return None
 
-    def __iter__(self) -> Iterator[Row]:
+    def lines(self) -> Iterator[tuple[int, list[str]]]:
+        """Each row's line and its cells as they stand there."""
         columns = len(self.at)
         while (cells := self.next_row()) is not None:
             line = self.reader.line_num
@@ -134,4 +135,11 @@ class Table:
                     f"{self.path}, line {line}, column {min(len(cells), columns) + 1}:"
                     f" the row has {len(cells)} cells, and the header {columns}"
                 )
-            yield Row(self, line, [cell.strip() for cell in cells])
+            yield line, cells
+
+    def row(self, line: int, cells: list[str]) -> Row:
+        return Row(self, line, [cell.strip() for cell in cells])
+
+    def __iter__(self) -> Iterator[Row]:
+        for line, cells in self.lines():
+            yield self.row(line, cells)

@@ -152,28 +152,25 @@ def services_in(row: Row, choices: Choices) -> frozenset[str]:
 
 def parents_first(found: dict[str, Node]) -> list[Node]:
     """The nodes in the tables' order, but for each behind its parent."""
-    ordered: dict[str, Node] = {}
+    levels: dict[str, int] = {}
     for node in found.values():
-        path: list[Node] = []
+        path: dict[str, Node] = {}
         at: Node | None = node
-        while at is not None and at.name not in ordered:
-            if at in path:
-                loop = " under ".join(x.name for x in [*path[path.index(at) :], at])
+        while at is not None and at.name not in levels:
+            if at.name in path:
+                names = list(path)
+                loop = " under ".join([*names[names.index(at.name) :], at.name])
                 raise at.row.fault("parent", f"a loop of parents: {loop}")
-            path.append(at)
+            path[at.name] = at
             at = parent_of(at, found)
-        for at in reversed(path):
-            ordered[at.name] = at
-    for node in ordered.values():
-        depth, at = 1, parent_of(node, found)
-        while at is not None:
-            depth, at = depth + 1, parent_of(at, found)
-        if depth > DEEPEST:
-            raise node.row.fault(
-                "parent",
-                f"{shown(node.name)} stands under {depth - 1} others; {DEEPEST - 1} are allowed",
-            )
-    return list(ordered.values())
+        for at in reversed(path.values()):
+            levels[at.name] = levels.get(at.parent, 0) + 1
+            if levels[at.name] > DEEPEST:
+                raise at.row.fault(
+                    "parent",
+                    f"{shown(at.name)} stands under {DEEPEST} others or more; {DEEPEST - 1} are allowed",
+                )
+    return [found[name] for name in levels]
 
 
 def parent_of(node: Node, found: dict[str, Node]) -> Node | None:
@@ -301,20 +298,25 @@ class RoundTrips:
 def read_round_trips(
     choices: Choices, groups: dict[str, int], nodes: list[Node], node_at: dict[str, int]
 ) -> RoundTrips:
+    """The pairs, in the order of groups and pools. Millions of rows repeat few names and numbers: those are looked up."""
     found: dict[int, int] = {}
     width = len(nodes)
-    prefixes = choices.tables["prefixes"]
-    for row in Table(choices.tables["rtt"], ("group", "pool", "milliseconds")):
-        group, pool = groups.get(row["group"]), node_at.get(row["pool"])
-        if group is None:
-            group = group_in(row, groups, prefixes)
-        if pool is None or not nodes[pool].is_pool:
-            raise unknown_pool(row, pool, nodes)
-        cost = round(row.decimal("milliseconds", MOST_MILLISECONDS) * PER_MS)
+    table = Table(choices.tables["rtt"], ("group", "pool", "milliseconds"))
+    columns = [table.at[column] for column in ("group", "pool", "milliseconds")]
+    pools = {name: at for name, at in node_at.items() if nodes[at].is_pool}
+    known: dict[str, int] = {}
+    for line, cells in table.lines():
+        name, other, text = (cells[column] for column in columns)
+        group, pool, cost = groups.get(name), pools.get(other), known.get(text)
+        if group is None or pool is None or cost is None:
+            row = table.row(line, cells)
+            group = group_in(row, groups, choices.tables["prefixes"])
+            pool = pool_in(row, nodes, node_at)
+            cost = known[text] = round(row.decimal("milliseconds", MOST_MILLISECONDS) * PER_MS)
         if found.setdefault(group * width + pool, cost) != cost:
-            raise row.fault(
+            raise table.row(line, cells).fault(
                 "milliseconds",
-                f"{row['group']} to {row['pool']} is {found[group * width + pool] / PER_MS:g} in an earlier line",
+                f"{name.strip()} to {other.strip()} is {found[group * width + pool] / PER_MS:g} in an earlier line",
             )
     keys = np.fromiter(found.keys(), np.int64, len(found))
     costs = np.fromiter(found.values(), np.int64, len(found))
@@ -323,11 +325,14 @@ def read_round_trips(
     return RoundTrips(keys // width, keys % width, costs[order])
 
 
-def unknown_pool(row: Row, pool: int | None, nodes: list[Node]) -> Fault:
-    if pool is not None:
-        return row.fault("pool", f"{shown(row['pool'])} is a node, and no pool")
-    hint = near(row["pool"], [node.name for node in nodes if node.is_pool])
-    return row.fault("pool", f"there is no pool {shown(row['pool'])}{hint}")
+def pool_in(row: Row, nodes: list[Node], node_at: dict[str, int]) -> int:
+    pool = node_at.get(row["pool"])
+    if pool is None:
+        hint = near(row["pool"], [node.name for node in nodes if node.is_pool])
+        raise row.fault("pool", f"there is no pool {shown(row['pool'])}{hint}")
+    if not nodes[pool].is_pool:
+        raise row.fault("pool", f"{shown(row['pool'])} is a node, and no pool")
+    return pool
 
 
 # All together.
@@ -437,9 +442,8 @@ def check_offers(choices: Choices, world: World, rows: list[Row]) -> None:
     has = np.zeros(len(world.units), bool)
     has[world.offer_unit] = True
     for unit in np.flatnonzero(~has).tolist():
-        group = (
-            max(unit, int(world.owner[unit])) if world.owner[unit] < 0 else int(world.owner[unit])
-        )
+        owner = int(world.owner[unit])
+        group = unit if owner < 0 else owner
         service = f", which asks for {world.services[unit]}," if world.services[unit] else ""
         why = f"no row of {choices.tables['rtt']} offers {shown(world.units[group])}{service} a pool that can serve it"
         raise rows[group].fault("group", why)

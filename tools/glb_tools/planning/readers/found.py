@@ -10,7 +10,7 @@ from pathlib import Path
 
 from glb_tools.options import Fault, write_file
 from glb_tools.planning.table import Table
-from glb_tools.planning.world import Node, Prefix, read_addresses
+from glb_tools.planning.world import Prefix
 from glb_tools.planning.prefixes import BITS, aggregated, text_of
 
 # where only an order is known: the round trip of its first pool, and how much further each next one is
@@ -188,9 +188,8 @@ def places_of(path: Path) -> dict[str, Place]:
     found = {}
     columns = ("pool", "parent", "capacity", "addresses")
     for row in Table(path, columns, ("services", "lat", "lon")):
-        read_addresses(Node(row.name("pool"), row["parent"], 0, True, row))
         if row["lat"] or row["lon"]:
-            found[row["pool"]] = row.degrees("lat", 90), row.degrees("lon", 180)
+            found[row.name("pool")] = row.degrees("lat", 90), row.degrees("lon", 180)
     if not found:
         raise Fault(f"{path}: no pool has `lat` and `lon`")
     return found

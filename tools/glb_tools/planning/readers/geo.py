@@ -35,10 +35,10 @@ class Site:
         """What there is, from the continent to the city."""
         return [code for code in (self.continent, self.country, *self.regions, self.city) if code]
 
-    def name(self, by: str) -> str:
-        """The name of its group."""
-        parts = [self.continent, self.country, self.regions[0] if self.regions else "", self.city]
-        return plain_name("-".join(part for part in parts[: 1 + BY.index(by)] if part) or "unknown")
+    def key(self, by: str) -> tuple[str, ...]:
+        """What tells its group from others."""
+        parts = (self.continent, self.country, self.regions[0] if self.regions else "", self.city)
+        return parts[: 1 + BY.index(by)]
 
 
 @dataclass
@@ -61,8 +61,13 @@ def grouped(sites: Iterator[tuple[Prefix, Site]], by: str) -> Found:
     """A group for each continent, country, region or city."""
     found = Found()
     middles: dict[str, Middle] = {}
+    names: dict[tuple[str, ...], str] = {}
+    taken: set[str] = set()
     for prefix, site in sites:
-        group = found.prefixes[prefix] = site.name(by)
+        group = names.get(site.key(by), "")
+        if not group:
+            group = names[site.key(by)] = free_name(site.key(by), taken)
+        found.prefixes[prefix] = group
         if site.place is not None:
             bits = 32 if prefix[0] == 4 else 64
             weight = 2.0 ** max(0, bits - prefix[2])
@@ -71,6 +76,17 @@ def grouped(sites: Iterator[tuple[Prefix, Site]], by: str) -> Found:
     if not middles:
         found.lose("places: the file has no coordinates, as those of cities have")
     return found
+
+
+def free_name(key: tuple[str, ...], taken: set[str]) -> str:
+    """A name of `glb` for a group: where two would be the same, the later one has a number."""
+    name = plain = plain_name("-".join(part for part in key if part) or "unknown")
+    number = 1
+    while name in taken:
+        number += 1
+        name = f"{plain[:26]}-{number}"
+    taken.add(name)
+    return name
 
 
 # CSV: blocks with the number of their location, and locations by number.

@@ -5,7 +5,6 @@ from pathlib import Path
 
 from glb_tools.options import Fault
 
-Value = "str | list[Value] | dict[str, Value]"
 SPECIAL = set('][}{;#,"=\\')
 DEEPEST = 64
 
@@ -75,14 +74,12 @@ class Text:
             self.at += 1
 
 
-def read_vscf(path: Path) -> "dict[str, object]":
+def read_vscf(path: Path) -> dict[str, object]:
     """The hash that a file is."""
-    text = Text(path, path.read_bytes().decode("latin-1"))
-    found = hash_of(text, "", 0)
-    return found
+    return read_included(path, 0)
 
 
-def hash_of(text: Text, end: str, depth: int) -> "dict[str, object]":
+def hash_of(text: Text, end: str, depth: int) -> dict[str, object]:
     """A hash up to its end, which is the file's where there is none."""
     if depth > DEEPEST:
         raise text.fault("hashes or files that are nested too deep")
@@ -105,7 +102,7 @@ def hash_of(text: Text, end: str, depth: int) -> "dict[str, object]":
     return found
 
 
-def merge(text: Text, found: "dict[str, object]", more: "dict[str, object]") -> None:
+def merge(text: Text, found: dict[str, object], more: dict[str, object]) -> None:
     for key, value in more.items():
         if key in found:
             raise text.fault(f"the key `{key}` stands twice")
@@ -156,6 +153,6 @@ def included(text: Text) -> list[Path]:
     return [base / name]
 
 
-def read_included(path: Path, depth: int) -> "dict[str, object]":
-    text = Text(path, path.read_bytes().decode("latin-1"))
+def read_included(path: Path, depth: int) -> dict[str, object]:
+    text = Text(path, path.read_bytes().decode("utf-8", "surrogateescape"))
     return hash_of(text, "", depth + 1)
