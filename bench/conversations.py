@@ -5,14 +5,17 @@
 
 Clients that say an octet at a time, five hundred questions at once, a length past 4,096, half a message, and half-close;
 two hundred that say nothing; a hundred resets; ten that never read; more connections of one address and in all than the
-server holds; ten thousand in a row, while its feed publishes maps. GLB names the program, the built one if it is not set.
+server holds; crowds whose questions have come before the first of them is taken in, as a queue at a server that stood still;
+ten thousand in a row, while its feed publishes maps. GLB names the program, the built one if it is not set.
 The replies are those of the example topology. The last line counts, and the status is 0 where nothing failed; times are
 said and decide nothing, but that a question beside silent clients is answered within a tenth of a second.
 """
 
 import os
+import signal
 import socket
 import struct
+import threading
 import time
 
 import interop
@@ -172,6 +175,49 @@ def crowded(port, process):
     expect("descriptors behind them", process.connections(), 0)
 
 
+def queued(port, pid, count, addresses):
+    """How many of so many clients are answered, all of which have asked before the server takes the first of them in."""
+    os.kill(pid, signal.SIGSTOP)
+    clients = []
+    for number in range(count):
+        client = connect(port, f"127.0.4.{1 + number % addresses}")
+        client.sendall(MESSAGE)
+        clients.append(client)
+    os.kill(pid, signal.SIGCONT)
+    right = 0
+    for client in clients:
+        try:
+            right += is_reply(read(client, REPLY))
+        except OSError:
+            pass
+        client.close()
+    return right
+
+
+def crowds(port, pid):
+    for count, addresses in [(OF_ONE, 1), (40, 1), (200, 1), (HELD + 1, 250), (1_000, 250)]:
+        expect(f"{count} that wait, of {addresses} addresses", queued(port, pid, count, addresses), count)
+
+
+def slow(port):
+    """A client that asks much and takes its replies slowly, and one whose messages get no reply."""
+    with socket.socket() as client, connect(port, "127.0.5.1") as idle:
+        client.setsockopt(socket.SOL_SOCKET, socket.SO_RCVBUF, 2048)
+        client.settimeout(15)
+        client.connect(("127.0.0.1", port))
+        threading.Thread(target=lambda: client.sendall(MESSAGE * 20_000), daemon=True).start()
+        start, octets = time.monotonic(), 0
+        closed = None
+        while octets < 20_000 * REPLY:
+            octets += len(read(client, 2_000))
+            time.sleep(max(0, start + octets / 40_000 - time.monotonic()))
+            if closed is None and time.monotonic() - start > 9:
+                closed = time.monotonic()
+                idle.sendall(b"\0\3abc")
+        expect("one that takes 40 kB a second", octets, 20_000 * REPLY)
+        expect("a message of three octets keeps nobody open", is_closed(idle), True)
+
+
 def many(server, process):
     """Ten thousand conversations, while a hundred maps are published that leave the first group where it is."""
     asked("a question before them", server.port)
@@ -198,6 +244,8 @@ def main():
         silent(server.port, process)
         rude(server.port, process)
         crowded(server.port, process)
+        crowds(server.port, server.process.pid)
+        slow(server.port)
         many(server, process)
     interop.tell()
 

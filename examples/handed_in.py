@@ -52,6 +52,17 @@ def listener(port, at="127.0.0.1"):
     return made
 
 
+def both(count):
+    """So many sockets of UDP and a listener at one place."""
+    while True:
+        made, port = datagrams(count)
+        try:
+            return made, listener(port), port
+        except OSError:
+            for one in made:
+                one.close()
+
+
 class Server:
     """A server that is handed these, whose feed stays open until it is left."""
 
@@ -136,9 +147,28 @@ def is_up(port):
     return False
 
 
-def ask_tcp(connection):
+def ask_late(connection):
+    """One that has asked, and has no reply yet."""
     connection.sendall(struct.pack(">H", len(QUERY)) + QUERY)
-    return len(connection.recv(4096)) > 2
+    return connection
+
+
+def has_reply(connection):
+    try:
+        return len(connection.recv(4096)) > 2
+    except OSError:
+        return False
+
+
+def ask_tcp(connection):
+    return has_reply(ask_late(connection))
+
+
+def seconds_of(pid):
+    """How long a process had the processor, in seconds."""
+    with open(f"/proc/{pid}/stat") as stat:
+        fields = stat.read().rpartition(")")[2].split()
+    return (int(fields[11]) + int(fields[12])) / os.sysconf("SC_CLK_TCK")
 
 
 def over_restarts(handed, port, times, workers=2, each=20):
@@ -196,8 +226,7 @@ def main():
     expect("asked beside that", ask(port), 64)
     server.kill()
     # a listener
-    handed, port = datagrams(2)
-    waiting = listener(port)
+    handed, waiting, port = both(2)
     server = Server([*handed, waiting], port, tcp=True)
     expect("by TCP", ask_tcp(socket.create_connection(("127.0.0.1", port), 5)), True)
     server.kill()
@@ -205,7 +234,38 @@ def main():
     server = Server([*handed, waiting], port, tcp=True)
     expect("a connection that came while none ran", ask_tcp(connection), True)
     expect("by UDP beside it", ask(port), 64)
+    # more than have places wait while none runs, and some come behind the end of the feed
     server.kill()
+    crowd = [ask_late(socket.create_connection(("127.0.0.1", port), 5)) for _ in range(60)]
+    server = Server([*handed, waiting], port, tcp=True)
+    expect("sixty of one address that came while none ran", sum(map(has_reply, crowd)), 60)
+    expect("the end of the feed beside them", server.end(), 0)
+    late = ask_late(socket.create_connection(("127.0.0.1", port), 5))
+    server = Server([*handed, waiting], port, tcp=True)
+    expect("one that came behind the end", has_reply(late), True)
+    server.kill()
+    # sockets that wait for nothing do as the others
+    for one in [*handed, waiting]:
+        one.setblocking(False)
+    server = Server([*handed, waiting], port, tcp=True)
+    expect("sockets that wait for nothing", (ask(port), ask_tcp(socket.create_connection(("127.0.0.1", port), 5))), (64, True))
+    used = seconds_of(server.pid)
+    time.sleep(1)
+    expect("they cost nothing where nobody asks", seconds_of(server.pid) - used < 0.2, True)
+    server.kill()
+    # sockets that cannot serve
+    one, port = datagrams(1)
+    one[0].connect(("127.0.0.1", 9))
+    expect("a socket of UDP that is connected", Server(one, port).end(), 5)
+    handed, deaf, port = both(2)
+    deaf.close()
+    deaf = socket.socket()
+    deaf.setsockopt(socket.SOL_SOCKET, socket.SO_REUSEADDR, 1)
+    deaf.bind(("127.0.0.1", port))
+    expect("one of TCP that does not listen", Server([*handed, deaf], port, tcp=True).end(), 5)
+    deaf.close()
+    many, port = datagrams(65)
+    expect("sixty-five", Server(many, port).end(), 5)
     print(f"{passed} passed, {failed} failed")
     sys.exit(failed != 0)
 

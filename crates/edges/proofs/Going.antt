@@ -1,7 +1,7 @@
 -- What becomes of all places, one thing after another.
 use Rattle.std.proofs.Common.{◌≡◌, ◌⊎◌, ◌<◌, ◌≤◌, ◌+◌, ℕ, zero, suc, Bool, List, Option, Some, None, true, false, cond, refl, sym, subst, ap, ◌∙◌, ◌∷◌, [], ◌++◌, append-nil, length, set, arith, inl, inr, ⊎_elim, MatchBool, MatchOption}
 use Rattle.std.specs.List.{AllZip, position_or_len, prefix_len}
-use Rattle.std.specs.Prelude.{slice_get, drop, take, not, is_some, nat_lt, nat_le, count_by, position, ◌==◌, ◌&&◌, if◌then◌else◌}
+use Rattle.std.specs.Prelude.{slice_get, drop, take, not, is_some, nat_lt, nat_le, count_by, position, ◌==◌, ◌&&◌, ◌||◌, if◌then◌else◌}
 use Rattle.std.proofs.lemmas.List.{drop_all, length-set, take_all}
 use Rattle.std.proofs.lemmas.Bool.{eqb-true}
 use Rattle.std.proofs.lemmas.Option.{slice_get_within, none-some}
@@ -9,12 +9,17 @@ use Rattle.addr_text.specs.declared.address.Addr.{Addr}
 use Rattle.addr_text.specs.declared.address.Peer.{Peer}
 use Rattle.outside.specs.Faults.{raised}
 use Rattle.edges.proofs.Told.{got_at, some_eq}
-use Rattle.edges.specs.Halls.{AreAllChanged, GoesOn, IsGivenOut, IsGoneOn, Left, Stayed, Went, Came, IsIdle, IsLetIn, IsPlaceChangedAt, IsSettled, IsToLeaveAt, IsTurned, Stays}
-use Rattle.edges.specs.Places.{IsFound, IsLeast, IsPlaceFor, IsTaken, IsVacant, IsWoken, MayBeWoken, is_free, is_of, rested}
-use Rattle.edges.specs.Rooms.{IsChangedAt, IsDue, IsEmpty, IsNotDue}
+use Rattle.edges.specs.Halls.{AreAllChanged, AreRounded, GoesOn, HasCome, IsEntered, IsGivenOut, IsGoneOn, IsIdle, IsLetIn, IsPlaceChangedAt, IsRound, IsSettled, IsTakenIn, IsToLeaveAt, IsTurned, Stays}
+use Rattle.edges.specs.declared.ears.Taken.{Taken}
+use Rattle.edges.specs.declared.ears.Taken.TheVariants as taken
+use Rattle.edges.specs.declared.seat.Stirring.{Stirring}
+use Rattle.edges.specs.Places.{GivesWay, IsFound, IsLeast, IsPlaceFor, IsSamePeer, IsSameSeat, IsTaken, IsVacant, IsWoken, MayBeWoken, WasRead, is_free, is_of, reads_of, rested, socket_of}
+use Rattle.edges.specs.declared.line.Line.{Line}
+use Rattle.edges.specs.Rooms.{IsChangedAt, IsDue, IsEmpty, IsFilled, IsNotDue}
 use Rattle.edges.specs.declared.places.Wanted.TheVariants.{Oldest, OldestOf}
 use Rattle.edges.specs.declared.room.Room.{Room}
 use Rattle.edges.specs.declared.seat.Seat.{Seat}
+use Rattle.tcp_frames.specs.declared.front.TheConstants.{LARGEST_FRAME}
 
 -- a number is below another one or not
 pub within : (i k : ℕ) → (i < k) ⊎ (k ≤ i)
@@ -88,17 +93,17 @@ turned_wider l l1 m m1 turn s r below above = by (nat_lt 0 turn) (nat_lt 0 s.tur
     by false true (due, (after, before)) = (due, (omega (arith, below, after), omega (arith, above, before)))
     by false false rests = rests
 
-goes_wider : (l l1 m m1 : ℕ) (s t : Seat) (p q : Room) → l ≤ l1 → m ≤ m1 → GoesOn l1 m s p t q → GoesOn l m1 s p t q
-goes_wider l l1 m m1 s t p q below above (over, place, going, turned) = (over, place, going, turned_wider l l1 m m1 s.turn t q below above turned)
+goes_wider : (now l l1 m m1 : ℕ) (s t : Seat) (p q : Room) → l ≤ l1 → m ≤ m1 → GoesOn now l1 m s p t q → GoesOn now l m1 s p t q
+goes_wider now l l1 m m1 s t p q below above (over, place, going, turned, since) = (over, place, going, turned_wider l l1 m m1 s.turn t q below above turned, since)
 
 settled_wider : (now l l1 m m1 : ℕ) (s t : Seat) (p q : Room) → l ≤ l1 → m ≤ m1 → IsSettled now l1 m s p t q → IsSettled now l m1 s p t q
 settled_wider now l l1 m m1 s t p q below above = by (is_free s)
   where
-    by : (b : Bool) → MatchBool b (Stays s p t q) ((IsVacant t × IsEmpty q) ⊎ (GoesOn l1 m s p t q × (IsToLeaveAt now t q → ⊥)))
-        → MatchBool b (Stays s p t q) ((IsVacant t × IsEmpty q) ⊎ (GoesOn l m1 s p t q × (IsToLeaveAt now t q → ⊥)))
+    by : (b : Bool) → MatchBool b (Stays s p t q) ((IsVacant t × IsEmpty q) ⊎ (GoesOn now l1 m s p t q × (IsToLeaveAt now t q → ⊥)))
+        → MatchBool b (Stays s p t q) ((IsVacant t × IsEmpty q) ⊎ (GoesOn now l m1 s p t q × (IsToLeaveAt now t q → ⊥)))
     by true stays = stays
     by false (inl left) = inl left
-    by false (inr (on, stays)) = inr (goes_wider l l1 m m1 s t p q below above on, stays)
+    by false (inr (on, stays)) = inr (goes_wider now l l1 m m1 s t p q below above on, stays)
 
 -- the places before one have gone on, and those from it on stay so far
 abbrev IsSettledBelow : ℕ → ℕ → ℕ → ℕ → ℕ → Seat → Room → Seat → Room → Type 0
@@ -198,7 +203,7 @@ no_turn b seat key is = by b (seat.turn == 0) refl is
 
 -- where a connection may come in, nothing waits
 idle_oldest : (seats : List Seat) (i : ℕ) (seat : Seat) → IsLeast Oldest seats i → slice_get seats i ≡ Some seat → IsIdle seat
-idle_oldest seats i seat least is = inr (subst (λ s. s.turn ≡ 0) (some_eq least.0 seat (sym least.2 ∙ is)) (no_turn (is_some least.0.stream) least.0 least.1 least.3))
+idle_oldest seats i seat least is = inr (subst (λ s. s.turn ≡ 0) (some_eq least.0 seat (sym least.2 ∙ is)) (no_turn (is_some least.0.line) least.0 least.1 least.3))
 
 idle_oldest_of : (addr : Addr) (seats : List Seat) (i : ℕ) (seat : Seat) → IsLeast (OldestOf addr) seats i → slice_get seats i ≡ Some seat → IsIdle seat
 idle_oldest_of addr seats i seat least is = inr (subst (λ s. s.turn ≡ 0) (some_eq least.0 seat (sym least.2 ∙ is)) (no_turn (is_of addr least.0) least.0 least.1 least.3))
@@ -211,36 +216,115 @@ idle_there seats addr most i seat place is = by (nat_le most (count_by (is_of ad
     by false None at found = idle_oldest seats i seat found is
     by false (Some k) at found = inl (first_free seats i seat (at ∙ sym found) is)
 
--- a connection is taken in or left, or nothing happens
-pub let_in_more : (now k : ℕ) (P : Seat → Type 0) (s0 s1 s2 : List Seat) (r0 r1 r2 : List Room) → ((s : Seat) → P s → IsVacant s ⊎ ((is_free s ≡ false) × (s.since ≡ now) × (s.turn ≡ 0))) → ((s : Seat) → slice_get s1 k ≡ Some s → IsIdle s)
-    → AreAllChanged (λ _. IsLetIn now) s0 r0 s1 r1 → IsChangedAt (λ _ s. P s) k s1 s2 → IsChangedAt (λ _ r. IsEmpty r) k r1 r2 → AreAllChanged (λ _. IsLetIn now) s0 r0 s2 r2
-let_in_more now k P s0 s1 s2 r0 r1 r2 which idle before seat room =
-    one_behind (λ i. IsLetIn now) (AtOr k CameIn) (λ i. IsLetIn now) s0 s1 s2 r0 r1 r2 both before
-    (subst (λ s. AreAllChanged (AtOr k CameIn) s1 r1 s r2) (sym seat.is) (subst (λ r. AreAllChanged (AtOr k CameIn) s1 r1 (set s1 k seat.new) r) (sym room.is) (at_one CameIn k s1 r1 seat.old seat.new room.old room.new seat.was room.was (idle seat.old seat.was, which seat.new seat.changed, room.changed))))
-  where
-    CameIn : Seat → Room → Seat → Room → Type 0
-    CameIn s p t q = IsIdle s × (IsVacant t ⊎ ((is_free t ≡ false) × (t.since ≡ now) × (t.turn ≡ 0))) × IsEmpty q
-
-    both : (i : ℕ) (s t u : Seat) (p q r : Room) → i < length s0 → i < length r0 → IsLetIn now s p t q → AtOr k CameIn i t q u r → IsLetIn now s p u r
-    both i s t u p q r in-s in-r (inl (t-is, q-is)) (inl (e, came)) = inr (subst (λ x. IsIdle x) t-is came.0, came.1, came.2)
-    both i s t u p q r in-s in-r (inr one) (inl (e, came)) = inr (one.0, came.1, came.2)
-    both i s t u p q r in-s in-r one (inr (other, stays)) = subst (λ x. IsLetIn now s p x r) (sym stays.0) (subst (λ y. IsLetIn now s p t y) (sym stays.1) one)
+-- what each place became is also something else
+pub also : (R S : ℕ → Seat → Room → Seat → Room → Type 0) (s0 s1 : List Seat) (r0 r1 : List Room) → ((i : ℕ) (s t : Seat) (p q : Room) → R i s p t q → S i s p t q) → AreAllChanged R s0 r0 s1 r1 → AreAllChanged S s0 r0 s1 r1
+also R S s0 s1 r0 r1 so changed = record {
+  seats_stay = changed.seats_stay;
+  rooms_stay = changed.rooms_stay;
+  each = λ i s p is has. let to = changed.each i s p is has in (to.0, to.1, to.2, to.3, so i s to.0 p to.1 to.4);
+}
 
 -- by two equations
 pub moved : (R : ℕ → Seat → Room → Seat → Room → Type 0) (s0 s1 s2 : List Seat) (r0 r1 r2 : List Room) → s2 ≡ s1 → r2 ≡ r1 → AreAllChanged R s0 r0 s1 r1 → AreAllChanged R s0 r0 s2 r2
 moved R s0 s1 s2 r0 r1 r2 s r c = subst (λ x. AreAllChanged R s0 r0 x r2) (sym s) (subst (λ y. AreAllChanged R s0 r0 s1 y) (sym r) c)
 
--- a connection came
-pub one_let_in : (now most : ℕ) (peer : Peer) (s0 s1 s2 : List Seat) (r0 r1 r2 : List Room) → AreAllChanged (λ _. IsLetIn now) s0 r0 s1 r1
-    → ((s2 ≡ s1) × (r2 ≡ r1)) ⊎ ((i : ℕ) × IsPlaceFor s1 peer.addr most (Some i) × IsChangedAt (λ _ seat. IsTaken peer now seat) i s1 s2 × IsChangedAt (λ _ room. IsEmpty room) i r1 r2) → AreAllChanged (λ _. IsLetIn now) s0 r0 s2 r2
-one_let_in now most peer s0 s1 s2 r0 r1 r2 before (inl (s, r)) = moved (λ _. IsLetIn now) s0 s1 s2 r0 r1 r2 s r before
-one_let_in now most peer s0 s1 s2 r0 r1 r2 before (inr (k, place, seat, room)) = let_in_more now k (IsTaken peer now) s0 s1 s2 r0 r1 r2 (λ s taken. inr (taken.0, taken.2, taken.3)) (λ s is. idle_there s1 peer.addr most k s place is) before seat room
+-- none comes
+pub none_in : (now l m : ℕ) (seats : List Seat) (rooms : List Room) → AreAllChanged (λ _. IsLetIn now l m) seats rooms seats rooms
+none_in now l m seats rooms = record { seats_stay = refl; rooms_stay = refl; each = λ i s p is has. (s, p, is, has, inl (refl, refl)) }
+
+entered_wider : (now l l1 m m1 : ℕ) (s : Seat) (p : Room) → l ≤ l1 → m ≤ m1 → IsEntered now l1 m s p → IsEntered now l m1 s p
+entered_wider now l l1 m m1 s p below above (inl left) = inl left
+entered_wider now l l1 m m1 s p below above (inr (there, since, read, none, turned, stays)) = inr (there, since, read, none, turned_wider l l1 m m1 0 s p below above turned, stays)
+
+-- some come, and then more
+pub let_in_more : (now l m m1 : ℕ) (s0 s1 s2 : List Seat) (r0 r1 r2 : List Room) → l ≤ m → m ≤ m1 → AreAllChanged (λ _. IsLetIn now l m) s0 r0 s1 r1 → AreAllChanged (λ _. IsLetIn now m m1) s1 r1 s2 r2 → AreAllChanged (λ _. IsLetIn now l m1) s0 r0 s2 r2
+let_in_more now l m m1 s0 s1 s2 r0 r1 r2 lower higher = one_behind (λ _. IsLetIn now l m) (λ _. IsLetIn now m m1) (λ _. IsLetIn now l m1) s0 s1 s2 r0 r1 r2 both
+  where
+    both : (i : ℕ) (s t u : Seat) (p q r : Room) → i < length s0 → i < length r0 → IsLetIn now l m s p t q → IsLetIn now m m1 t q u r → IsLetIn now l m1 s p u r
+    both i s t u p q r in-s in-r (inl (t-is, q-is)) (inl (u-is, r-is)) = inl (u-is ∙ t-is, r-is ∙ q-is)
+    both i s t u p q r in-s in-r (inl (t-is, q-is)) (inr (idle, came)) = inr (subst (λ x. IsIdle x) t-is idle, entered_wider now l m m1 m1 u r lower (omega arith) came)
+    both i s t u p q r in-s in-r (inr (idle, came)) (inl (u-is, r-is)) =
+        inr (idle, subst (λ x. IsEntered now l m1 x r) (sym u-is) (subst (λ y. IsEntered now l m1 t y) (sym r-is) (entered_wider now l l m m1 t q (omega arith) higher came)))
+    both i s t u p q r in-s in-r (inr (idle, came)) (inr (idle', came')) = inr (idle, entered_wider now l m m1 m1 u r lower (omega arith) came')
+
+line_same : (a b : Option Line) → socket_of b ≡ socket_of a → is_some b ≡ is_some a
+line_same None None e = refl
+line_same None (Some b) e = absurd (cc e)
+line_same (Some a) None e = absurd (cc e)
+line_same (Some a) (Some b) e = refl
+
+-- the same connection is there
+pub there_same : (s t : Seat) → IsSamePeer s t → is_free t ≡ is_free s
+there_same s t same = ap not (line_same s.line t.line same.0)
+
+-- something may be read, with room for it
+abbrev pub may_read : Bool → Bool → List ℕ → Bool
+may_read is_readable is_over coming = is_readable && not is_over && nat_lt (length coming) LARGEST_FRAME
+
+-- a connection came, was read, and waits where it is due
+pub entered : (l m since : ℕ) (peer : Peer) (s0 s1 s2 s3 : Seat) (r0 r1 r3 : Room) → IsTaken peer since s0 → IsEmpty r0 → IsFilled r0.coming.items r1.coming.items r0.going.items r1.going.items → IsSameSeat s0 s1 → (may_read s0.is_readable s0.is_over r0.coming.items ≡ true → WasRead s1) → s2 ≡ record s1 { turn = s2.turn } → IsTurned l m s1.turn s2 r1
+    → ((s3 ≡ s2) × (r3 ≡ r1) × (IsToLeaveAt s0.since s2 r1 → ⊥)) ⊎ (IsVacant s3 × IsEmpty r3) → IsEntered s0.since l m s3 r3
+entered l m since peer s0 s1 s2 s3 r0 r1 r3 taken empty filled same read waits turned (inr left) = inl left
+entered l m since peer s0 s1 s2 s3 r0 r1 r3 taken empty filled same read waits turned (inl (s-is, r-is, stays)) =
+    subst (λ x. IsEntered s0.since l m x r3) (sym s-is) (subst (λ y. IsEntered s0.since l m s2 y) (sym r-is) (inr come))
+  where
+    line-is : s2.line ≡ s1.line
+    line-is = ap (λ x. x.line) waits
+
+    there : is_free s1 ≡ false
+    there = there_same s0 s1 same.0 ∙ taken.0
+
+    reads : WasRead s1 → 0 < reads_of s1.line
+    reads (inl free) = absurd (cc (sym free ∙ there))
+    reads (inr some) = some
+
+    may : may_read s0.is_readable s0.is_over r0.coming.items ≡ true
+    may = ap (λ b. may_read b s0.is_over r0.coming.items) taken.6 ∙ ap (λ b. may_read true b r0.coming.items) taken.4 ∙ ap (λ l. may_read true false l) empty.0
+
+    come : HasCome s0.since l m s2 r1
+    come = (
+      ap (λ x. not (is_some x)) line-is ∙ there,
+      ap (λ x. x.since) waits ∙ same.3,
+      subst (λ x. 0 < reads_of x) (sym line-is) (reads (read may)),
+      filled.1 ∙ empty.1,
+      subst (λ n. IsTurned l m n s2 r1) (same.1 ∙ taken.3) turned,
+      stays,
+    )
+
+-- one comes to a place where nothing waits
+placed : (now l m k : ℕ) (s1 s2 : List Seat) (r1 r2 : List Room) → ((s : Seat) → slice_get s1 k ≡ Some s → IsIdle s) → IsPlaceChangedAt (λ _ _. IsEntered now l m) k s1 r1 s2 r2 → AreAllChanged (λ _. IsLetIn now l m) s1 r1 s2 r2
+placed now l m k s1 s2 r1 r2 idle at =
+    moved (λ _. IsLetIn now l m) s1 (set s1 k at.seat') s2 r1 (set r1 k at.room') r2 at.seat_is at.room_is
+    (also (AtOr k Comes) (λ _. IsLetIn now l m) s1 (set s1 k at.seat') r1 (set r1 k at.room') so (at_one Comes k s1 r1 at.seat at.seat' at.room at.room' at.seat_was at.room_was (idle at.seat at.seat_was, at.changed)))
+  where
+    Comes : Seat → Room → Seat → Room → Type 0
+    Comes s p t q = IsIdle s × IsEntered now l m t q
+
+    so : (i : ℕ) (s t : Seat) (p q : Room) → AtOr k Comes i s p t q → IsLetIn now l m s p t q
+    so i s t p q (inl (e, comes)) = inr comes
+    so i s t p q (inr (other, stays)) = inl stays
+
+-- a connection that was taken off the queue came, or nothing changed
+pub taken_in : (addr : Addr) (most now : ℕ) (came : Taken) (l m : ℕ) (s1 s2 : List Seat) (r1 r2 : List Room) → IsTakenIn addr most now came l m s1 r1 s2 r2 → AreAllChanged (λ _. IsLetIn now l m) s1 r1 s2 r2
+taken_in addr most now (taken.At k) l m s1 s2 r1 r2 (place, (at, none)) = by (within k (length s1)) (within k (length r1))
+  where
+    stays : (s2 ≡ s1) × (r2 ≡ r1) → AreAllChanged (λ _. IsLetIn now l m) s1 r1 s2 r2
+    stays (s, r) = moved (λ _. IsLetIn now l m) s1 s1 s2 r1 r1 r2 s r (none_in now l m s1 r1)
+
+    by : (k < length s1) ⊎ (length s1 ≤ k) → (k < length r1) ⊎ (length r1 ≤ k) → AreAllChanged (λ _. IsLetIn now l m) s1 r1 s2 r2
+    by (inl lt) (inl lt') = placed now l m k s1 s2 r1 r2 (λ s is. idle_there s1 addr most k s place is) (at lt lt')
+    by (inl lt) (inr le) = stays (none (inr le))
+    by (inr le) r = stays (none (inl le))
+taken_in addr most now taken.Turned l m s1 s2 r1 r2 (place, s, r) = moved (λ _. IsLetIn now l m) s1 s1 s2 r1 r1 r2 s r (none_in now l m s1 r1)
+taken_in addr most now taken.Refused l m s1 s2 r1 r2 (s, r) = moved (λ _. IsLetIn now l m) s1 s1 s2 r1 r1 r2 s r (none_in now l m s1 r1)
 
 -- room was made, or there was none
-pub room_made : (now : ℕ) (is_made : Bool) (s0 s1 s2 : List Seat) (r0 r1 r2 : List Room) → AreAllChanged (λ _. IsLetIn now) s0 r0 s1 r1
-    → (is_made ≡ true → (i : ℕ) × IsLeast Oldest s1 i × IsChangedAt (λ _ seat. IsVacant seat) i s1 s2 × IsChangedAt (λ _ room. IsEmpty room) i r1 r2) → (is_made ≡ false → (s2 ≡ s1) × (r2 ≡ r1)) → AreAllChanged (λ _. IsLetIn now) s0 r0 s2 r2
-room_made now true s0 s1 s2 r0 r1 r2 before made none = let m = made refl in let_in_more now m.0 IsVacant s0 s1 s2 r0 r1 r2 (λ s vacant. inl vacant) (λ s is. idle_oldest s1 m.0 s m.1 is) before m.2 m.3
-room_made now false s0 s1 s2 r0 r1 r2 before made none = let is = none refl in moved (λ _. IsLetIn now) s0 s1 s2 r0 r1 r2 is.0 is.1 before
+pub room_made : (now l m : ℕ) (is_made : Bool) (s1 s2 : List Seat) (r1 r2 : List Room) → (is_made ≡ true → (i : ℕ) × GivesWay now s1 i × IsChangedAt (λ _ seat. IsVacant seat) i s1 s2 × IsChangedAt (λ _ room. IsEmpty room) i r1 r2)
+    → (is_made ≡ false → (s2 ≡ s1) × (r2 ≡ r1)) → AreAllChanged (λ _. IsLetIn now l m) s1 r1 s2 r2
+room_made now l m true s1 s2 r1 r2 made none =
+    let (k, way, seat, room) = made refl in
+    placed now l m k s1 s2 r1 r2 (λ s is. idle_oldest s1 k s way.0 is) (record { seat = seat.old; room = room.old; seat' = seat.new; room' = room.new; seat_was = seat.was; room_was = room.was; seat_is = seat.is; room_is = room.is; changed = inl (seat.changed, room.changed) })
+room_made now l m false s1 s2 r1 r2 made none = let is = none refl in moved (λ _. IsLetIn now l m) s1 s1 s2 r1 r1 r2 is.0 is.1 (none_in now l m s1 r1)
 
 -- of the seats alone
 pub woken : (s0 s1 : List Seat) (rooms : List Room) → AllZip MayBeWoken s0 s1 → AreAllChanged (λ i s p t q. MayBeWoken s t × (q ≡ p)) s0 rooms s1 rooms
@@ -262,25 +346,27 @@ woken s0 s1 rooms same = record { seats_stay = long s0 s1 same; rooms_stay = ref
 -- seats that stay as they are
 pub all_same : (seats : List Seat) → AllZip MayBeWoken seats seats
 all_same [] = tt
-all_same (s ∷ ss) = (inl refl, all_same ss)
+all_same (s ∷ ss) = (refl, all_same ss)
 
--- what is noted of a place at an event
-abbrev noted : Seat → Seat
-noted seat = record seat { is_readable = true; is_writable = true }
+-- what may be noted of a place at an event
+abbrev noted : Bool → Bool → Bool → Seat → Seat
+noted reads writes ends seat = record seat { is_readable = reads; is_writable = writes; is_closing = ends }
 
 -- one is woken, where there is one
-pub one_woken : (k : ℕ) (s0 s1 s2 : List Seat) → AllZip MayBeWoken s0 s1 → (k < length s1 → IsChangedAt IsWoken k s1 s2) → (length s1 ≤ k → s2 ≡ s1) → AllZip MayBeWoken s0 s2
-one_woken k s0 s1 s2 same at none = by (within k (length s1))
+pub one_woken : (stirring : Stirring) (k : ℕ) (s0 s1 s2 : List Seat) → AllZip MayBeWoken s0 s1 → (k < length s1 → IsChangedAt (IsWoken stirring) k s1 s2) → (length s1 ≤ k → s2 ≡ s1) → AllZip MayBeWoken s0 s2
+one_woken stirring k s0 s1 s2 same at none = by (within k (length s1))
   where
-    trans : (s t u : Seat) → MayBeWoken s t → IsWoken t u → MayBeWoken s u
-    trans s t u (inl same) woke = inr (woke ∙ ap noted same)
-    trans s t u (inr first) woke = inr (woke ∙ ap noted first)
+    trans : (s t u : Seat) → MayBeWoken s t → IsWoken stirring t u → MayBeWoken s u
+    trans s t u same woke =
+        let e : u ≡ noted (t.is_readable || stirring.is_readable) (t.is_writable || stirring.is_writable) (t.is_closing || stirring.is_closing) s
+        = woke ∙ ap (λ x. noted (t.is_readable || stirring.is_readable) (t.is_writable || stirring.is_writable) (t.is_closing || stirring.is_closing) x) same in
+        e ∙ ap (λ x. noted x.is_readable x.is_writable x.is_closing s) (sym e)
 
-    placed : (s0 s1 : List Seat) (k : ℕ) (old new : Seat) → AllZip MayBeWoken s0 s1 → slice_get s1 k ≡ Some old → IsWoken old new → AllZip MayBeWoken s0 (set s1 k new)
+    placed : (s0 s1 : List Seat) (k : ℕ) (old new : Seat) → AllZip MayBeWoken s0 s1 → slice_get s1 k ≡ Some old → IsWoken stirring old new → AllZip MayBeWoken s0 (set s1 k new)
     placed [] [] k old new z e is = absurd (none-some old e)
     placed [] (t ∷ ts) k old new z e is = absurd z
     placed (s ∷ ss) [] k old new z e is = absurd z
-    placed (s ∷ ss) (t ∷ ts) zero old new z e is = (trans s t new z.0 (subst (λ x. IsWoken x new) (sym (some_eq t old e)) is), z.1)
+    placed (s ∷ ss) (t ∷ ts) zero old new z e is = (trans s t new z.0 (subst (λ x. IsWoken stirring x new) (sym (some_eq t old e)) is), z.1)
     placed (s ∷ ss) (t ∷ ts) (suc k) old new z e is = (z.0, placed ss ts k old new z.1 e is)
 
     by : (k < length s1) ⊎ (length s1 ≤ k) → AllZip MayBeWoken s0 s2
@@ -288,64 +374,32 @@ one_woken k s0 s1 s2 same at none = by (within k (length s1))
     by (inr le) = subst (λ s. AllZip MayBeWoken s0 s) (sym (none le)) same
 
 -- of a place that was woken, or not
-pub kept_of : {A : Type 0} (f : Seat → A) → ((s : Seat) → f (noted s) ≡ f s) → (s t : Seat) → MayBeWoken s t → f t ≡ f s
-kept_of f keeps s t (inl same) = ap f same
-kept_of f keeps s t (inr woke) = ap f woke ∙ keeps s
+pub kept_of : {A : Type 0} (f : Seat → A) → ((s : Seat) (reads writes ends : Bool) → f (noted reads writes ends s) ≡ f s) → (s t : Seat) → MayBeWoken s t → f t ≡ f s
+kept_of f keeps s t woke = ap f woke ∙ keeps s t.is_readable t.is_writable t.is_closing
 
--- a wait, connections that are taken in, and all go on
-pub all_gone_on : (now l m : ℕ) (s0 s1 s2 s3 : List Seat) (r0 r1 r2 : List Room) → AllZip MayBeWoken s0 s1 → AreAllChanged (λ _. IsLetIn now) s1 r0 s2 r1 → AreAllChanged (λ _. IsSettled now l m) s2 r1 s3 r2 → AreAllChanged (λ _. IsGoneOn now l m) s0 r0 s3 r2
-all_gone_on now l m s0 s1 s2 s3 r0 r1 r2 same came settled =
-    one_behind Woken (λ i. After) (λ i. Goes) s0 s1 s3 r0 r0 r2 (λ i s t u p q r in-s in-r a b. last s t u p q r a b) (woken s0 s1 r0 same)
-    (one_behind (λ i. IsLetIn now) (λ i. IsSettled now l m) (λ i. After) s1 s2 s3 r0 r1 r2 (λ i s t u p q r in-s in-r a b. (t, q, a, b)) came settled)
+-- all go on, and then connections come
+pub rounded : (now l k m : ℕ) (s0 s1 s2 : List Seat) (r0 r1 r2 : List Room) → l ≤ k → k ≤ m → AreAllChanged (λ _. IsSettled now l k) s0 r0 s1 r1 → AreAllChanged (λ _. IsLetIn now k m) s1 r1 s2 r2 → AreRounded now l m s0 r0 s2 r2
+rounded now l k m s0 s1 s2 r0 r1 r2 lower higher went came = (k, lower, higher, record { seats_then = s1; rooms_then = r1; went = went; came = came })
+
+-- a wait ahead of it
+pub waited : (now l m : ℕ) (s0 s1 s2 : List Seat) (r0 r2 : List Room) → AllZip MayBeWoken s0 s1 → AreRounded now l m s1 r0 s2 r2 → IsRound now l m s0 r0 s2 r2
+waited now l m s0 s1 s2 r0 r2 same (k, lower, higher, both) = (
+  k,
+  lower,
+  higher,
+  record {
+    seats_then = both.seats_then;
+    rooms_then = both.rooms_then;
+    went = one_behind Woken (λ i. IsSettled now l k) (λ i. IsGoneOn now l k) s0 s1 both.seats_then r0 r0 both.rooms_then on (woken s0 s1 r0 same) both.went;
+    came = both.came;
+  },
+)
   where
-    Goes : Seat → Room → Seat → Room → Type 0
-    Goes = IsGoneOn now l m
-
     Woken : ℕ → Seat → Room → Seat → Room → Type 0
     Woken i s p t q = MayBeWoken s t × (q ≡ p)
 
-    After : Seat → Room → Seat → Room → Type 0
-    After s p u r = (t : Seat) × (q : Room) × IsLetIn now s p t q × IsSettled now l m t q u r
-
-    Settled : Bool → Seat → Room → Seat → Room → Type 0
-    Settled b t q u r = MatchBool b (Stays t q u r) ((IsVacant u × IsEmpty r) ⊎ (GoesOn l m t q u r × (IsToLeaveAt now u r → ⊥)))
-
-    drop_none : (n : ℕ) → drop {A = ℕ} n [] ≡ []
-    drop_none zero = refl
-    drop_none (suc n) = refl
-
-    free_of : (s t : Seat) → MayBeWoken s t → is_free t ≡ is_free s
-    free_of s t woke = kept_of is_free (λ x. refl) s t woke
-
-    goes : (s t u : Seat) (p r : Room) → MayBeWoken s t → GoesOn l m t p u r → GoesOn l m s p u r
-    goes s t u p r woke (end, place, going, turned) = (
-      ((λ is. end.0 (kept_of (λ x. x.is_over) (λ x. refl) s t woke ∙ is)), λ is. end.1 (kept_of (λ x. x.is_ended) (λ x. refl) s t woke ∙ is)),
-      (place.0 ∙ kept_of (λ x. x.stream) (λ x. refl) s t woke, place.1 ∙ kept_of (λ x. x.peer) (λ x. refl) s t woke, place.2 ∙ kept_of (λ x. x.since) (λ x. refl) s t woke),
-      going,
-      subst (λ n. IsTurned l m n u r) (kept_of (λ x. x.turn) (λ x. refl) s t woke) turned,
-    )
-
-    on : (s t u : Seat) (p r : Room) → MayBeWoken s t → (b : Bool) → is_free t ≡ b → Settled b t p u r → Goes s p u r
-    on s t u p r woke true free (u-is, r-is) = Stayed (sym (free_of s t woke) ∙ free) (subst (λ x. MayBeWoken s x) (sym u-is) woke) r-is
-    on s t u p r woke false free (inl left) = Left left.0 left.1
-    on s t u p r woke false free (inr (went, stays)) = Went (sym (free_of s t woke) ∙ free) (goes s t u p r woke went) stays
-
-    idle_of : (s t : Seat) → MayBeWoken s t → IsIdle t → IsIdle s
-    idle_of s t woke (inl free) = inl (sym (free_of s t woke) ∙ free)
-    idle_of s t woke (inr none) = inr (sym (kept_of (λ x. x.turn) (λ x. refl) s t woke) ∙ none)
-
-    last : (s t u : Seat) (p q r : Room) → MayBeWoken s t × (q ≡ p) → After t q u r → Goes s p u r
-    last s t u p q r (woke, is) (v, w, inl (v-is, w-is), settled) =
-        on s t u p r woke (is_free t) refl (subst (λ x. IsSettled now l m x p u r) v-is (subst (λ y. IsSettled now l m v y u r) (w-is ∙ is) settled))
-    last s t u p q r (woke, is) (v, w, inr (idle, inl vacant, empty), settled) =
-        let stays : Settled true v w u r = subst (λ b. Settled b v w u r) vacant.0 settled in
-        Left (subst (λ x. IsVacant x) (sym stays.0) vacant) (subst (λ x. IsEmpty x) (sym stays.1) empty)
-    last s t u p q r (woke, is) (v, w, inr (idle, inr taken, empty), settled) = by (subst (λ b. Settled b v w u r) taken.0 settled)
-      where
-        by : (IsVacant u × IsEmpty r) ⊎ (GoesOn l m v w u r × (IsToLeaveAt now u r → ⊥)) → Goes s p u r
-        by (inl left) = Left left.0 left.1
-        by (inr ((end, place, going, turned), stays)) =
-            Came (idle_of s t woke idle, ap (λ o. not (is_some o)) place.0 ∙ taken.0, place.2 ∙ taken.1, going.1.1 ∙ subst (λ l. drop going.1.0 l ≡ []) (sym empty.1) (drop_none going.1.0), subst (λ n. IsTurned l m n u r) taken.2 turned, stays)
+    on : (i : ℕ) (s t u : Seat) (p q r : Room) → i < length s0 → i < length r0 → Woken i s p t q → IsSettled now l k t q u r → IsGoneOn now l k s p u r
+    on i s t u p q r in-s in-r (woke, is) settled = (t, woke, subst (λ x. IsSettled now l k t x u r) is settled)
 
 -- what a vector holds behind a call that had its items
 abbrev pub put : {A : Type 0} → ℕ → List A → List A → List A
@@ -358,42 +412,37 @@ written n new old is same =
 long_woken : (s0 s1 : List Seat) → AllZip MayBeWoken s0 s1 → length s1 ≡ length s0
 long_woken s0 s1 same = (woken s0 s1 [] same).seats_stay
 
+-- how many seats and rooms there are behind it
+long_rounded : (now l m : ℕ) (s0 s2 : List Seat) (r0 r2 : List Room) → AreRounded now l m s0 r0 s2 r2 → (length s2 ≡ length s0) × (length r2 ≡ length r0)
+long_rounded now l m s0 s2 r0 r2 (k, lower, higher, both) = (both.came.seats_stay ∙ both.went.seats_stay, both.came.rooms_stay ∙ both.went.rooms_stay)
+
+-- behind a wait, in vectors
+pub wait_put : (n : ℕ) (s0 d1 w : List Seat) → n ≡ length s0 → d1 ≡ s0 → AllZip MayBeWoken d1 w → (put n w s0 ≡ w) × AllZip MayBeWoken s0 w
+wait_put n s0 d1 w n-is d1-is same = let woke : AllZip MayBeWoken s0 w = subst (λ l. AllZip MayBeWoken l w) d1-is same in (written n w s0 n-is (long_woken s0 w woke), woke)
+
 -- all of it, in vectors
-pub all_put : (now last last' n m : ℕ) (s0 w t f d1 d2 d4 : List Seat) (r0 q g d3 d5 : List Room) → n ≡ length s0 → m ≡ length r0 → d1 ≡ s0 → AllZip MayBeWoken d1 w
-    → d2 ≡ put n w s0 → d3 ≡ r0 → AreAllChanged (λ _. IsLetIn now) d2 d3 t q
-    → d4 ≡ put n t (put n w s0) → d5 ≡ put m q r0 → AreAllChanged (λ _. IsSettled now last last') d4 d5 f g
-    → AreAllChanged (λ _. IsGoneOn now last last') s0 r0 (put n f (put n t (put n w s0))) (put m g (put m q r0))
-all_put now last last' n m s0 w t f d1 d2 d4 r0 q g d3 d5 n-is m-is d1-is same d2-is d3-is came d4-is d5-is settled =
-    moved (λ _. IsGoneOn now last last') s0 f (put n f (put n t (put n w s0))) r0 g (put m g (put m q r0))
-    (ap (put n f) e2 ∙ written n f t n-t after.seats_stay) (ap (put m g) e3 ∙ written m g q m-q after.rooms_stay)
-    (all_gone_on now last last' s0 w t f r0 q g woke let_in after)
+pub round_put : (now l m n k : ℕ) (s0 w f d1 d2 : List Seat) (r0 g d3 : List Room) → n ≡ length s0 → k ≡ length r0 → d1 ≡ s0 → AllZip MayBeWoken d1 w → d2 ≡ put n w s0 → d3 ≡ r0 → AreRounded now l m d2 d3 f g
+    → (put n f (put n w s0) ≡ f) × (put k g r0 ≡ g) × IsRound now l m s0 r0 (put n f (put n w s0)) (put k g r0)
+round_put now l m n k s0 w f d1 d2 r0 g d3 n-is k-is d1-is same d2-is d3-is round = (
+  f-is,
+  g-is,
+  subst (λ s. IsRound now l m s0 r0 s (put k g r0)) (sym f-is) (subst (λ r. IsRound now l m s0 r0 f r) (sym g-is) (waited now l m s0 w f r0 g woke.1 rounds)),
+)
   where
-    woke : AllZip MayBeWoken s0 w
-    woke = subst (λ l. AllZip MayBeWoken l w) d1-is same
+    woke : (put n w s0 ≡ w) × AllZip MayBeWoken s0 w
+    woke = wait_put n s0 d1 w n-is d1-is same
 
-    e1 : put n w s0 ≡ w
-    e1 = written n w s0 n-is (long_woken s0 w woke)
+    rounds : AreRounded now l m w r0 f g
+    rounds = subst (λ s. AreRounded now l m s r0 f g) (d2-is ∙ woke.0) (subst (λ r. AreRounded now l m d2 r f g) d3-is round)
 
-    n-w : n ≡ length w
-    n-w = n-is ∙ sym (long_woken s0 w woke)
+    long : (length f ≡ length w) × (length g ≡ length r0)
+    long = long_rounded now l m w f r0 g rounds
 
-    let_in : AreAllChanged (λ _. IsLetIn now) w r0 t q
-    let_in = subst (λ s. AreAllChanged (λ _. IsLetIn now) s r0 t q) (d2-is ∙ e1) (subst (λ r. AreAllChanged (λ _. IsLetIn now) d2 r t q) d3-is came)
+    f-is : put n f (put n w s0) ≡ f
+    f-is = ap (put n f) woke.0 ∙ written n f w (n-is ∙ sym (long_woken s0 w woke.1)) long.0
 
-    e2 : put n t (put n w s0) ≡ t
-    e2 = ap (put n t) e1 ∙ written n t w n-w let_in.seats_stay
-
-    n-t : n ≡ length t
-    n-t = n-w ∙ sym let_in.seats_stay
-
-    e3 : put m q r0 ≡ q
-    e3 = written m q r0 m-is let_in.rooms_stay
-
-    m-q : m ≡ length q
-    m-q = m-is ∙ sym let_in.rooms_stay
-
-    after : AreAllChanged (λ _. IsSettled now last last') t q f g
-    after = subst (λ s. AreAllChanged (λ _. IsSettled now last last') s q f g) (d4-is ∙ e2) (subst (λ r. AreAllChanged (λ _. IsSettled now last last') d4 r f g) (d5-is ∙ e3) settled)
+    g-is : put k g r0 ≡ g
+    g-is = written k g r0 k-is long.1
 
 set_twice : {A : Type 0} (xs : List A) (i : ℕ) (x y : A) → set (set xs i x) i y ≡ set xs i y
 set_twice [] i x y = refl
@@ -401,9 +450,9 @@ set_twice (z ∷ xs) zero x y = refl
 set_twice (z ∷ xs) (suc i) x y = ap (λ l. z ∷ l) (set_twice xs i x y)
 
 -- a connection that is taken back, in vectors
-pub back_put : (now last last' n m k i : ℕ) (s0 s1 s2 d1 d2 : List Seat) (r0 r1 d3 : List Room) → n ≡ length s0 → m ≡ length r0 → d1 ≡ s0 → (k < length d1 → IsChangedAt (λ old new. new ≡ rested now old) k d1 s1)
+pub back_put : (now last last' n m k i : ℕ) (s0 s1 s2 d1 d2 : List Seat) (r0 r1 d3 : List Room) → n ≡ length s0 → m ≡ length r0 → d1 ≡ s0 → (k < length d1 → IsChangedAt (λ old new. new ≡ rested old) k d1 s1)
     → d2 ≡ put n s1 s0 → d3 ≡ r0 → (k < length d2 → k < length d3 → IsPlaceChangedAt (IsSettled now last last') k d2 d3 s2 r1) → k ≡ i → i < length s0 → i < length r0
-    → IsPlaceChangedAt (λ seat. IsSettled now last last' (rested now seat)) i s0 r0 (put n s2 (put n s1 s0)) (put m r1 r0)
+    → IsPlaceChangedAt (λ seat. IsSettled now last last' (rested seat)) i s0 r0 (put n s2 (put n s1 s0)) (put m r1 r0)
 back_put now last last' n m k i s0 s1 s2 d1 d2 r0 r1 d3 n-is m-is d1-is rest' d2-is d3-is settled' k-is lt lt' = record {
   seat = one.old;
   room = two.room;
@@ -416,8 +465,8 @@ back_put now last last' n m k i s0 s1 s2 d1 d2 r0 r1 d3 n-is m-is d1-is rest' d2
   changed = subst (λ s. IsSettled now last last' s two.room two.seat' two.room') (new-is ∙ one.changed) two.changed;
 }
   where
-    rest : i < length d1 → IsChangedAt (λ old new. new ≡ rested now old) i d1 s1
-    rest = subst (λ j. j < length d1 → IsChangedAt (λ old new. new ≡ rested now old) j d1 s1) k-is rest'
+    rest : i < length d1 → IsChangedAt (λ old new. new ≡ rested old) i d1 s1
+    rest = subst (λ j. j < length d1 → IsChangedAt (λ old new. new ≡ rested old) j d1 s1) k-is rest'
 
     Settles : Seat → Room → Seat → Room → Type 0
     Settles = IsSettled now last last'
@@ -425,8 +474,8 @@ back_put now last last' n m k i s0 s1 s2 d1 d2 r0 r1 d3 n-is m-is d1-is rest' d2
     settled : i < length d2 → i < length d3 → IsPlaceChangedAt Settles i d2 d3 s2 r1
     settled = subst (λ j. j < length d2 → j < length d3 → IsPlaceChangedAt Settles j d2 d3 s2 r1) k-is settled'
 
-    one : IsChangedAt (λ old new. new ≡ rested now old) i s0 s1
-    one = subst (λ l. IsChangedAt (λ old new. new ≡ rested now old) i l s1) d1-is (rest (subst (λ l. i < length l) (sym d1-is) lt))
+    one : IsChangedAt (λ old new. new ≡ rested old) i s0 s1
+    one = subst (λ l. IsChangedAt (λ old new. new ≡ rested old) i l s1) d1-is (rest (subst (λ l. i < length l) (sym d1-is) lt))
 
     long : length s1 ≡ length s0
     long = ap length one.is ∙ length-set s0 i one.new

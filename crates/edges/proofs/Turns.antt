@@ -7,17 +7,26 @@ use Rattle.std.proofs.lemmas.List.{length-set}
 use Rattle.std.proofs.lemmas.Option.{get_or_from_slice_get, slice_get-get_or, slice_get_cases, slice_get_within}
 use Rattle.outside.specs.declared.streams.Reading.{Reading}
 use Rattle.outside.specs.declared.streams.Reading.TheVariants as read
-use Rattle.edges.proofs.Going.{AtOr, at_one, got_other, kept_of, moved, put, same_or_not, within, woken, written}
+use Rattle.edges.proofs.Going.{AtOr, also, at_one, got_other, kept_of, moved, put, same_or_not, there_same, within, woken, written}
 use Rattle.edges.proofs.Told.{got_at, some_eq}
-use Rattle.edges.specs.Halls.{AreAllChanged, AreNumberedUpTo, GoesOn, IsGivenOut, IsGoneOn, Left, Stayed, Went, Came, IsHeard, IsPlaceChangedAt, IsSameOrEnded, IsSettled, IsToLeaveAt, IsTurned, Stays}
-use Rattle.edges.specs.Places.{IsOverNow, IsVacant, MayBeWoken, is_free, rested}
+use Rattle.edges.specs.Halls.{AreAllChanged, AreNumberedUpTo, GoesOn, IsGivenOut, IsHeard, IsLetIn, IsPlaceChangedAt, IsSameOrEnded, IsSettled, IsToLeaveAt, IsTurned, Stays}
+use Rattle.edges.specs.Places.{IsOverNow, IsSamePeer, IsVacant, MayBeWoken, WasRead, is_free, rested}
 use Rattle.edges.specs.Rooms.{IsChangedAt, IsDue, IsEmpty, IsHandingOver, IsNotDue}
 use Rattle.edges.specs.declared.room.Room.{Room}
 use Rattle.edges.specs.declared.seat.Seat.{Seat}
 
--- a number that was not greater than the last one is not greater than a later last one
+-- a place has no greater number than the last one, and its connection was read since it came
+abbrev pub IsInOrder : ℕ → Seat → Type 0
+IsInOrder last seat = (seat.turn ≤ last) × WasRead seat
+
+-- where that was so, it is so of a later last one
 abbrev pub Bounded : ℕ → ℕ → Seat → Room → Seat → Room → Type 0
-Bounded last last' seat room seat' room' = seat.turn ≤ last → seat'.turn ≤ last'
+Bounded last last' seat room seat' room' = IsInOrder last seat → IsInOrder last' seat'
+
+-- the same connection, which was read
+read_same : (s t : Seat) → IsSamePeer s t → WasRead s → WasRead t
+read_same s t same (inl free) = inl (there_same s t same ∙ free)
+read_same s t same (inr read) = inr (omega (arith, read, same.2))
 
 turned_bounded : (l m turn : ℕ) (s : Seat) (r : Room) → l ≤ m → IsTurned l m turn s r → turn ≤ l → s.turn ≤ m
 turned_bounded l m turn s r rises turned low = by (nat_lt 0 turn) (nat_lt 0 s.turn) refl turned
@@ -33,60 +42,62 @@ turned_bounded l m turn s r rises turned low = by (nat_lt 0 turn) (nat_lt 0 s.tu
 settled_bounded : (now l m : ℕ) (s t : Seat) (p q : Room) → l ≤ m → IsSettled now l m s p t q → Bounded l m s p t q
 settled_bounded now l m s t p q rises settled low = by (is_free s) settled
   where
-    by : (b : Bool) → MatchBool b (Stays s p t q) ((IsVacant t × IsEmpty q) ⊎ (GoesOn l m s p t q × (IsToLeaveAt now t q → ⊥))) → t.turn ≤ m
-    by true stays = omega (arith, ap (λ x. x.turn) stays.0, low, rises)
-    by false (inl (vacant, empty)) = omega (arith, vacant.1)
-    by false (inr ((end, place, going, turned), stays)) = turned_bounded l m s.turn t q rises turned low
+    by : (b : Bool) → MatchBool b (Stays s p t q) ((IsVacant t × IsEmpty q) ⊎ (GoesOn now l m s p t q × (IsToLeaveAt now t q → ⊥))) → IsInOrder m t
+    by true stays = (omega (arith, ap (λ x. x.turn) stays.0, low.0, rises), subst (λ x. WasRead x) (sym stays.0) low.1)
+    by false (inl (vacant, empty)) = (omega (arith, vacant.1), inl vacant.0)
+    by false (inr ((end, place, going, turned, since), stays)) = (turned_bounded l m s.turn t q rises turned low.0, read_same s t place low.1)
 
-gone_bounded : (now l m : ℕ) (s t : Seat) (p q : Room) → l ≤ m → IsGoneOn now l m s p t q → Bounded l m s p t q
-gone_bounded now l m s t p q rises (Left vacant empty) low = omega (arith, vacant.1)
-gone_bounded now l m s t p q rises (Stayed free woke same) low = omega (arith, kept_of (λ x. x.turn) (λ x. refl) s t woke, low, rises)
-gone_bounded now l m s t p q rises (Went busy goes stays) low = turned_bounded l m s.turn t q rises goes.3 low
-gone_bounded now l m s t p q rises (Came came) low = turned_bounded l m 0 t q rises came.4 (omega arith)
+let_in_bounded : (now l m : ℕ) (s t : Seat) (p q : Room) → l ≤ m → IsLetIn now l m s p t q → Bounded l m s p t q
+let_in_bounded now l m s t p q rises (inl stays) low = (omega (arith, ap (λ x. x.turn) stays.0, low.0, rises), subst (λ x. WasRead x) (sym stays.0) low.1)
+let_in_bounded now l m s t p q rises (inr (idle, inl (vacant, empty))) low = (omega (arith, vacant.1), inl vacant.0)
+let_in_bounded now l m s t p q rises (inr (idle, inr (there, since, read, none, turned, stays))) low = (turned_bounded l m 0 t q rises turned (omega arith), inr read)
+
+woken_bounded : (l : ℕ) (s t : Seat) → MayBeWoken s t → IsInOrder l s → IsInOrder l t
+woken_bounded l s t woke low = (omega (arith, kept_of (λ x. x.turn) (λ x a b c. refl) s t woke, low.0), subst (λ x. WasRead x) (sym woke) low.1)
 
 -- what stands at a place that is there
-there : {A : Type 0} (xs : List A) (i : ℕ) → i < length xs → (x : A) × (slice_get xs i ≡ Some x)
+pub there : {A : Type 0} (xs : List A) (i : ℕ) → i < length xs → (x : A) × (slice_get xs i ≡ Some x)
 there {A = A} xs i lt = by (slice_get_cases xs i).1
   where
     by : ((x : A) × (i < length xs) × (slice_get xs i ≡ Some x) × (get_or xs i x ≡ x)) ⊎ ((length xs ≤ i) × (slice_get xs i ≡ None)) → (x : A) × (slice_get xs i ≡ Some x)
     by (inl (x, within, is, or)) = (x, is)
     by (inr (past, is)) = absurd (omega (arith, lt, past))
 
-every : (m : ℕ) (ts : List Seat) → ((i : ℕ) (t : Seat) → slice_get ts i ≡ Some t → t.turn ≤ m) → All (λ t. t.turn ≤ m) ts
+every : (m : ℕ) (ts : List Seat) → ((i : ℕ) (t : Seat) → slice_get ts i ≡ Some t → IsInOrder m t) → All (λ t. (t.turn ≤ m) × WasRead t) ts
 every m ts each = λ k d lt. each k (get_or ts k d) (slice_get-get_or ts k d lt)
 
-one_of : (m : ℕ) (ts : List Seat) (i : ℕ) (t : Seat) → All (λ t. t.turn ≤ m) ts → slice_get ts i ≡ Some t → t.turn ≤ m
-one_of m ts i t all is = subst (λ x. x.turn ≤ m) (get_or_from_slice_get ts i t t is) (all i t (slice_get_within ts i t is))
+one_of : (m : ℕ) (ts : List Seat) (i : ℕ) (t : Seat) → All (λ t. (t.turn ≤ m) × WasRead t) ts → slice_get ts i ≡ Some t → IsInOrder m t
+one_of m ts i t all is = subst (λ x. IsInOrder m x) (get_or_from_slice_get ts i t t is) (all i t (slice_get_within ts i t is))
 
 -- so of all places
 pub all_bounded : (l m : ℕ) (s0 s1 : List Seat) (r0 r1 : List Room) → AreAllChanged (λ _. Bounded l m) s0 r0 s1 r1 → AreNumberedUpTo l s0 r0 → AreNumberedUpTo m s1 r1
 all_bounded l m s0 s1 r0 r1 changed (long, low) = (changed.rooms_stay ∙ long ∙ sym changed.seats_stay, every m s1 each)
   where
-    each : (i : ℕ) (t : Seat) → slice_get s1 i ≡ Some t → t.turn ≤ m
+    each : (i : ℕ) (t : Seat) → slice_get s1 i ≡ Some t → IsInOrder m t
     each i t is =
         let lt : i < length s0 = omega (arith, slice_get_within s1 i t is, changed.seats_stay) in
         let s = there s0 i lt in
         let r = there r0 i (omega (arith, lt, long)) in
         let to = changed.each i s.0 r.0 s.1 r.1 in
-        subst (λ x. x.turn ≤ m) (some_eq to.0 t (sym to.2 ∙ is)) (to.4 (one_of l s0 i s.0 low s.1))
+        subst (λ x. IsInOrder m x) (some_eq to.0 t (sym to.2 ∙ is)) (to.4 (one_of l s0 i s.0 low s.1))
 
--- what each place became is also something else
-also : (R S : ℕ → Seat → Room → Seat → Room → Type 0) (s0 s1 : List Seat) (r0 r1 : List Room) → ((i : ℕ) (s t : Seat) (p q : Room) → R i s p t q → S i s p t q) → AreAllChanged R s0 r0 s1 r1 → AreAllChanged S s0 r0 s1 r1
-also R S s0 s1 r0 r1 so changed = record {
-  seats_stay = changed.seats_stay;
-  rooms_stay = changed.rooms_stay;
-  each = λ i s p is has. let to = changed.each i s p is has in (to.0, to.1, to.2, to.3, so i s to.0 p to.1 to.4);
-}
+-- where all go on
+pub settled_numbered : (now l m : ℕ) (s0 s1 : List Seat) (r0 r1 : List Room) → l ≤ m → AreAllChanged (λ _. IsSettled now l m) s0 r0 s1 r1 → AreNumberedUpTo l s0 r0 → AreNumberedUpTo m s1 r1
+settled_numbered now l m s0 s1 r0 r1 rises went = all_bounded l m s0 s1 r0 r1 (also (λ _. IsSettled now l m) (λ _. Bounded l m) s0 s1 r0 r1 (λ i s t p q one. settled_bounded now l m s t p q rises one) went)
 
--- between two conversations
-pub gone_numbered : (now l m : ℕ) (s0 s1 : List Seat) (r0 r1 : List Room) → l ≤ m → AreAllChanged (λ _. IsGoneOn now l m) s0 r0 s1 r1 → AreNumberedUpTo l s0 r0 → AreNumberedUpTo m s1 r1
-gone_numbered now l m s0 s1 r0 r1 rises gone = all_bounded l m s0 s1 r0 r1 (also (λ _. IsGoneOn now l m) (λ _. Bounded l m) s0 s1 r0 r1 (λ i s t p q one. gone_bounded now l m s t p q rises one) gone)
+-- where connections come
+pub let_in_numbered : (now l m : ℕ) (s0 s1 : List Seat) (r0 r1 : List Room) → l ≤ m → AreAllChanged (λ _. IsLetIn now l m) s0 r0 s1 r1 → AreNumberedUpTo l s0 r0 → AreNumberedUpTo m s1 r1
+let_in_numbered now l m s0 s1 r0 r1 rises came = all_bounded l m s0 s1 r0 r1 (also (λ _. IsLetIn now l m) (λ _. Bounded l m) s0 s1 r0 r1 (λ i s t p q one. let_in_bounded now l m s t p q rises one) came)
+
+-- all were read
+pub read_of : (l : ℕ) (seats : List Seat) (rooms : List Room) → AreNumberedUpTo l seats rooms → All WasRead seats
+read_of l seats rooms (long, all) = λ k d lt. (all k d lt).1
 
 -- where a wait is broken
 pub woken_numbered : (l n : ℕ) (s0 w d : List Seat) (rooms : List Room) → n ≡ length s0 → d ≡ s0 → AllZip MayBeWoken d w → AreNumberedUpTo l s0 rooms → AreNumberedUpTo l (put n w s0) rooms
 woken_numbered l n s0 w d rooms n-is d-is same =
     all_bounded l l s0 (put n w s0) rooms rooms (moved (λ _. Bounded l l) s0 w (put n w s0) rooms rooms rooms (written n w s0 n-is woke.seats_stay) refl
-    (also (λ i s p t q. MayBeWoken s t × (q ≡ p)) (λ _. Bounded l l) s0 w rooms rooms (λ i s t p q one low. omega (arith, kept_of (λ x. x.turn) (λ x. refl) s t one.0, low)) woke))
+    (also (λ i s p t q. MayBeWoken s t × (q ≡ p)) (λ _. Bounded l l) s0 w rooms rooms (λ i s t p q one low. woken_bounded l s t one.0 low) woke))
   where
     woke : AreAllChanged (λ i s p t q. MayBeWoken s t × (q ≡ p)) s0 rooms w rooms
     woke = woken s0 w rooms (subst (λ l. AllZip MayBeWoken l w) d-is same)
@@ -100,23 +111,23 @@ placed_numbered l m s0 s1 r0 r1 i R rises bounded at before = all_bounded l m s0
 
     so : (k : ℕ) (s t : Seat) (p q : Room) → AtOr i R k s p t q → Bounded l m s p t q
     so k s t p q (inl (e, r)) = bounded s t p q r
-    so k s t p q (inr (other, stays)) = λ low. omega (arith, ap (λ x. x.turn) stays.0, low, rises)
+    so k s t p q (inr (other, stays)) = λ low. (omega (arith, ap (λ x. x.turn) stays.0, low.0, rises), subst (λ x. WasRead x) (sym stays.0) low.1)
 
     changed : AreAllChanged (λ _. Bounded l m) s0 r0 s1 r1
     changed = also (AtOr i R) (λ _. Bounded l m) s0 s1 r0 r1 so one
 
 -- a connection that is taken back
-pub back_numbered : (now l m i : ℕ) (s0 s1 : List Seat) (r0 r1 : List Room) → l ≤ m → (i < length s0 → i < length r0 → IsPlaceChangedAt (λ seat. IsSettled now l m (rested now seat)) i s0 r0 s1 r1) → (length s0 ≤ i → (s1 ≡ s0) × (r1 ≡ r0)) → AreNumberedUpTo l s0 r0 → AreNumberedUpTo m s1 r1
+pub back_numbered : (now l m i : ℕ) (s0 s1 : List Seat) (r0 r1 : List Room) → l ≤ m → (i < length s0 → i < length r0 → IsPlaceChangedAt (λ seat. IsSettled now l m (rested seat)) i s0 r0 s1 r1) → (length s0 ≤ i → (s1 ≡ s0) × (r1 ≡ r0)) → AreNumberedUpTo l s0 r0 → AreNumberedUpTo m s1 r1
 back_numbered now l m i s0 s1 r0 r1 rises at none before = by (within i (length s0))
   where
-    rested_bounded : (s t : Seat) (p q : Room) → IsSettled now l m (rested now s) p t q → Bounded l m s p t q
-    rested_bounded s t p q settled = λ low. settled_bounded now l m (rested now s) t p q rises settled (omega arith)
+    rested_bounded : (s t : Seat) (p q : Room) → IsSettled now l m (rested s) p t q → Bounded l m s p t q
+    rested_bounded s t p q settled = λ low. settled_bounded now l m (rested s) t p q rises settled (omega arith, low.1)
 
-    higher : (ts : List Seat) → All (λ t. t.turn ≤ l) ts → All (λ t. t.turn ≤ m) ts
-    higher ts all = λ k d lt. omega (arith, all k d lt, rises)
+    higher : (ts : List Seat) → All (λ t. (t.turn ≤ l) × WasRead t) ts → All (λ t. (t.turn ≤ m) × WasRead t) ts
+    higher ts all = λ k d lt. let one = all k d lt in (omega (arith, one.0, rises), one.1)
 
     by : (i < length s0) ⊎ (length s0 ≤ i) → AreNumberedUpTo m s1 r1
-    by (inl lt) = placed_numbered l m s0 s1 r0 r1 i (λ seat. IsSettled now l m (rested now seat)) rises rested_bounded (at lt (omega (arith, lt, before.0))) before
+    by (inl lt) = placed_numbered l m s0 s1 r0 r1 i (λ seat. IsSettled now l m (rested seat)) rises rested_bounded (at lt (omega (arith, lt, before.0))) before
     by (inr le) = let is = none le in subst (λ s. AreNumberedUpTo m s r1) (sym is.0) (subst (λ r. AreNumberedUpTo m s0 r) (sym is.1) (before.0, higher s0 before.1))
 
 -- where there is no such place, in vectors
@@ -158,15 +169,16 @@ heard_numbered l l' buffer buffer' reading current s0 s1 r0 r1 l-is seats rooms 
     by (inl same) = rooms-long reading rooms ∙ long ∙ sym (ap length same)
     by (inr (i, is, changed)) = rooms-long reading rooms ∙ long ∙ sym (changed_length IsOverNow i s0 s1 changed)
 
-    ended : (i : ℕ) (old new : Seat) → slice_get s0 i ≡ Some old → new.turn ≡ old.turn → All (λ t. t.turn ≤ l) (set s0 i new)
-    ended i old new is same = every l (set s0 i new) (λ k t at. at_place k t at (same_or_not k i))
+    ended : (i : ℕ) (old new : Seat) → slice_get s0 i ≡ Some old → new.turn ≡ old.turn → IsSamePeer old new → All (λ t. (t.turn ≤ l) × WasRead t) (set s0 i new)
+    ended i old new is same peer = every l (set s0 i new) (λ k t at. at_place k t at (same_or_not k i))
       where
-        at_place : (k : ℕ) (t : Seat) → slice_get (set s0 i new) k ≡ Some t → (k ≡ i) ⊎ (k ≡ i → ⊥) → t.turn ≤ l
+        at_place : (k : ℕ) (t : Seat) → slice_get (set s0 i new) k ≡ Some t → (k ≡ i) ⊎ (k ≡ i → ⊥) → IsInOrder l t
         at_place k t at (inr other) = one_of l s0 k t low (sym (got_other s0 k i new other) ∙ at)
         at_place k t at (inl e) =
             let t-is : new ≡ t = some_eq new t (sym (got_at s0 i old new is) ∙ sym (ap (λ j. slice_get (set s0 i new) j) e) ∙ at) in
-            subst (λ x. x.turn ≤ l) t-is (omega (arith, same, one_of l s0 i old low is))
+            let was = one_of l s0 i old low is in
+            subst (λ x. IsInOrder l x) t-is (omega (arith, same, was.0), read_same old new peer was.1)
 
-    all : IsSameOrEnded current s0 s1 → All (λ t. t.turn ≤ l) s1
-    all (inl same) = subst (λ s. All (λ t. t.turn ≤ l) s) (sym same) low
-    all (inr (i, is, changed)) = subst (λ s. All (λ t. t.turn ≤ l) s) (sym changed.is) (ended i changed.old changed.new changed.was changed.changed.0.1)
+    all : IsSameOrEnded current s0 s1 → All (λ t. (t.turn ≤ l) × WasRead t) s1
+    all (inl same) = subst (λ s. All (λ t. (t.turn ≤ l) × WasRead t) s) (sym same) low
+    all (inr (i, is, changed)) = subst (λ s. All (λ t. (t.turn ≤ l) × WasRead t) s) (sym changed.is) (ended i changed.old changed.new changed.was changed.changed.0.1 changed.changed.0.0)

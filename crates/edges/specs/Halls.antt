@@ -9,7 +9,10 @@ use Rattle.outside.specs.declared.streams.Reading.TheVariants as read
 use Rattle.tcp_frames.specs.Split.{AreWhole, IsOverlong}
 use Rattle.tcp_frames.specs.declared.batch.Batch.{Batch}
 use Rattle.tcp_frames.specs.declared.batch.TheConstants.{MOST_MESSAGES}
-use Rattle.edges.specs.Places.{IsOverNow, IsNextTalk, IsSameEnd, IsSamePlace, IsToLeave, IsVacant, MayBeWoken, is_free, key_of}
+use Rattle.addr_text.specs.declared.address.Addr.{Addr}
+use Rattle.edges.specs.Places.{IsOverNow, IsNextTalk, IsPlaceFor, IsSameEnd, IsSamePeer, IsToLeave, IsVacant, MayBeWoken, WasRead, is_free, key_of, reads_of}
+use Rattle.edges.specs.declared.ears.Taken.{Taken}
+use Rattle.edges.specs.declared.ears.Taken.TheVariants as taken
 use Rattle.edges.specs.Rooms.{IsChangedAt, IsDue, IsEmpty, IsGoingOn, IsHandingOver, IsNotDue}
 use Rattle.edges.specs.declared.places.Wanted.TheVariants.{FirstInTurn}
 use Rattle.edges.specs.declared.room.Room.{Room}
@@ -68,9 +71,13 @@ IsGivenOut last last' turn = (raised last 1 ≤ turn) × (turn ≤ last')
 abbrev pub IsTurned : ℕ → ℕ → ℕ → Seat → Room → Type 0
 IsTurned last last' turn seat' room' = MatchBool (nat_lt 0 turn) (seat'.turn ≡ turn) (MatchBool (nat_lt 0 seat'.turn) (IsDue room' × IsGivenOut last last' seat'.turn) (IsNotDue room'))
 
--- a connection goes on: it has the same socket, what comes is put behind what came, replies go in their order, it waits where it is due, and it is of no use, or its peer sends no more, where that was so
-abbrev pub GoesOn : ℕ → ℕ → Seat → Room → Seat → Room → Type 0
-GoesOn last last' seat room seat' room' = IsSameEnd seat seat' × IsSamePlace seat seat' × IsGoingOn room room' × IsTurned last last' seat.turn seat' room'
+-- a connection is idle from that time on where it took octets of what was to go, and else since when it was
+abbrev pub IsSince : ℕ → Seat → Room → Seat → Room → Type 0
+IsSince now seat room seat' room' = MatchBool (nat_lt (length room'.going.items) (length room.going.items)) (seat'.since ≡ now) (seat'.since ≡ seat.since)
+
+-- a connection goes on: it has the same socket, what comes is put behind what came, replies go in their order, it waits where it is due, it is not idle where it takes octets, and it is of no use, or its peer sends no more, where that was so
+abbrev pub GoesOn : ℕ → ℕ → ℕ → Seat → Room → Seat → Room → Type 0
+GoesOn now last last' seat room seat' room' = IsSameEnd seat seat' × IsSamePeer seat seat' × IsGoingOn room room' × IsTurned last last' seat.turn seat' room' × IsSince now seat room seat' room'
 
 -- a connection is to be left at that time
 abbrev pub IsToLeaveAt : ℕ → Seat → Room → Type 0
@@ -82,26 +89,27 @@ Stays seat room seat' room' = (seat' ≡ seat) × (room' ≡ room)
 
 -- What becomes of a place where all go on: one without a connection stays as it is. Else the connection is left, with all of its octets, or goes on and is not to be left.
 abbrev pub IsSettled : ℕ → ℕ → ℕ → Seat → Room → Seat → Room → Type 0
-IsSettled now last last' seat room seat' room' = MatchBool (is_free seat) (Stays seat room seat' room') ((IsVacant seat' × IsEmpty room') ⊎ (GoesOn last last' seat room seat' room' × (IsToLeaveAt now seat' room' → ⊥)))
+IsSettled now last last' seat room seat' room' = MatchBool (is_free seat) (Stays seat room seat' room') ((IsVacant seat' × IsEmpty room') ⊎ (GoesOn now last last' seat room seat' room' × (IsToLeaveAt now seat' room' → ⊥)))
 
 -- nothing waits at a place to be handed over
 abbrev pub IsIdle : Seat → Type 0
 IsIdle seat = (is_free seat ≡ true) ⊎ (seat.turn ≡ 0)
 
--- What becomes of a place where connections are taken in: it stays as it is; or nothing waited there, and it has no octets, and either no connection or one that came at that time and does not wait.
-abbrev pub IsLetIn : ℕ → Seat → Room → Seat → Room → Type 0
-IsLetIn now seat room seat' room' = Stays seat room seat' room' ⊎ (IsIdle seat × (IsVacant seat' ⊎ ((is_free seat' ≡ false) × (seat'.since ≡ now) × (seat'.turn ≡ 0))) × IsEmpty room')
+-- a connection came at that time: it was read, nothing of it is to go, it waits where it is due, and it is not to be left
+abbrev pub HasCome : ℕ → ℕ → ℕ → Seat → Room → Type 0
+HasCome now last last' seat room = (is_free seat ≡ false) × (seat.since ≡ now) × (0 < reads_of seat.line) × (room.going.items ≡ []) × IsTurned last last' 0 seat room × (IsToLeaveAt now seat room → ⊥)
 
--- nothing waited at a place, and its connection has that time, with nothing to go, waits where it is due, and is not to be left
-abbrev pub CameAt : ℕ → ℕ → ℕ → Seat → Seat → Room → Type 0
-CameAt now last last' seat seat' room' = IsIdle seat × (is_free seat' ≡ false) × (seat'.since ≡ now) × (room'.going.items ≡ []) × IsTurned last last' 0 seat' room' × (IsToLeaveAt now seat' room' → ⊥)
+-- it came, or it came and was left at once
+abbrev pub IsEntered : ℕ → ℕ → ℕ → Seat → Room → Type 0
+IsEntered now last last' seat room = (IsVacant seat × IsEmpty room) ⊎ HasCome now last last' seat room
 
--- What becomes of a place between two conversations: it has no connection and no octets; or it had none and stays as it is; or its connection goes on, and is not to be left; or it has one that came at that time.
-pub data IsGoneOn (now last last' : ℕ) (seat : Seat) (room : Room) (seat' : Seat) (room' : Room) : Type 0 where
-  Left : IsVacant seat' → IsEmpty room' → IsGoneOn now last last' seat room seat' room'
-  Stayed : is_free seat ≡ true → MayBeWoken seat seat' → room' ≡ room → IsGoneOn now last last' seat room seat' room'
-  Went : is_free seat ≡ false → GoesOn last last' seat room seat' room' → (IsToLeaveAt now seat' room' → ⊥) → IsGoneOn now last last' seat room seat' room'
-  Came : CameAt now last last' seat seat' room' → IsGoneOn now last last' seat room seat' room'
+-- What becomes of a place where connections are taken in: it stays as it is; or nothing waited there, and it has no connection and no octets, or one that came at that time.
+abbrev pub IsLetIn : ℕ → ℕ → ℕ → Seat → Room → Seat → Room → Type 0
+IsLetIn now last last' seat room seat' room' = Stays seat room seat' room' ⊎ (IsIdle seat × IsEntered now last last' seat' room')
+
+-- What becomes of a place where all that are there go on: whether something can be read or written may have changed, and then all go on.
+abbrev pub IsGoneOn : ℕ → ℕ → ℕ → Seat → Room → Seat → Room → Type 0
+IsGoneOn now last last' seat room seat' room' = (woken : Seat) × MayBeWoken seat woken × IsSettled now last last' woken room seat' room'
 
 -- so many places, of which none has a connection
 abbrev pub AreFree : ℕ → List Seat → Type 0
@@ -111,9 +119,9 @@ AreFree places seats = (length seats ≡ places) × All IsVacant seats
 abbrev pub AreEmpty : ℕ → List Room → Type 0
 AreEmpty places rooms = (length rooms ≡ places) × All IsEmpty rooms
 
--- there are as many rooms as places, and no place has a greater number than the last that was given out
+-- there are as many rooms as places, no place has a greater number than the last that was given out, and each connection was read since it came
 abbrev pub AreNumberedUpTo : ℕ → List Seat → List Room → Type 0
-AreNumberedUpTo last seats rooms = (length rooms ≡ length seats) × All (λ s. s.turn ≤ last) seats
+AreNumberedUpTo last seats rooms = (length rooms ≡ length seats) × All (λ s. (s.turn ≤ last) × WasRead s) seats
 
 -- one place with its room became another so, and no other one changed
 pub record IsPlaceChangedAt (R : Seat → Room → Seat → Room → Type 0) (i : ℕ) (seats : List Seat) (rooms : List Room) (seats' : List Seat) (rooms' : List Room) : Type 0 where
@@ -133,3 +141,24 @@ pub record AreAllChanged (R : ℕ → Seat → Room → Seat → Room → Type 0
   pub rooms_stay : length rooms' ≡ length rooms
   pub each : (i : ℕ) (seat : Seat) (room : Room) → slice_get seats i ≡ Some seat → slice_get rooms i ≡ Some room →
       (seat' : Seat) × (room' : Room) × (slice_get seats' i ≡ Some seat') × (slice_get rooms' i ≡ Some room') × R i seat room seat' room'
+
+-- What becomes of all places where all that are there go on so, and then connections come.
+pub record AreBothChanged (R : Seat → Room → Seat → Room → Type 0) (now between last' : ℕ) (seats : List Seat) (rooms : List Room) (seats' : List Seat) (rooms' : List Room) : Type 0 where
+  pub seats_then : List Seat
+  pub rooms_then : List Room
+  pub went : AreAllChanged (λ _. R) seats rooms seats_then rooms_then
+  pub came : AreAllChanged (λ _. IsLetIn now between last') seats_then rooms_then seats' rooms'
+
+-- all that are there go on, and then connections come
+abbrev pub AreRounded : ℕ → ℕ → ℕ → List Seat → List Room → List Seat → List Room → Type 0
+AreRounded now last last' seats rooms seats' rooms' = (between : ℕ) × (last ≤ between) × (between ≤ last') × AreBothChanged (IsSettled now last between) now between last' seats rooms seats' rooms'
+
+-- What becomes of all places between two conversations: whether something can be read or written may have changed, all that are there go on, and then connections come.
+abbrev pub IsRound : ℕ → ℕ → ℕ → List Seat → List Room → List Seat → List Room → Type 0
+IsRound now last last' seats rooms seats' rooms' = (between : ℕ) × (last ≤ between) × (between ≤ last') × AreBothChanged (IsGoneOn now last between) now between last' seats rooms seats' rooms'
+
+-- What became of a connection that was taken: it came to the place for it, or nothing changed.
+abbrev pub IsTakenIn : Addr → ℕ → ℕ → Taken → ℕ → ℕ → List Seat → List Room → List Seat → List Room → Type 0
+IsTakenIn addr most now (taken.At i) last last' seats rooms seats' rooms' = IsPlaceFor seats addr most (Some i) × ((i < length seats → i < length rooms → IsPlaceChangedAt (λ _ _. IsEntered now last last') i seats rooms seats' rooms') × ((length seats ≤ i) ⊎ (length rooms ≤ i) → (seats' ≡ seats) × (rooms' ≡ rooms)))
+IsTakenIn addr most now taken.Turned last last' seats rooms seats' rooms' = IsPlaceFor seats addr most None × (seats' ≡ seats) × (rooms' ≡ rooms)
+IsTakenIn addr most now taken.Refused last last' seats rooms seats' rooms' = (seats' ≡ seats) × (rooms' ≡ rooms)

@@ -1,7 +1,8 @@
 -- What the system's answers about a socket come to.
-use Rattle.std.specs.Prelude.{ℕ, ℤ, unsigned_abs, Bool, false, List, [], ◌∷◌, Option, None, Some, Result, Ok, Err, if◌then◌else◌, nat_le, ◌==◌}
+use Rattle.std.specs.Prelude.{◌≡◌, ◌≢◌, ℕ, ℤ, unsigned_abs, Bool, MatchBool, false, List, [], ◌∷◌, Option, None, Some, Result, Ok, Err, if◌then◌else◌, nat_le, ◌==◌}
 use Rattle.std.specs.List.{list_any}
-use Rattle.std.specs.IoError.{raw_os_error}
+use Rattle.std.specs.IoError.{error_kind, raw_os_error}
+use Rattle.std.specs.declared.io.ErrorKind.TheVariants as kind
 use Rattle.std.specs.declared.io.Error.{Error}
 use Rattle.std.specs.declared.net.socket_addr.SocketAddr.{SocketAddr}
 use Rattle.outside.specs.Limits.{largest_datagram}
@@ -69,3 +70,8 @@ next_of knock.Deaf has_room = next.Broken
 next_of knock.Gone has_room = next.Again
 next_of knock.Full has_room = if has_room then next.Again else next.Wait
 next_of knock.Quiet has_room = next.Wait
+
+-- A wait is broken, or not. One that a signal breaks off is not.
+abbrev pub IsWaitBroken : Result (Unit {0}) Error → Bool → Type 0
+IsWaitBroken (Ok done) is_broken = is_broken ≡ false
+IsWaitBroken (Err error) is_broken = MatchBool is_broken (error_kind error ≢ kind.Interrupted) (error_kind error ≡ kind.Interrupted)

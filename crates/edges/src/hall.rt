@@ -1,9 +1,9 @@
 //! The places of connections with their octets, and which of them is handed over.
-ghost use Rattle.std.specs.Prelude.{◌≡◌, ◌≢◌, ◌<◌, ◌≤◌, ◌⊎◌, ℕ, true, false, Some, None, IfOk, length, ◌+◌, slice_get};
+ghost use Rattle.std.specs.Prelude.{◌≡◌, ◌≢◌, ◌<◌, ◌≤◌, ◌⊎◌, ℕ, true, false, Some, None, All, IfOk, IfSome, MatchBool, length, ◌+◌, slice_get};
 ghost use Rattle.addr_text.specs.declared.address.Peer.{Peer};
 ghost use Rattle.outside.specs.Faults.{raised};
 ghost use Rattle.outside.specs.Streams.{IsWithin};
-ghost use Rattle.edges.specs.Halls.{AreAllChanged, AreEmpty, AreFree, AreNumberedUpTo, EndsBehind, GoesOnBehind, IsAdvance, IsGoneOn, IsHeard, IsPlaceChangedAt, IsSameOrEnded, IsSettled};
+ghost use Rattle.edges.specs.Halls.{AreAllChanged, AreEmpty, AreFree, AreNumberedUpTo, AreRounded, EndsBehind, GoesOnBehind, IsAdvance, IsHeard, IsPlaceChangedAt, IsRound, IsSameOrEnded, IsSettled};
 ghost use Rattle.edges.specs.Places.{rested};
 ghost use Rattle.edges.specs.Rooms.{HasNothing, IsChangedAt, IsKeeping};
 ghost use Rattle.edges.specs.declared.room.Room.{Room};
@@ -11,9 +11,10 @@ ghost use Rattle.edges.specs.declared.room.TheConstants.{LARGEST_GOING};
 ghost use Rattle.tcp_frames.specs.declared.front.TheConstants.{LARGEST_FRAME};
 
 use crate::ears::Ears;
-use crate::places::{Wanted, least, next_talk};
+use crate::places::{has_place, next_talk, used};
 use crate::room::{Room, hand_over_at, keep_at};
-use crate::seat::{Seat, end_at, rest_at, settle_at};
+use crate::seat::{Seat, end_at, is_any_waiting, rest_at, settle_at};
+use crate::stop_flag::StopFlag;
 use no_memory::NoMemory;
 use outside::{Accepting, Reading};
 use std::alloc::Global;
@@ -31,7 +32,7 @@ pub(crate) struct Hall {
     pub(crate) current: Option<usize>,
     /// Whether it was read.
     pub(crate) is_read: bool,
-    /// The milliseconds of the clock. Where it can't be read, it stands still.
+    /// The microseconds of the clock. Where it can't be read, it stands still.
     now: u64,
     /// The last number that was given to a connection which waits to be handed over.
     turns: u64,
@@ -59,13 +60,13 @@ fn free_rooms(alloc: Global, places: usize) -> Result<Vec<Room>, NoMemory>
     Ok(rooms)
 }
 
-/// The milliseconds of a clock, or those before where it can't be read.
+/// The microseconds of a clock, or those before where it can't be read.
 fn now_of<C: Clock>(clock: &C, before: u64) -> u64 {
     match clock.monotonic() {
         Ok(time) => time
             .as_secs()
-            .saturating_mul(1_000)
-            .saturating_add(u64::from(time.subsec_millis())),
+            .saturating_mul(1_000_000)
+            .saturating_add(u64::from(time.subsec_micros())),
         Err(_) => before,
     }
 }
@@ -75,8 +76,31 @@ fn settle_all(seats: &mut [Seat], rooms: &mut [Room], now: u64, turns: &mut u64)
     ensures settled { AreAllChanged (λ _. IsSettled now turns.old turns.new) seats.old rooms.old seats.new rooms.new }
     ensures turns { (turns.old ≤ turns.new) × (turns.new ≤ raised turns.old (length seats.old)) }
 {
-    for i in 0..seats.len() {
+    let used = used(seats);
+    for i in 0..used {
         settle_at(seats, rooms, i, now, turns);
+    }
+}
+
+/// Has all connections go on, and takes in those that come, of one address so many at most, or none where no number is
+/// given.
+fn go_round(
+    ears: &mut Ears,
+    seats: &mut [Seat],
+    rooms: &mut [Room],
+    most_of_one: Option<usize>,
+    now: u64,
+    turns: &mut u64,
+)
+    requires numbered { AreNumberedUpTo turns.old seats.old rooms.old }
+    ensures went { AreRounded now turns.old turns.new seats.old rooms.old seats.new rooms.new }
+    ensures turns { (turns.old ≤ turns.new) × (turns.new ≤ raised (raised turns.old (length seats.old)) (length seats.old)) }
+    ensures numbered { AreNumberedUpTo turns.new seats.new rooms.new }
+    ensures broken { ears.old.is_broken ≡ true → ears.new.is_broken ≡ true }
+{
+    settle_all(seats, rooms, now, turns);
+    if let Some(most_of_one) = most_of_one {
+        ears.take_all(seats, rooms, most_of_one, now, turns);
     }
 }
 
@@ -104,11 +128,10 @@ impl Hall {
         Ok(Hall::new(seats, rooms))
     }
 
-    /// Takes back the connection that was handed over: it waits no more, counts as idle since the last `advance`, and goes
-    /// on.
+    /// Takes back the connection that was handed over: it waits no more, and goes on.
     pub(crate) fn take_back(&mut self)
         ensures current { self.new.current ≡ None }
-        ensures back { (i : ℕ) → self.old.current ≡ Some i → i < length self.old.seats.items → i < length self.old.rooms.items → IsPlaceChangedAt (λ seat. IsSettled self.old.now self.old.turns self.new.turns (rested self.old.now seat)) i self.old.seats.items self.old.rooms.items self.new.seats.items self.new.rooms.items }
+        ensures back { (i : ℕ) → self.old.current ≡ Some i → i < length self.old.seats.items → i < length self.old.rooms.items → IsPlaceChangedAt (λ seat. IsSettled self.old.now self.old.turns self.new.turns (rested seat)) i self.old.seats.items self.old.rooms.items self.new.seats.items self.new.rooms.items }
         ensures turns { (self.old.turns ≤ self.new.turns) × (self.new.turns ≤ raised self.old.turns 1) }
         ensures numbered { AreNumberedUpTo self.old.turns self.old.seats.items self.old.rooms.items → AreNumberedUpTo self.new.turns self.new.seats.items self.new.rooms.items }
         ensures none { self.old.current ≡ None → self.new ≡ self.old }
@@ -118,7 +141,7 @@ impl Hall {
             return;
         };
         self.current = None;
-        rest_at(&mut self.seats, i, self.now);
+        rest_at(&mut self.seats, i);
         settle_at(
             &mut self.seats,
             &mut self.rooms,
@@ -128,47 +151,67 @@ impl Hall {
         );
     }
 
-    /// Waits for something to happen, takes in connections that come, and has all go on. Answers whether the listener, or
-    /// the wait for it, is broken.
-    fn gather<C: Clock>(&mut self, ears: &mut Ears, clock: &C, most_of_one: usize) -> bool
+    /// Waits for something to happen, has all connections go on, and takes in those that come. Where the flag is set they
+    /// are left to the next server, if the listener was handed in.
+    fn gather<C: Clock>(&mut self, ears: &mut Ears, clock: &C, flag: &StopFlag, most_of_one: usize)
+        requires numbered { AreNumberedUpTo self.old.turns self.old.seats.items self.old.rooms.items }
         ensures current { self.new.current ≡ self.old.current }
-        ensures turns { (self.old.turns ≤ self.new.turns) × (self.new.turns ≤ raised self.old.turns (length self.old.seats.items)) }
-        ensures numbered { AreNumberedUpTo self.old.turns self.old.seats.items self.old.rooms.items → AreNumberedUpTo self.new.turns self.new.seats.items self.new.rooms.items }
-        ensures went { result ≡ false → AreAllChanged (λ _. IsGoneOn self.new.now self.old.turns self.new.turns) self.old.seats.items self.old.rooms.items self.new.seats.items self.new.rooms.items }
+        ensures turns { (self.old.turns ≤ self.new.turns) × (self.new.turns ≤ raised (raised self.old.turns (length self.old.seats.items)) (length self.old.seats.items)) }
+        ensures numbered { AreNumberedUpTo self.new.turns self.new.seats.items self.new.rooms.items }
+        ensures broken { ears.old.is_broken ≡ true → ears.new.is_broken ≡ true }
+        ensures went { ears.new.is_broken ≡ false → IsRound self.new.now self.old.turns self.new.turns self.old.seats.items self.old.rooms.items self.new.seats.items self.new.rooms.items }
     {
-        let wait = if least(self.seats.as_slice(), Wanted::FirstInTurn).is_some() {
+        let may_take = !ears.is_left(flag.is_set())
+            && ears.may_take()
+            && has_place(&self.seats, self.now);
+        let wait = if may_take || is_any_waiting(&self.seats) {
             0
         } else {
             LONGEST_WAIT
         };
-        if ears.wait(wait, &mut self.seats) {
-            return true;
+        let _ = ears.wait(wait, &mut self.seats);
+        if ears.is_broken() {
+            return;
         }
         self.now = now_of(clock, self.now);
-        let is_broken = ears.take_all(&mut self.seats, &mut self.rooms, most_of_one, self.now);
-        settle_all(&mut self.seats, &mut self.rooms, self.now, &mut self.turns);
-        is_broken
+        let most = if ears.is_left(flag.is_set()) {
+            None
+        } else {
+            Some(most_of_one)
+        };
+        go_round(
+            ears,
+            &mut self.seats,
+            &mut self.rooms,
+            most,
+            self.now,
+            &mut self.turns,
+        );
     }
 
-    /// Waits for something to happen, has all connections go on, and hands over the one that has waited longest. It fails
-    /// where there is no listener, or it or the wait for it is broken.
+    /// Waits for something to happen, has all connections go on, takes in those that come, and hands over the one that has
+    /// waited longest. It fails exactly where there is no listener, or it or the wait for it is broken.
     pub(crate) fn advance<C: Clock>(
         &mut self,
         ears: &mut Option<Ears>,
         clock: &C,
+        flag: &StopFlag,
         most_of_one: usize,
     ) -> Accepting
-        requires { self.old.current ≡ None }
+        requires current { self.old.current ≡ None }
+        requires numbered { AreNumberedUpTo self.old.turns self.old.seats.items self.old.rooms.items }
         ensures advance { IsAdvance result self.new.current self.new.seats.items }
-        ensures turns { (self.old.turns ≤ self.new.turns) × (self.new.turns ≤ raised self.old.turns (length self.old.seats.items)) }
-        ensures numbered { AreNumberedUpTo self.old.turns self.old.seats.items self.old.rooms.items → AreNumberedUpTo self.new.turns self.new.seats.items self.new.rooms.items }
-        ensures went { result ≢ Accepting.Failed → AreAllChanged (λ _. IsGoneOn self.new.now self.old.turns self.new.turns) self.old.seats.items self.old.rooms.items self.new.seats.items self.new.rooms.items }
+        ensures turns { (self.old.turns ≤ self.new.turns) × (self.new.turns ≤ raised (raised self.old.turns (length self.old.seats.items)) (length self.old.seats.items)) }
+        ensures numbered { AreNumberedUpTo self.new.turns self.new.seats.items self.new.rooms.items }
+        ensures went { result ≢ Accepting.Failed → IsRound self.new.now self.old.turns self.new.turns self.old.seats.items self.old.rooms.items self.new.seats.items self.new.rooms.items }
+        ensures broken { (ears.new ≡ None → result ≡ Accepting.Failed) × IfSome ears.new (λ e. MatchBool e.is_broken (result ≡ Accepting.Failed) (result ≢ Accepting.Failed)) }
         ensures unread { (peer : Peer) → result ≡ Accepting.Come peer → self.new.is_read ≡ false }
     {
         let Some(ears) = ears else {
             return Accepting::Failed;
         };
-        if self.gather(ears, clock, most_of_one) {
+        self.gather(ears, clock, flag, most_of_one);
+        if ears.is_broken() {
             return Accepting::Failed;
         }
         let Some((i, peer)) = next_talk(self.seats.as_slice()) else {

@@ -18,6 +18,7 @@ mod hall;
 mod heard;
 mod judged;
 mod laws;
+mod line;
 mod many_streams;
 mod named_stream;
 mod peers;

@@ -5,6 +5,7 @@ ghost use Rattle.past_log.specs.Streams.{new_streams};
 
 use crate::ears::{Ears, bind};
 use crate::hall::Hall;
+use crate::stop_flag::StopFlag;
 use addr_text::Listen;
 use mio::Events;
 use no_memory::NoMemory;
@@ -42,14 +43,23 @@ impl SharedTcp {
 /// messages are those of its conversations, one after another, and those that are still there. Its replies go in their
 /// order, as far as its peer takes them.
 ///
-/// What a peer brings about is no failure, and nor are connections or descriptors that ran out: a connection that is
-/// reset, or whose peer takes no reply for ten seconds, is left; one that brings no whole message for as long is closed;
-/// and where a further one comes and all places are taken, the one that was idle for the longest time gives way.
+/// Each connection that was taken in is read ahead of the next `accept` of the system, which is made only where a place is
+/// to be had; else connections wait in the system's queue, in the order in which they came. Where all places are taken,
+/// the connection that was idle for the longest time gives way to one of another address, if for a tenth of a second; and
+/// where an address has its share, the one of its own. One with something whole, which waits to be handed over, never does.
+///
+/// What a peer brings about is no failure, and nor are connections or descriptors that ran out. A connection is left that
+/// is reset, or that for ten seconds brings nothing that gets a reply and takes no octet of one. Where the listener, or the
+/// wait for it, is broken, each `accept` fails from then on.
+///
+/// Once the flag is set, connections that wait at a listener that was handed in are left to whoever has it next; those that
+/// were taken in go on, and a call of `accept` that began behind it and finds none that waits notes that all are answered.
 #[derive(Drop)]
 pub struct ManyStreams<'a, R: Net + Clock> {
     alloc: Global,
     rt: &'a R,
     shared: &'a SharedTcp,
+    flag: &'a StopFlag,
     places: usize,
     most_of_one: usize,
     ears: Option<Ears>,
@@ -77,6 +87,7 @@ impl<'a, R: Net + Clock> ManyStreams<'a, R> {
         alloc: Global,
         rt: &'a R,
         shared: &'a SharedTcp,
+        flag: &'a StopFlag,
         places: usize,
         most_of_one: usize,
     ) -> ManyStreams<'a, R>
@@ -86,6 +97,7 @@ impl<'a, R: Net + Clock> ManyStreams<'a, R> {
             alloc,
             rt,
             shared,
+            flag,
             places,
             most_of_one,
             ears: None,
@@ -138,7 +150,13 @@ impl<R: Net + Clock> Streams for ManyStreams<'_, R> {
 
     fn accept(&mut self, known: u64) -> Accepting {
         self.hall.take_back();
-        let accepting = self.hall.advance(&mut self.ears, self.rt, self.most_of_one);
+        let is_last = self.flag.is_set();
+        let accepting = self
+            .hall
+            .advance(&mut self.ears, self.rt, self.flag, self.most_of_one);
+        if is_last && accepting == Accepting::Idle {
+            self.flag.note_drained();
+        }
         self.past.note(&StreamsEvent::Accepted(known, accepting));
         if accepting == Accepting::Failed {
             self.count_fault();

@@ -1,10 +1,14 @@
 //! Which connection has a place, gives way, or is handed over next.
-ghost use Rattle.std.specs.Prelude.{◌≡◌, ◌∷◌, [], ◌++◌, List, length, IfNone, IfSome, All, count_by, position};
-ghost use Rattle.edges.specs.Places.{IsFound, IsLeastSoFar, IsNextTalk, IsPlaceFor, is_free, is_of, is_same, key_of};
+ghost use Rattle.std.specs.Prelude.{◌≡◌, ◌∷◌, [], ◌++◌, List, ℕ, ◌≤◌, MatchBool, slice_get, length, true, Some, IfNone, IfSome, All, count_by, position};
+ghost use Rattle.edges.specs.Places.{GivesWay, HasPlace, IsFound, IsLeastSoFar, IsNextTalk, IsPlaceFor, IsVacant, is_free, is_of, is_same, key_of};
 ghost use Rattle.edges.specs.declared.seat.Seat.{Seat};
 
 use crate::seat::Seat;
 use addr_text::{Addr, Peer};
+
+/// For how long a connection is idle at least that gives way to one of another address, in microseconds. So none gives way
+/// whose query is on its way behind it.
+pub(crate) const LEAST_IDLE: u64 = 100_000;
 
 /// How many addresses of IPv6 one network of one owner has.
 const HOSTS: u128 = 1 << 64;
@@ -44,15 +48,15 @@ pub(crate) fn is_same(a: Addr, b: Addr) -> bool
 fn is_of(seat: &Seat, addr: Addr) -> bool
     ensures { result ≡ is_of addr seat.now }
 {
-    seat.stream.is_some() && is_same(seat.peer.addr, addr)
+    seat.line.is_some() && is_same(seat.peer.addr, addr)
 }
 
-/// When an idle connection came or was last handed over, or the number of one that waits; None where it is not looked for.
+/// When an idle connection came or last took octets, or the number of one that waits; None where it is not looked for.
 fn key_of(seat: &Seat, wanted: Wanted) -> Option<u64>
     ensures { result ≡ key_of wanted seat.now }
 {
     let is_wanted = match wanted {
-        Wanted::Oldest => seat.stream.is_some() && seat.turn == 0,
+        Wanted::Oldest => seat.line.is_some() && seat.turn == 0,
         Wanted::OldestOf(addr) => is_of(seat, addr) && seat.turn == 0,
         Wanted::FirstInTurn => seat.turn > 0,
     };
@@ -78,8 +82,30 @@ fn lesser(seat: &Seat, place: usize, wanted: Wanted, found: Option<Found>) -> Op
     }
 }
 
-/// The place of the connection that is looked for, the first of those that are alike.
-pub(crate) fn least(seats: &[Seat], wanted: Wanted) -> Option<usize>
+/// Whether a place has no connection, and so none that waits.
+fn is_vacant(seat: &Seat) -> bool
+    ensures { MatchBool result (IsVacant seat.now) (IsVacant seat.now → ⊥) }
+{
+    seat.line.is_none() && seat.turn == 0
+}
+
+/// A number such that no place from there on has a connection. So a look at the places ends at the last one that has.
+pub(crate) fn used(seats: &[Seat]) -> usize
+    ensures vacant { (i : ℕ) (seat : Seat) → result ≤ i → slice_get seats.now i ≡ Some seat → IsVacant seat }
+    ensures within { result ≤ length seats.now }
+{
+    let mut used = seats.len();
+    for _ in 0..seats.len() {
+        if used == 0 || !is_vacant(&seats[used - 1]) {
+            return used;
+        }
+        used -= 1;
+    }
+    used
+}
+
+/// The place of the connection that is looked for, the first of those that are alike, in some places.
+fn least_in(seats: &[Seat], wanted: Wanted) -> Option<usize>
     ensures { IsFound wanted seats.now result }
 {
     let mut found = None;
@@ -90,6 +116,14 @@ pub(crate) fn least(seats: &[Seat], wanted: Wanted) -> Option<usize>
         Some(found) => Some(found.place),
         None => None,
     }
+}
+
+/// The place of the connection that is looked for, the first of those that are alike.
+pub(crate) fn least(seats: &[Seat], wanted: Wanted) -> Option<usize>
+    ensures { IsFound wanted seats.now result }
+{
+    let used = used(seats);
+    least_in(&seats[..used], wanted)
 }
 
 /// How many connections of an address there are.
@@ -103,7 +137,7 @@ fn count_of(seats: &[Seat], addr: Addr) -> usize
 fn first_free(seats: &[Seat]) -> Option<usize>
     ensures { result ≡ position is_free seats.now }
 {
-    seats.iter().position(|seat| seat.stream.is_none())
+    seats.iter().position(|seat| seat.line.is_none())
 }
 
 /// The place for a connection of an address that comes: a free one, or that of the one that is idle for the longest time;
@@ -118,6 +152,26 @@ pub(crate) fn place_for(seats: &[Seat], addr: Addr, most_of_one: usize) -> Optio
         Some(i) => Some(i),
         None => least(seats, Wanted::Oldest),
     }
+}
+
+/// The place of the connection that is idle for the longest time, where that is long enough for it to give way.
+pub(crate) fn oldest_idle(seats: &[Seat], now: u64) -> Option<usize>
+    ensures { IfSome result (λ i. GivesWay now seats.now i) }
+{
+    let i = least(seats, Wanted::Oldest)?;
+    let seat = seats.get(i)?;
+    if now.saturating_sub(seat.since) >= LEAST_IDLE {
+        Some(i)
+    } else {
+        None
+    }
+}
+
+/// Whether a connection that comes can have a place: one is free, or a connection gives way that was idle for long enough.
+pub(crate) fn has_place(seats: &[Seat], now: u64) -> bool
+    ensures { result ≡ true → HasPlace now seats.now }
+{
+    first_free(seats).is_some() || oldest_idle(seats, now).is_some()
 }
 
 /// The place whose connection is handed over next, the one that has waited longest, and its peer.

@@ -16,15 +16,17 @@ pub(crate) struct Room {
     pub(crate) going: ArrayVec<u8, LARGEST_GOING>,
 }
 
-/// The octets behind the first ones.
-pub(crate) fn behind<const N: usize>(octets: &ArrayVec<u8, N>, len: usize) -> ArrayVec<u8, N>
-    ensures { result.items ≡ drop len octets.now.items }
+/// Drops the first octets, and moves those behind them to the front.
+fn drop_front<const N: usize>(octets: &mut ArrayVec<u8, N>, len: usize)
+    ensures { octets.new.items ≡ drop len octets.old.items }
 {
-    let mut rest = ArrayVec::new();
-    if let Some(last) = octets.as_slice().get(len..) {
-        let _ = rest.try_extend_from_slice(last);
+    let count = octets.len();
+    if len >= count {
+        octets.clear();
+        return;
     }
-    rest
+    octets.as_mut_slice().copy_within(len.., 0);
+    octets.truncate(count - len);
 }
 
 impl Room {
@@ -54,7 +56,7 @@ impl Room {
         let most = buffer.len().min(self.coming.len());
         let batch = batch_of(&self.coming.as_slice()[..most]);
         buffer[..batch.len].copy_from_slice(&self.coming.as_slice()[..batch.len]);
-        self.coming = behind(&self.coming, batch.len);
+        drop_front(&mut self.coming, batch.len);
         batch
     }
 
@@ -87,7 +89,7 @@ impl Room {
         ensures going { self.new.going.items ≡ drop len self.old.going.items }
         ensures coming { self.new.coming.items ≡ self.old.coming.items }
     {
-        self.going = behind(&self.going, len);
+        drop_front(&mut self.going, len);
     }
 }
 

@@ -9,10 +9,15 @@ use std::marker::Model;
 use std::sync::atomic::AtomicBool;
 use std::sync::atomic::Ordering::SeqCst;
 
-/// Whether lanes are to stop. Once it is set it stays so.
+/// How many turns a lane of conversations has at most, from when it is to stop, to answer those that have come.
+const MOST_LAST_TURNS: u32 = 1_024;
+
+/// Whether lanes are to stop, and whether all conversations that had come by then were answered. Once either is set it
+/// stays so.
 #[derive(Drop)]
 pub struct StopFlag {
     is_set: AtomicBool,
+    is_drained: AtomicBool,
 }
 
 impl StopFlag {
@@ -20,6 +25,7 @@ impl StopFlag {
     pub fn new() -> StopFlag {
         StopFlag {
             is_set: AtomicBool::new(false),
+            is_drained: AtomicBool::new(false),
         }
     }
 
@@ -32,12 +38,25 @@ impl StopFlag {
     pub fn is_set(&self) -> bool {
         self.is_set.load(SeqCst)
     }
+
+    /// Notes that no conversation waits of those that had come.
+    pub(crate) fn note_drained(&self) {
+        self.is_drained.store(true, SeqCst);
+    }
+
+    /// Whether that was noted.
+    fn is_drained(&self) -> bool {
+        self.is_drained.load(SeqCst)
+    }
 }
 
-/// A gate that answers `Go` until a flag is set, and then `Stop`. It has no fault.
+/// A gate that answers `Go` until a flag is set, and then `Stop`; that of a lane of conversations only once those that had
+/// come are answered, or after a thousand turns more. It has no fault.
 #[derive(Drop)]
 pub struct FlagGate<'a> {
     flag: &'a StopFlag,
+    /// How many turns are left from when the flag is set.
+    turns: u32,
     past: GatePast,
 }
 
@@ -56,8 +75,34 @@ impl<'a> FlagGate<'a> {
     {
         FlagGate {
             flag,
+            turns: 0,
             past: GatePast::new(),
         }
+    }
+
+    /// The same, for a lane of conversations.
+    pub fn of_streams(flag: &'a StopFlag) -> FlagGate<'a>
+        ensures { result ≡ new_gate }
+    {
+        FlagGate {
+            flag,
+            turns: MOST_LAST_TURNS,
+            past: GatePast::new(),
+        }
+    }
+
+    /// Whether the lane is to stop now.
+    fn is_shut(&mut self) -> bool
+        ensures { self.new ≡ self.old }
+    {
+        if !self.flag.is_set() {
+            return false;
+        }
+        if self.turns == 0 || self.flag.is_drained() {
+            return true;
+        }
+        self.turns -= 1;
+        false
     }
 }
 
@@ -67,7 +112,7 @@ impl Gate for FlagGate<'_> {
     ghost faults = { λ _. 0 };
 
     fn turn(&mut self, known: u64) -> Turning {
-        let turning = if self.flag.is_set() {
+        let turning = if self.is_shut() {
             Turning::Stop
         } else {
             Turning::Go

@@ -7,7 +7,7 @@ ghost use Rattle.outside.specs.declared.limits.TheConstants.{LARGEST_DATAGRAM};
 use crate::judged::{arrival_of, sending_of};
 use crate::peers::socket_addr;
 use addr_text::{Listen, Peer};
-use handed_in::{handed_in, take_udp};
+use handed_in::{Unfit, handed_in, take_udp};
 use outside::{Arrival, LARGEST_DATAGRAM, Opening, Port, Sending};
 use past_log::{PortEvent, PortPast};
 use reuse_port::{bind_beside, grow_receive_buffer};
@@ -116,9 +116,11 @@ impl<'a, N: Net> UdpPort<'a, N> {
     }
 }
 
-/// Limits how long the calls of a socket wait, and lets many datagrams wait at it, where the system does. A process without a
-/// standard stream, whose descriptor the next thing that is opened would get, gets none.
+/// Limits how long the calls of a socket wait, and lets many datagrams wait at it, where the system does. One that was
+/// handed in may be such that its calls wait for nothing: they do from now on. A process without a standard stream, whose
+/// descriptor the next thing that is opened would get, gets none.
 fn set_up(socket: &UdpSocket) -> Option<()> {
+    socket.set_nonblocking(false).ok()?;
     let wait = Some(Duration::from_millis(LONGEST_WAIT));
     socket.set_read_timeout(wait).ok()?;
     let send = Some(Duration::from_millis(LONGEST_SEND));
@@ -130,21 +132,24 @@ fn set_up(socket: &UdpSocket) -> Option<()> {
 }
 
 /// The next socket there that was handed in, if one is left.
-fn next_handed<N: Net>(net: &N, shared: &SharedUdp, listen: Listen) -> Option<UdpSocket> {
+fn next_handed<N: Net>(
+    net: &N,
+    shared: &SharedUdp,
+    listen: Listen,
+) -> Result<Option<UdpSocket>, Unfit> {
     let place = socket_addr(listen.addr, listen.port);
-    for number in shared.next.load(SeqCst)..handed_in() {
+    for number in shared.next.load(SeqCst)..handed_in()? {
         shared.next.store(number.saturating_add(1), SeqCst);
-        let socket = take_udp(net, number, place);
-        if socket.is_some() {
-            return socket;
+        if let Some(socket) = take_udp(net, number, place)? {
+            return Ok(Some(socket));
         }
     }
-    None
+    Ok(None)
 }
 
 /// The first socket there: the first one that was handed in, or else one that is bound.
 fn bind_first<N: Net>(net: &N, shared: &SharedUdp, listen: Listen) -> Option<Bound> {
-    let Some(socket) = next_handed(net, shared, listen) else {
+    let Some(socket) = next_handed(net, shared, listen).ok()? else {
         return bind(net, listen);
     };
     set_up(&socket)?;
@@ -161,7 +166,7 @@ fn further<N: Net>(net: &N, shared: &SharedUdp, first: &Bound) -> Option<UdpSock
     if !first.is_handed {
         return bind_beside(net, &first.socket).ok();
     }
-    match next_handed(net, shared, first.listen) {
+    match next_handed(net, shared, first.listen).ok()? {
         Some(socket) => Some(socket),
         None => first.socket.try_clone().ok(),
     }

@@ -25,7 +25,7 @@ use std::io::ErrorKind;
 use std::process::ExitCode;
 use std::rt::Env;
 use std::sync::Wait;
-use std::thread::Threads;
+use std::thread::{self, Builder, Threads};
 
 /// The words of the command line. Where one of them is no text, there is none at all.
 fn read_args<R: Env + AllocGlobal>(rt: &R) -> Result<Vec<String>, NoMemory> {
@@ -93,41 +93,51 @@ fn run_words<
     }
 }
 
-/// Over the files of the system, standard input as the feed, files and pipes as further ones, standard output, standard error for the texts of maps, lanes over sockets of UDP at one place, and one over connections of TCP, all of which stop when the feed has ended.
+/// How large the stack is that the program has, in octets, whatever the limits are under which it is started.
+const STACK: usize = 8 << 20;
+
+/// Over the files of the system, standard input as the feed, files and pipes as further ones, standard output, standard error for the texts of maps, lanes over sockets of UDP at one place, and one over connections of TCP, all of which stop when the feed has ended. It runs in a thread with a stack of its own; where there is no such thread, memory is wanting.
 fn main(rt: HostRuntime) -> ExitCode {
-    let mut files = FileShelf::new(&rt);
-    let mut feed = StreamSource::new(rt.stdin());
-    let mut more = [
-        NamedStream::new(&rt),
-        NamedStream::new(&rt),
-        NamedStream::new(&rt),
-    ];
-    let mut out = StreamSink::new(StandardStream::Output(rt.stdout()));
-    let mut maps = StreamSink::new(StandardStream::Error(rt.stderr()));
-    let udp = SharedUdp::new();
-    let tcp = SharedTcp::new();
-    let flag = StopFlag::new();
-    let mut pace = FlagPace::new(&flag);
-    let status = match lanes_of(rt.alloc(), &rt, &udp, &tcp, &flag) {
-        Ok(
-            Network {
-                mut lanes,
-                mut stream,
-            },
-        ) => run_words(
-            &rt,
-            &mut files,
-            &mut feed,
-            &mut more,
-            &mut out,
-            &mut maps,
-            lanes.as_mut_slice(),
-            &mut stream,
-            &mut pace,
-        ),
-        Err(NoMemory) => Status::NoMemory,
+    let host = &rt;
+    let work = move || -> Status {
+        let mut files = FileShelf::new(host);
+        let mut feed = StreamSource::new(host.stdin());
+        let mut more = [
+            NamedStream::new(host),
+            NamedStream::new(host),
+            NamedStream::new(host),
+        ];
+        let mut out = StreamSink::new(StandardStream::Output(host.stdout()));
+        let mut maps = StreamSink::new(StandardStream::Error(host.stderr()));
+        let udp = SharedUdp::new();
+        let tcp = SharedTcp::new();
+        let flag = StopFlag::new();
+        let mut pace = FlagPace::new(&flag);
+        match lanes_of(host.alloc(), host, &udp, &tcp, &flag) {
+            Ok(
+                Network {
+                    mut lanes,
+                    mut stream,
+                },
+            ) => run_words(
+                host,
+                &mut files,
+                &mut feed,
+                &mut more,
+                &mut out,
+                &mut maps,
+                lanes.as_mut_slice(),
+                &mut stream,
+                &mut pace,
+            ),
+            Err(NoMemory) => Status::NoMemory,
+        }
     };
-    exit_code(status)
+    let status = thread::scope(thread::scope_env(), host, move |scope| -> Option<Status> {
+        let there = Builder::new().stack_size(STACK).spawn_scoped(scope, work);
+        Some(there.ok()?.join(host))
+    });
+    exit_code(status.unwrap_or(Status::NoMemory))
 }
 
 #[cfg(test)]

@@ -75,8 +75,8 @@ pub fn lanes_of<'a, R: Net + Clock>(
     Ok(Network {
         lanes,
         stream: StreamLane::new(
-            ManyStreams::new(alloc, rt, tcp, CONNECTIONS, CONNECTIONS_OF_ONE),
-            FlagGate::new(flag),
+            ManyStreams::new(alloc, rt, tcp, flag, CONNECTIONS, CONNECTIONS_OF_ONE),
+            FlagGate::of_streams(flag),
             PlainDoor::new(),
         ),
     })

@@ -9,7 +9,8 @@ fn take_own<N: Net>(net: &N) -> Option<bool> {
     let place = socket.local_addr().ok()?;
     let other = listener.local_addr().ok()?;
     for number in 0..8u32 {
-        if take_udp(net, number, place).is_some() || take_tcp(net, number, other).is_some() {
+        let is_udp = take_udp(net, number, place).ok()?.is_some();
+        if is_udp || take_tcp(net, number, other).ok()?.is_some() {
             return Some(true);
         }
     }
@@ -18,6 +19,6 @@ fn take_own<N: Net>(net: &N) -> Option<bool> {
 
 #[test]
 fn nothing_was_handed_in(rt: HostRuntime) {
-    assert_eq!(rt; handed_in(), 0);
+    assert_eq!(rt; handed_in(), Ok(0));
     assert_eq!(rt; take_own(&rt), Some(false));
 }

@@ -1,5 +1,5 @@
-//! Sockets of UDP that have one address and port together (SO_REUSEPORT), and how much may wait at one (SO_RCVBUF): calls of
-//! the C library for which std has no name.
+//! Sockets of UDP that have one address and port together (SO_REUSEPORT), how much may wait at one (SO_RCVBUF), and
+//! connections of TCP that send at once (TCP_NODELAY): calls of the C library for which std has no name.
 //!
 //! Proved is that these calls are made as the C library wants them, and that no descriptor is taken from a call that failed.
 //! That the system does what they ask for has to be trusted.
@@ -12,7 +12,7 @@ use libc::net as c;
 use os::FromRawFd;
 use std::io::{Error, ErrorKind, Result};
 use std::net::{Net, SocketAddr, UdpSocket};
-use std::os::fd::AsRawFd;
+use std::os::fd::{AsRawFd, RawFd};
 
 /// The first descriptor that is no standard stream's.
 const FIRST_DESCRIPTOR: i32 = 3;
@@ -85,6 +85,19 @@ pub fn bind_beside<N: Net>(_net: &N, first: &UdpSocket) -> Result<UdpSocket>
     let len = len.min(LONGEST_ADDRESS);
     check(unsafe { c::bind(socket.as_raw_fd(), &place, len) })?;
     Ok(socket)
+}
+
+/// Lets a listener's connections send at once what they write, however little it is: they have the option from it.
+pub fn send_at_once(listener: RawFd) -> Result<()> {
+    check(unsafe {
+        c::setsockopt(
+            listener,
+            c::IPPROTO_TCP,
+            c::TCP_NODELAY,
+            &value_of(1),
+            NUMBER,
+        )
+    })
 }
 
 /// How much may wait at a socket, as the system counts it.

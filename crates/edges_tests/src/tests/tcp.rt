@@ -32,16 +32,32 @@ const TWENTY: &[u8] =
 /// A length of 4,097, and more.
 const LONG: &[u8] = b"\x10\x01abc";
 
+/// What streams share with those that ask and stop them.
+#[derive(Drop)]
+struct Shared {
+    tcp: SharedTcp,
+    flag: StopFlag,
+}
+
+impl Shared {
+    fn new() -> Shared {
+        Shared {
+            tcp: SharedTcp::new(),
+            flag: StopFlag::new(),
+        }
+    }
+}
+
 /// Streams at that address, at a port that the system picks.
 fn opened<'a, R: Net + Clock>(
     alloc: Global,
     rt: &'a R,
-    shared: &'a SharedTcp,
+    shared: &'a Shared,
     addr: Addr,
     places: usize,
     most_of_one: usize,
 ) -> Option<ManyStreams<'a, R>> {
-    let mut streams = ManyStreams::new(alloc, rt, shared, places, most_of_one);
+    let mut streams = ManyStreams::new(alloc, rt, &shared.tcp, &shared.flag, places, most_of_one);
     match streams.open(&Listen { addr, port: 0 }) {
         Opening::Ready => Some(streams),
         Opening::Failed => None,
@@ -51,10 +67,10 @@ fn opened<'a, R: Net + Clock>(
 /// A client that waits for five seconds at most.
 fn client_of<N: Net<Listener = TcpListener, Stream = TcpStream>>(
     net: &N,
-    shared: &SharedTcp,
+    shared: &Shared,
     addr: Addr,
 ) -> Option<TcpStream> {
-    let client = TcpStream::connect(net, socket_addr(addr, shared.port()?)).ok()?;
+    let client = TcpStream::connect(net, socket_addr(addr, shared.tcp.port()?)).ok()?;
     client.set_read_timeout(Some(Duration::from_secs(5))).ok()?;
     Some(client)
 }
@@ -168,7 +184,7 @@ fn all_exchange<R: Net<Listener = TcpListener, Stream = TcpStream> + Clock>(
     rt: &R,
     addr: Addr,
 ) -> Option<bool> {
-    let shared = SharedTcp::new();
+    let shared = Shared::new();
     let mut streams = opened(alloc, rt, &shared, addr, 4, 4)?;
     let mut client = client_of(rt, &shared, addr)?;
     let mut other = client_of(rt, &shared, addr)?;
@@ -219,7 +235,7 @@ fn ends<R: Net<Listener = TcpListener, Stream = TcpStream> + Clock>(
     alloc: Global,
     rt: &R,
 ) -> Option<bool> {
-    let shared = SharedTcp::new();
+    let shared = Shared::new();
     let mut streams = opened(alloc, rt, &shared, LOCAL, 4, 4)?;
     let mut client = client_of(rt, &shared, LOCAL)?;
     client.write_all(TWENTY).ok()?;
@@ -244,7 +260,7 @@ fn gives_way<R: Net<Listener = TcpListener, Stream = TcpStream> + Clock>(
     places: usize,
     most_of_one: usize,
 ) -> Option<bool> {
-    let shared = SharedTcp::new();
+    let shared = Shared::new();
     let mut streams = opened(alloc, rt, &shared, LOCAL, places, most_of_one)?;
     let mut first = client_of(rt, &shared, LOCAL)?;
     let is_first = is_idle(&mut streams);
@@ -261,10 +277,88 @@ fn oldest_gives_way(rt: HostRuntime) {
     assert!(rt; gives_way(rt.alloc(), &rt, 8, 2) == Some(true));
 }
 
+/// Clients of one address, each of which asks before any of them is taken in.
+fn asking<N: Net<Listener = TcpListener, Stream = TcpStream>>(
+    alloc: Global,
+    net: &N,
+    shared: &Shared,
+    count: usize,
+) -> Option<Vec<TcpStream>> {
+    let mut clients = clients_of(alloc, net, shared, count)?;
+    for client in &mut clients {
+        client.write_all(SHORT).ok()?;
+    }
+    Some(clients)
+}
+
+/// Replies to so many conversations, one after another.
+fn reply_to<Q: Streams>(streams: &mut Q, count: usize) -> bool {
+    for _ in 0..count {
+        if !comes(streams, SHORT) || streams.write(0, REPLY) != Writing::Done {
+            return false;
+        }
+        streams.close();
+    }
+    true
+}
+
+/// Whether a reply comes to each of these clients.
+fn all_get(clients: &mut [TcpStream]) -> bool {
+    for client in clients {
+        if !gets(client, REPLY) {
+            return false;
+        }
+    }
+    true
+}
+
+/// More clients than there are places, in all or for one address, have asked before the first one is taken in: each is
+/// answered.
+fn answers_a_crowd<R: Net<Listener = TcpListener, Stream = TcpStream> + Clock>(
+    alloc: Global,
+    rt: &R,
+    places: usize,
+    most_of_one: usize,
+) -> Option<bool> {
+    let shared = Shared::new();
+    let mut streams = opened(alloc, rt, &shared, LOCAL, places, most_of_one)?;
+    let mut clients = asking(alloc, rt, &shared, 20)?;
+    Some(reply_to(&mut streams, 20) && all_get(&mut clients))
+}
+
+#[test]
+fn a_crowd_is_answered(rt: HostRuntime) {
+    assert!(rt; answers_a_crowd(rt.alloc(), &rt, 32, 4) == Some(true));
+    assert!(rt; answers_a_crowd(rt.alloc(), &rt, 4, 32) == Some(true));
+}
+
+/// Two clients ask; the flag is set once the first one was taken in. Both are answered, and then the gate stops the lane.
+fn ends_in_order<R: Net<Listener = TcpListener, Stream = TcpStream> + Clock>(
+    alloc: Global,
+    rt: &R,
+) -> Option<bool> {
+    let shared = Shared::new();
+    let mut streams = opened(alloc, rt, &shared, LOCAL, 4, 4)?;
+    let mut gate = FlagGate::of_streams(&shared.flag);
+    let mut clients = asking(alloc, rt, &shared, 2)?;
+    let is_first = comes(&mut streams, SHORT) && gate.turn(0) == Turning::Go;
+    shared.flag.set();
+    let goes_on = gate.turn(0) == Turning::Go && streams.write(0, REPLY) == Writing::Done;
+    streams.close();
+    let is_second = gate.turn(0) == Turning::Go && reply_to(&mut streams, 1);
+    let is_last = is_idle(&mut streams) && gate.turn(0) == Turning::Stop;
+    Some(is_first && goes_on && is_second && is_last && all_get(&mut clients))
+}
+
+#[test]
+fn what_was_taken_is_answered(rt: HostRuntime) {
+    assert!(rt; ends_in_order(rt.alloc(), &rt) == Some(true));
+}
+
 /// A client that asks, and goes before it reads its reply: its system resets the connection.
 fn goes_early<R: Net<Listener = TcpListener, Stream = TcpStream> + Clock>(
     rt: &R,
-    shared: &SharedTcp,
+    shared: &Shared,
     streams: &mut ManyStreams<'_, R>,
 ) -> Option<bool> {
     let mut client = client_of(rt, shared, LOCAL)?;
@@ -281,7 +375,7 @@ fn all_go_early<R: Net<Listener = TcpListener, Stream = TcpStream> + Clock>(
     alloc: Global,
     rt: &R,
 ) -> Option<bool> {
-    let shared = SharedTcp::new();
+    let shared = Shared::new();
     let mut streams = opened(alloc, rt, &shared, LOCAL, 4, 4)?;
     for _ in 0..20u32 {
         if goes_early(rt, &shared, &mut streams) != Some(true) {
@@ -299,10 +393,10 @@ fn resets_are_no_failures(rt: HostRuntime) {
 
 /// Whether nothing comes or goes where none is open.
 fn is_shut<R: Net + Clock>(alloc: Global, rt: &R) -> bool {
-    let shared = SharedTcp::new();
-    let mut streams = ManyStreams::new(alloc, rt, &shared, 2, 2);
+    let shared = Shared::new();
+    let mut streams = ManyStreams::new(alloc, rt, &shared.tcp, &shared.flag, 2, 2);
     let mut buffer = [0u8; 8];
-    let is_unopened = shared.port().is_none() && streams.accept(0) == Accepting::Failed;
+    let is_unopened = shared.tcp.port().is_none() && streams.accept(0) == Accepting::Failed;
     is_unopened
         && streams.read(0, &mut buffer) == Reading::Closed
         && streams.write(0, REPLY) == Writing::Failed
@@ -334,7 +428,7 @@ fn reply_all<Q: Streams>(streams: &mut Q, gate: &mut impl Gate) -> u32 {
 fn clients_of<N: Net<Listener = TcpListener, Stream = TcpStream>>(
     alloc: Global,
     net: &N,
-    shared: &SharedTcp,
+    shared: &Shared,
     count: usize,
 ) -> Option<Vec<TcpStream>> {
     let mut clients = Vec::new(alloc);
@@ -359,13 +453,13 @@ fn ask_all(clients: &mut [TcpStream], pace: &mut impl Pace) -> u32 {
 /// A lane in a thread, and clients in another.
 #[test]
 fn replies_in_a_thread(rt: HostRuntime) {
-    let (shared, flag) = (SharedTcp::new(), StopFlag::new());
+    let shared = Shared::new();
     let mut streams = opened(rt.alloc(), &rt, &shared, LOCAL, 32, 32).expect(
         &rt,
         "streams that are open",
     );
-    let mut gate = FlagGate::new(&flag);
-    let mut pace = FlagPace::new(&flag);
+    let mut gate = FlagGate::of_streams(&shared.flag);
+    let mut pace = FlagPace::new(&shared.flag);
     let mut clients = clients_of(rt.alloc(), &rt, &shared, 20).expect(&rt, "clients");
     let (replied, asked) = join_mut(
         &rt,
