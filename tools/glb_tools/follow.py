@@ -437,7 +437,7 @@ class Follower:
 
     def due_base(self, look: Look) -> Base | None:
         """The base that it began from, where the log still has all behind it; else the newest one."""
-        chosen = self.bases.chosen()
+        chosen = self.bases.chosen() or self.identity.base
         for base in look.bases:
             if base.checksum == chosen and look.first <= max(base.upto, 1):
                 return base
