@@ -221,7 +221,9 @@ if [ "$1" = purge ]; then
     rm -f /etc/systemd/system/*.wants/glb*.service /etc/systemd/system/*.wants/glb*.timer /etc/systemd/system/*.wants/glb*.socket
     rmdir /etc/systemd/system/glb*.wants 2>/dev/null || true
     if [ -d /run/systemd/system ]; then systemctl reset-failed 'glb*' 2>/dev/null || true; fi
-    if command -v deluser >/dev/null; then deluser --system --quiet glb || true; fi
+    if command -v deluser >/dev/null; then
+        deluser --system --quiet glb || echo "glb: the user glb is left: end its processes, then deluser --system glb" >&2
+    fi
 fi
 if [ -d /run/systemd/system ]; then systemctl daemon-reload; fi
 SCRIPT

@@ -1,8 +1,8 @@
 """What stands where in the newest map, for the exporter: a `glb` of its own works the log beside the servers.
 
 The servers of a fleet tell checksums of their maps, and no loads: a map has up to 256 MiB. So the exporter starts `glb
-serve` at a port of the loopback that nobody asks, hands it the batches, and sums up the newest map. No server waits for
-it, or has to be reached by it.
+serve` at a port of the loopback that nobody asks, a shadow, hands it the batches, and sums up the newest map. No server
+waits for it, or has to be reached by it.
 """
 
 import os
@@ -95,7 +95,7 @@ class World:
         )
 
 
-class Beside:
+class Shadow:
     """A `glb serve` that nobody asks: it works batches, and its newest map's text is kept."""
 
     def __init__(self, program: str, topology: bytes) -> None:
@@ -145,7 +145,7 @@ class Beside:
 
     def fail(self, why: str) -> NoReturn:
         self.end()
-        raise Fault(f"the program beside: {why} (status {self.process.returncode})")
+        raise Fault(f"the shadow: {why} (status {self.process.returncode})")
 
     def work(self, lines: str) -> None:
         """Works a batch: whatever its lines are, it is answered."""
@@ -226,9 +226,9 @@ class Worker:
         """Works the log for ever; it ends by a fault, or where the log begins anew."""
         raise NotImplementedError
 
-    def sum_up(self, beside: Beside, entry: int) -> None:
+    def sum_up(self, shadow: Shadow, entry: int) -> None:
         """Sums up the newest map; of a large one seldom, so that it takes a tenth of the time at most."""
-        loads = beside.loads(entry)
+        loads = shadow.loads(entry)
         self.loads, self.is_up = loads, True
         self.rest(9 * loads.took)
 
@@ -242,25 +242,25 @@ class FileWorker(Worker):
 
     def follow(self) -> None:
         was = file_at(self.topology)
-        beside = Beside(self.program, self.topology.read_bytes())
+        shadow = Shadow(self.program, self.topology.read_bytes())
         try:
             with open(self.path, "rb") as file:
-                self.follow_file(beside, was, file)
+                self.follow_file(shadow, was, file)
         finally:
-            beside.end()
+            shadow.end()
 
-    def follow_file(self, beside: Beside, topology: tuple[int, ...], file: BinaryIO) -> None:
+    def follow_file(self, shadow: Shadow, topology: tuple[int, ...], file: BinaryIO) -> None:
         rest, entry, is_new = b"", 0, True
         while True:
             piece = file.read(1 << 20)
             *batches, rest = split_at_commits(rest + piece)
             for batch in batches:
-                beside.work(batch.decode("latin-1"))
+                shadow.work(batch.decode("latin-1"))
                 entry, is_new = entry + 1, True
             if piece:
                 continue
             if is_new:
-                self.sum_up(beside, entry)
+                self.sum_up(shadow, entry)
                 is_new = False
             self.rest(min(self.every, SELDOM))
             if file_at(self.topology) != topology:
@@ -297,25 +297,25 @@ class FleetWorker(Worker):
         topology = self.log.topology(newest.checksum)
         if topology is None:
             raise Fault(f"the topology of {newest} is not in etcd")
-        beside = Beside(self.program, topology)
+        shadow = Shadow(self.program, topology)
         try:
-            self.follow_from(beside, newest)
+            self.follow_from(shadow, newest)
         finally:
-            beside.end()
+            shadow.end()
 
-    def follow_from(self, beside: Beside, base: Base) -> None:
+    def follow_from(self, shadow: Shadow, base: Base) -> None:
         """Works the entries behind a base, until there is a newer one: then it goes over, at once."""
         entry, chain, summed = base.upto, base.chain, -1
         while (look := self.look(entry)) is None or look.newest == base:
             new = behind(look, entry, chain) if look else []
             for found in new:
                 if lines := self.lines_of(found, base, look):
-                    beside.work(lines)
+                    shadow.work(lines)
                 entry, chain = found.number, found.checksum
             if look is None:
                 summed = -1
             elif not new and summed != entry:
-                self.sum_up(beside, entry)
+                self.sum_up(shadow, entry)
                 summed = entry
             if not new:
                 self.rest(min(self.every, SELDOM))

@@ -11,7 +11,7 @@ from unittest import mock
 
 from glb_tools import loads
 from glb_tools.etcd import Unreachable
-from glb_tools.loads import Beside, FileWorker, FleetWorker, World, split_at_commits
+from glb_tools.loads import Shadow, FileWorker, FleetWorker, World, split_at_commits
 from glb_tools.options import Fault
 from glb_tools.topology import Topology
 from samples import SMALL, SMALL_MAP, Case
@@ -92,8 +92,8 @@ class Played(Case):
         self.program = self.file("glb", PLAYED)
         os.chmod(self.program, stat.S_IRWXU)
 
-    def beside(self):
-        found = Beside(self.program, SMALL.encode())
+    def shadow(self):
+        found = Shadow(self.program, SMALL.encode())
         self.addCleanup(found.end)
         return found
 
@@ -108,51 +108,51 @@ class Played(Case):
         self.addCleanup(worker.over.set)
 
 
-class BesideServers(Played):
+class Shadows(Played):
     def test_batches(self):
-        beside = self.beside()
-        self.assertEqual(beside.loads(0).placed, 8)
-        beside.work("demand g1 5\n")
-        self.assertEqual((beside.loads(1).placed, beside.loads(1).demand), (5, 16))
-        beside.work("bad line\n")
-        beside.work("")
-        self.assertEqual((beside.loads(3).placed, beside.loads(3).demand), (5, 16))
+        shadow = self.shadow()
+        self.assertEqual(shadow.loads(0).placed, 8)
+        shadow.work("demand g1 5\n")
+        self.assertEqual((shadow.loads(1).placed, shadow.loads(1).demand), (5, 16))
+        shadow.work("bad line\n")
+        shadow.work("")
+        self.assertEqual((shadow.loads(3).placed, shadow.loads(3).demand), (5, 16))
 
     def test_many(self):
         """The text that is summed up is that of the batch, however fast they come."""
-        beside = self.beside()
+        shadow = self.shadow()
         for units in range(1, 200):
-            beside.work(f"demand g1 {units}\n")
-            self.assertEqual(beside.loads(units).placed, units)
+            shadow.work(f"demand g1 {units}\n")
+            self.assertEqual(shadow.loads(units).placed, units)
 
     def test_ends(self):
         for line, why in (("end 1 2\n", "it has ended"), ("memory 1 2\n", "no memory")):
             with self.subTest(line), self.assertRaisesRegex(Fault, why):
-                self.beside().work(line)
+                self.shadow().work(line)
 
     def test_hangs(self):
-        beside = self.beside()
+        shadow = self.shadow()
         with mock.patch.object(loads, "PATIENCE", 0.2), self.assertRaisesRegex(Fault, "has ended"):
-            beside.work("hang 1 2\n")
+            shadow.work("hang 1 2\n")
 
     def test_nothing_is_left(self):
-        beside = self.beside()
-        self.assertFalse(Path(beside.folder).exists())
-        process = beside.process
-        beside.end()
+        shadow = self.shadow()
+        self.assertFalse(Path(shadow.folder).exists())
+        process = shadow.process
+        shadow.end()
         self.assertIsNotNone(process.returncode)
 
     def test_no_program(self):
         with mock.patch.object(loads.tempfile, "tempdir", str(self.folder)):
-            self.assertRaises(OSError, Beside, "/nowhere/glb", SMALL.encode())
-            self.assertRaisesRegex(Fault, "no map 0 came", Beside, "/bin/false", SMALL.encode())
+            self.assertRaises(OSError, Shadow, "/nowhere/glb", SMALL.encode())
+            self.assertRaisesRegex(Fault, "no map 0 came", Shadow, "/bin/false", SMALL.encode())
         self.assertEqual([path.name for path in self.folder.iterdir()], ["glb"])
 
     def test_a_program_that_hangs(self):
         program = self.file("hangs", "#!/bin/sh\nexec sleep 60\n")
         os.chmod(program, stat.S_IRWXU)
         with mock.patch.object(loads, "PATIENCE", 0.1), self.assertRaises(Fault):
-            Beside(program, SMALL.encode())
+            Shadow(program, SMALL.encode())
 
 
 def until(holds):
@@ -254,14 +254,14 @@ class Fleets(Played):
 @unittest.skipUnless(os.environ.get("GLB"), "GLB does not name the program")
 class Real(Case):
     def test_small(self):
-        beside = Beside(os.environ["GLB"], SMALL.encode())
-        self.addCleanup(beside.end)
-        self.assertEqual((beside.loads(0).demand, beside.loads(0).placed), (19, 15))
-        beside.work("capacity R 9\n")
-        self.assertEqual((beside.loads(1).nodes["R"], beside.loads(1).placed), ((9, 9), 9))
-        beside.work("capacity Z 9\n")
-        beside.work("ask 192.0.2.1 00\nshow\ndemand g2 1\n")
-        self.assertEqual(beside.loads(3).demand, 12)
+        shadow = Shadow(os.environ["GLB"], SMALL.encode())
+        self.addCleanup(shadow.end)
+        self.assertEqual((shadow.loads(0).demand, shadow.loads(0).placed), (19, 15))
+        shadow.work("capacity R 9\n")
+        self.assertEqual((shadow.loads(1).nodes["R"], shadow.loads(1).placed), ((9, 9), 9))
+        shadow.work("capacity Z 9\n")
+        shadow.work("ask 192.0.2.1 00\nshow\ndemand g2 1\n")
+        self.assertEqual(shadow.loads(3).demand, 12)
 
 
 if __name__ == "__main__":
