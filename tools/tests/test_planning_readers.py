@@ -95,7 +95,12 @@ KNOT_PLACES = """cdn.example.:
   - geo: "*;*"
     A: 192.0.2.3
 """
-POWERDNS = """domains:
+POWERDNS = """mapping_lookup_formats: ['%cc-%re', '%cc']
+custom_mapping:
+  de: eu
+  us-tx: na
+  ch: nowhere
+domains:
 - domain: cdn.example
   ttl: 30
   records:
@@ -117,6 +122,7 @@ POWERDNS = """domains:
       10.1.0.0/16: 'na.dc.cdn.example'
       10.1.2.0/24: [ 'no.dc.cdn.example', 'eu.dc.cdn.example' ]
       2001:db8::/32: 'eu.dc.cdn.example'
+    map.cdn.example: [ '%mp.dc.cdn.example', 'unknown.dc.cdn.example' ]
 """
 
 
@@ -385,7 +391,9 @@ class Knot(Import):
 @needs("yaml")
 class PowerDns(Import):
     def test_networks(self):
-        out = self.imported("powerdns", self.put("zones.yaml", POWERDNS))
+        out = self.imported(
+            "powerdns", self.put("zones.yaml", POWERDNS), "--name", "www.cdn.example"
+        )
         self.assertEqual(self.order_of("10.1.0.1"), ["na.dc"])
         self.assertEqual(self.order_of("10.1.2.1"), ["no.dc", "eu.dc"])
         self.assertEqual(self.order_of("2001:db8::1"), ["eu.dc"])
@@ -396,7 +404,8 @@ class PowerDns(Import):
 
     @needs("maxminddb")
     def test_places(self):
-        self.imported("powerdns", self.put("zones.yaml", POWERDNS), "--mmdb", self.database())
+        path, database = self.put("zones.yaml", POWERDNS), self.database()
+        self.imported("powerdns", path, "--mmdb", database, "--name", "www.cdn.example")
         self.assertEqual(self.order_of("10.2.0.1"), ["eu.dc", "unknown.dc"])
         self.assertEqual(self.order_of("12.0.0.1"), ["na.dc", "unknown.dc"])
         self.assertEqual(self.order_of("10.1.2.1"), ["no.dc", "eu.dc"])
@@ -409,26 +418,34 @@ class PowerDns(Import):
             f"{path.name}: no zones file of the backend geoip: there is no list `domains`",
         )
         path = self.put("zones.yaml", POWERDNS.replace("10.1.0.0/16", "10.1"))
-        self.assertEqual(self.refused("powerdns", path), f"{path.name}: `10.1` is no network")
+        said = self.refused("powerdns", path, "--name", "www.cdn.example")
+        self.assertEqual(said, f"{path.name}: `10.1` is no network")
+        said = self.refused("powerdns", path)
+        choices = "www.cdn.example, map.cdn.example"
+        self.assertEqual(said, f"{path.name}: choose a service with --name: {choices}")
 
     @needs("maxminddb")
     @installed("pdns_server", "dig")
     def test_as_powerdns_answers(self):
         database, port = self.database(), free_port()
-        self.imported("powerdns", self.put("zones.yaml", POWERDNS), "--mmdb", database)
+        path = self.put("zones.yaml", POWERDNS)
+        services = ("www.cdn.example", "map.cdn.example")
+        for service in services:
+            self.imported("powerdns", path, "--mmdb", database, "--name", service, into=service)
         self.put(
             "pdns.conf",
             f"launch=geoip\ngeoip-zones-file={self.path}/zones.yaml\ngeoip-database-files=mmdb:{database}\n"
             f"edns-subnet-processing=yes\nlocal-address=127.0.0.1\nlocal-port={port}\nsocket-dir={self.path}\n"
             "daemon=no\nguardian=no\ndisable-syslog=yes\ncache-ttl=0\nquery-cache-ttl=0\nnegquery-cache-ttl=0\nzone-cache-refresh-interval=0\n",
         )
-        pools = self.addresses()
         words = ["pdns_server", f"--config-dir={self.path}"]
         with server(self, words, port, "cdn.example"):
-            for client in ADDRESSES:
-                order = self.order_of(client)
-                expected = [x for x in pools[order[0]] if "." in x]
-                self.assertEqual(asked(port, "www.cdn.example", "A", client), expected, client)
+            for service in services:
+                pools = self.addresses(service)
+                for client in ADDRESSES:
+                    order = self.order_of(client, service)
+                    expected = [x for x in pools[order[0]] if "." in x]
+                    self.assertEqual(asked(port, service, "A", client), expected, client)
 
 
 LOCATIONS = """geoname_id,locale_code,continent_code,continent_name,country_iso_code,country_name,subdivision_1_iso_code,subdivision_1_name,subdivision_2_iso_code,subdivision_2_name,city_name,metro_code,time_zone,is_in_european_union
