@@ -65,6 +65,12 @@ plugins => { geoip => {
       geoip2_db => City.mmdb, datacenters => [us, de, sg], auto_dc_limit => 2
       auto_dc_coords => { us => [38.9, -77], de => [50.1, 8.7], sg => [1.3, 103.9] }
     }
+    mixed => {
+      geoip2_db => City.mmdb, datacenters => [us, de, sg], auto_dc_limit => 0
+      auto_dc_coords => { de => [50.1, 8.7], sg => [1.3, 103.9] }
+      map => { EU => { default => auto, DE => { Berlin => us }, FR => { "75" => [de, us] } }, OC => [us], NA => { default => [sg, us] } }
+      nets => { 12.128.0.0/10 => sg }
+    }
     nets => { datacenters => [us, de], nets => nets.txt }
   }
   resources => {
@@ -263,7 +269,7 @@ class Gdnsd(Import):
     @needs("maxminddb")
     @installed("gdnsd_geoip_test")
     def test_as_gdnsd_maps(self):
-        for name in ("prod", "auto", "nets"):
+        for name in ("prod", "auto", "mixed", "nets"):
             self.imported("gdnsd", self.path / "gdnsd", "--name", name, into=name)
             for address in ADDRESSES:
                 words = ["gdnsd_geoip_test", "-c", str(self.path / "gdnsd"), name, address]
@@ -271,6 +277,14 @@ class Gdnsd(Import):
                 self.assertEqual(ended.returncode, 0, ended.stderr)
                 order = ended.stdout.strip().split("\n")[-1].split("=> ")[-1].split(", ")
                 self.assertEqual(self.order_of(address, name), order, (name, address))
+
+    @needs("maxminddb")
+    def test_networks_that_are_sent_nowhere_are_told(self):
+        text = GDNSD.replace("NA => { default => [sg, us] }", "NA => []")
+        self.put("gdnsd/config", text.replace("12.128.0.0/10 => sg", "12.128.0.0/10 => []"))
+        out = self.imported("gdnsd", self.path / "gdnsd", "--name", "mixed")
+        self.assertIn("not carried over: networks that are sent nowhere (an empty array)", out)
+        self.assertEqual(self.order_of("12.128.0.1"), ["us", "de", "sg"])
 
     def test_without_its_database_the_map_is_lost(self):
         (self.path / "gdnsd/geoip/City.mmdb").unlink()
@@ -280,7 +294,9 @@ class Gdnsd(Import):
 
     def test_which_map(self):
         said = self.refused("gdnsd", self.path / "gdnsd")
-        self.assertEqual(said, "gdnsd/config: name one of the maps with --name: prod, auto, nets")
+        self.assertEqual(
+            said, "gdnsd/config: name one of the maps with --name: prod, auto, mixed, nets"
+        )
 
     def test_faults_have_their_lines(self):
         cases = {
