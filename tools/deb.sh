@@ -102,7 +102,8 @@ done
 install -D -m 644 "$top/docs/glb.1" "$server/usr/share/man/man1/glb.1"
 gzip -9n "$server/usr/share/man/man1/glb.1"
 install -D -m 644 -t "$server/usr/share/doc/glb" "$top"/README.md "$top"/docs/{FORMATS,OPERATING,PROVED,DECISIONS}.md
-install -D -m 644 -t "$server/usr/share/doc/glb/examples" "$top"/examples/*.toml "$top"/examples/*.map "$top"/examples/*.changes "$top"/examples/*.socket "$top"/examples/queries.txt
+install -D -m 644 -t "$server/usr/share/doc/glb/examples" "$top"/examples/*.toml "$top"/examples/*.map "$top"/examples/*.changes "$top"/examples/*.socket "$top"/examples/glb-ready.nft "$top"/examples/queries.txt
+install -D -m 755 "$top/examples/glb-ready" "$server/usr/bin/glb-ready"
 install_settings "$server" "$top/examples/glb.default" etc/default/glb
 install -d "$server/etc/glb"
 printf '# LISTEN, WORKERS, TCP and GLB_ETCD of the units glb@v4 and glb-fleet@v4: see /usr/share/doc/glb/OPERATING.md\nLISTEN=127.0.0.1:53\nWORKERS=1\n' >"$server/etc/glb/v4.conf"
@@ -161,7 +162,7 @@ Architecture: amd64
 Maintainer: $maintainer
 Installed-Size: $(size "$server")
 Depends: libc6, python3 (>= 3.11), adduser
-Suggests: glb-tools, etcd-server
+Suggests: glb-tools, etcd-server, nftables
 Section: net
 Priority: optional
 Description: mapping system of a content delivery network, proved correct

@@ -128,6 +128,8 @@ class Etcd:
 
     def __init__(self, members: list[str], context: ssl.SSLContext | None = None) -> None:
         self.members = members
+        # those that did not answer
+        self.silent: set[str] = set()
         self.login: dict[str, str] | None = None
         self.token: str | None = None
         # what the environment says of proxies is not meant for members
@@ -160,6 +162,7 @@ class Etcd:
             except urllib.error.HTTPError as error:
                 why = self.refused(member, error)
             except (OSError, HTTPException, *NONSENSE) as error:
+                self.silent.add(member)
                 why = f"{member}: {error}"
             self.members.append(self.members.pop(0))
         raise Unreachable(why)

@@ -188,7 +188,8 @@ def advise_of(server: State, found: Report) -> None:
 def look_at_members(etcd: Etcd, found: Report) -> None:
     """Whether each member of etcd answers, and whether there is room."""
     for member in list(etcd.members):
-        found.members[member] = etcd.answers(member)
+        # one that did not answer a moment ago is not waited for once more
+        found.members[member] = None if member in etcd.silent else etcd.answers(member)
         if found.members[member] is None:
             found.advise(MEMBER, f"{member}, a member of etcd, does not answer: start it again")
     for alarm in etcd.alarms():

@@ -405,20 +405,21 @@ class Follower:
         """Fetches the base that is rolled, so that each server has it before any goes over."""
         checksum = str(look.roll.get("base", ""))
         if checksum and checksum != self.identity.base and self.has != checksum[:LETTERS]:
-            if why := self.lacks(checksum):
-                self.waits = self.waits or why
-            else:
-                self.has = checksum[:LETTERS]
+            self.waits = self.lacks(checksum) or self.waits
 
     def lacks(self, checksum: str) -> str | None:
         """Why the server cannot begin from a base; its file is fetched where it is not here."""
+        if self.has == checksum[:LETTERS]:
+            return None
         if self.bases.topology(checksum) is None:
             octets = self.log.topology(checksum)
             if octets is None:
                 return f"base {checksum[:12]} is not here, and not in etcd"
             self.bases.put(checksum, octets)
-        refused = self.bases.refused(checksum)
-        return f"base {checksum[:12]} is refused by its program: {refused}" if refused else None
+        if refused := self.bases.refused(checksum):
+            return f"base {checksum[:12]} is refused by its program: {refused}"
+        self.has = checksum[:LETTERS]
+        return None
 
     # Beginning anew.
 
@@ -437,7 +438,7 @@ class Follower:
 
     def due_base(self, look: Look) -> Base | None:
         """The base that it began from, where the log still has all behind it; else the newest one."""
-        chosen = self.bases.chosen()
+        chosen = self.bases.chosen() or self.identity.base
         for base in look.bases:
             if base.checksum == chosen and look.first <= max(base.upto, 1):
                 return base
@@ -466,7 +467,12 @@ class Follower:
         elif look.turn:
             return True
         told = {"server": self.name, "why": why, "time": int(time.time())}
-        return self.log.take("turn", told, look.turn_revision, self.turn_lease)
+        try:
+            return self.log.take("turn", told, look.turn_revision, self.turn_lease)
+        except NoLease:
+            # it ran out where etcd could not be reached
+            self.turn_lease = None
+            return False
 
     def hears_all(self, look: Look) -> bool:
         """Whether all others are there, as they told since they were asked: what was told before stands for a while."""
@@ -569,7 +575,7 @@ def say(words: str) -> None:
 # The command.
 
 
-def prepare(name: str, log: Log, place: Place, bases: Bases, topology: bytes | None = None) -> None:
+def prepare(name: str, log: Log, place: Place, bases: Bases) -> None:
     """Makes what a server begins with: a copy of its base, its pipes, and its identity. Before that nobody says of it any
     more what was true of the server before it."""
     silence(name, log)
@@ -629,7 +635,7 @@ def wait(follower: Follower) -> None:
 
 
 def words_beside(options: argparse.Namespace) -> list[str]:
-    """How a server is run beside (glb_tools/beside.py)."""
+    """How a server is run beside: by glb_tools.beside."""
     code = f"import sys; sys.argv[0] = 'glb-beside'; sys.path.append({str(Path(__file__).parent.parent)!r})"
     code += "; from glb_tools.options import start; start('beside')"
     words = [sys.executable, "-c", code, "--name", options.name, "--prefix", options.prefix]

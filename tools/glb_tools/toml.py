@@ -23,10 +23,13 @@ Span = tuple[int, int]
 Table = dict[str, Any]
 
 NAME, TEXT, NUMBER = r"[A-Za-z0-9_-]++", r'"[^"\\\x00-\x1f\x7f]*+"', r"(?:0|-?[1-9][0-9]{0,17}+)"
-SPACE, LINE_END = r"[ \t]*+", r"(?:\#[^\x00-\x08\x0a-\x1f\x7f]*+)?+(?:\r?\n|\Z)"
-BETWEEN = r"(?:[ \t\n]|\r\n)*+"
+SPACE, LINE_END = r"[ \t]*+", r"(?:\#[^\x00-\x08\x0a-\x1f\x7f]*+)?(?:\r?\n|\Z)"
+# what is possessive here is a set of characters: of groups Python 3.11.2 does not do it right. A group is repeated so often at
+# most, since each time takes memory
+BETWEEN = r"[ \t\n]*+(?:\r\n[ \t\n]*+){0,99}"
 ITEM = rf"{BETWEEN}(?:{TEXT}|{NUMBER}){BETWEEN}"
-ITEMS = rf"\[{ITEM}(?:,{ITEM})*+"
+# the longest list of a topology has all prefixes
+ITEMS = rf"\[{ITEM}(?:,{ITEM}){{0,262143}}"
 LIST, LIST_WITH_COMMA = rf"(?:{ITEMS}|\[{BETWEEN})\]", rf"{ITEMS},{BETWEEN}\]"
 LITERAL = r"'[^'\x00-\x08\x0a-\x1f\x7f]*+'"
 # by the number of the last group: a number, a text, a literal text, a flag, a list, a list that ends with a comma; a table of
@@ -113,7 +116,7 @@ class Plain:
         self.array = ""
 
 
-BLANK = re.compile(r"(?:[ \t\r\n]|#[^\n]*)*+")
+BLANK = re.compile(r"[ \t\r\n]*+(?:#[^\n]*+)?")
 BARE_KEY = re.compile(NAME)
 BARE_VALUE = re.compile(r"[^\s,\]}#]+")
 PLAIN_LIST = re.compile(rf"{LIST}|{LIST_WITH_COMMA}")
@@ -138,9 +141,8 @@ class Walk:
         self.walk()
 
     def sees(self, mark: str) -> bool:
-        found = BLANK.match(self.text, self.at)
-        assert found
-        self.at = found.end()
+        while (found := BLANK.match(self.text, self.at)) and found.end() > self.at:
+            self.at = found.end()
         return self.text.startswith(mark, self.at)
 
     def takes(self, mark: str) -> bool:

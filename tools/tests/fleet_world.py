@@ -361,7 +361,7 @@ class Host:
     def run(self, at=0, fault=None):
         """What comes next here: a start of the server, of its follower, or a step of that one. Whether it did something."""
         self.outside.plan(at, fault)
-        self.last = self.world.entries()[-1].number
+        self.last, self.listed = self.world.entries()[-1].number, self.world.listed()
         if not self.follower or not self.follower.asks:
             self.asked_at = self.world.moment
         try:
@@ -574,12 +574,13 @@ class World:
             if host.is_in:
                 host.last_in = self.moment
 
+    def listed(self):
+        return {item.name for item in self.table.within("glb/server/", "glb/server0")}
+
     def were_in(self, host):
         """Whether each other server of the list let queries in, at a moment since the host asked for it."""
-        listed = {item.name for item in self.table.within("glb/server/", "glb/server0")} - {
-            host.name
-        }
-        return all(other.last_in >= host.asked_at for other in self.hosts if other.name in listed)
+        others = (self.listed() & host.listed) - {host.name}
+        return all(other.last_in >= host.asked_at for other in self.hosts if other.name in others)
 
     def right_map(self, base, number):
         return map_of(base, self.due(base, number)[0])

@@ -97,6 +97,24 @@ class Readers(unittest.TestCase):
                 # the mark at the very beginning is none of the document's
                 self.assertRaises(Fault, Document, b"\xef\xbb\xbf" + text.encode(), "x.toml")
 
+    def test_long(self):
+        """What is long is read, by one or by the other, and needs no time that grows faster."""
+        most = 1 << 18
+        for text in (
+            "a = [" + "1, " * most + "2]",
+            "a = [" + "1, " * (most - 1) + "2]",
+            'a = ["' + '",\n"'.join(map(str, range(most))) + '",\n]',
+            "a = 1\n" + "\r\n" * 1000 + "b = [1,\r\n 2]\r\n",
+            "a = [" + "\r\n" * 1000 + "]",
+            "# a\n" * 100000 + "a = 1",
+            "a = '" + "x" * 1000000 + "'",
+        ):
+            with self.subTest(text[:20]):
+                self.assertEqual(Document(text.encode()).top, tomllib.loads(text))
+        for text in ("a = [" + "1, " * most, "a = [" + "\r\n" * most, 'a = "' + "x" * most):
+            with self.subTest(text[:20]):
+                self.assertRaises(Fault, Document, text.encode())
+
     def test_faults(self):
         for octets in (b"a = \xff", b"a = " + b"[" * 5000, b"a = " + b"9" * 5000):
             with self.subTest(octets[:8]), self.assertRaisesRegex(Fault, "^x.toml: "):
@@ -150,6 +168,12 @@ class Numbers(unittest.TestCase):
                 with self.subTest(text=text, digits=digits):
                     wrote = self.written(text.replace("X", digits), {("node", 1, "n"): 12345})
                     self.assertEqual(wrote, text.replace("X", "12345"))
+
+    def test_remarks(self):
+        text = "node = [" + "# n = 1\n" * 3000 + "{n = X}, # n\n\n # m\n ]"
+        self.assertEqual(
+            self.written(text.replace("X", "0x1"), {("node", 0, "n"): 7}), text.replace("X", "7")
+        )
 
     def test_not_found(self):
         """An array that is not one of tables has no such place."""
