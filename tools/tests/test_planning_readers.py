@@ -65,6 +65,12 @@ plugins => { geoip => {
       geoip2_db => City.mmdb, datacenters => [us, de, sg], auto_dc_limit => 2
       auto_dc_coords => { us => [38.9, -77], de => [50.1, 8.7], sg => [1.3, 103.9] }
     }
+    mixed => {
+      geoip2_db => City.mmdb, datacenters => [us, de, sg], auto_dc_limit => 0
+      auto_dc_coords => { de => [50.1, 8.7], sg => [1.3, 103.9] }
+      map => { EU => { default => auto, DE => { Berlin => us }, FR => { "75" => [de, us] } }, OC => [us], NA => { default => [sg, us] } }
+      nets => { 12.128.0.0/10 => sg }
+    }
     nets => { datacenters => [us, de], nets => nets.txt }
   }
   resources => {
@@ -95,7 +101,12 @@ KNOT_PLACES = """cdn.example.:
   - geo: "*;*"
     A: 192.0.2.3
 """
-POWERDNS = """domains:
+POWERDNS = """mapping_lookup_formats: ['%cc-%re', '%cc']
+custom_mapping:
+  de: eu
+  us-tx: na
+  ch: nowhere
+domains:
 - domain: cdn.example
   ttl: 30
   records:
@@ -117,6 +128,7 @@ POWERDNS = """domains:
       10.1.0.0/16: 'na.dc.cdn.example'
       10.1.2.0/24: [ 'no.dc.cdn.example', 'eu.dc.cdn.example' ]
       2001:db8::/32: 'eu.dc.cdn.example'
+    map.cdn.example: [ '%mp.dc.cdn.example', 'unknown.dc.cdn.example' ]
 """
 
 
@@ -257,7 +269,7 @@ class Gdnsd(Import):
     @needs("maxminddb")
     @installed("gdnsd_geoip_test")
     def test_as_gdnsd_maps(self):
-        for name in ("prod", "auto", "nets"):
+        for name in ("prod", "auto", "mixed", "nets"):
             self.imported("gdnsd", self.path / "gdnsd", "--name", name, into=name)
             for address in ADDRESSES:
                 words = ["gdnsd_geoip_test", "-c", str(self.path / "gdnsd"), name, address]
@@ -265,6 +277,14 @@ class Gdnsd(Import):
                 self.assertEqual(ended.returncode, 0, ended.stderr)
                 order = ended.stdout.strip().split("\n")[-1].split("=> ")[-1].split(", ")
                 self.assertEqual(self.order_of(address, name), order, (name, address))
+
+    @needs("maxminddb")
+    def test_networks_that_are_sent_nowhere_are_told(self):
+        text = GDNSD.replace("NA => { default => [sg, us] }", "NA => []")
+        self.put("gdnsd/config", text.replace("12.128.0.0/10 => sg", "12.128.0.0/10 => []"))
+        out = self.imported("gdnsd", self.path / "gdnsd", "--name", "mixed")
+        self.assertIn("not carried over: networks that are sent nowhere (an empty array)", out)
+        self.assertEqual(self.order_of("12.128.0.1"), ["us", "de", "sg"])
 
     def test_without_its_database_the_map_is_lost(self):
         (self.path / "gdnsd/geoip/City.mmdb").unlink()
@@ -274,7 +294,9 @@ class Gdnsd(Import):
 
     def test_which_map(self):
         said = self.refused("gdnsd", self.path / "gdnsd")
-        self.assertEqual(said, "gdnsd/config: name one of the maps with --name: prod, auto, nets")
+        self.assertEqual(
+            said, "gdnsd/config: name one of the maps with --name: prod, auto, mixed, nets"
+        )
 
     def test_faults_have_their_lines(self):
         cases = {
@@ -385,7 +407,9 @@ class Knot(Import):
 @needs("yaml")
 class PowerDns(Import):
     def test_networks(self):
-        out = self.imported("powerdns", self.put("zones.yaml", POWERDNS))
+        out = self.imported(
+            "powerdns", self.put("zones.yaml", POWERDNS), "--name", "www.cdn.example"
+        )
         self.assertEqual(self.order_of("10.1.0.1"), ["na.dc"])
         self.assertEqual(self.order_of("10.1.2.1"), ["no.dc", "eu.dc"])
         self.assertEqual(self.order_of("2001:db8::1"), ["eu.dc"])
@@ -396,7 +420,8 @@ class PowerDns(Import):
 
     @needs("maxminddb")
     def test_places(self):
-        self.imported("powerdns", self.put("zones.yaml", POWERDNS), "--mmdb", self.database())
+        path, database = self.put("zones.yaml", POWERDNS), self.database()
+        self.imported("powerdns", path, "--mmdb", database, "--name", "www.cdn.example")
         self.assertEqual(self.order_of("10.2.0.1"), ["eu.dc", "unknown.dc"])
         self.assertEqual(self.order_of("12.0.0.1"), ["na.dc", "unknown.dc"])
         self.assertEqual(self.order_of("10.1.2.1"), ["no.dc", "eu.dc"])
@@ -409,26 +434,34 @@ class PowerDns(Import):
             f"{path.name}: no zones file of the backend geoip: there is no list `domains`",
         )
         path = self.put("zones.yaml", POWERDNS.replace("10.1.0.0/16", "10.1"))
-        self.assertEqual(self.refused("powerdns", path), f"{path.name}: `10.1` is no network")
+        said = self.refused("powerdns", path, "--name", "www.cdn.example")
+        self.assertEqual(said, f"{path.name}: `10.1` is no network")
+        said = self.refused("powerdns", path)
+        choices = "www.cdn.example, map.cdn.example"
+        self.assertEqual(said, f"{path.name}: choose a service with --name: {choices}")
 
     @needs("maxminddb")
     @installed("pdns_server", "dig")
     def test_as_powerdns_answers(self):
         database, port = self.database(), free_port()
-        self.imported("powerdns", self.put("zones.yaml", POWERDNS), "--mmdb", database)
+        path = self.put("zones.yaml", POWERDNS)
+        services = ("www.cdn.example", "map.cdn.example")
+        for service in services:
+            self.imported("powerdns", path, "--mmdb", database, "--name", service, into=service)
         self.put(
             "pdns.conf",
             f"launch=geoip\ngeoip-zones-file={self.path}/zones.yaml\ngeoip-database-files=mmdb:{database}\n"
             f"edns-subnet-processing=yes\nlocal-address=127.0.0.1\nlocal-port={port}\nsocket-dir={self.path}\n"
             "daemon=no\nguardian=no\ndisable-syslog=yes\ncache-ttl=0\nquery-cache-ttl=0\nnegquery-cache-ttl=0\nzone-cache-refresh-interval=0\n",
         )
-        pools = self.addresses()
         words = ["pdns_server", f"--config-dir={self.path}"]
         with server(self, words, port, "cdn.example"):
-            for client in ADDRESSES:
-                order = self.order_of(client)
-                expected = [x for x in pools[order[0]] if "." in x]
-                self.assertEqual(asked(port, "www.cdn.example", "A", client), expected, client)
+            for service in services:
+                pools = self.addresses(service)
+                for client in ADDRESSES:
+                    order = self.order_of(client, service)
+                    expected = [x for x in pools[order[0]] if "." in x]
+                    self.assertEqual(asked(port, service, "A", client), expected, client)
 
 
 LOCATIONS = """geoname_id,locale_code,continent_code,continent_name,country_iso_code,country_name,subdivision_1_iso_code,subdivision_1_name,subdivision_2_iso_code,subdivision_2_name,city_name,metro_code,time_zone,is_in_european_union

@@ -382,6 +382,26 @@ class Refusals(unittest.TestCase):
         folder.put("pools.csv", "pool,parent,capacity,addresses\n")
         self.refused(folder, "pools.csv: there is no pool")
 
+    def test_groups_with_a_last_resort_alone_in_common(self):
+        folder = Folder(self)
+        folder.swap("plan.toml", 'rest = "rest"', 'rest = "rest"\nlast_resort = "last"\ngroups = 3')
+        pools = (folder.path / "pools.csv").read_text()
+        folder.put("pools.csv", pools + "last,,max,192.0.2.9\n")
+        folder.swap("rtt.csv", "nl,fra,10\nnl,nyc,85.5\n", "")
+        self.refused(
+            folder,
+            "4 groups and classes are left, and 3 are allowed: what is left has no pools in common",
+        )
+
+    def test_a_group_with_a_last_resort_alone(self):
+        folder = Folder(self)
+        folder.swap("plan.toml", 'rest = "rest"', 'rest = "rest"\nlast_resort = "fra"')
+        folder.swap("rtt.csv", "rest,nyc,50\n", "")
+        self.refused(
+            folder,
+            "prefixes.csv, line 5, column group: no row of rtt.csv offers `rest` a pool that can serve it",
+        )
+
     def test_a_service_that_no_pool_of_a_class_has(self):
         folder = Folder(self)
         folder.put(

@@ -11,7 +11,7 @@ from glb_tools.planning.lists import Lists, by_price, by_round_trip
 from glb_tools.planning.merge import merged
 from glb_tools.planning.prefixes import aggregated
 from glb_tools.planning.prices import Plan, Problem, solved
-from glb_tools.planning.world import PER_MS, Numbers, Prefix, World, read_world
+from glb_tools.planning.world import PER_MS, Numbers, Prefix, World, read_world, with_last_resort
 from glb_tools.text import MOST_UNITS
 
 
@@ -46,45 +46,59 @@ def plan_of(path: Path, seconds: float, is_by_round_trip: bool) -> Made:
     if len(world.units) > choices.lists.groups:
         with Progress("merges groups"):
             world, into = fewer(choices, world, seconds, notes)
+    last = -1
+    if choices.lists.last_resort:
+        last = [node.name for node in world.nodes].index(choices.lists.last_resort)
+        world = with_last_resort(world, last, round(choices.lists.unplaced * PER_MS))
     with Progress("joins prefixes"):
         prefixes = aggregated(world.prefixes)
-    if len(prefixes) < len(world.prefixes):
-        notes.append(f"{len(world.prefixes):,} prefixes became {len(prefixes):,} that say the same")
-    limits = limits_of(choices, world)
+    limits = limits_of(choices, world, last)
     problem = problem_of(choices, world, limits)
+    notes += notes_on(choices, world, problem, prefixes, last)
     with Progress("looks for the optimum"):
         best = solved(problem, seconds)
-    plan = best
-    if choices.lists.head_room:
+    plan, lists = best, by_round_trip(problem, choices.lists.length)
+    if not is_by_round_trip:
         with Progress("looks for prices"):
-            plan = solved(with_head_room(choices, problem), seconds)
-    if is_by_round_trip:
-        lists = by_round_trip(problem, choices.lists.length)
-    else:
-        planned = with_head_room(choices, problem)
-        lists = by_price(planned, plan, choices.lists.length, choices.lists.price_weight)
-    last = next(
-        (at for at, node in enumerate(world.nodes) if node.name == choices.lists.last_resort), -1
-    )
-    far = int((world.offer_cost[world.offer_pool != last] >= problem.unplaced).sum())
-    if far:
-        notes.append(
-            f"{far:,} round trips are as long as `unplaced`, {choices.lists.unplaced:g} ms, or longer: the optimum does not use them, and maps do"
-        )
+            plan, lists = priced(choices, problem, best, seconds)
     return Made(
         choices, world, problem, best, plan, lists, limits, prefixes, last, into, names, notes
     )
 
 
-def limits_of(choices: Choices, world: World) -> Numbers | None:
+def priced(choices: Choices, problem: Problem, best: Plan, seconds: float) -> tuple[Plan, Lists]:
+    """Lists by price; with head room the prices are those of less capacity, so that they rise ahead of the rush."""
+    share, plan = choices.lists.head_room, best
+    if share:
+        capacity = np.floor(problem.capacity * (1 - share)).astype(np.int64)
+        problem = replace(problem, capacity=capacity)
+        plan = solved(problem, seconds)
+    return plan, by_price(problem, plan, choices.lists.length, choices.lists.price_weight)
+
+
+def notes_on(
+    choices: Choices, world: World, problem: Problem, prefixes: dict[Prefix, int], last: int
+) -> list[str]:
+    notes = []
+    if len(prefixes) < len(world.prefixes):
+        notes.append(f"{len(world.prefixes):,} prefixes became {len(prefixes):,} that say the same")
+    far = int((world.offer_cost[world.offer_pool != last] >= problem.unplaced).sum())
+    if far:
+        notes.append(
+            f"{far:,} round trips are as long as `unplaced`, {choices.lists.unplaced:g} ms, or longer:"
+            " the optimum does not use them, and maps do"
+        )
+    return notes
+
+
+def limits_of(choices: Choices, world: World, last: int) -> Numbers | None:
     """The most of each offer, where a group may not be at one pool alone."""
     share = choices.lists.most_at_one_pool
     if share == 1:
         return None
     most: Numbers = np.maximum(np.ceil(share * world.demand - 1e-9), 1).astype(np.int64)
     limits = most[world.offer_unit]
-    is_last = [node.name == choices.lists.last_resort for node in world.nodes]
-    limits[np.array(is_last)[world.offer_pool]] = MOST_UNITS
+    limits[world.offer_pool == last] = MOST_UNITS
     return limits
 
 
@@ -101,15 +115,6 @@ def problem_of(choices: Choices, world: World, limits: Numbers | None) -> Proble
     )
 
 
-def with_head_room(choices: Choices, problem: Problem) -> Problem:
-    """The problem with less capacity everywhere, so that prices rise ahead of the rush."""
-    share = choices.lists.head_room
-    if not share:
-        return problem
-    capacity = np.floor(problem.capacity * (1 - share)).astype(np.int64)
-    return replace(problem, capacity=capacity)
-
-
 def fewer(
     choices: Choices, world: World, seconds: float, notes: list[str]
 ) -> tuple[World, list[int]]:
@@ -117,7 +122,7 @@ def fewer(
     found = merged(world, choices.lists.groups)
     costs = []
     for some in (world, found.world):
-        problem = problem_of(choices, some, limits_of(choices, some))
+        problem = problem_of(choices, some, limits_of(choices, some, -1))
         try:
             costs.append(f"{solved(problem, seconds).cost / int(some.demand.sum()) / PER_MS:.3f}")
         except Fault:

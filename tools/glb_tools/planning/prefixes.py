@@ -1,5 +1,7 @@
 """Fewer prefixes that say the same: each address keeps its group."""
 
+import ipaddress
+
 from glb_tools.planning.world import Prefix
 
 BITS = {4: 32, 6: 128}
@@ -52,8 +54,6 @@ def leave_out(levels: list[dict[int, int]], bits: int) -> None:
 
 
 def text_of(prefix: Prefix) -> str:
-    import ipaddress
-
     family, start, length = prefix
     kind = ipaddress.IPv4Address if family == 4 else ipaddress.IPv6Address
     return f"{kind(start)}/{length}"

@@ -2,7 +2,7 @@
 
 import ipaddress
 from collections.abc import Iterable
-from dataclasses import dataclass, field
+from dataclasses import dataclass, field, replace
 from pathlib import Path
 
 import numpy as np
@@ -399,8 +399,7 @@ def offers_of(
     trips: RoundTrips,
 ) -> tuple[Numbers, Numbers, Numbers]:
     """The offers of all units: those of a class are its group's, at pools that have its service."""
-    last = node_at.get(choices.lists.last_resort, -1)
-    keep = trips.pool != last
+    keep = trips.pool != node_at.get(choices.lists.last_resort, -1)
     group, pool, cost = trips.group[keep], trips.pool[keep], trips.cost[keep]
     starts = np.searchsorted(group, np.arange(groups + 1))
     needed: list[set[str]] = [set(choices.services) for _ in range(groups)]
@@ -418,24 +417,24 @@ def offers_of(
         pieces.append(places)
     at = np.concatenate(pieces) if pieces else np.zeros(0, np.int64)
     unit_of = np.repeat(np.arange(len(pieces)), [len(piece) for piece in pieces])
-    found = unit_of, pool[at], cost[at]
-    return found if last < 0 else with_last(found, last, len(pieces), choices)
+    return unit_of, pool[at], cost[at]
 
 
 def serves(node: Node, wanted: Iterable[str]) -> bool:
     return not node.services or node.services.issuperset(wanted)
 
 
-def with_last(
-    found: tuple[Numbers, Numbers, Numbers], last: int, units: int, choices: Choices
-) -> tuple[Numbers, Numbers, Numbers]:
-    """The offers, and one of the pool of last resort for each unit, as dear as being placed nowhere."""
-    unit, pool, cost = found
-    dear = round(choices.lists.unplaced * PER_MS)
-    unit = np.concatenate([unit, np.arange(units)])
+def with_last_resort(world: World, last: int, cost: int) -> World:
+    """The world with an offer of one pool more for each unit."""
+    units = len(world.units)
+    unit = np.concatenate([world.offer_unit, np.arange(units)])
     order = np.argsort(unit, kind="stable")
-    pool = np.concatenate([pool, np.full(units, last)])[order]
-    return unit[order], pool, np.concatenate([cost, np.full(units, dear)])[order]
+    return replace(
+        world,
+        offer_unit=unit[order],
+        offer_pool=np.concatenate([world.offer_pool, np.full(units, last)])[order],
+        offer_cost=np.concatenate([world.offer_cost, np.full(units, cost)])[order],
+    )
 
 
 def check_offers(choices: Choices, world: World, rows: list[Row]) -> None:

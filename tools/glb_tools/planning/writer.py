@@ -3,7 +3,7 @@
 from collections.abc import Iterator
 
 from glb_tools.options import Fault
-from glb_tools.planning.choices import MOST_GROUPS, Choices
+from glb_tools.planning.choices import Choices
 from glb_tools.planning.lists import Lists
 from glb_tools.planning.prefixes import text_of
 from glb_tools.planning.world import Node, Numbers, World
@@ -27,13 +27,9 @@ def listed(items: list[str]) -> str:
 
 
 def value(item: object) -> str:
-    return (
-        listed([quoted(x) for x in item])
-        if isinstance(item, list)
-        else quoted(item)
-        if isinstance(item, str)
-        else str(item)
-    )
+    if isinstance(item, list):
+        return listed([quoted(text) for text in item])
+    return quoted(item) if isinstance(item, str) else str(item)
 
 
 def node_text(node: Node) -> str:
@@ -55,10 +51,6 @@ class Writer:
     def __init__(
         self, choices: Choices, world: World, prefixes: dict[tuple[int, int, int], int]
     ) -> None:
-        if len(world.units) > MOST_GROUPS:
-            raise Fault(
-                f"there are {len(world.units):,} groups and classes; `glb` takes {MOST_GROUPS:,}: set `groups` in {choices.path}"
-            )
         if len(prefixes) > choices.lists.prefixes:
             raise Fault(
                 f"there are {len(prefixes):,} prefixes when those that say the same are joined; {choices.lists.prefixes:,} are allowed"

@@ -8,7 +8,7 @@ from dataclasses import dataclass, field
 from pathlib import Path
 from typing import Any
 
-from glb_tools.options import Fault, Progress
+from glb_tools.options import Fault
 from glb_tools.planning.readers.found import Found, Place, plain_name
 from glb_tools.planning.table import shown
 from glb_tools.planning.world import Prefix
@@ -177,8 +177,7 @@ def sites_of(
 
 
 def read_mmdb(path: Path, by: str) -> Found:
-    with Progress(f"reads {path}"):
-        found = grouped(networks(path), by)
+    found = grouped(networks(path), by)
     found.lose("names in other languages than English, time zones, accuracy")
     return found
 

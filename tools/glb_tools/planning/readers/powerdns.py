@@ -92,7 +92,6 @@ class Zones:
             "re": site.regions[0] if site.regions else "unknown",
             "ci": site.city or "unknown",
             "mp": self.mapped(site),
-            "%%": "%",
         }
         for key in PLACEHOLDER.findall(template):
             if key not in values:
