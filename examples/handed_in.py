@@ -199,9 +199,9 @@ def main():
     expect("one socket, two workers", over_restarts(handed, port, 2), 40)
     # what is none of UDP that is bound there is left alone
     other, elsewhere = datagrams(1)
-    handed, port = datagrams(2)
+    handed, beside, port = both(2)
     with open("/dev/null", "rb") as file:
-        all_of_it = [file, *other, handed[0], listener(port), handed[1]]
+        all_of_it = [file, *other, handed[0], beside, handed[1]]
         server = Server(all_of_it, port)
         client(elsewhere).send(QUERY)
         expect("two sockets among others", ask(port), 64)
