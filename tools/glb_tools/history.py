@@ -2,7 +2,7 @@
 
 from collections.abc import Iterator
 
-from glb_tools.log import BATCH, Base, Log, Look, checksum_of, left_in, place_of, with_place
+from glb_tools.log import BATCH, Base, Entry, Log, Look, checksum_of, left_in, place_of, with_place
 from glb_tools.options import Fault
 from glb_tools.text import Change, Replay
 from glb_tools.topology import Topology, written
@@ -26,12 +26,16 @@ def topology_of(log: Log, base: Base) -> bytes:
 def feed(log: Log, look: Look, base: Base, number: int) -> Iterator[str]:
     """The batches that a server of a base is handed, from its start up to an entry, each with its commit."""
     for entry in log.entries(base.upto + 1, number):
-        newest = look.base_at(entry.number)
-        lines = entry.lines
-        if entry.kind == BATCH and newest and newest.checksum != base.checksum:
-            lines = left_in(lines, log.names(base.checksum), log.names(newest.checksum))
-        if lines:
+        if lines := handed(log, look, base, entry):
             yield f"{lines}commit\n"
+
+
+def handed(log: Log, look: Look, base: Base, entry: Entry) -> str:
+    """The lines of an entry that a server of a base is handed."""
+    newest = look.base_at(entry.number)
+    if entry.kind != BATCH or newest is None or newest.checksum == base.checksum:
+        return entry.lines
+    return left_in(entry.lines, log.names(base.checksum), log.names(newest.checksum))
 
 
 def numbers_at(log: Log, look: Look, base: Base, topology: Topology, number: int) -> Replay:

@@ -17,7 +17,8 @@ from pathlib import Path
 from typing import BinaryIO, NoReturn
 
 from glb_tools.etcd import Unreachable
-from glb_tools.log import Base, Entry, Log, Look, left_in
+from glb_tools.history import handed
+from glb_tools.log import Base, Entry, Log, Look
 from glb_tools.options import Fault, tell
 from glb_tools.text import Replay
 from glb_tools.topology import Topology
@@ -305,18 +306,21 @@ class FleetWorker(Worker):
 
     def follow_from(self, shadow: Shadow, base: Base) -> None:
         """Works the entries behind a base, until there is a newer one: then it goes over, at once."""
-        entry, chain, summed = base.upto, base.chain, -1
+        entry, chain, summed, when = base.upto, base.chain, -1, time.monotonic()
         while (look := self.look(entry)) is None or look.newest == base:
-            new = behind(look, entry, chain) if look else []
-            for found in new:
-                if lines := self.lines_of(found, base, look):
-                    shadow.work(lines)
-                entry, chain = found.number, found.checksum
             if look is None:
                 summed = -1
-            elif not new and summed != entry:
+                self.rest(min(self.every, SELDOM))
+                continue
+            new = behind(look, entry, chain)
+            for found in new:
+                if lines := handed(self.log, look, base, found):
+                    shadow.work(lines)
+                entry, chain = found.number, found.checksum
+            # now and then also where entries come without an end
+            if summed != entry and (not new or time.monotonic() - when > self.every):
                 self.sum_up(shadow, entry)
-                summed = entry
+                summed, when = entry, time.monotonic()
             if not new:
                 self.rest(min(self.every, SELDOM))
 
@@ -328,14 +332,6 @@ class FleetWorker(Worker):
             tell(why)
             self.is_up = False
             return None
-
-    def lines_of(self, entry: Entry, newest: Base, look: Look | None) -> str:
-        """The lines that a server of the newest base is handed."""
-        base = look.base_at(entry.number) if look else None
-        lines = entry.lines
-        if not lines or base is None or base.checksum == newest.checksum:
-            return lines
-        return left_in(lines, self.log.names(newest.checksum), self.log.names(base.checksum))
 
 
 def behind(look: Look, entry: int, chain: str) -> list[Entry]:

@@ -195,7 +195,7 @@ class Entries:
 
     def __init__(self, topology, *batches):
         self.base = SimpleNamespace(number=1, checksum="b" * 64, upto=0, chain="")
-        self.text, self.is_away = topology, False
+        self.text, self.is_away, self.is_endless = topology, False, False
         self.batches = list(batches)
 
     def newest_base(self):
@@ -207,9 +207,12 @@ class Entries:
     def look(self, number):
         if self.is_away:
             raise Unreachable("nobody answers")
+        if self.is_endless:
+            self.batches.append(f"demand g1 {len(self.batches)}\n")
         every = [
             SimpleNamespace(
                 number=n,
+                kind="batch",
                 lines=lines,
                 checksum=f"sum {n} {lines}",
             )
@@ -249,6 +252,18 @@ class Fleets(Played):
         self.assertIn("nobody answers", self.told()[0])
         self.assertTrue(any("entry 4 of the log is not the one" in why for why in self.told()))
         self.assertIn("is not in etcd", self.told()[-1])
+
+    def test_a_log_without_an_end(self):
+        """It is summed up now and then, and at its end."""
+        log = Entries(SMALL.encode(), "", "demand g1 5\n")
+        log.is_endless = True
+        worker = FleetWorker(self.program, 0.02, log)
+        self.start(worker)
+        until(lambda: worker.loads and worker.loads.entry > 40)
+        log.is_endless = False
+        until(lambda: worker.loads.entry == len(log.batches))
+        self.assertEqual(worker.loads.placed, len(log.batches) - 1)
+        self.assertEqual(self.told(), [])
 
 
 @unittest.skipUnless(os.environ.get("GLB"), "GLB does not name the program")
