@@ -14,7 +14,7 @@ folder=${2:-.}
 glb=${GLB:-$top/crates/glb_program/out/glb_program}
 maintainer="${DEBFULLNAME:-Whoever built it} <${DEBEMAIL:-root@localhost}>"
 # what a server needs, with Python's own library alone; all others are of glb-tools
-server_commands="append follow fleet log roll"
+server_commands="append follow fleet launch log roll"
 roots=$(mktemp -d)
 trap 'rm -rf "$roots"' EXIT
 umask 022

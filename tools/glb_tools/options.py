@@ -1,6 +1,7 @@
 """What all commands share: options, exit statuses, faults in one line, progress, and files that are written whole."""
 
 import argparse
+import ast
 import errno
 import importlib
 import os
@@ -164,10 +165,30 @@ def start(name: str) -> NoReturn:
             package = PACKAGES.get(str(why.name).partition(".")[0])
             if package is None:
                 raise
-            raise Fault(f"the package {package} is not installed") from None
+            if not told_without(name, sys.argv[1:], package):
+                raise Fault(f"the package {package} is not installed") from None
+            found = DONE
         return found
 
     run(main)
+
+
+def told_without(name: str, words: list[str], package: str) -> bool:
+    """Whether no more than help or the version is asked for, which is told though a package is missing."""
+    if "--help" in words or "-h" in words:
+        tree = ast.parse(
+            Path(__file__).parent.joinpath(*name.split(".")).with_suffix(".py").read_text()
+        )
+        print(ast.get_docstring(tree))
+        print(
+            f"(the package {package} is not installed; with it the options are listed)",
+            file=sys.stderr,
+        )
+    elif "--version" in words:
+        print(f"{Path(sys.argv[0]).name} {VERSION}")
+    else:
+        return False
+    return True
 
 
 class Progress:

@@ -120,6 +120,9 @@ def main() -> int:
     sys.path.insert(0, str(HERE))
     sys.path.append(str(HERE.parent))
     names, began = sys.argv[1:], time.monotonic()
+    if "--help" in names:
+        print(__doc__)
+        return 0
     if names:
         counts = counted(unittest.TestSuite(tests_of(name) for name in names), sys.stderr)
     else:

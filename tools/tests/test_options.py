@@ -5,10 +5,11 @@ import io
 import sys
 import tempfile
 import unittest
+import unittest.mock
 from pathlib import Path
 
 from glb_tools import VERSION
-from glb_tools.options import Fault, parser, told, write_file, written_whole
+from glb_tools.options import Fault, parser, start, told, write_file, written_whole
 
 
 def ended(main):
@@ -69,6 +70,30 @@ class Words(unittest.TestCase):
         text = parser("glb-try", "Tries.", {2: "two"}).format_help()
         for status in (0, 1, 2, 64, 70, 130, 141):
             self.assertRegex(text, rf"(?m)^  {status} ")
+
+    def test_help_and_version_without_a_package(self):
+        missing = ModuleNotFoundError(name="numpy.linalg")
+        for words, status, text in (
+            (["--help"], 0, "glb-moves OLD NEW"),
+            (["--version"], 0, f"glb-try {VERSION}"),
+            (["x"], 1, ""),
+        ):
+            out, said = io.StringIO(), io.StringIO()
+            with (
+                unittest.mock.patch.object(sys, "argv", ["/usr/bin/glb-try", *words]),
+                # which would close this process's own outputs
+                unittest.mock.patch("glb_tools.options.run", lambda main: sys.exit(told(main))),
+                unittest.mock.patch("importlib.import_module", side_effect=missing),
+                contextlib.redirect_stdout(out),
+                contextlib.redirect_stderr(said),
+                self.assertRaises(SystemExit) as ends,
+            ):
+                start("moves")
+            self.assertEqual(ends.exception.code, status, words)
+            self.assertIn(text, out.getvalue())
+            self.assertEqual(
+                "python3-numpy is not installed" in said.getvalue(), words != ["--version"]
+            )
 
     def test_version(self):
         out = io.StringIO()
