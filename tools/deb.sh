@@ -101,8 +101,11 @@ for unit in "$top"/examples/*.service "$top"/examples/*.timer; do
 done
 install -D -m 644 "$top/docs/glb.1" "$server/usr/share/man/man1/glb.1"
 gzip -9n "$server/usr/share/man/man1/glb.1"
-install -D -m 644 -t "$server/usr/share/doc/glb" "$top"/README.md "$top"/docs/{FORMATS,OPERATING,PROVED,DECISIONS}.md
+install -D -m 644 -t "$server/usr/share/doc/glb" "$top"/README.md "$top"/docs/{FORMATS,OPERATING,PROVED,DECISIONS,STATEMENT,HOW-IT-WORKS}.md
 install -D -m 644 -t "$server/usr/share/doc/glb/examples" "$top"/examples/*.toml "$top"/examples/*.map "$top"/examples/*.changes "$top"/examples/*.socket "$top"/examples/glb-ready.nft "$top"/examples/queries.txt
+# the launcher's settings of the unit: a server is begun by it where they are put beside the unit
+install -D -m 644 "$top/examples/glb-launch.conf" "$server/usr/share/doc/glb/examples/glb-launch.conf"
+sed -i -e 's,/usr/local/bin/glb,/usr/bin/glb,g' -e 's,/usr/local/lib/glb/,/usr/bin/,g' "$server/usr/share/doc/glb/examples/glb-launch.conf"
 install -D -m 755 "$top/examples/glb-ready" "$server/usr/bin/glb-ready"
 install_settings "$server" "$top/examples/glb.default" etc/default/glb
 install -d "$server/etc/glb"

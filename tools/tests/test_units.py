@@ -107,6 +107,29 @@ class Verified(Case):
         ]
         self.assertEqual(lines, [])
 
+    def test_nothing_but_what_it_needs(self):
+        """What `systemd-analyze security` finds open, in tenths of its points: at most 2.0 of 10."""
+        for path in SERVICES:
+            with self.subTest(path.name):
+                words = [
+                    "systemd-analyze",
+                    "security",
+                    "--offline=true",
+                    "--threshold=20",
+                    str(path),
+                ]
+                found = subprocess.run(words, capture_output=True, timeout=120)
+                self.assertEqual(found.returncode, 0, found.stdout[-200:])
+
+
+class Launcher(unittest.TestCase):
+    def test_it_begins_what_the_unit_begins(self):
+        """The settings for glb-launch name the server's own words, whatever else stands around them."""
+        conf, unit = EXAMPLES / "glb-launch.conf", EXAMPLES / "glb.service"
+        words = re.search(r"exec (/usr/local/bin/glb .*)'", value(unit, "ExecStart"))[1]
+        line = re.findall(r"(?m)^ExecStart=(.*)$", conf.read_text())[-1]
+        self.assertTrue(line.endswith(f" -- {words}'"), line)
+
 
 if __name__ == "__main__":
     unittest.main()
