@@ -215,6 +215,11 @@ def told_in(octets: bytes) -> dict[str, Any]:
         return {}
 
 
+def plain(text: str) -> str:
+    """What of a text may be shown on a terminal: anybody may have put it."""
+    return "".join(letter if letter.isprintable() else "?" for letter in text)
+
+
 def spot_of(number: int, checksum: str) -> str:
     """An entry in a few letters, by its number and its checksum: of another log's entry with that number it is another."""
     return f"{number}.{checksum[:6]}"
