@@ -151,7 +151,10 @@ def main() -> int:
     log = Log(etcd_of(options), options.prefix)
     if options.compact:
         with Progress("makes room in etcd"):
-            print(f"etcd has no history before revision {log.etcd.make_room()}")
+            revision, silent = log.etcd.make_room()
+        print(f"etcd has no history before revision {revision}")
+        for member in silent:
+            print(f"{member} did not answer: its room is not given back", file=sys.stderr)
     elif options.at is not None:
         write_at(log, options.at, options)
     elif options.json:
