@@ -96,16 +96,22 @@ BLOCKS = {
     ),
     "apt-get install etcd": Block(
         ("tr '\\0' ' ' </proc/$(systemctl show --value -p MainPID glb-follow@v4)/cmdline", ".*glb-follow --name .*"),
-        ("sleep 2; glb-fleet", r"(?s)the log ends at entry 1\n\S*-v4: there, entry 1 .*"),
+        ("sleep 3; glb-fleet", r"(?s)the log ends at entry 2, .*\n\S*-v4: there, entry 2 .*"),
         (ANSWER.format("192.0.2.53"), ADDRESS),
-        ("kill -9 $(systemctl show --value -p MainPID glb-fleet@v4); printf 'demand g1 7\\n' | glb-append; sleep 6; glb-fleet", r"(?s)2\nthe log ends at entry 2\n\S*-v4: there, entry 2 .*"),
-        ("kill -9 $(systemctl show --value -p MainPID glb-follow@v4); printf 'demand g1 8\\n' | glb-append; sleep 6; glb-fleet", r"(?s)3\nthe log ends at entry 3\n\S*-v4: there, entry 3 .*"),
-        before="printf 'ETCD_LISTEN_CLIENT_URLS=http://192.0.2.1:2379\\nETCD_ADVERTISE_CLIENT_URLS=http://192.0.2.1:2379\\n' >/etc/default/etcd; systemctl start etcd",
+        ("nft list set inet glb_ready ready | grep -c 192.0.2.53", "1"),
+        ("kill -9 $(systemctl show --value -p MainPID glb-fleet@v4); printf 'demand g1 7\\n' | glb-append; sleep 6; glb-fleet", r"(?s)3\n.*-v4: there, entry 3 .*"),
+        ("kill -9 $(systemctl show --value -p MainPID glb-follow@v4); printf 'demand g1 8\\n' | glb-append; sleep 6; glb-fleet", r"(?s)4\n.*-v4: there, entry 4 .*"),
+        ("systemctl stop glb-fleet@v4; sleep 1; nft list set inet glb_ready ready | grep -c 192.0.2.53; glb-fleet | grep -c 'v4: ended'; systemctl start glb-fleet@v4; sleep 4; nft list set inet glb_ready ready | grep -c 192.0.2.53", "0\n1\n1"),
+        before="printf 'ETCD_LISTEN_CLIENT_URLS=http://192.0.2.1:2379\\nETCD_ADVERTISE_CLIENT_URLS=http://192.0.2.1:2379\\n' >/etc/default/etcd; systemctl start etcd; cp examples/tree.toml topology.toml",
     ),
-    "glb-append --numbers": Block(("sleep 5; printf 'demand g1 5\\n' | glb-append; sleep 2; glb-fleet", r"(?s)5\nthe log ends at entry 5\n\S*-v4: there, entry 5 \(behind 0\), serial 1, .*")),
+    "glb-roll new.toml": Block(
+        ("glb-fleet", r"(?s)the log ends at entry 6, .*\n\S*-v4: there, entry 6 .*"),
+        before="sed 's/^ttl = .*/ttl = 30/' topology.toml >new.toml",
+    ),
+    "glb-append --cut": Block(("printf 'demand g1 5\\n' | glb-append; sleep 2; glb-fleet", r"(?s)7\n.*-v4: there, entry 7 .*")),
 }
 # blocks that documents.py runs, or that show a form
-OTHERS = ("$ ", "glb serve TOPOLOGY", "ETCD_NAME=")
+OTHERS = ("$ ", "glb serve TOPOLOGY", "ETCD_NAME=", "export ETCDCTL_API=3")
 # commands of the text and its tables, behind which block they are run, and what they have to write
 INLINE = [
     ("useradd --system", "systemctl start glb && sleep 2 && systemctl is-active glb && dig +tries=1 +time=1 @192.0.2.53 www.cdn.example A", "(?s)active.*status: NOERROR.*"),

@@ -250,17 +250,21 @@ class Etcd:
         except (OSError, HTTPException, *NONSENSE):
             return None
 
-    def make_room(self) -> int:
-        """Gives up all history, has each member give back the room, and takes back the alarm; says the revision."""
-        revision = self.txn([one("/")]).revision
+    def make_room(self) -> tuple[int, list[str]]:
+        """Gives up all history, has each member give back the room, and takes back the alarm; says the revision, and the
+        members that did not answer."""
+        revision, silent = self.txn([one("/")]).revision, []
         self.call("/v3/kv/compaction", {"revision": str(revision), "physical": True})
         for member in list(self.members):
-            # a member stands still meanwhile
-            with self.open(member, "/v3/maintenance/defragment", {}, DEFRAGMENT) as answer:
-                answer.read()
+            try:
+                # a member stands still meanwhile
+                with self.open(member, "/v3/maintenance/defragment", {}, DEFRAGMENT) as answer:
+                    answer.read()
+            except (OSError, HTTPException):
+                silent.append(member)
         for alarm in self.alarms():
             self.call("/v3/maintenance/alarm", {"action": "DEACTIVATE", **alarm})
-        return revision
+        return revision, silent
 
     def alarms(self) -> list[Message]:
         told: list[Message] = self.call("/v3/maintenance/alarm", {"action": "GET"}).get(

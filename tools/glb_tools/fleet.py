@@ -16,7 +16,7 @@ from glb_tools.etcd import (
     add_etcd_options,
     etcd_of,
 )
-from glb_tools.log import ANEW, LOOKED_BACK, Log, Look, maps_of, spot_of
+from glb_tools.log import ANEW, LOOKED_BACK, Log, Look, maps_of, plain, spot_of
 from glb_tools.options import DONE, Fault, parser, run
 
 NOT_THERE, DIFFER, GONE, HANGS, MEMBER = 1, 2, 5, 6, 7
@@ -219,9 +219,9 @@ def say(found: Report) -> None:
     base = f", its newest base is entry {found.base_entry}, {found.base[:12]}" if found.base else ""
     print(f"the log ends at entry {found.last}{base}")
     for server in found.servers:
-        print(line_of(server))
+        print(plain(line_of(server)))
     for _, words in found.advice:
-        print(f"! {words}")
+        print(plain(f"! {words}"))
 
 
 ABOUT = """Lists the servers that follow a log of batches: how far each is, and whether they agree.

@@ -215,6 +215,11 @@ def told_in(octets: bytes) -> dict[str, Any]:
         return {}
 
 
+def plain(text: str) -> str:
+    """What of a text may be shown on a terminal: anybody may have put it."""
+    return "".join(letter if letter.isprintable() else "?" for letter in text)
+
+
 def spot_of(number: int, checksum: str) -> str:
     """An entry in a few letters, by its number and its checksum: of another log's entry with that number it is another."""
     return f"{number}.{checksum[:6]}"
@@ -425,14 +430,13 @@ class Log:
         if kept != look.bases:
             # an etcd that is full takes what only takes away
             parts.append(self.put_bases(kept))
-        for checksum in sorted(gone):
-            for kind in ("file", "names"):
-                parts += [
-                    delete(self.at(kind, checksum)),
-                    delete_under(self.at(kind, checksum, "")),
-                ]
         if not self.etcd.txn(parts, [is_at(self.at("bases"), look.bases_revision)]).held:
             raise Fault("a base came meanwhile: nothing was cut")
+        for checksum in sorted(gone):
+            # one by one, since a transaction has at most 128 parts
+            for kind in ("file", "names"):
+                key = self.at(kind, checksum)
+                self.etcd.txn([delete(key), delete(f"{key}/", after(f"{key}/"))])
         return max(base.upto, 1)
 
     def kept(self, look: Look, base: Base) -> list[Base]:
@@ -523,10 +527,6 @@ class Log:
     def give_back(self, what: str, revision: int) -> None:
         key = self.at(what)
         self.etcd.txn([delete(key)], [is_at(key, revision)])
-
-
-def delete_under(key: str) -> Message:
-    return delete(key, after(key))
 
 
 def in_row(items: list[Item], number: int) -> list[Entry]:

@@ -12,7 +12,7 @@ from typing import IO, Any
 
 from glb_tools.etcd import ETCD_STATUSES, add_etcd_options, etcd_of
 from glb_tools.history import base_of, feed, topology_at, topology_of
-from glb_tools.log import BASE, BATCH, NONE, Base, Entry, Log
+from glb_tools.log import BASE, BATCH, NONE, Base, Entry, Log, plain
 from glb_tools.options import DONE, Fault, Progress, parser, run, write_file
 from glb_tools.server import END
 
@@ -39,11 +39,6 @@ def as_json(entry: Entry) -> dict[str, Any]:
     if entry.base:
         return found | {"base": entry.base.checksum, "upto": entry.base.upto}
     return found | {"changes": entry.lines.splitlines()}
-
-
-def plain(text: str) -> str:
-    """What may be shown on a terminal."""
-    return "".join(letter if letter.isprintable() else "?" for letter in text)
 
 
 def line_of(entry: Entry) -> str:
@@ -77,11 +72,8 @@ def last_map(texts: IO[bytes]) -> bytes:
     """The last whole map of a server's texts."""
     last, rest = b"", b""
     while piece := texts.read(PIECE):
-        rest += piece
-        if END in rest:
-            whole, rest = rest[: rest.rindex(END) + len(END)], rest[rest.rindex(END) + len(END) :]
-            last = whole[whole.rfind(END, 0, -len(END)) + 1 :]
-            last = last[len(END) - 1 :] if last.startswith(END[1:]) else last
+        *whole, rest = (rest + piece).split(END)
+        last = whole[-1] + END if whole else last
     return last
 
 
@@ -159,7 +151,10 @@ def main() -> int:
     log = Log(etcd_of(options), options.prefix)
     if options.compact:
         with Progress("makes room in etcd"):
-            print(f"etcd has no history before revision {log.etcd.make_room()}")
+            revision, silent = log.etcd.make_room()
+        print(f"etcd has no history before revision {revision}")
+        for member in silent:
+            print(f"{member} did not answer: its room is not given back", file=sys.stderr)
     elif options.at is not None:
         write_at(log, options.at, options)
     elif options.json:

@@ -5,7 +5,7 @@ import random
 import unittest
 from unittest import mock
 
-from fleet_world import FAULTS, Place, World
+from fleet_world import CRASH_AFTER, CRASH_BEFORE, FAULTS, LOST_AFTER, Place, World
 from glb_tools import follow, log
 from glb_tools.place import Identity
 
@@ -137,7 +137,7 @@ class EachCall(unittest.TestCase):
     def test_each_fault_at_each_call(self):
         reached = 0
         for names in SCENARIOS:
-            for fault in FAULTS:
+            for fault in (CRASH_BEFORE, CRASH_AFTER, LOST_AFTER):
                 at = 1
                 while scenario(names, at % 2, at, fault):
                     at, reached = at + 1, reached + 1
@@ -148,7 +148,7 @@ class Short(unittest.TestCase):
     """All short sequences of what may happen to a fleet of two that is there."""
 
     NAMES = ["append A B", "roll A B late", "go back", "save", "restore", "kill server 0"]
-    NAMES += ["kill follower 1", "cut"]
+    NAMES += ["cut"]
 
     def test_each_sequence(self):
         for names in itertools.product(self.NAMES, repeat=3):
@@ -271,7 +271,7 @@ class Hypothesis(unittest.TestCase):
                 self.world.check_end(self.world.settle())
 
         settled = settings(
-            max_examples=25, stateful_step_count=25, derandomize=True, deadline=None, database=None
+            max_examples=100, stateful_step_count=25, derandomize=True, deadline=None, database=None
         )
         stateful.run_state_machine_as_test(Fleet, settings=settled)
 
