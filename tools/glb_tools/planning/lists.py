@@ -4,14 +4,14 @@ An offer's whole cost is its microseconds with the prices of its path. A list ha
 the same those that the optimum uses come first, and of these one is last: where the units go that the others refuse.
 
 A full node should give up whom it costs least to send elsewhere. So a score is what the offer costs above the best of
-its unit, less what the unit loses where it is refused: the way to its nearest pool with room (a price of 0), or to
-nowhere. At the planned demand each full node then refuses the one unit that the optimum splits there. Once demand
+its unit, less what the unit loses where it is refused: the way to its nearest pool with room, or to nowhere. At the planned demand each full node then refuses the one unit that the optimum splits there. Once demand
 moves, a node gives up those with a pool with room nearby.
 """
 
 from dataclasses import dataclass
 
 import numpy as np
+import numpy.typing as npt
 
 from glb_tools.planning.prices import Plan, Problem, loads, path_prices
 from glb_tools.planning.world import Numbers
@@ -19,6 +19,8 @@ from glb_tools.text import MOST_UNITS
 
 # lower digits of a score, for those that are equal but for them: deeper nodes come first
 TIES = 16
+# a node with room has at least this part of its capacity free: a twentieth
+ROOM = 20
 # scores are above 0: no unit loses more than this, twice the dearest unit that is placed nowhere, in microseconds
 LARGEST_LOSS = 120_000_000
 
@@ -50,11 +52,20 @@ def by_price(problem: Problem, plan: Plan, length: int, weight: float) -> Lists:
     out = np.where(best < problem.unplaced, 2, 1) * problem.unplaced
     is_last = np.append(unit[1:] != unit[:-1], True)
     following = np.where(is_last, out[unit], np.minimum(np.append(kept[1:], 0), out[unit]))
-    with_room = np.where(above[order] == 0, kept, np.iinfo(np.int64).max)
+    with_room = np.where(has_room(problem, plan)[problem.pool[order]], kept, np.iinfo(np.int64).max)
     nearest = np.minimum(least(with_room, unit, len(best)), out)[unit]
     loss = np.where(following > kept, np.maximum(following, nearest) - kept, 0)
     score = LARGEST_LOSS + np.maximum(kept - best[unit], 0) - loss
     return Lists(order, np.clip(TIES * score + tie[order], 0, MOST_UNITS))
+
+
+def has_room(problem: Problem, plan: Plan) -> npt.NDArray[np.bool_]:
+    """Of each node whether it and all above it have room that a moved demand does not fill at once."""
+    found: npt.NDArray[np.bool_] = loads(problem, plan.flow) * ROOM <= problem.capacity * (ROOM - 1)
+    for node, parent in enumerate(problem.parent.tolist()):
+        if parent >= 0:
+            found[node] &= found[parent]
+    return found
 
 
 def last_used(problem: Problem, plan: Plan, whole: Numbers) -> Numbers:
@@ -103,10 +114,10 @@ def ranks(problem: Problem, plan: Plan, whole: Numbers, best: Numbers) -> tuple[
 def tops(problem: Problem, plan: Plan) -> Numbers:
     """Of each node the highest one that it reaches through nodes with room; the sink has the number behind all nodes."""
     sink = len(problem.capacity)
-    has_room = loads(problem, plan.flow) < problem.capacity
+    is_below = loads(problem, plan.flow) < problem.capacity
     found = np.arange(sink)
     for node, parent in enumerate(problem.parent.tolist()):
-        if has_room[node]:
+        if is_below[node]:
             found[node] = sink if parent < 0 else found[parent]
     return found
 
