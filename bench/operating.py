@@ -71,6 +71,10 @@ BLOCKS = {
     "grep -avE": Block(("head -n 1 now.map; cat said", "glb map 2\npublished 1\npublished 2\npublished 3")),
     "tools/glb-numbers": Block(("glb check now.toml now.map", "good"), ("grep -c 'capacity = 9$' now.toml", "1")),
     "{ cat log": Block(("glb check <(sed 's/capacity = 9$/capacity = 0/' now.toml) then.map", "good"), ("tools/glb-moves now.map then.map | tail -n 1", r"\d+ groups, \d+ units moved, .*")),
+    "printf 'capacity A 0": Block(
+        ("printf 'capacity A 0\\n' | tools/glb-plan --of now.toml now.map - --json | python3 -c 'import json, sys; print(type(json.load(sys.stdin)).__name__)'", "dict"),
+        before="sed 's/^ttl = .*/ttl = 30/' now.toml >new.toml",
+    ),
     "apt-get install --no-install-recommends python3-prometheus-client": Block(
         ("grep -c '^glb_placed_units 15' /var/lib/prometheus/node-exporter/glb.prom", "1"),
         ("systemctl disable --now glb glb-show.timer 2>/dev/null; sleep 1; ls /var/lib/prometheus/node-exporter/glb.prom 2>/dev/null; systemctl is-active glb-metrics", "inactive"),
@@ -94,6 +98,21 @@ BLOCKS = {
         before="systemctl stop glb-fleet@v4",
         seconds=5,
     ),
+    "glb-launch -- glb serve": Block(
+        ("glb-launch -- glb serve /etc/glb/topology.toml --listen 192.0.2.53:53 --tcp 192.0.2.53:53 --workers 4 </dev/null 2>/dev/null; echo $?", "0"),
+        before="systemctl stop glb-fleet@v4",
+        seconds=5,
+    ),
+    "install -D -m 644 examples/glb-launch.conf": Block(
+        ("systemctl is-active glb; tr '\\0' ' ' </proc/$(systemctl show --value -p MainPID glb)/cmdline | grep -c 'glb-launch --stay'; " + ANSWER.format("192.0.2.53"), f"active\n1\n{ADDRESS}"),
+        (ANSWER.format("192.0.2.53").replace("+short", "+short +tcp"), ADDRESS),
+        ("systemctl stop glb; systemctl show --value -p Result glb; rm -r /etc/systemd/system/glb.service.d; systemctl daemon-reload", "success"),
+    ),
+    "nft add rule inet glb input udp dport 53 udp length": Block(
+        ("nft list table inet glb | grep -c drop", "2"),
+        before="nft add table inet glb; nft add chain inet glb input '{ type filter hook input priority 0; }'",
+    ),
+    "nft add chain inet glb counts": Block(("nft list table inet glb | grep -c counter; nft delete table inet glb; systemctl start glb-fleet@v4", "8")),
     "apt-get install etcd": Block(
         ("tr '\\0' ' ' </proc/$(systemctl show --value -p MainPID glb-follow@v4)/cmdline", ".*glb-follow --name .*"),
         ("sleep 3; glb-fleet", r"(?s)the log ends at entry 2, .*\n\S*-v4: there, entry 2 .*"),
