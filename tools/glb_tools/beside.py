@@ -40,6 +40,9 @@ class Beside(Follower):
     def record(self, look: Look, **more: Any) -> None:
         """It is no server of the list."""
 
+    def keep_turn(self, look: Look) -> None:
+        """The turn is that of the server itself."""
+
     def settle(self, look: Look) -> None:
         self.is_ready = True
         self.tell()

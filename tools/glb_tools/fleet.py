@@ -203,7 +203,7 @@ def look_at_members(etcd: Etcd, found: Report) -> None:
 
 def line_of(server: State) -> str:
     if "entry" not in server:
-        return f"{server['name']}: {server['state']}: {server['why']}"
+        return f"{server['name']}: {server['state']}: {server.get('why', 'what it told cannot be read')}"
     spot = spot_of(number_in(server, "entry"), str(server.get("chain")))
     checksum = str(maps_of(server).get(spot, "-"))[:12]
     age = max(int(time.time()) - number_in(server, "time"), 0)
