@@ -4,7 +4,7 @@ use Rattle.std.specs.List.{range_with_len}
 use Rattle.std.proofs.lemmas.Bool.{cases_Bool}
 use Rattle.std.proofs.lemmas.List.{map-append}
 use Rattle.std.proofs.lemmas.List.Concat.{flat_map-append}
-use Rattle.std.proofs.lemmas.List.Elements.{All-append, All-map, All-nil}
+use Rattle.std.proofs.lemmas.List.Elements.{All-append, All-cons, All-map, All-nil}
 use Rattle.addr_text.specs.declared.address.Listen.{Listen}
 use Rattle.addr_text.specs.declared.address.Peer.{Peer}
 use Rattle.outside.specs.Faults.{BothTell, Rose}
@@ -21,12 +21,12 @@ use Rattle.answer_core.specs.declared.way.Way.TheVariants as way
 use Rattle.lane_model.specs.declared.ended.Ended.{Ended}
 use Rattle.lane_model.specs.declared.ended.Ended.TheVariants as end
 use Rattle.tcp_lane.specs.Calls.{AreRuled, IsStreamEnd}
-use Rattle.lane_model.specs.Lanes.{Entry, IsLaneRun, IsTryOf, following}
+use Rattle.lane_model.specs.Lanes.{Answers, Entry, IsLaneRun, IsTryOf, following}
 use Rattle.lane_model.specs.Replies.{is_silent, replies_by}
 use Rattle.lane_model.specs.Turns.{Came, Fate, Turn, entries_of, entries_of_came, idle, oversize, ended, failed, took, tries_of}
 use Rattle.lane_model.specs.Turns as fate
 use Rattle.tcp_lane.specs.Replies.{stream_replies}
-use Rattle.tcp_lane.specs.Stream.{AreRounds, Conversation, HasFailed, HasMissed, IsRound, IsStreamRun, IsTakenInPart, IsWhole, Round, messages_of}
+use Rattle.tcp_lane.specs.Stream.{AreKnownFrom, AreRounds, Conversation, HasFailed, HasMissed, IsRound, IsStreamRun, IsTakenInPart, IsWhole, Round, messages_of}
 use Rattle.tcp_lane.specs.Stream as tcp
 use Rattle.tcp_lane.specs.Turns.{IsRuled, Said, StreamTurn, TalkState, closing_if, lane_came, lane_of, lead_of, no_talk, stream_turn, turn_of, turns_of}
 use Rattle.tcp_lane.specs.Turns as turn
@@ -76,6 +76,45 @@ taken_made : (by : Way) (h : List Version) (w : ℕ) (log : List Turn) → AllTa
 taken_made by h w [] n r tries run = refl
 taken_made by h w (t ∷ log) n r tries run = taken_tell t.notes (turned is_silent t.known t.came tries (λ ts. made is_silent log ts)) ∙ step_taken by h w n r t.known t.came log tries run (taken_made by h w log)
 
+-- TO WHOM IT WAS REPLIED
+
+abbrev AllTo : Peer → List Try → Type 0
+AllTo peer tries = All (λ (r : Try). r.to ≡ peer) tries
+
+-- the first replies of a lane run go to the peer, and what is left is a lane run
+record Parts (a : Answers Version) (h : List Version) (w : ℕ) (peer : Peer) (tries : List Try) (more : List Entry) (further : List Try) : Type 0 where
+  to : AllTo peer tries
+  n : ℕ
+  floor : ℕ
+  run : IsLaneRun a h w n floor more further
+
+known_parts : (a : Answers Version) (h : List Version) (w n floor known : ℕ) (peer : Peer) (es : List Entry) (tries : List Try) (more : List Entry) (further : List Try) → AreKnownFrom a.silent known es tries → All (λ (e : Entry). e.packet.from ≡ peer) es → IsLaneRun a h w n floor (es ++ more) (tries ++ further) → Parts a h w peer tries more further
+known_parts a h w n floor known peer [] [] more further pairs from run = record { to = All-nil (λ (r : Try). r.to ≡ peer); n = n; floor = floor; run = run }
+known_parts a h w n floor known peer [] (s ∷ tries) more further pairs from run = absurd pairs
+known_parts a h w n floor known peer (e ∷ es) [] more [] pairs from run = known_parts a h w (following n) e.known known peer es [] more [] pairs.2 (λ k d within. from (suc k) d (omega arith)) run.2
+known_parts a h w n floor known peer (e ∷ es) [] more (s ∷ further) pairs from run =
+    let rest : IsLaneRun a h w (following n) e.known (es ++ more) (s ∷ further) = rw pairs.1 at run.1 in
+    known_parts a h w (following n) e.known known peer es [] more (s ∷ further) pairs.2 (λ k d within. from (suc k) d (omega arith)) rest
+known_parts a h w n floor known peer (e ∷ es) (s ∷ tries) more further pairs from run = elim (cases_Bool (a.silent e.packet.octets)) [
+  | inl is ↦
+      let on : AreKnownFrom a.silent known es (s ∷ tries) = rw is at pairs.1 in
+      let rest : IsLaneRun a h w (following n) e.known (es ++ more) (s ∷ (tries ++ further)) = rw is at run.1 in
+      known_parts a h w (following n) e.known known peer es (s ∷ tries) more further on (λ k d within. from (suc k) d (omega arith)) rest
+  | inr is ↦
+      let on : AreKnownFrom a.silent s.serial es tries = rw is at pairs.1 in
+      let both : IsTryOf a h w n e s × IsLaneRun a h w (following n) s.serial (es ++ more) (tries ++ further) = rw is at run.1 in
+      let parts = known_parts a h w (following n) s.serial s.serial peer es tries more further on (λ k d within. from (suc k) d (omega arith)) both.1 in
+      record { to = All-cons (λ (r : Try). r.to ≡ peer) s tries (both.0.to ∙ from 0 e (omega arith)) parts.to; n = parts.n; floor = parts.floor; run = parts.run }
+]
+
+-- two parts in a row are one
+two_parts : (a : Answers Version) (h : List Version) (w n floor : ℕ) (peer : Peer) (es fs more : List Entry) (tries others further : List Try) → ((n floor : ℕ) → IsLaneRun a h w n floor (es ++ (fs ++ more)) (tries ++ (others ++ further)) → Parts a h w peer tries (fs ++ more) (others ++ further)) → ((n floor : ℕ) → IsLaneRun a h w n floor (fs ++ more) (others ++ further) → Parts a h w peer others more further)
+    → IsLaneRun a h w n floor ((es ++ fs) ++ more) ((tries ++ others) ++ further) → Parts a h w peer (tries ++ others) more further
+two_parts a h w n floor peer es fs more tries others further one two run =
+    let here = one n floor (subst (λ ts. IsLaneRun a h w n floor (es ++ (fs ++ more)) ts) (append_assoc tries others further) (subst (λ xs. IsLaneRun a h w n floor xs ((tries ++ others) ++ further)) (append_assoc es fs more) run)) in
+    let on = two here.n here.floor here.run in
+    record { to = All-append (λ (r : Try). r.to ≡ peer) tries others here.to on.to; n = on.n; floor = on.floor; run = on.run }
+
 -- ONE CONVERSATION
 
 abbrev octets_of : List Round → List ℕ
@@ -107,6 +146,15 @@ from_on : (quiet : List ℕ → Bool) (peer : Peer) (octets : List ℕ) (message
 from_on quiet peer octets messages [] are = All-nil (λ (e : Entry). e.packet.from ≡ peer)
 from_on quiet peer octets messages (r ∷ rounds) are = All-append (λ (e : Entry). e.packet.from ≡ peer) r.entries (entries rounds) are.0.from (from_on quiet peer (octets ++ r.piece.octets) (messages ++ messages_of r) rounds are.1)
 
+abbrev replies : List Round → List Try
+replies rounds = flat_map (λ (r : Round). r.tries) rounds
+
+rounds_parts : (a : Answers Version) (h : List Version) (w n floor : ℕ) (peer : Peer) (octets : List ℕ) (messages : List (List ℕ)) (rounds : List Round) (more : List Entry) (further : List Try) → AreRounds a.silent peer octets messages rounds → IsLaneRun a h w n floor (entries rounds ++ more) (replies rounds ++ further) → Parts a h w peer (replies rounds) more further
+rounds_parts a h w n floor peer octets messages [] more further are run = record { to = All-nil (λ (r : Try). r.to ≡ peer); n = n; floor = floor; run = run }
+rounds_parts a h w n floor peer octets messages (r ∷ rounds) more further are run = two_parts a h w n floor peer r.entries (entries rounds) more r.tries (replies rounds) further
+    (λ m known here. known_parts a h w m known r.piece.known peer r.entries r.tries (entries rounds ++ more) (replies rounds ++ further) are.0.known are.0.from here)
+    (λ m known on. rounds_parts a h w m known peer (octets ++ r.piece.octets) (messages ++ messages_of r) rounds more further are.1 on) run
+
 pieces_are : (rounds : List Round) → flat_map (λ (x : Piece). x.octets) (map (λ (r : Round). r.piece) rounds) ≡ octets_of rounds
 pieces_are [] = refl
 pieces_are (r ∷ rounds) = ap (λ xs. r.piece.octets ++ xs) (pieces_are rounds)
@@ -126,11 +174,12 @@ whole : {A : Type 0} (xs : List A) → xs ≡ take (length xs) xs
 whole [] = refl
 whole (x ∷ xs) = let e : length (x ∷ xs) ≡ suc (length xs) = omega arith in ap (λ zs. x ∷ zs) (whole xs) ∙ ap (λ n. take n (x ∷ xs)) (sym e)
 
-is_whole : (quiet : List ℕ → Bool) (t : Talk) (es : List Entry) (tries : List Try) → IsWhole quiet t es tries → IsTalk t (packets es) tries
-is_whole quiet t es tries w =
+is_whole : (quiet : List ℕ → Bool) (t : Talk) (es : List Entry) (tries : List Try) → IsWhole quiet t es tries → AllTo t.peer tries → IsTalk t (packets es) tries
+is_whole quiet t es tries w to =
     let reads = reads_on quiet t.peer [] [] w.rounds (record { more = []; are = refl }) w.rounds_are in
     record {
       from = All-map (λ (p : Packet). p.from ≡ t.peer) (λ (e : Entry). e.packet) es (subst (λ xs. All (λ (e : Entry). e.packet.from ≡ t.peer) xs) (sym w.taken_are) (from_on quiet t.peer [] [] w.rounds w.rounds_are));
+      to = to;
       more = reads.more;
       read = ap (flat_map (λ (x : Piece). x.octets)) w.pieces ∙ pieces_are w.rounds ∙ reads.are
           ∙ ap (λ xs. xs ++ reads.more) (ap (flat_map framed) (messages_are w.rounds ∙ ap octets_in (sym w.taken_are)) ∙ sym (framed_are es));
@@ -144,8 +193,8 @@ why_written false quiet es more tries written why =
     let one : replies_in (why.before ++ why.reply ∷ []) ≡ replies_in why.before ++ framed why.reply.octets = flat_map-append (λ (r : Try). framed r.octets) why.before (why.reply ∷ []) ∙ ap (λ xs. replies_in why.before ++ xs) (append-nil (framed why.reply.octets)) in
     (length (replies_in why.before) + why.octets, why.written_is ∙ sym (ap (λ xs. take (length (replies_in why.before) + why.octets) xs) (ap replies_in why.tries_are ∙ one) ∙ take_more (replies_in why.before) (framed why.reply.octets) why.octets))
 
-is_in_part : (blind : Bool) (quiet : List ℕ → Bool) (t : Talk) (es : List Entry) (tries : List Try) → IsTakenInPart blind quiet t es tries → IsTalk t (packets es) tries
-is_in_part blind quiet t es tries w =
+is_in_part : (blind : Bool) (quiet : List ℕ → Bool) (t : Talk) (es : List Entry) (tries : List Try) → IsTakenInPart blind quiet t es tries → AllTo t.peer tries → IsTalk t (packets es) tries
+is_in_part blind quiet t es tries w to =
     let last = w.last in
     let split = w.last_is.split in
     let wrote = why_written blind quiet last.entries w.more tries t.written w.why in
@@ -155,6 +204,7 @@ is_in_part blind quiet t es tries w =
     ∙ ap (λ ms. flat_map framed ms ++ (flat_map framed w.more ++ split.rest)) (ap (λ ms. ms ++ messages_of last) (messages_are w.rounds) ∙ sym (map-append (λ (e : Entry). e.packet.octets) (entries w.rounds) last.entries) ∙ ap octets_in (sym w.taken_are)) in
     record {
       from = All-map (λ (p : Packet). p.from ≡ t.peer) (λ (e : Entry). e.packet) es (subst (λ xs. All (λ (e : Entry). e.packet.from ≡ t.peer) xs) (sym w.taken_are) (All-append (λ (e : Entry). e.packet.from ≡ t.peer) (entries w.rounds) last.entries (from_on quiet t.peer [] [] w.rounds w.rounds_are) w.last_is.from));
+      to = to;
       more = flat_map framed w.more ++ split.rest;
       read = ap (flat_map (λ (x : Piece). x.octets)) w.pieces ∙ flat_map-append (λ (x : Piece). x.octets) (map (λ (r : Round). r.piece) w.rounds) (last.piece ∷ []) ∙ ap₂ (λ xs ys. xs ++ ys) (pieces_are w.rounds) (append-nil last.piece.octets) ∙ all
           ∙ ap (λ xs. xs ++ (flat_map framed w.more ++ split.rest)) (sym (framed_are es));
@@ -162,19 +212,40 @@ is_in_part blind quiet t es tries w =
       written = wrote.1;
     }
 
-is_talk : (blind : Bool) (quiet : List ℕ → Bool) (t : Talk) (es : List Entry) (tries : List Try) → tcp.IsTalk blind quiet t es tries → IsTalk t (packets es) tries
-is_talk true quiet t es tries h = is_in_part true quiet t es tries h
-is_talk false quiet t es tries (inl h) = is_whole quiet t es tries h
-is_talk false quiet t es tries (inr h) = is_in_part false quiet t es tries h
+is_talk : (blind : Bool) (quiet : List ℕ → Bool) (t : Talk) (es : List Entry) (tries : List Try) → tcp.IsTalk blind quiet t es tries → AllTo t.peer tries → IsTalk t (packets es) tries
+is_talk true quiet t es tries h to = is_in_part true quiet t es tries h to
+is_talk false quiet t es tries (inl h) to = is_whole quiet t es tries h to
+is_talk false quiet t es tries (inr h) to = is_in_part false quiet t es tries h to
+
+-- a conversation's replies go to its peer, and the run goes on behind them
+whole_parts : (a : Answers Version) (h : List Version) (w n floor : ℕ) (t : Talk) (es more : List Entry) (tries further : List Try) → IsWhole a.silent t es tries → IsLaneRun a h w n floor (es ++ more) (tries ++ further) → Parts a h w t.peer tries more further
+whole_parts a h w n floor t es more tries further c run =
+    let here = subst (λ ts. IsLaneRun a h w n floor (entries c.rounds ++ more) (ts ++ further)) c.tries_are (subst (λ xs. IsLaneRun a h w n floor (xs ++ more) (tries ++ further)) c.taken_are run) in
+    subst (λ ts. Parts a h w t.peer ts more further) (sym c.tries_are) (rounds_parts a h w n floor t.peer [] [] c.rounds more further c.rounds_are here)
+
+in_part_parts : (a : Answers Version) (h : List Version) (w n floor : ℕ) (blind : Bool) (t : Talk) (es more : List Entry) (tries further : List Try) → IsTakenInPart blind a.silent t es tries → IsLaneRun a h w n floor (es ++ more) (tries ++ further) → Parts a h w t.peer tries more further
+in_part_parts a h w n floor blind t es more tries further c run =
+    let here = subst (λ ts. IsLaneRun a h w n floor ((entries c.rounds ++ c.last.entries) ++ more) (ts ++ further)) c.tries_are (subst (λ xs. IsLaneRun a h w n floor (xs ++ more) (tries ++ further)) c.taken_are run) in
+    subst (λ ts. Parts a h w t.peer ts more further) (sym c.tries_are) (two_parts a h w n floor t.peer (entries c.rounds) c.last.entries more (replies c.rounds) c.last.tries further
+        (λ m known first. rounds_parts a h w m known t.peer [] [] c.rounds (c.last.entries ++ more) (c.last.tries ++ further) c.rounds_are first)
+        (λ m known on. known_parts a h w m known c.last.piece.known t.peer c.last.entries c.last.tries more further c.last_is.known c.last_is.from on) here)
+
+talk_parts : (a : Answers Version) (h : List Version) (w n floor : ℕ) (blind : Bool) (t : Talk) (es more : List Entry) (tries further : List Try) → tcp.IsTalk blind a.silent t es tries → IsLaneRun a h w n floor (es ++ more) (tries ++ further) → Parts a h w t.peer tries more further
+talk_parts a h w n floor true t es more tries further c run = in_part_parts a h w n floor true t es more tries further c run
+talk_parts a h w n floor false t es more tries further (inl c) run = whole_parts a h w n floor t es more tries further c run
+talk_parts a h w n floor false t es more tries further (inr c) run = in_part_parts a h w n floor false t es more tries further c run
 
 -- ALL CONVERSATIONS
 
 abbrev share : Conversation → Share
 share c = record { messages = packets c.taken; replies = c.tries }
 
-are_talks : (quiet : List ℕ → Bool) (cs : List Conversation) → All (λ (c : Conversation). tcp.IsTalk c.blind quiet c.talk c.taken c.tries) cs → AreTalks (map (λ (c : Conversation). c.talk) cs) (map share cs)
-are_talks quiet [] all = refl
-are_talks quiet (c ∷ cs) all = (is_talk c.blind quiet c.talk c.taken c.tries (all 0 c (omega arith)), are_talks quiet cs (λ k d within. all (suc k) d (omega arith)))
+are_talks : (a : Answers Version) (h : List Version) (w n floor : ℕ) (cs : List Conversation) → All (λ (c : Conversation). tcp.IsTalk c.blind a.silent c.talk c.taken c.tries) cs → IsLaneRun a h w n floor (flat_map (λ (c : Conversation). c.taken) cs) (flat_map (λ (c : Conversation). c.tries) cs) → AreTalks (map (λ (c : Conversation). c.talk) cs) (map share cs)
+are_talks a h w n floor [] all run = refl
+are_talks a h w n floor (c ∷ cs) all run =
+    let first = all 0 c (omega arith) in
+    let parts = talk_parts a h w n floor c.blind c.talk c.taken (flat_map (λ (c : Conversation). c.taken) cs) c.tries (flat_map (λ (c : Conversation). c.tries) cs) first run in
+    (is_talk c.blind a.silent c.talk c.taken c.tries first parts.to, are_talks a h w parts.n parts.floor cs (λ k d within. all (suc k) d (omega arith)) parts.run)
 
 all_messages : (cs : List Conversation) → flat_map (λ (s : Share). s.messages) (map share cs) ≡ packets (flat_map (λ (c : Conversation). c.taken) cs)
 all_messages [] = refl
@@ -253,7 +324,7 @@ made_stream t maps further over result a b c w refusals closes log good well cau
           r.0,
           map share s.conversations,
           ap (λ (p : StreamsTold). p.closed) g ∙ r.1 ∙ ap (λ xs. xs ++ r.0) f.0,
-          subst (λ ts. AreTalks ts (map share s.conversations)) (sym s.talks_are) (are_talks is_silent s.conversations s.each),
+          subst (λ ts. AreTalks ts (map share s.conversations)) (sym s.talks_are) (are_talks stream_replies over w 0 0 s.conversations s.each (subst (λ ts. IsLaneRun stream_replies over w 0 0 (flat_map (λ (c : Conversation). c.taken) s.conversations) ts) s.tries_are (subst (λ xs. IsLaneRun stream_replies over w 0 0 xs (tries_of (lane_of log))) s.taken_are s.run))),
           all_messages s.conversations ∙ ap packets (sym s.taken_are) ∙ sym (taken_made way.Stream (maps ++ further) w (lane_of log) 0 0 (tries_of (lane_of log)) run),
           all_replies s.conversations ∙ sym s.tries_are ∙ sym (tried_made way.Stream (maps ++ further) w (lane_of log) 0 0 (tries_of (lane_of log)) run),
         )

@@ -298,10 +298,11 @@ pub record IsLane (w : ℕ) (t : Option Plan) (maps : List Version) (result : St
       × (a.taken ≡ b.taken ++ new) × (a.places ≡ b.places ++ places_of events new))
 
 -- a conversation, and what was taken of it and replied: its octets are these messages from its
--- peer, each behind its length, and more; the replies, each behind its length, were written to it,
--- up to some octet
+-- peer, each behind its length, and more; the replies all go to that peer and, each behind its
+-- length, were written to the conversation, up to some octet
 pub record IsTalk (t : Talk) (messages : List Packet) (replies : List Try) : Type 0 where
   pub from : All (λ p. p.from ≡ t.peer) messages
+  pub to : All (λ (r : Try). r.to ≡ t.peer) replies
   pub more : List ℕ
   pub read : flat_map (λ (x : Piece). x.octets) t.pieces
       ≡ flat_map (λ (p : Packet). framed p.octets) messages ++ more
