@@ -227,8 +227,8 @@ in_part_parts : (a : Answers Version) (h : List Version) (w n floor : ℕ) (blin
 in_part_parts a h w n floor blind t es more tries further c run =
     let here = subst (λ ts. IsLaneRun a h w n floor ((entries c.rounds ++ c.last.entries) ++ more) (ts ++ further)) c.tries_are (subst (λ xs. IsLaneRun a h w n floor (xs ++ more) (tries ++ further)) c.taken_are run) in
     subst (λ ts. Parts a h w t.peer ts more further) (sym c.tries_are) (two_parts a h w n floor t.peer (entries c.rounds) c.last.entries more (replies c.rounds) c.last.tries further
-        (λ m known first. rounds_parts a h w m known t.peer [] [] c.rounds (c.last.entries ++ more) (c.last.tries ++ further) c.rounds_are first)
-        (λ m known on. known_parts a h w m known c.last.piece.known t.peer c.last.entries c.last.tries more further c.last_is.known c.last_is.from on) here)
+    (λ m known first. rounds_parts a h w m known t.peer [] [] c.rounds (c.last.entries ++ more) (c.last.tries ++ further) c.rounds_are first)
+    (λ m known on. known_parts a h w m known c.last.piece.known t.peer c.last.entries c.last.tries more further c.last_is.known c.last_is.from on) here)
 
 talk_parts : (a : Answers Version) (h : List Version) (w n floor : ℕ) (blind : Bool) (t : Talk) (es more : List Entry) (tries further : List Try) → tcp.IsTalk blind a.silent t es tries → IsLaneRun a h w n floor (es ++ more) (tries ++ further) → Parts a h w t.peer tries more further
 talk_parts a h w n floor true t es more tries further c run = in_part_parts a h w n floor true t es more tries further c run
