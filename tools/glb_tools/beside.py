@@ -27,7 +27,7 @@ class Beside(Follower):
         identity = self.identity
         if look.canary.get("base") != identity.base or look.canary.get("server") != self.name:
             return "nobody asks for it any more"
-        if identity.entry and (not look.entries or look.entries[0].checksum != identity.chain):
+        if identity.entry and not self.is_in(look):
             return "the log is another one"
         return None
 

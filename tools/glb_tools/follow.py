@@ -34,6 +34,7 @@ from glb_tools.log import (
     BASE,
     LOOKED_BACK,
     NONE,
+    PAGE,
     TURN,
     Base,
     Entry,
@@ -231,7 +232,9 @@ class Follower:
         serial, checksum = found.shown.serial, found.map or identity.map
         if serial == identity.serial + 1 and identity.next_entry and identity.next_chain:
             # the entry that it was handed last is worked
-            identity = replace(identity, entry=identity.next_entry, chain=identity.next_chain)
+            identity = replace(
+                identity, entry=identity.next_entry, chain=identity.next_chain, row=[]
+            )
             checksum = found.map
         elif serial != identity.serial:
             self.broken = f"it has published {serial} batches, and not {identity.serial}"
@@ -242,7 +245,8 @@ class Follower:
 
     def step(self) -> bool:
         identity = self.identity
-        look = self.log.look(max(identity.entry, 1))
+        row = len(identity.row)
+        look = self.log.look(max(identity.entry - row, 1), PAGE + row)
         self.revision = look.revision
         if look.asked != self.heard:
             self.see()
@@ -253,7 +257,7 @@ class Follower:
             self.begin_anew(look, self.broken, self.due_base(look))
             return False
         self.record(look)
-        new = look.entries[1:] if identity.entry else look.entries
+        new = look.entries[row + 1 :] if identity.entry else look.entries
         for entry in new:
             self.work(entry, look)
             if self.broken:
@@ -275,20 +279,26 @@ class Follower:
             return f"its base {identity.base[:12]} is none of this log"
         if not identity.entry:
             return "the log does not begin with entry 1 any more" if look.first > 1 else None
-        if look.first > identity.entry:
+        if look.first > identity.entry - len(identity.row):
             return f"entry {identity.entry}, its last one, is cut away"
         if look.last < identity.entry:
             return f"the log ends at entry {look.last}, before its last one, {identity.entry}"
-        if not look.entries or look.entries[0].checksum != identity.chain:
+        if not self.is_in(look):
             return f"entry {identity.entry} of the log is not the one that it worked"
         return None
+
+    def is_in(self, look: Look) -> bool:
+        """Whether the log has its last entry, and in front of that the same ones."""
+        row = [*self.identity.row, self.identity.chain]
+        return [entry.checksum for entry in look.entries[: len(row)]] == row
 
     # Entry by entry.
 
     def work(self, entry: Entry, look: Look) -> None:
         """Works an entry. What it is goes to the disk before the server is handed it."""
         lines = self.lines_of(entry, look)
-        following = replace(self.identity, next_entry=entry.number, next_chain=entry.checksum)
+        identity = self.identity
+        following = replace(identity, next_entry=entry.number, next_chain=entry.checksum)
         worked = None
         if lines:
             self.place.keep(following)
@@ -297,13 +307,15 @@ class Follower:
             self.take(entry, worked)
         if self.broken:
             return
-        checksum = worked.map if worked and not worked.dropped else self.identity.map
+        checksum = worked.map if worked and not worked.dropped else identity.map
+        by_hand = entry.kind == NONE and identity.entry
         self.identity = replace(
             self.identity,
             entry=entry.number,
             chain=entry.checksum,
             serial=self.shown.serial,
             map=checksum,
+            row=[*identity.row, identity.chain][-LOOKED_BACK:] if by_hand else [],
         )
         if not lines:
             self.place.keep(self.identity)

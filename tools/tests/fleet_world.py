@@ -606,8 +606,10 @@ class World:
         }
         upto = place_of(self.topologies[host.machine.base])[0]
         if all(number in entries for number in range(upto + 1, identity.entry + 1)):
-            entry = entries.get(identity.entry)
-            if entry and entry.checksum == identity.chain and host.machine.base == identity.base:
+            row = [*identity.row, identity.chain]
+            numbers = range(identity.entry - len(identity.row), identity.entry + 1)
+            there = [entries[number].checksum for number in numbers if number in entries]
+            if there == row and host.machine.base == identity.base:
                 right = self.right_map(host.machine.base, identity.entry)
                 assert host.machine.map == right, f"{host.name} is not where its follower has it"
 

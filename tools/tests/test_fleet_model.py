@@ -111,6 +111,13 @@ SCENARIOS = [
     ["append A", "cut", "kill server 1", "roll A late"],
     ["cut off 0", "append A", "append A", "memory 0", "join 0"],
 ]
+# What comes while no follower looks, behind what comes while they do: a log that is restored and has the same last key.
+UNSEEN = [
+    (["save", "append A", "raw"], ["restore", "append A B", "raw"]),
+    (["save", "append A", "raw", "raw"], ["restore", "raw", "append A", "raw"]),
+    (["save", "append A", "raw", "append A"], ["restore", "append A B", "raw", "append A"]),
+    (["append A", "save", "append A", "forge"], ["restore", "append A B", "forge"]),
+]
 
 
 def scenario(names, number, at, fault):
@@ -142,6 +149,26 @@ class EachCall(unittest.TestCase):
                 while scenario(names, at % 2, at, fault):
                     at, reached = at + 1, reached + 1
         self.assertGreater(reached, 300)
+
+
+class Unseen(unittest.TestCase):
+    """A log becomes another one while nobody looks, and its last key is the same."""
+
+    def test_each(self):
+        for seen, unseen in UNSEEN:
+            with self.subTest(unseen):
+                world, every = World(2), operations()
+                world.settle()
+                for name in seen:
+                    every[name](world)
+                    for host in world.hosts:
+                        host.run()
+                for name in unseen:
+                    every[name](world)
+                world.check_end(world.settle())
+
+    def test_what_was_found(self):
+        explore(3007470, 1, 114)
 
 
 class Short(unittest.TestCase):
