@@ -13,7 +13,9 @@ from pathlib import Path
 from typing import Any
 
 from glb_tools.etcd import add_etcd_options, etcd_of
-from glb_tools.follow import Follower, Hooks, follow
+from glb_tools.follow import follow
+from glb_tools.follower import Follower
+from glb_tools.hooks import Hooks
 from glb_tools.log import Entry, Log, Look, place_of
 from glb_tools.options import Fault, parser, run
 from glb_tools.place import Bases, Identity, Place

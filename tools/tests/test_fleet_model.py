@@ -6,7 +6,7 @@ import unittest
 from unittest import mock
 
 from fleet_world import CRASH_AFTER, CRASH_BEFORE, FAULTS, LOST_AFTER, Place, World
-from glb_tools import follow, log
+from glb_tools import follow, follower, log
 from glb_tools.place import Identity
 
 
@@ -223,20 +223,20 @@ def keeps_late(self, entry, look):
     self.place.keep(self.identity)
 
 
-begin_as_it_is, work_as_it_is = follow.Follower.begin, follow.Follower.work
+begin_as_it_is, work_as_it_is = follower.Follower.begin, follower.Follower.work
 PLANTED = {
-    "the chain is not looked at": (follow.Follower, "breaks", lambda self, look: None),
+    "the chain is not looked at": (follower.Follower, "breaks", lambda self, look: None),
     "an entry's link is not looked at": (log.Entry, "behind", lambda self, checksum: self),
-    "a server is adopted by its serial": (follow.Follower, "begin", adopts_by_serial),
-    "queries are let in ahead of the last entry": (follow.Follower, "begin", ready_at_once),
+    "a server is adopted by its serial": (follower.Follower, "begin", adopts_by_serial),
+    "queries are let in ahead of the last entry": (follower.Follower, "begin", ready_at_once),
     "what was told of the server before stays": (follow, "silence", lambda name, log: None),
-    "there is no turn": (follow.Follower, "takes_turn", lambda self, look, why: True),
-    "nobody asks whether others are there": (follow, "absent", lambda *words: None),
-    "others are not asked again": (follow.Follower, "hears_all", lambda self, look: True),
-    "queries are let in while it stops": (follow.Follower, "get_unready", lambda self: None),
-    "no line is left out": (follow, "left_in", lambda lines, own, newest: lines),
+    "there is no turn": (follower.Follower, "takes_turn", lambda self, look, why: True),
+    "nobody asks whether others are there": (follower, "absent", lambda *words: None),
+    "others are not asked again": (follower.Follower, "hears_all", lambda self, look: True),
+    "queries are let in while it stops": (follower.Follower, "get_unready", lambda self: None),
+    "no line is left out": (follower, "left_in", lambda lines, own, newest: lines),
     "what a server said of a drop is lost": (
-        follow.Follower,
+        follower.Follower,
         "drop",
         lambda self, entry, why: None,
     ),
@@ -245,7 +245,7 @@ PLANTED = {
         "prepare",
         lambda self, topology, identity: None,
     ),
-    "maps are not compared": (follow.Follower, "is_outvoted", lambda self, look: False),
+    "maps are not compared": (follower.Follower, "is_outvoted", lambda self, look: False),
 }
 
 
