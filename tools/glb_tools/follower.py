@@ -327,9 +327,6 @@ class Follower:
                 self.end_turn(look)
         self.fetch_ahead(look)
         self.canary.ask(look.canary if look.canary.get("server") == self.name else {})
-        if look.states.get(self.name, {}).get("entry") != self.identity.entry:
-            # etcd was restored, and has not what was told
-            self.told, self.untold = {}, True
         self.tell()
 
     def see(self) -> None:
@@ -483,7 +480,11 @@ class Follower:
     # The list of servers.
 
     def record(self, look: Look, **more: Any) -> None:
-        """Keeps for as long as the server is one of the fleet what base it is at, and more."""
+        """Keeps for as long as the server is one of the fleet what base it is at, and more. Where etcd was restored and has not
+        what was told, all of it is told again."""
+        if look.states.get(self.name, {}).get("entry") != self.identity.entry:
+            # etcd was restored, and has not what was told
+            self.told, self.untold = {}, True
         known = look.servers.get(self.name, {})
         kept = {key: known[key] for key in ("differed",) if key in known}
         due = kept | {"base": self.identity.base} | more

@@ -117,6 +117,8 @@ UNSEEN = [
     (["save", "append A", "raw", "raw"], ["restore", "raw", "append A", "raw"]),
     (["save", "append A", "raw", "append A"], ["restore", "append A B", "raw", "append A"]),
     (["append A", "save", "append A", "forge"], ["restore", "append A B", "forge"]),
+    # the same log once more, which has not what was told of the keys
+    (["save", "raw", "raw"], ["restore", "raw", "raw", "append A"]),
 ]
 
 
