@@ -96,7 +96,45 @@ def explore(seed, hosts, steps):
     return world.seen_there
 
 
+WRITES = ["raw", "raw", "raw", "forge", "take raw", "append A", "append A B", "append X"]
+WRITES += ["roll A", "roll A late", "go back", "cut"]
+
+
+def restored(seed):
+    """A run in which the log becomes another one, or the same once more, while hardly anybody looks."""
+    draw, world, done = random.Random(seed), World(1 + seed % 2), []
+    every = operations()
+
+    def write(most, looks):
+        for _ in range(draw.randrange(most)):
+            done.append(draw.choice(WRITES))
+            every[done[-1]](world)
+            for host in world.hosts:
+                if draw.random() < looks:
+                    host.run()
+            world.check()
+
+    try:
+        world.settle()
+        for _ in range(draw.randrange(1, 3)):
+            write(3, 1)
+            world.save()
+            write(6, 0.9)
+            world.restore()
+            write(6, 0.05)
+            done.append("restored")
+        world.check_end(world.settle())
+    except Exception as why:
+        why.add_note(f"restored({seed}): {'; '.join(done)}")
+        raise
+    return world.seen_there
+
+
 class Random(unittest.TestCase):
+    def test_logs_that_are_restored(self):
+        there = sum(restored(seed) for seed in range(30))
+        self.assertGreater(there, 100)
+
     def test_many_things_at_random(self):
         there = sum(explore(seed, 1 + seed % 3, 40) for seed in range(60))
         self.assertGreater(there, 500)
