@@ -52,11 +52,12 @@ for host in $hosts; do
     ip -n "glbfleet$host" link set lo up
 done
 
-# A member of etcd on each; each program of a host asks its own member first.
+# A member of etcd on each; each program of a host asks its own member first. Of a quota of 0 octets etcd makes its own, 2 GiB.
+quota=0
 members=m1=http://$net.1:2380,m2=http://$net.2:2380,m3=http://$net.3:2380
 start_member() {
     be_on "$1" etcd --name "m$1" --data-dir "$work/etcd$1" --listen-peer-urls "http://$net.$1:2380" --initial-advertise-peer-urls "http://$net.$1:2380" \
-        --listen-client-urls "http://$net.$1:2379" --advertise-client-urls "http://$net.$1:2379" --initial-cluster "$members" >>"$work/etcd$1.log" 2>&1 &
+        --listen-client-urls "http://$net.$1:2379" --advertise-client-urls "http://$net.$1:2379" --initial-cluster "$members" --quota-backend-bytes "$quota" >>"$work/etcd$1.log" 2>&1 &
     echo $! >"$work/etcd$1.pid"
     # its end by a signal is no news
     disown $!
@@ -457,6 +458,39 @@ PYTHON
     kill -9 "$(pid 2 server)"
     ok 'all agree with one that began anew' agreed 1200
     echo "and again, by a server that began anew: $(since "$begun") ms"
+}
+
+# etcd is full, as its quota is small here and somebody fills it: it takes no batch until its history is given up.
+with_quota() {
+    quota=$1
+    for host in $hosts; do
+        kill "$(cat "$work/etcd$host.pid")"
+        while kill -0 "$(cat "$work/etcd$host.pid")" 2>/dev/null; do sleep 0.1; done
+        start_member "$host"
+        for _ in $(seq 200); do etcdctl_of "$host" endpoint health >/dev/null 2>&1 && break; sleep 0.1; done
+    done
+}
+etcdctl_of() { local host=$1; shift; on "$host" env ETCDCTL_API=3 etcdctl --endpoints "http://$net.$host:2379" "$@"; }
+full() {
+    local filled=0 number
+    ok 'all agree before etcd is full' agreed
+    with_quota $((8 << 20))
+    ok 'all agree with a small quota' agreed
+    head -c 1000000 /dev/zero | tr '\0' x >"$work/filling"
+    for _ in $(seq 20); do etcdctl_of 1 put filling <"$work/filling" >/dev/null 2>&1 || { filled=1 && break; }; done
+    ok 'etcd is full' [ "$filled" = 1 ]
+    number=$(last)
+    append 1 >"$work/full" 2>&1
+    ok 'an append says so' [ $? = 4 ]
+    sed 's/^/glb-append: /' "$work/full"
+    ok 'and so does glb-fleet' [ "$(status_of)" = 4 ]
+    ok 'nothing was appended' [ "$(last)" = "$number" ]
+    answers
+    ok 'glb-log gives up history' tool 1 glb-log --compact
+    ok 'the next batch is appended' [ "$(append 1)" = $((number + 1)) ]
+    ok 'all agree behind it' agreed
+    with_quota 0
+    ok 'all agree with the usual quota' agreed
 }
 
 # A server of another build: where its maps' texts are others, that is seen, and each server goes on.

@@ -13,7 +13,9 @@ from pathlib import Path
 from typing import Any
 
 from glb_tools.etcd import add_etcd_options, etcd_of
-from glb_tools.follow import Follower, Hooks, follow
+from glb_tools.follow import follow
+from glb_tools.follower import Follower
+from glb_tools.hooks import Hooks
 from glb_tools.log import Entry, Log, Look, place_of
 from glb_tools.options import Fault, parser, run
 from glb_tools.place import Bases, Identity, Place
@@ -27,7 +29,7 @@ class Beside(Follower):
         identity = self.identity
         if look.canary.get("base") != identity.base or look.canary.get("server") != self.name:
             return "nobody asks for it any more"
-        if identity.entry and (not look.entries or look.entries[0].checksum != identity.chain):
+        if identity.entry and not self.is_in(look):
             return "the log is another one"
         return None
 

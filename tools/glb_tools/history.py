@@ -2,7 +2,18 @@
 
 from collections.abc import Iterator
 
-from glb_tools.log import BATCH, Base, Entry, Log, Look, checksum_of, left_in, place_of, with_place
+from glb_tools.log import (
+    BATCH,
+    NONE,
+    Base,
+    Entry,
+    Log,
+    Look,
+    checksum_of,
+    left_in,
+    place_of,
+    with_place,
+)
 from glb_tools.options import Fault
 from glb_tools.text import Change, Replay
 from glb_tools.topology import Topology, written
@@ -51,7 +62,17 @@ def topology_at(log: Log, look: Look, number: int) -> bytes:
     base = base_of(log, look, number)
     topology = Topology(topology_of(log, base), str(base))
     text = written(topology, numbers_at(log, look, base, topology, number).numbers)
-    return with_place(text.encode(), number, chain_at(log, number))
+    return with_place(text.encode(), *place_at(log, number))
+
+
+def place_at(log: Log, number: int) -> tuple[int, str]:
+    """The last entry up to a number, with its checksum. What was put by hand is none: its checksum stands for nothing else,
+    and the numbers are the same without it."""
+    while True:
+        entry = next(log.entries(number, number))
+        if entry.kind != NONE or number == 1:
+            return number, entry.checksum
+        number -= 1
 
 
 def chain_at(log: Log, number: int) -> str:
@@ -87,7 +108,7 @@ def with_numbers(log: Log, octets: bytes, path: str) -> bytes:
             numbers["capacity", at] = replay.numbers.get(
                 ("capacity", there), old.nodes[there].capacity
             )
-    return with_place(written(new, numbers).encode(), look.last, chain_at(log, look.last))
+    return with_place(written(new, numbers).encode(), *place_at(log, look.last))
 
 
 def first_base(log: Log, look: Look, octets: bytes, path: str) -> bytes:

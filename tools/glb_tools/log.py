@@ -12,18 +12,20 @@
     PREFIX/canary                 which server is to run which base beside its own, and PREFIX/beside/NAME how far that is
     PREFIX/roll                   who rolls which base, as long as glb-roll lives (60 s)
 
-**An entry** is a text of JSON: `kind` (`batch` or `base`), `before`, `time` (seconds since 1970), `author`, `why`, and of a
-batch `lines`, of a base `base`, `upto` and `chain`. Its checksum is the SHA-256 of its octets. `before` is the checksum
+**An entry** is a text of JSON: `kind` (`batch` or `base`), `before`, `time` (seconds since 1970), `author`, `why`, `id` (of
+its append), and of a batch `lines`, of a base `base`, `upto` and `chain`. Its checksum is the SHA-256 of its octets. `before` is the checksum
 of the entry before it, which the transaction that puts it looks at: so the checksum of an entry stands for the whole log
 up to it, **the chain**. What stands among the entries and is none, or does not say the checksum of the one before it, was
-put there by hand: it is handed to no server. It has a checksum as an entry has, which the next one says.
+put there by hand: it is handed to no server. It has a checksum as an entry has, which the next one says; but that one does
+not stand for what is before it.
 
 **A base** is a topology whose numbers are those of the log up to entry `upto`, whose checksum is `chain`: its first line
 says both, so its own checksum, `base`, says all of it. Who begins from it works the entries behind `upto`. The base may
 stand further behind: entries that came meanwhile are worked by both. A log begins with a base (`upto` 0, `chain` empty).
 
 **A server's identity** is its base, its program, and the checksum of the last entry that it worked. It is kept beside the
-server and told in etcd. A server goes on behind an entry only where the log has that entry, with that checksum.
+server and told in etcd. A server goes on behind an entry only where the log has that entry, with that checksum; behind what
+was put by hand, only where the log has the last entry before that, too, and all that stands between the two.
 
 **Its map** follows from its base and the entries alone. A line is left out by a server whose base does not have its name,
 where the base that was the newest at the entry has it: so a batch is not lost to servers that wait for their turn, nor one
@@ -396,7 +398,9 @@ class Log:
     ) -> bool:
         """Puts an entry behind the last one that was seen, with its checksum; not where another came between."""
         before = look.entries[-1].checksum if look.entries else ""
-        octets, by = entry_octets(kind, before, signed, content), self.at("by", ident)
+        # by its id it is another text than any other one, also where a log that was restored gives its number again
+        octets = entry_octets(kind, before, signed, {"id": ident, **content})
+        by = self.at("by", ident)
         conditions = [
             is_at(self.key(look.last + 1), 0),
             is_at(by, 0),

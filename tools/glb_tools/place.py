@@ -29,6 +29,9 @@ class Identity:
     map: str | None = None
     next_entry: int | None = None
     next_chain: str | None = None
+    # where its last entry was put by hand: the checksums of those before it, from the last one on that was not (of a hundred
+    # at most), since that one alone says what stands before it
+    row: list[str] = field(default_factory=list)
     # the last batches that it dropped whole, by their numbers, with the reasons
     dropped: dict[str, str] = field(default_factory=dict)
 

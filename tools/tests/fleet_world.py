@@ -13,7 +13,7 @@ import json
 from contextlib import redirect_stderr
 from io import StringIO
 
-from glb_tools import fleet, follow
+from glb_tools import fleet, follow, follower
 from glb_tools.etcd import Answer, Etcd, Item, NoLease, Unreachable, after, put
 from glb_tools.log import (
     ALIVE,
@@ -369,7 +369,7 @@ class Host:
                 return self.go_on()
         except Crash:
             self.follower_ends()
-        except follow.Over:
+        except follower.Over:
             self.follower_ends()
         except Unreachable:
             return False
@@ -388,7 +388,7 @@ class Host:
             self.machine = Machine(self.place.topology, self)
         elif self.follower is None:
             hooks = Hooks(self)
-            made = follow.Follower(
+            made = follower.Follower(
                 self.name, self.log(), self.machine, self.place, self.bases, hooks
             )
             self.follower = made
@@ -424,7 +424,7 @@ class World:
         self.hosts, self.topologies, self.before = [], {}, {}
         # what glb-fleet asked last, and how often a server was told to be there
         self.asked, self.seen_there = "", 0
-        self.clock = follow.time = Clock(self)
+        self.clock = follow.time = follower.time = Clock(self)
         self.moment = 0
         self.log = Log(Client(self, Outside(self)), "glb")
         self.roll(["A"])
@@ -606,8 +606,10 @@ class World:
         }
         upto = place_of(self.topologies[host.machine.base])[0]
         if all(number in entries for number in range(upto + 1, identity.entry + 1)):
-            entry = entries.get(identity.entry)
-            if entry and entry.checksum == identity.chain and host.machine.base == identity.base:
+            row = [*identity.row, identity.chain]
+            numbers = range(identity.entry - len(identity.row), identity.entry + 1)
+            there = [entries[number].checksum for number in numbers if number in entries]
+            if there == row and host.machine.base == identity.base:
                 right = self.right_map(host.machine.base, identity.entry)
                 assert host.machine.map == right, f"{host.name} is not where its follower has it"
 

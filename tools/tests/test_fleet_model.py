@@ -6,7 +6,7 @@ import unittest
 from unittest import mock
 
 from fleet_world import CRASH_AFTER, CRASH_BEFORE, FAULTS, LOST_AFTER, Place, World
-from glb_tools import follow, log
+from glb_tools import follow, follower, log
 from glb_tools.place import Identity
 
 
@@ -96,7 +96,45 @@ def explore(seed, hosts, steps):
     return world.seen_there
 
 
+WRITES = ["raw", "raw", "raw", "forge", "take raw", "append A", "append A B", "append X"]
+WRITES += ["roll A", "roll A late", "go back", "cut"]
+
+
+def restored(seed):
+    """A run in which the log becomes another one, or the same once more, while hardly anybody looks."""
+    draw, world, done = random.Random(seed), World(1 + seed % 2), []
+    every = operations()
+
+    def write(most, looks):
+        for _ in range(draw.randrange(most)):
+            done.append(draw.choice(WRITES))
+            every[done[-1]](world)
+            for host in world.hosts:
+                if draw.random() < looks:
+                    host.run()
+            world.check()
+
+    try:
+        world.settle()
+        for _ in range(draw.randrange(1, 3)):
+            write(3, 1)
+            world.save()
+            write(6, 0.9)
+            world.restore()
+            write(6, 0.05)
+            done.append("restored")
+        world.check_end(world.settle())
+    except Exception as why:
+        why.add_note(f"restored({seed}): {'; '.join(done)}")
+        raise
+    return world.seen_there
+
+
 class Random(unittest.TestCase):
+    def test_logs_that_are_restored(self):
+        there = sum(restored(seed) for seed in range(30))
+        self.assertGreater(there, 100)
+
     def test_many_things_at_random(self):
         there = sum(explore(seed, 1 + seed % 3, 40) for seed in range(60))
         self.assertGreater(there, 500)
@@ -110,6 +148,15 @@ SCENARIOS = [
     ["append X", "raw", "memory 0", "append A"],
     ["append A", "cut", "kill server 1", "roll A late"],
     ["cut off 0", "append A", "append A", "memory 0", "join 0"],
+]
+# What comes while no follower looks, behind what comes while they do: a log that is restored and has the same last key.
+UNSEEN = [
+    (["save", "append A", "raw"], ["restore", "append A B", "raw"]),
+    (["save", "append A", "raw", "raw"], ["restore", "raw", "append A", "raw"]),
+    (["save", "append A", "raw", "append A"], ["restore", "append A B", "raw", "append A"]),
+    (["append A", "save", "append A", "forge"], ["restore", "append A B", "forge"]),
+    # the same log once more, which has not what was told of the keys
+    (["save", "raw", "raw"], ["restore", "raw", "raw", "append A"]),
 ]
 
 
@@ -142,6 +189,26 @@ class EachCall(unittest.TestCase):
                 while scenario(names, at % 2, at, fault):
                     at, reached = at + 1, reached + 1
         self.assertGreater(reached, 300)
+
+
+class Unseen(unittest.TestCase):
+    """A log becomes another one while nobody looks, and its last key is the same."""
+
+    def test_each(self):
+        for seen, unseen in UNSEEN:
+            with self.subTest(unseen):
+                world, every = World(2), operations()
+                world.settle()
+                for name in seen:
+                    every[name](world)
+                    for host in world.hosts:
+                        host.run()
+                for name in unseen:
+                    every[name](world)
+                world.check_end(world.settle())
+
+    def test_what_was_found(self):
+        explore(3007470, 1, 114)
 
 
 class Short(unittest.TestCase):
@@ -196,20 +263,20 @@ def keeps_late(self, entry, look):
     self.place.keep(self.identity)
 
 
-begin_as_it_is, work_as_it_is = follow.Follower.begin, follow.Follower.work
+begin_as_it_is, work_as_it_is = follower.Follower.begin, follower.Follower.work
 PLANTED = {
-    "the chain is not looked at": (follow.Follower, "breaks", lambda self, look: None),
+    "the chain is not looked at": (follower.Follower, "breaks", lambda self, look: None),
     "an entry's link is not looked at": (log.Entry, "behind", lambda self, checksum: self),
-    "a server is adopted by its serial": (follow.Follower, "begin", adopts_by_serial),
-    "queries are let in ahead of the last entry": (follow.Follower, "begin", ready_at_once),
+    "a server is adopted by its serial": (follower.Follower, "begin", adopts_by_serial),
+    "queries are let in ahead of the last entry": (follower.Follower, "begin", ready_at_once),
     "what was told of the server before stays": (follow, "silence", lambda name, log: None),
-    "there is no turn": (follow.Follower, "takes_turn", lambda self, look, why: True),
-    "nobody asks whether others are there": (follow, "absent", lambda *words: None),
-    "others are not asked again": (follow.Follower, "hears_all", lambda self, look: True),
-    "queries are let in while it stops": (follow.Follower, "get_unready", lambda self: None),
-    "no line is left out": (follow, "left_in", lambda lines, own, newest: lines),
+    "there is no turn": (follower.Follower, "takes_turn", lambda self, look, why: True),
+    "nobody asks whether others are there": (follower, "absent", lambda *words: None),
+    "others are not asked again": (follower.Follower, "hears_all", lambda self, look: True),
+    "queries are let in while it stops": (follower.Follower, "get_unready", lambda self: None),
+    "no line is left out": (follower, "left_in", lambda lines, own, newest: lines),
     "what a server said of a drop is lost": (
-        follow.Follower,
+        follower.Follower,
         "drop",
         lambda self, entry, why: None,
     ),
@@ -218,7 +285,7 @@ PLANTED = {
         "prepare",
         lambda self, topology, identity: None,
     ),
-    "maps are not compared": (follow.Follower, "is_outvoted", lambda self, look: False),
+    "maps are not compared": (follower.Follower, "is_outvoted", lambda self, look: False),
 }
 
 

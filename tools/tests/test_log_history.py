@@ -53,6 +53,15 @@ class Numbers(unittest.TestCase):
             self.assertEqual(self.numbers(found), file | due)
             self.assertEqual(place_of(found), (number, self.log.entry(number).checksum))
 
+    def test_what_was_put_by_hand_is_no_place(self):
+        due = (4, self.log.entry(4).checksum)
+        self.world.raw()
+        self.world.forge()
+        self.assertEqual(self.log.look().last, 6)
+        self.assertEqual(place_of(with_numbers(self.log, TREE, "tree.toml")), due)
+        for number in (5, 6):
+            self.assertEqual(place_of(topology_at(self.log, self.log.look(), number)), due)
+
     def test_of_another_topology(self):
         other = TREE.replace(b'name = "g2"', b'name = "g3"')
         found = self.numbers(with_numbers(self.log, other, "other.toml"))
