@@ -530,7 +530,8 @@ class Run:
         pace = (options.back, options.over, options.every)
         if seen and (seen.is_back, seen.over, seen.every) == pace:
             return seen.step
-        return max(1, math.ceil(units / max(1, math.ceil(options.over / options.every))))
+        steps: int = max(1, math.ceil(options.over / options.every))
+        return max(1, math.ceil(units / steps))
 
     def finish(self, seen: Drain | None) -> None:
         if self.options.back and seen and not self.options.dry_run:
