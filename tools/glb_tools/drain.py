@@ -10,7 +10,7 @@ import time
 import uuid
 from collections.abc import Iterator
 from contextlib import contextmanager
-from dataclasses import asdict, dataclass, field, replace
+from dataclasses import asdict, dataclass, field, fields, replace
 from pathlib import Path
 from typing import Any, Protocol
 
@@ -106,9 +106,14 @@ class Drain:
         return self.before if self.is_back else 0
 
 
+NAMES = [each.name for each in fields(Drain)]
+
+
 def drain_in(octets: str | bytes, where: str) -> Drain:
     try:
-        found = Drain(**json.loads(octets))
+        told = json.loads(octets)
+        # a later release may keep more
+        found = Drain(**{key: told[key] for key in NAMES if key in told})
         numbers = (
             found.before,
             found.step,
@@ -171,7 +176,8 @@ class Fleet:
 
     def __init__(self, glb: str, log: Log) -> None:
         self.glb, self.log = glb, log
-        self.last, self.seen = 0, None  # type: int, Drain | None
+        self.last = 0
+        self.seen: Drain | None = None
 
     def drains(self) -> dict[str, Drain]:
         items = self.log.etcd.txn([under(self.log.at("drain", ""))]).found[0]
@@ -222,7 +228,8 @@ class File:
     def __init__(self, glb: str, topology: str, log: str) -> None:
         self.glb, self.topology, self.path = glb, topology, Path(log)
         self.kept = Path(f"{log}.drains")
-        self.octets, self.seen = b"", None  # type: bytes, Drain | None
+        self.octets = b""
+        self.seen: Drain | None = None
 
     @contextmanager
     def locked(self, is_made: bool = False) -> Iterator[None]:
@@ -508,10 +515,9 @@ class Run:
 
     def checked(self, sight: Sight, target: int) -> int:
         """How many units are touched where all is done at once; a fault where some would lack a place behind it."""
-        after = with_batch(
-            self.options.glb, sight.served, f"capacity {self.node} {target}\n".encode()
-        )
-        found = compared(sight.served, after)
+        lines = f"capacity {self.node} {target}\n".encode()
+        with Progress("tries the end"):
+            found = compared(sight.served, with_batch(self.options.glb, sight.served, lines))
         self.say(f"at the end, with a capacity of {amount(target)}:")
         if not self.options.json:
             say(found, self.options.lines)
@@ -554,21 +560,13 @@ class Run:
                 self.due = max(self.due, time.monotonic() + AGAIN)
             time.sleep(max(0.0, self.due - time.monotonic()))
 
-    def work(self) -> bool:
-        """Makes a step; whether it was the last one."""
+    def sight(self) -> Sight:
         with Progress("looks what is served"):
-            sight = Sight.of(self.node, self.store.served(self.node))
-            if self.plan is None:
-                self.plan = self.begin(sight)
-                if self.plan is None:
-                    return True
-                if self.due > time.monotonic():
-                    # the run before made a step just now
-                    return False
-            drain = self.mine(sight)
-            if sight.capacity() == drain.target:
-                self.say(f"{self.node} is {'back' if drain.is_back else 'out'}")
-                return True
+            return Sight.of(self.node, self.store.served(self.node))
+
+    def next(self, sight: Sight, drain: Drain) -> tuple[Drain, Step]:
+        """The drain with its next step; a fault where that is braked."""
+        with Progress("tries the next step"):
             found = next_step(self.options.glb, sight, drain.target, drain.step)
         self.braked(drain, found)
         made = replace(
@@ -579,14 +577,30 @@ class Run:
             steps=drain.steps + 1,
             moved=drain.moved + found.units,
         )
-        is_last = found.to == drain.target
-        self.of = made.steps if is_last else max(self.of, made.steps + 1)
-        began = time.monotonic()
+        self.of = made.steps if found.to == drain.target else max(self.of, made.steps + 1)
+        return made, found
+
+    def work(self) -> bool:
+        """Makes a step; whether it was the last one."""
+        sight = self.sight()
+        if self.plan is None:
+            self.plan = self.begin(sight)
+            if self.plan is None:
+                return True
+            if self.due > time.monotonic():
+                # the run before made a step just now
+                return False
+        drain = self.mine(sight)
+        if sight.capacity() == drain.target:
+            self.say(f"{self.node} is {'back' if drain.is_back else 'out'}")
+            return True
+        made, found = self.next(sight, drain)
+        is_last, began = found.to == drain.target, time.monotonic()
         if not self.store.step(made, self.reason(made), is_last and made.is_back):
             # somebody came between: it is looked again, at once
             return False
         self.plan, self.due = replace(made, was=made.to), began + self.options.every
-        self.show(made, sight, found)
+        self.show(made, found, sight)
         return is_last
 
     def mine(self, sight: Sight) -> Drain:
@@ -631,7 +645,7 @@ class Run:
         why = f": {drain.why}" if drain.why else ""
         return Signed(self.signed.author, f"drain {self.node}{back} {drain.steps}/{self.of}{why}")
 
-    def show(self, made: Drain, sight: Sight, found: Step) -> None:
+    def show(self, made: Drain, found: Step, sight: Sight) -> None:
         assert self.told
         step = {"number": made.steps, "of": self.of, "from": made.was, "to": made.to}
         units = {"moved": found.moved, "gained": found.gained, "lost": found.lost}
@@ -647,22 +661,12 @@ class Run:
 
     def dry_run(self) -> None:
         """Shows the steps, and makes none."""
-        with Progress("works the steps"):
-            sight = Sight.of(self.node, self.store.served(self.node))
-            drain = self.begin(sight)
-            while drain and sight.capacity() != drain.target:
-                found = next_step(self.options.glb, sight, drain.target, drain.step)
-                self.braked(drain, found)
-                made = replace(
-                    drain,
-                    was=sight.capacity(),
-                    to=found.to,
-                    steps=drain.steps + 1,
-                    moved=drain.moved + found.units,
-                )
-                self.of = made.steps if found.to == drain.target else max(self.of, made.steps + 1)
-                self.show(made, sight, found)
-                sight, drain = sight.behind(found), made
+        sight = self.sight()
+        drain = self.begin(sight)
+        while drain and sight.capacity() != drain.target:
+            drain, found = self.next(sight, drain)
+            self.show(drain, found, sight)
+            sight = sight.behind(found)
 
 
 # The command.
