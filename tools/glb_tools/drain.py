@@ -380,8 +380,9 @@ def tried(glb: str, sight: Sight, to: int) -> Step:
     return Step(to, found["moved"], found["gained"], found["lost"], text)
 
 
-def next_step(glb: str, sight: Sight, target: int, most: int) -> Step:
-    """The next step to a capacity: so large that at most so many units move, as far as few tries find it."""
+def next_step(glb: str, sight: Sight, target: int, most: int, is_bound: bool) -> Step:
+    """The next step to a capacity: so large that at most so many units move, as far as few tries find it. Where the
+    smallest one moves more it is taken too, but where the number is a bound."""
     capacity = sight.capacity()
     is_up = target > capacity
     # a capacity that is not used moves nothing
@@ -404,6 +405,8 @@ def next_step(glb: str, sight: Sight, target: int, most: int) -> Step:
             size, found = 2 * size, larger
     tries = 0
     while found.units > most:
+        if size <= 1 and not is_bound:
+            break
         if size <= 1:
             raise Fault(
                 f"the smallest step, to {found.to:,}, would move {found.units:,} units, and --step is {most:,}",
@@ -445,6 +448,8 @@ class Run:
         # the drain as it was planned at the start, and how many steps it takes in all
         self.plan: Drain | None = None
         self.of = 0
+        # the last step that was handed on, which may have been lost on its way
+        self.handed: Drain | None = None
         self.told: Told | None = None
         self.due = time.monotonic()
 
@@ -567,7 +572,9 @@ class Run:
     def next(self, sight: Sight, drain: Drain) -> tuple[Drain, Step]:
         """The drain with its next step; a fault where that is braked."""
         with Progress("tries the next step"):
-            found = next_step(self.options.glb, sight, drain.target, drain.step)
+            found = next_step(
+                self.options.glb, sight, drain.target, drain.step, self.options.step is not None
+            )
         self.braked(drain, found)
         made = replace(
             drain,
@@ -594,7 +601,12 @@ class Run:
         if sight.capacity() == drain.target:
             self.say(f"{self.node} is {'back' if drain.is_back else 'out'}")
             return True
+        if drain.steps > self.plan.steps:
+            # the step that was lost on its way stands in the log
+            self.plan, self.due = drain, time.monotonic() + self.options.every
+            return False
         made, found = self.next(sight, drain)
+        self.handed = made
         is_last, began = found.to == drain.target, time.monotonic()
         if not self.store.step(made, self.reason(made), is_last and made.is_back):
             # somebody came between: it is looked again, at once
@@ -615,6 +627,10 @@ class Run:
                     CHANGED,
                 )
             return seen
+        last = self.handed
+        if seen is None and last and last.is_back and capacity == last.to == last.target:
+            # the last step was lost on its way, and stands in the log
+            return last
         if self.is_begun():
             raise Fault(f"another glb-drain took {self.node} over, or its drain was ended", CHANGED)
         if capacity != self.plan.was:
@@ -754,7 +770,7 @@ def words_of_command() -> argparse.ArgumentParser:
         "--step",
         type=count_in,
         metavar="UNITS",
-        help="how many units a step may move, at all nodes (the load by the steps that --over has)",
+        help="how many units a step may move at most, at all nodes (the load by the steps that --over has)",
     )
     words.add_argument(
         "--most", type=count_in, metavar="UNITS", help="how many units all steps may move"

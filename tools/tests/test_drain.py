@@ -257,6 +257,13 @@ class Steps(OverFile):
         )
         self.assertEqual((self.lines(), self.listed()), ([], []))
 
+    def test_the_smallest_step_where_no_bound_is_said(self):
+        # a unit for each of 30 steps, each of which moves one of g3, too, until no more of it is at a
+        self.world(ZONE + NODES + G1 + G2 + G3)
+        status, found, _ = self.told("b", "--over", "40m")
+        self.assertEqual((status, found["step"]), (0, 1))
+        self.assertEqual([step["moved"] for step in found["steps"]], [2] * 20 + [1] * 10)
+
     def test_a_stop_in_the_log_is_left_out(self):
         self.world(WORLD, "capacity a 50\ncommit\nstop\ncapacity a 45\ncommit\n")
         self.assertEqual(self.told("a")[1]["before"], 45)
@@ -626,6 +633,25 @@ class OverFleet(Played):
                     )
                     (there,) = self.listed()
                     self.assertEqual((there["state"], there["before"]), ("out", 60))
+
+    def test_a_step_that_is_lost_on_its_way(self):
+        # the call of the first step, and that of the last one
+        self.assertEqual(self.drain("a")[0], 0)
+        start, self.count = self.table.copy(), 0
+        self.puts.clear()
+        self.assertEqual(self.drain("a", "--back")[0], 0)
+        self.assertEqual(len(self.puts), 2)
+        for at in sorted(self.puts):
+            for fault in (LOST_BEFORE, LOST_AFTER):
+                with self.subTest(f"{fault} {at}"):
+                    self.table, self.clock.slept = start.copy(), []
+                    self.count, self.at, self.fault = 0, at, fault
+                    self.assertEqual(self.drain("a", "--back")[0], 0)
+                    lines = [lines for lines, _, _ in self.batches()]
+                    self.assertEqual(lines[2:], ["capacity a 20\n", "capacity a 60\n"])
+                    self.assertEqual(self.listed(), [])
+                    # and the next step is not made before it is due
+                    self.assertGreaterEqual(sum(self.clock.slept), 60)
 
     def test_etcd_stays_away(self):
         def away():
