@@ -506,7 +506,8 @@ class Run:
         if seen and seen.is_back == options.back:
             drain.steps, drain.moved, drain.at = seen.steps, seen.moved, seen.at
             # a clock that jumped makes it wait for one step at most
-            self.due += min(max(seen.at + options.every - now, 0), options.every)
+            pause = min(seen.every, options.every, options.over)
+            self.due += min(max(seen.at + pause - now, 0), pause)
         self.of = drain.steps + max(1, math.ceil(amount_left / step))
         return drain
 
@@ -563,7 +564,8 @@ class Run:
                     raise
                 tell(why)
                 self.due = max(self.due, time.monotonic() + AGAIN)
-            time.sleep(max(0.0, self.due - time.monotonic()))
+            with Progress("waits for the next step"):
+                time.sleep(max(0.0, self.due - time.monotonic()))
 
     def sight(self) -> Sight:
         with Progress("looks what is served"):

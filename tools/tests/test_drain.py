@@ -12,7 +12,7 @@ from unittest import mock
 from fleet_world import CRASH_AFTER, CRASH_BEFORE, LOST_AFTER, LOST_BEFORE, Client, Crash, Table
 from glb_tools import drain, plan
 from glb_tools.drain import main
-from glb_tools.history import topology_at
+from glb_tools.history import topology_at, with_numbers
 from glb_tools.log import Log, Names, Signed, checksum_of
 from glb_tools.plan import Served
 from glb_tools.text import Replay
@@ -452,6 +452,14 @@ class HardCases(OverFile):
                 self.assertEqual(self.capacities(), [30, 20, 10, 0])
                 self.assertEqual(self.clock.slept, [60, 60] if not waits else [waits, 60, 60])
 
+    def test_begun_again_in_one_step_it_does_not_wait(self):
+        self.clock.at_sleep = self.interrupt
+        self.drain("a")
+        self.clock.now -= 60
+        self.clock.at_sleep, self.clock.slept = lambda: None, []
+        self.assertEqual(self.drain("a", "--over", "0")[0], 0)
+        self.assertEqual((self.capacities(), self.clock.slept), ([30, 0], []))
+
     def test_a_clock_that_jumps_amid_a_drain(self):
         def jump():
             self.clock.off += 10**9 * (-1) ** len(self.clock.slept)
@@ -529,12 +537,7 @@ class OverFleet(Played):
         # the calls that put something
         self.puts = set()
         self.log = Log(Client(self, self), "glb")
-        base = WORLD.encode()
-        self.log.put_file("file", checksum_of(base), base)
-        topology = Topology(base)
-        names = Names(list(topology.unit_at), list(topology.node_at))
-        self.log.put_file("names", checksum_of(base), names.octets())
-        self.log.append_base("base", Signed("ops", "first"), base)
+        self.roll(WORLD)
         for name, new in (
             ("glb_tools.plan.map_at", self.map_at),
             ("glb_tools.drain.etcd_of", lambda options: self.log.etcd),
@@ -542,6 +545,16 @@ class OverFleet(Played):
             patch = mock.patch(name, new)
             patch.start()
             self.addCleanup(patch.stop)
+
+    def roll(self, text):
+        """Appends a base with the numbers of the log."""
+        base = with_numbers(self.log, text.encode(), "new")
+        topology = Topology(base)
+        names = Names(list(topology.unit_at), list(topology.node_at))
+        self.log.put_file("file", checksum_of(base), base)
+        self.log.put_file("names", checksum_of(base), names.octets())
+        ident = f"base{self.count}"
+        self.assertIsNotNone(self.log.append_base(ident, Signed("ops", "rolled"), base))
 
     def map_at(self, log, number, glb):
         return placed(topology_at(log, log.look(), number))
@@ -597,6 +610,30 @@ class OverFleet(Played):
         status, _, said = self.drain("a")
         self.assertEqual((status, len(self.batches())), (5, 2), said)
         self.assertEqual(self.listed()[0]["state"], "changed")
+
+    def test_another_topology_comes_amid(self):
+        new = WORLD + ALONE
+        self.clock.at_sleep = lambda: self.roll(new)
+        self.assertEqual(self.drain("a")[0], 0)
+        self.assertEqual(
+            [lines for lines, _, _ in self.batches()], ["capacity a 20\n", "capacity a 0\n"]
+        )
+        # the base has the numbers of the drain, and what is kept beside the log does not
+        self.assertEqual(self.drain("a", "--back")[0], 0)
+        self.assertEqual(self.batches()[-1][0], "capacity a 60\n")
+
+    def test_the_node_goes_while_a_step_is_worked(self):
+        gone, asked = WORLD.replace('"a"', '"d"'), []
+
+        def come():
+            asked.append(1)
+            if len(asked) == 3:
+                self.roll(gone)
+
+        self.asked = come
+        status, _, said = self.drain("a")
+        self.assertEqual((status, len(self.batches())), (2, 1), said)
+        self.assertEqual(self.listed()[0]["state"], "gone")
 
     def test_others_append_meanwhile(self):
         def come():
