@@ -70,8 +70,8 @@ STATUSES = {
 LOCKED, PATIENCE = 30.0, 300.0
 # how soon what failed is tried again, and how long a server's word of a batch is waited for, in seconds
 AGAIN, WORD = 2.0, 5.0
-# how often a step is made smaller by its share before it is halved
-SHARES = 4
+# how often a step is made smaller by its share before it is halved, and then larger again where it moves too little
+SHARES, LARGER = 4, 2
 TIME = re.compile(r"(\d{1,9})([smhd]?)")
 SECONDS = {"": 1, "s": 1, "m": 60, "h": 3600, "d": 86400}
 
@@ -403,7 +403,7 @@ def next_step(glb: str, sight: Sight, target: int, most: int, is_bound: bool) ->
             if larger.units > most:
                 break
             size, found = 2 * size, larger
-    tries = 0
+    tries, too_large = 0, size
     while found.units > most:
         if size <= 1 and not is_bound:
             break
@@ -412,10 +412,20 @@ def next_step(glb: str, sight: Sight, target: int, most: int, is_bound: bool) ->
                 f"the smallest step, to {found.to:,}, would move {found.units:,} units, and --step is {most:,}",
                 STUCK,
             )
-        tries += 1
+        tries, too_large = tries + 1, size
         share = size * most // found.units
         size = max(1, min(size - 1, share) if tries <= SHARES else size // 2)
         found = by(size)
+    # a share that was too small would make more steps of the drain than it takes
+    for _ in range(LARGER):
+        middle = (size + too_large) // 2
+        if 4 * found.units >= 3 * most or middle <= size:
+            break
+        larger = by(middle)
+        if larger.units > most:
+            too_large = middle
+        else:
+            size, found = middle, larger
     return found
 
 
@@ -782,7 +792,9 @@ def words_of_command() -> argparse.ArgumentParser:
     words.add_argument("--forget", action="store_true", help="ends a drain, and appends nothing")
     words.add_argument("--dry-run", action="store_true", help="shows the steps, and makes none")
     words.add_argument(
-        "--anyway", action="store_true", help="also where more units would lack a place"
+        "--anyway",
+        action="store_true",
+        help="also where more units would lack a place, or somebody else changed the capacity",
     )
     words.add_argument(
         "--lines", type=int, default=10, metavar="N", help="how many pairs of sites are shown (10)"
