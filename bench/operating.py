@@ -77,6 +77,7 @@ BLOCKS = {
         # five units without a place
         finds=2,
     ),
+    "tools/glb-drain A": Block(("grep '^capacity A' log | tail -n 1; cat log.drains", "capacity A 9\n?")),
     "apt-get install --no-install-recommends python3-prometheus-client": Block(
         ("grep -c '^glb_placed_units 15' /var/lib/prometheus/node-exporter/glb.prom", "1"),
         ("systemctl disable --now glb glb-show.timer 2>/dev/null; sleep 1; ls /var/lib/prometheus/node-exporter/glb.prom 2>/dev/null; systemctl is-active glb-metrics", "inactive"),

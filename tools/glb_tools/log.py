@@ -11,6 +11,7 @@
     PREFIX/turn                   which server begins anew: one at a time (60 s)
     PREFIX/canary                 which server is to run which base beside its own, and PREFIX/beside/NAME how far that is
     PREFIX/roll                   who rolls which base, as long as glb-roll lives (60 s)
+    PREFIX/drain/NODE             a node that glb-drain takes out of service, or back, and its capacity of before
 
 **An entry** is a text of JSON: `kind` (`batch` or `base`), `before`, `time` (seconds since 1970), `author`, `why`, `id` (of
 its append), and of a batch `lines`, of a base `base`, `upto` and `chain`. Its checksum is the SHA-256 of its octets. `before` is the checksum

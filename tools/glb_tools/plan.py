@@ -13,7 +13,7 @@ from typing import Any
 from glb_tools.append import batch_of, check
 from glb_tools.etcd import ETCD_STATUSES, add_etcd_options, etcd_of
 from glb_tools.history import topology_at
-from glb_tools.log import Log
+from glb_tools.log import Log, Look
 from glb_tools.log_command import last_map, map_at
 from glb_tools.map import Map, Sums, map_of
 from glb_tools.moves import placed_of, report
@@ -281,12 +281,16 @@ def served_by_log(glb: str, topology: bytes, log: bytes) -> Served:
     return Served(written(names, numbers).encode(), found)
 
 
-def served_by_fleet(glb: str, options: argparse.Namespace) -> Served:
-    log = Log(etcd_of(options), options.prefix)
-    look = log.look()
+def served_at(glb: str, log: Log, look: Look) -> Served:
+    """What the servers of a fleet have at the last entry that was seen."""
     if not look.last:
         raise Fault("the log is empty")
     return Served(topology_at(log, look, look.last), map_at(log, look.last, glb))
+
+
+def served_by_fleet(glb: str, options: argparse.Namespace) -> Served:
+    log = Log(etcd_of(options), options.prefix)
+    return served_at(glb, log, log.look())
 
 
 def served(options: argparse.Namespace) -> Served:
