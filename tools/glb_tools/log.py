@@ -11,6 +11,7 @@
     PREFIX/turn                   which server begins anew: one at a time (60 s)
     PREFIX/canary                 which server is to run which base beside its own, and PREFIX/beside/NAME how far that is
     PREFIX/roll                   who rolls which base, as long as glb-roll lives (60 s)
+    PREFIX/watch                  which glb-watch leads, as long as it lives
 
 **An entry** is a text of JSON: `kind` (`batch` or `base`), `before`, `time` (seconds since 1970), `author`, `why`, and of a
 batch `lines`, of a base `base`, `upto` and `chain`. Its checksum is the SHA-256 of its octets. `before` is the checksum
@@ -393,14 +394,17 @@ class Log:
         content: Message,
         ident: str,
         more: list[Message] | None = None,
+        only_if: list[Message] | None = None,
     ) -> bool:
-        """Puts an entry behind the last one that was seen, with its checksum; not where another came between."""
+        """Puts an entry behind the last one that was seen, with its checksum; not where another came between, nor where one of
+        these conditions does not hold."""
         before = look.entries[-1].checksum if look.entries else ""
         octets, by = entry_octets(kind, before, signed, content), self.at("by", ident)
         conditions = [
             is_at(self.key(look.last + 1), 0),
             is_at(by, 0),
             is_at(self.at("bases"), look.bases_revision),
+            *(only_if or []),
         ]
         if look.last:
             conditions.append(is_at(self.key(look.last), look.last_revision))

@@ -2,17 +2,19 @@
 
 import argparse
 import json
+import signal
 import sys
 import time
 from collections.abc import Callable, Container
-from typing import Any
+from math import ceil
+from typing import Any, NoReturn
 
 from glb_tools.etcd import ETCD_STATUSES, add_etcd_options, etcd_of
 from glb_tools.log import Log
-from glb_tools.options import DONE, WRONG_WORDS, Fault, parser, read_file, said
+from glb_tools.options import DONE, WRONG_WORDS, Fault, Progress, parser, read_file, said
 from glb_tools.text import MOST_CHANGES
 from glb_tools.watch_engine import Answer, Engine, Found, Verdict
-from glb_tools.watch_logs import FileLog, FleetLog, Served, Watched
+from glb_tools.watch_logs import HANDED_BACK, FileLog, FleetLog, Served, Waits, Watched
 from glb_tools.watch_prometheus import Prometheus
 from glb_tools.watch_rules import Name, Rule, Settings, matched, places_of, settings_of
 
@@ -28,6 +30,8 @@ STATUSES = {DONE: "done; without --once it does not end by itself", **ETCD_STATU
 Ask = Callable[[dict[str, tuple[Rule, Container[str]]]], dict[str, Answer]]
 # of how many changes a line or a reason says more than their number
 MOST_SAID = 6
+# how long one leads at least that is not heard of, in seconds
+LEAD = 15
 
 
 class Watch:
@@ -45,6 +49,12 @@ class Watch:
             self.engine = Engine(self.settings, served.topology, self.engine)
         self.served = served
         return self.engine, served
+
+    def begin(self, is_dry: bool) -> None:
+        """What is wrong with names is said at the start."""
+        self.read()
+        if self.settings.hand_back and not is_dry:
+            self.hand_back(list(self.settings.hand_back), False)
 
     def look(self) -> Found:
         engine, _ = self.read()
@@ -87,7 +97,7 @@ class Watch:
         for at in range(0, len(found), MOST_CHANGES):
             some = found[at : at + MOST_CHANGES]
             lines = [f"{word} {name} {served.numbers[word, name]}" for word, name in some]
-            if not self.log.append(lines, "handed back"):
+            if not self.log.append(lines, HANDED_BACK):
                 raise Fault("somebody appended meanwhile: say it again")
             self.read()
         return found
@@ -157,9 +167,22 @@ class Teller:
 # The command.
 
 
-def run(watch: Watch, settings: Settings, metrics: Any) -> None:
+def begins(watch: Watch, teller: Teller) -> bool:
+    """Whether it is its turn; what is wrong with rules or the log ends the command."""
+    try:
+        watch.begin(False)
+        return True
+    except Waits as why:
+        teller.tell([str(why)])
+        return False
+
+
+def run(watch: Watch, settings: Settings, metrics: Any) -> NoReturn:
     """Looks each interval, by a clock that never jumps; a look that fails changes nothing."""
-    teller, due = Teller(), time.monotonic()
+    teller = Teller()
+    while not begins(watch, teller):
+        time.sleep(settings.every)
+    due = time.monotonic()
     while True:
         try:
             found = watch.look()
@@ -183,12 +206,15 @@ def run(watch: Watch, settings: Settings, metrics: Any) -> None:
 
 
 def log_of(settings: Settings, options: argparse.Namespace) -> Watched:
+    is_alone = not options.dry_run and not options.hand_back
     if not settings.log:
-        return FleetLog(Log(etcd_of(options), options.prefix))
+        # it is heard of at each look, which may take as long as Prometheus
+        seconds = max(LEAD, ceil(3 * settings.every)) if is_alone else 0
+        return FleetLog(Log(etcd_of(options), options.prefix), seconds)
     return FileLog(
         settings.log,
         settings.topology,
-        is_alone=not options.dry_run and not options.hand_back,
+        is_alone=is_alone,
         is_read_only=options.dry_run,
     )
 
@@ -215,26 +241,31 @@ def main() -> int:
         raise Fault("--json goes with --once", WRONG_WORDS)
     settings = settings_of(read_file(options.settings), options.settings)
     prometheus = Prometheus(settings.prometheus, settings.timeout)
-    watch = Watch(settings, log_of(settings, options), prometheus.ask)
+    log = log_of(settings, options)
+    signal.signal(signal.SIGTERM, lambda *_: sys.exit(0))
+    try:
+        return work(Watch(settings, log, prometheus.ask), settings, options)
+    finally:
+        log.end()
+
+
+def work(watch: Watch, settings: Settings, options: argparse.Namespace) -> int:
     if options.hand_back:
         for word, name in watch.hand_back(options.hand_back, True):
             print(f"{word} {name} is handed back")
         return DONE
-    # what is wrong with names is said at the start
-    watch.read()
-    if not options.dry_run and settings.hand_back:
-        watch.hand_back(list(settings.hand_back), False)
-    if options.once:
+    if not options.once:
+        run(watch, settings, metrics_of(settings))
+    with Progress("looks"):
+        watch.begin(options.dry_run)
         found = watch.look()
-        if not options.dry_run and found.batch and not watch.append(found):
-            raise Fault("somebody else appended meanwhile: nothing was put")
-        if options.json:
-            json.dump(told(found), sys.stdout, indent=1)
-            print()
-        else:
-            say(found)
-        return DONE
-    run(watch, settings, metrics_of(settings))
+    if not options.dry_run and found.batch and not watch.append(found):
+        raise Fault("somebody else appended meanwhile: nothing was put")
+    if options.json:
+        json.dump(told(found), sys.stdout, indent=1)
+        print()
+    else:
+        say(found)
     return DONE
 
 

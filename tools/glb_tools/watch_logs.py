@@ -1,16 +1,17 @@
 """The logs that glb-watch appends to: what is served by them, who set each number, and batches behind what was read.
 
-In a fleet's log an entry has an author. A file has none, so a line of glb-watch has two spaces behind its first word there,
+In a fleet's log an entry has an author, and one that hands names back says so by its reason. A file has none, so a line of glb-watch has two spaces behind its first word there,
 which a feed takes as one; a line with one space was written by somebody else.
 """
 
 import fcntl
 import os
+import socket
 import uuid
 from typing import IO, Protocol
 
 from glb_tools.append import check
-from glb_tools.etcd import Unreachable
+from glb_tools.etcd import Unreachable, is_at, put
 from glb_tools.history import handed, topology_of
 from glb_tools.log import BATCH, Base, Entry, Log, Look, Signed, without_base
 from glb_tools.options import Fault, read_file
@@ -19,9 +20,15 @@ from glb_tools.topology import Topology
 from glb_tools.watch_rules import CAPACITY, DEMAND, Name
 
 AUTHOR, BY_HAND = "glb-watch", "hand"
+# how the reason of an entry begins that hands its names back, whoever appends it
+HANDED_BACK = "handed back"
 OWN = (b"demand  ", b"capacity  ")
 # what closes a batch of which a part alone was written: each server drops it whole
 TORN = b" torn torn torn\ncommit\n"
+
+
+class Waits(Fault):
+    """Another one leads."""
 
 
 class Authors(Replay):
@@ -89,6 +96,9 @@ class Watched(Protocol):
     def append(self, lines: list[str], why: str) -> bool:
         ...
 
+    def end(self) -> None:
+        ...
+
 
 class FileLog:
     """A file that a feed unit follows, over the topology from which its server began."""
@@ -130,6 +140,11 @@ class FileLog:
                 raise Fault(f"{self.path}: another glb-watch runs over it") from None
         topology = Topology(read_file(self.topology_path), self.topology_path)
         self.served, self.at, self.rest, self.is_own = Served(topology), 0, b"", True
+
+    def end(self) -> None:
+        """Another one may run at once."""
+        if self.file:
+            self.file.close()
 
     def take(self) -> None:
         """Reads what was appended, up to the last line's end."""
@@ -187,16 +202,41 @@ def own_line(line: str) -> str:
 
 
 class FleetLog:
-    """The log of a fleet: entries by its newest base."""
+    """The log of a fleet: entries by its newest base. Of several that are to lead one does, as long as it is heard of within
+    some seconds; each of its entries is put only where it still does."""
 
-    def __init__(self, log: Log) -> None:
-        self.log = log
+    def __init__(self, log: Log, lead_seconds: int = 0) -> None:
+        self.log, self.lead_seconds = log, lead_seconds
+        self.lease: int | None = None
+        # since which revision of etcd it leads
+        self.leads_since = 0
         self.base: Base | None = None
         self.served: Served | None = None
         self.look: Look | None = None
         self.chain, self.next = "", 0
 
+    def lead(self) -> None:
+        etcd, key = self.log.etcd, self.log.at("watch")
+        if self.lease is not None and etcd.keep(self.lease):
+            return
+        self.lease = None
+        lease = etcd.lease(self.lead_seconds)
+        who = f"{socket.gethostname()} {os.getpid()}"
+        answer = etcd.txn([put(key, who, lease)], [is_at(key, 0)])
+        if not answer.held:
+            etcd.end_lease(lease)
+            raise Waits("another glb-watch leads: this one waits")
+        self.lease, self.leads_since = lease, answer.revision
+
+    def end(self) -> None:
+        """Another one may lead at once."""
+        lease, self.lease = self.lease, None
+        if lease is not None:
+            self.log.etcd.end_lease(lease)
+
     def read(self) -> Served:
+        if self.lead_seconds:
+            self.lead()
         look = self.log.look()
         base = look.newest
         if base is None:
@@ -219,11 +259,12 @@ class FleetLog:
     def take(self, look: Look, base: Base, entry: Entry) -> None:
         if entry.kind != BATCH or self.served is None:
             return
+        author = AUTHOR if entry.why.startswith(HANDED_BACK) else entry.author
         if entry.number <= base.upto:
             # its numbers are those of the base; who set them is not
-            self.served.take(self.kept(entry), entry.author, with_numbers=False)
+            self.served.take(self.kept(entry), author, with_numbers=False)
         elif lines := handed(self.log, look, base, entry):
-            self.served.take(f"{lines}commit\n".encode(), entry.author)
+            self.served.take(f"{lines}commit\n".encode(), author)
 
     def kept(self, entry: Entry) -> bytes:
         """The batch of an entry, of names that the newest base has."""
@@ -237,11 +278,10 @@ class FleetLog:
         assert self.look and self.served
         text = "".join(f"{line}\n" for line in lines)
         check(lines_of(text.encode()), self.served.topology)
-        content = {"lines": text}
+        content, signed, ident = {"lines": text}, Signed(AUTHOR, why), uuid.uuid4().hex
+        leads = [is_at(self.log.at("watch"), self.leads_since)] if self.lead_seconds else []
         try:
-            return self.log.put_entry(
-                self.look, BATCH, Signed(AUTHOR, why), content, uuid.uuid4().hex
-            )
+            return self.log.put_entry(self.look, BATCH, signed, content, ident, only_if=leads)
         except Unreachable as fault:
             # the next look reads whether it was
             raise Fault(f"{fault}; the batch may have been appended") from None

@@ -19,7 +19,7 @@ from glb_tools.options import Fault
 from glb_tools.text import Replay
 from glb_tools.topology import Topology
 from glb_tools.watch_engine import Answer, Engine, answer_of
-from glb_tools.watch_logs import AUTHOR, FileLog, FleetLog
+from glb_tools.watch_logs import AUTHOR, FileLog, FleetLog, Waits
 from glb_tools.watch_rules import Rule, names_of, settings_of
 
 TOP = 'prometheus = "http://127.0.0.1:1"\n'
@@ -564,6 +564,35 @@ class Fleets(Case):
                     self.assertEqual(self.log.look().last, last)
                     self.assertTrue(log.append([f"capacity A {at}"], ""))
                 self.assertEqual(self.log.look().last, last + 1)
+
+    def test_one_leads(self):
+        first, second = FleetLog(self.log, 15), FleetLog(self.log, 15)
+        first.read()
+        with self.assertRaises(Waits):
+            second.read()
+        self.world.table.tick(10)
+        first.read()
+        self.world.table.tick(10)
+        with self.assertRaises(Waits):
+            second.read()
+        # it is not heard of, and what it still would append is not put
+        self.world.table.tick(15)
+        second.read()
+        self.assertFalse(first.append(["capacity A 1"], ""))
+        with self.assertRaises(Waits):
+            first.read()
+        self.assertTrue(second.append(["capacity A 2"], ""))
+        second.end()
+        self.assertEqual(first.read().numbers["capacity", "A"], 2)
+        self.assertTrue(first.append(["capacity A 3"], ""))
+
+    def test_handed_back_by_whoever_says_so(self):
+        self.log.append("a", Signed("glb-drain", "a drain"), "capacity A 3\n", lambda names: None)
+        log = FleetLog(self.log)
+        self.assertEqual(log.read().by_hand, {("capacity", "A"): "glb-drain"})
+        why = "handed back: the drain is over"
+        self.log.append("b", Signed("glb-drain", why), "capacity A 10\n", lambda names: None)
+        self.assertEqual(log.read().by_hand, {})
 
     def test_a_name_that_the_newest_base_lacks(self):
         log = FleetLog(self.log)
