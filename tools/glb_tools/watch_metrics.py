@@ -11,7 +11,7 @@ from glb_tools.watch_logs import Served
 
 class Metrics:
     def __init__(self, address: str) -> None:
-        registry = CollectorRegistry()
+        self.registry = registry = CollectorRegistry()
         self.up = Gauge("glb_watch_up", "Whether the last look had all answers", registry=registry)
         self.looked = Gauge(
             "glb_watch_looked_timestamp_seconds",

@@ -2,6 +2,9 @@
 
 import importlib.util
 import json
+import re
+import subprocess
+import sys
 import threading
 import time
 import types
@@ -12,7 +15,7 @@ from pathlib import Path
 from urllib.parse import parse_qs
 
 from fleet_world import Client, Outside, Table
-from samples import EXAMPLES, SMALL, Case
+from samples import EXAMPLES, SMALL, TOOLS, TOP, Case
 
 from glb_tools.log import Log, Names, Signed, checksum_of
 from glb_tools.options import Fault
@@ -22,7 +25,7 @@ from glb_tools.watch_engine import Answer, Engine, answer_of
 from glb_tools.watch_logs import AUTHOR, FileLog, FleetLog, Waits
 from glb_tools.watch_rules import Rule, names_of, settings_of
 
-TOP = 'prometheus = "http://127.0.0.1:1"\n'
+HEAD = 'prometheus = "http://127.0.0.1:1"\n'
 DEMANDS = '[[demand]]\nquery = "d"\nlabel = "group"\nnames = ["*"]\n'
 POOLS = '[[capacity]]\nquery = "c"\nlabel = "pool"\nnames = ["A", "B"]\n'
 GROUP = '[[group]]\nname = "{}"\ndemand = 100\npools = ["{}"]\nscores = [1]\nprefixes = []\n'
@@ -44,7 +47,7 @@ def trees(*sizes, groups=0):
     return Topology(text.encode())
 
 
-def settings(text, top=TOP):
+def settings(text, top=HEAD):
     return settings_of((top + text).encode(), "watch.toml")
 
 
@@ -83,7 +86,7 @@ class Looks:
 
 
 class Settings(Case):
-    def refuses(self, words, text, top=TOP):
+    def refuses(self, words, text, top=HEAD):
         with self.assertRaisesRegex(Fault, words):
             names_of(settings(text, top).rules, Topology(SMALL.encode()))
 
@@ -744,6 +747,60 @@ class Command(Case):
             # and by the settings
             path = self.settings(server, 'hand_back = ["g*"]\n')
             self.assertNotIn("set by", self.good(self.main, path, "--once"))
+
+    def test_runs_until_it_is_ended(self):
+        answers = {"d": vector("group", {"g1": 20, "g2": 8, "g2www": 3}), "c": b"nonsense"}
+        with faked(**answers) as server:
+            path = self.settings(server, "timeout = 0.2\nevery = 0.2\n")
+            words = [sys.executable, "-B", str(TOOLS / "glb-watch"), path]
+            pipes = {"stdout": subprocess.PIPE, "stderr": subprocess.PIPE}
+            with subprocess.Popen(words, **pipes) as process:
+                self.addCleanup(process.kill)
+                self.wait_for(lambda: "commit" in Path(self.log).read_text())
+                found = self.refused(self.main, path, "--once")
+                self.assertIn("another glb-watch runs over it", found)
+                time.sleep(0.5)
+                process.terminate()
+                out, said = process.communicate(timeout=10)
+        self.assertEqual(process.returncode, 0)
+        self.assertEqual(out.decode().count("demand g1 20 (measured)"), 1)
+        # said once, however often it is looked
+        self.assertRegex(said.decode(), r"^glb-watch: capacity rule 1: .* stay\n$")
+        self.assertEqual(Path(self.log).read_text(), "demand  g1 20\ncommit\n")
+
+    def wait_for(self, is_so):
+        for _ in range(500):
+            if is_so():
+                return
+            time.sleep(0.02)
+        self.fail("it did not come to it")
+
+
+@unittest.skipUnless(
+    importlib.util.find_spec("prometheus_client"), "python3-prometheus-client is not installed"
+)
+class OwnMetrics(unittest.TestCase):
+    def test_documents_have_them(self):
+        from prometheus_client import generate_latest
+
+        from glb_tools.watch_metrics import Metrics
+
+        made = Metrics("127.0.0.1:0")
+        looks = Looks(rules("demand", "g0", smoothing=1), trees(1))
+        looks.look({"g0": 200})
+        served = types.SimpleNamespace(by_hand={("capacity", "r0p0"): "ops"})
+        made.take(looks.found, served, True)
+        made.failed()
+        text = generate_latest(made.registry).decode()
+        for line in ("by_hand 1.0", "batches_total 1.0", "failed_looks_total 1.0", "up 0.0"):
+            self.assertIn(f"\nglb_watch_{line}\n", text)
+        self.assertIn('\nglb_watch_changes_total{word="demand"} 1.0\n', text)
+        names = set(re.findall(r"(?m)^(glb_watch_\w+)", text))
+        table = (
+            (TOP / "docs" / "OPERATING.md").read_text().partition("| Metric of `glb-watch` |")[2]
+        )
+        told = set(re.findall(r"`(glb_watch_\w+)`", table.partition("\n\n")[0]))
+        self.assertEqual({name for name in names if not name.endswith("_created")}, told)
 
 
 if __name__ == "__main__":
