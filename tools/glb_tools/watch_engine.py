@@ -142,7 +142,8 @@ class Engine:
         for (word, name), rule in self.rules.items():
             old, answer = served[word, name], answers[rule.place]
             state = self.states.get((word, name))
-            if state is None:
+            if state is None or (word, name) in by_hand:
+                # it begins from what is served, as behind a start
                 state = self.states[word, name] = State(
                     is_down=word == CAPACITY and old == 0, is_filling=old == 0
                 )
@@ -165,7 +166,7 @@ class Engine:
                 state.missing_since = None
                 self.capacity(found, rule, state, value, now)
         for found in verdicts:
-            if found.word == CAPACITY:
+            if found.word == CAPACITY and (CAPACITY, found.name) not in by_hand:
                 state = self.states[found.word, found.name]
                 state.largest = max(state.largest, found.old, found.new or 0)
                 if state.is_down or state.bad or is_deep(found):

@@ -154,6 +154,9 @@ class FileLog:
         self.at = self.file.tell()
         *whole, self.rest = octets.split(b"\n")
         for line in whole:
+            if line.split() == [b"stop"]:
+                # the feed unit leaves it out
+                continue
             is_own = line.startswith(OWN)
             self.served.take(line + b"\n", AUTHOR if is_own else BY_HAND)
             if not self.is_open_batch:
@@ -174,7 +177,8 @@ class FileLog:
         return self.is_open_batch
 
     def append(self, lines: list[str], why: str) -> bool:
-        assert self.file
+        assert self.file and self.served
+        check([line.encode() for line in lines], self.served.topology)
         if os.stat(self.path).st_size != self.at:
             return False
         if self.rest or self.is_open_batch:
@@ -232,7 +236,11 @@ class FleetLog:
         """Another one may lead at once."""
         lease, self.lease = self.lease, None
         if lease is not None:
-            self.log.etcd.end_lease(lease)
+            try:
+                self.log.etcd.end_lease(lease)
+            except Fault:
+                # it runs out by itself
+                pass
 
     def read(self) -> Served:
         if self.lead_seconds:

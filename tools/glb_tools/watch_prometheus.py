@@ -23,7 +23,7 @@ class Question(threading.Thread):
     def run(self) -> None:
         try:
             self.answer = answer_of(self.rule, self.names, self.read())
-        except (requests.RequestException, OSError, ValueError) as why:
+        except Exception as why:  # noqa: BLE001: whatever it is, there is no answer
             self.answer = Answer(fault=f"Prometheus cannot be asked: {words_of(why)}")
 
     def read(self) -> bytes:

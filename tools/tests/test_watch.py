@@ -344,6 +344,27 @@ class Capacities(unittest.TestCase):
         self.assertEqual([looks.look({"r0p0": 0}) for _ in range(4)], [{}] * 4)
         self.assertEqual(looks.why("r0p0"), "set by ops, until it is handed back")
 
+    def test_handed_back_it_begins_from_what_is_served(self):
+        looks = Looks(rules("demand", "g0", smoothing=0.5, dead_band=0), trees(1))
+        looks.look({"g0": 10**6})
+        looks.by_hand["demand", "g0"] = "ops"
+        looks.served["demand", "g0"] = 100
+        looks.look({"g0": 10**6})
+        looks.by_hand.clear()
+        self.assertEqual(looks.look({"g0": 200}), {"g0": 150})
+
+    def test_a_region_that_went_by_hand_is_no_matter_of_measuring(self):
+        made = settings(
+            "[calm]\nhold = 0\n[brake]\ntree = 40\nall = 40\n"
+            + POOLS.replace('"A", "B"', '"r*"').replace("label", "down_after = 1\nlabel")
+        )
+        looks = Looks(made, trees(2, 8))
+        looks.served["capacity", "r0"] = 0
+        looks.by_hand["capacity", "r0"] = "ops"
+        values = {name: 100 for _, name in looks.engine.rules} | {"r1": 10**6}
+        self.assertEqual(looks.look(values | {"r1p0": 0}), {"r1p0": 0})
+        self.assertEqual(looks.found.brakes, [])
+
     def test_a_batch_that_was_not_appended_is_asked_for_again(self):
         looks = self.looks(calm="hold = 1000\nflap = 1000")
         looks.look({"r0p0": 0})
@@ -459,6 +480,22 @@ class Files(Case):
         self.by_hand("capacity A 1\ncommit\n")
         self.assertFalse(log.append(["capacity A 5"], ""))
         self.assertEqual(log.read().numbers["capacity", "A"], 1)
+
+    def test_a_line_stop_and_questions(self):
+        """As the feed unit hands the log on: without `stop`."""
+        self.by_hand("stop\ncapacity A 1\nshow\nask 192.0.2.1 00\ncommit\n stop \n")
+        log = self.opened()
+        self.assertEqual(log.read().numbers["capacity", "A"], 1)
+        self.assertTrue(log.append(["capacity A 2"], ""))
+        self.assertEqual(log.read().numbers["capacity", "A"], 2)
+
+    def test_a_name_that_no_line_can_have(self):
+        log = self.opened()
+        log.read()
+        for line in ("capacity A b 1", "capacity \u00e4 1", "capacity C 1", "demand g1 0"):
+            with self.assertRaises(Fault):
+                log.append([line], "")
+        self.assertEqual(Path(self.log).read_text(), "")
 
     def test_a_batch_that_is_dropped_holds_nothing(self):
         self.by_hand("capacity A 1\ncapacity C 1\ncommit\n")
