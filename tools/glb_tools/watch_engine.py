@@ -83,7 +83,7 @@ class State:
     # how often it went down with little time between
     flaps: int = 0
     out_until: float = 0
-    # the largest capacity that was seen
+    # the largest capacity that it had since the start
     largest: int = 0
 
 
@@ -137,7 +137,7 @@ class Engine:
     ) -> Found:
         """`answers` are by the places of their rules; `by_hand` are the names that somebody else set, and who did."""
         verdicts = []
-        # the nodes that are down or look so, and those that would fall by more than half
+        # the nodes that are down or look so, and those that would fall below half
         out: set[str] = set()
         for (word, name), rule in self.rules.items():
             old, answer = served[word, name], answers[rule.place]
@@ -169,7 +169,7 @@ class Engine:
             if found.word == CAPACITY and (CAPACITY, found.name) not in by_hand:
                 state = self.states[found.word, found.name]
                 state.largest = max(state.largest, found.old, found.new or 0)
-                if state.is_down or state.bad or is_deep(found):
+                if state.is_down or state.bad or self.is_deep(found):
                     out.add(found.name)
         brakes = self.brake(verdicts, out, by_hand)
         for found in verdicts:
@@ -251,7 +251,7 @@ class Engine:
             words = f"{100 * gone / total:.0f} % of {where} look down, more than {100 * most:g} %"
             said.append(words)
             for found in verdicts:
-                if is_deep(found) and tree in (None, self.root(found.name)):
+                if self.is_deep(found) and tree in (None, self.root(found.name)):
                     found.new, found.why = None, f"the brake: {words}"
         return said
 
@@ -275,6 +275,12 @@ class Engine:
                 found[tree] = count + is_out, gone + size * is_out, total + size
         return found
 
+    def is_deep(self, found: Verdict) -> bool:
+        """Whether a node is to fall below half of the most that it had: to the brake that is as if it went out."""
+        if not found.is_fall or found.new is None:
+            return False
+        return 2 * found.new < self.states[found.word, found.name].largest
+
     def root(self, node: str) -> int:
         *_, root = self.topology.path(self.topology.node_at[node])
         return root
@@ -294,11 +300,6 @@ def missing(found: Verdict, rule: Rule, state: State, now: float) -> None:
     else:
         assert isinstance(rule.missing, int)
         found.new, found.why = rule.missing, f"no series for {silent:.0f} s: its rule's number"
-
-
-def is_deep(found: Verdict) -> bool:
-    """Whether a node is to fall by more than half: to the brake that is as if it went out."""
-    return found.word == CAPACITY and found.new is not None and 2 * found.new < found.old
 
 
 def settle(found: Verdict, state: State, now: float) -> None:

@@ -333,6 +333,17 @@ class Capacities(unittest.TestCase):
         looks.look(bad)
         self.assertEqual(looks.look(bad), {"r0p0": 0, "r1p0": 0})
 
+    def test_the_brake_sees_what_falls_in_steps(self):
+        looks = self.looks(4, brake="tree = 40\nall = 100")
+        values = {name: 100 for _, name in looks.engine.rules}
+        for value in (60, 51, 40, 30, 20, 10, 1):
+            looks.look({name: value for name in values})
+        self.assertEqual(set(looks.served[each] for each in looks.engine.rules), {51})
+        # one alone may
+        looks = self.looks(4, brake="tree = 40\nall = 100")
+        for value in (60, 40, 20):
+            self.assertEqual(looks.look(values | {"r0p0": value}), {"r0p0": value})
+
     def test_one_pool_alone_may_go(self):
         looks = self.looks(1, 1, brake="tree = 10\nall = 10")
         looks.look({"r0p0": 0, "r1p0": 100})
