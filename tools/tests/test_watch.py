@@ -21,7 +21,7 @@ from glb_tools.log import Log, Names, Signed, checksum_of
 from glb_tools.options import Fault
 from glb_tools.text import Replay
 from glb_tools.topology import Topology
-from glb_tools.watch_engine import Answer, Engine, answer_of
+from glb_tools.watch_engine import Answer, Engine, Verdict, answer_of, batch_of
 from glb_tools.watch_logs import AUTHOR, FileLog, FleetLog, Waits
 from glb_tools.watch_rules import Rule, names_of, settings_of
 
@@ -216,6 +216,11 @@ class Demands(unittest.TestCase):
             self.assertEqual([looks.look() for _ in range(2)], [{}, {}])
             self.assertEqual(looks.look(), then)
 
+    def test_a_series_that_comes_back_begins_anew(self):
+        looks = Looks(rules("demand", "g0", missing=7, missing_after=20), trees(1))
+        for _ in range(3):
+            self.assertEqual([looks.look(), looks.look(), looks.look({"g0": 100})], [{}] * 3)
+
     def test_time_without_an_answer_does_not_count(self):
         looks = Looks(rules("demand", "g0", missing=7, missing_after=20), trees(1))
         looks.look()
@@ -344,6 +349,33 @@ class Capacities(unittest.TestCase):
         for value in (60, 40, 20):
             self.assertEqual(looks.look(values | {"r0p0": value}), {"r0p0": value})
 
+    def test_what_counts_for_the_brake(self):
+        # those that look down do already, ahead of their time
+        looks = self.looks(4, brake="tree = 40\nall = 100")
+        values = {name: 100 for _, name in looks.engine.rules}
+        looks.look(values | {"r0p0": 0})
+        self.assertEqual(looks.look(values | {"r0p0": 0, "r0p1": 0}), {})
+        self.assertTrue(looks.found.brakes)
+        # those that were set by hand do not: two of ten may go, and of the other five they may not
+        bad = values | {"r0p0": 0, "r0p1": 0}
+        for by_hand, then in ((0, {"r0p0": 0, "r0p1": 0}), (5, {})):
+            looks = self.looks(10, brake="tree = 30\nall = 100")
+            for number in range(by_hand):
+                looks.by_hand["capacity", f"r0p{9 - number}"] = "ops"
+            looks.look(bad)
+            self.assertEqual(looks.look(bad), then)
+
+    def test_a_pool_of_last_resort_does_not_count(self):
+        topology = (
+            ZONE + node("r0", 10**6) + "".join(node(f"r0p{n}", 100, "r0") for n in range(2))
+        )
+        topology += f'[[node]]\nname = "last"\ncapacity = {2**48}\npool = true\n'
+        made = self.looks(1, brake="tree = 100\nall = 40").settings
+        looks = Looks(made, Topology((topology + GROUP.format("g0", "r0p0")).encode()))
+        bad = {"r0p0": 0, "r0p1": 0}
+        self.assertEqual([looks.look(bad) for _ in range(3)], [{}, {}, {}])
+        self.assertTrue(looks.found.brakes)
+
     def test_one_pool_alone_may_go(self):
         looks = self.looks(1, 1, brake="tree = 10\nall = 10")
         looks.look({"r0p0": 0, "r1p0": 100})
@@ -415,6 +447,13 @@ class Batches(unittest.TestCase):
         self.assertEqual(looks.why("g4999"), "the batch is full: it waits for the next one")
         # the rest comes with the next look
         self.assertEqual(len([name for name in looks.look(values) if name[0] == "g"]), 5000 - 4093)
+
+    def test_octets(self):
+        """A batch of a fleet's log has at most a mebioctet, whatever its names are."""
+        found = [Verdict("demand", "g" * 8000 + str(at), 1, 2, 2, "") for at in range(200)]
+        batch, left = batch_of(found)
+        self.assertEqual((len(batch), len(left)), (130, 70))
+        self.assertLessEqual(sum(len(each.line) + 1 for each in batch), 1 << 20)
 
 
 class Files(Case):
@@ -803,13 +842,15 @@ class Command(Case):
             words = [sys.executable, "-B", str(TOOLS / "glb-watch"), path]
             pipes = {"stdout": subprocess.PIPE, "stderr": subprocess.PIPE}
             with subprocess.Popen(words, **pipes) as process:
-                self.addCleanup(process.kill)
-                self.wait_for(lambda: "commit" in Path(self.log).read_text())
-                found = self.refused(self.main, path, "--once")
-                self.assertIn("another glb-watch runs over it", found)
-                time.sleep(0.5)
-                process.terminate()
-                out, said = process.communicate(timeout=10)
+                try:
+                    self.wait_for(lambda: "commit" in Path(self.log).read_text())
+                    found = self.refused(self.main, path, "--once")
+                    self.assertIn("another glb-watch runs over it", found)
+                    time.sleep(0.5)
+                    process.terminate()
+                    out, said = process.communicate(timeout=10)
+                finally:
+                    process.kill()
         self.assertEqual(process.returncode, 0)
         self.assertEqual(out.decode().count("demand g1 20 (measured)"), 1)
         # said once, however often it is looked
