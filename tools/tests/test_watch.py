@@ -568,6 +568,9 @@ class Files(Case):
         self.file("small.toml", SMALL.replace("capacity = 15", "capacity = 16"))
         self.assertEqual(log.read().numbers["capacity", "R"], 16)
         self.assertEqual(log.read().numbers["capacity", "A"], 5)
+        # one that was cut back in its place
+        self.file("log", "")
+        self.assertEqual(log.read().numbers["capacity", "A"], 10)
         Path(self.log).unlink()
         with self.assertRaises(FileNotFoundError):
             log.read()
@@ -698,6 +701,9 @@ class Fake(BaseHTTPRequestHandler):
         told = self.server.answers[query]
         if callable(told):
             return told(self)
+        self.answer(told)
+
+    def answer(self, told):
         octets = told if isinstance(told, bytes) else json.dumps(told).encode()
         self.send_response(200)
         self.send_header("Content-Length", str(len(octets)))
@@ -809,13 +815,23 @@ class Command(Case):
 
     def test_refused_at_the_start(self):
         with faked() as server:
-            said = self.refused(self.main, self.settings(server, rules=DEMANDS + DEMANDS))
+            said = self.refused(self.main, self.settings(server, rules=DEMANDS + DEMANDS), "--once")
             self.assertIn("both speak of demand g1", said)
             said = self.refused(self.main, self.settings(server), "--dry-run", status=64)
             self.assertIn("--once", said)
             path = self.settings(server)
             Path(self.log).unlink()
-            self.assertIn("No such file", self.refused(self.main, path))
+            self.assertIn("No such file", self.refused(self.main, path, "--once"))
+
+    def test_what_came_while_prometheus_was_asked_counts(self):
+        def answers(handler):
+            Path(self.log).write_text("capacity A 4\ncommit\n")
+            handler.server.answers["d"] = vector("group", {})
+            handler.answer(vector("pool", {"A": 9, "B": 10}))
+
+        with faked(d=vector("group", {}), c=answers) as server:
+            found = self.good(self.main, self.settings(server), "--once", "--dry-run")
+            self.assertIn("capacity A stays 4: set by hand, until it is handed back\n", found)
 
     def test_hand_back(self):
         Path(self.log).write_text("capacity A 4\ndemand g1 5\ncommit\n")
