@@ -93,6 +93,20 @@ BLOCKS = {
         ("curl -s http://127.0.0.1:9853/metrics | grep '^glb_log_up'; journalctl -t glb-exporter -n 1 -o cat", "glb_log_up 0.0\nglb-exporter: etcd: .*"),
         ("systemctl disable --now glb-exporter 2>/dev/null; systemctl is-active glb-exporter", "inactive"),
     ),
+    # no Prometheus is there; the log and its servers are put back as they were behind the last of these
+    "apt-get install --no-install-recommends python3-requests": Block(
+        ("tools/glb-watch /etc/glb/watch.toml --once --dry-run | grep -c '^fault: .* Connection refused'", "2"),
+        before="systemctl stop glb-feed@v4 glb-feed@v6 glb@v4 glb@v6; cp -a /var/lib/glb/changes.log /root/changes.kept",
+    ),
+    "install -m 644 examples/glb-watch.service": Block(
+        ("sleep 3; systemctl is-active glb-watch; journalctl -t glb-watch -o cat | grep -c 'Connection refused'", "active\n2"),
+        ("curl -s http://127.0.0.1:9854/metrics | grep '^glb_watch_up'; tools/glb-watch /etc/glb/watch.toml --once 2>&1", "glb_watch_up 0.0\nglb-watch: .* another glb-watch runs over it"),
+    ),
+    "tools/glb-watch /etc/glb/watch.toml --hand-back": Block(
+        ("tail -n 1 /var/lib/glb/changes.log", "commit"),
+        ("systemctl disable --now glb-watch 2>/dev/null; cp -a /root/changes.kept /var/lib/glb/changes.log; systemctl start glb@v4 glb@v6; sleep 3; " + FOUR, "active\n" * 3 + "active"),
+        before="printf 'capacity A 10\\ndemand g1 8\\ncommit\\n' >>/var/lib/glb/changes.log",
+    ),
     "tail -n +1 -f": Block(("journalctl -u glb -n 3 -o cat; systemctl disable --now glb 2>/dev/null; systemctl start glb@v4; sleep 1; systemctl is-active glb@v4", "published 1\npublished 2\npublished 3\nactive"), before="systemctl stop glb@v4; systemctl disable glb-feed; sed -i '/^stop$/d' /var/lib/glb/changes.log; systemctl start glb; sleep 1", seconds=3),
     # its feed has ended already, so it opens both, and ends
     "glb serve /etc/glb/topology.toml --listen 192.0.2.53:53 --tcp": Block(

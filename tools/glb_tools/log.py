@@ -12,6 +12,7 @@
     PREFIX/canary                 which server is to run which base beside its own, and PREFIX/beside/NAME how far that is
     PREFIX/roll                   who rolls which base, as long as glb-roll lives (60 s)
     PREFIX/drain/NODE             a node that glb-drain takes out of service, or back, and its capacity of before
+    PREFIX/watch                  which glb-watch leads, as long as it lives
 
 **An entry** is a text of JSON: `kind` (`batch` or `base`), `before`, `time` (seconds since 1970), `author`, `why`, `id` (of
 its append), and of a batch `lines`, of a base `base`, `upto` and `chain`. Its checksum is the SHA-256 of its octets. `before` is the checksum
@@ -396,8 +397,10 @@ class Log:
         content: Message,
         ident: str,
         more: list[Message] | None = None,
+        only_if: list[Message] | None = None,
     ) -> bool:
-        """Puts an entry behind the last one that was seen, with its checksum; not where another came between."""
+        """Puts an entry behind the last one that was seen, with its checksum; not where another came between, nor where one of
+        these conditions does not hold."""
         before = look.entries[-1].checksum if look.entries else ""
         # by its id it is another text than any other one, also where a log that was restored gives its number again
         octets = entry_octets(kind, before, signed, {"id": ident, **content})
@@ -406,6 +409,7 @@ class Log:
             is_at(self.key(look.last + 1), 0),
             is_at(by, 0),
             is_at(self.at("bases"), look.bases_revision),
+            *(only_if or []),
         ]
         if look.last:
             conditions.append(is_at(self.key(look.last), look.last_revision))

@@ -8,9 +8,8 @@ import unittest
 from concurrent.futures import ThreadPoolExecutor
 from pathlib import Path
 
-from samples import EXAMPLES, Case
+from samples import EXAMPLES, TOP, Case
 
-RULES, TEST = EXAMPLES / "glb-alerts.yml", EXAMPLES / "glb-alerts-test.yml"
 # the numbers of an alert: what it compares with, how far it looks back, and how long it waits
 NUMBER = re.compile(r"(?m)^ +expr: .*?(?:[<>=] |\[)(?P<limit>[0-9.]+)|^ +for: (?P<wait>[0-9]+m)")
 
@@ -31,6 +30,8 @@ def others(found):
 
 @unittest.skipUnless(shutil.which("promtool"), "promtool is not installed (Debian: prometheus)")
 class Alerts(Case):
+    rules, test = EXAMPLES / "glb-alerts.yml", EXAMPLES / "glb-alerts-test.yml"
+
     def ends_well(self, rules, test):
         """Whether the test of the alerts passes with these rules."""
         folder = Path(tempfile.mkdtemp(dir=self.folder))
@@ -39,17 +40,17 @@ class Alerts(Case):
             if rules.lstrip().startswith(("#", "groups:"))
             else "groups:\n  - name: glb\n    rules:\n"
         )
-        (folder / RULES.name).write_text(head + rules)
-        (folder / TEST.name).write_text(test)
-        words = ["promtool", "test", "rules", TEST.name]
+        (folder / self.rules.name).write_text(head + rules)
+        (folder / self.test.name).write_text(test)
+        words = ["promtool", "test", "rules", self.test.name]
         return subprocess.run(words, cwd=folder, capture_output=True, timeout=60).returncode == 0
 
     def test_they_fire(self):
-        self.assertTrue(self.ends_well(RULES.read_text(), TEST.read_text()))
+        self.assertTrue(self.ends_well(self.rules.read_text(), self.test.read_text()))
 
     def test_each_changed_number_is_noticed(self):
-        _, *rules = re.split(r"(?m)^(?=      - alert: )", RULES.read_text())
-        first, *tests = re.split(r"(?m)^(?=  - interval: )", TEST.read_text())
+        _, *rules = re.split(r"(?m)^(?=      - alert: )", self.rules.read_text())
+        first, *tests = re.split(r"(?m)^(?=  - interval: )", self.test.read_text())
         # by name, an alert alone with its tests; and how it passes
         tried = {}
         for rule in rules:
@@ -69,14 +70,30 @@ class Alerts(Case):
         self.assertEqual(well, [name for name in tried if "," not in name])
 
     def test_none_by_absent(self):
-        expressions = re.findall(r"(?m)^ +expr: (.*)$", RULES.read_text())
-        self.assertEqual(len(expressions), RULES.read_text().count("alert:"))
+        expressions = re.findall(r"(?m)^ +expr: (.*)$", self.rules.read_text())
+        self.assertEqual(len(expressions), self.rules.read_text().count("alert:"))
         self.assertFalse([text for text in expressions if "absent" in text])
 
     def test_each_has_a_test(self):
-        names = set(re.findall(r"- alert: (\w+)", RULES.read_text()))
-        fired = set(re.findall(r"alertname: (\w+)\n +exp_alerts:", TEST.read_text()))
+        names = set(re.findall(r"- alert: (\w+)", self.rules.read_text()))
+        fired = set(re.findall(r"alertname: (\w+)\n +exp_alerts:", self.test.read_text()))
         self.assertEqual(names, fired)
+
+
+class WatchAlerts(Alerts):
+    rules, test = EXAMPLES / "glb-watch-alerts.yml", EXAMPLES / "glb-watch-alerts-test.yml"
+
+    def test_they_use_what_is_served(self):
+        served = (
+            (TOP / "docs" / "OPERATING.md").read_text().partition("| Metric of `glb-watch` |")[2]
+        )
+        used = set(
+            re.findall(
+                r"\bglb_watch_\w+", " ".join(re.findall(r"expr: (.*)", self.rules.read_text()))
+            )
+        )
+        self.assertLessEqual(used, set(re.findall(r"`(glb_watch_\w+)`", served)))
+        self.assertGreater(len(used), 3)
 
 
 if __name__ == "__main__":

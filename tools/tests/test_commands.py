@@ -33,6 +33,7 @@ WRITERS = {
 NEEDS = {
     "glb-exporter": "prometheus_client",
     "glb-topology": "numpy",
+    "glb-watch": "requests",
     "metrics.py": "prometheus_client",
 }
 

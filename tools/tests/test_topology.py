@@ -129,8 +129,8 @@ class Readers(unittest.TestCase):
                 Topology(text.encode())
 
     def test_examples(self):
-        """What the examples hold is read, but the one that `glb` refuses is not this reader's to judge."""
-        for path in EXAMPLES.glob("*.toml"):
+        """What the examples hold is read, but the one that `glb` refuses is not this reader's to judge. One is no topology."""
+        for path in set(EXAMPLES.glob("*.toml")) - {EXAMPLES / "watch.toml"}:
             with self.subTest(path.name):
                 self.assertTrue(Topology(path.read_bytes(), path).units)
 
