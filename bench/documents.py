@@ -156,7 +156,8 @@ def look_up():
                     continue
                 if kind == "word" and STANDS_FOR_OTHERS.fullmatch(cited):
                     continue
-                is_there = files_of(cited, files, crates) if kind == "file" else cited in words or cited in ELSEWHERE
+                # the library of metrics puts the ending behind a counter's name
+                is_there = files_of(cited, files, crates) if kind == "file" else cited in words or cited in ELSEWHERE or cited.startswith("glb_") and cited.removesuffix("_total") in words
                 told.take(is_there, f"{path}:{number}: no {kind} {cited}")
             for names, place in re.findall(r"((?:`\w+`(?:, | and )?)+) \(`([\w/.]+/[\w/.]+)`", line):
                 beside = "\n".join((TOP / file).read_text() for file in files_of(place, files, crates))
