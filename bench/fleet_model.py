@@ -18,8 +18,12 @@ sys.path.append(str(tools))
 
 from test_fleet_model import explore, restored  # noqa: E402
 
-seconds = float(sys.argv[1]) if len(sys.argv) > 1 else 300
-seed = begun = int(sys.argv[2]) if len(sys.argv) > 2 else 1000000
+try:
+    seconds = float(sys.argv[1]) if len(sys.argv) > 1 else 300
+    seed = begun = int(sys.argv[2]) if len(sys.argv) > 2 else 1000000
+except ValueError:
+    print(__doc__)
+    sys.exit(0 if sys.argv[1] in ("-h", "--help") else 64)
 end, there = time.monotonic() + seconds, 0
 while time.monotonic() < end:
     there += explore(seed, 1 + seed % 3, 20 + seed % 101) + restored(seed)
