@@ -27,7 +27,7 @@ TOP = Path(__file__).resolve().parent.parent
 GLB = os.environ.get("GLB", str(TOP / "crates/glb_program/out/glb_program"))
 CRATES = [folder.name for folder in (TOP / "crates").iterdir()]
 # docs/PROOFS.md is not among them: its pitfalls name what is not there
-DOCUMENTS = sorted(str(path.relative_to(TOP)) for folder in (".", "bench", "docs") for path in (TOP / folder).glob("*.md") if path.name != "PROOFS.md")
+DOCUMENTS = sorted(str(path.relative_to(TOP)) for folder in (".", "bench", "docs", "docs/operating") for path in (TOP / folder).glob("*.md") if path.name != "PROOFS.md")
 # other programs, of whose words only the paths are looked up, and words of the system
 PROGRAMS = {"apt-get", "birdc", "dig", "dnscap", "dnstop", "echo", "ldd", "ls", "man", "mkfifo", "nstat", "promtool", "python3", "rt", "ss", "systemctl", "systemd-analyze", "tail", "ulimit", "usermod"}
 ELSEWHERE = {"PIPE_BUF", "net", "core", "ipv4", "tcp_rmem", "rmem_default", "rmem_max", "write_all"}
@@ -113,7 +113,7 @@ def is_path(word):
 def files_of(word, files, crates):
     """The files of a path from the top, beside a document, or in one of the crates; a specification without its ending."""
     pattern = re.escape(word.removeprefix("./").rstrip("/")).replace(r"\*", "[^/]*")
-    places = ["", "docs/", "bench/", "examples/", "tools/", "crates/", *(f"crates/{crate}/" for crate in crates)]
+    places = ["", "docs/", "docs/operating/", "bench/", "examples/", "tools/", "crates/", *(f"crates/{crate}/" for crate in crates)]
     found = re.compile(f"({'|'.join(map(re.escape, places))}){pattern}(\\.antt|\\.rt)?(/.*)?")
     return [file for file in files if found.fullmatch(file)]
 

@@ -101,7 +101,12 @@ for unit in "$top"/examples/*.service "$top"/examples/*.timer; do
 done
 install -D -m 644 "$top/docs/glb.1" "$server/usr/share/man/man1/glb.1"
 gzip -9n "$server/usr/share/man/man1/glb.1"
-install -D -m 644 -t "$server/usr/share/doc/glb" "$top"/README.md "$top"/docs/{FORMATS,OPERATING,PROVED,DECISIONS,STATEMENT,HOW-IT-WORKS}.md
+install -D -m 644 -t "$server/usr/share/doc/glb" "$top"/README.md "$top"/docs/*.md
+install -D -m 644 -t "$server/usr/share/doc/glb/operating" "$top"/docs/operating/*.md
+# links between documents: README stands beside the others here
+sed -i -e 's,](docs/,](,g' "$server/usr/share/doc/glb/README.md"
+sed -i -e 's,](\.\./README\.md,](README.md,g' "$server"/usr/share/doc/glb/*.md
+sed -i -e 's,](\.\./\.\./README\.md,](../README.md,g' "$server"/usr/share/doc/glb/operating/*.md
 install -D -m 644 -t "$server/usr/share/doc/glb/examples" "$top"/examples/*.toml "$top"/examples/*.map "$top"/examples/*.changes "$top"/examples/*.socket "$top"/examples/glb-ready.nft "$top"/examples/queries.txt
 # the launcher's settings of the unit: a server is begun by it where they are put beside the unit
 install -D -m 644 "$top/examples/glb-launch.conf" "$server/usr/share/doc/glb/examples/glb-launch.conf"
@@ -145,7 +150,6 @@ for old in "$top"/tools/*.py; do
 done
 install -D -m 644 -t "$tools/usr/share/doc/glb-tools/examples" "$top"/examples/*.yml
 install -D -m 644 -t "$tools/usr/share/doc/glb-tools/examples/network" "$top"/examples/network/*
-install -D -m 644 -t "$tools/usr/share/doc/glb-tools" "$top/docs/TOPOLOGY.md"
 for settings in "$top"/examples/glb-*.default; do install_settings "$tools" "$settings" "etc/default/$(basename "$settings" .default)"; done
 # its units, those of a name with all that were made of them
 tool_units=$(ls "$tools/usr/lib/systemd/system" | sed 's/@\./@*./' | tr '\n' ' ')
