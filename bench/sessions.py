@@ -1,13 +1,14 @@
 #!/usr/bin/env python3
-"""Runs the commands of docs/GUIDE.md in an empty folder, as a reader types them, and compares what comes with what is shown.
+"""Runs the commands of documents in an empty folder, as a reader types them, and compares what comes with what is shown.
 
-    guide.py [DOCUMENT]
+    sessions.py [DOCUMENT..]        docs/GUIDE.md, docs/TOPOLOGY.md and README.md if none is named
 
 A block of `sh` is run in one bash, which is kept; a block of `text` behind it is what it has to write, where `..` stands for
-anything within a line. A block without one has to write nothing, and no command may fail. Packages of an `apt-get install` have
-to be installed. All of it runs in a network and with process numbers of its own (unshare), so fixed ports harm nobody, and
-nothing is left running. GLB names the program, as a whole path. The status is 0 where all is as shown, and 2 where something
-is not installed.
+anything within a line. A block without one has to write nothing, and no command may fail. The folder has what the top of the
+repository has, but for docs/GUIDE.md, which begins in an empty one. Left out are blocks that install packages, which have to be
+installed, and those that call rt. All of it runs in a network and with process numbers of its own (unshare), so fixed ports
+harm nobody, and nothing is left running. GLB names the program, as a whole path. The status is 0 where all is as shown, and 2
+where something is not installed.
 """
 
 import os
@@ -20,8 +21,11 @@ from pathlib import Path
 
 TOP = Path(__file__).resolve().parent.parent
 GLB = os.environ.get("GLB", str(TOP / "crates/glb_program/out/glb_program"))
+DOCUMENTS = ("docs/GUIDE.md", "docs/TOPOLOGY.md", "README.md")
 # how long a block may take
 SECONDS = 120
+# a network, process numbers and a view of files of its own
+APART = ["unshare", "--net", "--pid", "--mount", "--fork", "--kill-child", "--mount-proc", *([] if os.geteuid() == 0 else ["--map-root-user"])]
 
 
 def blocks(text):
@@ -49,18 +53,26 @@ def missing(text):
     return sorted(name for name in wanted if subprocess.run(["dpkg-query", "-W", "-f", "${Status}", name], capture_output=True, text=True).stdout != "install ok installed")
 
 
-class Shell:
-    """One bash in a folder of its own, without the network and with process numbers of its own."""
+def is_left_out(commands):
+    return re.search(r"^apt-get install|\brt (try|run|ci)\b|\.ci/run", commands, re.M) is not None
 
-    def __init__(self, folder):
-        apart = ["unshare", "--net", "--pid", "--fork", "--kill-child", "--mount-proc", *([] if os.geteuid() == 0 else ["--map-root-user"])]
+
+class Shell:
+    """One bash in a folder of its own."""
+
+    def __init__(self, folder, is_empty):
         os.makedirs(f"{folder}/bin")
-        os.makedirs(f"{folder}/work")
+        os.makedirs(f"{folder}/work/crates/glb_program/out")
         os.symlink(GLB, f"{folder}/bin/glb")
+        if is_empty:
+            subprocess.run(["rm", "-r", f"{folder}/work/crates"], check=True)
+        else:
+            os.symlink(GLB, f"{folder}/work/crates/glb_program/out/glb_program")
+            for name in ("bench", "docs", "examples", "tools", "README.md"):
+                os.symlink(TOP / name, f"{folder}/work/{name}")
         path = f"{folder}/bin:{TOP}/tools:/usr/bin:/bin:/usr/sbin:/sbin"
-        self.process = subprocess.Popen(
-            [*apart, "bash"], cwd=f"{folder}/work", stdin=subprocess.PIPE, stdout=subprocess.PIPE, stderr=subprocess.STDOUT, env={"PATH": path, "HOME": folder, "LANG": "C.UTF-8"}
-        )
+        environment = {"PATH": path, "HOME": folder, "LANG": "C.UTF-8"}
+        self.process = subprocess.Popen([*APART, "bash"], cwd=f"{folder}/work", stdin=subprocess.PIPE, stdout=subprocess.PIPE, stderr=subprocess.STDOUT, env=environment)
         self.folder, self.count = Path(folder), 0
         self.run("ip link set lo up")
 
@@ -91,14 +103,14 @@ class Shell:
         self.process.wait()
 
 
-def run(document, told=print):
+def run(text, is_empty=False, told=print):
     """How many blocks are as shown, and how many are not."""
     passed = failed = 0
     with tempfile.TemporaryDirectory() as folder:
-        shell = Shell(folder)
+        shell = Shell(folder, is_empty)
         try:
-            for commands, shown in blocks(document):
-                if commands.startswith("apt-get install"):
+            for commands, shown in blocks(text):
+                if is_left_out(commands):
                     continue
                 written = shell.run(commands)
                 if is_shown(written, shown):
@@ -111,15 +123,25 @@ def run(document, told=print):
     return passed, failed
 
 
+def run_all(names=DOCUMENTS):
+    """Runs these documents; gives how many blocks are not as shown, and whether a document was left out."""
+    failed, left_out = 0, False
+    for name in names:
+        text = (TOP / name).read_text()
+        lacking = missing(text)
+        if lacking:
+            left_out = True
+            print(f"{name} is left out: not installed: {', '.join(lacking)}")
+            continue
+        passed, wrong = run(text, name.endswith("GUIDE.md"))
+        failed += wrong if passed or wrong else 1
+        print(f"{name}: {passed} blocks as shown, {wrong} not")
+    return failed, left_out
+
+
 def main():
-    document = Path(sys.argv[1] if len(sys.argv) > 1 else TOP / "docs/GUIDE.md").read_text()
-    lacking = missing(document)
-    if lacking:
-        print(f"not installed: {', '.join(lacking)}")
-        sys.exit(2)
-    passed, failed = run(document)
-    print(f"guide: {passed} blocks as shown, {failed} not")
-    sys.exit(1 if failed or not passed else 0)
+    failed, left_out = run_all(sys.argv[1:] or DOCUMENTS)
+    sys.exit(1 if failed else 2 if left_out else 0)
 
 
 if __name__ == "__main__":
