@@ -75,6 +75,7 @@ BLOCKS = {
     ),
     "flock": Block(("sleep 1; journalctl -u glb@v4 -n 1 -o cat; journalctl -u glb@v6 -n 1 -o cat", "published 3\npublished 3")),
     "nft add table": Block(("nft list ruleset | grep -c 'limit rate over 200/second burst 400 packets'; nft delete table inet glb", "2")),
+    "strace -f": Block(("strace -f -e trace=bind glb serve /etc/glb/topology.toml --listen 192.0.2.99:53 </dev/null 2>&1 >/dev/null | grep -c EADDRNOTAVAIL", "1")),
     "grep -avE": Block(("head -n 1 now.map; cat said", "glb map 2\npublished 1\npublished 2\npublished 3")),
     "tools/glb-numbers": Block(("glb check now.toml now.map", "good"), ("grep -c 'capacity = 9$' now.toml", "1")),
     "{ cat log": Block(("glb check <(sed 's/capacity = 9$/capacity = 0/' now.toml) then.map", "good"), ("tools/glb-moves now.map then.map | tail -n 1", r"\d+ groups, \d+ units moved, .*")),

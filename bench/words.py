@@ -4,7 +4,7 @@
     words.py [--at COMMIT] [--show] [DOCUMENT..]
 
 Words; sentences; those of more than 30 words; documents that are named without a link; and sentences that begin with a
-pronoun (It, They, This, That, These, Those, He, So does ..) in the place of a noun. What stands in backquotes counts as one
+pronoun (It, They, He, and This, That, These, Those ahead of a verb) in the place of a noun. What stands in backquotes counts as one
 word, blocks and headings do not count, and each cell of a table ends a sentence. With --at the documents are those of a commit;
 with --show the long sentences are written out. The last line has the sums.
 """
@@ -43,7 +43,9 @@ def links_missing(text):
     count = 0
     for line in text.splitlines():
         if not line.startswith(("    ", "#")):
-            count += len(NAMED.findall(re.sub(r"!?\[[^\]]*\]\([^)]*\)", " ", line)))
+            plain = re.sub(r"!?\[[^\]]*\]\([^)]*\)", " ", line)
+            plain = re.sub(r"`([^`]*)`", lambda quoted: quoted[1] if quoted[1].endswith(".md") else "CODE", plain)
+            count += len(NAMED.findall(plain))
     return count
 
 
