@@ -220,10 +220,10 @@ KINDS = {
     "the number of a fault": (numbers_of_faults, ("docs/FORMATS.md",), False),
     "the words of a fault": (words_of_faults, ("docs/FORMATS.md",), False),
     "the usage line": (usage, ("docs/FORMATS.md",), True),
-    "a line of a map": (lines_of_maps, ("README.md",), False),
+    "a line of a map": (lines_of_maps, ("docs/HOW-IT-WORKS.md",), False),
     "a whole example": (shown_commands, ("docs/FORMATS.md",), False),
 }
-# documents in which nothing but links is looked up, since they tell of what is not there any more
+# in this document paths and links alone are looked up, since it tells of what is not there any more
 PARTLY = ("docs/PROOFS.md",)
 
 
@@ -248,7 +248,7 @@ def one_a_line(places, text):
 def documents_of(kind):
     _, listed, _ = KINDS[kind]
     kept = DOCUMENTS if listed is None else listed
-    return [path for path in kept if path not in PARTLY or kind in ("a link", "a heading of a link")]
+    return [path for path in kept if path not in PARTLY or kind in ("a link", "a heading of a link", "a path in prose")]
 
 
 class Documents(unittest.TestCase):
@@ -282,7 +282,7 @@ class Documents(unittest.TestCase):
 # thirty-four ways in which documents were broken once, by document and kind; of those in capitals the program is run
 WAYS = [
     ("README.md", "a link", "the path of a document"),
-    ("README.md", "a line of a map", "a line of the first map"),
+    ("docs/HOW-IT-WORKS.md", "a line of a map", "a line of the first map"),
     ("README.md", "A SESSION", "what the session expects"),
     ("docs/glb.1", "an option of the manual page", "an option renamed"),
     ("docs/FORMATS.md", "a status", "two statuses swapped"),
@@ -302,7 +302,7 @@ WAYS = [
     ("docs/MAP.md", "a crate's heading", "a heading for no crate"),
     ("bench/README.md", "a path in prose", "a script of the table"),
     ("README.md", "a figure", "a figure"),
-    ("docs/PROOFS.md", "a link", "a link"),
+    ("docs/PROOFS.md", "a path in prose", "a path"),
     ("docs/FORMATS.md", "a path in prose", "the path of a unit in prose"),
     ("docs/operating/feed.md", "AN EXAMPLE", "the first example of the feed"),
     ("docs/FORMATS.md", "AN EXAMPLE", "a line of `glb large 64`"),
