@@ -35,19 +35,27 @@ class Place:
 
 def in_prose(text):
     """The text with all blocks blanked out, so that places keep their numbers."""
-    blank = re.sub(r"^```.*?^```$", lambda found: re.sub(r"[^\n]", " ", found[0]), text, flags=re.M | re.S)
+    blank = re.sub(
+        r"^```.*?^```$", lambda found: re.sub(r"[^\n]", " ", found[0]), text, flags=re.M | re.S
+    )
     return re.sub(r"^    .*$", lambda found: " " * len(found[0]), blank, flags=re.M)
 
 
 def in_blocks(text):
     """The text with all but blocks of commands and of drawings blanked out."""
-    text = re.sub(r"^```text$.*?^```$", lambda found: re.sub(r"[^\n]", " ", found[0]), text, flags=re.M | re.S)
+    text = re.sub(
+        r"^```text$.*?^```$", lambda found: re.sub(r"[^\n]", " ", found[0]), text, flags=re.M | re.S
+    )
     kept = in_prose(text)
-    return "".join(letter if other == " " or letter == "\n" else " " for letter, other in zip(text, kept))
+    return "".join(
+        letter if other == " " or letter == "\n" else " " for letter, other in zip(text, kept)
+    )
 
 
 def is_file(word):
-    return any((TOP / folder / word).is_file() for folder in (".", "bench", "docs", "examples", "tools"))
+    return any(
+        (TOP / folder / word).is_file() for folder in (".", "bench", "docs", "examples", "tools")
+    )
 
 
 def misspelled(word):
@@ -57,16 +65,28 @@ def misspelled(word):
 
 
 def found(pattern, text, group=1, new=misspelled, flags=re.M, where=None):
-    return [Place(at, group, new(at[group])) for at in re.finditer(pattern, text, flags) if where is None or where(at[group])]
+    return [
+        Place(at, group, new(at[group]))
+        for at in re.finditer(pattern, text, flags)
+        if where is None or where(at[group])
+    ]
 
 
 def paths(text):
     pattern = r"(?<![\w/.~(-])((?:(?:docs|bench|tools|examples)/)?[\w@-]+\.(?:md|sh|py|toml|service|timer|yml))(?![\w/.*])"
-    return found(pattern, re.sub(r"\]\([^)]*\)", lambda at: " " * len(at[0]), in_prose(text)), where=lambda word: is_file(word) and "@" not in word)
+    return found(
+        pattern,
+        re.sub(r"\]\([^)]*\)", lambda at: " " * len(at[0]), in_prose(text)),
+        where=lambda word: is_file(word) and "@" not in word,
+    )
 
 
 def paths_of_blocks(text):
-    return found(r"(?<![\w/.~-])((?:bench|tools|examples)/[\w@./-]*\w)", in_blocks(text), where=lambda word: (TOP / word).is_file())
+    return found(
+        r"(?<![\w/.~-])((?:bench|tools|examples)/[\w@./-]*\w)",
+        in_blocks(text),
+        where=lambda word: (TOP / word).is_file(),
+    )
 
 
 def paths_of_specifications(text):
@@ -107,7 +127,9 @@ def bold_crates(text):
 
 
 def options(text):
-    return found(r"(?<![\w-])--([a-z][a-z0-9-]+)(?=[`\s])", in_prose(text), new=lambda word: f"q{word}")
+    return found(
+        r"(?<![\w-])--([a-z][a-z0-9-]+)(?=[`\s])", in_prose(text), new=lambda word: f"q{word}"
+    )
 
 
 def options_of_the_manual(text):
@@ -115,7 +137,11 @@ def options_of_the_manual(text):
 
 
 def options_of_blocks(text):
-    return found(r"^.*?(?:glb-|glb serve).*?--([a-z][a-z0-9-]+)", in_blocks(text), new=lambda word: f"q{word}")
+    return found(
+        r"^.*?(?:glb-|glb serve).*?--([a-z][a-z0-9-]+)",
+        in_blocks(text),
+        new=lambda word: f"q{word}",
+    )
 
 
 def commands(text):
@@ -137,7 +163,11 @@ def statuses(text):
     table = re.search(r"\| Status \|.*\n\|---.*\n((?:\|.*\n)+)", text)
     if table is None:
         return []
-    return [place for place in found(r"^\| (\d) \|", text, new=lambda word: str((int(word) + 5) % 10)) if table.start() < place.start < table.end()]
+    return [
+        place
+        for place in found(r"^\| (\d) \|", text, new=lambda word: str((int(word) + 5) % 10))
+        if table.start() < place.start < table.end()
+    ]
 
 
 def statuses_of_the_manual(text):
@@ -148,7 +178,11 @@ def limits(text):
     def other(number):
         value = int(number.replace(",", ""))
         others = (value + more for more in (100, 101, 103, 107, 109))
-        return next(f"{other:,}" for other in others if other not in TREE.numbers and f"{other:,}" not in TREE.measured)
+        return next(
+            f"{other:,}"
+            for other in others
+            if other not in TREE.numbers and f"{other:,}" not in TREE.measured
+        )
 
     return found(r"(?<![\w.,:/-])(\d{1,3}(?:,\d{3})+)(?![\w,]*\.?\d)", in_prose(text), new=other)
 
@@ -158,7 +192,11 @@ def figures(text):
     if table is None:
         return []
     inside = " " * table.start() + table[0]
-    return found(r"(?<= )(\d+,\d{3}|\d+\.\d+)(?= )", inside, new=lambda number: number[:-1] + ("7" if number[-1] != "7" else "3") + "9")
+    return found(
+        r"(?<= )(\d+,\d{3}|\d+\.\d+)(?= )",
+        inside,
+        new=lambda number: number[:-1] + ("7" if number[-1] != "7" else "3") + "9",
+    )
 
 
 def refusals(text):
@@ -167,7 +205,16 @@ def refusals(text):
     inside = " " * len(text)
     for table in tables:
         inside = inside[: table.start(1)] + table[1] + inside[table.end(1) :]
-    return found(r"^\| `((?:refused )?[a-z ]+)", "\n".join(inside.splitlines()), new=lambda words: f"{words.rstrip()} octet ", where=lambda words: len(words) > 6) if "WORDS" in text else []
+    return (
+        found(
+            r"^\| `((?:refused )?[a-z ]+)",
+            "\n".join(inside.splitlines()),
+            new=lambda words: f"{words.rstrip()} octet ",
+            where=lambda words: len(words) > 6,
+        )
+        if "WORDS" in text
+        else []
+    )
 
 
 def numbers_of_faults(text):
@@ -184,7 +231,14 @@ def usage(text):
 
 def lines_of_maps(text):
     block = in_blocks(text)
-    return [place for place in found(r"^ *(?:glb map \d\n(?: +.*\n)*? +)place \w+ \w+ (\d+)  ", block, new=lambda number: str(int(number) + 1))]
+    return [
+        place
+        for place in found(
+            r"^ *(?:glb map \d\n(?: +.*\n)*? +)place \w+ \w+ (\d+)  ",
+            block,
+            new=lambda number: str(int(number) + 1),
+        )
+    ]
 
 
 def shown_commands(text):
@@ -248,7 +302,11 @@ def one_a_line(places, text):
 def documents_of(kind):
     _, listed, _ = KINDS[kind]
     kept = DOCUMENTS if listed is None else listed
-    return [path for path in kept if path not in PARTLY or kind in ("a link", "a heading of a link", "a path in prose")]
+    return [
+        path
+        for path in kept
+        if path not in PARTLY or kind in ("a link", "a heading of a link", "a path in prose")
+    ]
 
 
 class Documents(unittest.TestCase):
@@ -338,7 +396,9 @@ class Ways(unittest.TestCase):
     def test_the_octet_of_a_refusal(self):
         text = TEXTS["docs/FORMATS.md"]
         self.assertIn("| `bad byte` |", text)
-        self.assertNotEqual(faults("docs/FORMATS.md", text.replace("| `bad byte` |", "| `bad octet` |")), [])
+        self.assertNotEqual(
+            faults("docs/FORMATS.md", text.replace("| `bad byte` |", "| `bad octet` |")), []
+        )
 
 
 @unittest.skipUnless(os.environ.get("GLB"), "GLB does not name the built program")
@@ -363,10 +423,17 @@ class WithTheProgram(unittest.TestCase):
     def test_a_broken_line_is_a_fault(self):
         with tempfile.TemporaryDirectory() as folder:
             examples = self.documents.Examples(Path(folder))
-            for path, old in (("docs/operating/feed.md", "unplaced 5 full 2\n\n"), ("docs/operating/feed.md", "3 published 2, 1 show")):
+            for path, old in (
+                ("docs/operating/feed.md", "unplaced 5 full 2\n\n"),
+                ("docs/operating/feed.md", "3 published 2, 1 show"),
+            ):
                 text = TEXTS[path]
                 self.assertIn(old, text)
-                said = [fault for fault in examples.faults(path, text.replace(old, old.replace("2", "7"))) if fault]
+                said = [
+                    fault
+                    for fault in examples.faults(path, text.replace(old, old.replace("2", "7")))
+                    if fault
+                ]
                 with self.subTest(path):
                     self.assertEqual(len(said), 1, said)
 
