@@ -7,7 +7,7 @@ ghost use Rattle.evict.specs.Standing.{IsOpen};
 use evict::State;
 use map_model::Change::{Capacity, Demand};
 use map_model::{Change, GroupId, Instance, MapLines, NodeId};
-use move_up::{Asked, full_nodes, move_up};
+use move_up::{Asked, Search, move_up};
 use no_memory::NoMemory;
 use reopen::cut_and_trim;
 use stable_check::{CheckRoom, Verdict, check};
@@ -290,10 +290,10 @@ fn moved(
     }
     let mut state = State::of_map(alloc, old, map)?;
     let asked = Asked::build(alloc, old, &state)?;
-    let full = full_nodes(old, &state);
+    let mut search = Search::under_full(alloc, old, &state, &asked)?;
     let marks = vec![in alloc; marked; new.nodes() as usize]?;
     cut_and_trim(new, &mut state);
-    move_up(old, new, &mut state, marks.as_slice(), &full, &asked, turns)?;
+    move_up(old, new, &mut state, marks.as_slice(), &mut search, turns)?;
     Ok(state)
 }
 
