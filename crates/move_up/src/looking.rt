@@ -109,20 +109,41 @@ fn offer_at(offers: &Offers, at: usize) -> Option<Scored> {
     Some(Scored { score, offer })
 }
 
-/// The best offer of a run that stands before its group's pointer and that neither its limit nor its pool refuses.
-fn best_in_run(instance: &Instance, state: &State, offers: &Offers, run: Run) -> Option<Scored>
+/// What was found for a pool: the best offer that stands before its group's pointer and that neither its limit nor the pool
+/// refuses, and at how many offers was looked.
+pub(crate) struct Found {
+    pub best: Option<Scored>,
+    pub looks: u64,
+}
+
+/// Nothing is found.
+const NOTHING: Found = Found {
+    best: None,
+    looks: 0,
+};
+
+/// What is found in a run.
+fn best_in_run(instance: &Instance, state: &State, offers: &Offers, run: Run) -> Found
     requires { IsOpen instance.now state.now }
 {
+    let mut looks = 0u64;
     for at in first_from(instance, state, offers.scores(), run)..run.until {
-        let found = offer_at(offers, at)?;
+        let Some(found) = offer_at(offers, at) else {
+            return NOTHING;
+        };
+        looks = looks.saturating_add(1);
         match look_at(instance, state, found.offer) {
-            Look::Loose => return Some(found),
-            Look::Refused(node) if node == run.pool => return None,
-            Look::Refused(_) => return Some(found),
+            Look::Refused(node) if node == run.pool => return Found { best: None, looks },
+            Look::Loose | Look::Refused(_) => {
+                return Found {
+                    best: Some(found),
+                    looks,
+                };
+            }
             Look::Other => (),
         }
     }
-    None
+    Found { best: None, looks }
 }
 
 /// Where the offers to a pool stand.
@@ -132,19 +153,18 @@ fn run_to(offers: &Offers, pool: NodeId) -> Option<Run> {
     if run.pool == pool { Some(run) } else { None }
 }
 
-/// The best offer to a pool that stands before its group's pointer and that neither its limit nor the pool refuses.
-pub(crate) fn best_at(
-    instance: &Instance,
-    state: &State,
-    asked: &Asked,
-    pool: NodeId,
-) -> Option<Scored>
+/// What is found for a pool.
+pub(crate) fn best_at(instance: &Instance, state: &State, asked: &Asked, pool: NodeId) -> Found
     requires { IsOpen instance.now state.now }
 {
     if pool.0 >= instance.nodes() {
-        return None;
+        return NOTHING;
     }
-    let offers = asked.ranked(state.root(pool))?;
-    let run = run_to(offers, pool)?;
-    best_in_run(instance, state, offers, run)
+    let Some(offers) = asked.ranked(state.root(pool)) else {
+        return NOTHING;
+    };
+    match run_to(offers, pool) {
+        Some(run) => best_in_run(instance, state, offers, run),
+        None => NOTHING,
+    }
 }

@@ -8,7 +8,7 @@ ghost use Rattle.map_model.specs.Market.{IsSameShape};
 ghost use Rattle.evict.specs.Standing.{IsOpen};
 
 use crate::asked::Asked;
-use crate::looking::{Look, Scored, best_at, is_refused_by, look_at};
+use crate::looking::{Found, Look, Scored, best_at, is_refused_by, look_at};
 use crate::node_set::NodeSet;
 use crate::offers::{above, is_offer};
 use crate::opening::full_nodes;
@@ -17,29 +17,33 @@ use map_model::{Instance, LEVELS, NodeId, Offer};
 use no_memory::NoMemory;
 use std::alloc::Global;
 
-/// What is known of a node.
+/// Where a node stands among the others.
 #[derive(Clone, Copy, Debug)]
 struct Spot {
-    /// The best offer under it that no node below it refuses.
-    best: Option<Scored>,
-    /// The child under which that offer stands.
-    child: Option<NodeId>,
-    /// The same offer, unless the node itself refuses it.
-    open: Option<Scored>,
     /// Its child of the lowest number.
     first: Option<NodeId>,
-    /// The next one of the node above it.
+    /// The next child of the node above it.
     next: Option<NodeId>,
+    /// Which child of the node above it is it.
+    number: usize,
+    /// How many children it has.
+    children: usize,
+    /// Where what is known of its children begins: a tree of matches in which the best offer of each two goes on, the winner
+    /// at 1 and the children from `children` on.
+    from: usize,
 }
 
-/// A node of which nothing is known.
-const UNKNOWN: Spot = Spot {
-    best: None,
-    child: None,
-    open: None,
+/// A node without others.
+const ALONE: Spot = Spot {
     first: None,
     next: None,
+    number: 0,
+    children: 0,
+    from: 0,
 };
+
+/// The most steps from a leaf of a tree of matches to its winner: twice as many places as there are nodes have 14 bits.
+const MATCHES: u32 = 14;
 
 /// Where units may move up.
 #[derive(Debug, Drop)]
@@ -49,7 +53,9 @@ pub struct Search<'a> {
     pub(crate) open: NodeSet,
     known: NodeSet,
     spots: Vec<Spot>,
-    /// How many nodes were looked at.
+    /// Of each pool the best offer that it does not refuse.
+    found: Vec<Option<Scored>>,
+    matches: Vec<Option<Scored>>,
     looks: u64,
 }
 
@@ -68,18 +74,22 @@ impl<'a> Search<'a> {
         requires whole { IsTrue state.now.is_whole }
         requires shape { IsSameShape state.now.market instance.now }
     {
+        let nodes = instance.nodes() as usize;
         let mut search = Search {
             asked,
             open: full_nodes(instance, state),
             known: NodeSet::new(),
-            spots: vec![in alloc; UNKNOWN; instance.nodes() as usize]?,
+            spots: vec![in alloc; ALONE; nodes]?,
+            found: vec![in alloc; None; nodes]?,
+            matches: vec![in alloc; None; nodes.saturating_mul(2)]?,
             looks: 0,
         };
         search.link(instance);
+        search.part();
         Ok(search)
     }
 
-    /// How many nodes were looked at.
+    /// How many offers were looked at.
     pub(crate) fn looks(&self) -> u64 {
         self.looks
     }
@@ -89,82 +99,96 @@ impl<'a> Search<'a> {
         for n in (0..instance.nodes()).rev() {
             let node = NodeId(n);
             if let Some(parent) = above(instance, node) {
-                let next = self.spot(parent).first;
+                let family = self.spot(parent);
                 if let Some(spot) = self.spots.get_mut(n as usize) {
-                    spot.next = next;
+                    spot.next = family.first;
+                    spot.number = family.children;
                 }
                 if let Some(spot) = self.spots.get_mut(parent.0 as usize) {
                     spot.first = Some(node);
+                    spot.children = family.children.saturating_add(1);
                 }
             }
         }
     }
 
-    /// What is known of a node.
+    /// Gives each node its part of the matches.
+    fn part(&mut self) {
+        let mut from = 0usize;
+        for spot in &mut self.spots {
+            spot.from = from;
+            from = from.saturating_add(spot.children.saturating_mul(2));
+        }
+    }
+
+    /// Where a node stands.
     fn spot(&self, node: NodeId) -> Spot {
         match self.spots.get(node.0 as usize) {
             Some(spot) => *spot,
-            None => UNKNOWN,
+            None => ALONE,
         }
     }
 
-    /// Notes the best offer under a node, and the child under which it stands.
-    fn note(
-        &mut self,
-        instance: &Instance,
-        state: &State,
-        node: NodeId,
-        best: Option<Scored>,
-        child: Option<NodeId>,
-    )
-        requires { IsOpen instance.now state.now }
-    {
-        let open = match best {
-            Some(found) if !is_refused_by(instance, state, node, found) => best,
-            _ => None,
-        };
-        if let Some(spot) = self.spots.get_mut(node.0 as usize) {
-            spot.best = best;
-            spot.child = child;
-            spot.open = open;
-        }
-        self.known.insert(node);
+    /// What stands at a place of a tree of matches.
+    fn match_at(&self, from: usize, place: usize) -> Option<Scored> {
+        *self.matches.get(from.saturating_add(place))?
     }
 
-    /// Looks at all children of a node.
-    fn look_below(&mut self, instance: &Instance, state: &State, node: NodeId)
-        requires { IsOpen instance.now state.now }
-    {
-        let mut best = None;
-        let mut from = None;
-        let mut at = self.spot(node).first;
-        for _child in 0..instance.nodes() {
-            let Some(child) = at else {
-                break;
-            };
-            let spot = self.spot(child);
-            if let Some(found) = spot.open {
-                if found.is_better(best) {
-                    best = spot.open;
-                    from = at;
-                }
-            }
-            at = spot.next;
-            self.looks = self.looks.saturating_add(1);
+    /// Puts an offer, or none, at a place of a tree of matches.
+    fn set_match(&mut self, from: usize, place: usize, winner: Option<Scored>) {
+        if let Some(at) = self.matches.get_mut(from.saturating_add(place)) {
+            *at = winner;
         }
-        self.note(instance, state, node, best, from);
     }
 
-    /// Looks at a node: at the offers to it, where it is a pool, and else at its children.
-    fn look(&mut self, instance: &Instance, state: &State, node: NodeId)
+    /// The best offer under a node that no node refuses, it and those below it.
+    fn best_of(&self, instance: &Instance, state: &State, node: NodeId) -> Option<Scored>
         requires { IsOpen instance.now state.now }
     {
-        if self.spot(node).first.is_some() {
-            self.look_below(instance, state, node);
+        let spot = self.spot(node);
+        let best = if spot.children == 0 {
+            *self.found.get(node.0 as usize)?
         } else {
-            let best = best_at(instance, state, self.asked, node);
-            self.note(instance, state, node, best, None);
+            self.match_at(spot.from, 1)
+        };
+        if is_refused_by(instance, state, node, best?) {
+            return None;
         }
+        best
+    }
+
+    /// Tells the node above a node what the best offer under that one is.
+    fn tell(&mut self, instance: &Instance, state: &State, node: NodeId, parent: NodeId)
+        requires { IsOpen instance.now state.now }
+    {
+        let best = self.best_of(instance, state, node);
+        let family = self.spot(parent);
+        let mut place = family.children.saturating_add(self.spot(node).number);
+        self.set_match(family.from, place, best);
+        for _match in 0..MATCHES {
+            if place < 2 {
+                return;
+            }
+            let left = self.match_at(family.from, place & !1);
+            let right = self.match_at(family.from, place | 1);
+            let winner = match left {
+                Some(found) if found.is_better(right) => left,
+                _ => right,
+            };
+            place /= 2;
+            self.set_match(family.from, place, winner);
+        }
+    }
+
+    /// Looks at the offers to a pool.
+    fn look(&mut self, instance: &Instance, state: &State, pool: NodeId)
+        requires { IsOpen instance.now state.now }
+    {
+        let Found { best, looks } = best_at(instance, state, self.asked, pool);
+        if let Some(found) = self.found.get_mut(pool.0 as usize) {
+            *found = best;
+        }
+        self.looks = self.looks.saturating_add(looks);
     }
 
     /// The lowest node on the way that leads from a node to its first child.
@@ -184,36 +208,26 @@ impl<'a> Search<'a> {
     {
         let mut at = self.lowest(under);
         for _node in 0..instance.nodes() {
-            self.look(instance, state, at);
+            let spot = self.spot(at);
+            if spot.children == 0 {
+                self.look(instance, state, at);
+            }
+            self.known.insert(at);
             if at == under {
                 return;
             }
-            at = match self.spot(at).next {
+            let Some(parent) = above(instance, at) else {
+                return;
+            };
+            self.tell(instance, state, at, parent);
+            at = match spot.next {
                 Some(next) => self.lowest(next),
-                None => match above(instance, at) {
-                    Some(parent) => parent,
-                    None => return,
-                },
+                None => parent,
             };
         }
     }
 
-    /// Looks at a node again, below which nothing changed but under one child.
-    fn look_past(&mut self, instance: &Instance, state: &State, node: NodeId, child: NodeId)
-        requires { IsOpen instance.now state.now }
-    {
-        let found = self.spot(child).open;
-        let spot = self.spot(node);
-        match found {
-            Some(better) if better.is_better(spot.best) => {
-                self.note(instance, state, node, found, Some(child));
-            }
-            _ if spot.child == Some(child) => self.look_below(instance, state, node),
-            _ => self.note(instance, state, node, spot.best, spot.child),
-        }
-    }
-
-    /// Looks again at a pool at which units came or went, and at all nodes above it.
+    /// Looks again at a pool at which units came or went, and tells all nodes above it.
     pub(crate) fn look_again(&mut self, instance: &Instance, state: &State, pool: NodeId)
         requires { IsOpen instance.now state.now }
     {
@@ -221,12 +235,12 @@ impl<'a> Search<'a> {
             return;
         }
         self.look(instance, state, pool);
-        let mut below = pool;
+        let mut at = pool;
         for _level in 0..LEVELS {
-            match above(instance, below) {
-                Some(node) if self.known.contains(node) => {
-                    self.look_past(instance, state, node, below);
-                    below = node;
+            match above(instance, at) {
+                Some(parent) if self.known.contains(parent) => {
+                    self.tell(instance, state, at, parent);
+                    at = parent;
                 }
                 _ => return,
             }
@@ -245,17 +259,18 @@ impl<'a> Search<'a> {
         if !self.known.contains(under) {
             self.learn(instance, state, under);
         }
-        // an offer that is loose no longer, since its group's pointer went back, is found once more at most
+        // a group's pointer that went back has left offers behind that are loose no longer: each is found once more at most
         for _vain in 0..u32::MAX {
-            let offer = self.spot(under).open?.offer;
+            let offer = self.best_of(instance, state, under)?.offer;
             match look_at(instance, state, offer) {
                 Look::Loose => return Some(offer),
                 Look::Refused(_) => return None,
-                Look::Other if is_offer(instance, offer) => {
-                    self.look_again(instance, state, instance.pool_at(offer));
-                }
-                Look::Other => return None,
+                Look::Other => (),
             }
+            if !is_offer(instance, offer) {
+                return None;
+            }
+            self.look_again(instance, state, instance.pool_at(offer));
         }
         None
     }

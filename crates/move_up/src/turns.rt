@@ -264,9 +264,9 @@ fn turn(
     Ok(())
 }
 
-/// How many nodes are looked at for a turn, on the average, before moving up is given up: more would take longer than to send
+/// How many offers are looked at for a turn, on the average, before moving up is given up: more would take longer than to send
 /// groups back.
-const LOOKS_A_TURN: u64 = 1024;
+const LOOKS_A_TURN: u64 = 256;
 
 /// Moves units of a state that was cut up to places whose nodes have room again, in marked trees alone: one offer after
 /// another, the best first under the topmost node, in at most so many turns. The search was begun before the cut. How many
