@@ -295,13 +295,10 @@ pub fn move_up(
     search.open = opened(new, state, &search.open);
     let most = turns.saturating_mul(LOOKS_A_TURN);
     for made in 0..turns {
-        let Some(node) = search.open.first() else {
-            return Ok(made);
-        };
-        if search.looks() > most {
-            return Ok(made);
+        match search.open.first() {
+            Some(node) if search.looks() <= most => turn(new, state, marks, search, node)?,
+            _ => return Ok(made),
         }
-        turn(new, state, marks, search, node)?;
     }
     Ok(turns)
 }
