@@ -259,8 +259,8 @@ impl<'a> Search<'a> {
         if !self.known.contains(under) {
             self.learn(instance, state, under);
         }
-        // a group's pointer that went back has left offers behind that are loose no longer: each is found once more at most
-        for _vain in 0..u32::MAX {
+        // a group's pointer that went back has left offers behind that are loose no longer: each pool shows one at most
+        for _vain in 0..=instance.nodes() {
             let offer = self.best_of(instance, state, under)?.offer;
             match look_at(instance, state, offer) {
                 Look::Loose => return Some(offer),
