@@ -295,10 +295,11 @@ pub fn move_up(
     search.open = opened(new, state, &search.open);
     let most = turns.saturating_mul(LOOKS_A_TURN);
     for made in 0..turns {
-        match search.open.first() {
-            Some(node) if search.looks() <= most => turn(new, state, marks, search, node)?,
+        let node = match search.open.first() {
+            Some(node) if search.looks() <= most => node,
             _ => return Ok(made),
-        }
+        };
+        turn(new, state, marks, search, node)?;
     }
     Ok(turns)
 }
