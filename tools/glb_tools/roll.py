@@ -32,6 +32,7 @@ from glb_tools.log import (
 )
 from glb_tools.log_command import map_at
 from glb_tools.options import DONE, FAULT, Fault, Progress, parser, run
+from glb_tools.shared_addresses import warn
 from glb_tools.topology import Topology
 
 HALF = 2
@@ -300,6 +301,7 @@ def main() -> int:
         with Progress("writes the numbers of the log into the topology"):
             topology = with_numbers(log, options.topology.read_bytes(), str(options.topology))
     try_it(topology, options.program)
+    warn(Topology(topology, str(options.topology or "the base before")))
     return roll(log, topology, signed, options)
 
 

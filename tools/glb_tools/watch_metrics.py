@@ -24,7 +24,11 @@ class Metrics:
         self.brakes = Gauge(
             "glb_watch_brakes", "Brakes that hold, of trees and of all", registry=registry
         )
+        self.jumps = Gauge(
+            "glb_watch_demand_brakes", "Sums and names of demands that jumped", registry=registry
+        )
         self.by_hand = Gauge("glb_watch_by_hand", "Names that somebody else set", registry=registry)
+        self.drained = Gauge("glb_watch_drained", "Nodes that glb-drain holds", registry=registry)
         self.failed_looks = Counter(
             "glb_watch_failed_looks", "Looks that ended with a fault", registry=registry
         )
@@ -41,7 +45,9 @@ class Metrics:
         self.up.set(not found.faults)
         self.faults.set(len(found.faults))
         self.brakes.set(len(found.brakes))
+        self.jumps.set(len(found.jumps))
         self.by_hand.set(len(served.by_hand))
+        self.drained.set(len(served.drains))
         if not found.faults:
             self.looked.set(time.time())
         if is_appended:

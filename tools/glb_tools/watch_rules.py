@@ -108,6 +108,16 @@ class Calm:
 
 
 @dataclass(frozen=True)
+class Jump:
+    """The shares by which the sum of a rule's demands, or one of them, may be another one from look to look, and how many
+    seconds a larger jump has to stand."""
+
+    sum: float
+    name: float
+    after: float
+
+
+@dataclass(frozen=True)
 class Settings:
     prometheus: str
     timeout: float
@@ -121,6 +131,7 @@ class Settings:
     # the largest shares of the capacity of a tree, and of all trees, that may look down at once
     brake_tree: float
     brake_all: float
+    jump: Jump
     rules: tuple[Rule, ...] = field(default=())
 
 
@@ -197,6 +208,11 @@ def settings_of(octets: bytes, path: str) -> Settings:
         ),
         share(brake, "tree", 40),
         share(brake, "all", 25),
+        Jump(
+            brake.number("demand_sum", 100, 0, 1e6) / 100,
+            brake.number("demand_name", 900, 0, 1e6) / 100,
+            brake.number("demand_after", 300, 0, MOST_SECONDS),
+        ),
         tuple(rules),
     )
     for table in (calm, brake, top):

@@ -10,8 +10,9 @@ from pathlib import Path
 from unittest import mock
 
 from fleet_world import CRASH_AFTER, CRASH_BEFORE, LOST_AFTER, LOST_BEFORE, Client, Crash, Table
-from glb_tools import drain, plan
+from glb_tools import drain, drain_stores
 from glb_tools.drain import main
+from glb_tools.etcd import Unreachable
 from glb_tools.history import topology_at, with_numbers
 from glb_tools.log import Log, Names, Signed, checksum_of
 from glb_tools.plan import Served
@@ -131,12 +132,14 @@ class Played(Case):
 
     def setUp(self):
         super().setUp()
-        self.clock, self.asked = Clock(), lambda: None
+        self.clock, self.asked, self.boot = Clock(), lambda: None, "this one"
         for name, new in (
             ("glb_tools.plan.asked", self.answer),
-            ("glb_tools.drain.asked", self.answer),
-            ("glb_tools.drain.served_by_log", served_by_log),
+            ("glb_tools.drain_steps.asked", self.answer),
+            ("glb_tools.drain_stores.served_by_log", served_by_log),
             ("glb_tools.drain.time", self.clock),
+            ("glb_tools.drains.time", self.clock),
+            ("glb_tools.drains.boot", lambda: self.boot),
             # a disk that is shared is slow
             ("os.fsync", lambda descriptor: None),
         ):
@@ -261,7 +264,7 @@ class Steps(OverFile):
         # a unit for each of 30 steps, each of which moves one of g3, too, until no more of it is at a
         self.world(ZONE + NODES + G1 + G2 + G3)
         status, found, _ = self.told("b", "--over", "40m")
-        self.assertEqual((status, found["step"]), (0, 1))
+        self.assertEqual((status, found["step"], found["planned"]), (0, 2, 30))
         self.assertEqual([step["moved"] for step in found["steps"]], [2] * 20 + [1] * 10)
 
     def test_a_stop_in_the_log_is_left_out(self):
@@ -353,11 +356,8 @@ class HardCases(OverFile):
                 self.assertEqual(self.capacities()[-1], 0)
 
     def test_somebody_else_comes_while_a_step_is_worked(self):
-        asked = []
-
         def come(lines):
-            asked.append(1)
-            if len(asked) == 3:
+            if len(self.lines()) == 2:
                 self.append(lines)
 
         self.asked = lambda: come("capacity a 33\ncommit\n")
@@ -365,7 +365,6 @@ class HardCases(OverFile):
         self.assertEqual((status, self.capacities()), (5, [30, 33]))
         # a change of another name is no reason to stop
         self.world(WORLD)
-        asked.clear()
         self.asked = lambda: come("demand g2 31\ncommit\n")
         self.assertEqual(self.drain("a", "--anyway")[0], 0)
         self.assertEqual(self.capacities()[:2], [30, 20])
@@ -434,8 +433,8 @@ class HardCases(OverFile):
             return write
 
         with (
-            mock.patch.object(drain, "write_file", patched(drain.write_file)),
-            mock.patch.object(drain.File, "append", patched(drain.File.append)),
+            mock.patch.object(drain_stores, "write_file", patched(drain_stores.write_file)),
+            mock.patch.object(drain_stores.File, "append", patched(drain_stores.File.append)),
         ):
             yield
 
@@ -480,7 +479,7 @@ class HardCases(OverFile):
         lock = self.folder / "lock"
         with lock.open("w") as file:
             fcntl.flock(file, fcntl.LOCK_EX)
-            with mock.patch.object(drain, "LOCKED", 0.2):
+            with mock.patch.object(drain_stores, "LOCKED", 0.2):
                 status, _, said = self.drain("a")
         self.assertEqual((status, self.lines()), (1, []))
         self.assertIn("somebody else has the lock", said)
@@ -566,7 +565,7 @@ class OverFleet(Played):
         if fault == CRASH_BEFORE:
             raise Crash
         if fault == LOST_BEFORE:
-            raise drain.Unreachable("lost")
+            raise Unreachable("lost")
         revision = self.table.revision
         answer = do()
         if self.table.revision > revision and not self.at:
@@ -574,7 +573,7 @@ class OverFleet(Played):
         if fault == CRASH_AFTER:
             raise Crash
         if fault == LOST_AFTER:
-            raise drain.Unreachable("lost")
+            raise Unreachable("lost")
         return answer
 
     def drain(self, *words):
@@ -597,7 +596,7 @@ class OverFleet(Played):
                 ("capacity a 20\n", "ops", "drain a 1/2: works"),
                 ("capacity a 0\n", "ops", "drain a 2/2: works"),
                 ("capacity a 20\n", "ops", "drain a back 1/2: works"),
-                ("capacity a 60\n", "ops", "drain a back 2/2: works"),
+                ("capacity a 60\n", "ops", "handed back: drain a back 2/2: works"),
             ],
         )
         self.assertEqual(self.listed(), [])
@@ -623,12 +622,11 @@ class OverFleet(Played):
         self.assertEqual(self.batches()[-1][0], "capacity a 60\n")
 
     def test_the_node_goes_while_a_step_is_worked(self):
-        gone, asked = WORLD.replace('"a"', '"d"'), []
+        gone, rolled = WORLD.replace('"a"', '"d"'), []
 
         def come():
-            asked.append(1)
-            if len(asked) == 3:
-                self.roll(gone)
+            if len(self.batches()) == 1 and not rolled:
+                rolled.append(self.roll(gone))
 
         self.asked = come
         status, _, said = self.drain("a")

@@ -22,12 +22,14 @@ from glb_tools.options import Fault
 from glb_tools.text import Replay
 from glb_tools.topology import Topology
 from glb_tools.watch_engine import Answer, Engine, Verdict, answer_of, batch_of
-from glb_tools.watch_logs import AUTHOR, FileLog, FleetLog, Waits
+from glb_tools.precedence import AUTHOR
+from glb_tools.watch_logs import FileLog, FleetLog, Waits
 from glb_tools.watch_rules import Rule, names_of, settings_of
 
 HEAD = 'prometheus = "http://127.0.0.1:1"\n'
 DEMANDS = '[[demand]]\nquery = "d"\nlabel = "group"\nnames = ["*"]\n'
 POOLS = '[[capacity]]\nquery = "c"\nlabel = "pool"\nnames = ["A", "B"]\n'
+NO_BRAKE = "tree = 100\ndemand_sum = 1e6\ndemand_name = 1e6"
 GROUP = '[[group]]\nname = "{}"\ndemand = 100\npools = ["{}"]\nscores = [1]\nprefixes = []\n'
 ZONE = '[zone]\napex = "cdn.example"\nservices = ["www"]\n'
 
@@ -55,7 +57,7 @@ def rules(*words, calm="", brake="", **more):
     """Settings for all pools, or for all groups, with these keys of their rule."""
     keys = "".join(f"{key} = {json.dumps(value)}\n" for key, value in more.items())
     return settings(
-        f"[calm]\n{calm or 'hold = 0'}\n[brake]\n{brake or 'tree = 100'}\n"
+        f"[calm]\n{calm or 'hold = 0'}\n[brake]\n{brake or NO_BRAKE}\n"
         + f'[[{words[0]}]]\nquery = "q"\nlabel = "l"\nnames = ["{words[1]}"]\n{keys}'
     )
 
@@ -68,14 +70,16 @@ class Looks:
         self.engine = Engine(made, topology)
         self.served = {("demand", unit.name): unit.demand for unit in topology.units}
         self.served |= {("capacity", each.name): each.capacity for each in topology.nodes}
-        self.by_hand = {}
+        self.by_hand, self.drains = {}, {}
 
     def look(self, values=None, wrong=None, fault="", seconds=10, takes=True):
         """The changes, by name; `found` has all."""
         self.now += seconds
         answer = Answer(dict(values or {}), dict(wrong or {}), fault)
         answers = {rule.place: answer for rule in self.settings.rules}
-        self.found = self.engine.look(self.served, self.by_hand, answers, self.now)
+        self.found = self.engine.look(
+            self.served, self.by_hand, self.drains, answers, self.now
+        )
         if takes:
             self.engine.took(self.found.batch, self.now)
             self.served |= {(each.word, each.name): each.new for each in self.found.batch}
@@ -893,7 +897,7 @@ class OwnMetrics(unittest.TestCase):
         made = Metrics("127.0.0.1:0")
         looks = Looks(rules("demand", "g0", smoothing=1), trees(1))
         looks.look({"g0": 200})
-        served = types.SimpleNamespace(by_hand={("capacity", "r0p0"): "ops"})
+        served = types.SimpleNamespace(by_hand={("capacity", "r0p0"): "ops"}, drains={})
         made.take(looks.found, served, True)
         made.failed()
         text = generate_latest(made.registry).decode()
