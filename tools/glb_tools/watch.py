@@ -6,7 +6,6 @@ import signal
 import sys
 import time
 from collections.abc import Callable, Container
-from math import ceil
 from typing import Any, NoReturn
 
 from glb_tools.etcd import ETCD_STATUSES, add_etcd_options, etcd_of
@@ -33,8 +32,6 @@ STATUSES = {DONE: "done; without --once it does not end by itself", **ETCD_STATU
 Ask = Callable[[dict[str, tuple[Rule, Container[str]]]], dict[str, Answer]]
 # of how many changes a line or a reason says more than their number
 MOST_SAID = 6
-# how long one leads at least that is not heard of, in seconds
-LEAD = 15
 
 
 class Watch:
@@ -208,6 +205,12 @@ def run(watch: Watch, settings: Settings, metrics: Any) -> NoReturn:
                 metrics.take(found, watch.served, is_appended)
         except BrokenPipeError:
             raise
+        except Waits as why:
+            # once it leads again it begins from what is served then
+            watch.engine = None
+            teller.tell([str(why)])
+            if metrics:
+                metrics.waits()
         except (Fault, OSError) as why:
             teller.tell([str(why)])
             if metrics:
@@ -221,7 +224,7 @@ def log_of(settings: Settings, options: argparse.Namespace) -> Watched:
     is_alone = not options.dry_run and not options.hand_back
     if not settings.log:
         # it is heard of at each look, which may take as long as Prometheus
-        seconds = max(LEAD, ceil(3 * settings.every)) if is_alone else 0
+        seconds = settings.lead if is_alone else 0
         return FleetLog(Log(etcd_of(options), options.prefix), seconds)
     return FileLog(
         settings.log,

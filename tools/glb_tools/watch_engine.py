@@ -91,6 +91,8 @@ class State:
     largest: int = 0
     # the demand that was measured last and was no jump
     seen: float | None = None
+    # when its series had a value last
+    heard: float = 0
 
 
 @dataclass
@@ -123,6 +125,8 @@ class Found:
     brakes: list[str]
     # demands that jumped, and stay meanwhile
     jumps: list[str] = field(default_factory=list)
+    # how many seconds ago the series had a value last that was silent for the longest time
+    oldest: float = 0
 
 
 class Engine:
@@ -151,10 +155,12 @@ class Engine:
         verdicts = []
         demands: dict[str, list[Verdict]] = {}
         for (word, name), rule in self.rules.items():
-            state = self.state((word, name), served[word, name], (word, name) in by_hand)
+            state = self.state((word, name), served[word, name], (word, name) in by_hand, now)
             answer = answers[rule.place]
             found = Verdict(word, name, served[word, name], answer.values.get(name), None, "")
             verdicts.append(found)
+            if found.value is not None:
+                state.heard = now
             if (word, name) in by_hand:
                 found.why = f"set by {by_hand[word, name]}, until it is handed back"
             elif answer.fault or name in answer.wrong:
@@ -171,14 +177,15 @@ class Engine:
         for found in verdicts:
             settle(found, self.states[found.word, found.name], now)
         batch, left = batch_of(verdicts)
-        return Found(batch, left, faults_of(answers), brakes, jumps)
+        oldest = max((now - self.states[each.word, each.name].heard for each in verdicts), default=0)
+        return Found(batch, left, faults_of(answers), brakes, jumps, oldest)
 
-    def state(self, name: Name, old: int, is_by_hand: bool) -> State:
+    def state(self, name: Name, old: int, is_by_hand: bool, now: float) -> State:
         """What is kept of a name: behind a start, and as long as it is set by hand, it begins from what is served."""
         found = self.states.get(name)
         if found is None or is_by_hand:
             is_out = name[0] == CAPACITY and old == 0
-            found = self.states[name] = State(is_down=is_out, is_filling=old == 0)
+            found = self.states[name] = State(is_down=is_out, is_filling=old == 0, heard=now)
         return found
 
     def take(

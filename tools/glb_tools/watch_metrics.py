@@ -24,6 +24,11 @@ class Metrics:
         self.brakes = Gauge(
             "glb_watch_brakes", "Brakes that hold, of trees and of all", registry=registry
         )
+        self.oldest = Gauge(
+            "glb_watch_oldest_input_seconds",
+            "How long ago the series had a value last that was silent for the longest time",
+            registry=registry,
+        )
         self.jumps = Gauge(
             "glb_watch_demand_brakes", "Sums and names of demands that jumped", registry=registry
         )
@@ -46,6 +51,7 @@ class Metrics:
         self.faults.set(len(found.faults))
         self.brakes.set(len(found.brakes))
         self.jumps.set(len(found.jumps))
+        self.oldest.set(found.oldest)
         self.by_hand.set(len(served.by_hand))
         self.drained.set(len(served.drains))
         if not found.faults:
@@ -54,6 +60,11 @@ class Metrics:
             self.batches.inc()
             for each in found.batch:
                 self.changes.labels(each.word).inc()
+
+    def waits(self) -> None:
+        """Another one leads: what is at fault is that one's to say."""
+        for gauge in (self.up, self.faults, self.brakes, self.jumps, self.oldest):
+            gauge.set(0)
 
     def failed(self) -> None:
         self.up.set(0)

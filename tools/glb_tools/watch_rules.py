@@ -5,6 +5,7 @@ import tomllib
 from collections.abc import Mapping
 from dataclasses import dataclass, field
 from fnmatch import fnmatchcase
+from math import ceil
 from typing import Any
 
 from glb_tools.options import Fault
@@ -16,6 +17,8 @@ DEMAND, CAPACITY = "demand", "capacity"
 # what becomes of a name without a series, beside a number that it gets
 KEEP, DOWN = "keep", "down"
 MOST_SECONDS = 7 * 86400
+# how long one leads that is not heard of, in seconds, where nothing is said
+LEAD = 15
 
 
 class Table:
@@ -126,6 +129,8 @@ class Settings:
     log: str
     topology: str
     metrics: str
+    # how long one that leads is not heard of until another one does
+    lead: int
     hand_back: tuple[str, ...]
     calm: Calm
     # the largest shares of the capacity of a tree, and of all trees, that may look down at once
@@ -199,6 +204,7 @@ def settings_of(octets: bytes, path: str) -> Settings:
         top.text("log", ""),
         top.text("topology", ""),
         top.text("metrics", ""),
+        top.whole("lead", max(LEAD, ceil(3 * every)), max(2, ceil(2 * every)), 86400),
         tuple(top.texts("hand_back", [])),
         Calm(
             hold,

@@ -197,7 +197,9 @@ class Orders(test_drain.Played):
 
         self.clock.at_sleep = sleeps
         of = ["--of-log", self.topology, self.path] if self.kind == "file" else []
-        return self.run_main(main, "a", *of, "--author", "ops", "--why", "x", "--over", "2m", *words)
+        return self.run_main(
+            main, "a", *of, "--author", "ops", "--why", "x", "--over", "2m", *words
+        )
 
     def down(self):
         self.value = 0.0

@@ -77,9 +77,7 @@ class Looks:
         self.now += seconds
         answer = Answer(dict(values or {}), dict(wrong or {}), fault)
         answers = {rule.place: answer for rule in self.settings.rules}
-        self.found = self.engine.look(
-            self.served, self.by_hand, self.drains, answers, self.now
-        )
+        self.found = self.engine.look(self.served, self.by_hand, self.drains, answers, self.now)
         if takes:
             self.engine.took(self.found.batch, self.now)
             self.served |= {(each.word, each.name): each.new for each in self.found.batch}
