@@ -203,7 +203,7 @@ down() {
     site 1
     ok 'and they come back' within 60 answers 192.0.2.1
     echo "down: $(since "$begun") ms from its start until they were back"
-    ok 'filled by steps' [ "$(capacities p1 | tail -n 3 | tr '\n' ' ')" = '0 500 1000 ' ]
+    ok 'filled by steps' within 20 eval '[ "$(capacities p1 | tail -n 3 | tr "\n" " ")" = "0 500 1000 " ]'
 }
 
 # Requests at a site become demands, by the lines of nginx, mtail and Prometheus.

@@ -26,6 +26,8 @@ class Answer:
 
 # a jump of a name counts where it is more than this share of the sum of its rule
 SMALL = 0.01
+# how many names that jumped are said
+MOST_JUMPS = 6
 # as Prometheus writes a number
 DECIMAL = re.compile(r"[+-]?(?:[0-9]+(?:\.[0-9]*)?|\.[0-9]+)(?:[eE][+-]?[0-9]+)?")
 
@@ -177,7 +179,9 @@ class Engine:
         for found in verdicts:
             settle(found, self.states[found.word, found.name], now)
         batch, left = batch_of(verdicts)
-        oldest = max((now - self.states[each.word, each.name].heard for each in verdicts), default=0)
+        oldest = max(
+            (now - self.states[each.word, each.name].heard for each in verdicts), default=0
+        )
         return Found(batch, left, faults_of(answers), brakes, jumps, oldest)
 
     def state(self, name: Name, old: int, is_by_hand: bool, now: float) -> State:
@@ -232,18 +236,24 @@ class Engine:
         total, before = sum(news), sum(olds)
         words = f"{rule.place}: the sum of its demands jumped from {before:,.0f} to {total:,.0f}"
         of_all = self.jump(rule.place, words, total, before, brake.sum, now)
-        said = [of_all] if of_all else []
+        said = []
         for found, state, new, old in zip(verdicts, states, news, olds):
             # a small one is no matter: it may be many times another small one
             most = brake.name if abs(new - old) > SMALL * before else inf
             words = f"{rule.place}: {plain(found.name)} jumped from {old:,.0f} to {new:,.0f}"
             own = self.jump((DEMAND, found.name), words, new, old, most, now)
-            found.why = own or of_all
-            said += [own] if own else []
-            if not found.why:
+            found.why = of_all or own
+            if found.why:
+                said += [own] if own else []
+            else:
                 state.seen = new
                 self.demand(found, rule, state, new)
-        return said
+        if of_all:
+            return [of_all]
+        more = (
+            [f"{rule.place}: more than {MOST_JUMPS} names jumped"] if len(said) > MOST_JUMPS else []
+        )
+        return said[:MOST_JUMPS] + more
 
     def jump(self, key: Any, words: str, new: float, old: float, most: float, now: float) -> str:
         """The words of its first look where a demand is another one by more than a share of the smaller one, and not for so long

@@ -17,6 +17,7 @@ from urllib.parse import parse_qs
 from fleet_world import Client, Outside, Table
 from samples import EXAMPLES, SMALL, TOOLS, TOP, Case
 
+from glb_tools.drains import Drain
 from glb_tools.log import Log, Names, Signed, checksum_of
 from glb_tools.options import Fault
 from glb_tools.text import Replay
@@ -425,6 +426,229 @@ class Capacities(unittest.TestCase):
         looks.served["capacity", "r0p2"] = 100
         found = looks.look({"r0p0": 0, "r0p1": 100, "r0p2": 0})
         self.assertEqual(found, {"r0p0": 0})
+
+
+class Jumps(unittest.TestCase):
+    """Demands that jump from look to look: the sum of a rule, or one name."""
+
+    def looks(
+        self, groups=4, brake="demand_sum = 100\ndemand_name = 300\ndemand_after = 30", **more
+    ):
+        more = {"smoothing": 1, "dead_band": 0, **more}
+        looks = Looks(rules("demand", "g*", brake=brake, **more), trees(1, groups=groups))
+        self.usual = {f"g{number}": 100 for number in range(groups)}
+        return looks
+
+    def test_the_sum_of_a_rule(self):
+        # 400 units: up to twice and down to a half is none
+        for value, due in ((200, True), (201, False), (50, True), (49, False), (0, False)):
+            with self.subTest(value):
+                looks = self.looks()
+                looks.look(self.usual)
+                found = looks.look({name: value for name in self.usual})
+                self.assertEqual(bool(found), due)
+                self.assertEqual(len(looks.found.jumps), 0 if due else 1)
+                self.assertEqual(
+                    {looks.served["demand", name] for name in self.usual}, {value if due else 100}
+                )
+
+    def test_what_is_said(self):
+        looks = self.looks()
+        looks.look(self.usual)
+        for factor in (3, 4):
+            looks.look({name: 100 * factor for name in self.usual})
+            # the words of the first look, so that they are said once
+            words = "demand rule 1: the sum of its demands jumped from 400 to 1,200"
+            self.assertEqual((looks.found.jumps, looks.why("g2")), ([words], words))
+
+    def test_a_name(self):
+        # up to four times, and down to a quarter, is none; the others go on
+        for value, due in ((400, True), (401, False), (25, True), (24, False)):
+            with self.subTest(value):
+                looks = self.looks(groups=8)
+                looks.look(self.usual)
+                found = looks.look({**self.usual, "g3": value, "g1": 110})
+                self.assertEqual(found, {"g1": 110, **({"g3": value} if due else {})})
+                if not due:
+                    words = f"demand rule 1: g3 jumped from 100 to {value}"
+                    self.assertEqual((looks.found.jumps, looks.why("g3")), ([words], words))
+
+    def test_not_all_names_are_said(self):
+        looks = self.looks(groups=100)
+        looks.look(self.usual)
+        looks.look({**self.usual, **{f"g{at}": 1000 for at in range(7)}})
+        self.assertEqual(len(looks.found.jumps), 7)
+        self.assertEqual(looks.found.jumps[-1], "demand rule 1: more than 6 names jumped")
+
+    def test_a_small_name_is_no_matter(self):
+        looks = self.looks(groups=40)
+        usual = {**self.usual, "g1": 2}
+        looks.look(usual)
+        looks.look(usual)
+        # 40 units of some 3,900 are above one percent, 39 are not
+        self.assertEqual(looks.look({**usual, "g1": 41}), {"g1": 41})
+        looks = self.looks(groups=40)
+        looks.look(usual, seconds=100)
+        looks.served["demand", "g1"] = 2
+        looks.engine.states["demand", "g1"].seen = 2
+        self.assertEqual(looks.look({**usual, "g1": 42}), {})
+
+    def test_back_again_it_is_over_and_counts_anew(self):
+        looks = self.looks()
+        looks.look(self.usual)
+        high = {name: 300 for name in self.usual}
+        self.assertEqual([looks.look(high), looks.look(high), looks.look(self.usual)], [{}] * 3)
+        self.assertEqual(looks.found.jumps, [])
+        # thirty seconds anew: three looks wait, the fourth is believed
+        self.assertEqual([bool(looks.look(high)) for _ in range(4)], [False, False, False, True])
+        self.assertEqual(looks.served["demand", "g1"], 300)
+        self.assertEqual(looks.look(high), {})
+
+    def test_time_without_an_answer_passes(self):
+        looks = self.looks()
+        looks.look(self.usual)
+        high = {name: 300 for name in self.usual}
+        self.assertEqual([looks.look(high), looks.look(fault="gone")], [{}, {}])
+        self.assertEqual([bool(looks.look(high)) for _ in range(2)], [False, True])
+
+    def test_a_start_compares_with_what_is_served(self):
+        looks = self.looks()
+        self.assertEqual(looks.look({name: 201 for name in self.usual}), {})
+        self.assertEqual(len(looks.found.jumps), 1)
+
+    def test_names_that_are_missing_or_by_hand_do_not_count(self):
+        looks = self.looks()
+        looks.look(self.usual)
+        looks.by_hand["demand", "g0"] = "ops"
+        looks.served["demand", "g0"] = 10**6
+        self.assertEqual(looks.look({"g0": 1, "g1": 190}), {"g1": 190})
+        self.assertEqual(looks.found.jumps, [])
+
+    def test_capacities_are_no_matter_of_it(self):
+        made = rules("capacity", "r0p0", brake="demand_sum = 1\ndemand_name = 1", up_step=100)
+        looks = Looks(made, trees(1))
+        self.assertEqual(looks.look({"r0p0": 900}), {"r0p0": 900})
+
+    def test_it_goes_on_behind_another_topology(self):
+        looks = self.looks()
+        looks.look(self.usual)
+        high = {name: 300 for name in self.usual}
+        looks.look(high)
+        looks.engine = Engine(looks.settings, trees(2, groups=4), looks.engine)
+        self.assertEqual([bool(looks.look(high)) for _ in range(3)], [False, False, True])
+
+    def test_how_old_inputs_are(self):
+        looks = self.looks()
+        looks.look(self.usual)
+        self.assertEqual(looks.found.oldest, 0)
+        looks.look({**self.usual, "g2": 100}, wrong={"g1": "NaN"})
+        looks.look({name: 100 for name in ("g0", "g1", "g3")})
+        looks.look({name: 100 for name in ("g0", "g1", "g3")})
+        self.assertEqual(looks.found.oldest, 20)
+        looks.look(fault="gone")
+        self.assertEqual(looks.found.oldest, 30)
+
+
+class Drained(unittest.TestCase):
+    """Nodes that glb-drain holds: its record, and who set the number that is served."""
+
+    def looks(self, was, to, *sizes, served=None, **more):
+        usual = {
+            "down_after": 2,
+            "up_after": 3,
+            "up_step": 50,
+            "brake": "tree = 100\nall = 100",
+            **more,
+        }
+        looks = Looks(rules("capacity", "r*", **usual), trees(*(sizes or (1,))))
+        looks.drains["r0p0"] = self.drain("r0p0", was, to)
+        looks.served["capacity", "r0p0"] = to if served is None else served
+        self.values = {name: 10**6 if "p" not in name else 100 for _, name in looks.engine.rules}
+        return looks
+
+    def drain(self, node, was, to):
+        return Drain(node, 100, 10, 0, "ops", "works", False, 60, 10, "x", was, to)
+
+    def test_it_is_not_raised(self):
+        for was, to, served in ((40, 40, 40), (60, 40, 60), (60, 40, 40), (0, 0, 0)):
+            looks = self.looks(was, to, served=served)
+            self.assertEqual([looks.look(self.values) for _ in range(6)], [{}] * 6)
+            self.assertEqual(looks.why("r0p0"), "drained by ops, from 100")
+
+    def test_nor_lowered_by_a_number(self):
+        looks = self.looks(40, 40)
+        self.assertEqual([looks.look(self.values | {"r0p0": 10}) for _ in range(3)], [{}] * 3)
+
+    def test_down_it_is_0_and_comes_back_to_the_drains_number_by_steps(self):
+        looks = self.looks(40, 40)
+        down = self.values | {"r0p0": 0}
+        self.assertEqual([looks.look(down) for _ in range(3)], [{}, {"r0p0": 0}, {}])
+        up = [looks.look(self.values) for _ in range(6)]
+        self.assertEqual(up, [{}, {}, {"r0p0": 20}, {"r0p0": 40}, {}, {}])
+
+    def test_the_drain_goes_on_while_it_is_down(self):
+        looks = self.looks(40, 40)
+        down = self.values | {"r0p0": 0}
+        looks.look(down), looks.look(down)
+        looks.drains["r0p0"] = self.drain("r0p0", 0, 0)
+        self.assertEqual([looks.look(self.values) for _ in range(6)], [{}] * 6)
+        # ended, and handed back, it is measured again
+        del looks.drains["r0p0"]
+        looks.served["capacity", "r0p0"] = 80
+        self.assertEqual(looks.look(self.values), {"r0p0": 100})
+
+    def test_begun_anew_while_it_is_down(self):
+        """A start finds 0, and a drain whose number is another."""
+        looks = self.looks(40, 40, served=0)
+        up = [looks.look(self.values) for _ in range(5)]
+        self.assertEqual(up, [{}, {}, {"r0p0": 20}, {"r0p0": 40}, {}])
+
+    def test_missing(self):
+        for missing, due in (("keep", {}), (70, {}), ("down", {"r0p0": 0})):
+            looks = self.looks(40, 40, missing=missing, missing_after=20)
+            rest = {name: value for name, value in self.values.items() if name != "r0p0"}
+            found = [looks.look(rest) for _ in range(3)]
+            self.assertEqual(found[2], due, missing)
+
+    def test_by_hand_is_above_it(self):
+        looks = self.looks(40, 40, served=33)
+        looks.by_hand["capacity", "r0p0"] = "ops"
+        down = self.values | {"r0p0": 0}
+        self.assertEqual([looks.look(down) for _ in range(3)], [{}] * 3)
+        # handed back amid the drain, the drain's number stands
+        looks.by_hand.clear()
+        self.assertEqual(looks.look(self.values), {"r0p0": 40})
+        looks.served["capacity", "r0p0"] = 60
+        self.assertEqual(looks.look(self.values), {"r0p0": 40})
+
+    def test_what_is_out_of_service_does_not_count_for_the_brake(self):
+        # a region that is drained, whose machines are switched off: its pools look down
+        for to, due in ((0, {"r1p0": 0}), (10, {})):
+            looks = self.looks(to, to, 4, 6, brake="tree = 100\nall = 25")
+            looks.drains = {"r0": self.drain("r0", to, to)}
+            looks.served["capacity", "r0p0"] = 100
+            looks.served["capacity", "r0"] = to
+            down = self.values | {f"r0p{number}": 0 for number in range(4)} | {"r1p0": 0}
+            looks.look(down)
+            found = looks.look(down)
+            self.assertEqual(found.get("r1p0"), due.get("r1p0"), to)
+            self.assertEqual(bool(looks.found.brakes), not due)
+
+    def test_by_hand_at_0_does_not_count_for_the_brake(self):
+        looks = self.looks(0, 0, 4, 6, brake="tree = 100\nall = 25")
+        looks.drains, looks.served["capacity", "r0p0"] = {}, 100
+        looks.by_hand["capacity", "r0"] = "ops"
+        looks.served["capacity", "r0"] = 0
+        down = self.values | {f"r0p{number}": 0 for number in range(4)} | {"r1p0": 0}
+        looks.look(down)
+        self.assertEqual(looks.look(down)["r1p0"], 0)
+
+    def test_the_brake_holds_a_drained_one_too(self):
+        looks = self.looks(60, 60, 4, brake="tree = 40\nall = 100")
+        self.values["r0"] = 10**6
+        looks.look(self.values)
+        down = self.values | {f"r0p{number}": 0 for number in range(4)}
+        self.assertEqual([looks.look(down) for _ in range(3)], [{}] * 3)
 
 
 class Batches(unittest.TestCase):
