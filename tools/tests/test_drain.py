@@ -273,6 +273,18 @@ class Steps(OverFile):
         self.assertEqual(self.told("a")[1]["before"], 45)
 
 
+class Warnings(OverFile):
+    def test_a_pool_with_addresses_of_a_site(self):
+        last = NODE.format("last", 2**48) + "pool = true\n" + 'a = ["192.0.2.1"]\n'
+        shared = NODES.replace(f'"a"\ncapacity = 60', f'"a"\na = ["192.0.2.1"]\ncapacity = 60')
+        self.world(ZONE + shared + last + G1.replace('"c"]', '"last"]') + G2)
+        warning = "glb-try: warning: last has addresses of a: it sends clients to north after that was taken out"
+        for words in (("--dry-run",), ()):
+            status, out, said = self.told("a", "--anyway", *words)
+            self.assertEqual((status, said.count(warning), said.count("\n")), (0, 1, 1), said)
+            self.assertRegex(out["warnings"][0], "^last has addresses of a: ")
+
+
 class HardCases(OverFile):
     def test_a_node_that_is_not_there(self):
         for words in ((), ("--back",), ("--dry-run",)):

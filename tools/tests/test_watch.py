@@ -12,12 +12,16 @@ import unittest
 from contextlib import contextmanager
 from http.server import BaseHTTPRequestHandler, ThreadingHTTPServer
 from pathlib import Path
+from unittest import mock
 from urllib.parse import parse_qs
 
 from fleet_world import Client, Outside, Table
 from samples import EXAMPLES, SMALL, TOOLS, TOP, Case
 
+from glb_tools import watch, watch_logs
 from glb_tools.drains import Drain
+from glb_tools.etcd import put
+from glb_tools.file_log import locked
 from glb_tools.log import Log, Names, Signed, checksum_of
 from glb_tools.options import Fault
 from glb_tools.text import Replay
@@ -131,6 +135,17 @@ class Settings(Case):
             with self.subTest(text):
                 self.refuses(words, text)
         self.refuses("neither http:// nor", DEMANDS, 'prometheus = "ftp://x"\n')
+
+    def test_how_long_one_leads(self):
+        for text, due in (
+            ("", 30),
+            ("every = 2\n", 15),
+            ("every = 0.3\nlead = 2\n", 2),
+            ("lead = 60\n", 60),
+        ):
+            self.assertEqual(settings(DEMANDS, HEAD + text).lead, due, text)
+        for text in ("lead = 1\nevery = 0.1\n", "lead = 19\n", "lead = 2.5\nevery = 1\n"):
+            self.refuses("`lead` of watch.toml is", text + DEMANDS)
 
     def test_the_example(self):
         made = settings_of((EXAMPLES / "watch.toml").read_bytes(), "watch.toml")
@@ -803,6 +818,63 @@ class Files(Case):
         self.file("log", "")
         self.assertEqual(log.read().numbers["capacity", "A"], 10)
 
+    def drained(self, *records):
+        """What glb-drain keeps beside the file."""
+        Path(f"{self.log}.drains").write_text("".join(f"{each}\n" for each in records))
+
+    def record(self, was, to, node="A"):
+        return Drain(node, 10, 5, 0, "ops", "works", False, 60, 10, "x", was, to).octets()
+
+    def test_a_drains_own_steps_are_not_by_hand(self):
+        log = self.opened()
+        self.by_hand("capacity A 6\ncapacity B 3\ncommit\n")
+        for was, to, due in (
+            (10, 6, True),
+            (6, 6, True),
+            (6, 4, True),
+            (10, 4, False),
+            (4, 4, False),
+        ):
+            self.drained(self.record(was, to))
+            served = log.read()
+            by_hand = {("capacity", "B"): "hand"} | ({} if due else {("capacity", "A"): "hand"})
+            self.assertEqual(served.by_hand, by_hand, (was, to))
+            self.assertEqual(served.drains["A"].to, to)
+        # it ends: by hand, where its last step handed nothing back
+        Path(f"{self.log}.drains").unlink()
+        self.assertEqual(len(log.read().by_hand), 2)
+        self.by_hand("capacity  A 10\ncommit\n")
+        self.assertEqual(log.read().by_hand, {("capacity", "B"): "hand"})
+
+    def test_a_record_that_cannot_be_read(self):
+        log = self.opened()
+        self.by_hand("capacity A 6\ncommit\n")
+        self.drained("{", self.record(6, 6), '{"node": 1}', "\0")
+        served = log.read()
+        self.assertEqual((served.by_hand, list(served.drains), len(served.faults)), ({}, ["A"], 3))
+        self.assertRegex(served.faults[0], "log.drains cannot be read")
+
+    def test_the_lock_of_writers(self):
+        log = self.opened()
+        log.read()
+        with locked(self.log, 1), mock.patch.object(watch_logs, "LOCKED", 0.1):
+            with self.assertRaisesRegex(Fault, "somebody else has the lock"):
+                log.append(["capacity A 1"], "")
+        self.assertEqual(Path(self.log).read_text(), "")
+        self.assertTrue(log.append(["capacity A 1"], ""))
+
+    def test_a_batch_that_is_being_written_is_not_torn(self):
+        """Whoever writes has the lock; a part of its batch is closed only where nobody has."""
+        log = self.opened()
+        log.read()
+        with locked(self.log, 1), mock.patch.object(watch_logs, "LOCKED", 0.1):
+            self.by_hand("capacity  A 7\n")
+            with self.assertRaisesRegex(Fault, "somebody else has the lock"):
+                log.read()
+            self.by_hand("commit\n")
+        self.assertEqual(log.read().numbers["capacity", "A"], 7)
+        self.assertNotIn("torn", Path(self.log).read_text())
+
     def test_a_full_disk(self):
         log = FileLog("/dev/full", self.topology, is_alone=True, is_read_only=False)
         self.addCleanup(lambda: log.file.close())
@@ -912,6 +984,40 @@ class Fleets(Case):
         why = "handed back: the drain is over"
         self.log.append("b", Signed("glb-drain", why), "capacity A 10\n", lambda names: None)
         self.assertEqual(log.read().by_hand, {})
+
+    def test_drains_beside_the_log(self):
+        log = FleetLog(self.log)
+        self.by("ops", "capacity A 3\n")
+        drain = Drain("A", 10, 5, 0, "ops", "works", False, 60, 10, "x", 3, 3)
+        self.world.table.txn([put("glb/drain/A", drain.octets()), put("glb/drain/B", "{")], [])
+        served = log.read()
+        self.assertEqual((served.by_hand, served.drains), ({}, {"A": drain}))
+        self.assertEqual(len(served.faults), 1)
+        self.by("ops", "capacity A 4\n")
+        self.assertEqual(log.read().by_hand, {("capacity", "A"): "ops"})
+        self.assertTrue(log.append(["capacity A 4"], "handed back"))
+        self.assertEqual(log.read().by_hand, {})
+
+    def test_a_step_that_comes_while_drains_are_read(self):
+        """The log and the drains are those of one moment."""
+        log, steps = FleetLog(Log(self.log.etcd, "glb")), iter((7, 5, 3))
+        log.read()
+        look = log.log.look
+
+        def looks():
+            to = next(steps, None)
+            if to is not None:
+                # behind the drains were read, and ahead of the log
+                drain = Drain("A", 10, 5, 0, "ops", "works", False, 60, 10, "x", to, to)
+                self.world.table.txn([put("glb/drain/A", drain.octets())], [])
+                self.by("ops", f"capacity A {to}\n")
+            return look()
+
+        with mock.patch.object(log.log, "look", looks):
+            served = log.read()
+        self.assertEqual(
+            (served.numbers["capacity", "A"], served.drains["A"].to, served.by_hand), (3, 3, {})
+        )
 
     def test_a_name_that_the_newest_base_lacks(self):
         log = FleetLog(self.log)
