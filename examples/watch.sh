@@ -285,25 +285,25 @@ import json, sys
 lines = [line.split() for entry in json.load(sys.stdin) for line in entry.get("changes", [])]
 print(sum(each[:2] == ["capacity", sys.argv[1]] and int(each[2]) > 0 for each in lines))' "$2"; }
 
-# A drain over a minute, in steps that move at most 60 units each; glb-watch does not fill the pool again.
+# A drain over a minute, in steps that move at most 30 units each; glb-watch does not fill the pool again.
 drain_() {
     local first count most
     first=$(($(last) + 1))
-    ok 'the drain ends well' drain p1 --over 60s --every 5s --step 60 --why works >"$work/drain" 2>&1
+    ok 'the drain ends well' drain p1 --over 60s --every 5s --step 30 --why works >"$work/drain" 2>&1
     grep steps "$work/drain"
     ok 'the pool is out' [ "$(capacity p1)" = 0 ]
     ok 'its clients are elsewhere' within 5 leaves 192.0.2.1
     read -r count most <<<"$(steps "$first" p1)"
     echo "drain: $count steps, the largest of which moved $most units"
-    ok 'no step moved more than 60' [ "$most" -le 60 ]
+    ok 'no step moved more than 30' [ "$most" -le 30 ]
     ok 'as many as were said ahead' grep -q "^$count steps" "$work/drain"
     sleep 12
     ok 'glb-watch does not fill it' [ "$(capacity p1)$(raised "$first" p1)" = 00 ]
     ok 'it is listed' [ "$(drain --list --json | $python -c 'import json, sys; print([[each["node"], each["state"]] for each in json.load(sys.stdin)["drains"]])')" = "[['p1', 'out']]" ]
     first=$(($(last) + 1))
-    ok 'and back' drain p1 --back --over 30s --every 5s --step 60 >"$work/drain" 2>&1
+    ok 'and back' drain p1 --back --over 30s --every 5s --step 30 >"$work/drain" 2>&1
     read -r count most <<<"$(steps "$first" 'p1 back')"
-    ok 'no step back moved more than 60' [ "$most" -le 60 ]
+    ok 'no step back moved more than 30' [ "$most" -le 30 ]
     ok 'it has what it had' [ "$(capacity p1)" = 1000 ]
     ok 'its clients are back' within 5 answers 192.0.2.1
     end site1

@@ -143,7 +143,7 @@ for old in "$top"/tools/*.py; do
     if [ -x "$old" ]; then install_script 755 "$old" "$tools/usr/share/glb/$name"; else install_script 644 "$old" "$tools/usr/share/glb/$name"; fi
     ln -s "../../share/glb/$name" "$tools/usr/lib/glb/$name"
 done
-install -D -m 644 -t "$tools/usr/share/doc/glb-tools/examples" "$top"/examples/*.yml
+install -D -m 644 -t "$tools/usr/share/doc/glb-tools/examples" "$top"/examples/*.yml "$top"/examples/glb-demand.{mtail,conf}
 install -D -m 644 -t "$tools/usr/share/doc/glb-tools/examples/network" "$top"/examples/network/*
 install -D -m 644 -t "$tools/usr/share/doc/glb-tools" "$top/docs/TOPOLOGY.md"
 for settings in "$top"/examples/glb-*.default; do install_settings "$tools" "$settings" "etc/default/$(basename "$settings" .default)"; done
@@ -183,7 +183,7 @@ Maintainer: $maintainer
 Installed-Size: $(size "$tools")
 Depends: ${compiled}glb (= $version), python3 (>= 3.11), python3-jinja2, python3-numpy, python3-prometheus-client, python3-requests, python3-scipy
 Recommends: python3-maxminddb, python3-yaml
-Suggests: prometheus, prometheus-node-exporter
+Suggests: mtail, prometheus, prometheus-blackbox-exporter, prometheus-node-exporter
 Breaks: glb (<< $version)
 Replaces: glb (<< $version)
 Section: net
