@@ -147,7 +147,7 @@ missing = "keep"
 TOML
     if [ -n "${5:-}" ]; then
         printf '[[demand]]\nquery = '"'%s'"'\nlabel = "group"\nnames = ["v*"]\nsmoothing = 1\ndead_band = 0\n' \
-            'label_replace(vector(20 + 9 * sin(5 * time())), "group", "v0", "", "") or label_replace(vector(20 + 9 * sin(7 * time())), "group", "v1", "", "") or label_replace(vector(20 + 9 * cos(9 * time())), "group", "v2", "", "")' >>"$work/watch$1.toml"
+            'label_replace(20 + 9 * sin(vector(5 * time())), "group", "v0", "", "") or label_replace(20 + 9 * sin(vector(7 * time())), "group", "v1", "", "") or label_replace(20 + 9 * cos(vector(9 * time())), "group", "v2", "", "")' >>"$work/watch$1.toml"
     fi
 }
 watch() { run "watch$1" $python -B "$here/tools/glb-watch" "$work/watch$1.toml"; }

@@ -18,7 +18,15 @@ from glb_tools.topology import Topology
 from glb_tools.watch_engine import Answer, Engine, Found, Verdict
 from glb_tools.watch_logs import FileLog, FleetLog, Served, Waits, Watched
 from glb_tools.watch_prometheus import Prometheus
-from glb_tools.watch_rules import Name, Rule, Settings, matched, places_of, settings_of
+from glb_tools.watch_rules import (
+    Name,
+    Rule,
+    Settings,
+    matched,
+    names_of,
+    places_of,
+    settings_of,
+)
 
 ABOUT = """Asks Prometheus for demands and capacities, and appends what is worth a change to the log of a fleet or of a server.
 
@@ -53,6 +61,7 @@ class Watch:
     def begin(self, is_dry: bool) -> None:
         """What is wrong with names, and with the topology, is said at the start."""
         _, served = self.read()
+        names_of(self.settings.rules, served.topology)
         warn(served.topology)
         if self.settings.hand_back and not is_dry:
             self.hand_back(list(self.settings.hand_back), False)

@@ -12,7 +12,7 @@ from glb_tools.log import LARGEST_BATCH, plain
 from glb_tools.precedence import Holder, holder
 from glb_tools.text import MOST_CAPACITY, MOST_CHANGES, MOST_UNITS
 from glb_tools.topology import Topology
-from glb_tools.watch_rules import CAPACITY, DEMAND, DOWN, KEEP, Name, Rule, Settings, names_of
+from glb_tools.watch_rules import CAPACITY, DEMAND, DOWN, KEEP, Name, Rule, Settings, known_names
 
 
 @dataclass
@@ -132,13 +132,14 @@ class Found:
 
 
 class Engine:
-    """The rules over a topology. States of names that stay are taken over from another engine."""
+    """The rules over a topology, as far as it has their names. States of names that stay are taken over from another engine."""
 
     def __init__(
         self, settings: Settings, topology: Topology, before: "Engine | None" = None
     ) -> None:
         self.calm, self.settings, self.topology = settings.calm, settings, topology
-        self.rules = names_of(settings.rules, topology)
+        # names that another topology lacks hold up no others
+        self.rules, self.faults = known_names(settings.rules, topology)
         kept = before.states if before else {}
         self.states: dict[Name, State] = {name: kept[name] for name in self.rules if name in kept}
         # since when the sum of a rule, or the demand of a name, has jumped, and what is said of it
@@ -182,7 +183,7 @@ class Engine:
         oldest = max(
             (now - self.states[each.word, each.name].heard for each in verdicts), default=0
         )
-        return Found(batch, left, faults_of(answers), brakes, jumps, oldest)
+        return Found(batch, left, self.faults + faults_of(answers), brakes, jumps, oldest)
 
     def state(self, name: Name, old: int, is_by_hand: bool, now: float) -> State:
         """What is kept of a name: behind a start, and as long as it is set by hand, it begins from what is served."""

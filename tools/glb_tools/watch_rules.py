@@ -251,11 +251,29 @@ def matched(patterns: tuple[str, ...], names: Mapping[str, int], place: str) -> 
 
 
 def names_of(rules: tuple[Rule, ...], topology: Names) -> dict[Name, Rule]:
-    """The rule of each name; that a name has two is refused."""
-    found: dict[Name, Rule] = {}
-    for rule in rules:
-        for name in matched(rule.patterns, places_of(topology, rule.word), rule.place):
-            other = found.setdefault((rule.word, name), rule)
-            if other is not rule:
-                raise Fault(f"{other.place} and {rule.place} both speak of {rule.word} {name}")
+    """The rule of each name; that a name has two, or that a pattern has none, is refused."""
+    found, faults = known_names(rules, topology)
+    if faults:
+        raise Fault(faults[0])
     return found
+
+
+def known_names(rules: tuple[Rule, ...], topology: Names) -> tuple[dict[Name, Rule], list[str]]:
+    """The rule of each name, and what is wrong: a pattern that has no name, and names that have two rules, which have none
+    then."""
+    found: dict[Name, Rule] = {}
+    faults, twice = list[str](), set[Name]()
+    for rule in rules:
+        for pattern in rule.patterns:
+            try:
+                names = matched((pattern,), places_of(topology, rule.word), rule.place)
+            except Fault as why:
+                faults.append(str(why))
+                continue
+            for name in names:
+                other = found.setdefault((rule.word, name), rule)
+                if other is not rule:
+                    twice.add((rule.word, name))
+                    words = f"{other.place} and {rule.place} both speak of {rule.word} {name}"
+                    faults.append(words)
+    return {name: rule for name, rule in found.items() if name not in twice}, faults

@@ -1,6 +1,8 @@
 """glb-watch: rules and their refusals, what looks come to, logs with several writers, and a faked Prometheus."""
 
+import contextlib
 import importlib.util
+import io
 import json
 import re
 import subprocess
@@ -664,6 +666,90 @@ class Drained(unittest.TestCase):
         looks.look(self.values)
         down = self.values | {f"r0p{number}": 0 for number in range(4)}
         self.assertEqual([looks.look(down) for _ in range(3)], [{}] * 3)
+
+
+class OtherTopologies(Case):
+    """A topology comes that has other names, while it runs: rules are checked by it again."""
+
+    def served(self, text):
+        numbers = Topology(text.encode())
+        found = types.SimpleNamespace(topology=numbers, by_hand={}, drains={}, faults=[])
+        found.numbers = {("demand", unit.name): unit.demand for unit in numbers.units}
+        found.numbers |= {("capacity", each.name): each.capacity for each in numbers.nodes}
+        return found
+
+    def watch(self, text):
+        self.values = {"A": 5.0, "B": 5.0, "C": 5.0, "g1": 9.0}
+        answers = lambda rules: {place: Answer(dict(self.values)) for place in rules}  # noqa: E731
+        log = types.SimpleNamespace(read=lambda: self.now)
+        return watch.Watch(settings(text), log, answers)
+
+    def test_names_that_went_hold_up_no_others(self):
+        self.now = self.served(SMALL)
+        found = self.watch(POOLS)
+        found.begin(True)
+        self.assertEqual({each.name for each in found.look().batch}, {"A", "B"})
+        self.now = self.served(SMALL.replace('"B"', '"C"'))
+        look = found.look()
+        self.assertEqual([each.name for each in look.batch], ["A"])
+        self.assertEqual(look.faults, ["capacity rule 1: the topology has no name `B`"])
+        # and where it begins so, it is refused
+        with self.assertRaisesRegex(Fault, "has no name `B`"):
+            found.begin(True)
+
+    def test_a_name_that_two_rules_speak_of_now_has_none(self):
+        self.now = self.served(SMALL.replace("C", "D"))
+        two = POOLS.replace('"A", "B"', '"A*"') + POOLS.replace('"A", "B"', '"*B"')
+        found = self.watch(two)
+        found.begin(True)
+        self.now = self.served(SMALL.replace('"B"', '"AB"'))
+        look = found.look()
+        self.assertEqual([each.name for each in look.batch], ["A"])
+        words = ["capacity rule 1 and capacity rule 2 both speak of capacity AB"]
+        self.assertEqual(look.faults, words)
+
+    def test_clocks_that_jump(self):
+        """A look asks no other clock than the one that never jumps."""
+        self.now = self.served(SMALL)
+        found = self.watch(POOLS)
+        with mock.patch.object(watch, "time", types.SimpleNamespace(monotonic=lambda: 7.0)):
+            found.look()
+        self.assertEqual({state.heard for state in found.engine.states.values()}, {7.0})
+
+    def test_one_that_leads_again_begins_from_what_is_served(self):
+        self.now = self.served(SMALL)
+        found = self.watch(POOLS)
+        reads = iter([None, None, Waits("another leads"), None, None])
+
+        def read():
+            fault = next(reads)
+            if fault:
+                raise fault
+            return self.now
+
+        found.log.read = read
+        found.log.append = lambda lines, why: False
+        found.ask = lambda rules: {place: Answer({"A": 0.0, "B": 9.0}) for place in rules}
+        engines, metrics = [], mock.Mock()
+        found.begin = lambda is_dry: None
+
+        def sleep(seconds):
+            engines.append(found.engine)
+            if len(engines) == 3:
+                raise KeyboardInterrupt
+
+        with (
+            mock.patch.object(
+                watch, "time", types.SimpleNamespace(monotonic=lambda: 7.0, sleep=sleep)
+            ),
+            contextlib.redirect_stderr(io.StringIO()),
+            contextlib.redirect_stdout(io.StringIO()),
+            self.assertRaises(KeyboardInterrupt),
+        ):
+            watch.run(found, found.settings, metrics)
+        self.assertIsNone(engines[1])
+        self.assertEqual(engines[2].states["capacity", "A"].bad, 1)
+        self.assertEqual((metrics.waits.call_count, metrics.failed.call_count), (1, 0))
 
 
 class Batches(unittest.TestCase):
