@@ -117,6 +117,8 @@ class Run:
             return None
         drain = self.drain_of(seen, seen.before if seen else self.first(capacity), capacity)
         if drain.until and drain.left() <= 0 and not self.is_back:
+            if seen is None:
+                raise Fault("--until is over already", WRONG_WORDS)
             # its time is over: it goes back
             self.is_back = True
             drain = self.drain_of(seen, drain.before, capacity)

@@ -790,6 +790,15 @@ class Timed(OverFile):
         self.drain("a", "--over", "0", "--for", "1h")
         self.assertIsNotNone(self.listed()[0]["until"])
 
+    def test_a_time_that_is_over(self):
+        status, out, said = self.drain("a", "--over", "0", "--until", "2027-01-15T08:16")
+        self.assertEqual((status, said), (64, "glb-try: --until is over already\n"))
+        self.assertEqual((self.lines(), self.listed()), ([], []))
+        # one that is out goes back by it
+        self.drain("a", "--over", "0")
+        self.assertEqual(self.drain("a", "--over", "0", "--until", "2027-01-15T08:16")[0], 0)
+        self.assertEqual((self.capacities(), self.listed()), ([0, 60], []))
+
     def due(self):
         return self.run_main(main, *self.of, "--author", "ops", "--due")
 
