@@ -98,7 +98,7 @@ $python - "$here/examples/prometheus.yml" "$box_port" "$mtail_port" "${site_port
 import sys, yaml
 path, box, mtail, *sites = sys.argv[1:]
 made = yaml.safe_load(open(path))
-made["global"] |= {"scrape_interval": "1s", "scrape_timeout": "900ms"}
+made["global"] |= {"scrape_interval": "2s", "scrape_timeout": "2s"}
 made["rule_files"] = []
 jobs = {job["job_name"]: job for job in made["scrape_configs"]}
 for name, target in (("glb-http", "http://127.0.0.1:{}/"), ("glb-tcp", "127.0.0.1:{}")):
@@ -139,7 +139,7 @@ down_after = 2
 up_after = 2
 up_step = 50
 [[demand]]
-query = 'sum by (group) (rate(glb_sent_bytes_total{group!="-"}[5s])) / 100'
+query = 'sum by (group) (rate(glb_sent_bytes_total{group!="-"}[10s])) / 100'
 label = "group"
 names = ["g0", "g1"]
 smoothing = 1
@@ -208,7 +208,7 @@ down() {
 
 # Requests at a site become demands, by the lines of nginx, mtail and Prometheus.
 demand() {
-    local end=$(($(now) + 60000)) found=0
+    local end=$(($(now) + 90000)) found=0
     while [ "$(now)" -lt "$end" ] && [ "$found" = 0 ]; do
         for _ in $(seq 20); do curl -s -o /dev/null --interface 127.0.3.2 "http://127.0.0.1:${site_ports[2]}/"; done
         sleep 0.3
@@ -437,7 +437,7 @@ both 5 4 15
 within 20 eval 'says watch1 "this one waits" || says watch2 "this one waits"'
 leader=1
 says watch1 'this one waits' && leader=2
-ok 'all probes are there' within 30 eval '[ "$(curl -s "http://127.0.0.1:$prom_port/api/v1/query" --data-urlencode "query=count(probe_success == 1)" | grep -c "\"9\"")" = 1 ]'
+ok 'all probes are there' within 60 eval '[ "$(curl -s "http://127.0.0.1:$prom_port/api/v1/query" --data-urlencode "query=count(probe_success == 1)" | grep -c "\"9\"")" = 1 ]'
 begun=$(now)
 for part in ${@:-$parts}; do
     if [ "$part" = drain ]; then drain_; else "$part"; fi

@@ -3,6 +3,7 @@
 import contextlib
 import fcntl
 import functools
+import io
 import json
 import time
 import unittest
@@ -10,11 +11,11 @@ from pathlib import Path
 from unittest import mock
 
 from fleet_world import CRASH_AFTER, CRASH_BEFORE, LOST_AFTER, LOST_BEFORE, Client, Crash, Table
-from glb_tools import drain, drain_stores
+from glb_tools import drain, drain_stores, roll
 from glb_tools.drain import main
 from glb_tools.etcd import Unreachable
 from glb_tools.history import topology_at, with_numbers
-from glb_tools.log import Log, Names, Signed, checksum_of
+from glb_tools.log import Base, Log, Names, Signed, checksum_of
 from glb_tools.plan import Served
 from glb_tools.text import Replay
 from glb_tools.topology import Topology, written
@@ -973,6 +974,28 @@ class OverFleet(Played):
             [lines for lines, author, _ in self.batches() if author == "ops"],
             ["capacity a 20\n", "capacity a 0\n"],
         )
+
+    def test_glb_roll_says_what_glb_plan_says(self):
+        """Of a topology that runs beside, with the numbers of the log."""
+        self.log.append("x", Signed("else"), "capacity a 10\n", lambda names: None)
+        new = WORLD.replace('"b"\ncapacity = 60', '"b"\ncapacity = 40').encode()
+        self.log.put_file("file", checksum_of(new), new)
+        names = Names(["g1", "g2"], ["north", "south", "a", "b", "c"])
+        self.log.put_file("names", checksum_of(new), names.octets())
+        base, out = Base(0, checksum_of(new), 0, ""), io.StringIO()
+
+        def map_at(log, number, program, of=None):
+            octets = topology_at(log, log.look(), number)
+            return placed(
+                octets.replace(b'"b"\ncapacity = 60', b'"b"\ncapacity = 40') if of else octets
+            )
+
+        with mock.patch.object(roll, "map_at", map_at), contextlib.redirect_stdout(out):
+            roll.compare(self.log, 2, base, {}, "python3")
+        # g1 has 10 at a, and 30 at b, where g2 has its 30: now 10 of either fewer
+        self.assertIn("20 of 70 units would move (28.6 %)", out.getvalue())
+        self.assertIn("  20 from north to south\n", out.getvalue())
+        self.assertIn("  b: 60 to 40 of 40 (was 60)\n", out.getvalue())
 
     def test_each_call_of_etcd_fails_or_is_the_last(self):
         start, self.count = self.table.copy(), 0
