@@ -212,7 +212,7 @@ demand() {
     while [ "$(now)" -lt "$end" ] && [ "$found" = 0 ]; do
         for _ in $(seq 20); do curl -s -o /dev/null --interface 127.0.3.2 "http://127.0.0.1:${site_ports[2]}/"; done
         sleep 0.3
-        if tool glb-log --name g1 --last 1 --json | grep -q 'demand g1 [2-9][0-9][0-9]'; then found=1; fi
+        if tool glb-log --name g1 --last 1 --json | grep -q 'demand g1 [1-9][1-9][0-9]'; then found=1; fi
     done
     ok 'requests of clients of a group are its demand' [ "$found" = 1 ]
     echo "demand: $(tool glb-log --name g1 --last 1 | tail -n 1 | cut -c 1-160)"

@@ -107,7 +107,7 @@ class Fleet:
 
     def setters_at(self, look: Look, node: str) -> Setters:
         found = Setters(node)
-        for entry in self.log.entries(max(look.first, 1), look.last):
+        for entry in self.log.entries(look.begins, look.last):
             if entry.kind == BATCH:
                 found.take(entry.lines, author_of(entry.author, entry.why))
         return found

@@ -5,6 +5,7 @@ is in a file. Beside either stands which drains are on.
 """
 
 import fcntl
+import json
 import os
 import socket
 import uuid
@@ -16,7 +17,7 @@ from glb_tools.drains import Drain
 from glb_tools.etcd import Unreachable, is_at, put
 from glb_tools.file_log import OWN, author_of_line, locked, own_line
 from glb_tools.history import handed, topology_of
-from glb_tools.log import BATCH, Base, Entry, Log, Look, Signed, without_base
+from glb_tools.log import BATCH, PIECE, Base, Entry, Log, Look, Signed, without_base
 from glb_tools.options import Fault, read_file
 from glb_tools.precedence import AUTHOR, author_of, is_by_hand
 from glb_tools.text import Change, Replay, lines_of
@@ -248,6 +249,8 @@ class FleetLog:
         self.served: Served | None = None
         self.look: Look | None = None
         self.chain, self.next = "", 0
+        # what was kept last of who set numbers by hand
+        self.remembered = ""
 
     def lead(self) -> None:
         etcd, key = self.log.etcd, self.log.at("watch")
@@ -281,14 +284,40 @@ class FleetLog:
             raise Fault(without_base(look))
         if self.served is None or base != self.base or self.is_another(look):
             topology = Topology(topology_of(self.log, base), str(base))
-            self.served = Served(topology, self.served)
-            self.base, self.next = base, max(look.first, 1)
+            before, self.served = self.served, Served(topology, self.served)
+            if before is None:
+                self.recall()
+            self.base, self.next = base, look.begins
         for entry in self.log.entries(self.next, look.last):
             self.take(look, base, entry)
             self.next = entry.number + 1
         self.chain, self.look = look.entries[-1].checksum, look
         self.served.take_drains(texts)
+        if self.lead_seconds:
+            self.remember()
         return self.served
+
+    def recall(self) -> None:
+        """Who set which numbers by hand, as one that led kept it: a cut takes their entries away."""
+        assert self.served
+        item = self.log.etcd.get(self.log.at("hand"))
+        try:
+            told = json.loads(item.octets) if item else []
+            authors = {(str(word), str(name)): str(who) for word, name, who in told}
+        except (ValueError, TypeError, RecursionError):
+            return
+        self.served.authors |= {
+            name: who for name, who in authors.items() if name in self.served.numbers
+        }
+
+    def remember(self) -> None:
+        assert self.served
+        authors = sorted(self.served.authors.items())
+        octets = json.dumps([[*name, who] for name, who in authors])
+        if octets != self.remembered and len(octets) <= PIECE:
+            leads = [is_at(self.log.at("watch"), self.leads_since)]
+            if self.log.etcd.txn([put(self.log.at("hand"), octets)], leads).held:
+                self.remembered = octets
 
     def looked(self) -> tuple[Look, list[tuple[str, bytes]]]:
         """The log, and the drains that are on at that moment: a step puts both at once."""

@@ -911,7 +911,8 @@ class OverFleet(Played):
         return self.run_main(main, *more, *words)
 
     def batches(self):
-        entries = self.log.entries(1, self.log.look().last)
+        look = self.log.look()
+        entries = self.log.entries(look.begins, look.last)
         return [(entry.lines, entry.author, entry.why) for entry in entries if entry.lines]
 
     def listed(self):
@@ -950,6 +951,17 @@ class OverFleet(Played):
         # the base has the numbers of the drain, and what is kept beside the log does not
         self.assertEqual(self.drain("a", "--back")[0], 0)
         self.assertEqual(self.batches()[-1][0], "capacity a 60\n")
+
+    def test_a_log_that_was_cut(self):
+        self.log.append("x", Signed("glb-watch"), "capacity a 50\n", lambda names: None)
+        self.log.append("y", Signed("glb-watch"), "capacity a 40\n", lambda names: None)
+        self.roll(WORLD)
+        self.log.cut(self.log.look(), self.log.newest_base())
+        self.assertEqual(self.log.look().first, 3)
+        self.assertEqual(self.drain("a")[0], 0)
+        self.assertEqual(
+            [lines for lines, *_ in self.batches()[-2:]], ["capacity a 20\n", "capacity a 0\n"]
+        )
 
     def test_the_node_goes_while_a_step_is_worked(self):
         gone, rolled = WORLD.replace('"a"', '"d"'), []

@@ -660,6 +660,15 @@ class Drained(unittest.TestCase):
         looks.look(down)
         self.assertEqual(looks.look(down)["r1p0"], 0)
 
+    def test_drained_and_found_down_counts_for_the_brake(self):
+        for to, due in ((40, {}), (0, {"r0p2": 0})):
+            looks = self.looks(to, to, 4, served=0, brake="tree = 60\nall = 100")
+            looks.drains["r0p1"] = self.drain("r0p1", to, to)
+            looks.served["capacity", "r0p1"] = 0
+            down = self.values | {"r0p0": 0, "r0p1": 0, "r0p2": 0}
+            looks.look(down)
+            self.assertEqual(looks.look(down), due, to)
+
     def test_the_brake_holds_a_drained_one_too(self):
         looks = self.looks(60, 60, 4, brake="tree = 40\nall = 100")
         self.values["r0"] = 10**6
@@ -1070,6 +1079,43 @@ class Fleets(Case):
         why = "handed back: the drain is over"
         self.log.append("b", Signed("glb-drain", why), "capacity A 10\n", lambda names: None)
         self.assertEqual(log.read().by_hand, {})
+
+    def test_by_hand_outlives_a_cut(self):
+        self.by("ops", "capacity A 3\n")
+        self.by("ops", "capacity B 4\ndemand g1 7\n")
+        first = FleetLog(self.log, 15)
+        first.read()
+        self.assertTrue(first.append(["demand g1 7"], "handed back"))
+        first.read()
+        first.end()
+        self.base(SMALL, 4)
+        self.log.cut(self.log.look(), self.log.newest_base())
+        self.assertEqual(self.log.look().first, 4)
+        due = {("capacity", "A"): "ops", ("capacity", "B"): "ops"}
+        for lead in (0, 15):
+            log = FleetLog(self.log, lead)
+            self.assertEqual(log.read().by_hand, due)
+            log.end()
+        # handed back behind the cut, and kept so
+        log = FleetLog(self.log, 15)
+        log.read()
+        self.assertTrue(log.append(["capacity A 3"], "handed back"))
+        log.read()
+        log.end()
+        self.assertEqual(FleetLog(self.log).read().by_hand, {("capacity", "B"): "ops"})
+
+    def test_what_is_kept_of_hands_is_nonsense_or_of_names_that_went(self):
+        for text in ("{", "[1]", "[[1, 2]]", '[["capacity", "Z", "ops"]]', "\0"):
+            self.world.table.txn([put("glb/hand", text)], [])
+            self.assertEqual(FleetLog(self.log).read().by_hand, {}, text)
+
+    def test_one_that_leads_no_more_keeps_nothing(self):
+        first = FleetLog(self.log, 15)
+        first.read()
+        first.leads_since += 1
+        self.by("ops", "capacity A 3\n")
+        first.read()
+        self.assertEqual(json.loads(self.log.etcd.get("glb/hand").octets), [])
 
     def test_drains_beside_the_log(self):
         log = FleetLog(self.log)
