@@ -282,15 +282,17 @@ class FleetLog:
         base = look.newest
         if base is None:
             raise Fault(without_base(look))
-        if self.served is None or base != self.base or self.is_another(look):
+        is_anew = self.served is None or self.is_another(look)
+        if is_anew or base != self.base:
             topology = Topology(topology_of(self.log, base), str(base))
-            before, self.served = self.served, Served(topology, self.served)
-            if before is None:
+            self.served = Served(topology, None if is_anew else self.served)
+            if is_anew:
                 self.recall()
             self.base, self.next = base, look.begins
         for entry in self.log.entries(self.next, look.last):
             self.take(look, base, entry)
             self.next = entry.number + 1
+        assert self.served
         self.chain, self.look = look.entries[-1].checksum, look
         self.served.take_drains(texts)
         if self.lead_seconds:
@@ -300,6 +302,7 @@ class FleetLog:
     def recall(self) -> None:
         """Who set which numbers by hand, as one that led kept it: a cut takes their entries away."""
         assert self.served
+        self.remembered = ""
         item = self.log.etcd.get(self.log.at("hand"))
         try:
             told = json.loads(item.octets) if item else []

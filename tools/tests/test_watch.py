@@ -1,6 +1,7 @@
 """glb-watch: rules and their refusals, what looks come to, logs with several writers, and a faked Prometheus."""
 
 import contextlib
+import dataclasses
 import importlib.util
 import io
 import json
@@ -1080,6 +1081,22 @@ class Fleets(Case):
         self.log.append("b", Signed("glb-drain", why), "capacity A 10\n", lambda names: None)
         self.assertEqual(log.read().by_hand, {})
 
+    def test_a_log_that_was_restored(self):
+        """Its numbers are given a second time, to other entries."""
+        log = FleetLog(self.log, 15)
+        log.read()
+        before = self.world.table.copy()
+        self.by("ops", "capacity A 3\n")
+        self.assertEqual(log.read().numbers["capacity", "A"], 3)
+        self.world.table = before
+        self.by("others", "capacity B 4\n")
+        served = log.read()
+        numbers = [served.numbers["capacity", name] for name in "AB"]
+        self.assertEqual(numbers, [10, 4])
+        self.assertEqual(served.by_hand, {("capacity", "B"): "others"})
+        kept = json.loads(self.log.etcd.get("glb/hand").octets)
+        self.assertEqual(kept, [["capacity", "B", "others"]])
+
     def test_by_hand_outlives_a_cut(self):
         self.by("ops", "capacity A 3\n")
         self.by("ops", "capacity B 4\ndemand g1 7\n")
@@ -1276,6 +1293,32 @@ class Command(Case):
         # nobody is there any more
         found = self.table(self.main, path, "--once", "--dry-run")
         self.assertEqual((found["batch"], len(found["faults"])), ([], 2))
+
+    def test_a_peer_that_drips_is_left_soon(self):
+        from glb_tools.watch_prometheus import Prometheus
+
+        over = threading.Event()
+
+        def drips(handler):
+            handler.wfile.write(b"HTTP/1.0 200 OK\r\n\r\n")
+            # one octet now and then, for longer than anybody waits
+            for _ in range(200):
+                try:
+                    handler.wfile.write(b" " * 600)
+                except OSError:
+                    break
+                if over.wait(0.05):
+                    break
+
+        with faked(d=drips) as server:
+            asked = Prometheus(f"http://127.0.0.1:{server.server_port}", 0.3)
+            (rule,) = settings(DEMANDS).rules
+            rule = dataclasses.replace(rule, query="d")
+            found = asked.ask({rule.place: (rule, {"g1"})})
+            self.assertTrue(found[rule.place].fault)
+            asked.open[rule.place].join(2)
+            self.assertFalse(asked.open[rule.place].is_alive())
+            over.set()
 
     def test_refused_at_the_start(self):
         with faked() as server:
