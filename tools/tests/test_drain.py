@@ -823,6 +823,21 @@ class Timed(OverFile):
             self.assertEqual(self.due()[0], 0)
             self.assertEqual(self.capacities()[2:], due)
 
+    def test_due_is_not_early_where_a_clock_went_back(self):
+        self.clock.at_sleep = self.interrupt
+        self.drain("a", "--over", "0", "--for", "10h")
+        self.clock.off -= 10**6
+        self.assertEqual((self.due()[0], self.capacities()), (0, [0]))
+
+    def test_due_leaves_a_way_back_by_hand(self):
+        self.clock.at_sleep = lambda: self.capacities()[-1:] == [0] and self.interrupt()
+        self.drain("a", "--over", "2m", "--for", "10m")
+        self.clock.at_sleep = self.interrupt
+        self.drain("a", "--back", "--over", "2m")
+        self.assertEqual((self.capacities(), self.listed()[0]["until"]), ([20, 0, 20], None))
+        self.clock.now += 10_000
+        self.assertEqual((self.due()[0], self.capacities()), (0, [20, 0, 20]))
+
     def test_due_leaves_others_and_what_is_down(self):
         self.drain("b", "--over", "0")
         self.clock.at_sleep = self.interrupt
