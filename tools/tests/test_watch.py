@@ -726,6 +726,34 @@ class OtherTopologies(Case):
             found.look()
         self.assertEqual({state.heard for state in found.engine.states.values()}, {7.0})
 
+    def test_one_batch_an_interval(self):
+        """Looks that took too long are not made up for."""
+        self.now = self.served(SMALL)
+        found = self.watch(POOLS)
+        clock, begun, appended, took = [100.0], [], [], iter([0, 4, 25, 1, 0, 0])
+
+        def ask(rules):
+            begun.append(clock[0])
+            clock[0] += next(took)
+            return {place: Answer({"A": 5.0 + len(begun) % 2, "B": 9.0}) for place in rules}
+
+        def sleep(seconds):
+            clock[0] += seconds
+            if len(begun) == 6:
+                raise KeyboardInterrupt
+
+        found.ask, found.begin = ask, lambda is_dry: None
+        found.log.append = lambda lines, why: appended.append(clock[0]) or True
+        now = types.SimpleNamespace(monotonic=lambda: clock[0], sleep=sleep)
+        with (
+            mock.patch.object(watch, "time", now),
+            contextlib.redirect_stdout(io.StringIO()),
+            self.assertRaises(KeyboardInterrupt),
+        ):
+            watch.run(found, found.settings, None)
+        self.assertEqual(begun, [100, 110, 120, 145, 155, 165])
+        self.assertEqual(len(appended), 6)
+
     def test_one_that_leads_again_begins_from_what_is_served(self):
         self.now = self.served(SMALL)
         found = self.watch(POOLS)
