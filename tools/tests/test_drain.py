@@ -498,6 +498,20 @@ class HardCases(OverFile):
         self.assertEqual((status, self.lines()), (1, []))
         self.assertIn("somebody else has the lock", said)
 
+    def test_a_lock_that_somebody_takes_while_a_step_is_tried(self):
+        with contextlib.ExitStack() as stack:
+
+            def take():
+                file = stack.enter_context((self.folder / "lock").open("w"))
+                fcntl.flock(file, fcntl.LOCK_EX)
+                self.asked = lambda: None
+
+            self.asked = take
+            with mock.patch.object(drain_stores, "LOCKED", 0.2):
+                status, _, said = self.drain("a")
+        self.assertEqual((status, self.lines()), (1, []))
+        self.assertIn("somebody else has the lock", said)
+
     def test_a_log_that_was_put_in_its_place(self):
         self.world(WORLD, "capacity b 50\ncommit\n")
         self.asked = lambda: self.log.write_text("")
@@ -663,10 +677,13 @@ class FoundDown(OverFile):
         self.assertEqual(self.capacities(), [50, 0, 0, 50])
 
     def test_a_batch_that_was_dropped_sets_nothing(self):
-        self.drain("a", "--over", "0")
-        self.append("capacity  a 7\ncapacity nowhere 1\ncommit\n")
-        self.assertEqual(self.drain("a", "--back", "--over", "0")[0], 0)
-        self.assertEqual(self.capacities(), [0, 7, 60])
+        self.clock.at_sleep = self.interrupt
+        self.drain("a", "--over", "2m")
+        # somebody's number, and a batch of glb-watch that servers drop
+        self.append("capacity a 10\ncommit\ncapacity  a 5\ncapacity nowhere 1\ncommit\n")
+        status, _, said = self.drain("a", "--over", "2m")
+        self.assertEqual((status, self.capacities()), (5, [20, 10, 5]), said)
+        self.assertEqual(self.listed()[0]["state"], "changed")
 
     def test_glb_watch_ahead_of_the_first_step(self):
         asked = []
