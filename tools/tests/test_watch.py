@@ -499,17 +499,13 @@ class Jumps(unittest.TestCase):
         self.assertEqual(looks.found.jumps[-1], "demand rule 1: more than 6 names jumped")
 
     def test_a_small_name_is_no_matter(self):
-        looks = self.looks(groups=40)
-        usual = {**self.usual, "g1": 2}
-        looks.look(usual)
-        looks.look(usual)
-        # 40 units of some 3,900 are above one percent, 39 are not
-        self.assertEqual(looks.look({**usual, "g1": 41}), {"g1": 41})
-        looks = self.looks(groups=40)
-        looks.look(usual, seconds=100)
-        looks.served["demand", "g1"] = 2
-        looks.engine.states["demand", "g1"].seen = 2
-        self.assertEqual(looks.look({**usual, "g1": 42}), {})
+        # by one percent of 3,902 units, 39 are no matter, and 40 are
+        for value, due in ((41, {"g1": 41}), (42, {})):
+            looks = self.looks(groups=40)
+            looks.served["demand", "g1"] = 2
+            usual = {**self.usual, "g1": 2}
+            self.assertEqual(looks.look(usual), {})
+            self.assertEqual(looks.look({**usual, "g1": value}), due)
 
     def test_back_again_it_is_over_and_counts_anew(self):
         looks = self.looks()
