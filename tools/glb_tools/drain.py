@@ -528,7 +528,8 @@ def moment(seconds: int) -> str:
     return time.strftime("%Y-%m-%d %H:%M:%SZ", time.gmtime(min(max(seconds, 0), 1 << 36)))
 
 
-def state_of(drain: Drain, capacity: int | None, author: str) -> str:
+def state_of(drain: Drain, capacity: int | None, author: str = "") -> str:
+    """What becomes of a node: of its capacity that is served (none where it is gone), and who set that."""
     if capacity is None:
         return "gone"
     if is_found_down(drain, capacity, author):
@@ -732,3 +733,6 @@ def main() -> int:
         if options.json and run.told:
             print(json.dumps(asdict(run.told), indent=2), flush=True)
     return DONE
+
+
+__all__ = ["STATES", "Drain", "File", "Fleet", "main", "state_of"]
