@@ -143,9 +143,10 @@ for old in "$top"/tools/*.py; do
     if [ -x "$old" ]; then install_script 755 "$old" "$tools/usr/share/glb/$name"; else install_script 644 "$old" "$tools/usr/share/glb/$name"; fi
     ln -s "../../share/glb/$name" "$tools/usr/lib/glb/$name"
 done
-install -D -m 644 -t "$tools/usr/share/doc/glb-tools/examples" "$top"/examples/*.yml "$top"/examples/glb-demand.{mtail,conf}
+install -D -m 644 -t "$tools/usr/share/doc/glb-tools/examples" "$top"/examples/*.yml
 install -D -m 644 -t "$tools/usr/share/doc/glb-tools/examples/network" "$top"/examples/network/*
 install -D -m 644 -t "$tools/usr/share/doc/glb-tools" "$top/docs/TOPOLOGY.md"
+install -m 644 -t "$tools/usr/share/doc/glb-tools/examples" "$top"/examples/glb-demand.{mtail,conf}
 for settings in "$top"/examples/glb-*.default; do install_settings "$tools" "$settings" "etc/default/$(basename "$settings" .default)"; done
 # its units, those of a name with all that were made of them
 tool_units=$(ls "$tools/usr/lib/systemd/system" | sed 's/@\./@*./' | tr '\n' ' ')
