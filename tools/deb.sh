@@ -173,6 +173,7 @@ install_completions "$server"
 install_completions "$tools"
 install -D -m 644 -t "$tools/usr/share/doc/glb-tools/examples" "$top"/examples/*.yml
 install -D -m 644 -t "$tools/usr/share/doc/glb-tools/examples/network" "$top"/examples/network/*
+install -m 644 -t "$tools/usr/share/doc/glb-tools/examples" "$top"/examples/glb-demand.{mtail,conf}
 for settings in "$top"/examples/glb-*.default; do install_settings "$tools" "$settings" "etc/default/$(basename "$settings" .default)"; done
 # its units, those of a name with all that were made of them
 tool_units=$(ls "$tools/usr/lib/systemd/system" | sed 's/@\./@*./' | tr '\n' ' ')
@@ -210,7 +211,7 @@ Maintainer: $maintainer
 Installed-Size: $(size "$tools")
 Depends: ${compiled}glb (= $version), python3 (>= 3.11), python3-jinja2, python3-numpy, python3-prometheus-client, python3-requests, python3-scipy
 Recommends: python3-maxminddb, python3-yaml
-Suggests: prometheus, prometheus-node-exporter
+Suggests: mtail, prometheus, prometheus-blackbox-exporter, prometheus-node-exporter
 Breaks: glb (<< $version)
 Replaces: glb (<< $version)
 Section: net
