@@ -119,12 +119,11 @@ for unit in "$top"/examples/*.service "$top"/examples/*.timer; do
 done
 install -D -m 644 "$top/docs/glb.1" "$server/usr/share/man/man1/glb.1"
 gzip -9n "$server/usr/share/man/man1/glb.1"
-install -D -m 644 -t "$server/usr/share/doc/glb" "$top"/README.md "$top"/docs/*.md
+install -D -m 644 -t "$server/usr/share/doc/glb" "$top"/README.md "$top"/CHANGELOG.md "$top"/SECURITY.md "$top"/CONTRIBUTING.md "$top"/docs/*.md "$top"/docs/*.svg
 install -D -m 644 -t "$server/usr/share/doc/glb/operating" "$top"/docs/operating/*.md
-# links between documents: README stands beside the others here
-sed -i -e 's,](docs/,](,g' "$server/usr/share/doc/glb/README.md"
-sed -i -e 's,](\.\./README\.md,](README.md,g' "$server"/usr/share/doc/glb/*.md
-sed -i -e 's,](\.\./\.\./README\.md,](../README.md,g' "$server"/usr/share/doc/glb/operating/*.md
+# links between documents: those of the top stand beside the others here; the figures of bench stay in the repository
+sed -i -e 's,](docs/,](,g' -e 's,](\.\./\([A-Z]*\.md\),](\1,g' "$server"/usr/share/doc/glb/*.md
+sed -i -e 's,](\.\./\.\./\([A-Z]*\.md\),](../\1,g' "$server"/usr/share/doc/glb/operating/*.md
 install -D -m 644 -t "$server/usr/share/doc/glb/examples" "$top"/examples/*.toml "$top"/examples/*.map "$top"/examples/*.changes "$top"/examples/*.socket "$top"/examples/glb-ready.nft "$top"/examples/queries.txt
 # the launcher's settings of the unit: a server is begun by it where they are put beside the unit
 install -D -m 644 "$top/examples/glb-launch.conf" "$server/usr/share/doc/glb/examples/glb-launch.conf"
