@@ -362,6 +362,7 @@ __all__ = [
     "compared",
     "is_worse",
     "main",
+    "say",
     "with_batch",
     "with_topology",
 ]
