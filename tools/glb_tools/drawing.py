@@ -215,6 +215,15 @@ def lone_bar(row: Row, limit: int) -> str:
     return f'<svg class="bar" viewBox="0 0 300 16" preserveAspectRatio="none" aria-hidden="true">{drawn}</svg>'
 
 
+def lone_share(units: int, whole: int) -> str:
+    """A part of a demand, as a bar by itself."""
+    width = 298 * units / max(whole, 1)
+    return (
+        f'<svg class="bar" viewBox="0 0 300 16" preserveAspectRatio="none" aria-hidden="true">'
+        f'{rect(1, 2, width, 12, "free")}{rect(1, 2, 298, 12, "frame")}</svg>'
+    )
+
+
 def lone_part(units: int, whole: int, limit: int) -> str:
     """What of a demand is placed nowhere, as a bar by itself."""
     scale = 298 / max(limit, 1)

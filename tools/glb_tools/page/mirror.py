@@ -137,6 +137,12 @@ class Mirror(Worker):
         self.reflection = Reflection(self.program, topology, Counted(tables))
         return self.reflection
 
+    def rest(self, seconds: float) -> None:
+        super().rest(seconds)
+        program = self.reflection
+        if program is not None and program.process.poll() is not None:
+            raise Fault(f"the mirror has ended (status {program.process.returncode})")
+
     @property
     def tables(self) -> Tables:
         assert self.reflection is not None

@@ -11,8 +11,8 @@ from glb_tools.page.steps import Steps
 from glb_tools.page.tables import LIST, Numbers
 from glb_tools.page.views.common import Shown, ago, moment, row_of, sheet_of
 
-# how many trees, nodes of each, nodes of one tree that is shown alone, groups, limits and nodes that are out
-TREES, NODES, WHOLE, GROUPS, LIMITS, OUT = 12, 12, 100, 20, 10, 20
+# how many trees, nodes of each, nodes of one tree that is shown alone, groups, limits, nodes that are out, and full ones
+TREES, NODES, WHOLE, GROUPS, LIMITS, OUT, FULL = 12, 13, 100, 20, 10, 20, 16
 # how old what is shown may be until that is said, in seconds
 OLD = 60.0
 
@@ -33,6 +33,15 @@ def tiles(served: Served) -> list[Shown]:
     if sums.last_resort:
         found.insert(1, {"title": "at last resort", "value": last, "is_bad": last > 0})
     return [{"is_bad": False, **each} for each in found]
+
+
+def full_names(served: Served) -> Shown:
+    """The full nodes in few words, the largest first; those that are out are no full ones."""
+    sums = served.sums
+    at = np.flatnonzero(sums.is_full & (sums.capacities > 0))
+    order = at[np.lexsort((at, -sums.loads[at]))]
+    names = [served.tables.node_names[int(node)] for node in order[:FULL]]
+    return {"names": names, "left": len(order) - len(names)}
 
 
 def alarms(served: Served | None, sight: Sight, fault: str, now: float) -> list[Shown]:
@@ -304,6 +313,7 @@ def now_shown(
     shown, sheet = sheet_of(roots, asked["page"], TREES)
     found |= {
         "tiles": tiles(served),
+        "full": full_names(served),
         "trees": [tree_of(served, root, NODES) for root in shown],
         "sheet": sheet,
         "nowhere": nowhere_of(served, asked["groups"]),

@@ -7,7 +7,7 @@ from glb_tools.drawing import MOST_LINES, draw_chart, short_value
 from glb_tools.page.rings import Series
 from glb_tools.page.views.common import Shown, moment
 
-DAY = 86400.0
+DAY, HOUR = 86400.0, 3600.0
 Charts = Callable[[str], dict[str, Series]]
 
 
@@ -52,6 +52,9 @@ def merged(series: dict[str, Series], is_sum: bool) -> dict[str, Series]:
 
 def chart_shown(kind: Kind, series: dict[str, Series], source: str, now: float) -> Shown:
     lines = {name: pairs for name, pairs in merged(series, kind.is_sum).items() if pairs}
+    first = min((pairs[0][0] for pairs in lines.values()), default=now)
+    # what is younger than a day is drawn as wide as there is room
+    start = max(now - DAY, min(first, now - HOUR))
     legend = []
     for number, (name, pairs) in enumerate(lines.items()):
         last = short_value(pairs[-1][1])
@@ -62,9 +65,9 @@ def chart_shown(kind: Kind, series: dict[str, Series], source: str, now: float) 
         "unit": kind.unit,
         "words": kind.words,
         "source": source,
-        "drawing": draw_chart(lines, now - DAY, now) if lines else "",
+        "drawing": draw_chart(lines, start, now) if lines else "",
         "legend": legend,
-        "since": moment(min((pairs[0][0] for pairs in lines.values()), default=0.0)),
+        "since": moment(first) if lines else "",
     }
 
 

@@ -4,7 +4,7 @@ import ipaddress
 
 import numpy as np
 
-from glb_tools.drawing import Row, lone_bar, of_capacity, share
+from glb_tools.drawing import lone_share, of_capacity, share
 from glb_tools.page.maps import NONE, worst
 from glb_tools.page.mirror import Served
 from glb_tools.page.tables import LIST, NO_POOL, Tables
@@ -62,7 +62,7 @@ def unit_shown(served: Served, unit: int) -> Shown:
                 "score": int(tables.scores[unit][place]),
                 "units": units,
                 "share": share(units, demand) if units else "",
-                "bar": lone_bar(Row("", 0, units, demand + 1), demand),
+                "bar": lone_share(units, demand),
                 "limit": None if limit == NO_LIMIT else limit,
                 "refused": refused_by(served, refused[place]) if place in refused else None,
             }
