@@ -17,12 +17,13 @@ import time
 from collections.abc import Callable
 from functools import partial
 from pathlib import Path
+from typing import NoReturn
 
 import waitress
 
 from glb_tools.etcd import add_etcd_options, etcd_of
 from glb_tools.log import Log
-from glb_tools.options import DONE, WRONG_WORDS, Fault, parser
+from glb_tools.options import WRONG_WORDS, Fault, parser
 from glb_tools.page.counters import endpoint, rule_packets, unit_packets
 from glb_tools.page.dry_run import DryRuns
 from glb_tools.page.guard import Access, hosts_of
@@ -219,7 +220,7 @@ def page_of(options: argparse.Namespace, access: Access) -> Page:
     return page
 
 
-def main() -> int:
+def main() -> NoReturn:
     options = options_of()
     access, address, port = access_of(options)
     # a line of its own says what is wrong; tracebacks of the web server do not
@@ -241,4 +242,5 @@ def main() -> int:
     except OSError as why:
         raise Fault(f"{options.listen}: {why.strerror or why}") from None
     server.run()
-    return DONE
+    # it comes back where it is interrupted alone
+    raise KeyboardInterrupt

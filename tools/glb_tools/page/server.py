@@ -5,6 +5,7 @@ import time
 from collections.abc import Callable
 from dataclasses import dataclass, field
 from hashlib import sha256
+from pathlib import Path
 from typing import Any
 
 import flask
@@ -33,6 +34,8 @@ from glb_tools.text import MOST_CAPACITY
 # how often a page without its script asks anew, and one with it looks whether there is news, in seconds
 REFRESH, LOOK = 30, 3
 PAGE = Parameter(1, guard.number)
+# files that go with the pages, and their kinds
+FILES = {"page.css": "text/css", "page.js": "text/javascript", "icon.svg": "image/svg+xml"}
 KNOWN: dict[str, dict[str, Parameter]] = {
     "now": {
         "page": PAGE,
@@ -261,6 +264,13 @@ class Views:
         """How drawings look: the same rules stand in the SVG of picture.py."""
         return flask.Response(style(), mimetype="text/css")
 
+    def file(self, name: str) -> flask.Response:
+        """A file that goes with the pages: these and no others."""
+        if name not in FILES:
+            raise Denied(404, "there is no such page")
+        octets = Path(__file__).with_name("static").joinpath(name).read_bytes()
+        return flask.Response(octets, mimetype=FILES[name])
+
     def denied(self, why: Denied) -> AnyResponse:
         text = self.templates.get_template("error.html").render(status=why.status, why=str(why))
         return flask.Response(text, why.status, why.headers)
@@ -271,7 +281,9 @@ def ran(job: Job | None) -> float:
 
 
 def app_of(page: Page) -> flask.Flask:
-    app = flask.Flask("glb_tools.page", static_folder="static")
+    app = flask.Flask("glb_tools.page", static_folder=None)
+    # a path is that one and no other: nothing is led elsewhere
+    app.url_map.merge_slashes = False
     views = Views(page)
     paths: list[tuple[str, Callable[[], Any]]] = [
         ("/", views.now),
@@ -282,6 +294,7 @@ def app_of(page: Page) -> flask.Flask:
         ("/state", views.state),
         ("/drawing.css", views.drawing),
     ]
+    app.add_url_rule("/static/<name>", "file", views.file, provide_automatic_options=False)
     for path, view in paths:
         app.add_url_rule(path, view.__name__, view, provide_automatic_options=False)
 
