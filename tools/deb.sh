@@ -143,7 +143,7 @@ for old in "$top"/tools/*.py; do
     if [ -x "$old" ]; then install_script 755 "$old" "$tools/usr/share/glb/$name"; else install_script 644 "$old" "$tools/usr/share/glb/$name"; fi
     ln -s "../../share/glb/$name" "$tools/usr/lib/glb/$name"
 done
-install -D -m 644 -t "$tools/usr/share/doc/glb-tools/examples" "$top"/examples/*.yml
+install -D -m 644 -t "$tools/usr/share/doc/glb-tools/examples" "$top"/examples/*.yml "$top"/examples/*.json
 install -D -m 644 -t "$tools/usr/share/doc/glb-tools/examples/network" "$top"/examples/network/*
 install -D -m 644 -t "$tools/usr/share/doc/glb-tools" "$top/docs/TOPOLOGY.md"
 for settings in "$top"/examples/glb-*.default; do install_settings "$tools" "$settings" "etc/default/$(basename "$settings" .default)"; done
@@ -181,7 +181,7 @@ Version: $version
 Architecture: amd64
 Maintainer: $maintainer
 Installed-Size: $(size "$tools")
-Depends: ${compiled}glb (= $version), python3 (>= 3.11), python3-jinja2, python3-numpy, python3-prometheus-client, python3-requests, python3-scipy
+Depends: ${compiled}glb (= $version), python3 (>= 3.11), python3-dnspython, python3-flask, python3-jinja2, python3-numpy, python3-prometheus-client, python3-requests, python3-scipy, python3-waitress
 Recommends: python3-maxminddb, python3-yaml
 Suggests: prometheus, prometheus-node-exporter
 Breaks: glb (<< $version)
@@ -190,7 +190,7 @@ Section: net
 Priority: optional
 Description: tools for the mapping system of a content delivery network
  They say why clients go where they go and what moves between two maps, make
- topologies, and watch over one server or a fleet of them.
+ topologies, watch over one server or a fleet of them, and show it as a page.
 CONTROL
 
 # What a package leaves behind itself: what Python keeps of its modules.
