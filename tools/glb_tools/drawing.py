@@ -446,7 +446,7 @@ def draw_chart(
     listed = dict(list(series.items())[:MOST_LINES])
     values = [value for pairs in listed.values() for _, value in pairs]
     top = round_up(max(values, default=0.0))
-    left, below = 58.0, 22.0
+    left, below = 64.0, 24.0
 
     def x_of(moment: float) -> float:
         return left + (moment - start) / max(end - start, 1) * (width - left - 6)
@@ -483,7 +483,7 @@ def chart_words(series: dict[str, list[tuple[float, float]]]) -> str:
 
 
 def chart_text(x: float, y: float, words: str, anchor: str) -> str:
-    return f'<text x="{x:.1f}" y="{y:.1f}" font-size="11" class="grey" text-anchor="{anchor}">{escape(words)}</text>'
+    return f'<text x="{x:.1f}" y="{y:.1f}" font-size="12.5" class="grey" text-anchor="{anchor}">{escape(words)}</text>'
 
 
 def line_of(

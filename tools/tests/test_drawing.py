@@ -204,11 +204,11 @@ class Charts(unittest.TestCase):
 
     def test_a_line(self):
         pairs = [(0.0, 0.0), (50.0, 10.0), (100.0, 5.0)]
-        drawn = draw_chart({"": pairs}, 0, 9600, width=164, height=128)
+        drawn = draw_chart({"": pairs}, 0, 9600, width=170, height=130)
         ElementTree.fromstring(drawn)
-        # 100 wide for 9,600 seconds from 58 on; 0 is at 106, and 10 at 6
+        # 100 wide for 9,600 seconds from 64 on; 0 is at 106, and 10 at 6
         (line,) = self.lines(drawn, 0)
-        self.assertEqual(line, "M58.0 106.0L58.5 6.0L59.0 56.0")
+        self.assertEqual(line, "M64.0 106.0L64.5 6.0L65.0 56.0")
         self.assertIn("it is 5 now, at most 10", drawn)
 
     def test_gaps(self):

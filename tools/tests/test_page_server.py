@@ -156,6 +156,17 @@ class Escaped(Served):
             with self.subTest(path):
                 self.assertIn(due, self.get(path))
 
+    def test_letters_that_turn_the_text(self):
+        """What would turn the text round, or is seen by nobody, is shown as a question mark."""
+        step = self.mirror.steps.listed()[0]
+        step.author, step.why = "a\u202eb", "c\u200bd\x1b[31m\x00"
+        self.page.source.sight.servers[0].name = "h\u2066i"
+        for path in ("/", "/changes"):
+            text = self.get(path)
+            self.assertNotRegex(text, "[\u202e\u200b\u2066\x1b\x00]")
+            self.assertIn("a?b", text)
+        self.assertIn("h?i", self.get("/"))
+
     def test_ids_and_labels(self):
         for path in self.PATHS:
             with self.subTest(path):

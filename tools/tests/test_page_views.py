@@ -233,6 +233,9 @@ class Now(unittest.TestCase):
         self.assertEqual([row["name"] for row in found["servers"]][:3], ["lost", "other", "late"])
         self.assertEqual((shown["well"]["is_bad"], shown["well"]["age"]), (False, "5 s"))
         self.assertEqual((shown["other"]["state"], shown["other"]["is_bad"]), ("differs", True))
+        self.assertEqual(shown["well"]["mirror"], "the mirror's map")
+        self.assertEqual(shown["other"]["mirror"], "not the mirror's map")
+        self.assertEqual(shown["early"]["mirror"], "")
         # at another entry maps cannot be compared
         self.assertFalse(shown["early"]["is_bad"])
         self.assertIn("the map of other is not the mirror's", found["alarms"][-1]["words"])

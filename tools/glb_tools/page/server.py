@@ -15,6 +15,7 @@ from werkzeug.wrappers import Response as AnyResponse
 
 from glb_tools import VERSION
 from glb_tools.drawing import PATTERNS, style
+from glb_tools.log import plain
 from glb_tools.options import Fault, tell
 from glb_tools.page import dns, guard
 from glb_tools.page.dry_run import Crowded, DryRuns, Job
@@ -132,10 +133,18 @@ class Page:
         return self.answers[key]
 
 
+def printed(value: object) -> object:
+    """What comes from outside is shown without letters that turn the text round or that nobody sees."""
+    if type(value) is not str:
+        return value
+    return "\n".join(plain(line) for line in value.split("\n"))
+
+
 def templates() -> jinja2.Environment:
     found = jinja2.Environment(
         loader=jinja2.PackageLoader("glb_tools.page"),
         autoescape=True,
+        finalize=printed,
         undefined=jinja2.StrictUndefined,
         trim_blocks=True,
         lstrip_blocks=True,

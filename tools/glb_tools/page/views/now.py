@@ -100,7 +100,10 @@ def servers_of(sight: Sight, served: Served | None, now: float) -> list[Shown]:
             "is_bad": server.is_bad or is_other,
             "is_late": server.state in ("behind", "starts"),
             "age": "" if not server.time else ago(now - server.time),
+            "mirror": "",
         }
+        if served is not None and server.checksum and server.entry == served.entry:
+            shown["mirror"] = "not the mirror's map" if is_other else "the mirror's map"
         for key in ("serial", "entry", "behind", "checksum", "placed", "unplaced"):
             shown[key] = getattr(server, key)
         shown |= {"workers": server.workers, "drops": server.drops}

@@ -4,6 +4,7 @@ from collections.abc import Callable
 from dataclasses import dataclass
 
 from glb_tools.drawing import MOST_LINES, draw_chart, short_value
+from glb_tools.log import plain
 from glb_tools.page.rings import Series
 from glb_tools.page.views.common import Shown, moment
 
@@ -51,7 +52,8 @@ def merged(series: dict[str, Series], is_sum: bool) -> dict[str, Series]:
 
 
 def chart_shown(kind: Kind, series: dict[str, Series], source: str, now: float) -> Shown:
-    lines = {name: pairs for name, pairs in merged(series, kind.is_sum).items() if pairs}
+    # a server's name may be anything
+    lines = {plain(name): pairs for name, pairs in merged(series, kind.is_sum).items() if pairs}
     first = min((pairs[0][0] for pairs in lines.values()), default=now)
     # what is younger than a day is drawn as wide as there is room
     start = max(now - DAY, min(first, now - HOUR))
