@@ -1,7 +1,7 @@
 #!/usr/bin/python3
 """Looks at glb-page in a real browser: Debian's chromium, by chromium-driver and python3-selenium.
 
-    page.py [--groups N] [--shots FOLDER]
+    page.py [--groups N] [--shots FOLDER] [--documents FOLDER]
 
 Over a fleet's log in an etcd of its own stand a world of 12 regions, 384 pools and 16,384 groups (--groups), and three
 servers of which two are played: one tells another map, and one is gone. Each view is opened at 1,280 and 390 pixels of width,
@@ -494,6 +494,15 @@ class Looks:
         self.check("a name that nobody has", "unknown name" in browser.text(), True)
         browser.said()
 
+    def pictures(self, browser, folder):
+        """The two that stand in README and OPERATING."""
+        browser.scheme("light")
+        browser.size(1080, 760)
+        browser.open("/")
+        browser.driver.save_screenshot(f"{folder}/page-now.png")
+        browser.open("/changes?at=5&by=site")
+        browser.driver.save_screenshot(f"{folder}/page-changes.png")
+
     # Colours.
 
     def colours(self, browser):
@@ -543,6 +552,7 @@ def main():
     )
     words.add_argument("--groups", type=int, default=16384)
     words.add_argument("--shots", metavar="FOLDER")
+    words.add_argument("--documents", metavar="FOLDER", help="where the pictures of documents go")
     options = words.parse_args()
     if options.shots:
         os.makedirs(options.shots, exist_ok=True)
@@ -559,6 +569,8 @@ def main():
             looks.colours(browser)
             looks.keyboard(browser)
             looks.a_pool_fails(browser)
+            if options.documents:
+                looks.pictures(browser, options.documents)
             looks.typed(browser)
             looks.a_page_that_is_cut_off(browser)
             looks.without_script()

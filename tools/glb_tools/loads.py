@@ -106,7 +106,7 @@ class Shadow:
         self.world = world or World(Topology(topology))
         self.text, self.maps = b"", 0
         self.came = threading.Condition()
-        self.folder = tempfile.mkdtemp(prefix="glb-exporter.")
+        self.folder = tempfile.mkdtemp(prefix="glb-shadow.")
         try:
             path = Path(self.folder, "topology.toml")
             path.write_bytes(topology)

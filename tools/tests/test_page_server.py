@@ -105,13 +105,13 @@ class Served(unittest.TestCase):
             self.mirror,
             self.rings,
             DryRuns("/nowhere/glb"),
-            Access(hosts_of("127.0.0.1", 9854, [])),
+            Access(hosts_of("127.0.0.1", 9855, [])),
             clock=lambda: 1000.0,
         )
         self.client = app_of(self.page).test_client()
 
     def get(self, path, status=200, method="GET", **headers):
-        headers.setdefault("Host", "127.0.0.1:9854")
+        headers.setdefault("Host", "127.0.0.1:9855")
         found = self.client.open(
             path, method=method, headers={key.replace("_", "-"): v for key, v in headers.items()}
         )
@@ -185,8 +185,8 @@ class Escaped(Served):
         for link in sorted(seen):
             if not link.startswith("#"):
                 with self.subTest(link):
-                    self.client.open(link, headers={"Host": "127.0.0.1:9854"})
-                    found = self.client.get(link, headers={"Host": "127.0.0.1:9854"})
+                    self.client.open(link, headers={"Host": "127.0.0.1:9855"})
+                    found = self.client.get(link, headers={"Host": "127.0.0.1:9855"})
                     self.assertEqual(found.status_code, 200, link)
                     found.close()
 
@@ -200,16 +200,16 @@ class Guarded(Served):
         self.assertEqual(self.get("/", method="HEAD"), "")
 
     def test_hosts(self):
-        for host in ("127.0.0.1:9854", "localhost:9854", "[::1]:9854", "LOCALHOST:9854"):
+        for host in ("127.0.0.1:9855", "localhost:9855", "[::1]:9855", "LOCALHOST:9855"):
             self.get("/", Host=host)
         for host in (
             "evil.example",
             "127.0.0.1",
             "127.0.0.1:80",
-            "127.0.0.1:9854.evil.example",
-            "evil.example:9854",
-            "127.0.0.1:9854@evil.example",
-            "127.0.0.1:9854,evil.example",
+            "127.0.0.1:9855.evil.example",
+            "evil.example:9855",
+            "127.0.0.1:9855@evil.example",
+            "127.0.0.1:9855,evil.example",
             "",
             " ",
         ):
@@ -242,7 +242,7 @@ class Guarded(Served):
             "/" + "a" * 150,
         ):
             with self.subTest(path):
-                found = self.client.get(path, headers={"Host": "127.0.0.1:9854"})
+                found = self.client.get(path, headers={"Host": "127.0.0.1:9855"})
                 self.assertIn(found.status_code, (400, 404), path)
         self.get("/" + "a" * 300, 414)
         self.get("/why?q=" + "a" * 9000, 414)
@@ -288,7 +288,7 @@ class Guarded(Served):
 
     def test_bodies(self):
         for more in ({"data": b"x"}, {"headers": {"Transfer-Encoding": "chunked"}}):
-            headers = {"Host": "127.0.0.1:9854", **more.pop("headers", {})}
+            headers = {"Host": "127.0.0.1:9855", **more.pop("headers", {})}
             found = self.client.get("/", headers=headers, **more)
             self.assertEqual(found.status_code, 413)
 
@@ -338,7 +338,7 @@ class Tokens(Served):
             for path in ("/", "/state", "/static/page.css", "/none", "/what-if?lines=a"):
                 with self.subTest(f"{given} {path}"):
                     self.get(path, 401, **given)
-        found = self.client.get("/", headers={"Host": "127.0.0.1:9854"})
+        found = self.client.get("/", headers={"Host": "127.0.0.1:9855"})
         self.assertIn("Basic realm", found.headers["WWW-Authenticate"])
         self.get("/", Authorization=f"Bearer {self.TOKEN}")
         self.get("/", Authorization=self.basic(self.TOKEN))

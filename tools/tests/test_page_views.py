@@ -238,13 +238,15 @@ class Now(unittest.TestCase):
         self.assertEqual(shown["early"]["mirror"], "")
         # at another entry maps cannot be compared
         self.assertFalse(shown["early"]["is_bad"])
-        self.assertIn("the map of other is not the mirror's", found["alarms"][-1]["words"])
+        # a map that differs comes ahead of units without a place
+        self.assertEqual([alarm["kind"] for alarm in found["alarms"]], ["differ", "nowhere"])
+        self.assertIn("the map of other is not the mirror's", found["alarms"][0]["words"])
 
     def test_nothing_is_known(self):
         found = self.shown(None, Sight(940.0, fault="etcd: nobody answers"), fault="it begins")
         words = [alarm["words"] for alarm in found["alarms"]]
-        self.assertIn("seen last 1 min ago", words[0])
-        self.assertEqual(words[1], "the mirror does not run: it begins")
+        self.assertEqual(words[0], "the mirror does not run: it begins")
+        self.assertIn("seen last 1 min ago", words[1])
         self.assertNotIn("trees", found)
 
     def test_many_refusals(self):

@@ -4,7 +4,7 @@
     glb-page --of-log TOPOLOGY LOG             one server, of this host: what it began from, and the log that it is fed
 
 A `glb serve` of the page's own, the mirror, works the log beside the servers: no server is asked for anything, nothing is
-put into etcd or a log, and no request changes anything. It answers at http://127.0.0.1:9854/ unless told otherwise. Where
+put into etcd or a log, and no request changes anything. It answers at http://127.0.0.1:9855/ unless told otherwise. Where
 others reach the address it wants --token, or --user-header of a reverse proxy that asks who it is. It runs until it is
 ended. docs/OPERATING.md has the rest ("A page to look at").
 """
@@ -46,7 +46,7 @@ def options_of() -> argparse.Namespace:
         "--of-log", nargs=2, metavar=("TOPOLOGY", "LOG"), help="one server, by its files"
     )
     words.add_argument(
-        "--listen", metavar="ADDR:PORT", default="127.0.0.1:9854", help="where it answers"
+        "--listen", metavar="ADDR:PORT", default="127.0.0.1:9855", help="where it answers"
     )
     words.add_argument(
         "--host",

@@ -45,7 +45,8 @@ class Prometheus(threading.Thread):
             except (
                 Exception
             ) as why:  # noqa: BLE001: a thread that has ended would show old charts for ever
-                tell(Fault(f"Prometheus: {words_of(why)}"))
+                if self.fault != words_of(why):
+                    tell(Fault(f"Prometheus: {words_of(why)}"))
                 self.fault, self.charts = words_of(why), {}
             self.asked = time.time()
             self.over.wait(EVERY)

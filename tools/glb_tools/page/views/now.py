@@ -12,7 +12,7 @@ from glb_tools.page.tables import LIST, Numbers
 from glb_tools.page.views.common import Shown, ago, moment, row_of, sheet_of
 
 # how many trees, nodes of each, nodes of one tree that is shown alone, groups, limits, nodes that are out, and full ones
-TREES, NODES, WHOLE, GROUPS, LIMITS, OUT, FULL = 12, 13, 100, 20, 10, 20, 16
+TREES, NODES, WHOLE, GROUPS, LIMITS, OUT, FULL = 12, 13, 100, 10, 10, 20, 16
 # how old what is shown may be until that is said, in seconds
 OLD = 60.0
 
@@ -44,8 +44,17 @@ def full_names(served: Served) -> Shown:
     return {"names": names, "left": len(order) - len(names)}
 
 
+# kinds of alarms, the worst first
+KINDS = ("mirror", "differ", "silent", "nowhere", "etcd", "note")
+
+
 def alarms(served: Served | None, sight: Sight, fault: str, now: float) -> list[Shown]:
     """What somebody has to look at, the worst first: a kind, and a sentence."""
+    found = all_alarms(served, sight, fault, now)
+    return sorted(found, key=lambda alarm: KINDS.index(alarm["kind"]))
+
+
+def all_alarms(served: Served | None, sight: Sight, fault: str, now: float) -> list[Shown]:
     found = []
     if sight.fault:
         since = f", seen last {ago(now - sight.time)} ago" if sight.time else ""
