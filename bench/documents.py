@@ -29,7 +29,7 @@ CRATES = [folder.name for folder in (TOP / "crates").iterdir()]
 # docs/PROOFS.md is not among them: its pitfalls name what is not there
 DOCUMENTS = sorted(str(path.relative_to(TOP)) for folder in (".", "bench", "docs") for path in (TOP / folder).glob("*.md") if path.name != "PROOFS.md")
 # other programs, of whose words only the paths are looked up, and words of the system
-PROGRAMS = {"apt-get", "birdc", "dig", "dnscap", "dnstop", "echo", "ldd", "ls", "man", "mkfifo", "nstat", "promtool", "python3", "rt", "ss", "systemctl", "systemd-analyze", "tail", "ulimit", "usermod"}
+PROGRAMS = {"apt-get", "birdc", "dig", "dnscap", "dnstop", "echo", "ldd", "ls", "man", "mkfifo", "nstat", "promtool", "python3", "rt", "ss", "ssh", "systemctl", "systemd-analyze", "tail", "ulimit", "usermod"}
 ELSEWHERE = {"PIPE_BUF", "net", "core", "ipv4", "tcp_rmem", "rmem_default", "rmem_max", "write_all"}
 # places that are made when they are used
 MADE = re.compile(r"/(run|var|etc|proc|dev|usr)(/|$)|.*/out/")

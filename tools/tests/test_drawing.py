@@ -184,6 +184,18 @@ class Flows(unittest.TestCase):
         self.assertEqual(drawn.count('class="band lost"'), 1)
         self.assertEqual(draw_flows([]), "")
 
+    def test_room_of_words(self):
+        """However few units go, no word stands on another one."""
+        flows = [Flow("a", "z", 10**9)] + [Flow(f"s{n}", f"t{n}", 1) for n in range(20)]
+        drawn = draw_flows(flows)
+        words = re.findall(r'<text x="([\d.]+)" y="([\d.]+)"', drawn)
+        self.assertEqual(len(words), 24)
+        for side in {x for x, _ in words}:
+            heights = sorted(float(y) for x, y in words if x == side)
+            self.assertGreaterEqual(min(b - a for a, b in zip(heights, heights[1:])), 12)
+        height = float(re.search(r'viewBox="0 0 900 (\d+)"', drawn)[1])
+        self.assertLessEqual(max(float(y) for _, y in words), height)
+
     def test_merged(self):
         flows = [Flow(f"s{n}", f"t{n % 2}", 100 - n) for n in range(40)] + [Flow("s0", "", 1)]
         found = merged(flows, 5)

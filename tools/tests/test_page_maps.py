@@ -214,6 +214,21 @@ class Maps(unittest.TestCase):
         self.assertEqual(worst(served.tables, served.placed, 0, 2), due[:2])
         self.assertEqual(worst(served.tables, served.placed, 2, 9), [(1, 3), (32, 3)])
 
+    def test_worst_of_equal_scores(self):
+        """Of equal scores the later unit is the worse one, whatever its pool."""
+        tables = read_tables(drawn_world(2, [('"p1"', "1"), ('"p0"', "1")]).encode())
+        placed = placed_in(tables, b"glb map 2\nplace g0 p1 3\nplace g1 p0 4\nend\n")
+        root = (
+            drawn_world(2, [('"p1"', "1"), ('"p0"', "1")])
+            .replace(
+                '[[node]]\nname = "p0"\n',
+                '[[node]]\nname = "r"\ncapacity = 9\n[[node]]\nname = "p0"\nparent = "r"\n',
+            )
+            .replace('name = "p1"\n', 'name = "p1"\nparent = "r"\n')
+        )
+        tables = read_tables(root.encode())
+        self.assertEqual(worst(tables, placed, 0, 9), [(16, 4), (0, 3)])
+
     def sides(self, old, new):
         for text in (old, new):
             placed = placed_in(self.tables, f"glb map 2\n{text}end\n".encode())

@@ -71,7 +71,7 @@ class Files(Played):
         self.assertEqual((second.number, second.author, second.lost), (1, "by hand", 3))
         self.assertEqual((newest.number, newest.author, newest.lost), (2, "glb-watch", 1))
         self.assertEqual(newest.lines, ["demand  g1 4"])
-        self.append("bad 1 2\ncommit\ncapacity A 0\ndemand g1 6\ncommit\n")
+        self.append("capacity B 3\nbad 1 2\ncommit\ncapacity A 0\ndemand g1 6\ncommit\n")
         until(lambda: found.served.entry == 4)
         newest, dropped = found.steps.listed()[:2]
         self.assertEqual((dropped.number, dropped.dropped), (3, "refused commit lines 1"))
@@ -79,6 +79,7 @@ class Files(Played):
         self.assertEqual(found.served.sums.capacities.tolist(), [15, 0, 10])
         self.assertEqual(found.setters["A"].author, "by hand")
         self.assertEqual(found.setters["A"].number, 4)
+        self.assertNotIn("B", found.setters)
         # an empty batch publishes nothing
         self.append("commit\ndemand g1 7\ncommit\n")
         until(lambda: found.served.entry == 6)

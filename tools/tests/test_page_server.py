@@ -79,7 +79,10 @@ class Served(unittest.TestCase):
         steps.add(Step(3, "m3", author=HOSTILE, why=HOSTILE, dropped=HOSTILE))
         drain = Drain("e1", 60, 5, 400, HOSTILE, HOSTILE, False, 60, 10, "r", 50, 40, 940)
         sight = Sight(995.0, [Server(HOSTILE, "gone", HOSTILE, True, checksum="<b>")])
-        sight.advice, sight.drains = [("silent", HOSTILE), ("note", HOSTILE)], [drain]
+        # what stands in etcd may name any node
+        other = Drain(HOSTILE, 60, 5, 400, "", "", False, 60, 10, "r", 50, 40, 940)
+        sight.advice = [("silent", HOSTILE), ("note", HOSTILE)]
+        sight.drains = [drain, other]
         self.asked = []
 
         def ask(address, query):
@@ -235,6 +238,8 @@ class Guarded(Served):
             "/static/%2e%2e/server.py",
             "/static//etc/passwd",
             "/static/",
+            "/static/page.py",
+            "/static/none.css",
             "/templates/now.html",
             "/why/",
             "/%00",
@@ -538,6 +543,8 @@ class Running(Case):
             (self.head("/%c0%ae%c0%ae/x"), {400, 404}),
             (self.head("http://evil.example/"), {200, 400, 404, 421}),
             (self.head("//evil.example/%2e%2e"), {400, 404}),
+            # slashes at its beginning are one for the web server
+            (self.head("//why"), {200}),
             (b"GET / HTTP/1.1\r\nHost: a\r\nHost: b\r\n\r\n", {400, 421}),
             (b"GET /\r\n\r\n", {400, 421}),
             (b"\x16\x03\x01\x02\x00\x01\x00\x01\xfc\x03\x03" + b"\0" * 600, {400, 0}),

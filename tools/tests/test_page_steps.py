@@ -124,6 +124,19 @@ class Kept(unittest.TestCase):
         self.assertEqual(loads, {"Q": 0, "C": 0, "A": 9, "R": 12, "B": 3})
         self.assertEqual(dict(zip(names.nodes, third.loads.tolist()))["Q"], 10)
 
+    def test_lists_in_another_order(self):
+        """What is lost goes in the order of the list of before, and what is gained in that of behind."""
+        pools = "".join(f'[[node]]\nname = "{n}"\ncapacity = 9\npool = true\n' for n in "XYZW")
+        group = '[[group]]\nname = "g"\ndemand = 9\npools = [%s]\nscores = [1, 1, 1, 1]\nprefixes = []\n'
+        head = '[zone]\napex = "x"\nservices = []\n'
+        self.begin(head + pools + group % '"X", "Y", "Z", "W"')
+        first = self.add("g X 2", "g Y 3")
+        self.begin(head + pools + group % '"Z", "W", "Y", "X"')
+        self.add("g Z 1", "g Y 2", "g X 1")
+        last = self.add("g Z 2", "g W 3")
+        due = {("X", "Z"): 2, ("Y", "W"): 3}
+        self.assertEqual(self.flows(self.steps.between(first, last)), due)
+
     def test_there_and_back(self):
         first = self.add("g1 A 5", "g1 B 3", "g2 A 4")
         self.begin(OTHER)

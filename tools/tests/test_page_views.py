@@ -185,6 +185,12 @@ class Now(unittest.TestCase):
         self.assertEqual((row["name"], row["capacity"], row["before"]), ("e2", 0, 60))
         self.assertFalse(row["is_measured"])
 
+    def test_last_resort_comes_last(self):
+        """Also behind a tree with nothing in it."""
+        text = "glb map 2\nplace near w1 20\nplace near last 5\nend\n"
+        found = self.shown(served_of(FOREST, text))
+        self.assertEqual([tree["name"] for tree in found["trees"]], ["west", "east", "last"])
+
     def test_out(self):
         by = {"e2": Setter("glb-watch", "up", 5, 900)}
         (row,) = self.shown(forest(), setters=by)["out"]["rows"]
@@ -445,6 +451,13 @@ class Changed(unittest.TestCase):
         self.assertTrue({row["name"]: row for row in rows}["e1"]["goes_out"])
         rows = changes.nodes_shown(self.steps, third, self.second)["rows"]
         self.assertTrue({row["name"]: row for row in rows}["e1"]["comes_back"])
+
+    def test_another_capacity_alone(self):
+        third = self.add(3, FOREST_MAP, [("e1", 50)])
+        fourth = self.add(4, FOREST_MAP, [("e1", 51)])
+        (row,) = changes.nodes_shown(self.steps, third, fourth)["rows"]
+        self.assertEqual((row["name"], row["before"], row["after"]), ("e1", 25, 25))
+        self.assertEqual((row["capacity_before"], row["capacity_after"]), (50, 51))
 
     def test_before(self):
         self.assertEqual(changes.before(self.steps, self.second), self.first)
