@@ -24,7 +24,7 @@ from interop_serve import QUESTION, Server, framed, head
 
 MESSAGE = framed(head() + QUESTION)
 REPLY = 51
-# how many connections the server holds, and how many of one address (docs/OPERATING.md)
+# how many connections the server holds, and how many of one address (docs/operating/limits.md)
 HELD, OF_ONE = 256, 32
 
 

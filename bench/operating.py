@@ -1,5 +1,6 @@
 #!/usr/bin/env python3
-"""Runs each block of commands of docs/OPERATING.md, in their order and in one shell, and looks at what came of it.
+"""Runs each block of commands of docs/OPERATING.md and of the pages that its last table links, in one shell, and looks at
+what came of it: the pages first, in the order of that table, then docs/OPERATING.md itself.
 
 It changes the machine that it runs on: operating.sh runs it in a container. A block that has no entry below is an error, and
 so is a command that fails in one, and a command in the text that is not there any more. The last line counts, and the status
@@ -13,7 +14,9 @@ import tempfile
 from pathlib import Path
 
 TOP = Path(__file__).resolve().parent.parent
-DOCUMENT = (TOP / "docs/OPERATING.md").read_text()
+FIRST_PAGE = (TOP / "docs/OPERATING.md").read_text()
+PAGES = re.findall(r"\((operating/[a-z-]+\.md)\) \|$", FIRST_PAGE.split("## By task")[1], re.M)
+DOCUMENT = "\n".join([*((TOP / "docs" / page).read_text() for page in PAGES), FIRST_PAGE])
 ANSWER = "dig +short +tries=1 +time=1 @{} www.cdn.example A"
 ADDRESS = r"192\.0\.2\.[12]"
 FOUR = "systemctl is-active glb@v4 glb@v6 glb-feed@v4 glb-feed@v6"
@@ -66,11 +69,17 @@ BLOCKS = {
         ("systemctl disable --now glb.socket 2>/dev/null; systemctl restart glb; sleep 2; systemctl is-active glb.socket glb; " + ANSWER.format("192.0.2.53"), f"inactive\nactive\n{ADDRESS}"),
     ),
     "systemctl disable --now glb": Block(("sleep 2; " + FOUR, "active\n" * 3 + "active"), (ANSWER.format("192.0.2.53"), ADDRESS), (ANSWER.format("2001:db8::53"), ADDRESS)),
+    "flock /var/lib/glb/lock sh -c 'printf \"capacity A 0": Block(
+        ("sleep 2; journalctl -u glb@v4 -n 1 -o cat; flock /var/lib/glb/lock sh -c 'printf \"capacity A 9\\ncommit\\n\" >>/var/lib/glb/changes.log'; systemctl stop glb@v4; systemctl start glb-fleet@v4; sleep 4", r"published \d+"),
+        before="systemctl stop glb-fleet@v4; systemctl start glb@v4 glb-feed@v4; sleep 2",
+    ),
     "flock": Block(("sleep 1; journalctl -u glb@v4 -n 1 -o cat; journalctl -u glb@v6 -n 1 -o cat", "published 3\npublished 3")),
     "nft add table": Block(("nft list ruleset | grep -c 'limit rate over 200/second burst 400 packets'; nft delete table inet glb", "2")),
+    "strace -f": Block(("strace -f -e trace=bind glb serve /etc/glb/topology.toml --listen 192.0.2.99:53 </dev/null 2>&1 >/dev/null | grep -c EADDRNOTAVAIL", "1")),
     "grep -avE": Block(("head -n 1 now.map; cat said", "glb map 2\npublished 1\npublished 2\npublished 3")),
     "tools/glb-numbers": Block(("glb check now.toml now.map", "good"), ("grep -c 'capacity = 9$' now.toml", "1")),
     "{ cat log": Block(("glb check <(sed 's/capacity = 9$/capacity = 0/' now.toml) then.map", "good"), ("tools/glb-moves now.map then.map | tail -n 1", r"\d+ groups, \d+ units moved, .*")),
+    "printf 'capacity A 0\\n' | glb-append": Block(("sleep 2; glb-fleet | head -n 1; glb-log | grep -c 'A is down'; printf 'capacity A 9\\n' | glb-append", r"the log ends at entry \d+, .*\n1\n\d+")),
     "printf 'capacity A 0": Block(
         ("printf 'capacity A 0\\n' | tools/glb-plan --of now.toml now.map - --json | python3 -c 'import json, sys; print(type(json.load(sys.stdin)).__name__)'", "dict"),
         before="sed 's/^ttl = .*/ttl = 30/' now.toml >new.toml",

@@ -3,7 +3,8 @@
 
     examples/handed_in.py [GLB]     the built program if it is not given
 
-It says how many comparisons passed and failed. What comes while no server runs has to be answered by the next one.
+It says how many comparisons passed and failed. What comes while no server runs has to be answered by the next one. Each wait
+is bounded, and all of it ends within two minutes: a server that is dead is asked for five seconds, and then no more.
 """
 
 import os
@@ -82,12 +83,19 @@ class Server:
                 os.dup2(fd, 3 + n)
             os.closerange(3 + len(kept), 256)
             os.environ.update(LISTEN_FDS=str(len(kept)), LISTEN_PID=str(pid or os.getpid()))
-            os.execv(GLB, words)
+            try:
+                os.execv(GLB, words)
+            finally:
+                os._exit(127)
         os.close(feed)
 
     def holds(self, handed):
         """Whether it has these open, each at its descriptor."""
-        return [os.readlink(f"/proc/{self.pid}/fd/{3 + n}") for n in range(len(handed))] == [os.readlink(f"/proc/self/fd/{it.fileno()}") for it in handed]
+        try:
+            theirs = [os.readlink(f"/proc/{self.pid}/fd/{3 + n}") for n in range(len(handed))]
+        except OSError:
+            return False
+        return theirs == [os.readlink(f"/proc/self/fd/{it.fileno()}") for it in handed]
 
     def kill(self):
         os.kill(self.pid, signal.SIGKILL)
@@ -97,7 +105,14 @@ class Server:
         if self.feed is not None:
             os.close(self.feed)
             self.feed = None
-        return os.waitstatus_to_exitcode(os.waitpid(self.pid, 0)[1])
+        for _ in range(200):
+            pid, status = os.waitpid(self.pid, os.WNOHANG)
+            if pid:
+                return os.waitstatus_to_exitcode(status)
+            time.sleep(0.05)
+        os.kill(self.pid, signal.SIGKILL)
+        os.waitpid(self.pid, 0)
+        return "it did not end within ten seconds"
 
 
 def waiting_at(one):
@@ -115,10 +130,11 @@ def client(port, at="127.0.0.1"):
     return made
 
 
-def answered(clients):
-    """How many of these, which have asked, get a reply."""
-    count = 0
+def answered(clients, seconds=5):
+    """How many of these, which have asked, get a reply, all within so many seconds."""
+    count, end = 0, time.monotonic() + seconds
     for one in clients:
+        one.settimeout(max(end - time.monotonic(), 0.001))
         try:
             count += one.recv(4096)[2] & 0x80 != 0
         except OSError:
@@ -179,8 +195,11 @@ def over_restarts(handed, port, times, workers=2, each=20):
         for one in clients:
             one.send(QUERY)
         server = Server(handed, port, workers)
-        count += answered(clients)
+        came = answered(clients)
+        count += came
         server.kill()
+        if came == 0:
+            break
     return count
 
 
@@ -270,5 +289,14 @@ def main():
     sys.exit(failed != 0)
 
 
+def too_late(*_):
+    print(f"{passed} passed, {failed + 1} failed: it took more than two minutes")
+    os._exit(1)
+
+
 if __name__ == "__main__":
+    if not os.access(GLB, os.X_OK):
+        sys.exit(f"{GLB}: there is no such program")
+    signal.signal(signal.SIGALRM, too_late)
+    signal.alarm(120)
     main()

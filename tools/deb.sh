@@ -59,6 +59,24 @@ install_command() {
     manual "$2" | gzip -9n >"$1/usr/share/man/man1/$2.1.gz"
 }
 
+# The same of a command that is none of Python.
+manual_of_help() {
+    {
+        printf '.TH %s 1 "" "glb %s" "User Commands"\n.SH NAME\n%s \\- %s\n.SH DESCRIPTION\n.nf\n' "${2^^}" "$version" "$2" "$3"
+        "$4" --help | sed 's/-/\\-/g'
+        printf '.fi\n.SH SEE ALSO\n.BR glb (1)\n'
+    } | gzip -9n >"$1/usr/share/man/man1/$2.1.gz"
+}
+
+# The completion for bash of each command that a package has.
+install_completions() {
+    for command in $(ls "$1/usr/bin"); do
+        if [ -e "$top/tools/completions/$command" ]; then
+            install -D -m 644 "$top/tools/completions/$command" "$1/usr/share/bash-completion/completions/$command"
+        fi
+    done
+}
+
 # A manual page: what a command says by --help, or, where it needs what is not installed here, what its module says.
 manual() {
     local module about help
@@ -101,12 +119,19 @@ for unit in "$top"/examples/*.service "$top"/examples/*.timer; do
 done
 install -D -m 644 "$top/docs/glb.1" "$server/usr/share/man/man1/glb.1"
 gzip -9n "$server/usr/share/man/man1/glb.1"
-install -D -m 644 -t "$server/usr/share/doc/glb" "$top"/README.md "$top"/docs/{FORMATS,OPERATING,PROVED,DECISIONS,STATEMENT,HOW-IT-WORKS}.md
+install -D -m 644 -t "$server/usr/share/doc/glb" "$top"/README.md "$top"/docs/*.md "$top"/docs/*.png "$top"/docs/*.svg
+install -D -m 644 -t "$server/usr/share/doc/glb/operating" "$top"/docs/operating/*.md
+# links between documents: README stands beside the others here
+sed -i -e 's,](docs/,](,g' "$server/usr/share/doc/glb/README.md"
+sed -i -e 's,](\.\./README\.md,](README.md,g' "$server"/usr/share/doc/glb/*.md
+sed -i -e 's,](\.\./\.\./README\.md,](../README.md,g' "$server"/usr/share/doc/glb/operating/*.md
 install -D -m 644 -t "$server/usr/share/doc/glb/examples" "$top"/examples/*.toml "$top"/examples/*.map "$top"/examples/*.changes "$top"/examples/*.socket "$top"/examples/glb-ready.nft "$top"/examples/queries.txt
 # the launcher's settings of the unit: a server is begun by it where they are put beside the unit
 install -D -m 644 "$top/examples/glb-launch.conf" "$server/usr/share/doc/glb/examples/glb-launch.conf"
 sed -i -e 's,/usr/local/bin/glb,/usr/bin/glb,g' -e 's,/usr/local/lib/glb/,/usr/bin/,g' "$server/usr/share/doc/glb/examples/glb-launch.conf"
 install -D -m 755 "$top/examples/glb-ready" "$server/usr/bin/glb-ready"
+sed -i "s/^version=.*/version=$version/" "$server/usr/bin/glb-ready"
+manual_of_help "$server" glb-ready "let queries in to a server of a fleet, or keep them out" "$server/usr/bin/glb-ready"
 install_settings "$server" "$top/examples/glb.default" etc/default/glb
 install -d "$server/etc/glb"
 printf '# LISTEN, WORKERS, TCP and GLB_ETCD of the units glb@v4 and glb-fleet@v4: see /usr/share/doc/glb/OPERATING.md\nLISTEN=127.0.0.1:53\nWORKERS=1\n' >"$server/etc/glb/v4.conf"
@@ -134,6 +159,7 @@ compiled=
 if [ -x "$top/tools/native/glb-prices" ]; then
     install -D -s -m 755 "$top/tools/native/glb-prices" "$tools/usr/lib/glb/glb-prices"
     ln -s ../lib/glb/glb-prices "$tools/usr/bin/glb-prices"
+    manual_of_help "$tools" glb-prices "solve a transport problem for glb-topology" "$top/tools/native/glb-prices"
     compiled="libc6, libstdc++6, libgcc-s1, "
 fi
 # names of before, until the next release of the package
@@ -143,9 +169,10 @@ for old in "$top"/tools/*.py; do
     if [ -x "$old" ]; then install_script 755 "$old" "$tools/usr/share/glb/$name"; else install_script 644 "$old" "$tools/usr/share/glb/$name"; fi
     ln -s "../../share/glb/$name" "$tools/usr/lib/glb/$name"
 done
+install_completions "$server"
+install_completions "$tools"
 install -D -m 644 -t "$tools/usr/share/doc/glb-tools/examples" "$top"/examples/*.yml "$top"/examples/*.json
 install -D -m 644 -t "$tools/usr/share/doc/glb-tools/examples/network" "$top"/examples/network/*
-install -D -m 644 -t "$tools/usr/share/doc/glb-tools" "$top/docs/TOPOLOGY.md"
 for settings in "$top"/examples/glb-*.default; do install_settings "$tools" "$settings" "etc/default/$(basename "$settings" .default)"; done
 # its units, those of a name with all that were made of them
 tool_units=$(ls "$tools/usr/lib/systemd/system" | sed 's/@\./@*./' | tr '\n' ' ')

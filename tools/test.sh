@@ -56,6 +56,23 @@ if [ -n "${GLB:-}" ] && command -v dpkg-deb >/dev/null && command -v strip >/dev
     expect 1 '' grep -rl /usr/local "$work"/glb*/usr/lib/systemd "$work"/glb*/etc
     # what a server needs runs without the other package, and without what that one needs
     for command in $(find "$work/glb/usr/bin" -type l); do expect 0 "$(basename "$command") 1.0" python3 -BSE "$command" --version; done
+    # each command of a package has a manual page, and one of this repository a completion
+    for package in glb glb-tools; do
+        for command in $(ls "$work/$package/usr/bin"); do
+            expect 0 '' test -s "$work/$package/usr/share/man/man1/$command.1.gz"
+            if [ -e "tools/completions/$command" ]; then expect 0 '' cmp "tools/completions/$command" "$work/$package/usr/share/bash-completion/completions/$command"; fi
+        done
+    done
+    # what a purge does, with commands that only say what they are asked: the user goes, and what it had
+    mkdir "$work/said_by"
+    for command in rm rmdir deluser systemctl; do printf '#!/bin/sh\necho "%s $*" >>"$0.asked"\n' "$command" >"$work/said_by/$command" && chmod 755 "$work/said_by/$command"; done
+    dpkg-deb -e "$work/glb_1.0_amd64.deb" "$work/control"
+    PATH=$work/said_by:$PATH "$work/control/postrm" purge
+    expect 0 'deluser --system --quiet glb' cat "$work/said_by/deluser.asked"
+    expect 0 '1' grep -c '^rm -rf /etc/glb /var/lib/glb$' "$work/said_by/rm.asked"
+    rm -f "$work/said_by"/*.asked
+    PATH=$work/said_by:$PATH "$work/control/postrm" remove
+    expect 1 '' grep -l 'deluser\|/etc/glb' -r "$work/said_by" --include='*.asked'
     # no file is in both, and none of the tools in neither
     files() { (cd "$1" && find usr/bin usr/share/glb ! -type d | sort); }
     expect 0 '' comm -12 <(files "$work/glb") <(files "$work/glb-tools")

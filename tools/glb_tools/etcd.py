@@ -25,7 +25,7 @@ DEFRAGMENT = 120.0
 NO_MAJORITY, FULL = 3, 4
 ETCD_STATUSES = {
     NO_MAJORITY: "no member of etcd answered, or none that has a majority",
-    FULL: "etcd is full: nothing was put (docs/OPERATING.md, `When etcd is full`)",
+    FULL: "etcd is full: nothing was put (docs/operating/fleet.md, `When etcd is full`)",
 }
 # codes of gRPC in the answers of the gateway
 DEADLINE, NOT_FOUND, EXHAUSTED, INTERNAL, UNAVAILABLE, UNAUTHENTICATED = 4, 5, 8, 13, 14, 16

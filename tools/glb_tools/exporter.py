@@ -6,7 +6,7 @@
                                                            the fleet, or --log FILE from --topology FILE, beside the servers
     .. --text-file FILE.prom                               into a file for the text file collector of prometheus-node-exporter
 
-It answers at http://ADDR:PORT/metrics. With --said it ends with its input. docs/OPERATING.md has the names of all metrics,
+It answers at http://ADDR:PORT/metrics. With --said it ends with its input. docs/operating/metrics.md has the names of all metrics,
 and examples/glb-alerts.yml the alerts on them.
 """
 

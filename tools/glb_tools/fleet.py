@@ -194,7 +194,7 @@ def look_at_members(etcd: Etcd, found: Report) -> None:
             found.advise(MEMBER, f"{member}, a member of etcd, does not answer: start it again")
     for alarm in etcd.alarms():
         if alarm.get("alarm") == "NOSPACE":
-            found.advise(FULL, "etcd is full: docs/OPERATING.md, `When etcd is full`")
+            found.advise(FULL, "etcd is full: docs/operating/fleet.md, `When etcd is full`")
             break
 
 

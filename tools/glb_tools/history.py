@@ -121,6 +121,6 @@ def first_base(log: Log, look: Look, octets: bytes, path: str) -> bytes:
     if upto != look.last:
         raise Fault(
             f"the log is one of an older release and ends at entry {look.last}: {path} has to have the numbers up to"
-            " there (docs/OPERATING.md, `From an older release`)"
+            " there (docs/operating/fleet.md, `From an older release`)"
         )
     return with_place(octets, upto, chain_at(log, upto))

@@ -557,6 +557,6 @@ def without_base(look: Look) -> str:
     if any(entry.kind == NONE and OF_BEFORE.match(entry.octets) for entry in look.entries):
         return (
             "the log is one of an older release, whose entries have no chain: a base begins it anew"
-            " (docs/OPERATING.md, `From an older release`)"
+            " (docs/operating/fleet.md, `From an older release`)"
         )
     return "the log has no base yet: glb-roll TOPOLOGY makes one"

@@ -5,5 +5,6 @@
 set -eu
 here=$(cd "$(dirname "$0")" && pwd)
 out=${1:-$here/glb-prices}
-${CXX:-g++} -std=c++17 -O2 -Wall -Wno-maybe-uninitialized -o "$out.new" "$here/prices.cc"
+version=$(sed -n 's/^VERSION = "\(.*\)"$/\1/p' "$here/../glb_tools/__init__.py")
+${CXX:-g++} -DVERSION="\"$version\"" -std=c++17 -O2 -Wall -Wno-maybe-uninitialized -o "$out.new" "$here/prices.cc"
 mv "$out.new" "$out"

@@ -13,13 +13,29 @@
 #include <cstdint>
 #include <cstdio>
 #include <new>
+#include <string>
 #include <vector>
+
+#ifndef VERSION
+#define VERSION "unpackaged"
+#endif
 
 namespace {
 
 using Number = std::int64_t;
 using Simplex = lemon::NetworkSimplex<lemon::SmartDigraph, Number, Number>;
-enum Status { done = 0, no_problem = 2, no_memory = 3, not_written = 4 };
+enum Status { done = 0, no_problem = 2, no_memory = 3, not_written = 4, wrong_words = 64 };
+constexpr const char* help =
+    "usage: glb-prices < PROBLEM > ANSWER\n"
+    "\n"
+    "Solves a transport problem for glb-topology, and writes its dual variables and its flow.\n"
+    "\n"
+    "exit status:\n"
+    "  0     the answer is on standard output\n"
+    "  2     the problem cannot be read, or has no flow\n"
+    "  3     there is no memory\n"
+    "  4     the answer cannot be written\n"
+    "  64    a word that the command does not have\n";
 // more than any topology has: 65,536 units of 8,192 pools
 constexpr Number most_nodes = Number{1} << 24, most_arcs = Number{1} << 29;
 
@@ -67,7 +83,11 @@ Status solve() {
 
 }  // namespace
 
-int main() {
+int main(int count, char** words) {
+    const std::string word = count > 1 ? words[1] : "";
+    if (word == "--version") return std::puts("glb-prices " VERSION) < 0 ? not_written : done;
+    if (word == "--help") return std::fputs(help, stdout) < 0 ? not_written : done;
+    if (count > 1) return std::fputs("glb-prices: it takes no words but --help and --version\n", stderr), wrong_words;
     try {
         return solve();
     } catch (const std::bad_alloc&) {

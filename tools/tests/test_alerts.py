@@ -85,7 +85,9 @@ class WatchAlerts(Alerts):
 
     def test_they_use_what_is_served(self):
         served = (
-            (TOP / "docs" / "OPERATING.md").read_text().partition("| Metric of `glb-watch` |")[2]
+            (TOP / "docs" / "operating" / "prometheus.md")
+            .read_text()
+            .partition("| Metric of `glb-watch` |")[2]
         )
         used = set(
             re.findall(

@@ -335,7 +335,9 @@ class Named(unittest.TestCase):
 
     def test_documents_and_alerts_have_them(self):
         names = {sample[0] for collector in collectors() for sample in served(collector)}
-        table = (TOP / "docs" / "OPERATING.md").read_text().partition("| Metric | Is |")[2]
+        table = (
+            (TOP / "docs" / "operating" / "metrics.md").read_text().partition("| Metric | Is |")[2]
+        )
         rows = re.match(r"\n(?:\|.*\n)+", table)[0].splitlines()
         told = {name for row in rows for name in re.findall(r"`(glb_\w+)`", row)}
         self.assertEqual(told, names)

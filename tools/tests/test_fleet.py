@@ -6,8 +6,10 @@ import unittest
 
 from fleet_world import World
 from glb_tools import fleet
-from glb_tools.etcd import Item
+from glb_tools.etcd import PATIENCE, Item
 from glb_tools.fleet import DIFFER, GONE, HANGS, MEMBER, NOT_THERE, Report, report, say
+from glb_tools.log import ALIVE, TURN
+from samples import TOP
 
 
 class Told(unittest.TestCase):
@@ -76,6 +78,15 @@ class Told(unittest.TestCase):
         ):
             self.assertEqual(Report(advice=[(status, "") for status in found]).status, due)
         self.assertEqual(set(fleet.ORDER), set(fleet.STATUSES) - {0})
+
+
+class Lifetimes(unittest.TestCase):
+    def test_a_word_outlives_what_keeps_it(self):
+        """What a follower tells lives for as long as docs/operating/fleet.md says, and past two members that hang."""
+        text = (TOP / "docs" / "operating" / "fleet.md").read_text()
+        self.assertIn(f"after {ALIVE} seconds as gone", text)
+        self.assertGreater(ALIVE, 2 * PATIENCE)
+        self.assertGreater(TURN, ALIVE)
 
 
 if __name__ == "__main__":

@@ -3,6 +3,7 @@
 import re
 import shutil
 import subprocess
+import tempfile
 import unittest
 from pathlib import Path
 
@@ -58,6 +59,30 @@ class Units(unittest.TestCase):
                     # the second word is the topology
                     serve, _, *words = started(path, **settings)
                     self.assertEqual([serve, *words], ["serve", "--listen", *rest])
+
+    def test_feeds_leave_out_stop(self):
+        """The log reaches the pipe line by line, without its lines `stop`, whatever octets it has."""
+        feeds = sorted(EXAMPLES.glob("glb-feed*.service"))
+        self.assertEqual(len(feeds), 2)
+        log = b"demand g1 9\ncommit\nstop\n  stop \n\xff\xfe stop\nstopped\nshow\n"
+        for path in feeds:
+            with self.subTest(path.name), tempfile.TemporaryDirectory() as folder:
+                Path(folder, "log").write_bytes(log)
+                script = re.fullmatch(r"/bin/sh -c '(.*)'", value(path, "ExecStart"))[1]
+                script = script.replace(" -f ", " ").replace("/var/lib/glb/changes.log", "log")
+                script, count = re.subn(r">/run/glb\S*/feed$", ">feed", script)
+                self.assertEqual(count, 1, script)
+                subprocess.run(["/bin/sh", "-c", script], cwd=folder, check=True, timeout=20)
+                fed = Path(folder, "feed").read_bytes()
+                self.assertEqual(fed, b"demand g1 9\ncommit\n\xff\xfe stop\nstopped\nshow\n")
+
+    def test_what_is_started_is_there(self):
+        """Each program that a unit starts is of Debian's essential packages, of Python, or of this repository."""
+        known = {"/bin/sh", "/bin/rm", "/usr/bin/mkfifo", "/usr/bin/python3"}
+        for path in SERVICES:
+            for line in re.findall(r"(?m)^Exec\w+=[-+!@]*(\S+)", path.read_text()):
+                with self.subTest(path.name, line=line):
+                    self.assertTrue(line in known or line.startswith("/usr/local/"), line)
 
     def test_settings_are_there(self):
         """Whatever file a unit reads its settings from is one that is shipped, or one for each address."""

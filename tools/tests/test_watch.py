@@ -902,7 +902,9 @@ class OwnMetrics(unittest.TestCase):
         self.assertIn('\nglb_watch_changes_total{word="demand"} 1.0\n', text)
         names = set(re.findall(r"(?m)^(glb_watch_\w+)", text))
         table = (
-            (TOP / "docs" / "OPERATING.md").read_text().partition("| Metric of `glb-watch` |")[2]
+            (TOP / "docs" / "operating" / "prometheus.md")
+            .read_text()
+            .partition("| Metric of `glb-watch` |")[2]
         )
         told = set(re.findall(r"`(glb_watch_\w+)`", table.partition("\n\n")[0]))
         self.assertEqual({name for name in names if not name.endswith("_created")}, told)

@@ -3,10 +3,11 @@ ghost use Rattle.std.specs.Prelude.{◌≡◌, length, vec_len};
 ghost use Rattle.std.specs.Thread.{IsSync, IsSend};
 ghost use Rattle.drive.specs.All.{AllRan, MayRan};
 
+use crate::fork::join_both;
 use crate::joins::run_all;
 use crate::lane::{Runs, Workers};
 use std::sync::Wait;
-use std::thread::{Threads, join_mut};
+use std::thread::Threads;
 
 /// The mapper's side of a drive.
 pub(crate) trait Feeds<W, M> {
@@ -42,7 +43,7 @@ fn run_both<
         requires { F.ready feed.now mapper.now }
         ensures { F.fed feed.entry.now feed.exit.now mapper.entry.now mapper.exit.now }
     { feed.run_feed(rt, mapper, row) };
-    join_mut(rt, &mut one, &mut map);
+    join_both(rt, &mut one, &mut map);
 }
 
 /// Runs the feed, and beside it one lane more, if there is a worker for that.
@@ -99,5 +100,5 @@ pub(crate) fn run_beside<
         requires { IsSync R.row × IsSend U.row × IsSend H.row × IsSync W.row × F.ready feed.now mapper.now }
         ensures { F.fed feed.entry.now feed.exit.now mapper.entry.now mapper.exit.now × MayRan U.ran stream.entry.now stream.exit.now listener.entry.now listener.exit.now }
     { run_rest(rt, row, listener, stream, mapper, feed) };
-    join_mut(rt, &mut all, &mut rest);
+    join_both(rt, &mut all, &mut rest);
 }

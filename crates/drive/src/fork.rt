@@ -1,11 +1,22 @@
 //! Two sides at once, of which the one that is to have a thread of its own is told where there is none.
 ghost use Rattle.std.specs.Prelude.{◌≡◌, Bool};
 
+use core::thread::Stack;
 use std::snapshot::Snapshot;
 use std::sync::Wait;
 use std::sync::atomic::{AtomicBool, Ordering};
 use std::thread;
 use std::thread::{Promise, Threads};
+
+/// How large the stack of each thread is, in octets, whatever the limits are under which the program is started.
+pub(crate) const STACK: usize = 1 << 20;
+
+/// When that which gets no thread runs in this one.
+#[derive(Clone, Copy)]
+enum Order {
+    First,
+    Last,
+}
 
 /// What is done once, with a thread of its own or alone.
 trait Job {
@@ -68,14 +79,15 @@ impl<'a, G: FnMut()> Job for Here<'a, G> {
     }
 }
 
-/// Runs the first in a new thread, or alone ahead of the second, where no thread can be made; and the second in this one.
+/// Runs the first in a new thread, and the second in this one. Where no thread can be made, the first runs alone in this one,
+/// ahead of the second or behind it.
 fn run_both<
     R: Threads + Wait,
     S: Job<Output = A> + Send + Drop,
     T: Job<Output = B> + Drop,
     A: Send + Drop,
     B: Drop,
->(rt: &R, s: S, t: T) -> (A, B)
+>(rt: &R, s: S, t: T, order: Order) -> (A, B)
     requires { S.can_run s × T.can_run t }
     ensures { S.gives s result.0 × T.gives t result.1 }
 {
@@ -89,7 +101,8 @@ fn run_both<
             ensures { S.gives s result.0 × T.gives t result.1 }
         {
             let gives = Gives(Snapshot::of(&s));
-            let there = scope.spawn_with(
+            let there = Stack::new().stack_size(STACK).spawn_scoped_with(
+                scope,
                 gives,
                 move || -> A
                     requires { S.can_run s }
@@ -103,8 +116,16 @@ fn run_both<
                 }
                 Err(here) => {
                     told.store(true, Ordering::SeqCst);
-                    let a = (here.value)();
-                    (a, t.run(false))
+                    match order {
+                        Order::First => {
+                            let a = (here.value)();
+                            (a, t.run(false))
+                        }
+                        Order::Last => {
+                            let b = t.run(false);
+                            ((here.value)(), b)
+                        }
+                    }
                 }
             }
         },
@@ -127,7 +148,21 @@ pub(crate) fn join_told<R: Threads + Wait, F: FnMut(bool) + Send, G: FnMut()>(
     ensures first { (alone : Bool) × F.step f.old alone tt f.new }
     ensures second { G.step g.old tt g.new }
 {
-    let (f, g) = run_both(rt, There { f }, Here { g });
+    let (f, g) = run_both(rt, There { f }, Here { g }, Order::First);
+    take_back(f);
+    take_back(g);
+}
+
+/// Calls f in a new thread, and g in this one. Where no thread can be made, f is called behind g.
+pub(crate) fn join_both<R: Threads + Wait, F: FnMut() + Send, G: FnMut()>(
+    rt: &R,
+    f: &mut F,
+    g: &mut G,
+)
+    requires { F.pre f.old × G.pre g.old }
+    ensures { F.step f.old tt f.new × G.step g.old tt g.new }
+{
+    let (f, g) = run_both(rt, Here { g: f }, Here { g }, Order::Last);
     take_back(f);
     take_back(g);
 }

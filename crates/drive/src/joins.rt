@@ -3,12 +3,14 @@ ghost use Rattle.std.specs.Prelude.{◌≡◌, ◌∷◌, [], length, vec_len, v
 ghost use Rattle.std.specs.Thread.{IsSync, IsSend};
 ghost use Rattle.drive.specs.All.{AllRan, MayRan};
 
+use crate::fork::join_both;
 use crate::lane::{Closes, Runs};
-use std::thread::{Threads, join_mut};
+use std::sync::Wait;
+use std::thread::Threads;
 
 /// All lanes at once, each with its worker.
 #[cycle(runs)]
-pub(crate) fn run_all<W: Sync, H: Drop + Send, T: Runs<W, H> + Send, R: Threads + Sync>(
+pub(crate) fn run_all<W: Sync, H: Drop + Send, T: Runs<W, H> + Send, R: Threads + Wait + Sync>(
     rt: &R,
     row: &W,
     works: &mut Vec<H>,
@@ -29,7 +31,7 @@ pub(crate) fn run_all<W: Sync, H: Drop + Send, T: Runs<W, H> + Send, R: Threads 
 }
 
 #[cycle(runs)]
-fn run_last<W: Sync, H: Drop + Send, T: Runs<W, H> + Send, R: Threads + Sync>(
+fn run_last<W: Sync, H: Drop + Send, T: Runs<W, H> + Send, R: Threads + Wait + Sync>(
     rt: &R,
     row: &W,
     works: &mut Vec<H>,
@@ -53,7 +55,7 @@ fn run_last<W: Sync, H: Drop + Send, T: Runs<W, H> + Send, R: Threads + Sync>(
         requires { length last.now ≡ 1 }
         ensures { AllRan T.ran last.entry.now last.exit.now (work.entry ∷ []) (work.exit ∷ []) }
     { run_one(rt, row, &mut work, last) };
-    join_mut(rt, &mut others, &mut one);
+    join_both(rt, &mut others, &mut one);
     work
 }
 

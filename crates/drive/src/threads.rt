@@ -1,9 +1,10 @@
 //! Whether threads can be had.
+use crate::fork::STACK;
 use std::alloc::Global;
 use std::sync::Arc;
 use std::sync::atomic::{AtomicBool, Ordering};
 use std::thread;
-use std::thread::{JoinHandle, Threads};
+use std::thread::{Builder, JoinHandle, Threads};
 
 /// Yields until it is told to end.
 fn wait_for(ends: &AtomicBool) {
@@ -18,7 +19,10 @@ fn wait_for(ends: &AtomicBool) {
 /// A thread that runs until it is told to end, if one can be had.
 fn fork_one<R: Threads>(rt: &R, ends: &Arc<AtomicBool>) -> Option<JoinHandle<()>> {
     let ends = Arc::try_clone(ends).ok()?;
-    thread::spawn(rt, move || wait_for(&ends)).ok()
+    Builder::new()
+        .stack_size(STACK)
+        .spawn(rt, move || wait_for(&ends))
+        .ok()
 }
 
 /// Makes so many threads, and stops at the first that can't be had.

@@ -16,7 +16,7 @@ use best_check::{is_best, is_resumable};
 use deferred_accept::run;
 use evict::State;
 use map_model::{Instance, MapLines, Steps};
-use move_up::{Asked, full_nodes, move_up};
+use move_up::{Asked, Search, move_up};
 use no_memory::NoMemory;
 use reopen::{cut_and_trim, roll_back};
 use std::alloc::Global;
@@ -41,6 +41,7 @@ fn most_turns(instance: &Instance) -> u64
 
 /// Cuts a state for the new numbers, and moves units up in marked trees. In how many turns is the result.
 fn moved(
+    alloc: Global,
     old: &Instance,
     new: &Instance,
     asked: &Asked,
@@ -55,9 +56,9 @@ fn moved(
 {
     // tells the prover what the type keeps
     let _groups = new.groups();
-    let full = full_nodes(old, state);
+    let mut search = Search::under_full(alloc, old, state, asked)?;
     cut_and_trim(new, state);
-    move_up(old, new, state, marks, &full, asked, most_turns(new))
+    move_up(old, new, state, marks, &mut search, most_turns(new))
 }
 
 /// Runs a state to its end. Where that does not hold the group-best map, or can't be told to, the result is how many proposals
@@ -102,7 +103,7 @@ fn try_moves<L>(
     ensures thrown { IfOk result (λ t. IsWithinSpread old.now state.old.lines new.now 0 t.thrown) }
     ensures later { steps.old ≤ steps.new }
 {
-    let turns = moved(old, new, asked, state, marks)?;
+    let turns = moved(alloc, old, new, asked, state, marks)?;
     if !is_resumable(alloc, new, state)? {
         return Ok(Tried {
             turns: None,

@@ -7,10 +7,10 @@ mod moves;
 mod node_set;
 mod offers;
 mod opening;
+mod search;
 mod settling;
 mod turns;
 
 pub use asked::Asked;
-pub use node_set::NodeSet;
-pub use opening::full_nodes;
+pub use search::Search;
 pub use turns::move_up;

@@ -1,25 +1,25 @@
-//! Looking for the best offer that nobody refuses any more. What is found is asked again before a step, so nothing is said
-//! of it here.
+//! Looking for the best offer of a pool that is not refused there. What is found is asked again before a step, so nothing is
+//! said of it here.
 
 ghost use Rattle.std.specs.Prelude.{◌<◌, length};
 ghost use Rattle.map_model.specs.Market.{IsMarket};
 ghost use Rattle.evict.specs.Standing.{IsOpen};
 
 use crate::asked::{Asked, Offers, Run};
-use crate::offers::{is_above, is_offer};
+use crate::offers::{is_offer, room_of};
 use evict::State;
 use map_model::{By, Instance, NodeId, Offer};
 
 /// An offer, and its score.
 #[derive(Clone, Copy, Debug)]
-struct Scored {
+pub(crate) struct Scored {
     score: u32,
-    offer: Offer,
+    pub offer: Offer,
 }
 
 impl Scored {
     /// Whether an offer ranks higher than one that may not be there.
-    fn is_better(self, other: Option<Scored>) -> bool {
+    pub fn is_better(self, other: Option<Scored>) -> bool {
         match other {
             Some(other) => (self.score, self.offer.group) < (other.score, other.offer.group),
             None => true,
@@ -28,17 +28,17 @@ impl Scored {
 }
 
 /// What a look at an offer says.
-enum Look {
+pub(crate) enum Look {
     /// It is loose: it stands before its group's pointer, and nobody refuses it.
     Loose,
-    /// A node refuses it, and so each that ranks lower in its pool.
-    Refused,
+    /// That node refuses it, and so each that ranks lower under it.
+    Refused(NodeId),
     /// Neither.
     Other,
 }
 
 /// Looks at an offer.
-fn look_at(instance: &Instance, state: &State, offer: Offer) -> Look
+pub(crate) fn look_at(instance: &Instance, state: &State, offer: Offer) -> Look
     requires { IsOpen instance.now state.now }
 {
     // most offers stand past their pointers, and to ask that is quick
@@ -50,21 +50,38 @@ fn look_at(instance: &Instance, state: &State, offer: Offer) -> Look
     }
     match state.refuser(instance, offer) {
         None => Look::Loose,
-        Some(By::Node(_)) => Look::Refused,
+        Some(By::Node(node)) => Look::Refused(node),
         Some(By::Limit) => Look::Other,
     }
 }
 
-/// The score of the worst offer that a node holds; 0 where it holds nothing.
-fn worst_score(instance: &Instance, state: &State, node: NodeId) -> u32
+/// The worst offer that a node holds, where it holds one.
+fn worst_of(instance: &Instance, state: &State, node: NodeId) -> Option<Scored>
     requires { IsOpen instance.now state.now }
 {
     if node.0 >= instance.nodes() {
-        return 0;
+        return None;
     }
-    match state.worst_under(node) {
-        Some((offer, _units)) if is_offer(instance, offer) => instance.key(offer).score,
-        _ => 0,
+    let (offer, _units) = state.worst_under(node)?;
+    if !is_offer(instance, offer) {
+        return None;
+    }
+    Some(Scored {
+        score: instance.key(offer).score,
+        offer,
+    })
+}
+
+/// Whether a node is full and holds better offers alone than this one.
+pub(crate) fn is_refused_by(instance: &Instance, state: &State, node: NodeId, found: Scored) -> bool
+    requires { IsOpen instance.now state.now }
+{
+    if room_of(instance, state, node) > 0 {
+        return false;
+    }
+    match worst_of(instance, state, node) {
+        Some(worst) => !found.is_better(Some(worst)),
+        None => true,
     }
 }
 
@@ -73,7 +90,10 @@ fn worst_score(instance: &Instance, state: &State, node: NodeId) -> u32
 fn first_from(instance: &Instance, state: &State, scores: &[u32], run: Run) -> usize
     requires { IsOpen instance.now state.now }
 {
-    let worst = worst_score(instance, state, run.pool);
+    let worst = match worst_of(instance, state, run.pool) {
+        Some(worst) => worst.score,
+        None => 0,
+    };
     match scores.get(run.from..run.until) {
         Some(scores) => run
             .from
@@ -89,52 +109,62 @@ fn offer_at(offers: &Offers, at: usize) -> Option<Scored> {
     Some(Scored { score, offer })
 }
 
-/// The best loose offer of a run and one that was found before.
-fn better_in_run(
-    instance: &Instance,
-    state: &State,
-    offers: &Offers,
-    run: Run,
-    best: Option<Scored>,
-) -> Option<Scored>
+/// What was found for a pool: the best offer that stands before its group's pointer and that neither its limit nor the pool
+/// refuses, and at how many offers was looked.
+pub(crate) struct Found {
+    pub best: Option<Scored>,
+    pub looks: u64,
+}
+
+/// Nothing is found.
+const NOTHING: Found = Found {
+    best: None,
+    looks: 0,
+};
+
+/// What is found in a run.
+fn best_in_run(instance: &Instance, state: &State, offers: &Offers, run: Run) -> Found
     requires { IsOpen instance.now state.now }
 {
+    let mut looks = 0u64;
     for at in first_from(instance, state, offers.scores(), run)..run.until {
         let Some(found) = offer_at(offers, at) else {
-            return best;
+            return NOTHING;
         };
-        if !found.is_better(best) {
-            return best;
-        }
+        looks = looks.saturating_add(1);
         match look_at(instance, state, found.offer) {
-            Look::Loose => return Some(found),
-            Look::Refused => return best,
+            Look::Refused(node) if node == run.pool => return Found { best: None, looks },
+            Look::Loose | Look::Refused(_) => {
+                return Found {
+                    best: Some(found),
+                    looks,
+                };
+            }
             Look::Other => (),
         }
     }
-    best
+    Found { best: None, looks }
 }
 
-/// The best loose offer under a node, among the offers of its tree.
-fn best_among(instance: &Instance, state: &State, offers: &Offers, under: NodeId) -> Option<Offer>
-    requires { IsOpen instance.now state.now }
-{
-    let mut best = None;
-    for run in offers.runs() {
-        if is_above(instance, under, run.pool) {
-            best = better_in_run(instance, state, offers, *run, best);
-        }
-    }
-    Some(best?.offer)
+/// Where the offers to a pool stand.
+fn run_to(offers: &Offers, pool: NodeId) -> Option<Run> {
+    let runs = offers.runs();
+    let run = *runs.get(runs.partition_point(|run| run.pool < pool))?;
+    if run.pool == pool { Some(run) } else { None }
 }
 
-/// The best loose offer under a node.
-pub fn best_under(instance: &Instance, state: &State, asked: &Asked, under: NodeId) -> Option<Offer>
+/// What is found for a pool.
+pub(crate) fn best_at(instance: &Instance, state: &State, asked: &Asked, pool: NodeId) -> Found
     requires { IsOpen instance.now state.now }
 {
-    if under.0 >= instance.nodes() {
-        return None;
+    if pool.0 >= instance.nodes() {
+        return NOTHING;
     }
-    let offers = asked.ranked(state.root(under))?;
-    best_among(instance, state, offers, under)
+    let Some(offers) = asked.ranked(state.root(pool)) else {
+        return NOTHING;
+    };
+    match run_to(offers, pool) {
+        Some(run) => best_in_run(instance, state, offers, run),
+        None => NOTHING,
+    }
 }

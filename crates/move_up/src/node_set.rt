@@ -31,6 +31,14 @@ impl NodeSet {
         }
     }
 
+    /// Whether a node is one of them.
+    pub fn contains(&self, node: NodeId) -> bool {
+        match self.words.get(node.0 as usize / 64) {
+            Some(word) => (*word >> (node.0 % 64)) & 1 == 1,
+            None => false,
+        }
+    }
+
     /// The node of the lowest number.
     pub fn first(&self) -> Option<NodeId> {
         for (at, word) in self.words.iter().enumerate() {

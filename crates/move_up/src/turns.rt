@@ -4,15 +4,12 @@ ghost use Rattle.std.specs.Prelude.{◌≡◌, ◌<◌, ◌≤◌, length, IfOk,
 ghost use Rattle.map_model.specs.Market.{IsMarket, IsSameShape};
 ghost use Rattle.map_model.specs.Allocation.{IsOffer};
 ghost use Rattle.evict.specs.Standing.{IsOpen};
-ghost use Rattle.move_up.specs.Asked.{AreAllListed};
 ghost use Rattle.move_up.specs.Moved.{IsMoved};
 
-use crate::asked::Asked;
-use crate::looking::best_under;
 use crate::moves::{grant_marked, release_marked, set_back};
-use crate::node_set::NodeSet;
 use crate::offers::{above, is_above, is_offer, room_of};
 use crate::opening::{close_path, open_path, opened};
+use crate::search::Search;
 use crate::settling::{settle, settle_lowered};
 use evict::State;
 use map_model::{Instance, LEVELS, NodeId, Offer, Units};
@@ -98,7 +95,7 @@ fn give_up(
     instance: &Instance,
     state: &mut State,
     marks: &[bool],
-    open: &mut NodeSet,
+    search: &mut Search<'_>,
     offer: Offer,
     units: Units,
 )
@@ -107,8 +104,10 @@ fn give_up(
     ensures { IsMoved instance.now marks.now state.old state.new }
 {
     if is_offer(instance, offer) {
-        open_path(instance, state, open, instance.pool_at(offer));
+        let pool = instance.pool_at(offer);
+        open_path(instance, state, &mut search.open, pool);
         release_marked(instance, state, marks, offer, units);
+        search.look_again(instance, state, pool);
     }
 }
 
@@ -118,7 +117,7 @@ fn make_room(
     instance: &Instance,
     state: &mut State,
     marks: &[bool],
-    open: &mut NodeSet,
+    search: &mut Search<'_>,
     offer: Offer,
     source: Source,
     units: Units,
@@ -136,7 +135,7 @@ fn make_room(
             instance,
             state,
             marks,
-            open,
+            search,
             rival.offer,
             rival.units.min(units),
         );
@@ -148,7 +147,7 @@ fn free_source(
     instance: &Instance,
     state: &mut State,
     marks: &[bool],
-    open: &mut NodeSet,
+    search: &mut Search<'_>,
     source: Source,
     units: Units,
 )
@@ -157,7 +156,7 @@ fn free_source(
     ensures { IsMoved instance.now marks.now state.old state.new }
 {
     if let Some(place) = source.place {
-        give_up(instance, state, marks, open, place, units);
+        give_up(instance, state, marks, search, place, units);
     }
 }
 
@@ -166,7 +165,7 @@ fn take_up(
     instance: &Instance,
     state: &mut State,
     marks: &[bool],
-    open: &mut NodeSet,
+    search: &mut Search<'_>,
     offer: Offer,
     units: Units,
 ) -> Result<bool, NoMemory>
@@ -176,8 +175,10 @@ fn take_up(
     ensures { OnOk result (IsMoved instance.now marks.now state.old state.new) }
 {
     let granted = grant_marked(instance, state, marks, offer, units)?;
-    close_path(instance, state, open, instance.pool_at(offer));
+    let pool = instance.pool_at(offer);
+    close_path(instance, state, &mut search.open, pool);
     settle(instance, state, marks, offer.group);
+    search.look_again(instance, state, pool);
     Ok(granted > 0)
 }
 
@@ -186,7 +187,7 @@ fn shift_up(
     instance: &Instance,
     state: &mut State,
     marks: &[bool],
-    open: &mut NodeSet,
+    search: &mut Search<'_>,
     offer: Offer,
     source: Source,
 ) -> Result<bool, NoMemory>
@@ -196,10 +197,10 @@ fn shift_up(
     ensures { OnOk result (IsMoved instance.now marks.now state.old state.new) }
 {
     let most = most_from(instance, state, offer, source);
-    make_room(instance, state, marks, open, offer, source, most);
+    make_room(instance, state, marks, search, offer, source, most);
     let room = room_for(instance, state, offer, source, most);
-    free_source(instance, state, marks, open, source, room);
-    take_up(instance, state, marks, open, offer, room)
+    free_source(instance, state, marks, search, source, room);
+    take_up(instance, state, marks, search, offer, room)
 }
 
 /// Moves units of a group up to an offer. Where it has none to move, its pointer goes back. Says whether something changed.
@@ -207,7 +208,7 @@ fn step(
     instance: &Instance,
     state: &mut State,
     marks: &[bool],
-    open: &mut NodeSet,
+    search: &mut Search<'_>,
     offer: Offer,
 ) -> Result<bool, NoMemory>
     requires is_open { IsOpen instance.now state.old }
@@ -216,7 +217,7 @@ fn step(
     ensures { OnOk result (IsMoved instance.now marks.now state.old state.new) }
 {
     match source_of(instance, state, offer) {
-        Some(source) => shift_up(instance, state, marks, open, offer, source),
+        Some(source) => shift_up(instance, state, marks, search, offer, source),
         None => {
             set_back(instance, state, marks, offer.group, offer.place);
             Ok(state.pointer(offer.group) == offer.place)
@@ -229,8 +230,7 @@ fn step_under(
     instance: &Instance,
     state: &mut State,
     marks: &[bool],
-    open: &mut NodeSet,
-    asked: &Asked,
+    search: &mut Search<'_>,
     node: NodeId,
 ) -> Result<bool, NoMemory>
     requires is_open { IsOpen instance.now state.old }
@@ -240,8 +240,8 @@ fn step_under(
     if room_of(instance, state, node) == 0 {
         return Ok(false);
     }
-    match best_under(instance, state, asked, node) {
-        Some(offer) if is_offer(instance, offer) => step(instance, state, marks, open, offer),
+    match search.best_under(instance, state, node) {
+        Some(offer) if is_offer(instance, offer) => step(instance, state, marks, search, offer),
         _ => Ok(false),
     }
 }
@@ -251,23 +251,26 @@ fn turn(
     instance: &Instance,
     state: &mut State,
     marks: &[bool],
-    open: &mut NodeSet,
-    asked: &Asked,
+    search: &mut Search<'_>,
     node: NodeId,
 ) -> Result<(), NoMemory>
     requires is_open { IsOpen instance.now state.old }
     requires size { length marks.now ≡ length instance.now.nodes }
     ensures { OnOk result (IsMoved instance.now marks.now state.old state.new) }
 {
-    if !step_under(instance, state, marks, open, asked, node)? {
-        open.remove(node);
+    if !step_under(instance, state, marks, search, node)? {
+        search.open.remove(node);
     }
     Ok(())
 }
 
+/// How many offers are looked at for a turn, on the average, before moving up is given up: more would take longer than to send
+/// groups back.
+const LOOKS_A_TURN: u64 = 256;
+
 /// Moves units of a state that was cut up to places whose nodes have room again, in marked trees alone: one offer after
-/// another, the best first under the topmost node, in at most so many turns. `full` are the nodes that were full before the
-/// cut. How many turns it made is the result.
+/// another, the best first under the topmost node, in at most so many turns. The search was begun before the cut. How many
+/// turns it made is the result.
 ///
 /// No clause says that the state is resumable then.
 ///
@@ -279,8 +282,7 @@ pub fn move_up(
     new: &Instance,
     state: &mut State,
     marks: &[bool],
-    full: &NodeSet,
-    asked: &Asked,
+    search: &mut Search<'_>,
     turns: u64,
 ) -> Result<u64, NoMemory>
     requires is_open { IsOpen new.now state.old }
@@ -290,12 +292,14 @@ pub fn move_up(
     ensures few { IfOk result (λ made. made ≤ turns) }
 {
     settle_lowered(old, new, state, marks);
-    let mut open = opened(new, state, full);
+    search.open = opened(new, state, &search.open);
+    let most = turns.saturating_mul(LOOKS_A_TURN);
     for made in 0..turns {
-        let Some(node) = open.first() else {
-            return Ok(made);
+        let node = match search.open.first() {
+            Some(node) if search.looks() <= most => node,
+            _ => return Ok(made),
         };
-        turn(new, state, marks, &mut open, asked, node)?;
+        turn(new, state, marks, search, node)?;
     }
     Ok(turns)
 }

@@ -7,7 +7,7 @@ ghost use Rattle.evict.specs.Standing.{IsOpen};
 use evict::State;
 use map_model::Change::{Capacity, Demand};
 use map_model::{Change, GroupId, Instance, MapLines, NodeId};
-use move_up::{Asked, full_nodes, move_up};
+use move_up::{Asked, Search, move_up};
 use no_memory::NoMemory;
 use reopen::cut_and_trim;
 use stable_check::{CheckRoom, Verdict, check};
@@ -191,6 +191,82 @@ const CASES: &[Case] = &[
         free: &[0, 0, 0],
         ..TWO_POOLS
     },
+    // Under the raised root stand two regions. The second one is full of a better offer, so what waits there is passed over,
+    // though it is the best; the three that are next stand in the first region, one at each pool.
+    Case {
+        name: "the best offers under two levels of nodes, past a region that refuses",
+        nodes: &[
+            (2, None, INNER),
+            (9, Some(0), INNER),
+            (1, Some(0), INNER),
+            (9, Some(1), POOL),
+            (9, Some(1), POOL),
+            (9, Some(1), POOL),
+            (9, Some(2), POOL),
+            (9, Some(2), POOL),
+            (9, None, POOL),
+        ],
+        groups: &[
+            (1, &[(3, 0)]),
+            (1, &[(5, 4), (8, 1)]),
+            (1, &[(4, 3), (8, 1)]),
+            (1, &[(3, 5), (8, 1)]),
+            (1, &[(6, 2), (8, 1)]),
+            (1, &[(7, 1)]),
+            (1, &[(4, 9), (8, 1)]),
+        ],
+        lines: &[
+            (0, 0, 1),
+            (1, 1, 1),
+            (2, 1, 1),
+            (3, 1, 1),
+            (4, 1, 1),
+            (5, 0, 1),
+            (6, 1, 1),
+        ],
+        names: &[(1, 0, 0), (2, 0, 0), (3, 0, 0), (4, 0, 2), (6, 0, 0)],
+        changes: &[Capacity {
+            node: NodeId(0),
+            capacity: 5,
+        }],
+        moved: &[
+            (0, 0, 1),
+            (1, 0, 1),
+            (2, 0, 1),
+            (3, 0, 1),
+            (4, 1, 1),
+            (5, 0, 1),
+            (6, 1, 1),
+        ],
+        pointers: &[0, 0, 0, 0, 1, 0, 1],
+        free: &[0, 0, 0, 0, 0, 0, 0],
+        ..TWO_POOLS
+    },
+    // The second group is wanted no longer at its second place once it has come to its first one: the next stands there.
+    Case {
+        name: "an offer behind a pointer that went back is passed over",
+        nodes: &[
+            (1, None, INNER),
+            (9, Some(0), POOL),
+            (9, Some(0), POOL),
+            (9, None, POOL),
+        ],
+        groups: &[
+            (1, &[(1, 0)]),
+            (1, &[(1, 1), (2, 2), (3, 9)]),
+            (1, &[(2, 5), (3, 9)]),
+        ],
+        lines: &[(0, 0, 1), (1, 2, 1), (2, 1, 1)],
+        names: &[(1, 0, 0), (1, 1, 0), (2, 0, 0)],
+        changes: &[Capacity {
+            node: NodeId(0),
+            capacity: 3,
+        }],
+        moved: &[(0, 0, 1), (1, 0, 1), (2, 0, 1)],
+        pointers: &[0, 0, 0],
+        free: &[0, 0, 0],
+        ..TWO_POOLS
+    },
     // The group asks for less and loses units of its last two places and of its first. Its limit refuses it at the second
     // place no longer, so it asks there next.
     Case {
@@ -290,10 +366,10 @@ fn moved(
     }
     let mut state = State::of_map(alloc, old, map)?;
     let asked = Asked::build(alloc, old, &state)?;
-    let full = full_nodes(old, &state);
+    let mut search = Search::under_full(alloc, old, &state, &asked)?;
     let marks = vec![in alloc; marked; new.nodes() as usize]?;
     cut_and_trim(new, &mut state);
-    move_up(old, new, &mut state, marks.as_slice(), &full, &asked, turns)?;
+    move_up(old, new, &mut state, marks.as_slice(), &mut search, turns)?;
     Ok(state)
 }
 
