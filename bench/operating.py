@@ -168,7 +168,7 @@ BLOCKS = {
     "glb-append --cut": Block(("printf 'demand g1 5\\n' | glb-append; sleep 2; glb-fleet", r"(?s)7\n.*-v4: there, entry 7 .*")),
 }
 # blocks that documents.py runs, or that show a form
-OTHERS = ("$ ", "auth_basic ", "glb serve TOPOLOGY", "ETCD_NAME=", "export ETCDCTL_API=3")
+OTHERS = ("$ ", "glb serve TOPOLOGY", "ETCD_NAME=", "export ETCDCTL_API=3")
 # commands of the text and its tables, behind which block they are run, and what they have to write
 INLINE = [
     ("useradd --system", "systemctl start glb && sleep 2 && systemctl is-active glb && dig +tries=1 +time=1 @192.0.2.53 www.cdn.example A", "(?s)active.*status: NOERROR.*"),

@@ -7,13 +7,14 @@ Over a fleet's log in an etcd of its own stand a world of 12 regions, 384 pools 
 servers of which two are played: one tells another map, and one is gone. Each view is opened at 1,280 and 390 pixels of width,
 by light and by dark, and looked at: nothing is wider than the window, each word has the contrast of WCAG 2.1 AA, nothing is
 refused by the policy of contents, and each comes within a second. Then a pool fails while the page is open, the page is used
-by the keyboard alone, and without JavaScript. GLB names the program. What is seen goes into FOLDER as PNG. The last line is
+by the keyboard alone, and without JavaScript; etcd hangs, and the mirror is killed. GLB names the program. What is seen goes into FOLDER as PNG. The last line is
 `N passed, N failed`; the status is 1 where one failed.
 """
 
 import argparse
 import os
 import random
+import signal
 import socket
 import subprocess
 import sys
@@ -444,6 +445,33 @@ class Looks:
         self.until("and not when it is back", lambda: not browser.run(live), 15)
         browser.said()
 
+    def faults(self, browser):
+        """etcd hangs, and the mirror is killed: the page says so, comes as fast as ever, and goes on by itself."""
+        browser.size(1280, 900)
+        browser.open("/")
+        member = self.fleet.running[0]
+        member.send_signal(signal.SIGSTOP)
+        self.until("etcd is said not to be seen", lambda: "cannot be seen" in browser.text(), 30)
+        began = time.monotonic()
+        self.check("what was seen last is there", b"ams-1" in self.fleet.get("/"), True)
+        self.check("as fast as ever", time.monotonic() - began < 1, True)
+        browser.shoot("etcd-hangs", 1280, 900, 1000)
+        member.send_signal(signal.SIGCONT)
+        self.until("it is seen again", lambda: "cannot be seen" not in browser.text(), 30)
+        self.kill_mirror()
+        self.until("the mirror is said not to run", lambda: "mirror does not run" in browser.text())
+        self.check("its last map is there", b"ams-1" in self.fleet.get("/"), True)
+        self.until("it runs again", lambda: "mirror does not run" not in browser.text(), 60)
+        browser.said()
+
+    def kill_mirror(self):
+        """Ends the `glb serve` of the page, and no other process."""
+        page = self.fleet.running[1].pid
+        for each in Path(f"/proc/{page}/task").iterdir():
+            for child in (each / "children").read_text().split():
+                if b"serve" in Path(f"/proc/{child}/cmdline").read_bytes():
+                    os.kill(int(child), signal.SIGKILL)
+
     # By the keyboard alone.
 
     def keyboard(self, browser):
@@ -573,6 +601,7 @@ def main():
                 looks.pictures(browser, options.documents)
             looks.typed(browser)
             looks.a_page_that_is_cut_off(browser)
+            looks.faults(browser)
             looks.without_script()
         finally:
             if browser:

@@ -171,7 +171,7 @@ for old in "$top"/tools/*.py; do
 done
 install_completions "$server"
 install_completions "$tools"
-install -D -m 644 -t "$tools/usr/share/doc/glb-tools/examples" "$top"/examples/*.yml "$top"/examples/*.json
+install -D -m 644 -t "$tools/usr/share/doc/glb-tools/examples" "$top"/examples/*.yml "$top"/examples/*.json "$top"/examples/*.nginx
 install -D -m 644 -t "$tools/usr/share/doc/glb-tools/examples/network" "$top"/examples/network/*
 for settings in "$top"/examples/glb-*.default; do install_settings "$tools" "$settings" "etc/default/$(basename "$settings" .default)"; done
 # its units, those of a name with all that were made of them

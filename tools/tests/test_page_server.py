@@ -3,6 +3,7 @@
 import base64
 import os
 import re
+import shutil
 import signal
 import socket
 import subprocess
@@ -28,7 +29,7 @@ from glb_tools.page.rings import Rings
 from glb_tools.page.server import Page, app_of
 from glb_tools.page.sources import Server, Sight
 from glb_tools.page.steps import Step, Steps
-from samples import TOOLS, Case
+from samples import EXAMPLES, TOOLS, Case
 
 assert page_world
 HOSTILE = "<script>alert(1)</script>\"'&amp;"
@@ -474,6 +475,33 @@ class Options(Case):
         sampler.take(661.0)
         self.assertEqual(rings.chart("moved", 661.0)[""][-1], (660.0, 0.0))
         self.assertEqual(rings.chart("behind", 661.0)["h1"][-1], (660.0, 2.0))
+
+
+class Proxy(Case):
+    @unittest.skipUnless(
+        shutil.which("nginx") and shutil.which("openssl"), "nginx or openssl is not installed"
+    )
+    def test_nginx_takes_it(self):
+        key, crt = self.folder / "key", self.folder / "crt"
+        words = ["openssl", "req", "-x509", "-newkey", "ec", "-pkeyopt", "ec_paramgen_curve:P-256"]
+        words += ["-nodes", "-subj", "/CN=x", "-keyout", str(key), "-out", str(crt)]
+        subprocess.run(words, check=True, capture_output=True, timeout=60)
+        text = (EXAMPLES / "glb-page.nginx").read_text()
+        text = text.replace("/etc/glb/page.crt", str(crt)).replace("/etc/glb/page.key", str(key))
+        conf = self.file(
+            "nginx.conf",
+            f"pid {self.folder}/pid; events {{}} http {{ access_log off; {self.places()}\n{text} }}",
+        )
+        found = subprocess.run(
+            ["nginx", "-t", "-q", "-e", f"{self.folder}/errors", "-c", conf],
+            capture_output=True,
+            timeout=60,
+        )
+        self.assertEqual(found.returncode, 0, found.stderr.decode())
+
+    def places(self):
+        kinds = ("client_body", "proxy", "fastcgi", "uwsgi", "scgi")
+        return " ".join(f"{kind}_temp_path {self.folder}/{kind};" for kind in kinds)
 
 
 def free_port():
