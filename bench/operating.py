@@ -86,7 +86,11 @@ BLOCKS = {
         # five units without a place
         finds=2,
     ),
-    "tools/glb-drain A": Block(("grep '^capacity A' log | tail -n 1; cat log.drains", "capacity A 9\n?")),
+    "tools/glb-drain A": Block(("grep '^capacity *A' log | tail -n 1; cat log.drains", "capacity  ?A 9\n?")),
+    "install -m 644 examples/glb-drain.service": Block(
+        ("systemctl start glb-drain; systemctl show --value -p Result glb-drain; systemctl is-active glb-drain.timer", "success\nactive"),
+        ("systemctl disable --now glb-drain.timer 2>/dev/null; systemctl is-active glb-drain.timer", "inactive"),
+    ),
     "apt-get install --no-install-recommends python3-prometheus-client": Block(
         ("grep -c '^glb_placed_units 15' /var/lib/prometheus/node-exporter/glb.prom", "1"),
         ("systemctl disable --now glb glb-show.timer 2>/dev/null; sleep 1; ls /var/lib/prometheus/node-exporter/glb.prom 2>/dev/null; systemctl is-active glb-metrics", "inactive"),
@@ -127,6 +131,18 @@ BLOCKS = {
         ("tail -n 1 /var/lib/glb/changes.log", "commit"),
         ("systemctl disable --now glb-watch 2>/dev/null; cp -a /root/changes.kept /var/lib/glb/changes.log; systemctl start glb@v4 glb@v6; sleep 3; " + FOUR, "active\n" * 3 + "active"),
         before="printf 'capacity A 10\\ndemand g1 8\\ncommit\\n' >>/var/lib/glb/changes.log",
+    ),
+    # all of it takes a quarter of an hour; one part alone shows that the command runs
+    "apt-get install prometheus prometheus-blackbox-exporter nginx": Block(
+        ("GLB=/usr/local/bin/glb examples/watch.sh down | tail -n 1", r"\d+ passed, 0 failed"),
+        seconds=2,
+    ),
+    "apt-get install prometheus prometheus-blackbox-exporter\n": Block(
+        ("sleep 5; curl -s 'http://127.0.0.1:9115/probe?module=glb_tcp&target=127.0.0.1:9115' | grep '^probe_success'", "probe_success 1"),
+        ("curl -s 'http://127.0.0.1:9090/api/v1/targets' | grep -o 'job=\"[a-z-]*\"' | sort -u | wc -l; systemctl stop prometheus prometheus-blackbox-exporter", r"\d+"),
+    ),
+    "apt-get install nginx mtail": Block(
+        ("curl -s -o /dev/null http://127.0.0.1/; sleep 1; tail -n 1 /var/log/nginx/glb-demand.log; systemctl stop nginx", r"g\d \d+"),
     ),
     "tail -n +1 -f": Block(("journalctl -u glb -n 3 -o cat; systemctl disable --now glb 2>/dev/null; systemctl start glb@v4; sleep 1; systemctl is-active glb@v4", "published 1\npublished 2\npublished 3\nactive"), before="systemctl stop glb@v4; systemctl disable glb-feed; sed -i '/^stop$/d' /var/lib/glb/changes.log; systemctl start glb; sleep 1", seconds=3),
     # its feed has ended already, so it opens both, and ends

@@ -119,12 +119,11 @@ for unit in "$top"/examples/*.service "$top"/examples/*.timer; do
 done
 install -D -m 644 "$top/docs/glb.1" "$server/usr/share/man/man1/glb.1"
 gzip -9n "$server/usr/share/man/man1/glb.1"
-install -D -m 644 -t "$server/usr/share/doc/glb" "$top"/README.md "$top"/docs/*.md "$top"/docs/*.png "$top"/docs/*.svg
+install -D -m 644 -t "$server/usr/share/doc/glb" "$top"/README.md "$top"/CHANGELOG.md "$top"/SECURITY.md "$top"/CONTRIBUTING.md "$top"/docs/*.md "$top"/docs/*.png "$top"/docs/*.svg
 install -D -m 644 -t "$server/usr/share/doc/glb/operating" "$top"/docs/operating/*.md
-# links between documents: README stands beside the others here
-sed -i -e 's,](docs/,](,g' "$server/usr/share/doc/glb/README.md"
-sed -i -e 's,](\.\./README\.md,](README.md,g' "$server"/usr/share/doc/glb/*.md
-sed -i -e 's,](\.\./\.\./README\.md,](../README.md,g' "$server"/usr/share/doc/glb/operating/*.md
+# links between documents: those of the top stand beside the others here; the figures of bench stay in the repository
+sed -i -e 's,](docs/,](,g' -e 's,](\.\./\([A-Z]*\.md\),](\1,g' "$server"/usr/share/doc/glb/*.md
+sed -i -e 's,](\.\./\.\./\([A-Z]*\.md\),](../\1,g' "$server"/usr/share/doc/glb/operating/*.md
 install -D -m 644 -t "$server/usr/share/doc/glb/examples" "$top"/examples/*.toml "$top"/examples/*.map "$top"/examples/*.changes "$top"/examples/*.socket "$top"/examples/glb-ready.nft "$top"/examples/queries.txt
 # the launcher's settings of the unit: a server is begun by it where they are put beside the unit
 install -D -m 644 "$top/examples/glb-launch.conf" "$server/usr/share/doc/glb/examples/glb-launch.conf"
@@ -173,6 +172,7 @@ install_completions "$server"
 install_completions "$tools"
 install -D -m 644 -t "$tools/usr/share/doc/glb-tools/examples" "$top"/examples/*.yml "$top"/examples/*.json "$top"/examples/*.nginx
 install -D -m 644 -t "$tools/usr/share/doc/glb-tools/examples/network" "$top"/examples/network/*
+install -m 644 -t "$tools/usr/share/doc/glb-tools/examples" "$top"/examples/glb-demand.{mtail,conf}
 for settings in "$top"/examples/glb-*.default; do install_settings "$tools" "$settings" "etc/default/$(basename "$settings" .default)"; done
 # its units, those of a name with all that were made of them
 tool_units=$(ls "$tools/usr/lib/systemd/system" | sed 's/@\./@*./' | tr '\n' ' ')
@@ -210,7 +210,7 @@ Maintainer: $maintainer
 Installed-Size: $(size "$tools")
 Depends: ${compiled}glb (= $version), python3 (>= 3.11), python3-dnspython, python3-flask, python3-jinja2, python3-numpy, python3-prometheus-client, python3-requests, python3-scipy, python3-waitress
 Recommends: python3-maxminddb, python3-yaml
-Suggests: prometheus, prometheus-node-exporter
+Suggests: mtail, prometheus, prometheus-blackbox-exporter, prometheus-node-exporter
 Breaks: glb (<< $version)
 Replaces: glb (<< $version)
 Section: net

@@ -63,6 +63,8 @@ if [ -n "${GLB:-}" ] && command -v dpkg-deb >/dev/null && command -v strip >/dev
             if [ -e "tools/completions/$command" ]; then expect 0 '' cmp "tools/completions/$command" "$work/$package/usr/share/bash-completion/completions/$command"; fi
         done
     done
+    # documents of the package link to one another, and but for that to the figures of the repository alone
+    expect 0 'bench/README.md' bash -c "cd $work/glb/usr/share/doc/glb && grep -roE '\]\([^)#]+' --include='*.md' . | grep -v '(https\?:' | while IFS=: read -r file link; do target=\${link#*(} && [ -e \"\${file%/*}/\$target\" ] || echo \"\$target\" | sed 's,^\(\.\./\)*,,'; done | sort -u"
     # what a purge does, with commands that only say what they are asked: the user goes, and what it had
     mkdir "$work/said_by"
     for command in rm rmdir deluser systemctl; do printf '#!/bin/sh\necho "%s $*" >>"$0.asked"\n' "$command" >"$work/said_by/$command" && chmod 755 "$work/said_by/$command"; done

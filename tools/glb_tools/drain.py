@@ -1,50 +1,29 @@
 """glb-drain: takes a node out of service in steps that move few units each, and puts it back."""
 
 import argparse
-import fcntl
+import datetime
 import json
 import math
-import os
 import re
 import time
 import uuid
-from collections.abc import Iterator
-from contextlib import contextmanager
-from dataclasses import asdict, dataclass, field, fields, replace
-from pathlib import Path
-from typing import Any, Protocol
+from dataclasses import asdict, dataclass, field, replace
+from typing import Any
 
-from glb_tools.append import add_signature, dropped, signed_of
-from glb_tools.etcd import (
-    ETCD_STATUSES,
-    FULL,
-    NO_MAJORITY,
-    Unreachable,
-    add_etcd_options,
-    delete,
-    etcd_of,
-    put,
-    under,
-)
-from glb_tools.history import topology_at, topology_of
-from glb_tools.loads import STOP, World, split_at_commits
-from glb_tools.log import BASE, BATCH, Log, Signed, plain, told_in
-from glb_tools.moves import Placed, placed_of, report
-from glb_tools.options import (
-    DONE,
-    WRONG_WORDS,
-    Fault,
-    Progress,
-    parser,
-    read_file,
-    tell,
-    write_file,
-)
-from glb_tools.plan import MANY, REFUSED, WORSE, Served, amount, asked, compared, is_worse, say
+from glb_tools import drains
+from glb_tools.append import add_signature, signed_of
+from glb_tools.drain_steps import AHEAD, STUCK, Sight, Step, ahead, next_step
+from glb_tools.drain_stores import File, Fleet, Store
+from glb_tools.drains import Drain
+from glb_tools.etcd import ETCD_STATUSES, FULL, NO_MAJORITY, Unreachable, add_etcd_options, etcd_of
+from glb_tools.log import Log, Signed, plain
+from glb_tools.options import DONE, FAULT, WRONG_WORDS, Fault, Progress, parser, tell
+from glb_tools.plan import MANY, REFUSED
 from glb_tools.plan import STATUSES as PLAN_STATUSES
-from glb_tools.plan import served_at, served_by_log, with_batch
-from glb_tools.text import Replay
-from glb_tools.topology import Topology, written
+from glb_tools.plan import WORSE, amount, compared, is_worse, say, with_batch
+from glb_tools.precedence import AUTHOR, HANDED_BACK, is_by_hand
+from glb_tools.shared_addresses import remarks, warn
+from glb_tools.topology import Topology
 
 ABOUT = """Takes a node out of service in steps that move few units each, and puts it back.
 
@@ -52,13 +31,15 @@ ABOUT = """Takes a node out of service in steps that move few units each, and pu
     glb-drain NODE --back --over 1h         raises it in the same way, to what it was before
     glb-drain --list                        the drains that are on
     glb-drain NODE --forget                 ends a drain, and leaves the capacity as it is
+    glb-drain --due                         the next step back of each drain whose time is over, and which nobody works
 
-NODE is a pool, a site or a region: any node of the topology. Each step is made of what is served at that moment, and is
-tried by `glb repair` first: where it would move more than --step units in all, also at other nodes, it is made smaller.
-The command may be ended at any moment; begun again it goes on. It appends to a fleet's log, or to a log file (--of-log),
-under the lock of the file `lock` in the log's folder. What a drain has to know is kept in etcd beside the log, or in the
-file LOG.drains."""
-CHANGED, STUCK = 5, 6
+NODE is a pool, a site or a region: any node of the topology. With --for or --until the drain ends by itself: the command
+waits, and puts the node back. Each step is made of what is served at that moment, and is tried by `glb repair` first: where
+it would move more than --step units in all, also at other nodes, it is made smaller. How many steps there are, and what
+the largest one moves, is tried and said ahead. The command may be ended at any moment; begun again it goes on. It appends to
+a fleet's log, or to a log file (--of-log), under the lock of the file `lock` in the log's folder. What a drain has to know
+is kept in etcd beside the log, or in the file LOG.drains. A node that glb-watch finds down is 0 meanwhile, and waits."""
+CHANGED = 5
 STATUSES = {
     REFUSED: f"{PLAN_STATUSES[REFUSED]}; or the topology does not have the node",
     NO_MAJORITY: f"{PLAN_STATUSES[WORSE]} (--anyway goes on); or {ETCD_STATUSES[NO_MAJORITY]}",
@@ -66,370 +47,16 @@ STATUSES = {
     CHANGED: "somebody else changed the node's capacity, or drains it too: nothing more was done",
     STUCK: "the smallest step would move more than --step units: nothing more was done",
 }
-# how long a lock is waited for, and how long etcd may be away during a drain, in seconds
-LOCKED, PATIENCE = 30.0, 300.0
-# how soon what failed is tried again, and how long a server's word of a batch is waited for, in seconds
-AGAIN, WORD = 2.0, 5.0
-# how often a step is made smaller by its share before it is halved, and then larger again where it moves too little
-SHARES, LARGER = 4, 2
+# how long etcd may be away during a drain, how soon what failed is tried again, and how often it is looked whether a drain
+# that waits for its time is on still, in seconds
+PATIENCE, AGAIN, LOOKS = 300.0, 2.0, 30.0
+# by which the runs of --due are known; and how long after its last step another run is taken for one that has ended, behind
+# two steps, in seconds
+DUE, LATE = "due", 30
 TIME = re.compile(r"(\d{1,9})([smhd]?)")
 SECONDS = {"": 1, "s": 1, "m": 60, "h": 3600, "d": 86400}
-
-
-@dataclass
-class Drain:
-    """A drain that is on: what has to be known of it to go on, and to go back."""
-
-    node: str
-    # the node's capacity of before the first step, and the units that a step may move
-    before: int
-    step: int
-    # when it began, in seconds since 1970, by whom and why
-    since: int
-    author: str
-    why: str
-    is_back: bool
-    over: int
-    every: int
-    # by which the run is known that made the last step
-    run: str
-    # the capacity ahead of the last step and behind it: they are equal as soon as it stands in the log
-    was: int
-    to: int
-    # when the last step was made, how many there were in this direction, and the units that these moved
-    at: int = 0
-    steps: int = 0
-    moved: int = 0
-
-    @property
-    def target(self) -> int:
-        return self.before if self.is_back else 0
-
-
-NAMES = [each.name for each in fields(Drain)]
-
-
-def drain_in(octets: str | bytes, where: str) -> Drain:
-    try:
-        told = json.loads(octets)
-        # a later release may keep more
-        found = Drain(**{key: told[key] for key in NAMES if key in told})
-        numbers = (
-            found.before,
-            found.step,
-            found.since,
-            found.was,
-            found.to,
-            found.at,
-            found.every,
-        )
-        if not all(type(number) is int for number in numbers):
-            raise ValueError("a number is none")
-        return found
-    except (ValueError, TypeError, RecursionError) as why:
-        raise Fault(f"{where} cannot be read: {why}") from None
-
-
-# Where batches go, and what is kept beside them.
-
-
-class Store(Protocol):
-    # the drain of the node as it was when it was looked what is served
-    seen: Drain | None
-
-    def drains(self) -> dict[str, Drain]:
-        """The drains that are on, by node."""
-        ...
-
-    def numbered(self) -> bytes:
-        """The topology with the numbers that are served."""
-        ...
-
-    def served(self, node: str) -> Served:
-        """What is served now, and the drain of a node."""
-        ...
-
-    def capacity_of_topology(self, node: str) -> int:
-        """A node's capacity in the topology from which servers begin."""
-        ...
-
-    def step(self, drain: Drain, signed: Signed, is_over: bool) -> bool:
-        """Appends a step, and keeps the drain, or ends it; not where the node's capacity or its drain is another one by now."""
-        ...
-
-    def forget(self, node: str) -> None:
-        """Ends a drain, and appends nothing."""
-        ...
-
-
-def line_of(drain: Drain) -> str:
-    return f"capacity {drain.node} {drain.to}\n"
-
-
-def is_changed(node: str, lines: str) -> bool:
-    """Whether lines change a node's capacity."""
-    return any(line.split()[:2] == ["capacity", node] for line in lines.splitlines())
-
-
-class Fleet:
-    """The log of a fleet."""
-
-    def __init__(self, glb: str, log: Log) -> None:
-        self.glb, self.log = glb, log
-        self.last = 0
-        self.seen: Drain | None = None
-
-    def drains(self) -> dict[str, Drain]:
-        items = self.log.etcd.txn([under(self.log.at("drain", ""))]).found[0]
-        found = [drain_in(item.octets, item.key) for item in items]
-        return {drain.node: drain for drain in found}
-
-    def numbered(self) -> bytes:
-        look = self.log.look()
-        return topology_at(self.log, look, look.last)
-
-    def served(self, node: str) -> Served:
-        self.seen = self.drains().get(node)
-        look = self.log.look()
-        self.last = look.last
-        return served_at(self.glb, self.log, look)
-
-    def capacity_of_topology(self, node: str) -> int:
-        topology = Topology(topology_of(self.log, self.log.newest_base()))
-        return topology.nodes[topology.node_at[node]].capacity
-
-    def step(self, drain: Drain, signed: Signed, is_over: bool) -> bool:
-        key = self.log.at("drain", drain.node)
-        # the batch and the drain are put at one moment
-        kept = replace(drain, was=drain.to)
-        more = [delete(key) if is_over else put(key, json.dumps(asdict(kept)))]
-        while True:
-            if self.drains().get(drain.node) != self.seen:
-                return False
-            look = self.log.look()
-            for entry in self.log.entries(self.last + 1, look.last):
-                if entry.kind == BASE or is_changed(drain.node, entry.lines):
-                    return False
-            lines = {"lines": line_of(drain)}
-            if self.log.put_entry(look, BATCH, signed, lines, uuid.uuid4().hex, more):
-                break
-        why = dropped(self.log, look.last + 1, WORD)
-        if why:
-            raise Fault(why, REFUSED)
-        return True
-
-    def forget(self, node: str) -> None:
-        self.log.etcd.txn([delete(self.log.at("drain", node))])
-
-
-class File:
-    """A log file, which servers are fed from."""
-
-    def __init__(self, glb: str, topology: str, log: str) -> None:
-        self.glb, self.topology, self.path = glb, topology, Path(log)
-        self.kept = Path(f"{log}.drains")
-        self.octets = b""
-        self.seen: Drain | None = None
-
-    @contextmanager
-    def locked(self, is_made: bool = False) -> Iterator[None]:
-        """Has the lock that each writer of the log takes; who only reads makes none."""
-        lock = self.path.parent / "lock"
-        if not is_made and not lock.exists():
-            yield
-            return
-        descriptor = os.open(lock, os.O_RDONLY | (os.O_CREAT if is_made else 0), 0o666)
-        try:
-            end = time.monotonic() + LOCKED
-            while True:
-                try:
-                    fcntl.flock(descriptor, fcntl.LOCK_EX | fcntl.LOCK_NB)
-                    break
-                except BlockingIOError:
-                    if time.monotonic() > end:
-                        raise Fault(f"{lock}: somebody else has the lock") from None
-                    time.sleep(0.1)
-            yield
-        finally:
-            os.close(descriptor)
-
-    def drains(self) -> dict[str, Drain]:
-        try:
-            lines = self.kept.read_text(errors="replace").splitlines()
-        except FileNotFoundError:
-            return {}
-        found = [drain_in(line, str(self.kept)) for line in lines]
-        return {drain.node: drain for drain in found}
-
-    def keep(self, drains: dict[str, Drain]) -> None:
-        lines = "".join(json.dumps(asdict(drain)) + "\n" for drain in drains.values())
-        write_file(self.kept, lines.encode())
-
-    def whole(self) -> bytes:
-        """The octets of the log, which ends with a commit."""
-        octets = read_file(self.path)
-        if split_at_commits(octets)[-1]:
-            raise Fault(f"{self.path} has lines behind its last commit: a step would commit them")
-        return octets
-
-    def numbered(self) -> bytes:
-        topology = Topology(read_file(self.topology), self.topology)
-        replay = Replay(topology)
-        with self.locked():
-            replay.take(STOP.sub(b"", self.whole()))
-        return written(topology, replay.numbers).encode()
-
-    def served(self, node: str) -> Served:
-        with self.locked():
-            self.octets, self.seen = self.whole(), self.drains().get(node)
-        return served_by_log(self.glb, read_file(self.topology), STOP.sub(b"", self.octets))
-
-    def capacity_of_topology(self, node: str) -> int:
-        topology = Topology(read_file(self.topology), self.topology)
-        return topology.nodes[topology.node_at[node]].capacity
-
-    def step(self, drain: Drain, signed: Signed, is_over: bool) -> bool:
-        with self.locked(is_made=True):
-            octets, drains = self.whole(), self.drains()
-            if not octets.startswith(self.octets):
-                raise Fault(f"{self.path} was put in its place or made shorter meanwhile")
-            new = octets[len(self.octets) :].decode("latin-1")
-            if drains.get(drain.node) != self.seen or is_changed(drain.node, new):
-                return False
-            # what has to be known comes first: whoever is ended before the log has the step makes it anew
-            drains[drain.node] = drain
-            self.keep(drains)
-            self.append(f"{line_of(drain)}commit\n".encode())
-            if is_over:
-                del drains[drain.node]
-            else:
-                drains[drain.node] = replace(drain, was=drain.to)
-            self.keep(drains)
-        return True
-
-    def append(self, octets: bytes) -> None:
-        descriptor = os.open(self.path, os.O_WRONLY | os.O_APPEND)
-        try:
-            while octets:
-                octets = octets[os.write(descriptor, octets) :]
-            os.fsync(descriptor)
-        finally:
-            os.close(descriptor)
-
-    def forget(self, node: str) -> None:
-        with self.locked(is_made=True):
-            drains = self.drains()
-            drains.pop(node, None)
-            self.keep(drains)
-
-
-# A step.
-
-
-@dataclass
-class Sight:
-    """What is served, and of it a node."""
-
-    node: str
-    served: Served
-    topology: Topology
-    world: World
-    placed: Placed
-
-    @classmethod
-    def of(cls, node: str, served: Served) -> "Sight":
-        topology = Topology(served.topology)
-        if node not in topology.node_at:
-            raise Fault(f"the topology has no node {plain(node)}", REFUSED)
-        return cls(node, served, topology, World(topology), placed_of(served.map))
-
-    def load(self) -> int:
-        return self.world.loads(self.served.map).nodes[self.node][0]
-
-    def capacity(self) -> int:
-        return self.world.capacities[self.topology.node_at[self.node]]
-
-    def behind(self, found: "Step") -> "Sight":
-        """What would be served behind a step."""
-        lines = f"capacity {self.node} {found.to}\n"
-        numbers = {("capacity", self.topology.node_at[self.node]): found.to}
-        self.world.work(lines)
-        served = Served(written(self.topology, numbers).encode(), found.map)
-        return Sight(self.node, served, self.topology, self.world, placed_of(found.map))
-
-
-@dataclass
-class Step:
-    """A capacity, and the units that would move from pool to pool, get a place, and lose theirs."""
-
-    to: int
-    moved: int
-    gained: int
-    lost: int
-    map: bytes = field(repr=False)
-
-    @property
-    def units(self) -> int:
-        return self.moved + self.gained + self.lost
-
-
-def tried(glb: str, sight: Sight, to: int) -> Step:
-    batch = f"capacity {sight.node} {to}\n".encode()
-    text = asked(glb, "repair", sight.served.topology, sight.served.map, batch)
-    found = report(sight.placed, placed_of(text))
-    return Step(to, found["moved"], found["gained"], found["lost"], text)
-
-
-def next_step(glb: str, sight: Sight, target: int, most: int, is_bound: bool) -> Step:
-    """The next step to a capacity: so large that at most so many units move, as far as few tries find it. Where the
-    smallest one moves more it is taken too, but where the number is a bound."""
-    capacity = sight.capacity()
-    is_up = target > capacity
-    # a capacity that is not used moves nothing
-    base = capacity if is_up else min(capacity, sight.load())
-    whole = abs(target - base)
-
-    def by(size: int) -> Step:
-        return tried(glb, sight, base + size if is_up else base - size)
-
-    size = whole if is_up else min(whole, most)
-    found = by(size)
-    if is_up and found.units > most and size > most:
-        size = most
-        found = by(size)
-        # room that nobody asks for yet moves nothing
-        while 2 * found.units <= most and 2 * size < whole:
-            larger = by(2 * size)
-            if larger.units > most:
-                break
-            size, found = 2 * size, larger
-    tries, too_large = 0, size
-    while found.units > most:
-        if size <= 1 and not is_bound:
-            break
-        if size <= 1:
-            raise Fault(
-                f"the smallest step, to {found.to:,}, would move {found.units:,} units, and --step is {most:,}",
-                STUCK,
-            )
-        tries, too_large = tries + 1, size
-        share = size * most // found.units
-        size = max(1, min(size - 1, share) if tries <= SHARES else size // 2)
-        found = by(size)
-    # a share that was too small would make more steps of the drain than it takes
-    for _ in range(LARGER):
-        middle = (size + too_large) // 2
-        if 4 * found.units >= 3 * most or middle <= size:
-            break
-        larger = by(middle)
-        if larger.units > most:
-            too_large = middle
-        else:
-            size, found = middle, larger
-    return found
-
-
-# A run.
+MOST_SECONDS = 366 * 86400
+TAKEN_OVER = "another glb-drain took {} over, or its drain was ended"
 
 
 @dataclass
@@ -443,8 +70,16 @@ class Told:
     capacity: int
     load: int
     step: int
+    planned: int
     moved: int = 0
+    until: int | None = None
     steps: list[dict[str, int]] = field(default_factory=list)
+    warnings: list[str] = field(default_factory=list)
+
+
+def is_found_down(seen: Drain | None, capacity: int, author: str) -> bool:
+    """Whether glb-watch holds a node below its drain's number: it found it down, or it fills."""
+    return seen is not None and author == AUTHOR and capacity < seen.to
 
 
 class Run:
@@ -455,6 +90,7 @@ class Run:
         self.node: str = options.node
         self.signed = signed_of(options)
         self.run = uuid.uuid4().hex
+        self.is_back: bool = options.back
         # the drain as it was planned at the start, and how many steps it takes in all
         self.plan: Drain | None = None
         self.of = 0
@@ -462,6 +98,9 @@ class Run:
         self.handed: Drain | None = None
         self.told: Told | None = None
         self.due = time.monotonic()
+        # whether the node is out, and waits for its time
+        self.is_waiting = False
+        self.is_held = False
 
     def say(self, text: str) -> None:
         if not self.options.json:
@@ -471,63 +110,154 @@ class Run:
 
     def begin(self, sight: Sight) -> Drain | None:
         """The drain that this run makes or goes on with; none where there is nothing to do."""
-        seen, options, capacity = self.store.seen, self.options, sight.capacity()
-        if seen and capacity not in (seen.was, seen.to) and not options.anyway:
+        seen, capacity = self.store.seen, sight.capacity()
+        self.check_begin(seen, capacity)
+        if seen is None and capacity == 0 and not self.is_back and not self.is_measured_down():
+            self.say(f"{self.node} has a capacity of 0 already, and of no drain: nothing is done")
+            return None
+        drain = self.drain_of(seen, seen.before if seen else self.first(capacity), capacity)
+        if drain.until and drain.left() <= 0 and not self.is_back:
+            if seen is None:
+                raise Fault("--until is over already", WRONG_WORDS)
+            # its time is over: it goes back
+            self.is_back = True
+            drain = self.drain_of(seen, drain.before, capacity)
+        if self.is_back and capacity > drain.before:
+            raise Fault(
+                f"{self.node} has a capacity of {capacity:,}, more than the {drain.before:,} of before"
+                + (" (--forget ends the drain)" if seen else ""),
+                CHANGED,
+            )
+        self.told = Told(
+            self.node, self.is_back, drain.before, drain.target, capacity, sight.load(), 0, 0
+        )
+        self.told.until, self.told.warnings = drain.until or None, remarks(sight.topology)
+        if capacity == drain.target and not self.has_to_say(drain.target):
+            return self.finished(seen, drain)
+        self.plan_steps(sight, seen, drain)
+        self.told.step, self.told.planned = drain.step, self.of
+        return drain
+
+    def check_begin(self, seen: Drain | None, capacity: int) -> None:
+        if seen is None or capacity in seen.numbers or self.options.anyway:
+            return
+        if not is_found_down(seen, capacity, self.store.setters.author):
             raise Fault(
                 f"{self.node} has a capacity of {capacity:,}, and the last step set {seen.to:,}: somebody else changed it"
                 " (--anyway goes on from there, --forget ends the drain)",
                 CHANGED,
             )
-        if seen is None and capacity == 0 and not options.back:
-            self.say(f"{self.node} has a capacity of 0 already, and of no drain: nothing is done")
-            return None
-        before = seen.before if seen else self.first(capacity)
-        target = before if options.back else 0
-        if options.back and capacity > before:
-            raise Fault(
-                f"{self.node} has a capacity of {capacity:,}, more than the {before:,} of before"
-                + (" (--forget ends the drain)" if seen else ""),
-                CHANGED,
-            )
-        load = sight.load()
-        self.told = Told(self.node, options.back, before, target, capacity, load, 0)
-        if capacity == target:
-            self.finish(seen)
-            return None
-        ask = self.checked(sight, target)
-        step = self.step_of(seen, load if not options.back else ask)
-        self.told.step = step
-        amount_left = load if not options.back else ask
-        now = int(time.time())
-        drain = Drain(
-            self.node,
-            before,
-            step,
-            seen.since if seen else now,
-            seen.author if seen else self.signed.author,
-            self.signed.why or (seen.why if seen else ""),
-            options.back,
-            options.over,
-            options.every,
-            self.run,
-            capacity,
-            capacity,
-        )
-        if seen and seen.is_back == options.back:
-            drain.steps, drain.moved, drain.at = seen.steps, seen.moved, seen.at
-            # a clock that jumped makes it wait for one step at most
-            pause = min(seen.every, options.every, options.over)
-            self.due += min(max(seen.at + pause - now, 0), pause)
-        self.of = drain.steps + max(1, math.ceil(amount_left / step))
-        return drain
+
+    def is_measured_down(self) -> bool:
+        setters = self.store.setters
+        return setters.author == AUTHOR and setters.number == 0
+
+    def has_to_say(self, target: int) -> bool:
+        """Whether what is kept has to say that the node is out, though it is: where glb-watch found it down."""
+        seen = self.store.seen
+        if self.is_back:
+            return False
+        return self.is_measured_down() if seen is None else seen.to != target
 
     def first(self, capacity: int) -> int:
         """The capacity of before, where no drain has kept it."""
-        if not self.options.back:
+        if capacity and not self.is_back:
             return capacity
+        if self.store.setters.last_above_0 and not self.is_back:
+            return self.store.setters.last_above_0
         before = self.store.capacity_of_topology(self.node)
-        self.say(f"no drain of {self.node} is kept: it goes to the topology's {amount(before)}")
+        if self.is_back:
+            self.say(f"no drain of {self.node} is kept: it goes to the topology's {amount(before)}")
         return before
+
+    def drain_of(self, seen: Drain | None, before: int, capacity: int) -> Drain:
+        """The drain as it begins, or goes on."""
+        options, now = self.options, int(time.time())
+        author = self.store.setters.author
+        by_hand = author if is_by_hand(capacity, author) else ""
+        drain = Drain(
+            node=self.node,
+            before=before,
+            step=0,
+            since=seen.since if seen else now,
+            author=seen.author if seen else self.signed.author,
+            why=self.signed.why or (seen.why if seen else ""),
+            is_back=self.is_back,
+            over=options.over,
+            every=options.every,
+            run=self.run,
+            was=capacity,
+            to=capacity,
+            by_hand=seen.by_hand if seen else by_hand,
+        )
+        if seen and seen.is_back == self.is_back:
+            # a step that was kept ahead, and did not come into the log, was not made
+            drain.steps = seen.steps - (capacity == seen.was != seen.to)
+            drain.moved, drain.at = seen.moved, seen.at
+            # a clock that jumped makes it wait for one step at most
+            pause = min(seen.every, options.every, options.over)
+            self.due += min(max(seen.at + pause - now, 0), pause)
+        if not options.back:
+            with_time(drain, seen, options, now)
+        return drain
+
+    def finished(self, seen: Drain | None, drain: Drain) -> Drain | None:
+        """What is left to do where the node is out, or back, already."""
+        self.say(f"{self.node} is {'back' if self.is_back else 'out'} already")
+        if self.options.dry_run or seen is None:
+            return None
+        if self.is_back:
+            self.store.forget(self.node)
+        elif drain.until:
+            kept = replace(
+                seen,
+                until=drain.until,
+                until_clock=drain.until_clock,
+                boot=drain.boot,
+                run=self.run,
+            )
+            if self.store.keep(kept):
+                self.is_waiting = True
+                return kept
+            raise Fault(f"another glb-drain took {self.node} over", CHANGED)
+        return None
+
+    def plan_steps(self, sight: Sight, seen: Drain | None, drain: Drain) -> None:
+        """How many steps there are to be, and how many units one may move: the same again where the same drain goes on."""
+        options, units = self.options, self.checked(sight, drain.target)
+        if options.step is not None:
+            drain.step = int(options.step)
+        pace = (self.is_back, options.over, options.every)
+        if seen and (seen.is_back, seen.over, seen.every) == pace:
+            drain.step, drain.planned = drain.step or seen.step, seen.planned
+            self.of = max(drain.planned, drain.steps + 1)
+            return
+        load = units if self.is_back else min(sight.load(), sight.capacity())
+        steps = max(1, min(math.ceil(options.over / options.every), load))
+        drain.planned = self.of = drain.steps + steps
+        with Progress("tries the steps"):
+            seconds = math.inf if options.dry_run else AHEAD
+            found = ahead(options.glb, sight, drain, options.step is not None, seconds)
+        self.say_ahead(drain, found, steps)
+
+    def say_ahead(self, drain: Drain, found: list[Step] | None, steps: int) -> None:
+        each = f", each {self.options.every} s" if steps > 1 else ""
+        if found is None:
+            more = f", and more where one would move more than {drain.step:,} units" * bool(
+                drain.step
+            )
+            self.say(
+                f"{steps} steps{each}{more}: to try them ahead takes too long here (--dry-run)"
+            )
+            return
+        self.of = drain.steps + len(found)
+        largest = max((step.units for step in found), default=0)
+        if not drain.step:
+            drain.step = max(largest, 1)
+        longer = f", {len(found) - steps} more than --over has" if len(found) > steps else ""
+        self.say(
+            f"{len(found)} steps{each}{longer}; the largest one moves {largest:,} units, as things stand now"
+        )
 
     def checked(self, sight: Sight, target: int) -> int:
         """How many units are touched where all is done at once; a fault where some would lack a place behind it."""
@@ -544,38 +274,44 @@ class Run:
             raise Fault(f"{units:,} units would move, and --most is {most:,}", MANY)
         return units
 
-    def step_of(self, seen: Drain | None, units: int) -> int:
-        """How many units a step may move: the same again where the same drain goes on."""
-        options = self.options
-        if options.step is not None:
-            return int(options.step)
-        pace = (options.back, options.over, options.every)
-        if seen and (seen.is_back, seen.over, seen.every) == pace:
-            return seen.step
-        steps: int = max(1, math.ceil(options.over / options.every))
-        return max(1, math.ceil(units / steps))
-
-    def finish(self, seen: Drain | None) -> None:
-        if self.options.back and seen and not self.options.dry_run:
-            self.store.forget(self.node)
-        self.say(f"{self.node} is {'back' if self.options.back else 'out'} already")
-
     # Steps.
 
     def go(self) -> None:
         heard = time.monotonic()
         while True:
             try:
-                if self.work():
+                if self.waits_for_time() or not self.work():
+                    heard = time.monotonic()
+                elif not self.is_waiting:
                     return
-                heard = time.monotonic()
             except Unreachable as why:
-                if self.plan is None or time.monotonic() - heard > PATIENCE:
+                is_long = time.monotonic() - heard > PATIENCE and not self.is_waiting
+                if self.plan is None or is_long:
                     raise
                 tell(why)
                 self.due = max(self.due, time.monotonic() + AGAIN)
-            with Progress("waits for the next step"):
+            with Progress("waits for its time" if self.is_waiting else "waits for the next step"):
                 time.sleep(max(0.0, self.due - time.monotonic()))
+
+    def waits_for_time(self) -> bool:
+        """Whether the node is out, and its time has not come; where it comes, the way back begins."""
+        if not self.is_waiting:
+            return False
+        seen = self.store.drains().get(self.node)
+        if seen is None or seen.run != self.run:
+            raise Fault(TAKEN_OVER.format(self.node), CHANGED)
+        left = seen.left()
+        if left > 0:
+            self.due = time.monotonic() + min(left, LOOKS)
+            return True
+        self.is_waiting = False
+        self.turn()
+        return False
+
+    def turn(self) -> None:
+        """From now on it goes back."""
+        self.say(f"the time of {self.node} is over: it goes back")
+        self.is_back, self.plan, self.run, self.handed = True, None, uuid.uuid4().hex, None
 
     def sight(self) -> Sight:
         with Progress("looks what is served"):
@@ -584,9 +320,7 @@ class Run:
     def next(self, sight: Sight, drain: Drain) -> tuple[Drain, Step]:
         """The drain with its next step; a fault where that is braked."""
         with Progress("tries the next step"):
-            found = next_step(
-                self.options.glb, sight, drain.target, drain.step, self.options.step is not None
-            )
+            found = next_step(self.options.glb, sight, drain, self.options.step is not None)
         self.braked(drain, found)
         made = replace(
             drain,
@@ -603,36 +337,68 @@ class Run:
         """Makes a step; whether it was the last one."""
         sight = self.sight()
         if self.plan is None:
+            if not self.told:
+                warn(sight.topology)
             self.plan = self.begin(sight)
-            if self.plan is None:
+            if self.plan is None or self.is_waiting:
                 return True
             if self.due > time.monotonic():
                 # the run before made a step just now
                 return False
         drain = self.mine(sight)
-        if sight.capacity() == drain.target:
-            self.say(f"{self.node} is {'back' if drain.is_back else 'out'}")
-            return True
+        if drain.until and drain.left() <= 0 and not self.is_back:
+            self.turn()
+            return False
+        if sight.capacity() == drain.target and not self.has_to_say(drain.target):
+            return self.is_there(drain)
+        if self.waits_for_watch(sight):
+            return False
         if drain.steps > self.plan.steps:
             # the step that was lost on its way stands in the log
             self.plan, self.due = drain, time.monotonic() + self.options.every
             return False
+        return self.step(sight, drain)
+
+    def step(self, sight: Sight, drain: Drain) -> bool:
         made, found = self.next(sight, drain)
         self.handed = made
         is_last, began = found.to == drain.target, time.monotonic()
-        if not self.store.step(made, self.reason(made), is_last and made.is_back):
+        is_over = is_last and made.is_back
+        if not self.store.step(made, self.reason(made, is_over), is_over):
             # somebody came between: it is looked again, at once
             return False
         self.plan, self.due = replace(made, was=made.to), began + self.options.every
         self.show(made, found, sight)
+        if is_last and made.until and not made.is_back:
+            self.is_there(made)
         return is_last
 
+    def is_there(self, drain: Drain) -> bool:
+        self.is_waiting = bool(drain.until) and not drain.is_back
+        until = f", until {moment(drain.until)}" if self.is_waiting else ""
+        self.say(f"{self.node} is {'back' if drain.is_back else 'out'}{until}")
+        return True
+
+    def waits_for_watch(self, sight: Sight) -> bool:
+        """Whether glb-watch found the node down, or fills it: nothing goes back meanwhile."""
+        seen, author = self.store.seen, self.store.setters.author
+        is_held = self.is_back and is_found_down(seen, sight.capacity(), author)
+        if is_held and not self.is_held:
+            self.say(
+                f"{self.node} is down, or fills, as glb-watch measures it: the drain waits (--forget ends it)"
+            )
+        self.is_held = is_held
+        if is_held:
+            self.due = time.monotonic() + self.options.every
+        return is_held
+
     def mine(self, sight: Sight) -> Drain:
-        """The drain as it is kept, where this run made its last step, and nobody else changed anything since."""
+        """The drain as it is kept, where this run made its last step, and nobody else changed anything since, but glb-watch,
+        which found the node down."""
         assert self.plan
-        seen, capacity = self.store.seen, sight.capacity()
+        seen, capacity, author = self.store.seen, sight.capacity(), self.store.setters.author
         if seen is not None and seen.run == self.run:
-            if capacity != seen.to:
+            if capacity != seen.to and not is_found_down(seen, capacity, author):
                 raise Fault(
                     f"somebody else set the capacity of {self.node} to {capacity:,} (it was {seen.to:,}): the drain stops"
                     " here",
@@ -644,16 +410,24 @@ class Run:
             # the last step was lost on its way, and stands in the log
             return last
         if self.is_begun():
-            raise Fault(f"another glb-drain took {self.node} over, or its drain was ended", CHANGED)
+            raise Fault(TAKEN_OVER.format(self.node), CHANGED)
         if capacity != self.plan.was:
+            self.plan = self.changed_ahead(seen, capacity, author)
+        return self.plan
+
+    def changed_ahead(self, seen: Drain | None, capacity: int, author: str) -> Drain:
+        """The plan where a capacity changed ahead of the first step: by glb-watch alone."""
+        assert self.plan
+        if author != AUTHOR or (seen is not None and capacity > seen.to):
             raise Fault(
                 f"somebody else set the capacity of {self.node} to {capacity:,}: the drain stops here",
                 CHANGED,
             )
-        return self.plan
+        before = capacity if seen is None and capacity and not self.is_back else self.plan.before
+        return replace(self.plan, was=capacity, to=capacity, before=before)
 
     def is_begun(self) -> bool:
-        return bool(self.told and self.told.steps)
+        return bool(self.told and self.told.steps and self.told.back == self.is_back)
 
     def braked(self, drain: Drain, found: Step) -> None:
         most = self.options.most
@@ -668,10 +442,13 @@ class Run:
                 WORSE,
             )
 
-    def reason(self, drain: Drain) -> Signed:
+    def reason(self, drain: Drain, is_over: bool) -> Signed:
+        """The last step back hands a node back whose number of before was measured."""
+        handed = f"{HANDED_BACK}: " if is_over and not drain.by_hand else ""
         back = " back" if drain.is_back else ""
         why = f": {drain.why}" if drain.why else ""
-        return Signed(self.signed.author, f"drain {self.node}{back} {drain.steps}/{self.of}{why}")
+        words = f"{handed}drain {self.node}{back} {drain.steps}/{self.of}{why}"
+        return Signed(self.signed.author, words)
 
     def show(self, made: Drain, found: Step, sight: Sight) -> None:
         assert self.told
@@ -679,7 +456,7 @@ class Run:
         units = {"moved": found.moved, "gained": found.gained, "lost": found.lost}
         self.told.steps.append(step | units)
         self.told.capacity, self.told.moved = made.to, made.moved
-        self.told.load = sight.world.loads(found.map).nodes[self.node][0]
+        self.told.load = sight.load_in(found.map)
         self.say(
             f"{made.steps}/{self.of}: {self.node} from {amount(made.was)} to {amount(made.to)},"
             f" {found.units:,} units move"
@@ -690,6 +467,7 @@ class Run:
     def dry_run(self) -> None:
         """Shows the steps, and makes none."""
         sight = self.sight()
+        warn(sight.topology)
         drain = self.begin(sight)
         while drain and sight.capacity() != drain.target:
             drain, found = self.next(sight, drain)
@@ -697,13 +475,66 @@ class Run:
             sight = sight.behind(found)
 
 
+def with_time(drain: Drain, seen: Drain | None, options: argparse.Namespace, now: int) -> None:
+    """The time at which it goes back by itself: the one that is kept, where no other one is said. --for counts from the drain's
+    beginning, so the same command says the same time."""
+    until = options.until or (drain.since + options.duration if options.duration else 0)
+    if seen and until in (0, seen.until):
+        drain.until, drain.until_clock, drain.boot = seen.until, seen.until_clock, seen.boot
+    elif until:
+        drain.until, drain.boot = until, drains.boot()
+        drain.until_clock = time.monotonic() + until - now
+
+
+# Drains whose time is over.
+
+
+def is_late(drain: Drain, now: float) -> bool:
+    """Whether a drain's time is over, and its next step is due, and the command that made its last one seems to have ended."""
+    if not drain.until or drain.left() > 0:
+        return False
+    since = now - drain.at
+    if since < 0:
+        # a clock that went back
+        return True
+    if drain.run == DUE:
+        return since >= drain.every
+    return min(since, -drain.left()) >= 2 * drain.every + LATE
+
+
+def work_due(store: Store, options: argparse.Namespace) -> int:
+    """A step of each drain that is due; what is at fault with one holds up no other."""
+    status = DONE
+    for node, drain in sorted(store.drains().items()):
+        if not is_late(drain, time.time()):
+            continue
+        words = {"node": node, "over": drain.over, "every": drain.every, "why": ""}
+        run = Run(store, argparse.Namespace(**{**vars(options), **words}))
+        run.run, run.is_back = DUE, True
+        try:
+            run.work()
+        except Unreachable:
+            raise
+        except Fault as why:
+            status = FAULT
+            tell(Fault(f"{plain(node)}: {why}"))
+    return status
+
+
 # The command.
 
 
-def state_of(drain: Drain, capacity: int | None) -> str:
+def moment(seconds: int) -> str:
+    return time.strftime("%Y-%m-%d %H:%M:%SZ", time.gmtime(min(max(seconds, 0), 1 << 36)))
+
+
+def state_of(drain: Drain, capacity: int | None, author: str = "") -> str:
+    """What becomes of a node: of its capacity that is served (none where it is gone), and who set that."""
     if capacity is None:
         return "gone"
-    if capacity not in (drain.was, drain.to):
+    if is_found_down(drain, capacity, author):
+        return "found down"
+    if capacity not in drain.numbers:
         return "changed"
     if drain.is_back:
         return "back"
@@ -713,6 +544,7 @@ def state_of(drain: Drain, capacity: int | None) -> str:
 STATES = {
     "gone": "is not in the topology any more",
     "changed": "was changed by somebody else",
+    "found down": "was found down by glb-watch",
     "back": "comes back",
     "out": "is out",
     "down": "goes down",
@@ -720,37 +552,39 @@ STATES = {
 
 
 def listed(store: Store) -> list[dict[str, Any]]:
-    drains = store.drains()
-    if not drains:
+    found = []
+    drains_on = store.drains()
+    if not drains_on:
         return []
     with Progress("looks what is served"):
         topology = Topology(store.numbered())
-    found = []
-    for node, drain in sorted(drains.items()):
+    for node, drain in sorted(drains_on.items()):
         at = topology.node_at.get(node)
         capacity = None if at is None else topology.nodes[at].capacity
+        author = "" if capacity in (None, *drain.numbers) else store.setter(node, topology)
         found.append(
             {
                 "node": node,
-                "state": state_of(drain, capacity),
+                "state": state_of(drain, capacity, author),
                 "since": drain.since,
                 "author": drain.author,
                 "why": drain.why,
                 "before": drain.before,
                 "capacity": capacity,
                 "last_step": drain.at,
+                "until": drain.until or None,
             }
         )
     return found
 
 
 def shown(found: dict[str, Any]) -> str:
-    moment = time.strftime("%Y-%m-%d %H:%M:%S", time.gmtime(min(max(found["since"], 0), 1 << 36)))
     now = "" if found["capacity"] is None else f", now {amount(found['capacity'])}"
+    until = f", until {moment(found['until'])}" if found["until"] else ""
     why = f"  # {plain(found['why'])}" if found["why"] else ""
     return (
         f"{plain(found['node'])}  {STATES[found['state']]}, from {amount(found['before'])}{now}"
-        f"  since {moment}Z  {plain(found['author'])}{why}"
+        f"  since {moment(found['since'])}{until}  {plain(found['author'])}{why}"
     )
 
 
@@ -760,6 +594,23 @@ def seconds_in(text: str) -> int:
         raise argparse.ArgumentTypeError(f"`{text}` is no time, as 90s, 20m, 1h or 2d")
     count, unit = int(found[1]), found[2]
     return count * SECONDS[unit]
+
+
+def time_in(text: str) -> int:
+    """A time of day, or a date with one, of UTC: the next one, in seconds since 1970."""
+    now = datetime.datetime.fromtimestamp(int(time.time()), datetime.timezone.utc)
+    try:
+        if re.fullmatch(r"\d\d:\d\d(:\d\d)?Z?", text):
+            clock = datetime.time.fromisoformat(text.rstrip("Z"))
+            found = datetime.datetime.combine(now.date(), clock, datetime.timezone.utc)
+            found += datetime.timedelta(days=found <= now)
+        else:
+            found = datetime.datetime.fromisoformat(text)
+            found = found if found.tzinfo else found.replace(tzinfo=datetime.timezone.utc)
+        return int(found.timestamp())
+    except (ValueError, OverflowError):
+        words = f"`{text}` is no time of UTC, as 14:00 or 2026-12-01T14:00"
+        raise argparse.ArgumentTypeError(words) from None
 
 
 def count_in(text: str) -> int:
@@ -782,14 +633,32 @@ def words_of_command() -> argparse.ArgumentParser:
         "--step",
         type=count_in,
         metavar="UNITS",
-        help="how many units a step may move at most, at all nodes (the load by the steps that --over has)",
+        help="how many units a step may move at most, at all nodes (as many as the largest one that was tried ahead)",
     )
     words.add_argument(
         "--most", type=count_in, metavar="UNITS", help="how many units all steps may move"
     )
+    words.add_argument(
+        "--for",
+        dest="duration",
+        type=seconds_in,
+        default=0,
+        metavar="TIME",
+        help="goes back by itself so long behind its beginning, over the same time",
+    )
+    words.add_argument(
+        "--until",
+        type=time_in,
+        default=0,
+        metavar="WHEN",
+        help="goes back by itself at that time of UTC, as 14:00 or 2026-12-01T14:00",
+    )
     words.add_argument("--back", action="store_true", help="puts the node back")
     words.add_argument("--list", action="store_true", help="lists the drains that are on")
     words.add_argument("--forget", action="store_true", help="ends a drain, and appends nothing")
+    words.add_argument(
+        "--due", action="store_true", help="makes the next steps of drains whose time is over"
+    )
     words.add_argument("--dry-run", action="store_true", help="shows the steps, and makes none")
     words.add_argument(
         "--anyway",
@@ -806,12 +675,13 @@ def words_of_command() -> argparse.ArgumentParser:
 
 
 def check_words(options: argparse.Namespace) -> None:
-    if options.list:
-        if options.node is not None or options.back or options.forget:
-            raise Fault("--list stands alone", WRONG_WORDS)
+    is_other = options.back or options.forget or options.dry_run or options.json
+    if options.list or options.due:
+        if options.node is not None or (is_other and not (options.list and options.json)):
+            raise Fault(f"--{'list' if options.list else 'due'} stands alone", WRONG_WORDS)
         return
     if options.node is None:
-        raise Fault("there has to be a NODE, or --list", WRONG_WORDS)
+        raise Fault("there has to be a NODE, --list or --due", WRONG_WORDS)
     if options.forget:
         if options.back or options.dry_run:
             raise Fault("--forget goes with NODE alone", WRONG_WORDS)
@@ -822,6 +692,16 @@ def check_words(options: argparse.Namespace) -> None:
         raise Fault("--every is a time above 0", WRONG_WORDS)
     if not (options.why or options.back or options.dry_run):
         raise Fault("there has to be --why TEXT", WRONG_WORDS)
+    check_time(options)
+
+
+def check_time(options: argparse.Namespace) -> None:
+    if options.until and options.duration:
+        raise Fault("--for or --until", WRONG_WORDS)
+    if (options.until or options.duration) and options.back:
+        raise Fault("--for and --until go with a drain, and not with --back", WRONG_WORDS)
+    if options.until and options.until > time.time() + MOST_SECONDS:
+        raise Fault("--until is more than a year ahead", WRONG_WORDS)
 
 
 def main() -> int:
@@ -839,6 +719,8 @@ def main() -> int:
         for each in found if not options.json else ():
             print(shown(each))
         return DONE
+    if options.due:
+        return work_due(store, options)
     if options.forget:
         if options.node not in store.drains():
             raise Fault(f"no drain of {plain(options.node)} is on")
@@ -851,3 +733,6 @@ def main() -> int:
         if options.json and run.told:
             print(json.dumps(asdict(run.told), indent=2), flush=True)
     return DONE
+
+
+__all__ = ["STATES", "Drain", "File", "Fleet", "main", "state_of"]

@@ -13,6 +13,7 @@
     PREFIX/roll                   who rolls which base, as long as glb-roll lives (60 s)
     PREFIX/drain/NODE             a node that glb-drain takes out of service, or back, and its capacity of before
     PREFIX/watch                  which glb-watch leads, as long as it lives
+    PREFIX/hand                   who set which numbers by hand, as the glb-watch that leads found it
 
 **An entry** is a text of JSON: `kind` (`batch` or `base`), `before`, `time` (seconds since 1970), `author`, `why`, `id` (of
 its append), and of a batch `lines`, of a base `base`, `upto` and `chain`. Its checksum is the SHA-256 of its octets. `before` is the checksum
@@ -266,6 +267,11 @@ class Look:
     @property
     def newest(self) -> Base | None:
         return self.bases[-1] if self.bases else None
+
+    @property
+    def begins(self) -> int:
+        """The first entry behind which one is known: of a log that was cut the second one that is there."""
+        return self.first + 1 if self.first > 1 else 1
 
     def base_at(self, number: int) -> Base | None:
         """The newest base at an entry."""

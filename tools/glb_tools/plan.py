@@ -18,6 +18,7 @@ from glb_tools.log_command import last_map, map_at
 from glb_tools.map import Map, Sums, map_of
 from glb_tools.moves import placed_of, report
 from glb_tools.options import DONE, FAULT, Fault, Progress, parser, read_file
+from glb_tools.shared_addresses import remarks, warn
 from glb_tools.text import MOST_CAPACITY, Change, Replay, lines_of
 from glb_tools.topology import Topology, written
 
@@ -345,8 +346,10 @@ def main() -> int:
             lines = sys.stdin.buffer.read() if options.batch == "-" else read_file(options.batch)
             after = with_batch(options.glb, before, lines)
         found = compared(before, after)
+    topology = Topology(after.topology)
+    warn(topology)
     if options.json:
-        print(json.dumps(found, indent=2))
+        print(json.dumps({**found, "warnings": remarks(topology)}, indent=2))
     else:
         say(found, options.lines)
     if is_worse(found):

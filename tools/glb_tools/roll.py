@@ -15,8 +15,7 @@ from typing import Any
 from glb_tools.append import add_signature, signed_of
 from glb_tools.etcd import ETCD_STATUSES, Unreachable, add_etcd_options, etcd_of, put
 from glb_tools.fleet import judged
-from glb_tools.history import with_numbers
-from glb_tools import moves
+from glb_tools.history import numbers_at, topology_at, topology_of, with_numbers
 from glb_tools.log import (
     TURN,
     Base,
@@ -32,7 +31,9 @@ from glb_tools.log import (
 )
 from glb_tools.log_command import map_at
 from glb_tools.options import DONE, FAULT, Fault, Progress, parser, run
-from glb_tools.topology import Topology
+from glb_tools.plan import Served, compared, say
+from glb_tools.shared_addresses import warn
+from glb_tools.topology import Topology, written
 
 HALF = 2
 STATUSES = {
@@ -43,8 +44,8 @@ STATUSES = {
 }
 # how often it is looked, in seconds
 AGAIN = 0.5
-# how often what would move is said anew, in seconds
-COMPARED = 60
+# how often what would move is said anew, in seconds, and how many pairs of sites, and of nodes, are said
+COMPARED, SHOWN = 60, 10
 
 
 class Roll:
@@ -183,8 +184,12 @@ def compare(log: Log, entry: int, base: Base, state: dict[str, Any], program: st
     if which(program) is None:
         print(f"{program} is not on this host: what would move is not shown")
         return
+    look = log.look()
     now, then = map_at(log, entry, program), map_at(log, entry, program, base)
-    moves.say(moves.report(moves.placed_of(now), moves.placed_of(then)))
+    new = Topology(topology_of(log, base), str(base))
+    numbered = written(new, numbers_at(log, look, base, new, entry).numbers)
+    before = Served(topology_at(log, look, entry), now)
+    say(compared(before, Served(numbered.encode(), then)), SHOWN)
     chain = str(state.get("chain"))
     if maps_of(state).get(spot_of(entry, chain)) not in (None, checksum_of(then)[:16]):
         raise Fault("the server beside has another map than the program here")
@@ -300,6 +305,7 @@ def main() -> int:
         with Progress("writes the numbers of the log into the topology"):
             topology = with_numbers(log, options.topology.read_bytes(), str(options.topology))
     try_it(topology, options.program)
+    warn(Topology(topology, str(options.topology or "the base before")))
     return roll(log, topology, signed, options)
 
 

@@ -222,12 +222,15 @@ class Topology:
             node = self.nodes[node].parent
 
     def last_resort(self) -> list[int]:
-        """The pools of last resort: roots of their own, which never fill, as docs/FORMATS.md advises."""
-        nodes = enumerate(self.nodes)
+        """The pools of last resort, which never fill, as docs/FORMATS.md advises: the largest capacity there is, and above them
+        no other one, but 0 where that is taken out."""
+        nodes, without_end = self.nodes, {MOST_CAPACITY, 0}
         return [
             number
-            for number, node in nodes
-            if node.is_pool and node.parent is None and node.capacity == MOST_CAPACITY
+            for number, node in enumerate(nodes)
+            if node.is_pool
+            and node.capacity == MOST_CAPACITY
+            and all(nodes[above].capacity in without_end for above in self.path(node.parent))
         ]
 
     def key(self, unit: int, place: int) -> tuple[int, int, int]:

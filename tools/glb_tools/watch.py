@@ -6,17 +6,27 @@ import signal
 import sys
 import time
 from collections.abc import Callable, Container
-from math import ceil
 from typing import Any, NoReturn
 
 from glb_tools.etcd import ETCD_STATUSES, add_etcd_options, etcd_of
 from glb_tools.log import Log
 from glb_tools.options import DONE, WRONG_WORDS, Fault, Progress, parser, read_file, said
+from glb_tools.precedence import HANDED_BACK
+from glb_tools.shared_addresses import remarks, warn
 from glb_tools.text import MOST_CHANGES
+from glb_tools.topology import Topology
 from glb_tools.watch_engine import Answer, Engine, Found, Verdict
-from glb_tools.watch_logs import HANDED_BACK, FileLog, FleetLog, Served, Waits, Watched
+from glb_tools.watch_logs import FileLog, FleetLog, Served, Waits, Watched
 from glb_tools.watch_prometheus import Prometheus
-from glb_tools.watch_rules import Name, Rule, Settings, matched, places_of, settings_of
+from glb_tools.watch_rules import (
+    Name,
+    Rule,
+    Settings,
+    matched,
+    names_of,
+    places_of,
+    settings_of,
+)
 
 ABOUT = """Asks Prometheus for demands and capacities, and appends what is worth a change to the log of a fleet or of a server.
 
@@ -30,8 +40,6 @@ STATUSES = {DONE: "done; without --once it does not end by itself", **ETCD_STATU
 Ask = Callable[[dict[str, tuple[Rule, Container[str]]]], dict[str, Answer]]
 # of how many changes a line or a reason says more than their number
 MOST_SAID = 6
-# how long one leads at least that is not heard of, in seconds
-LEAD = 15
 
 
 class Watch:
@@ -51,8 +59,10 @@ class Watch:
         return self.engine, served
 
     def begin(self, is_dry: bool) -> None:
-        """What is wrong with names is said at the start."""
-        self.read()
+        """What is wrong with names, and with the topology, is said at the start."""
+        _, served = self.read()
+        names_of(self.settings.rules, served.topology)
+        warn(served.topology)
         if self.settings.hand_back and not is_dry:
             self.hand_back(list(self.settings.hand_back), False)
 
@@ -66,7 +76,11 @@ class Watch:
         answers = self.ask(dict(by_rule))
         # what was appended while Prometheus was asked counts, too
         engine, served = self.read()
-        return engine.look(served.numbers, served.by_hand, answers, time.monotonic())
+        found = engine.look(
+            served.numbers, served.by_hand, served.drains, answers, time.monotonic()
+        )
+        found.faults += served.faults
+        return found
 
     def append(self, found: Found) -> bool:
         """Whether the batch was appended: not where somebody else appended meanwhile, of which the next look knows."""
@@ -81,7 +95,7 @@ class Watch:
     def hand_back(self, names: list[str], is_named: bool) -> list[Name]:
         """Sets names that somebody else set to the numbers that they have."""
         _, served = self.read()
-        found: list[Name] = []
+        by_hand, found = served.by_hand, list[Name]()
         for pattern in names:
             known = [
                 (word, name)
@@ -90,7 +104,7 @@ class Watch:
             ]
             if not known:
                 raise Fault(f"the topology has no name `{pattern}`")
-            found += [each for each in known if each in served.by_hand and each not in found]
+            found += [each for each in known if each in by_hand and each not in found]
         if not found and is_named:
             raise Fault("none of these names was set by somebody else")
         # in batches that a server takes
@@ -122,7 +136,7 @@ def words_of(batch: list[Verdict]) -> str:
 # What is said.
 
 
-def told(found: Found) -> dict[str, Any]:
+def told(found: Found, topology: Topology) -> dict[str, Any]:
     """A look for programs."""
 
     def of(each: Verdict) -> dict[str, Any]:
@@ -135,6 +149,8 @@ def told(found: Found) -> dict[str, Any]:
         "left": [of(each) for each in found.left],
         "faults": found.faults,
         "brakes": found.brakes,
+        "jumps": found.jumps,
+        "warnings": remarks(topology),
     }
 
 
@@ -145,6 +161,8 @@ def say(found: Found) -> None:
         print(f"{each.word} {each.name} stays {each.old}: {each.why or 'measured as it is'}")
     for words in found.brakes:
         print(f"brake: {words}: nothing more is taken out")
+    for words in found.jumps:
+        print(f"brake: {words}: such demands stay")
     for words in found.faults:
         print(f"fault: {words}")
 
@@ -191,11 +209,17 @@ def run(watch: Watch, settings: Settings, metrics: Any) -> NoReturn:
                 print(f"batch of {len(found.batch):,}: {words_of(found.batch)}", flush=True)
             elif found.batch:
                 print("somebody else appended meanwhile: it looks again", flush=True)
-            teller.tell(found.faults + found.brakes)
+            teller.tell(found.faults + found.brakes + found.jumps)
             if metrics and watch.served:
                 metrics.take(found, watch.served, is_appended)
         except BrokenPipeError:
             raise
+        except Waits as why:
+            # once it leads again it begins from what is served then
+            watch.engine = None
+            teller.tell([str(why)])
+            if metrics:
+                metrics.waits()
         except (Fault, OSError) as why:
             teller.tell([str(why)])
             if metrics:
@@ -209,7 +233,7 @@ def log_of(settings: Settings, options: argparse.Namespace) -> Watched:
     is_alone = not options.dry_run and not options.hand_back
     if not settings.log:
         # it is heard of at each look, which may take as long as Prometheus
-        seconds = max(LEAD, ceil(3 * settings.every)) if is_alone else 0
+        seconds = settings.lead if is_alone else 0
         return FleetLog(Log(etcd_of(options), options.prefix), seconds)
     return FileLog(
         settings.log,
@@ -262,7 +286,8 @@ def work(watch: Watch, settings: Settings, options: argparse.Namespace) -> int:
     if not options.dry_run and found.batch and not watch.append(found):
         raise Fault("somebody else appended meanwhile: nothing was put")
     if options.json:
-        json.dump(told(found), sys.stdout, indent=1)
+        assert watch.served
+        json.dump(told(found, watch.served.topology), sys.stdout, indent=1)
         print()
     else:
         say(found)

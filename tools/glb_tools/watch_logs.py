@@ -1,28 +1,31 @@
 """The logs that glb-watch appends to: what is served by them, who set each number, and batches behind what was read.
 
-In a fleet's log an entry has an author, and one that hands names back says so by its reason. A file has none, so a line of glb-watch has two spaces behind its first word there,
-which a feed takes as one; a line with one space was written by somebody else.
+In a fleet's log an entry has an author, and one that hands names back says so by its reason; glb_tools/file_log.py says how it
+is in a file. Beside either stands which drains are on.
 """
 
 import fcntl
+import json
 import os
 import socket
 import uuid
 from typing import IO, Protocol
 
+from glb_tools import drains
 from glb_tools.append import check
+from glb_tools.drains import Drain
 from glb_tools.etcd import Unreachable, is_at, put
+from glb_tools.file_log import OWN, author_of_line, locked, own_line
 from glb_tools.history import handed, topology_of
-from glb_tools.log import BATCH, Base, Entry, Log, Look, Signed, without_base
+from glb_tools.log import BATCH, PIECE, Base, Entry, Log, Look, Signed, without_base
 from glb_tools.options import Fault, read_file
+from glb_tools.precedence import AUTHOR, author_of, is_by_hand
 from glb_tools.text import Change, Replay, lines_of
 from glb_tools.topology import Topology
 from glb_tools.watch_rules import CAPACITY, DEMAND, Name
 
-AUTHOR, BY_HAND = "glb-watch", "hand"
-# how the reason of an entry begins that hands its names back, whoever appends it
-HANDED_BACK = "handed back"
-OWN = (b"demand  ", b"capacity  ")
+# how long the lock of a log file's writers is waited for, in seconds, and how often drains are read that change meanwhile
+LOCKED, READ_AGAIN = 2.0, 5
 # what closes a batch of which a part alone was written: each server drops it whole
 TORN = b" torn torn torn\ncommit\n"
 
@@ -52,7 +55,7 @@ class Authors(Replay):
 
 
 class Served:
-    """The numbers that are served, and who set those that are not glb-watch's."""
+    """The numbers that are served, who set those that are not glb-watch's, and the drains that are on."""
 
     def __init__(self, topology: Topology, before: "Served | None" = None) -> None:
         self.topology = topology
@@ -60,12 +63,32 @@ class Served:
         self.numbers: dict[Name, int] = {
             (DEMAND, unit.name): unit.demand for unit in topology.units
         } | {(CAPACITY, node.name): node.capacity for node in topology.nodes}
-        self.by_hand: dict[Name, str] = {}
+        # who set a number last, where that is not glb-watch
+        self.authors: dict[Name, str] = {}
         if before:
             # who set a number is not in a new base
-            self.by_hand |= {
-                name: who for name, who in before.by_hand.items() if name in self.numbers
+            self.authors |= {
+                name: who for name, who in before.authors.items() if name in self.numbers
             }
+        self.drains: dict[str, Drain] = {}
+        # what is wrong beside the log
+        self.faults: list[str] = []
+
+    @property
+    def by_hand(self) -> dict[Name, str]:
+        """The names that were set by hand, and by whom: a drain's own steps are none."""
+        return {
+            name: who
+            for name, who in self.authors.items()
+            if is_by_hand(self.numbers[name], who, self.drained(name))
+        }
+
+    def drained(self, name: Name) -> tuple[int, ...]:
+        drain = self.drains.get(name[1]) if name[0] == CAPACITY else None
+        return drain.numbers if drain else ()
+
+    def take_drains(self, texts: list[tuple[str, bytes]]) -> None:
+        self.drains, self.faults = drains.readable(texts)
 
     def name_of(self, change: Change) -> Name:
         word, at = change
@@ -81,9 +104,9 @@ class Served:
             if with_numbers:
                 self.numbers[name] = number
             if replay.authors[change] == AUTHOR:
-                self.by_hand.pop(name, None)
+                self.authors.pop(name, None)
             else:
-                self.by_hand[name] = replay.authors[change]
+                self.authors[name] = replay.authors[change]
         replay.numbers, replay.authors = {}, {}
 
 
@@ -120,12 +143,21 @@ class FileLog:
             self.begin()
             self.marks = marks
         self.take()
-        if self.is_alone and self.is_open and self.is_own:
-            # a batch of which a part alone was written: by a run that was ended, or for want of room
-            self.write(TORN)
-            self.take()
+        if self.is_torn():
+            with locked(self.path, LOCKED):
+                # nobody is writing it just now
+                self.take()
+                if self.is_torn():
+                    self.write(TORN)
+                    self.take()
         assert self.served
+        # what a drain keeps stands there ahead of its step, and again behind it
+        self.served.take_drains(drains.in_file(self.path))
         return self.served
+
+    def is_torn(self) -> bool:
+        """Whether a part alone of a batch of glb-watch is there: a run was ended amid it, or there was no room."""
+        return self.is_alone and self.is_open and self.is_own
 
     def begin(self) -> None:
         if self.file:
@@ -158,7 +190,7 @@ class FileLog:
                 # the feed unit leaves it out
                 continue
             is_own = line.startswith(OWN)
-            self.served.take(line + b"\n", AUTHOR if is_own else BY_HAND)
+            self.served.take(line + b"\n", author_of_line(line))
             if not self.is_open_batch:
                 self.is_own = True
             elif not is_own and line.split()[:1] in ([b"demand"], [b"capacity"]):
@@ -179,11 +211,14 @@ class FileLog:
     def append(self, lines: list[str], why: str) -> bool:
         assert self.file and self.served
         check([line.encode() for line in lines], self.served.topology)
-        if os.stat(self.path).st_size != self.at:
-            return False
-        if self.rest or self.is_open_batch:
-            raise Fault(f"{self.path} ends within a batch that somebody else began: nothing is put")
-        self.write("".join(f"{own_line(line)}\n" for line in lines).encode() + b"commit\n")
+        with locked(self.path, LOCKED):
+            if os.stat(self.path).st_size != self.at:
+                return False
+            if self.rest or self.is_open_batch:
+                raise Fault(
+                    f"{self.path} ends within a batch that somebody else began: nothing is put"
+                )
+            self.write("".join(f"{own_line(line)}\n" for line in lines).encode() + b"commit\n")
         return True
 
     def write(self, octets: bytes) -> None:
@@ -201,10 +236,6 @@ def mark_of(path: str, with_time: bool) -> tuple[int, ...]:
     return (found.st_dev, found.st_ino, found.st_mtime_ns if with_time else 0)
 
 
-def own_line(line: str) -> str:
-    return line.replace(" ", "  ", 1)
-
-
 class FleetLog:
     """The log of a fleet: entries by its newest base. Of several that are to lead one does, as long as it is heard of within
     some seconds; each of its entries is put only where it still does."""
@@ -218,6 +249,8 @@ class FleetLog:
         self.served: Served | None = None
         self.look: Look | None = None
         self.chain, self.next = "", 0
+        # what was kept last of who set numbers by hand
+        self.remembered = ""
 
     def lead(self) -> None:
         etcd, key = self.log.etcd, self.log.at("watch")
@@ -245,19 +278,59 @@ class FleetLog:
     def read(self) -> Served:
         if self.lead_seconds:
             self.lead()
-        look = self.log.look()
+        look, texts = self.looked()
         base = look.newest
         if base is None:
             raise Fault(without_base(look))
-        if self.served is None or base != self.base or self.is_another(look):
+        is_anew = self.served is None or self.is_another(look)
+        if is_anew or base != self.base:
             topology = Topology(topology_of(self.log, base), str(base))
-            self.served = Served(topology, self.served)
-            self.base, self.next = base, max(look.first, 1)
+            self.served = Served(topology, None if is_anew else self.served)
+            if is_anew:
+                self.recall()
+            self.base, self.next = base, look.begins
         for entry in self.log.entries(self.next, look.last):
             self.take(look, base, entry)
             self.next = entry.number + 1
+        assert self.served
         self.chain, self.look = look.entries[-1].checksum, look
+        self.served.take_drains(texts)
+        if self.lead_seconds:
+            self.remember()
         return self.served
+
+    def recall(self) -> None:
+        """Who set which numbers by hand, as one that led kept it: a cut takes their entries away."""
+        assert self.served
+        self.remembered = ""
+        item = self.log.etcd.get(self.log.at("hand"))
+        try:
+            told = json.loads(item.octets) if item else []
+            authors = {(str(word), str(name)): str(who) for word, name, who in told}
+        except (ValueError, TypeError, RecursionError):
+            return
+        self.served.authors |= {
+            name: who for name, who in authors.items() if name in self.served.numbers
+        }
+
+    def remember(self) -> None:
+        assert self.served
+        authors = sorted(self.served.authors.items())
+        octets = json.dumps([[*name, who] for name, who in authors])
+        if octets != self.remembered and len(octets) <= PIECE:
+            leads = [is_at(self.log.at("watch"), self.leads_since)]
+            if self.log.etcd.txn([put(self.log.at("hand"), octets)], leads).held:
+                self.remembered = octets
+
+    def looked(self) -> tuple[Look, list[tuple[str, bytes]]]:
+        """The log, and the drains that are on at that moment: a step puts both at once."""
+        texts = drains.in_etcd(self.log)
+        for _ in range(READ_AGAIN):
+            before, look = texts, self.log.look()
+            texts = drains.in_etcd(self.log)
+            if texts == before:
+                break
+        return look, texts
 
     def is_another(self, look: Look) -> bool:
         """Whether the log is not the one that was read, as behind a restore of etcd."""
@@ -267,7 +340,7 @@ class FleetLog:
     def take(self, look: Look, base: Base, entry: Entry) -> None:
         if entry.kind != BATCH or self.served is None:
             return
-        author = AUTHOR if entry.why.startswith(HANDED_BACK) else entry.author
+        author = author_of(entry.author, entry.why)
         if entry.number <= base.upto:
             # its numbers are those of the base; who set them is not
             self.served.take(self.kept(entry), author, with_numbers=False)

@@ -24,7 +24,16 @@ class Metrics:
         self.brakes = Gauge(
             "glb_watch_brakes", "Brakes that hold, of trees and of all", registry=registry
         )
+        self.oldest = Gauge(
+            "glb_watch_oldest_input_seconds",
+            "How long ago the series had a value last that was silent for the longest time",
+            registry=registry,
+        )
+        self.jumps = Gauge(
+            "glb_watch_demand_brakes", "Sums and names of demands that jumped", registry=registry
+        )
         self.by_hand = Gauge("glb_watch_by_hand", "Names that somebody else set", registry=registry)
+        self.drained = Gauge("glb_watch_drained", "Nodes that glb-drain holds", registry=registry)
         self.failed_looks = Counter(
             "glb_watch_failed_looks", "Looks that ended with a fault", registry=registry
         )
@@ -41,13 +50,21 @@ class Metrics:
         self.up.set(not found.faults)
         self.faults.set(len(found.faults))
         self.brakes.set(len(found.brakes))
+        self.jumps.set(len(found.jumps))
+        self.oldest.set(found.oldest)
         self.by_hand.set(len(served.by_hand))
+        self.drained.set(len(served.drains))
         if not found.faults:
             self.looked.set(time.time())
         if is_appended:
             self.batches.inc()
             for each in found.batch:
                 self.changes.labels(each.word).inc()
+
+    def waits(self) -> None:
+        """Another one leads: what is at fault is that one's to say."""
+        for gauge in (self.up, self.faults, self.brakes, self.jumps, self.oldest):
+            gauge.set(0)
 
     def failed(self) -> None:
         self.up.set(0)

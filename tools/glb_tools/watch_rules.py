@@ -5,6 +5,7 @@ import tomllib
 from collections.abc import Mapping
 from dataclasses import dataclass, field
 from fnmatch import fnmatchcase
+from math import ceil
 from typing import Any
 
 from glb_tools.options import Fault
@@ -16,6 +17,8 @@ DEMAND, CAPACITY = "demand", "capacity"
 # what becomes of a name without a series, beside a number that it gets
 KEEP, DOWN = "keep", "down"
 MOST_SECONDS = 7 * 86400
+# how long one leads that is not heard of, in seconds, where nothing is said
+LEAD = 15
 
 
 class Table:
@@ -108,6 +111,16 @@ class Calm:
 
 
 @dataclass(frozen=True)
+class Jump:
+    """The shares by which the sum of a rule's demands, or one of them, may be another one from look to look, and how many
+    seconds a larger jump has to stand."""
+
+    sum: float
+    name: float
+    after: float
+
+
+@dataclass(frozen=True)
 class Settings:
     prometheus: str
     timeout: float
@@ -116,11 +129,14 @@ class Settings:
     log: str
     topology: str
     metrics: str
+    # how long one that leads is not heard of until another one does
+    lead: int
     hand_back: tuple[str, ...]
     calm: Calm
     # the largest shares of the capacity of a tree, and of all trees, that may look down at once
     brake_tree: float
     brake_all: float
+    jump: Jump
     rules: tuple[Rule, ...] = field(default=())
 
 
@@ -188,6 +204,7 @@ def settings_of(octets: bytes, path: str) -> Settings:
         top.text("log", ""),
         top.text("topology", ""),
         top.text("metrics", ""),
+        top.whole("lead", max(LEAD, ceil(3 * every)), max(2, ceil(2 * every)), 86400),
         tuple(top.texts("hand_back", [])),
         Calm(
             hold,
@@ -197,6 +214,11 @@ def settings_of(octets: bytes, path: str) -> Settings:
         ),
         share(brake, "tree", 40),
         share(brake, "all", 25),
+        Jump(
+            brake.number("demand_sum", 100, 0, 1e6) / 100,
+            brake.number("demand_name", 900, 0, 1e6) / 100,
+            brake.number("demand_after", 300, 0, MOST_SECONDS),
+        ),
         tuple(rules),
     )
     for table in (calm, brake, top):
@@ -229,11 +251,29 @@ def matched(patterns: tuple[str, ...], names: Mapping[str, int], place: str) -> 
 
 
 def names_of(rules: tuple[Rule, ...], topology: Names) -> dict[Name, Rule]:
-    """The rule of each name; that a name has two is refused."""
-    found: dict[Name, Rule] = {}
-    for rule in rules:
-        for name in matched(rule.patterns, places_of(topology, rule.word), rule.place):
-            other = found.setdefault((rule.word, name), rule)
-            if other is not rule:
-                raise Fault(f"{other.place} and {rule.place} both speak of {rule.word} {name}")
+    """The rule of each name; that a name has two, or that a pattern has none, is refused."""
+    found, faults = known_names(rules, topology)
+    if faults:
+        raise Fault(faults[0])
     return found
+
+
+def known_names(rules: tuple[Rule, ...], topology: Names) -> tuple[dict[Name, Rule], list[str]]:
+    """The rule of each name, and what is wrong: a pattern that has no name, and names that have two rules, which have none
+    then."""
+    found: dict[Name, Rule] = {}
+    faults, twice = list[str](), set[Name]()
+    for rule in rules:
+        for pattern in rule.patterns:
+            try:
+                names = matched((pattern,), places_of(topology, rule.word), rule.place)
+            except Fault as why:
+                faults.append(str(why))
+                continue
+            for name in names:
+                other = found.setdefault((rule.word, name), rule)
+                if other is not rule:
+                    twice.add((rule.word, name))
+                    words = f"{other.place} and {rule.place} both speak of {rule.word} {name}"
+                    faults.append(words)
+    return {name: rule for name, rule in found.items() if name not in twice}, faults

@@ -3,6 +3,7 @@
 import contextlib
 import fcntl
 import functools
+import io
 import json
 import time
 import unittest
@@ -10,10 +11,11 @@ from pathlib import Path
 from unittest import mock
 
 from fleet_world import CRASH_AFTER, CRASH_BEFORE, LOST_AFTER, LOST_BEFORE, Client, Crash, Table
-from glb_tools import drain, plan
+from glb_tools import drain, drain_stores, roll
 from glb_tools.drain import main
+from glb_tools.etcd import Unreachable
 from glb_tools.history import topology_at, with_numbers
-from glb_tools.log import Log, Names, Signed, checksum_of
+from glb_tools.log import Base, Log, Names, Signed, checksum_of
 from glb_tools.plan import Served
 from glb_tools.text import Replay
 from glb_tools.topology import Topology, written
@@ -131,12 +133,15 @@ class Played(Case):
 
     def setUp(self):
         super().setUp()
-        self.clock, self.asked = Clock(), lambda: None
+        self.clock, self.asked, self.boot = Clock(), lambda: None, "this one"
         for name, new in (
             ("glb_tools.plan.asked", self.answer),
-            ("glb_tools.drain.asked", self.answer),
-            ("glb_tools.drain.served_by_log", served_by_log),
+            ("glb_tools.drain_steps.asked", self.answer),
+            ("glb_tools.drain_stores.served_by_log", served_by_log),
             ("glb_tools.drain.time", self.clock),
+            ("glb_tools.drains.time", self.clock),
+            ("glb_tools.drain_steps.time", self.clock),
+            ("glb_tools.drains.boot", lambda: self.boot),
             # a disk that is shared is slow
             ("os.fsync", lambda descriptor: None),
         ):
@@ -261,12 +266,24 @@ class Steps(OverFile):
         # a unit for each of 30 steps, each of which moves one of g3, too, until no more of it is at a
         self.world(ZONE + NODES + G1 + G2 + G3)
         status, found, _ = self.told("b", "--over", "40m")
-        self.assertEqual((status, found["step"]), (0, 1))
+        self.assertEqual((status, found["step"], found["planned"]), (0, 2, 30))
         self.assertEqual([step["moved"] for step in found["steps"]], [2] * 20 + [1] * 10)
 
     def test_a_stop_in_the_log_is_left_out(self):
         self.world(WORLD, "capacity a 50\ncommit\nstop\ncapacity a 45\ncommit\n")
         self.assertEqual(self.told("a")[1]["before"], 45)
+
+
+class Warnings(OverFile):
+    def test_a_pool_with_addresses_of_a_site(self):
+        last = NODE.format("last", 2**48) + "pool = true\n" + 'a = ["192.0.2.1"]\n'
+        shared = NODES.replace(f'"a"\ncapacity = 60', f'"a"\na = ["192.0.2.1"]\ncapacity = 60')
+        self.world(ZONE + shared + last + G1.replace('"c"]', '"last"]') + G2)
+        warning = "glb-try: warning: last has addresses of a: it sends clients to north after that was taken out"
+        for words in (("--dry-run",), ()):
+            status, out, said = self.told("a", "--anyway", *words)
+            self.assertEqual((status, said.count(warning), said.count("\n")), (0, 1, 1), said)
+            self.assertRegex(out["warnings"][0], "^last has addresses of a: ")
 
 
 class HardCases(OverFile):
@@ -353,11 +370,8 @@ class HardCases(OverFile):
                 self.assertEqual(self.capacities()[-1], 0)
 
     def test_somebody_else_comes_while_a_step_is_worked(self):
-        asked = []
-
         def come(lines):
-            asked.append(1)
-            if len(asked) == 3:
+            if len(self.lines()) == 2:
                 self.append(lines)
 
         self.asked = lambda: come("capacity a 33\ncommit\n")
@@ -365,7 +379,6 @@ class HardCases(OverFile):
         self.assertEqual((status, self.capacities()), (5, [30, 33]))
         # a change of another name is no reason to stop
         self.world(WORLD)
-        asked.clear()
         self.asked = lambda: come("demand g2 31\ncommit\n")
         self.assertEqual(self.drain("a", "--anyway")[0], 0)
         self.assertEqual(self.capacities()[:2], [30, 20])
@@ -434,8 +447,8 @@ class HardCases(OverFile):
             return write
 
         with (
-            mock.patch.object(drain, "write_file", patched(drain.write_file)),
-            mock.patch.object(drain.File, "append", patched(drain.File.append)),
+            mock.patch.object(drain_stores, "write_file", patched(drain_stores.write_file)),
+            mock.patch.object(drain_stores.File, "append", patched(drain_stores.File.append)),
         ):
             yield
 
@@ -480,7 +493,21 @@ class HardCases(OverFile):
         lock = self.folder / "lock"
         with lock.open("w") as file:
             fcntl.flock(file, fcntl.LOCK_EX)
-            with mock.patch.object(drain, "LOCKED", 0.2):
+            with mock.patch.object(drain_stores, "LOCKED", 0.2):
+                status, _, said = self.drain("a")
+        self.assertEqual((status, self.lines()), (1, []))
+        self.assertIn("somebody else has the lock", said)
+
+    def test_a_lock_that_somebody_takes_while_a_step_is_tried(self):
+        with contextlib.ExitStack() as stack:
+
+            def take():
+                file = stack.enter_context((self.folder / "lock").open("w"))
+                fcntl.flock(file, fcntl.LOCK_EX)
+                self.asked = lambda: None
+
+            self.asked = take
+            with mock.patch.object(drain_stores, "LOCKED", 0.2):
                 status, _, said = self.drain("a")
         self.assertEqual((status, self.lines()), (1, []))
         self.assertIn("somebody else has the lock", said)
@@ -528,6 +555,340 @@ class HardCases(OverFile):
                 self.refused(main, *self.of, *words, status=64)
 
 
+class Planned(OverFile):
+    """How many steps there are, and what is said of them ahead."""
+
+    def test_steps_and_the_largest_are_said_ahead(self):
+        self.world(ZONE + NODES + G1 + G2 + G3)
+        status, out, _ = self.drain("b", "--over", "3m")
+        # 10 of g2 go to a in each, and push 10 of g3 away while there are any
+        self.assertIn(
+            "\n3 steps, each 60 s; the largest one moves 20 units, as things stand now\n", out
+        )
+        self.assertEqual((status, self.capacities("b")), (0, [20, 10, 0]))
+        # by a bound there are more, and how many is said
+        self.world(ZONE + NODES + G1 + G2 + G3)
+        status, out, _ = self.drain("b", "--over", "3m", "--step", "10")
+        self.assertIn(
+            "\n6 steps, each 60 s, 3 more than --over has; the largest one moves 10 units", out
+        )
+        self.assertEqual(status, 0)
+        moved = [int(line.split(", ")[1].split()[0]) for line in out.splitlines() if "/6: " in line]
+        # the third one by a share of the bound that is near it: 4 of g2, and 4 of g3
+        self.assertEqual(moved, [10, 10, 8, 10, 10, 2])
+
+    def test_as_many_as_over_has_whatever_moves_besides(self):
+        for over, sizes in (("1m", [30]), ("2m", [15, 15]), ("7m", [5, 5, 4, 4, 4, 4, 4])):
+            self.world(ZONE + NODES + G1 + G2 + G3)
+            status, found, _ = self.told("b", "--over", over)
+            steps = found["steps"]
+            self.assertEqual((status, found["planned"]), (0, len(sizes)))
+            loads = [30, *(30 - sum(sizes[: at + 1]) for at in range(len(sizes)))]
+            self.assertEqual([step["to"] for step in steps], loads[1:])
+            self.assertEqual({step["of"] for step in steps}, {len(sizes)})
+
+    def test_a_bound_that_was_said_ahead_is_kept_where_things_change(self):
+        # somebody else's demand comes amid the drain: units that have to move stay within the bound
+        self.world(ZONE + NODES + G1 + G2 + G3)
+        self.clock.at_sleep = lambda: self.append("demand g2 50\ncommit\n")
+        status, found, _ = self.told("b", "--over", "3m")
+        self.assertEqual((status, found["step"], found["capacity"]), (0, 20, 0))
+        moved = [step["moved"] + step["gained"] + step["lost"] for step in found["steps"]]
+        self.assertLessEqual(max(moved), 20)
+
+    def test_no_time_to_try_them_ahead(self):
+        self.asked = lambda: setattr(self.clock, "now", self.clock.now + 16)
+        status, out, _ = self.drain("a", "--over", "2m")
+        self.assertEqual((status, self.capacities()), (0, [20, 0]))
+        self.assertIn(
+            "2 steps, each 60 s: to try them ahead takes too long here (--dry-run)\n", out
+        )
+        self.world(WORLD)
+        _, out, _ = self.drain("a", "--over", "2m", "--dry-run")
+        self.assertIn("2 steps, each 60 s; the largest one moves 20 units", out)
+
+    def test_a_step_that_was_kept_and_not_made_does_not_count(self):
+        with self.assertRaises(Crash), mock.patch.object(drain_stores.File, "append", self.crash):
+            self.drain("a", "--over", "2m")
+        self.assertEqual(self.lines(), [])
+        self.assertEqual(self.drain("a", "--over", "2m")[0], 0)
+        self.assertEqual(self.capacities(), [20, 0])
+
+    def crash(self, *_):
+        raise Crash
+
+
+class FoundDown(OverFile):
+    """glb-watch finds a node down, or fills it, while it is drained: its lines have two spaces."""
+
+    def watch(self, number):
+        self.append(f"capacity  a {number}\ncommit\n")
+
+    def test_amid_its_way_out(self):
+        self.clock.at_sleep = lambda: self.watch(0)
+        status, found, _ = self.told("a", "--over", "3m")
+        self.assertEqual((status, self.capacities()), (0, [26, 0, 0]))
+        # the step that says that it is out moves nothing
+        self.assertEqual([step["moved"] for step in found["steps"]], [14, 0])
+        (there,) = self.listed()
+        self.assertEqual((there["state"], there["before"]), ("out", 60))
+
+    def test_found_down_is_listed_and_gone_on_with(self):
+        self.clock.at_sleep = self.interrupt
+        self.drain("a", "--over", "3m")
+        self.watch(0)
+        self.assertEqual(self.listed()[0]["state"], "found down")
+        self.assertIn("was found down by glb-watch", self.good(main, *self.of, "--list"))
+        self.clock.at_sleep = lambda: None
+        self.assertEqual(self.drain("a", "--over", "3m")[0], 0)
+        self.assertEqual((self.capacities(), self.listed()[0]["state"]), ([26, 0, 0], "out"))
+
+    def test_its_way_back_waits(self):
+        self.drain("a", "--over", "0")
+        looks = iter([0, 0, 10, 20])
+
+        def sleeps():
+            number = next(looks, None)
+            if number is not None:
+                self.watch(number)
+
+        self.clock.at_sleep = sleeps
+        status, out, _ = self.drain("a", "--back", "--over", "2m")
+        self.assertEqual(status, 0)
+        # nothing of the drain while it is down, and while it fills up to the drain's number
+        self.assertEqual(self.capacities(), [0, 20, 0, 0, 10, 20, 60])
+        self.assertEqual(out.count("the drain waits"), 1)
+        self.assertEqual(self.listed(), [])
+
+    def test_by_another_hand_it_stops(self):
+        self.drain("a", "--over", "0")
+        self.clock.at_sleep = lambda: self.append("capacity a 0\ncommit\n")
+        status, _, said = self.drain("a", "--back", "--over", "2m")
+        self.assertEqual((status, self.capacities()), (5, [0, 20, 0]), said)
+
+    def test_a_drain_of_one_that_is_down(self):
+        self.append("capacity  a 50\ncommit\n")
+        self.watch(0)
+        self.assertEqual(self.drain("a")[0], 0)
+        (there,) = self.listed()
+        # its number of before is the last one above 0
+        self.assertEqual((there["state"], there["before"]), ("out", 50))
+        self.assertEqual(self.drain("a", "--back", "--over", "0")[0], 0)
+        self.assertEqual(self.capacities(), [50, 0, 0, 50])
+
+    def test_a_batch_that_was_dropped_sets_nothing(self):
+        self.clock.at_sleep = self.interrupt
+        self.drain("a", "--over", "2m")
+        # somebody's number, and a batch of glb-watch that servers drop
+        self.append("capacity a 10\ncommit\ncapacity  a 5\ncapacity nowhere 1\ncommit\n")
+        status, _, said = self.drain("a", "--over", "2m")
+        self.assertEqual((status, self.capacities()), (5, [20, 10, 5]), said)
+        self.assertEqual(self.listed()[0]["state"], "changed")
+
+    def test_glb_watch_ahead_of_the_first_step(self):
+        asked = []
+
+        def come():
+            asked.append(1)
+            if len(asked) == 2:
+                self.watch(50)
+
+        self.asked = come
+        self.assertEqual(self.drain("a", "--over", "0")[0], 0)
+        (there,) = self.listed()
+        self.assertEqual((self.capacities(), there["before"]), ([50, 0], 50))
+
+    def test_it_is_handed_back_with_its_last_step_alone(self):
+        self.drain("a", "--over", "2m")
+        self.drain("a", "--back", "--over", "2m")
+        lines = [line for line in self.lines() if line != "commit"]
+        due = ["capacity a 20", "capacity a 0", "capacity a 20", "capacity  a 60"]
+        self.assertEqual(lines, due)
+
+    def test_a_number_by_hand_is_by_hand_behind_the_drain(self):
+        self.append("capacity a 50\ncommit\n")
+        self.drain("a", "--over", "0")
+        self.drain("a", "--back", "--over", "0")
+        self.assertEqual(self.lines()[-2:], ["capacity a 50", "commit"])
+
+
+class Timed(OverFile):
+    """A drain that ends by itself."""
+
+    def test_by_its_length(self):
+        status, out, _ = self.drain("a", "--over", "2m", "--for", "1h")
+        self.assertEqual((status, self.capacities()), (0, [20, 0, 20, 60]))
+        # the second step is a minute behind the first, it waits, and goes back over the same time
+        self.assertEqual(self.clock.now, 1000 + 3600 + 60)
+        self.assertIn("a is out, until 2027-01-15 09:16:40Z\n", out)
+        self.assertEqual(self.listed(), [])
+
+    def test_by_a_time_of_day(self):
+        # the clock says 08:16:40 of UTC
+        for text, seconds in (("08:20", 200), ("2027-01-15T08:20", 200), ("08:16", 86360)):
+            with self.subTest(text):
+                self.world(WORLD)
+                self.clock.now = 1000
+                self.assertEqual(self.drain("a", "--over", "0", "--until", text)[0], 0)
+                self.assertEqual((self.clock.now, self.capacities()), (1000 + seconds, [0, 60]))
+
+    def test_a_clock_that_jumps_ends_it_neither_early_nor_late(self):
+        for jump in (10**8, -(10**8)):
+            with self.subTest(jump):
+                self.world(WORLD)
+                self.clock.now, self.clock.off = 1000, 1_800_000_000
+
+                def sleeps():
+                    self.clock.off += jump
+                    self.clock.at_sleep = lambda: None
+
+                self.clock.at_sleep = sleeps
+                self.assertEqual(self.drain("a", "--over", "0", "--for", "1h")[0], 0)
+                self.assertEqual((self.clock.now, self.capacities()), (4600, [0, 60]))
+
+    def test_killed_at_any_wait_and_begun_again(self):
+        words = ("--over", "2m", "--for", "10m")
+        for at in range(1, 24, 2):
+            with self.subTest(at):
+                self.world(WORLD)
+                self.clock.now = 1000
+                waits = iter(range(at - 1))
+                self.clock.at_sleep = lambda: next(waits, None) is None and self.interrupt()
+                status, _, _ = self.drain("a", *words)
+                self.clock.at_sleep = lambda: None
+                self.assertEqual(self.drain("a", *words)[0] if status else status, 0)
+                self.assertEqual((self.capacities(), self.listed()), ([20, 0, 20, 60], []))
+                self.assertAlmostEqual(self.clock.now, 1660, delta=61)
+
+    def test_behind_a_start_of_the_machine_the_time_of_day_counts(self):
+        self.clock.at_sleep = self.interrupt
+        self.drain("a", "--over", "0", "--for", "1h")
+        # two thousand seconds later, by a clock that began anew
+        self.boot, self.clock.now, self.clock.off = "another", 5, 1_800_000_000 + 1000 + 2000 - 5
+        self.clock.at_sleep = lambda: None
+        self.assertEqual(self.drain("a", "--over", "0", "--for", "1h")[0], 0)
+        self.assertAlmostEqual(self.clock.now, 5 + 1600, delta=1)
+
+    def test_ended_by_somebody_amid(self):
+        for words, capacities in (("--forget", [0]), ("--back", [0, 60])):
+            with self.subTest(words):
+                self.world(WORLD)
+
+                def second():
+                    self.clock.at_sleep = lambda: None
+                    over = [] if words == "--forget" else ["--over", "0"]
+                    self.assertEqual(self.drain("a", words, *over)[0], 0)
+
+                self.clock.at_sleep = second
+                status, _, said = self.drain("a", "--over", "0", "--for", "1h")
+                self.assertEqual((status, self.capacities()), (5, capacities), said)
+
+    def test_its_time_comes_on_its_way_out(self):
+        self.assertEqual(self.drain("a", "--over", "4m", "--for", "90s")[0], 0)
+        # two steps out, and back from there
+        self.assertEqual(self.capacities()[:2], [30, 20])
+        self.assertEqual(self.capacities()[-1], 60)
+        self.assertNotIn(0, self.capacities())
+
+    def test_another_time_is_taken_and_none_keeps_it(self):
+        self.clock.at_sleep = self.interrupt
+        self.drain("a", "--over", "0", "--for", "1h")
+        since = self.listed()[0]["since"]
+        self.assertEqual(self.listed()[0]["until"], since + 3600)
+        self.assertIn(", until 2027-01-15 09:16:40Z  ops", self.good(main, *self.of, "--list"))
+        for words, length in (((), 3600), (("--for", "2h"), 7200), (("--for", "2h"), 7200)):
+            self.drain("a", "--over", "0", *words)
+            self.assertEqual(self.listed()[0]["until"], since + length, words)
+        # one that has none gets one
+        self.world(WORLD)
+        self.clock.at_sleep = lambda: None
+        self.drain("a", "--over", "0")
+        self.assertIsNone(self.listed()[0]["until"])
+        self.clock.at_sleep = self.interrupt
+        self.drain("a", "--over", "0", "--for", "1h")
+        self.assertIsNotNone(self.listed()[0]["until"])
+
+    def test_a_time_that_is_over(self):
+        status, out, said = self.drain("a", "--over", "0", "--until", "2027-01-15T08:16")
+        self.assertEqual((status, said), (64, "glb-try: --until is over already\n"))
+        self.assertEqual((self.lines(), self.listed()), ([], []))
+        # one that is out goes back by it
+        self.drain("a", "--over", "0")
+        self.assertEqual(self.drain("a", "--over", "0", "--until", "2027-01-15T08:16")[0], 0)
+        self.assertEqual((self.capacities(), self.listed()), ([0, 60], []))
+
+    def due(self):
+        return self.run_main(main, *self.of, "--author", "ops", "--due")
+
+    def test_due(self):
+        self.clock.at_sleep = self.interrupt
+        self.drain("a", "--over", "0", "--for", "10m")
+        began = self.clock.now
+        # its time, and two steps and half a minute more, in which its own command is to go on
+        for seconds, due in ((599, [0]), (749, [0]), (750, [0, 60])):
+            self.clock.now = began - self.clock.slept[-1] + seconds
+            self.assertEqual(self.due()[0], 0)
+            self.assertEqual(self.capacities(), due, seconds)
+        self.assertEqual(self.listed(), [])
+
+    def test_due_makes_a_step_each_time(self):
+        self.clock.at_sleep = lambda: self.capacities()[-1:] == [0] and self.interrupt()
+        self.drain("a", "--over", "2m", "--for", "10m")
+        self.clock.now += 10_000
+        for seconds, due in ((0, [20]), (59, [20]), (1, [20, 60]), (99, [20, 60])):
+            self.clock.now += seconds
+            self.assertEqual(self.due()[0], 0)
+            self.assertEqual(self.capacities()[2:], due)
+
+    def test_due_is_not_early_where_a_clock_went_back(self):
+        self.clock.at_sleep = self.interrupt
+        self.drain("a", "--over", "0", "--for", "10h")
+        self.clock.off -= 10**6
+        self.assertEqual((self.due()[0], self.capacities()), (0, [0]))
+
+    def test_due_leaves_a_way_back_by_hand(self):
+        self.clock.at_sleep = lambda: self.capacities()[-1:] == [0] and self.interrupt()
+        self.drain("a", "--over", "2m", "--for", "10m")
+        self.clock.at_sleep = self.interrupt
+        self.drain("a", "--back", "--over", "2m")
+        self.assertEqual((self.capacities(), self.listed()[0]["until"]), ([20, 0, 20], None))
+        self.clock.now += 10_000
+        self.assertEqual((self.due()[0], self.capacities()), (0, [20, 0, 20]))
+
+    def test_due_leaves_others_and_what_is_down(self):
+        self.drain("b", "--over", "0")
+        self.clock.at_sleep = self.interrupt
+        self.drain("a", "--over", "0", "--for", "10m")
+        self.clock.at_sleep = lambda: None
+        self.clock.now += 10_000
+        self.due()
+        self.assertEqual([each["node"] for each in self.listed()], ["b"])
+        # somebody else's number is told, and holds up no other drain
+        self.world(WORLD)
+        self.clock.at_sleep = self.interrupt
+        self.drain("a", "--over", "0", "--for", "10m")
+        self.drain("b", "--over", "0", "--for", "10m", "--anyway")
+        self.append("capacity a 7\ncommit\n")
+        self.clock.now += 10_000
+        status, _, said = self.due()
+        self.assertEqual((status, self.capacities("b")[-1], self.capacities()[-1]), (1, 60, 7))
+        self.assertIn("a: a has a capacity of 7", said)
+
+    def test_words_of_time(self):
+        over = ["a", "--over", "1m", "--why", "x"]
+        for words in (
+            [*over, "--until", "25:00"],
+            [*over, "--until", "tomorrow"],
+            [*over, "--until", "2099-01-01"],
+            [*over, "--until", "14:00", "--for", "1h"],
+            [*over, "--back", "--for", "1h"],
+            ["a", "--due"],
+            ["--due", "--dry-run"],
+        ):
+            with self.subTest(words):
+                self.refused(main, *self.of, *words, status=64)
+
+
 class OverFleet(Played):
     """A log in an etcd that is played."""
 
@@ -566,7 +927,7 @@ class OverFleet(Played):
         if fault == CRASH_BEFORE:
             raise Crash
         if fault == LOST_BEFORE:
-            raise drain.Unreachable("lost")
+            raise Unreachable("lost")
         revision = self.table.revision
         answer = do()
         if self.table.revision > revision and not self.at:
@@ -574,7 +935,7 @@ class OverFleet(Played):
         if fault == CRASH_AFTER:
             raise Crash
         if fault == LOST_AFTER:
-            raise drain.Unreachable("lost")
+            raise Unreachable("lost")
         return answer
 
     def drain(self, *words):
@@ -582,7 +943,8 @@ class OverFleet(Played):
         return self.run_main(main, *more, *words)
 
     def batches(self):
-        entries = self.log.entries(1, self.log.look().last)
+        look = self.log.look()
+        entries = self.log.entries(look.begins, look.last)
         return [(entry.lines, entry.author, entry.why) for entry in entries if entry.lines]
 
     def listed(self):
@@ -597,7 +959,7 @@ class OverFleet(Played):
                 ("capacity a 20\n", "ops", "drain a 1/2: works"),
                 ("capacity a 0\n", "ops", "drain a 2/2: works"),
                 ("capacity a 20\n", "ops", "drain a back 1/2: works"),
-                ("capacity a 60\n", "ops", "drain a back 2/2: works"),
+                ("capacity a 60\n", "ops", "handed back: drain a back 2/2: works"),
             ],
         )
         self.assertEqual(self.listed(), [])
@@ -622,13 +984,23 @@ class OverFleet(Played):
         self.assertEqual(self.drain("a", "--back")[0], 0)
         self.assertEqual(self.batches()[-1][0], "capacity a 60\n")
 
+    def test_a_log_that_was_cut(self):
+        self.log.append("x", Signed("glb-watch"), "capacity a 50\n", lambda names: None)
+        self.log.append("y", Signed("glb-watch"), "capacity a 40\n", lambda names: None)
+        self.roll(WORLD)
+        self.log.cut(self.log.look(), self.log.newest_base())
+        self.assertEqual(self.log.look().first, 3)
+        self.assertEqual(self.drain("a")[0], 0)
+        self.assertEqual(
+            [lines for lines, *_ in self.batches()[-2:]], ["capacity a 20\n", "capacity a 0\n"]
+        )
+
     def test_the_node_goes_while_a_step_is_worked(self):
-        gone, asked = WORLD.replace('"a"', '"d"'), []
+        gone, rolled = WORLD.replace('"a"', '"d"'), []
 
         def come():
-            asked.append(1)
-            if len(asked) == 3:
-                self.roll(gone)
+            if len(self.batches()) == 1 and not rolled:
+                rolled.append(self.roll(gone))
 
         self.asked = come
         status, _, said = self.drain("a")
@@ -646,6 +1018,28 @@ class OverFleet(Played):
             [lines for lines, author, _ in self.batches() if author == "ops"],
             ["capacity a 20\n", "capacity a 0\n"],
         )
+
+    def test_glb_roll_says_what_glb_plan_says(self):
+        """Of a topology that runs beside, with the numbers of the log."""
+        self.log.append("x", Signed("else"), "capacity a 10\n", lambda names: None)
+        new = WORLD.replace('"b"\ncapacity = 60', '"b"\ncapacity = 40').encode()
+        self.log.put_file("file", checksum_of(new), new)
+        names = Names(["g1", "g2"], ["north", "south", "a", "b", "c"])
+        self.log.put_file("names", checksum_of(new), names.octets())
+        base, out = Base(0, checksum_of(new), 0, ""), io.StringIO()
+
+        def map_at(log, number, program, of=None):
+            octets = topology_at(log, log.look(), number)
+            return placed(
+                octets.replace(b'"b"\ncapacity = 60', b'"b"\ncapacity = 40') if of else octets
+            )
+
+        with mock.patch.object(roll, "map_at", map_at), contextlib.redirect_stdout(out):
+            roll.compare(self.log, 2, base, {}, "python3")
+        # g1 has 10 at a, and 30 at b, where g2 has its 30: now 10 of either fewer
+        self.assertIn("20 of 70 units would move (28.6 %)", out.getvalue())
+        self.assertIn("  20 from north to south\n", out.getvalue())
+        self.assertIn("  b: 60 to 40 of 40 (was 60)\n", out.getvalue())
 
     def test_each_call_of_etcd_fails_or_is_the_last(self):
         start, self.count = self.table.copy(), 0

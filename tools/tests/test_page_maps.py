@@ -91,6 +91,28 @@ class Reading(unittest.TestCase):
         self.assertEqual([n for n, is_under in zip(names, under) if is_under], ["R", "A", "B"])
         self.assertEqual(found.depth(names.index("B")), 1)
 
+    def test_last_resort(self):
+        """As the reader of glb-why has it: below what has no end, or is out, and below nothing else."""
+        most = 2**48
+        nodes = "".join(
+            f'[[node]]\nname = "{name}"\ncapacity = {capacity}\n{more}'
+            for name, capacity, more in (
+                ("a", most, "pool = true\n"),
+                ("b", most, ""),
+                ("c", most, 'parent = "b"\npool = true\n'),
+                ("d", 0, ""),
+                ("e", most, 'parent = "d"\npool = true\n'),
+                ("f", 9, ""),
+                ("g", most, 'parent = "f"\npool = true\n'),
+                ("h", 9, "pool = true\n"),
+            )
+        )
+        group = '[[group]]\nname = "x"\ndemand = 1\npools = ["a"]\nscores = [1]\nprefixes = []\n'
+        text = f'[zone]\napex = "x"\nservices = []\n{nodes}{group}'
+        found = read_tables(text.encode())
+        self.assertEqual([found.node_names[n] for n in found.last_resort()], ["a", "c", "e"])
+        self.assertEqual(found.last_resort(), Topology(text.encode()).last_resort())
+
     def test_groups_of_addresses(self):
         found = read_tables(NETWORK.encode())
         for text, group, prefix in (

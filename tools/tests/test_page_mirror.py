@@ -14,6 +14,7 @@ from page_world import REPLY, program
 from test_loads import Entries, until
 
 from glb_tools import etcd, loads
+from glb_tools.drains import Drain
 from glb_tools.etcd import Etcd
 from glb_tools.fleet import Report
 from glb_tools.log import BASE, BATCH, NONE
@@ -175,13 +176,15 @@ class Files(Played):
 class Log(Entries):
     """A fleet's log whose entries have authors; the first one is the base."""
 
+    reason = "a <b> reason"
+
     def look(self, number):
         found = super().look(number)
         for entry in found.entries:
             entry.kind = BASE if entry.number == self.base.number else BATCH
             if entry.lines == "nothing":
                 entry.kind, entry.lines = NONE, ""
-            entry.author, entry.why, entry.time = "ann", "a <b> reason", 1000 + entry.number
+            entry.author, entry.why, entry.time = "ann", self.reason, 1000 + entry.number
         return found
 
 
@@ -195,12 +198,18 @@ class Fleets(Played):
         self.assertEqual((second.author, second.why, second.sent), ("ann", "a <b> reason", 1002))
         self.assertEqual((second.lost, fourth.lost), (3, 2))
         self.assertEqual((third.kind, third.has_map), ("nothing", False))
-        self.assertEqual(found.setters["B"].sent, 1004)
+        self.assertEqual((found.setters["B"].sent, found.setters["B"].author), (1004, "ann"))
+        # what is handed back is measured again, whoever hands it back
+        log.reason = "handed back: it is mended"
+        log.batches.append("capacity B 10\n")
+        until(lambda: found.served.entry == 5)
+        self.assertEqual(found.setters["B"].author, "glb-watch")
+        self.assertEqual(found.steps.listed()[0].author, "ann")
         # etcd is away: what was seen stays
         log.is_away = True
         until(lambda: not found.is_up)
         self.assertIn("nobody answers", found.fault)
-        self.assertEqual(found.served.entry, 4)
+        self.assertEqual(found.served.entry, 5)
         log.is_away = False
         until(lambda: found.is_up)
 
@@ -365,9 +374,11 @@ class Sources(Case):
             until(lambda: said.serial == 9)
 
     def test_drains(self):
-        self.file("log.drains", "no json\n")
+        kept = Drain("A", 9, 1, 5, "ann", "", False, 60, 10, "r", 9, 8).octets()
+        self.file("log.drains", f"no json\n{kept}\n")
         found = FileSource(1, str(self.folder / "log"), Local("s"), None, lambda: None).look()
         self.assertIn("cannot be read", found.advice[0][1])
+        self.assertEqual([each.node for each in found.drains], ["A"])
         self.assertEqual(found.servers[0].state, "not looked at")
 
 

@@ -18,7 +18,7 @@ import page_world
 from page_world import REPLY, program, served_of
 from test_page_views import FOREST, FOREST_MAP
 
-from glb_tools.drain import Drain
+from glb_tools.drains import Drain
 from glb_tools.options import Fault
 from glb_tools.page import command, guard, server
 from glb_tools.page.dry_run import DryRuns

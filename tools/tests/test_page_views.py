@@ -8,7 +8,7 @@ from unittest import mock
 import page_world
 from page_world import REPLY, served_of
 
-from glb_tools.drain import Drain
+from glb_tools.drains import Drain
 from glb_tools.options import Fault
 from glb_tools.page import dns, dry_run
 from glb_tools.page.dry_run import Crowded, DryRuns

@@ -1,6 +1,9 @@
 """glb-watch: rules and their refusals, what looks come to, logs with several writers, and a faked Prometheus."""
 
+import contextlib
+import dataclasses
 import importlib.util
+import io
 import json
 import re
 import subprocess
@@ -12,22 +15,29 @@ import unittest
 from contextlib import contextmanager
 from http.server import BaseHTTPRequestHandler, ThreadingHTTPServer
 from pathlib import Path
+from unittest import mock
 from urllib.parse import parse_qs
 
 from fleet_world import Client, Outside, Table
 from samples import EXAMPLES, SMALL, TOOLS, TOP, Case
 
+from glb_tools import watch, watch_logs
+from glb_tools.drains import Drain
+from glb_tools.etcd import put
+from glb_tools.file_log import locked
 from glb_tools.log import Log, Names, Signed, checksum_of
 from glb_tools.options import Fault
 from glb_tools.text import Replay
 from glb_tools.topology import Topology
 from glb_tools.watch_engine import Answer, Engine, Verdict, answer_of, batch_of
-from glb_tools.watch_logs import AUTHOR, FileLog, FleetLog, Waits
+from glb_tools.precedence import AUTHOR
+from glb_tools.watch_logs import FileLog, FleetLog, Waits
 from glb_tools.watch_rules import Rule, names_of, settings_of
 
 HEAD = 'prometheus = "http://127.0.0.1:1"\n'
 DEMANDS = '[[demand]]\nquery = "d"\nlabel = "group"\nnames = ["*"]\n'
 POOLS = '[[capacity]]\nquery = "c"\nlabel = "pool"\nnames = ["A", "B"]\n'
+NO_BRAKE = "tree = 100\ndemand_sum = 1e6\ndemand_name = 1e6"
 GROUP = '[[group]]\nname = "{}"\ndemand = 100\npools = ["{}"]\nscores = [1]\nprefixes = []\n'
 ZONE = '[zone]\napex = "cdn.example"\nservices = ["www"]\n'
 
@@ -55,7 +65,7 @@ def rules(*words, calm="", brake="", **more):
     """Settings for all pools, or for all groups, with these keys of their rule."""
     keys = "".join(f"{key} = {json.dumps(value)}\n" for key, value in more.items())
     return settings(
-        f"[calm]\n{calm or 'hold = 0'}\n[brake]\n{brake or 'tree = 100'}\n"
+        f"[calm]\n{calm or 'hold = 0'}\n[brake]\n{brake or NO_BRAKE}\n"
         + f'[[{words[0]}]]\nquery = "q"\nlabel = "l"\nnames = ["{words[1]}"]\n{keys}'
     )
 
@@ -68,14 +78,14 @@ class Looks:
         self.engine = Engine(made, topology)
         self.served = {("demand", unit.name): unit.demand for unit in topology.units}
         self.served |= {("capacity", each.name): each.capacity for each in topology.nodes}
-        self.by_hand = {}
+        self.by_hand, self.drains = {}, {}
 
     def look(self, values=None, wrong=None, fault="", seconds=10, takes=True):
         """The changes, by name; `found` has all."""
         self.now += seconds
         answer = Answer(dict(values or {}), dict(wrong or {}), fault)
         answers = {rule.place: answer for rule in self.settings.rules}
-        self.found = self.engine.look(self.served, self.by_hand, answers, self.now)
+        self.found = self.engine.look(self.served, self.by_hand, self.drains, answers, self.now)
         if takes:
             self.engine.took(self.found.batch, self.now)
             self.served |= {(each.word, each.name): each.new for each in self.found.batch}
@@ -128,6 +138,17 @@ class Settings(Case):
             with self.subTest(text):
                 self.refuses(words, text)
         self.refuses("neither http:// nor", DEMANDS, 'prometheus = "ftp://x"\n')
+
+    def test_how_long_one_leads(self):
+        for text, due in (
+            ("", 30),
+            ("every = 2\n", 15),
+            ("every = 0.3\nlead = 2\n", 2),
+            ("lead = 60\n", 60),
+        ):
+            self.assertEqual(settings(DEMANDS, HEAD + text).lead, due, text)
+        for text in ("lead = 1\nevery = 0.1\n", "lead = 19\n", "lead = 2.5\nevery = 1\n"):
+            self.refuses("`lead` of watch.toml is", text + DEMANDS)
 
     def test_the_example(self):
         made = settings_of((EXAMPLES / "watch.toml").read_bytes(), "watch.toml")
@@ -425,6 +446,346 @@ class Capacities(unittest.TestCase):
         self.assertEqual(found, {"r0p0": 0})
 
 
+class Jumps(unittest.TestCase):
+    """Demands that jump from look to look: the sum of a rule, or one name."""
+
+    def looks(
+        self, groups=4, brake="demand_sum = 100\ndemand_name = 300\ndemand_after = 30", **more
+    ):
+        more = {"smoothing": 1, "dead_band": 0, **more}
+        looks = Looks(rules("demand", "g*", brake=brake, **more), trees(1, groups=groups))
+        self.usual = {f"g{number}": 100 for number in range(groups)}
+        return looks
+
+    def test_the_sum_of_a_rule(self):
+        # 400 units: up to twice and down to a half is none
+        for value, due in ((200, True), (201, False), (50, True), (49, False), (0, False)):
+            with self.subTest(value):
+                looks = self.looks()
+                looks.look(self.usual)
+                found = looks.look({name: value for name in self.usual})
+                self.assertEqual(bool(found), due)
+                self.assertEqual(len(looks.found.jumps), 0 if due else 1)
+                self.assertEqual(
+                    {looks.served["demand", name] for name in self.usual}, {value if due else 100}
+                )
+
+    def test_what_is_said(self):
+        looks = self.looks()
+        looks.look(self.usual)
+        for factor in (3, 4):
+            looks.look({name: 100 * factor for name in self.usual})
+            # the words of the first look, so that they are said once
+            words = "demand rule 1: the sum of its demands jumped from 400 to 1,200"
+            self.assertEqual((looks.found.jumps, looks.why("g2")), ([words], words))
+
+    def test_a_name(self):
+        # up to four times, and down to a quarter, is none; the others go on
+        for value, due in ((400, True), (401, False), (25, True), (24, False)):
+            with self.subTest(value):
+                looks = self.looks(groups=8)
+                looks.look(self.usual)
+                found = looks.look({**self.usual, "g3": value, "g1": 110})
+                self.assertEqual(found, {"g1": 110, **({"g3": value} if due else {})})
+                if not due:
+                    words = f"demand rule 1: g3 jumped from 100 to {value}"
+                    self.assertEqual((looks.found.jumps, looks.why("g3")), ([words], words))
+
+    def test_not_all_names_are_said(self):
+        looks = self.looks(groups=100)
+        looks.look(self.usual)
+        looks.look({**self.usual, **{f"g{at}": 1000 for at in range(7)}})
+        self.assertEqual(len(looks.found.jumps), 7)
+        self.assertEqual(looks.found.jumps[-1], "demand rule 1: more than 6 names jumped")
+
+    def test_a_small_name_is_no_matter(self):
+        # by one percent of 3,902 units, 39 are no matter, and 40 are
+        for value, due in ((41, {"g1": 41}), (42, {})):
+            looks = self.looks(groups=40)
+            looks.served["demand", "g1"] = 2
+            usual = {**self.usual, "g1": 2}
+            self.assertEqual(looks.look(usual), {})
+            self.assertEqual(looks.look({**usual, "g1": value}), due)
+
+    def test_back_again_it_is_over_and_counts_anew(self):
+        looks = self.looks()
+        looks.look(self.usual)
+        high = {name: 300 for name in self.usual}
+        self.assertEqual([looks.look(high), looks.look(high), looks.look(self.usual)], [{}] * 3)
+        self.assertEqual(looks.found.jumps, [])
+        # thirty seconds anew: three looks wait, the fourth is believed
+        self.assertEqual([bool(looks.look(high)) for _ in range(4)], [False, False, False, True])
+        self.assertEqual(looks.served["demand", "g1"], 300)
+        self.assertEqual(looks.look(high), {})
+
+    def test_time_without_an_answer_passes(self):
+        looks = self.looks()
+        looks.look(self.usual)
+        high = {name: 300 for name in self.usual}
+        self.assertEqual([looks.look(high), looks.look(fault="gone")], [{}, {}])
+        self.assertEqual([bool(looks.look(high)) for _ in range(2)], [False, True])
+
+    def test_a_start_compares_with_what_is_served(self):
+        looks = self.looks()
+        self.assertEqual(looks.look({name: 201 for name in self.usual}), {})
+        self.assertEqual(len(looks.found.jumps), 1)
+
+    def test_names_that_are_missing_or_by_hand_do_not_count(self):
+        looks = self.looks()
+        looks.look(self.usual)
+        looks.by_hand["demand", "g0"] = "ops"
+        looks.served["demand", "g0"] = 10**6
+        self.assertEqual(looks.look({"g0": 1, "g1": 190}), {"g1": 190})
+        self.assertEqual(looks.found.jumps, [])
+
+    def test_capacities_are_no_matter_of_it(self):
+        made = rules("capacity", "r0p0", brake="demand_sum = 1\ndemand_name = 1", up_step=100)
+        looks = Looks(made, trees(1))
+        self.assertEqual(looks.look({"r0p0": 900}), {"r0p0": 900})
+
+    def test_it_goes_on_behind_another_topology(self):
+        looks = self.looks()
+        looks.look(self.usual)
+        high = {name: 300 for name in self.usual}
+        looks.look(high)
+        looks.engine = Engine(looks.settings, trees(2, groups=4), looks.engine)
+        self.assertEqual([bool(looks.look(high)) for _ in range(3)], [False, False, True])
+
+    def test_how_old_inputs_are(self):
+        looks = self.looks()
+        looks.look(self.usual)
+        self.assertEqual(looks.found.oldest, 0)
+        looks.look({**self.usual, "g2": 100}, wrong={"g1": "NaN"})
+        looks.look({name: 100 for name in ("g0", "g1", "g3")})
+        looks.look({name: 100 for name in ("g0", "g1", "g3")})
+        self.assertEqual(looks.found.oldest, 20)
+        looks.look(fault="gone")
+        self.assertEqual(looks.found.oldest, 30)
+
+
+class Drained(unittest.TestCase):
+    """Nodes that glb-drain holds: its record, and who set the number that is served."""
+
+    def looks(self, was, to, *sizes, served=None, **more):
+        usual = {
+            "down_after": 2,
+            "up_after": 3,
+            "up_step": 50,
+            "brake": "tree = 100\nall = 100",
+            **more,
+        }
+        looks = Looks(rules("capacity", "r*", **usual), trees(*(sizes or (1,))))
+        looks.drains["r0p0"] = self.drain("r0p0", was, to)
+        looks.served["capacity", "r0p0"] = to if served is None else served
+        self.values = {name: 10**6 if "p" not in name else 100 for _, name in looks.engine.rules}
+        return looks
+
+    def drain(self, node, was, to):
+        return Drain(node, 100, 10, 0, "ops", "works", False, 60, 10, "x", was, to)
+
+    def test_it_is_not_raised(self):
+        for was, to, served in ((40, 40, 40), (60, 40, 60), (60, 40, 40), (0, 0, 0)):
+            looks = self.looks(was, to, served=served)
+            self.assertEqual([looks.look(self.values) for _ in range(6)], [{}] * 6)
+            self.assertEqual(looks.why("r0p0"), "drained by ops, from 100")
+
+    def test_nor_lowered_by_a_number(self):
+        looks = self.looks(40, 40)
+        self.assertEqual([looks.look(self.values | {"r0p0": 10}) for _ in range(3)], [{}] * 3)
+
+    def test_down_it_is_0_and_comes_back_to_the_drains_number_by_steps(self):
+        looks = self.looks(40, 40)
+        down = self.values | {"r0p0": 0}
+        self.assertEqual([looks.look(down) for _ in range(3)], [{}, {"r0p0": 0}, {}])
+        up = [looks.look(self.values) for _ in range(6)]
+        self.assertEqual(up, [{}, {}, {"r0p0": 20}, {"r0p0": 40}, {}, {}])
+
+    def test_the_drain_goes_on_while_it_is_down(self):
+        looks = self.looks(40, 40)
+        down = self.values | {"r0p0": 0}
+        looks.look(down), looks.look(down)
+        looks.drains["r0p0"] = self.drain("r0p0", 0, 0)
+        self.assertEqual([looks.look(self.values) for _ in range(6)], [{}] * 6)
+        # ended, and handed back, it is measured again
+        del looks.drains["r0p0"]
+        looks.served["capacity", "r0p0"] = 80
+        self.assertEqual(looks.look(self.values), {"r0p0": 100})
+
+    def test_begun_anew_while_it_is_down(self):
+        """A start finds 0, and a drain whose number is another."""
+        looks = self.looks(40, 40, served=0)
+        up = [looks.look(self.values) for _ in range(5)]
+        self.assertEqual(up, [{}, {}, {"r0p0": 20}, {"r0p0": 40}, {}])
+
+    def test_missing(self):
+        for missing, due in (("keep", {}), (70, {}), ("down", {"r0p0": 0})):
+            looks = self.looks(40, 40, missing=missing, missing_after=20)
+            rest = {name: value for name, value in self.values.items() if name != "r0p0"}
+            found = [looks.look(rest) for _ in range(3)]
+            self.assertEqual(found[2], due, missing)
+
+    def test_by_hand_is_above_it(self):
+        looks = self.looks(40, 40, served=33)
+        looks.by_hand["capacity", "r0p0"] = "ops"
+        down = self.values | {"r0p0": 0}
+        self.assertEqual([looks.look(down) for _ in range(3)], [{}] * 3)
+        # handed back amid the drain, the drain's number stands
+        looks.by_hand.clear()
+        self.assertEqual(looks.look(self.values), {"r0p0": 40})
+        looks.served["capacity", "r0p0"] = 60
+        self.assertEqual(looks.look(self.values), {"r0p0": 40})
+
+    def test_what_is_out_of_service_does_not_count_for_the_brake(self):
+        # a region that is drained, whose machines are switched off: its pools look down
+        for to, due in ((0, {"r1p0": 0}), (10, {})):
+            looks = self.looks(to, to, 4, 6, brake="tree = 100\nall = 25")
+            looks.drains = {"r0": self.drain("r0", to, to)}
+            looks.served["capacity", "r0p0"] = 100
+            looks.served["capacity", "r0"] = to
+            down = self.values | {f"r0p{number}": 0 for number in range(4)} | {"r1p0": 0}
+            looks.look(down)
+            found = looks.look(down)
+            self.assertEqual(found.get("r1p0"), due.get("r1p0"), to)
+            self.assertEqual(bool(looks.found.brakes), not due)
+
+    def test_by_hand_at_0_does_not_count_for_the_brake(self):
+        looks = self.looks(0, 0, 4, 6, brake="tree = 100\nall = 25")
+        looks.drains, looks.served["capacity", "r0p0"] = {}, 100
+        looks.by_hand["capacity", "r0"] = "ops"
+        looks.served["capacity", "r0"] = 0
+        down = self.values | {f"r0p{number}": 0 for number in range(4)} | {"r1p0": 0}
+        looks.look(down)
+        self.assertEqual(looks.look(down)["r1p0"], 0)
+
+    def test_drained_and_found_down_counts_for_the_brake(self):
+        for to, due in ((40, {}), (0, {"r0p2": 0})):
+            looks = self.looks(to, to, 4, served=0, brake="tree = 60\nall = 100")
+            looks.drains["r0p1"] = self.drain("r0p1", to, to)
+            looks.served["capacity", "r0p1"] = 0
+            down = self.values | {"r0p0": 0, "r0p1": 0, "r0p2": 0}
+            looks.look(down)
+            self.assertEqual(looks.look(down), due, to)
+
+    def test_the_brake_holds_a_drained_one_too(self):
+        looks = self.looks(60, 60, 4, brake="tree = 40\nall = 100")
+        self.values["r0"] = 10**6
+        looks.look(self.values)
+        down = self.values | {f"r0p{number}": 0 for number in range(4)}
+        self.assertEqual([looks.look(down) for _ in range(3)], [{}] * 3)
+
+
+class OtherTopologies(Case):
+    """A topology comes that has other names, while it runs: rules are checked by it again."""
+
+    def served(self, text):
+        numbers = Topology(text.encode())
+        found = types.SimpleNamespace(topology=numbers, by_hand={}, drains={}, faults=[])
+        found.numbers = {("demand", unit.name): unit.demand for unit in numbers.units}
+        found.numbers |= {("capacity", each.name): each.capacity for each in numbers.nodes}
+        return found
+
+    def watch(self, text):
+        self.values = {"A": 5.0, "B": 5.0, "C": 5.0, "g1": 9.0}
+        answers = lambda rules: {place: Answer(dict(self.values)) for place in rules}  # noqa: E731
+        log = types.SimpleNamespace(read=lambda: self.now)
+        return watch.Watch(settings(text), log, answers)
+
+    def test_names_that_went_hold_up_no_others(self):
+        self.now = self.served(SMALL)
+        found = self.watch(POOLS)
+        found.begin(True)
+        self.assertEqual({each.name for each in found.look().batch}, {"A", "B"})
+        self.now = self.served(SMALL.replace('"B"', '"C"'))
+        look = found.look()
+        self.assertEqual([each.name for each in look.batch], ["A"])
+        self.assertEqual(look.faults, ["capacity rule 1: the topology has no name `B`"])
+        # and where it begins so, it is refused
+        with self.assertRaisesRegex(Fault, "has no name `B`"):
+            found.begin(True)
+
+    def test_a_name_that_two_rules_speak_of_now_has_none(self):
+        self.now = self.served(SMALL.replace("C", "D"))
+        two = POOLS.replace('"A", "B"', '"A*"') + POOLS.replace('"A", "B"', '"*B"')
+        found = self.watch(two)
+        found.begin(True)
+        self.now = self.served(SMALL.replace('"B"', '"AB"'))
+        look = found.look()
+        self.assertEqual([each.name for each in look.batch], ["A"])
+        words = ["capacity rule 1 and capacity rule 2 both speak of capacity AB"]
+        self.assertEqual(look.faults, words)
+
+    def test_clocks_that_jump(self):
+        """A look asks no other clock than the one that never jumps."""
+        self.now = self.served(SMALL)
+        found = self.watch(POOLS)
+        with mock.patch.object(watch, "time", types.SimpleNamespace(monotonic=lambda: 7.0)):
+            found.look()
+        self.assertEqual({state.heard for state in found.engine.states.values()}, {7.0})
+
+    def test_one_batch_an_interval(self):
+        """Looks that took too long are not made up for."""
+        self.now = self.served(SMALL)
+        found = self.watch(POOLS)
+        clock, begun, appended, took = [100.0], [], [], iter([0, 4, 25, 1, 0, 0])
+
+        def ask(rules):
+            begun.append(clock[0])
+            clock[0] += next(took)
+            return {place: Answer({"A": 5.0 + len(begun) % 2, "B": 9.0}) for place in rules}
+
+        def sleep(seconds):
+            clock[0] += seconds
+            if len(begun) == 6:
+                raise KeyboardInterrupt
+
+        found.ask, found.begin = ask, lambda is_dry: None
+        found.log.append = lambda lines, why: appended.append(clock[0]) or True
+        now = types.SimpleNamespace(monotonic=lambda: clock[0], sleep=sleep)
+        with (
+            mock.patch.object(watch, "time", now),
+            contextlib.redirect_stdout(io.StringIO()),
+            self.assertRaises(KeyboardInterrupt),
+        ):
+            watch.run(found, found.settings, None)
+        self.assertEqual(begun, [100, 110, 120, 145, 155, 165])
+        self.assertEqual(len(appended), 6)
+
+    def test_one_that_leads_again_begins_from_what_is_served(self):
+        self.now = self.served(SMALL)
+        found = self.watch(POOLS)
+        reads = iter([None, None, Waits("another leads"), None, None])
+
+        def read():
+            fault = next(reads)
+            if fault:
+                raise fault
+            return self.now
+
+        found.log.read = read
+        found.log.append = lambda lines, why: False
+        found.ask = lambda rules: {place: Answer({"A": 0.0, "B": 9.0}) for place in rules}
+        engines, metrics = [], mock.Mock()
+        found.begin = lambda is_dry: None
+
+        def sleep(seconds):
+            engines.append(found.engine)
+            if len(engines) == 3:
+                raise KeyboardInterrupt
+
+        with (
+            mock.patch.object(
+                watch, "time", types.SimpleNamespace(monotonic=lambda: 7.0, sleep=sleep)
+            ),
+            contextlib.redirect_stderr(io.StringIO()),
+            contextlib.redirect_stdout(io.StringIO()),
+            self.assertRaises(KeyboardInterrupt),
+        ):
+            watch.run(found, found.settings, metrics)
+        self.assertIsNone(engines[1])
+        self.assertEqual(engines[2].states["capacity", "A"].bad, 1)
+        self.assertEqual((metrics.waits.call_count, metrics.failed.call_count), (1, 0))
+
+
 class Batches(unittest.TestCase):
     def test_the_largest(self):
         topology = trees(3, groups=5000)
@@ -577,6 +938,63 @@ class Files(Case):
         self.file("log", "")
         self.assertEqual(log.read().numbers["capacity", "A"], 10)
 
+    def drained(self, *records):
+        """What glb-drain keeps beside the file."""
+        Path(f"{self.log}.drains").write_text("".join(f"{each}\n" for each in records))
+
+    def record(self, was, to, node="A"):
+        return Drain(node, 10, 5, 0, "ops", "works", False, 60, 10, "x", was, to).octets()
+
+    def test_a_drains_own_steps_are_not_by_hand(self):
+        log = self.opened()
+        self.by_hand("capacity A 6\ncapacity B 3\ncommit\n")
+        for was, to, due in (
+            (10, 6, True),
+            (6, 6, True),
+            (6, 4, True),
+            (10, 4, False),
+            (4, 4, False),
+        ):
+            self.drained(self.record(was, to))
+            served = log.read()
+            by_hand = {("capacity", "B"): "hand"} | ({} if due else {("capacity", "A"): "hand"})
+            self.assertEqual(served.by_hand, by_hand, (was, to))
+            self.assertEqual(served.drains["A"].to, to)
+        # it ends: by hand, where its last step handed nothing back
+        Path(f"{self.log}.drains").unlink()
+        self.assertEqual(len(log.read().by_hand), 2)
+        self.by_hand("capacity  A 10\ncommit\n")
+        self.assertEqual(log.read().by_hand, {("capacity", "B"): "hand"})
+
+    def test_a_record_that_cannot_be_read(self):
+        log = self.opened()
+        self.by_hand("capacity A 6\ncommit\n")
+        self.drained("{", self.record(6, 6), '{"node": 1}', "\0")
+        served = log.read()
+        self.assertEqual((served.by_hand, list(served.drains), len(served.faults)), ({}, ["A"], 3))
+        self.assertRegex(served.faults[0], "log.drains cannot be read")
+
+    def test_the_lock_of_writers(self):
+        log = self.opened()
+        log.read()
+        with locked(self.log, 1), mock.patch.object(watch_logs, "LOCKED", 0.1):
+            with self.assertRaisesRegex(Fault, "somebody else has the lock"):
+                log.append(["capacity A 1"], "")
+        self.assertEqual(Path(self.log).read_text(), "")
+        self.assertTrue(log.append(["capacity A 1"], ""))
+
+    def test_a_batch_that_is_being_written_is_not_torn(self):
+        """Whoever writes has the lock; a part of its batch is closed only where nobody has."""
+        log = self.opened()
+        log.read()
+        with locked(self.log, 1), mock.patch.object(watch_logs, "LOCKED", 0.1):
+            self.by_hand("capacity  A 7\n")
+            with self.assertRaisesRegex(Fault, "somebody else has the lock"):
+                log.read()
+            self.by_hand("commit\n")
+        self.assertEqual(log.read().numbers["capacity", "A"], 7)
+        self.assertNotIn("torn", Path(self.log).read_text())
+
     def test_a_full_disk(self):
         log = FileLog("/dev/full", self.topology, is_alone=True, is_read_only=False)
         self.addCleanup(lambda: log.file.close())
@@ -686,6 +1104,93 @@ class Fleets(Case):
         why = "handed back: the drain is over"
         self.log.append("b", Signed("glb-drain", why), "capacity A 10\n", lambda names: None)
         self.assertEqual(log.read().by_hand, {})
+
+    def test_a_log_that_was_restored(self):
+        """Its numbers are given a second time, to other entries."""
+        log = FleetLog(self.log, 15)
+        log.read()
+        before = self.world.table.copy()
+        self.by("ops", "capacity A 3\n")
+        self.assertEqual(log.read().numbers["capacity", "A"], 3)
+        self.world.table = before
+        self.by("others", "capacity B 4\n")
+        served = log.read()
+        numbers = [served.numbers["capacity", name] for name in "AB"]
+        self.assertEqual(numbers, [10, 4])
+        self.assertEqual(served.by_hand, {("capacity", "B"): "others"})
+        kept = json.loads(self.log.etcd.get("glb/hand").octets)
+        self.assertEqual(kept, [["capacity", "B", "others"]])
+
+    def test_by_hand_outlives_a_cut(self):
+        self.by("ops", "capacity A 3\n")
+        self.by("ops", "capacity B 4\ndemand g1 7\n")
+        first = FleetLog(self.log, 15)
+        first.read()
+        self.assertTrue(first.append(["demand g1 7"], "handed back"))
+        first.read()
+        first.end()
+        self.base(SMALL, 4)
+        self.log.cut(self.log.look(), self.log.newest_base())
+        self.assertEqual(self.log.look().first, 4)
+        due = {("capacity", "A"): "ops", ("capacity", "B"): "ops"}
+        for lead in (0, 15):
+            log = FleetLog(self.log, lead)
+            self.assertEqual(log.read().by_hand, due)
+            log.end()
+        # handed back behind the cut, and kept so
+        log = FleetLog(self.log, 15)
+        log.read()
+        self.assertTrue(log.append(["capacity A 3"], "handed back"))
+        log.read()
+        log.end()
+        self.assertEqual(FleetLog(self.log).read().by_hand, {("capacity", "B"): "ops"})
+
+    def test_what_is_kept_of_hands_is_nonsense_or_of_names_that_went(self):
+        for text in ("{", "[1]", "[[1, 2]]", '[["capacity", "Z", "ops"]]', "\0"):
+            self.world.table.txn([put("glb/hand", text)], [])
+            self.assertEqual(FleetLog(self.log).read().by_hand, {}, text)
+
+    def test_one_that_leads_no_more_keeps_nothing(self):
+        first = FleetLog(self.log, 15)
+        first.read()
+        first.leads_since += 1
+        self.by("ops", "capacity A 3\n")
+        first.read()
+        self.assertEqual(json.loads(self.log.etcd.get("glb/hand").octets), [])
+
+    def test_drains_beside_the_log(self):
+        log = FleetLog(self.log)
+        self.by("ops", "capacity A 3\n")
+        drain = Drain("A", 10, 5, 0, "ops", "works", False, 60, 10, "x", 3, 3)
+        self.world.table.txn([put("glb/drain/A", drain.octets()), put("glb/drain/B", "{")], [])
+        served = log.read()
+        self.assertEqual((served.by_hand, served.drains), ({}, {"A": drain}))
+        self.assertEqual(len(served.faults), 1)
+        self.by("ops", "capacity A 4\n")
+        self.assertEqual(log.read().by_hand, {("capacity", "A"): "ops"})
+        self.assertTrue(log.append(["capacity A 4"], "handed back"))
+        self.assertEqual(log.read().by_hand, {})
+
+    def test_a_step_that_comes_while_drains_are_read(self):
+        """The log and the drains are those of one moment."""
+        log, steps = FleetLog(Log(self.log.etcd, "glb")), iter((7, 5, 3))
+        log.read()
+        look = log.log.look
+
+        def looks():
+            to = next(steps, None)
+            if to is not None:
+                # behind the drains were read, and ahead of the log
+                drain = Drain("A", 10, 5, 0, "ops", "works", False, 60, 10, "x", to, to)
+                self.world.table.txn([put("glb/drain/A", drain.octets())], [])
+                self.by("ops", f"capacity A {to}\n")
+            return look()
+
+        with mock.patch.object(log.log, "look", looks):
+            served = log.read()
+        self.assertEqual(
+            (served.numbers["capacity", "A"], served.drains["A"].to, served.by_hand), (3, 3, {})
+        )
 
     def test_a_name_that_the_newest_base_lacks(self):
         log = FleetLog(self.log)
@@ -813,6 +1318,32 @@ class Command(Case):
         found = self.table(self.main, path, "--once", "--dry-run")
         self.assertEqual((found["batch"], len(found["faults"])), ([], 2))
 
+    def test_a_peer_that_drips_is_left_soon(self):
+        from glb_tools.watch_prometheus import Prometheus
+
+        over = threading.Event()
+
+        def drips(handler):
+            handler.wfile.write(b"HTTP/1.0 200 OK\r\n\r\n")
+            # one octet now and then, for longer than anybody waits
+            for _ in range(200):
+                try:
+                    handler.wfile.write(b" " * 600)
+                except OSError:
+                    break
+                if over.wait(0.05):
+                    break
+
+        with faked(d=drips) as server:
+            asked = Prometheus(f"http://127.0.0.1:{server.server_port}", 0.3)
+            (rule,) = settings(DEMANDS).rules
+            rule = dataclasses.replace(rule, query="d")
+            found = asked.ask({rule.place: (rule, {"g1"})})
+            self.assertTrue(found[rule.place].fault)
+            asked.open[rule.place].join(2)
+            self.assertFalse(asked.open[rule.place].is_alive())
+            over.set()
+
     def test_refused_at_the_start(self):
         with faked() as server:
             said = self.refused(self.main, self.settings(server, rules=DEMANDS + DEMANDS), "--once")
@@ -893,7 +1424,7 @@ class OwnMetrics(unittest.TestCase):
         made = Metrics("127.0.0.1:0")
         looks = Looks(rules("demand", "g0", smoothing=1), trees(1))
         looks.look({"g0": 200})
-        served = types.SimpleNamespace(by_hand={("capacity", "r0p0"): "ops"})
+        served = types.SimpleNamespace(by_hand={("capacity", "r0p0"): "ops"}, drains={})
         made.take(looks.found, served, True)
         made.failed()
         text = generate_latest(made.registry).decode()

@@ -11,6 +11,7 @@ from typing import BinaryIO
 
 import numpy as np
 
+from glb_tools.file_log import author_of_line
 from glb_tools.log import BASE, Base, Log, Look, checksum_of
 from glb_tools.loads import (
     COMMIT,
@@ -27,12 +28,13 @@ from glb_tools.page.maps import Placed, Refusals, Sums, placed_in, refusals_in, 
 from glb_tools.page.steps import BASE as BASE_STEP
 from glb_tools.page.steps import BATCH, MOST_LINES, MOST_STEPS, NOTHING, START, Step, Steps
 from glb_tools.page.tables import Numbers, Tables, read_tables
+from glb_tools.precedence import AUTHOR, author_of
 from glb_tools.text import Replay
 
 # how long a question to the mirror may wait for a batch that it works, and for its answer, in seconds
 BUSY, SILENT = 0.7, 5.0
-# how a line of glb-watch in a file is known, and who else wrote one
-OWN, WATCH, HAND = ("capacity  ", "demand  "), "glb-watch", "by hand"
+# who wrote a line of a file that glb-watch did not write
+HAND = "by hand"
 
 
 class Busy(Fault):
@@ -198,7 +200,8 @@ class Mirror(Worker):
             words = line.split()
             if words[:1] == ["capacity"] and len(words) == 3:
                 author, why, sent = signed(taken, line)
-                self.setters[words[1]] = Setter(author, why, taken.number, sent)
+                holder = author_of(author, why)
+                self.setters[words[1]] = Setter(holder, why, taken.number, sent)
 
     def sum_up(self, shadow: Shadow, entry: int) -> None:
         """Publishes the newest map to the page."""
@@ -240,7 +243,8 @@ def signed(taken: Taken, line: str) -> tuple[str, str, int]:
     """Who changed a line, why and when, as far as the log says it."""
     if taken.entry is not None:
         return taken.entry.author, taken.entry.why, taken.entry.time
-    return (WATCH if line.startswith(OWN) else HAND), "", 0
+    author = author_of_line(line.encode("latin-1", "replace"))
+    return (HAND if author != AUTHOR else author), "", 0
 
 
 def step_of(taken: Taken) -> Step:

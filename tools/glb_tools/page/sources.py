@@ -5,17 +5,17 @@ import re
 import select
 import threading
 import time
-from collections.abc import Callable
+from collections.abc import Callable, Iterable
 from dataclasses import dataclass, field
 from pathlib import Path
 from typing import Any
 
-from glb_tools import drain
-from glb_tools.drain import Drain
+from glb_tools import drains
+from glb_tools.drains import Drain
 from glb_tools.etcd import Etcd
 from glb_tools.fleet import Report, look_at_members, number_in, report
 from glb_tools.log import Log, maps_of, spot_of
-from glb_tools.options import Fault, tell
+from glb_tools.options import tell
 from glb_tools.page.counters import Sockets, sockets_at
 from glb_tools.server import PUBLISHED, SHOWN
 
@@ -117,6 +117,13 @@ def server_of(told: dict[str, Any], outvoted: set[str]) -> Server:
     return found
 
 
+def add_drains(sight: Sight, texts: Iterable[tuple[str, bytes]]) -> None:
+    """The drains that are on; one that cannot be read is told, and hides no other."""
+    found, faults = drains.readable(texts)
+    sight.drains = list(found.values())
+    sight.advice += [("note", why) for why in faults]
+
+
 def outvoted_in(found: Report) -> set[str]:
     """The servers whose map is not that of the most at an entry; all where there is no most."""
     outvoted: set[str] = set()
@@ -156,7 +163,7 @@ class FleetSource(Source):
         order = (2, 5, 6, 4, 3, 7, 1)
         advice.sort(key=lambda each: order.index(each[0]) if each[0] in order else len(order))
         sight.advice = [(WORDS.get(status, "note"), words) for status, words in advice]
-        sight.drains = list(drain.Fleet("", self.log).drains().values())
+        add_drains(sight, drains.in_etcd(self.log))
         return sight
 
 
@@ -282,10 +289,7 @@ class FileSource(Source):
         sight.servers = [server]
         if server.is_bad:
             sight.advice.append(("silent", f"{server.name}: {server.words}"))
-        try:
-            sight.drains = list(drain.File("", "", str(self.path)).drains().values())
-        except Fault as why:
-            sight.advice.append(("note", str(why)))
+        add_drains(sight, drains.in_file(self.path))
         return sight
 
     def add_said(self, server: Server, said: Said) -> None:

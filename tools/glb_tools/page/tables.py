@@ -134,9 +134,13 @@ class Tables:
         return pool if parent < 0 else parent
 
     def last_resort(self) -> list[int]:
-        """As Topology has them: pools that are roots, with the largest capacity that there is."""
-        found = self.is_pool & (self.parents < 0) & (self.capacities == MOST_CAPACITY)
-        return [int(node) for node in np.flatnonzero(found)]
+        """As Topology has them: the largest capacity there is, and above them no other one, but 0 where that is out."""
+        found = []
+        for node in np.flatnonzero(self.is_pool & (self.capacities == MOST_CAPACITY)):
+            above = self.capacities[self.path(int(node))[1:]]
+            if np.isin(above, (MOST_CAPACITY, 0)).all():
+                found.append(int(node))
+        return found
 
     # Units.
 

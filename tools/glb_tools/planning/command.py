@@ -27,6 +27,8 @@ from glb_tools.planning.prices import MOST_SECONDS, solved
 from glb_tools.planning.readers.geo import BY
 from glb_tools.planning.world import PER_MS
 from glb_tools.planning.writer import Writer
+from glb_tools.shared_addresses import remarks, warn
+from glb_tools.topology import Topology
 
 # the demand that is drawn to try a plan against is the same in each run
 SEED = 20151
@@ -122,6 +124,9 @@ def write(made: Made, glb: str | None, options: argparse.Namespace) -> int:
     writer = Writer(made.choices, made.world, made.prefixes)
     octets = writer.octets(made.lists, made.world.demand, made.limits)
     report = report_of(made)
+    topology = Topology(octets)
+    warn(topology)
+    report["warnings"] = remarks(topology)
     if glb is not None:
         try_map(made, glb, octets, report)
         if options.moved:

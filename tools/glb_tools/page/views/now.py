@@ -2,13 +2,15 @@
 
 import numpy as np
 
-from glb_tools.drain import STATES, Drain, state_of
+from glb_tools.drain import STATES, state_of
+from glb_tools.drains import Drain
 from glb_tools.drawing import Row, limit_of, lone_bar, lone_part, of_capacity, share
 from glb_tools.page.maps import NONE
 from glb_tools.page.mirror import Served, Setter
 from glb_tools.page.sources import Server, Sight
 from glb_tools.page.steps import Steps
 from glb_tools.page.tables import LIST, Numbers
+from glb_tools.precedence import AUTHOR
 from glb_tools.page.views.common import Shown, ago, moment, row_of, sheet_of
 
 # how many trees, nodes of each, nodes of one tree that is shown alone, groups, limits, nodes that are out, and full ones
@@ -265,7 +267,7 @@ def out_of(served: Served, setters: dict[str, Setter], drains: list[Drain]) -> S
                 "name": name,
                 "capacity": int(sums.capacities[node]),
                 "before": int(tables.capacities[node]),
-                "is_measured": by is not None and by.author == "glb-watch",
+                "is_measured": by is not None and by.author == AUTHOR,
                 "author": by.author if by else "",
                 "why": by.why if by else "the topology says so",
                 "number": by.number if by else None,
@@ -276,22 +278,25 @@ def out_of(served: Served, setters: dict[str, Setter], drains: list[Drain]) -> S
     return {"rows": rows[:OUT], "left": max(len(rows) - OUT, 0)}
 
 
-def drains_of(drains: list[Drain], served: Served | None, now: float) -> list[Shown]:
+def drains_of(
+    drains: list[Drain], served: Served | None, setters: dict[str, Setter], now: float
+) -> list[Shown]:
     found = []
     for drain in drains:
-        capacity = None
+        capacity, by = None, setters.get(drain.node)
         if served is not None and drain.node in served.tables.node_at:
             capacity = int(served.sums.capacities[served.tables.node_at[drain.node]])
         found.append(
             {
                 "node": drain.node,
-                "state": STATES[state_of(drain, capacity)],
+                "state": STATES[state_of(drain, capacity, by.author if by else "")],
                 "before": drain.before,
                 "capacity": capacity,
                 "author": drain.author,
                 "why": drain.why,
                 "since": ago(now - drain.since),
                 "last": ago(now - drain.at) if drain.at else "",
+                "until": moment(drain.until),
             }
         )
     return found
@@ -316,7 +321,7 @@ def now_shown(
         "sight": sight,
         "seen": ago(now - sight.time) if sight.time else "never",
         "is_old": bool(sight.time) and now - sight.time > OLD,
-        "drains": drains_of(sight.drains, served, now),
+        "drains": drains_of(sight.drains, served, setters, now),
         "served": served,
     }
     if served is None:
