@@ -156,10 +156,11 @@ class Fleet:
             subprocess.Popen(words, stdout=subprocess.DEVNULL, stderr=subprocess.DEVNULL)
         )
 
-    def tool(self, name, *words, **more):
-        more.setdefault("stdout", subprocess.DEVNULL)
+    def tool(self, name, *words):
         command = [sys.executable, "-B", str(TOP / "tools" / name), "--etcd", self.etcd, *words]
-        subprocess.run(command, check=True, timeout=120, stderr=subprocess.PIPE, **more)
+        ended = subprocess.run(command, timeout=120, capture_output=True)
+        if ended.returncode:
+            raise SystemExit(f"{name}: {ended.stderr.decode()}")
 
     def append(self, lines, why):
         path = self.folder / "lines"
