@@ -40,7 +40,7 @@ if [ ! -d "$base/root" ]; then
 fi
 cp -a "$base" "$box"
 mkdir -p "$box/root/repository/crates/glb_program/out"
-cp -a "$top"/{README.md,bench,docs,examples,tools} "$box/root/repository/"
+cp -a "$top"/*.md "$top"/{bench,docs,examples,tools} "$box/root/repository/"
 install -m 755 "$glb" "$box/root/repository/crates/glb_program/out/glb_program"
 systemd-nspawn -D "$box" --boot --register=no --keep-unit --private-network --console=pipe >"$work/console" 2>&1 </dev/null &
 echo $! >"$work/nspawn"

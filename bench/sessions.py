@@ -68,7 +68,7 @@ class Shell:
             subprocess.run(["rm", "-r", f"{folder}/work/crates"], check=True)
         else:
             os.symlink(GLB, f"{folder}/work/crates/glb_program/out/glb_program")
-            for name in ("bench", "docs", "examples", "tools", "README.md"):
+            for name in ("bench", "docs", "examples", "tools", *(path.name for path in TOP.glob("*.md"))):
                 os.symlink(TOP / name, f"{folder}/work/{name}")
         path = f"{folder}/bin:{TOP}/tools:/usr/bin:/bin:/usr/sbin:/sbin"
         environment = {"PATH": path, "HOME": folder, "LANG": "C.UTF-8"}

@@ -364,6 +364,7 @@ __all__ = [
     "compared",
     "is_worse",
     "main",
+    "say",
     "with_batch",
     "with_topology",
 ]

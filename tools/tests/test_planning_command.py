@@ -191,6 +191,28 @@ class Sayings(Command):
         )
         self.assertEqual(report["map"]["unplaced"], 1)
 
+    def test_what_would_move_from_what_is_served(self):
+        folder = self.folder()
+        self.made(folder)
+        folder.put("served.map", "glb map 2\nplace de fra 30\nend\n")
+        words = ["--served", str(folder.path / "t.toml"), str(folder.path / "served.map")]
+        status, out, _ = self.run_in(folder, *words, "--json")
+        found = json.loads(out)["change"]
+        # the stand-in places nobody, so the thirty units lose their place, of 115 that are asked for
+        self.assertEqual((status, found["lost"], found["moved"], found["gained"]), (0, 30, 0, 0))
+        self.assertEqual(found["unplaced"], {"before": 85, "after": 115})
+        self.assertEqual(found["sites"], [{"from": "eu", "to": None, "units": 30}])
+        status, out, _ = self.run_in(folder, *words)
+        self.assertEqual(status, 0)
+        self.assertIn("beside what is served:\n0 of 115 units would move", out)
+        status, out, said = self.run_in(folder, *words, "--no-map")
+        self.assertEqual((status, out), (64, ""))
+        self.assertIn("--no-map is not taken with it", said)
+        words[-1] = str(folder.path / "gone.map")
+        status, out, said = self.run_in(folder, *words)
+        self.assertEqual((status, out), (1, ""))
+        self.assertIn("gone.map", said)
+
     def test_explain(self):
         status, out, _ = self.run_in(self.folder(), "--explain", "nl", "--json", glb=None)
         found = json.loads(out)

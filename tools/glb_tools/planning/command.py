@@ -18,7 +18,8 @@ from typing import Any
 
 import numpy as np
 
-from glb_tools.options import Fault, Parser, Progress, parser, write_file
+from glb_tools import plan as dry_run
+from glb_tools.options import Fault, Parser, Progress, parser, read_file, write_file
 from glb_tools.planning import judge
 from glb_tools.planning.explain import explain
 from glb_tools.planning.imports import KINDS, import_files
@@ -32,6 +33,8 @@ from glb_tools.topology import Topology
 
 # the demand that is drawn to try a plan against is the same in each run
 SEED = 20151
+# how many pairs of sites, and of nodes, are shown of what would move
+PAIRS = 10
 
 
 def options_of() -> Parser:
@@ -44,6 +47,12 @@ def options_of() -> Parser:
     words.add_argument("--glb", metavar="PROGRAM", help="the program (GLB, or `glb` in the path)")
     words.add_argument(
         "--no-map", action="store_true", help="do not try the topology with `glb map`"
+    )
+    words.add_argument(
+        "--served",
+        nargs=2,
+        metavar=("TOPOLOGY", "MAP"),
+        help="also say what would move from what is served, as glb-plan does",
     )
     words.add_argument(
         "--by-round-trip",
@@ -112,6 +121,8 @@ def main() -> int | None:
         return import_files(options)
     if len(options.files) != 1:
         raise Fault("one file of choices is wanted")
+    if options.served and options.no_map:
+        raise Fault("--served tries the topology, so --no-map is not taken with it", 64)
     glb = None if options.no_map or options.explain else judge.program(options.glb)
     made = plan_of(Path(options.files[0]), options.seconds, options.by_round_trip)
     if options.explain:
@@ -129,6 +140,8 @@ def write(made: Made, glb: str | None, options: argparse.Namespace) -> int:
     report["warnings"] = remarks(topology)
     if glb is not None:
         try_map(made, glb, octets, report)
+        if options.served:
+            report["change"] = change(glb, options.served, octets)
         if options.moved:
             try_moved(made, glb, writer, options, report)
     if options.members is not None:
@@ -183,6 +196,13 @@ def try_map(made: Made, glb: str, octets: bytes, report: dict[str, Any]) -> None
     report["map"] = asdict(judge.judged(made.problem, flow, made.best.bound, seconds, made.last))
 
 
+def change(glb: str, served: list[str], octets: bytes) -> dict[str, Any]:
+    """What would move from a topology and its map, which are served, to another topology."""
+    before = dry_run.Served(*(read_file(name) for name in served))
+    with Progress("what would move"):
+        return dry_run.compared(before, dry_run.with_topology(glb, octets))
+
+
 def try_moved(
     made: Made, glb: str, writer: Writer, options: argparse.Namespace, report: dict[str, Any]
 ) -> None:
@@ -219,6 +239,9 @@ def say(report: dict[str, Any], as_json: bool) -> None:
         keys = dict(report["moved"])
         name = f"demand moved by up to {keys.pop('percent')} %"
         print(line(name, keys, "above the bound of that demand"))
+    if "change" in report:
+        print("beside what is served:")
+        dry_run.say(report["change"], PAIRS)
     if "written" in report:
         print(f"{report['written']['file']}: {report['written']['octets']:,} octets")
 
