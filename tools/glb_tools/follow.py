@@ -2,6 +2,7 @@
 
 import argparse
 import os
+import re
 import secrets
 import signal
 import socket
@@ -155,6 +156,9 @@ def main() -> int:
             raise Fault(failed)
         return 0
     follower = Follower(options.name, log, Server(options.run), place, bases, hooks)
+    # of the server's unit, which has the same file of settings
+    workers = os.environ.get("WORKERS", "")
+    follower.workers = int(workers) if re.fullmatch(r"[0-9]{1,2}", workers) else None
     follower.canary = Canary(words_beside(options))
     signal.signal(signal.SIGTERM, lambda *_: sys.exit(0))
     why = "it was ended"

@@ -97,6 +97,8 @@ class Follower:
         self.broken: str | None = None
         self.waits: str | None = None
         self.has: str | None = None
+        # how many workers the server was started with, where that is known
+        self.workers: int | None = None
         self.identity = place.identity() or Identity("", "", "", 0, "")
 
     # What is told.
@@ -118,6 +120,7 @@ class Follower:
             "version": self.server.version,
             "waits": self.waits,
             "has": self.has,
+            "workers": self.workers,
             "heard": self.heard,
         }
         return state | {key: value for key, value in more.items() if value}

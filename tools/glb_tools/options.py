@@ -33,12 +33,16 @@ STATUSES = {
 }
 # by module, Debian's package of it
 PACKAGES = {
+    "dns": "python3-dnspython",
+    "flask": "python3-flask",
     "jinja2": "python3-jinja2",
     "maxminddb": "python3-maxminddb",
     "numpy": "python3-numpy",
     "prometheus_client": "python3-prometheus-client",
     "requests": "python3-requests",
     "scipy": "python3-scipy",
+    "waitress": "python3-waitress",
+    "werkzeug": "python3-werkzeug",
     "yaml": "python3-yaml",
 }
 # how long a command works before it shows its progress, in seconds
