@@ -124,7 +124,7 @@ install -D -m 644 -t "$server/usr/share/doc/glb/operating" "$top"/docs/operating
 # links between documents: those of the top stand beside the others here; the figures of bench stay in the repository
 sed -i -e 's,](docs/,](,g' -e 's,](\.\./\([A-Z]*\.md\),](\1,g' "$server"/usr/share/doc/glb/*.md
 sed -i -e 's,](\.\./\.\./\([A-Z]*\.md\),](../\1,g' "$server"/usr/share/doc/glb/operating/*.md
-install -D -m 644 -t "$server/usr/share/doc/glb/examples" "$top"/examples/*.toml "$top"/examples/*.map "$top"/examples/*.changes "$top"/examples/*.socket "$top"/examples/glb-ready.nft "$top"/examples/queries.txt
+install -D -m 644 -t "$server/usr/share/doc/glb/examples" "$top"/examples/*.toml "$top"/examples/*.map "$top"/examples/*.changes "$top"/examples/*.socket "$top"/examples/glb-ready.nft "$top"/examples/glb-bird.conf "$top"/examples/queries.txt
 # the launcher's settings of the unit: a server is begun by it where they are put beside the unit
 install -D -m 644 "$top/examples/glb-launch.conf" "$server/usr/share/doc/glb/examples/glb-launch.conf"
 sed -i -e 's,/usr/local/bin/glb,/usr/bin/glb,g' -e 's,/usr/local/lib/glb/,/usr/bin/,g' "$server/usr/share/doc/glb/examples/glb-launch.conf"
