@@ -106,6 +106,18 @@ BLOCKS = {
         ("curl -s http://127.0.0.1:9853/metrics | grep '^glb_log_up'; journalctl -t glb-exporter -n 1 -o cat", "glb_log_up 0.0\nglb-exporter: etcd: .*"),
         ("systemctl disable --now glb-exporter 2>/dev/null; systemctl is-active glb-exporter", "inactive"),
     ),
+    "apt-get install --no-install-recommends python3-dnspython": Block(
+        ("sleep 3; curl -s http://127.0.0.1:9855/state | grep -c '\"mirror\": true'", "1"),
+        ("curl -s http://127.0.0.1:9855/ | grep -c 'of 15\\|of 16'; curl -s 'http://127.0.0.1:9855/why?q=g2' | grep -c 'Group g2'", "[1-9]\\d*\n1"),
+        ("curl -s http://127.0.0.1:9855/ | grep -A 9 '<th scope=.row.>the server' | grep -c 'class=.tag good.>there'", "1"),
+        ("curl -s -o /dev/null -w '%{http_code}' -H 'Host: evil.example' http://127.0.0.1:9855/", "421"),
+        ("journalctl -t glb-page -o cat | grep -c '^glb-page: '", "0"),
+    ),
+    "install -m 640 -o root -g glb /dev/null /etc/glb/page-token": Block(
+        ("curl -s -o /dev/null -w '%{http_code}' http://192.0.2.53:9855/", "401"),
+        ("curl -s -u look:$(cat /etc/glb/page-token) http://192.0.2.53:9855/state | grep -c '\"mirror\": true'", "1"),
+        ("systemctl disable --now glb-page 2>/dev/null; systemctl is-active glb-page; pgrep -u glb -f 'glb-shadow\\.' | wc -l", "inactive\n0"),
+    ),
     # no Prometheus is there; the log and its servers are put back as they were behind the last of these
     "apt-get install --no-install-recommends python3-requests": Block(
         ("tools/glb-watch /etc/glb/watch.toml --once --dry-run | grep -c '^fault: .* Connection refused'", "2"),

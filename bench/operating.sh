@@ -30,7 +30,7 @@ if [ ! -d "$base/root" ]; then
     printf '#!/bin/sh\nexit 101\n' >"$base/usr/sbin/policy-rc.d"
     chmod 755 "$base/usr/sbin/policy-rc.d"
     cp /etc/resolv.conf "$base/etc/resolv.conf"
-    chroot "$base" env DEBIAN_FRONTEND=noninteractive apt-get install -y --no-install-recommends binutils curl prometheus-node-exporter python3-prometheus-client python3-requests etcd-server etcd-client strace >>"$work/log" 2>&1
+    chroot "$base" env DEBIAN_FRONTEND=noninteractive apt-get install -y --no-install-recommends binutils curl prometheus-node-exporter python3-prometheus-client python3-requests python3-dnspython python3-flask python3-jinja2 python3-numpy python3-waitress etcd-server etcd-client strace >>"$work/log" 2>&1
     chroot "$base" systemctl disable etcd prometheus-node-exporter >>"$work/log" 2>&1
     # for what measures; its services are started by the document alone
     chroot "$base" env DEBIAN_FRONTEND=noninteractive apt-get install -y --no-install-recommends python3-yaml prometheus prometheus-blackbox-exporter nginx mtail >>"$work/log" 2>&1

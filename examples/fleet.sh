@@ -6,11 +6,11 @@
 #     sudo GLB=/usr/local/bin/glb examples/fleet.sh               the parts of the list `usual` below
 #     sudo GLB=/usr/local/bin/glb examples/fleet.sh behind base   some parts alone, those of `others` among them
 #
-# GLB names the program, as a whole path, and GLB_OTHER another build of it, for the part `build`; the part `memory` wants a
-# C compiler, `clock` the package faketime. Nothing is left behind but what it prints.
+# GLB names the program, as a whole path, and GLB_OTHER another build of it, for the part `build`; the parts `memory`
+# and `clock` want a C compiler, `bird` the package bird2. Nothing is left behind but what it prints.
 set -uo pipefail
 usual="writers answers server follower member cut_off roll skip adopt restore hand dropped cut_log hang hung sums"
-others="behind full build memory clock"
+others="behind full build memory clock bird"
 for part in "$@"; do case " $usual $others " in *" $part "*) ;; *) echo "no such part: $part" && exit 1 ;; esac; done
 if ip netns list | grep -q glbfleet; then echo 'another run is there, or was cut off: ip netns del glbfleet0, ..1, ..2, ..3' && exit 1; fi
 here=$(cd "$(dirname "$0")/.." && pwd)
@@ -90,17 +90,24 @@ serve() {
             echo $! >"$place/follower"
             wait -n "$server" $! 2>/dev/null
             # whatever ends the follower, queries are kept out
-            echo out >>"$work/queries$host"
+            eval "$(hook "$host" out)"
             sleep 0.2
             if ! kill -0 "$server" 2>/dev/null; then kill "$(cat "$place/follower")" 2>/dev/null; fi
         done
     done
 }
+# What lets queries in to a host and keeps them out, as a command: a note, and a route where BIRD runs there.
+hook() {
+    local verb=enable
+    [ "$2" = out ] && verb=disable
+    [ -e "$work/bird$1.ctl" ] && printf 'birdc -s %s %s anycast4 >/dev/null && ' "$work/bird$1.ctl" "$verb"
+    echo "echo $2 >>$work/queries$1"
+}
 # The follower of a host, with hooks that note whether queries are let in.
 follow_on() {
     local host=$1; shift
     be_on "$host" env GLB_ETCD="$(etcd_of "$host")" $(cat "$work/clock$host" 2>/dev/null) "$here/tools/glb-follow" --name "host$host" --run "$work/host$host" --bases "$work/bases$host" --program "$(program_of "$host")" \
-        --ready "echo in >>$work/queries$host" --unready "echo out >>$work/queries$host" "$@" >>"$work/follow$host.log" 2>&1
+        --ready "$(hook "$host" in)" --unready "$(hook "$host" out)" "$@" >>"$work/follow$host.log" 2>&1
 }
 lets_in() { [ "$(tail -n 1 "$work/queries$1")" = in ]; }
 
@@ -212,7 +219,7 @@ server() {
     ok 'all agree again' agreed
     ok 'the server is another one' [ "$(pid 2 server)" != "$old" ]
     ok 'and answers' answered 2
-    ok 'queries were kept out until it was there' [ "$(tail -n 2 "$work/queries2" | tr '\n' ' ')" = 'out in ' ]
+    ok 'queries were kept out until it was there' [ "$(uniq "$work/queries2" | tail -n 2 | tr '\n' ' ')" = 'out in ' ]
 }
 
 # A follower is killed between its write and the server's answer: the batch is worked once.
@@ -528,14 +535,12 @@ memory() {
     ok 'all agree, and none with a shim' agreed
 }
 
-# The clock of one host jumps by an hour, there and back: that of its follower and of who looks. (A member of etcd makes
-# no call that could be turned aside, and the machine's own clock is everybody's.)
+# The clock of one host jumps by an hour, there and back: that of its follower. (A member of etcd makes no call that could be
+# turned aside, and the machine's own clock is everybody's.)
 clock() {
-    local lib
-    lib=$(find /usr/lib -name libfaketimeMT.so.1 | head -n 1)
-    if [ -z "$lib" ]; then echo 'clock: faketime is not installed' && return; fi
+    "${CC:-cc}" -O2 -shared -fPIC -o "$work/shift_clock.so" "$here/bench/shift_clock.c" || { echo 'clock: there is no C compiler' && return; }
     echo '+0' >"$work/time"
-    echo "LD_PRELOAD=$lib FAKETIME_TIMESTAMP_FILE=$work/time FAKETIME_NO_CACHE=1 FAKETIME_DONT_FAKE_MONOTONIC=1" >"$work/clock3"
+    echo "LD_PRELOAD=$work/shift_clock.so SHIFT_CLOCK=$work/time" >"$work/clock3"
     kill -9 "$(pid 3 follower)"
     ok 'all agree by another clock' agreed
     for jump in +3600 -3600 +0; do
@@ -549,6 +554,40 @@ clock() {
     kill -9 "$(pid 3 follower)"
     ok 'all agree by the old clock' agreed
 }
+
+# BIRD on host 3 announces the address of its server to one on host 1, by the hooks of the follower.
+bird() {
+    if ! which bird >/dev/null; then echo 'bird: the package bird2 is not installed' && return; fi
+    all_there >/dev/null
+    printf 'router id %s.1;\nprotocol device { }\nprotocol kernel { ipv4 { export all; }; }\nprotocol bgp downstream { local %s.1 as 64513; neighbor %s.3 as 64512; hold time 9; ipv4 { import all; export none; }; }\n' "$net" "$net" "$net" >"$work/bird1.conf"
+    on 1 bird -c "$work/bird1.conf" -s "$work/upstream.ctl" -P "$work/bird1.pid"
+    on 3 bird -c "$here/examples/glb-bird.conf" -s "$work/bird3.ctl" -P "$work/bird3.pid"
+    (be_on 1 stdbuf -oL ip monitor route >"$work/routes" 2>/dev/null) &
+    sleep 6
+    ok 'nothing is announced of itself' [ -z "$(announced)" ]
+    kill -9 "$(pid 3 follower)"
+    ok 'the server is there, and announced' until_announced
+    on 1 ip route | grep 192.0.2.53
+    for what in follower server; do
+        : >"$work/routes"
+        kill -9 "$(pid 3 "$what")"
+        ok "a $what that is killed is withdrawn" until_withdrawn
+        ok 'and announced again' until_announced
+    done
+    kill -9 "$(cat "$work/bird3.pid")"
+    ok 'and so it is where BIRD is killed' until_withdrawn
+    ok 'which its follower sees' until_line 3 'birdc'
+    sed 's/.*; //' "$work/line"
+    on 3 bird -c "$here/examples/glb-bird.conf" -s "$work/bird3.ctl" -P "$work/bird3.pid"
+    ok 'with BIRD back it is announced' until_announced
+    kill "$(cat "$work/bird3.pid")" "$(cat "$work/bird1.pid")"
+    rm -f "$work/bird3.ctl"
+    kill -9 "$(pid 3 follower)"
+    ok 'all agree without BIRD' agreed
+}
+announced() { on 1 ip route show 192.0.2.53; }
+until_announced() { for _ in $(seq 200); do [ -n "$(announced)" ] && return 0; sleep 0.1; done; return 1; }
+until_withdrawn() { for _ in $(seq 200); do grep -q 'Deleted 192.0.2.53' "$work/routes" && return 0; sleep 0.1; done; return 1; }
 
 # What the servers said of each entry, as glb-fleet showed it all the time: the checksums at each number.
 sums() {

@@ -119,12 +119,12 @@ for unit in "$top"/examples/*.service "$top"/examples/*.timer; do
 done
 install -D -m 644 "$top/docs/glb.1" "$server/usr/share/man/man1/glb.1"
 gzip -9n "$server/usr/share/man/man1/glb.1"
-install -D -m 644 -t "$server/usr/share/doc/glb" "$top"/README.md "$top"/CHANGELOG.md "$top"/SECURITY.md "$top"/CONTRIBUTING.md "$top"/docs/*.md "$top"/docs/*.svg
+install -D -m 644 -t "$server/usr/share/doc/glb" "$top"/README.md "$top"/CHANGELOG.md "$top"/SECURITY.md "$top"/CONTRIBUTING.md "$top"/docs/*.md "$top"/docs/*.png "$top"/docs/*.svg
 install -D -m 644 -t "$server/usr/share/doc/glb/operating" "$top"/docs/operating/*.md
 # links between documents: those of the top stand beside the others here; the figures of bench stay in the repository
 sed -i -e 's,](docs/,](,g' -e 's,](\.\./\([A-Z]*\.md\),](\1,g' "$server"/usr/share/doc/glb/*.md
 sed -i -e 's,](\.\./\.\./\([A-Z]*\.md\),](../\1,g' "$server"/usr/share/doc/glb/operating/*.md
-install -D -m 644 -t "$server/usr/share/doc/glb/examples" "$top"/examples/*.toml "$top"/examples/*.map "$top"/examples/*.changes "$top"/examples/*.socket "$top"/examples/glb-ready.nft "$top"/examples/queries.txt
+install -D -m 644 -t "$server/usr/share/doc/glb/examples" "$top"/examples/*.toml "$top"/examples/*.map "$top"/examples/*.changes "$top"/examples/*.socket "$top"/examples/glb-ready.nft "$top"/examples/glb-bird.conf "$top"/examples/queries.txt
 # the launcher's settings of the unit: a server is begun by it where they are put beside the unit
 install -D -m 644 "$top/examples/glb-launch.conf" "$server/usr/share/doc/glb/examples/glb-launch.conf"
 sed -i -e 's,/usr/local/bin/glb,/usr/bin/glb,g' -e 's,/usr/local/lib/glb/,/usr/bin/,g' "$server/usr/share/doc/glb/examples/glb-launch.conf"
@@ -170,7 +170,7 @@ for old in "$top"/tools/*.py; do
 done
 install_completions "$server"
 install_completions "$tools"
-install -D -m 644 -t "$tools/usr/share/doc/glb-tools/examples" "$top"/examples/*.yml
+install -D -m 644 -t "$tools/usr/share/doc/glb-tools/examples" "$top"/examples/*.yml "$top"/examples/*.json "$top"/examples/*.nginx
 install -D -m 644 -t "$tools/usr/share/doc/glb-tools/examples/network" "$top"/examples/network/*
 install -m 644 -t "$tools/usr/share/doc/glb-tools/examples" "$top"/examples/glb-demand.{mtail,conf}
 for settings in "$top"/examples/glb-*.default; do install_settings "$tools" "$settings" "etc/default/$(basename "$settings" .default)"; done
@@ -208,7 +208,7 @@ Version: $version
 Architecture: amd64
 Maintainer: $maintainer
 Installed-Size: $(size "$tools")
-Depends: ${compiled}glb (= $version), python3 (>= 3.11), python3-jinja2, python3-numpy, python3-prometheus-client, python3-requests, python3-scipy
+Depends: ${compiled}glb (= $version), python3 (>= 3.11), python3-dnspython, python3-flask, python3-jinja2, python3-numpy, python3-prometheus-client, python3-requests, python3-scipy, python3-waitress
 Recommends: python3-maxminddb, python3-yaml
 Suggests: mtail, prometheus, prometheus-blackbox-exporter, prometheus-node-exporter
 Breaks: glb (<< $version)
@@ -217,7 +217,7 @@ Section: net
 Priority: optional
 Description: tools for the mapping system of a content delivery network
  They say why clients go where they go and what moves between two maps, make
- topologies, and watch over one server or a fleet of them.
+ topologies, watch over one server or a fleet of them, and show it as a page.
 CONTROL
 
 # What a package leaves behind itself: what Python keeps of its modules.

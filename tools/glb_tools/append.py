@@ -13,7 +13,7 @@ from pathlib import Path
 from glb_tools.etcd import ETCD_STATUSES, NO_MAJORITY, Full, Unreachable, add_etcd_options, etcd_of
 from glb_tools.history import with_numbers
 from glb_tools.log import LARGEST_BATCH, Log, Look, Signed
-from glb_tools.options import DONE, FAULT, Fault, Progress, parser, run
+from glb_tools.options import DONE, FAULT, Fault, Progress, check_word, parser, run
 from glb_tools.text import MOST_CHANGES, Names, Refused, Replay, lines_of, words_of
 
 DROPPED = 2
@@ -180,8 +180,7 @@ def main() -> int:
         help="how long it waits for a server's word (5)",
     )
     options = words.parse_args()
-    if not options.id or "/" in options.id:
-        raise Fault("--id is a word without `/`")
+    check_word(options.id, "--id", "/")
     log = Log(etcd_of(options), options.prefix)
     if options.numbers:
         with Progress("reads the log"):

@@ -4,6 +4,7 @@
 that is not in the log yet and all entries behind its numbers. It tells PREFIX/beside/NAME how far it is.
 """
 
+import os
 import signal
 import subprocess
 import sys
@@ -19,14 +20,23 @@ from glb_tools.hooks import Hooks
 from glb_tools.log import Entry, Log, Look, place_of
 from glb_tools.options import Fault, parser, run
 from glb_tools.place import Bases, Identity, Place
-from glb_tools.server import Server
+from glb_tools.server import Lost, Server
 
 
 class Beside(Follower):
-    """A follower that begins nothing anew: it ends where it cannot go on."""
+    """A follower that begins nothing anew: it ends where it cannot go on, and with the follower that runs it."""
+
+    parent = os.getppid()
+
+    def hold_up(self, why: str) -> None:
+        if os.getppid() != self.parent:
+            raise Lost("its follower has ended")
+        super().hold_up(why)
 
     def breaks(self, look: Look) -> str | None:
         identity = self.identity
+        if os.getppid() != self.parent:
+            return "its follower has ended"
         if look.canary.get("base") != identity.base or look.canary.get("server") != self.name:
             return "nobody asks for it any more"
         if identity.entry and not self.is_in(look):
@@ -34,7 +44,7 @@ class Beside(Follower):
         return None
 
     def begin_anew(self, look: Look, why: str, base: Any, patiently: bool = False) -> None:
-        raise Fault(why)
+        raise Lost(why)
 
     def drop(self, entry: Entry, why: str) -> None:
         """Servers themselves tell what was dropped."""

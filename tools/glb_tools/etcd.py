@@ -15,7 +15,7 @@ from dataclasses import dataclass
 from http.client import HTTPException
 from typing import Any, TypeVar
 
-from glb_tools.options import WRONG_WORDS, Fault
+from glb_tools.options import WRONG_WORDS, Fault, check_word
 
 # how long a member may be silent, in seconds
 PATIENCE = 3.0
@@ -128,8 +128,8 @@ class Etcd:
 
     def __init__(self, members: list[str], context: ssl.SSLContext | None = None) -> None:
         self.members = members
-        # those that did not answer
-        self.silent: set[str] = set()
+        # those that did not answer, and why
+        self.silent: dict[str, str] = {}
         self.login: dict[str, str] | None = None
         self.token: str | None = None
         # what the environment says of proxies is not meant for members
@@ -162,8 +162,8 @@ class Etcd:
             except urllib.error.HTTPError as error:
                 why = self.refused(member, error)
             except (OSError, HTTPException, *NONSENSE) as error:
-                self.silent.add(member)
-                why = f"{member}: {error}"
+                self.silent[member] = why_of(error)
+                why = f"{member}: {self.silent[member]}"
             self.members.append(self.members.pop(0))
         raise Unreachable(why)
 
@@ -247,7 +247,8 @@ class Etcd:
             with self.open(member, "/v3/maintenance/status", {}, PATIENCE) as answer:
                 told: Message = json.load(answer)
                 return told
-        except (OSError, HTTPException, *NONSENSE):
+        except (OSError, HTTPException, *NONSENSE) as error:
+            self.silent[member] = why_of(error)
             return None
 
     def make_room(self) -> tuple[int, list[str]]:
@@ -271,6 +272,20 @@ class Etcd:
             "alarms", []
         )
         return told
+
+
+def why_of(error: Exception) -> str:
+    """Why a member did not answer."""
+    reason = getattr(error, "reason", None)
+    told = reason if isinstance(reason, Exception) else error
+    if isinstance(told, ssl.SSLCertVerificationError):
+        return f"its certificate is not taken: {told.verify_message}"
+    if isinstance(told, ssl.SSLError):
+        words = (told.reason or str(told)).lower().replace("_", " ")
+        return f"TLS fails: {words} (does it speak https, and take this client's certificate?)"
+    return (
+        (told.strerror if isinstance(told, OSError) else None) or str(told) or type(told).__name__
+    )
 
 
 def item(kv: Message) -> Item:
@@ -310,8 +325,7 @@ def etcd_of(options: argparse.Namespace) -> Etcd:
         raise Fault(
             f"--etcd {options.etcd}: each address begins with http:// or https://", WRONG_WORDS
         )
-    if not options.prefix:
-        raise Fault("--prefix is empty", WRONG_WORDS)
+    check_word(options.prefix, "--prefix")
     etcd = Etcd(members, context_of(options, members))
     if bool(options.user) != bool(options.password):
         raise Fault("--user and --password go together", WRONG_WORDS)

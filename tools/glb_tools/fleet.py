@@ -2,7 +2,6 @@
 
 import argparse
 import json
-import secrets
 import time
 from dataclasses import asdict, dataclass, field
 from typing import Any
@@ -16,7 +15,7 @@ from glb_tools.etcd import (
     add_etcd_options,
     etcd_of,
 )
-from glb_tools.log import ANEW, LOOKED_BACK, Log, Look, maps_of, plain, spot_of
+from glb_tools.log import ANEW, LOOKED_BACK, Asker, Log, Look, maps_of, plain, spot_of
 from glb_tools.options import DONE, Fault, parser, run
 
 NOT_THERE, DIFFER, GONE, HANGS, MEMBER = 1, 2, 5, 6, 7
@@ -61,8 +60,8 @@ class Report:
         self.advice.append((status, words))
 
 
-def judged(name: str, look: Look, asked: str) -> State:
-    """A server's state, in one word and in all that it tells; silent where its follower did not hear what was asked."""
+def judged(name: str, look: Look, asked: frozenset[str] = frozenset()) -> State:
+    """A server's state, in one word and in all that it tells; silent where its follower heard nothing of what was asked."""
     record, told = look.servers.get(name, {}), look.states.get(name)
     if told is None:
         ended = str(record.get("ended", ""))
@@ -73,7 +72,7 @@ def judged(name: str, look: Look, asked: str) -> State:
     newest, last = look.newest, look.entries[-1] if look.entries else None
     if "hangs" in told:
         found["state"] = "hangs"
-    elif asked and told.get("heard") != asked:
+    elif asked and told.get("heard") not in asked:
         found["state"] = "silent"
     elif "waits" in told:
         found["state"] = "waits"
@@ -104,28 +103,22 @@ def differing(servers: list[State]) -> dict[int, dict[str, list[str]]]:
     return {int(spot.split(".")[0]): differ[spot] for spot in sorted(differ)}
 
 
-def asked_of_all(log: Log, seconds: float) -> tuple[str, Look]:
-    """Asks each follower whether its server answers; what stands in etcd as soon as all told, or after that time."""
-    asked, end, revision = "", time.monotonic() + seconds, 0
+def asked_of_all(log: Log, seconds: float) -> tuple[frozenset[str], Look]:
+    """Asks each follower whether its server answers; the words of which each has to have heard one, and what stands in etcd
+    as soon as all did, or after that time."""
+    asker, end = Asker(log), time.monotonic() + seconds
     while True:
         look = log.look()
-        if look.revision < revision:
-            raise Fault("etcd has less than a moment ago: it was restored; look again")
-        if not asked or look.asked != asked:
-            # anew where another one asked meanwhile
-            asked = secrets.token_hex(4)
-            try:
-                revision = log.ask(asked)
-            except Full:
-                return "", look
-            continue
+        has_asked = asker.has_asked(look)
         told = [state for state in look.states.values() if "hangs" not in state]
-        if all(state.get("heard") == asked for state in told) or time.monotonic() >= end:
-            return asked, look
-        time.sleep(AGAIN)
+        all_told = all(state.get("heard") in asker.words for state in told)
+        if has_asked and all_told or time.monotonic() >= end:
+            return frozenset(asker.words), look
+        if has_asked:
+            time.sleep(AGAIN)
 
 
-def report(log: Log, look: Look, asked: str = "") -> Report:
+def report(log: Log, look: Look, asked: frozenset[str] = frozenset()) -> Report:
     newest = look.newest
     found = Report(look.last, turn=look.turn, roll=look.roll)
     if newest:
@@ -181,6 +174,8 @@ def advise_of(server: State, found: Report) -> None:
         found.advise(NOT_THERE, f"{name} waits: {server['waits']}")
     elif "behind" not in server:
         found.advise(NOT_THERE, f"{name} starts: it {server['why']}")
+    elif state == "starts":
+        found.advise(NOT_THERE, f"{name} starts, and lets no query in yet")
     elif state != "there":
         found.advise(NOT_THERE, f"{name} is {server['behind']} entries behind, and catches up")
 
@@ -191,11 +186,36 @@ def look_at_members(etcd: Etcd, found: Report) -> None:
         # one that did not answer a moment ago is not waited for once more
         found.members[member] = None if member in etcd.silent else etcd.answers(member)
         if found.members[member] is None:
-            found.advise(MEMBER, f"{member}, a member of etcd, does not answer: start it again")
+            why = etcd.silent[member]
+            cure = why if "certificate" in why else f"start it again ({why})"
+            found.advise(MEMBER, f"{member}, a member of etcd, does not answer: {cure}")
     for alarm in etcd.alarms():
         if alarm.get("alarm") == "NOSPACE":
             found.advise(FULL, "etcd is full: docs/operating/fleet.md, `When etcd is full`")
             break
+
+
+def look_at_log(log: Log, look: Look, found: Report) -> None:
+    """Whether somebody changed by hand what whoever begins anew from the newest base has to work, since others did."""
+    if look.newest:
+        since = min(base.number for base in look.bases if base.checksum == look.newest.checksum)
+        for words in log.changed_by_hand(look.newest.upto, since):
+            found.advise(NOT_THERE, words)
+
+
+def seen(log: Log, seconds: float) -> Report:
+    """All that the command says of a fleet whose followers have so long to answer."""
+    try:
+        asked, look = asked_of_all(log, seconds)
+        found = report(log, look, asked)
+    except Full as why:
+        # nobody can be asked, and what stands there may be old
+        look = log.look()
+        found = report(log, look)
+        found.advise(FULL, str(why))
+    look_at_log(log, look, found)
+    look_at_members(log.etcd, found)
+    return found
 
 
 # The command.
@@ -243,9 +263,7 @@ def main() -> int:
     log = Log(etcd_of(options), options.prefix)
     if options.forget:
         return forget(log, options)
-    asked, look = asked_of_all(log, options.wait)
-    found = report(log, look, asked)
-    look_at_members(log.etcd, found)
+    found = seen(log, options.wait)
     if options.json:
         print(json.dumps(asdict(found) | {"status": found.status}, indent=2))
     else:

@@ -2,6 +2,7 @@
 
 import argparse
 import os
+import re
 import secrets
 import signal
 import socket
@@ -10,13 +11,13 @@ import time
 from pathlib import Path
 from typing import NoReturn
 
-from glb_tools.etcd import ETCD_STATUSES, Full, Unreachable, add_etcd_options, delete, etcd_of
+from glb_tools.etcd import ETCD_STATUSES, Unreachable, add_etcd_options, delete, etcd_of
 from glb_tools.follower import Follower, Over
 from glb_tools.hooks import Canary, Hooks, say
 from glb_tools.log import ALIVE, ANEW, Log, place_of
-from glb_tools.options import Fault, parser, run
+from glb_tools.options import Fault, check_word, parser, run, words_of
 from glb_tools.place import BASES, Bases, Identity, Place
-from glb_tools.server import Server
+from glb_tools.server import Lost, Server
 
 # how long nobody looks where something is waited for, in seconds
 SOON = 1.0
@@ -57,19 +58,22 @@ def silence(name: str, log: Log, seconds: float = ALIVE) -> None:
 
 
 def follow(follower: Follower) -> NoReturn:
-    """Follows for ever; without a majority it waits."""
-    reached = True
+    """Follows for ever. Where etcd, what stands in it or the disk does not let it, it waits, and its server answers on."""
+    said = ""
     follower.begin()
     while True:
         try:
-            more, reached = follower.step(), True
+            more, said = follower.step(), ""
             if not more:
                 wait(follower)
-        except (Unreachable, Full) as why:
-            if reached:
+        except Lost:
+            raise
+        except (Fault, OSError) as fault:
+            why = str(fault) if isinstance(fault, Fault) else words_of(fault)
+            if why != said and not (said and isinstance(fault, Unreachable)):
                 say(f"waits: {why}")
-            reached = False
-            follower.idle(silent=False)
+            said = why
+            follower.hold_up(why)
             time.sleep(SOON)
 
 
@@ -140,6 +144,7 @@ def main() -> int:
         help="keeps queries out: run before the server begins, and where it or this command ends (GLB_UNREADY)",
     )
     options = words.parse_args()
+    check_word(options.name, "--name", "/")
     log = Log(etcd_of(options), options.prefix)
     place, hooks = Place(options.run), Hooks(options.ready, options.unready)
     bases = Bases(options.bases, options.name, options.program)
@@ -155,6 +160,9 @@ def main() -> int:
             raise Fault(failed)
         return 0
     follower = Follower(options.name, log, Server(options.run), place, bases, hooks)
+    # of the server's unit, which has the same file of settings
+    workers = os.environ.get("WORKERS", "")
+    follower.workers = int(workers) if re.fullmatch(r"[0-9]{1,2}", workers) else None
     follower.canary = Canary(words_beside(options))
     signal.signal(signal.SIGTERM, lambda *_: sys.exit(0))
     why = "it was ended"

@@ -6,34 +6,37 @@ base, one server of the fleet at a time; and so it is where the newest base is a
 """
 
 import collections
-import secrets
 import time
-from collections.abc import Callable
+from collections.abc import Callable, Collection
 from dataclasses import replace
 from typing import Any, Protocol
 
-from glb_tools.etcd import Full, NoLease, Unreachable
+from glb_tools.etcd import NoLease
 from glb_tools.hooks import Canary, Hooks, say
 from glb_tools.log import (
     ALIVE,
     ANEW,
     BASE,
     LOOKED_BACK,
+    MOST_BY_HAND,
     NONE,
     PAGE,
     TURN,
+    Asker,
     Base,
     Entry,
     Log,
     Look,
+    gap,
     left_in,
+    many_by_hand,
     maps_of,
     spot_of,
     without_base,
 )
 from glb_tools.options import Fault
 from glb_tools.place import Bases, Identity, Place
-from glb_tools.server import Shown, Worked
+from glb_tools.server import Lost, Shown, Worked
 
 # of how many maps checksums are told, and how many of their letters
 MOST_MAPS, LETTERS = 8, 16
@@ -88,15 +91,21 @@ class Follower:
         self.shown = Shown(0, 0, 0)
         # by number and checksum of entries, the last maps' checksums
         self.maps: collections.OrderedDict[str, str] = collections.OrderedDict()
-        self.is_ready = False
+        # whether queries are let in, and when that was done
+        self.is_ready, self.ready_at = False, 0.0
         # how far it was looked into etcd, and what glb-fleet asked
         self.revision, self.heard = 0, ""
         # what this follower asked all others, and when
-        self.asks, self.asked_at = "", 0.0
+        self.asks: Asker | None = None
+        self.asked_at = 0.0
         # why the server has to begin anew; what it waits for; which base is here that is not its own
         self.broken: str | None = None
         self.waits: str | None = None
         self.has: str | None = None
+        # how many workers the server was started with, where that is known
+        self.workers: int | None = None
+        # the bases that are here, and that its program takes
+        self.taken: set[str] = set()
         self.identity = place.identity() or Identity("", "", "", 0, "")
 
     # What is told.
@@ -106,6 +115,7 @@ class Follower:
         state = {
             "base": identity.base[:LETTERS],
             "program": identity.program[:LETTERS],
+            "run": identity.run,
             "entry": identity.entry,
             "chain": identity.chain[:LETTERS],
             "serial": self.shown.serial,
@@ -118,6 +128,7 @@ class Follower:
             "version": self.server.version,
             "waits": self.waits,
             "has": self.has,
+            "workers": self.workers,
             "heard": self.heard,
         }
         return state | {key: value for key, value in more.items() if value}
@@ -143,8 +154,14 @@ class Follower:
             self.untold = self.untold and not notes
         except NoLease:
             self.lease = None
-        except (Unreachable, Full):
+        except Fault:
             pass
+
+    def hold_up(self, why: str) -> None:
+        """Tells why it cannot go on now. Its server answers on, as it does for one who is cut off."""
+        self.waits = why
+        self.tell()
+        self.idle(silent=False)
 
     def idle(self, silent: bool = True) -> None:
         """Keeps what is told and the turn, whatever else happens; a server that is silent for long is told of."""
@@ -159,7 +176,7 @@ class Follower:
                 self.lease, self.told = None, {}
             if self.turn_lease is not None and not self.log.etcd.keep(self.turn_lease):
                 self.turn_lease = None
-        except (Unreachable, Full):
+        except Fault:
             pass
 
     # How far the server is.
@@ -171,6 +188,9 @@ class Follower:
         self.shown = found.shown
         if identity is None:
             self.broken = "nobody knows what it was started from"
+            return
+        if self.place.begun_from() != identity.base:
+            self.broken = "it did not begin from its base, or the copy of that was edited"
             return
         serial, checksum = found.shown.serial, found.map or identity.map
         if serial == identity.serial + 1 and identity.next_entry and identity.next_chain:
@@ -191,17 +211,22 @@ class Follower:
         row = len(identity.row)
         look = self.log.look(max(identity.entry - row, 1), PAGE + row)
         self.revision = look.revision
-        if look.asked != self.heard:
+        if look.asked and look.asked[0] != self.heard:
             self.see()
-            self.heard = look.asked
+            self.heard = look.asked[0]
         self.keep_turn(look)
         self.broken = self.broken or self.breaks(look)
         if self.broken:
+            self.fetch_ahead(look)
             self.begin_anew(look, self.broken, self.due_base(look))
             return False
         self.record(look)
         new = look.entries[row + 1 :] if identity.entry else look.entries
+        before = self.identity
         for entry in new:
+            if entry.kind == NONE and len(self.identity.row) >= MOST_BY_HAND:
+                # behind it its identity would not say all that stands before it
+                break
             self.work(entry, look)
             if self.broken:
                 # nothing behind it may be worked
@@ -209,7 +234,7 @@ class Follower:
             self.idle(silent=False)
             if time.monotonic() - self.told_at > PAUSE:
                 self.tell()
-        if new:
+        if self.identity is not before:
             self.tell()
             return True
         self.settle(look)
@@ -258,7 +283,7 @@ class Follower:
             chain=entry.checksum,
             serial=self.shown.serial,
             map=checksum,
-            row=[*identity.row, identity.chain][-LOOKED_BACK:] if by_hand else [],
+            row=[*identity.row, identity.chain] if by_hand else [],
         )
         if not lines:
             self.place.keep(self.identity)
@@ -311,8 +336,13 @@ class Follower:
     def settle(self, look: Look) -> None:
         self.waits = None
         if look.last > self.identity.entry:
-            self.waits = f"entry {self.identity.entry + 1} is not there, and entry {look.last} is: one was put by hand"
-        elif not self.is_ready:
+            is_next = len(look.entries) > len(self.identity.row) + 1
+            self.waits = (
+                many_by_hand() if is_next else gap(self.identity.entry + 1, self.log.key(look.last))
+            )
+        elif look.states.get(self.name, {}).get("run", self.identity.run) != self.identity.run:
+            self.waits = f"another follower tells of a server of the name {self.name}, too"
+        elif not self.is_ready or time.monotonic() - self.ready_at > ALIVE:
             self.get_ready()
         newest = look.newest
         assert newest
@@ -334,17 +364,18 @@ class Follower:
         self.asked = time.monotonic()
         serial = self.server.show(self.idle).serial
         if serial != self.shown.serial:
-            raise Fault(
+            raise Lost(
                 f"the server is at serial {serial}, not {self.shown.serial}: who else writes to it?"
             )
 
     def get_ready(self) -> None:
+        """Lets queries in; and does so again from time to time, since whatever keeps that may have begun anew."""
         # who looks is told first
         self.tell()
-        failed = self.hooks.run(self.hooks.ready)
+        failed, self.ready_at = self.hooks.run(self.hooks.ready), time.monotonic()
         if failed:
-            self.waits = failed
-        else:
+            self.is_ready, self.waits = False, failed
+        elif not self.is_ready:
             self.is_ready = True
             say(f"{self.name} is there, at entry {self.identity.entry}, serial {self.shown.serial}")
 
@@ -357,11 +388,14 @@ class Follower:
         """Fetches the base that is rolled, so that each server has it before any goes over."""
         checksum = str(look.roll.get("base", ""))
         if checksum and checksum != self.identity.base and self.has != checksum[:LETTERS]:
-            self.waits = self.lacks(checksum) or self.waits
+            if lacks := self.lacks(checksum):
+                self.waits = lacks
+            else:
+                self.has = checksum[:LETTERS]
 
     def lacks(self, checksum: str) -> str | None:
         """Why the server cannot begin from a base; its file is fetched where it is not here."""
-        if self.has == checksum[:LETTERS]:
+        if checksum in self.taken:
             return None
         if self.bases.topology(checksum) is None:
             octets = self.log.topology(checksum)
@@ -370,7 +404,7 @@ class Follower:
             self.bases.put(checksum, octets)
         if refused := self.bases.refused(checksum):
             return f"base {checksum[:12]} is refused by its program: {refused}"
-        self.has = checksum[:LETTERS]
+        self.taken.add(checksum)
         return None
 
     # Beginning anew.
@@ -392,13 +426,20 @@ class Follower:
         """The base that it began from, where the log still has all behind it; else the newest one."""
         chosen = self.bases.chosen() or self.identity.base
         for base in look.bases:
-            if base.checksum == chosen and look.first <= max(base.upto, 1):
+            if base.checksum == chosen and look.first <= max(base.upto, 1) and self.has_start(base):
                 return base
         return look.newest
+
+    def has_start(self, base: Base) -> bool:
+        """Whether the log has the entry up to which the numbers of a base go."""
+        there = self.log.entry(base.upto) if base.upto else None
+        return not base.upto or there is not None and there.checksum == base.chain
 
     def hindered(self, look: Look, base: Base | None, why: str, patiently: bool) -> str | None:
         """What keeps the server from beginning anew now. Whoever waits for others has no turn meanwhile."""
         hindered = self.lacks(base.checksum) if base else without_base(look)
+        if hindered is None and base and not self.has_start(base):
+            hindered = f"entry {base.upto}, up to which the numbers of {base} go, was changed by hand: roll the topology anew"
         if hindered is None and patiently:
             hindered = absent(look, self.name)
         if hindered is None:
@@ -409,7 +450,10 @@ class Follower:
                 return None
             if time.monotonic() - self.asked_at < PATIENT:
                 return "asks whether all others are there"
-            hindered, self.asks = absent(look, self.name, self.asks), ""
+            hindered, self.asks = (
+                absent(look, self.name, self.asks.words if self.asks else ()),
+                None,
+            )
         self.end_turn(look)
         return hindered or "not all others are there"
 
@@ -428,13 +472,9 @@ class Follower:
 
     def hears_all(self, look: Look) -> bool:
         """Whether all others are there, as they told since they were asked: what was told before stands for a while."""
-        if not self.asks or look.asked != self.asks:
-            # anew where another one asked meanwhile
-            self.asked_at = self.asked_at if self.asks else time.monotonic()
-            self.asks = secrets.token_hex(4)
-            self.log.ask(self.asks)
-            return False
-        return absent(look, self.name, self.asks) is None
+        if self.asks is None:
+            self.asks, self.asked_at = Asker(self.log), time.monotonic()
+        return self.asks.has_asked(look) and absent(look, self.name, self.asks.words) is None
 
     def keep_turn(self, look: Look) -> None:
         """The turn of a server that begins anew outlives its follower: the next one keeps it."""
@@ -506,7 +546,7 @@ class Follower:
             say(str(fault))
 
 
-def absent(look: Look, name: str, asked: str = "") -> str | None:
+def absent(look: Look, name: str, asked: Collection[str] = ()) -> str | None:
     """Which other server of the fleet is not there for its clients, or did not say so since it was asked."""
     for other in sorted(look.servers.keys() | look.states.keys()):
         if other != name:
@@ -514,7 +554,7 @@ def absent(look: Look, name: str, asked: str = "") -> str | None:
                 return f"{other} is gone (glb-fleet --forget {other} if it is no more)"
             if not look.states[other].get("ready"):
                 return f"{other} is not there yet"
-            if asked and look.states[other].get("heard") != asked:
+            if asked and look.states[other].get("heard") not in asked:
                 return f"{other} does not answer"
     return None
 

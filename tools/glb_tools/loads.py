@@ -13,6 +13,7 @@ import tempfile
 import threading
 import time
 from dataclasses import dataclass, field
+from hashlib import sha256
 from pathlib import Path
 from typing import BinaryIO, NoReturn
 
@@ -20,6 +21,7 @@ from glb_tools.etcd import Unreachable
 from glb_tools.history import handed
 from glb_tools.log import Base, Entry, Log, Look
 from glb_tools.options import Fault, tell
+from glb_tools.server import END
 from glb_tools.text import Replay
 from glb_tools.topology import Topology
 
@@ -27,7 +29,8 @@ from glb_tools.topology import Topology
 PATIENCE = 120.0
 # how long nothing is tried where it failed, and how seldom the log is looked at, in seconds
 AGAIN, SELDOM = 30.0, 5.0
-HEAD, END = b"glb map ", b"end\n"
+# how many octets of maps are read at once
+PIECE = 1 << 20
 
 
 @dataclass
@@ -99,11 +102,11 @@ class World:
 class Shadow:
     """A `glb serve` that nobody asks: it works batches, and its newest map's text is kept."""
 
-    def __init__(self, program: str, topology: bytes) -> None:
-        self.world = World(Topology(topology))
+    def __init__(self, program: str, topology: bytes, world: World | None = None) -> None:
+        self.world = world or World(Topology(topology))
         self.text, self.maps = b"", 0
         self.came = threading.Condition()
-        self.folder = tempfile.mkdtemp(prefix="glb-exporter.")
+        self.folder = tempfile.mkdtemp(prefix="glb-shadow.")
         try:
             path = Path(self.folder, "topology.toml")
             path.write_bytes(topology)
@@ -123,15 +126,18 @@ class Shadow:
     def read(self) -> None:
         """Keeps the newest whole text."""
         assert self.process.stderr
-        lines: list[bytes] = []
-        for line in self.process.stderr:
-            if line.startswith(HEAD):
-                lines = []
-            lines.append(line)
-            if line == END:
+        descriptor, rest = self.process.stderr.fileno(), bytearray()
+        while piece := os.read(descriptor, PIECE):
+            # the end may stand across two pieces
+            start = max(len(rest) - len(END), 0)
+            rest += piece
+            while (end := rest.find(END, start)) >= 0:
+                end += len(END)
                 with self.came:
-                    self.text, self.maps = b"".join(lines), self.maps + 1
+                    self.text, self.maps = bytes(rest[:end]), self.maps + 1
                     self.came.notify()
+                del rest[:end]
+                start = 0
 
     def wait_for_map(self, serial: int) -> None:
         """Waits for the text of the map with that serial, which the program puts ahead of its line."""
@@ -148,8 +154,8 @@ class Shadow:
         self.end()
         raise Fault(f"the shadow: {why} (status {self.process.returncode})")
 
-    def work(self, lines: str) -> None:
-        """Works a batch: whatever its lines are, it is answered."""
+    def work(self, lines: str) -> bytes:
+        """Works a batch, and says the line that answered it: whatever its lines are, it is answered."""
         # a program that hangs is ended, and has ended then
         ends = threading.Timer(PATIENCE, self.process.kill)
         ends.start()
@@ -167,6 +173,7 @@ class Shadow:
             self.fail("it had no memory for a batch")
         elif not answer:
             self.fail("it has ended")
+        return answer
 
     def answer(self, lines: str) -> bytes:
         """The line that answers a batch; nothing where the program has ended."""
@@ -197,6 +204,22 @@ class Over(Exception):
     """Nobody asks for loads any more."""
 
 
+@dataclass
+class Taken:
+    """A batch of the log that the program beside has worked, or that had no line for it."""
+
+    # which entry of the log, or which batch of the file, and what stands for all up to it
+    number: int
+    mark: str
+    lines: str
+    # the line that answered it; nothing where nothing was handed on
+    answer: bytes = b""
+    # of a fleet
+    entry: Entry | None = None
+    # how many stand behind it, as far as is known
+    left: int = 0
+
+
 class Worker:
     """Works a log beside the servers, and begins anew where that fails."""
 
@@ -206,6 +229,8 @@ class Worker:
         # the newest loads, and whether they are kept up to date
         self.loads: Loads | None = None
         self.is_up = False
+        # why it began anew, or waits, the last time
+        self.fault = ""
 
     def run(self) -> None:
         while not self.over.is_set():
@@ -216,7 +241,7 @@ class Worker:
             except Exception as why:
                 # whatever it is: a thread that has ended would serve old values for ever
                 tell(why)
-                self.is_up, self.loads = False, None
+                self.is_up, self.loads, self.fault = False, None, str(why)
                 self.over.wait(AGAIN)
 
     def rest(self, seconds: float) -> None:
@@ -226,6 +251,13 @@ class Worker:
     def follow(self) -> None:
         """Works the log for ever; it ends by a fault, or where the log begins anew."""
         raise NotImplementedError
+
+    def shadow(self, topology: bytes) -> Shadow:
+        """Who works the batches behind a topology."""
+        return Shadow(self.program, topology)
+
+    def took(self, shadow: Shadow, taken: Taken) -> None:
+        """Is told of each batch; loads are those of the newest map alone."""
 
     def sum_up(self, shadow: Shadow, entry: int) -> None:
         """Sums up the newest map; of a large one seldom, so that it takes a tenth of the time at most."""
@@ -243,7 +275,7 @@ class FileWorker(Worker):
 
     def follow(self) -> None:
         was = file_at(self.topology)
-        shadow = Shadow(self.program, self.topology.read_bytes())
+        shadow = self.shadow(self.topology.read_bytes())
         try:
             with open(self.path, "rb") as file:
                 self.follow_file(shadow, was, file)
@@ -251,13 +283,16 @@ class FileWorker(Worker):
             shadow.end()
 
     def follow_file(self, shadow: Shadow, topology: tuple[int, ...], file: BinaryIO) -> None:
-        rest, entry, is_new = b"", 0, True
+        rest, entry, is_new, mark = b"", 0, True, sha256()
         while True:
-            piece = file.read(1 << 20)
+            piece = file.read(PIECE)
             *batches, rest = split_at_commits(rest + piece)
             for batch in batches:
-                shadow.work(batch.decode("latin-1"))
+                lines = batch.decode("latin-1")
+                mark.update(batch + b"commit\n")
+                answer = shadow.work(lines)
                 entry, is_new = entry + 1, True
+                self.took(shadow, Taken(entry, mark.hexdigest(), lines, answer))
             if piece:
                 continue
             if is_new:
@@ -298,7 +333,7 @@ class FleetWorker(Worker):
         topology = self.log.topology(newest.checksum)
         if topology is None:
             raise Fault(f"the topology of {newest} is not in etcd")
-        shadow = Shadow(self.program, topology)
+        shadow = self.shadow(topology)
         try:
             self.follow_from(shadow, newest)
         finally:
@@ -314,9 +349,11 @@ class FleetWorker(Worker):
                 continue
             new = behind(look, entry, chain)
             for found in new:
-                if lines := handed(self.log, look, base, found):
-                    shadow.work(lines)
+                lines = handed(self.log, look, base, found)
+                answer = shadow.work(lines) if lines else b""
                 entry, chain = found.number, found.checksum
+                left = look.last - entry
+                self.took(shadow, Taken(entry, chain, lines, answer, found, left))
             # now and then also where entries come without an end
             if summed != entry and (not new or time.monotonic() - when > self.every):
                 self.sum_up(shadow, entry)
@@ -330,7 +367,7 @@ class FleetWorker(Worker):
             return self.log.look(max(entry, 1))
         except Unreachable as why:
             tell(why)
-            self.is_up = False
+            self.is_up, self.fault = False, str(why)
             return None
 
 

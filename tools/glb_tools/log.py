@@ -38,6 +38,7 @@ that came before a base without that name. Any other line that a server refuses 
 import hashlib
 import json
 import re
+import secrets
 import time
 import zlib
 from collections.abc import Callable, Iterator
@@ -66,12 +67,17 @@ KEPT, ALIVE, TURN = 3600, 15, 60
 LARGEST_BATCH, PIECE = 1 << 20, 1 << 19
 # how many entries are read at once, and of how many glb-fleet looks whether they were dropped
 PAGE, LOOKED_BACK = 64, 100
+# how many words are kept of what was asked
+ASKED = 16
+# behind so many keys in a row that were put by hand nobody goes on, and how many keys are read at once where no octets are
+MOST_BY_HAND, KEYS = 100, 4096
 BATCH, BASE, NONE = "batch", "base", "none"
 # what is said of a follower that ended with its server, which begins anew
 ANEW = "begins anew"
 # the first line of a base; without a checksum it is one of a release whose logs had no chain
 UP_TO = re.compile(rb"# the numbers up to entry (\d{1,16}) of the log(?:, ([0-9a-f]{64}))?\n")
-NUMBER = re.compile(r"\d{16}")
+NUMBER = re.compile(r"[0-9]{16}")
+MOST_NUMBER = 10**15
 OF_BEFORE = re.compile(rb"(?:demand|capacity|base) ")
 
 
@@ -256,13 +262,15 @@ class Look:
     turn: dict[str, Any]
     roll: dict[str, Any]
     canary: dict[str, Any]
-    asked: str
+    # what was asked, the newest first
+    asked: list[str]
     servers: dict[str, dict[str, Any]]
     states: dict[str, dict[str, Any]]
     revision: int
     bases_revision: int
     last_revision: int
     turn_revision: int
+    asked_revision: int
 
     @property
     def newest(self) -> Base | None:
@@ -299,7 +307,7 @@ class Log:
             [
                 span(self.key(number), end, limit=limit if number else 1, **by_key),
                 under(entries, limit=1, sort_order="ASCEND", keys_only=True, **by_key),
-                under(entries, limit=1, sort_order="DESCEND", **by_key),
+                under(entries, limit=2, sort_order="DESCEND", **by_key),
                 one(self.at("bases")),
                 one(self.at("turn")),
                 one(self.at("roll")),
@@ -312,22 +320,23 @@ class Log:
         page, first, last, bases, turn, roll, canary, asked, servers, states = answer.found
         for item in first + last:
             if not NUMBER.fullmatch(item.name):
-                raise Fault(f"{item.key} was put by hand: delete it (etcdctl del {item.key})")
+                raise Fault(by_hand(item.key))
         return Look(
             int(first[0].name) if first else 0,
             int(last[0].name) if last else 0,
-            in_row(page if number else last, number),
+            in_row(page, number) if number else ends_with(last),
             bases_in(bases),
             told_in(turn[0].octets) if turn else {},
             told_in(roll[0].octets) if roll else {},
             told_in(canary[0].octets) if canary else {},
-            asked[0].octets.decode(errors="replace") if asked else "",
+            asked[0].octets.decode(errors="replace").split() if asked else [],
             {item.name: told_in(item.octets) for item in servers},
             {item.name: told_in(item.octets) for item in states},
             answer.revision,
             bases[0].revision if bases else 0,
             last[0].revision if last else 0,
             turn[0].revision if turn else 0,
+            asked[0].revision if asked else 0,
         )
 
     def entry(self, number: int) -> Entry | None:
@@ -345,9 +354,32 @@ class Log:
             yield from page[: last - number + 1]
             number += len(page)
 
-    def page(self, number: int) -> list[Entry]:
-        ask = span(self.key(number), after(self.at("log", "")), limit=PAGE, sort_target="KEY")
+    def page(self, number: int, limit: int = PAGE) -> list[Entry]:
+        ask = span(self.key(number), after(self.at("log", "")), limit=limit, sort_target="KEY")
         return in_row(self.etcd.txn([ask]).found[0], number)
+
+    def changed_by_hand(self, number: int, since: int) -> Iterator[str]:
+        """What somebody did by hand to the entries from a number on, since a later one was put: each key was put once, behind
+        the one before it."""
+        start, end, due = self.key(max(number, 1)), after(self.at("log", "")), max(number, 1)
+        newest = 0, 0
+        while True:
+            ask = span(start, end, limit=KEYS, keys_only=True, sort_target="KEY")
+            items = self.etcd.txn([ask]).found[0]
+            for item in items:
+                if not NUMBER.fullmatch(item.name):
+                    yield by_hand(item.key)
+                    continue
+                if int(item.name) != due:
+                    yield gap(due, item.key)
+                due = int(item.name) + 1
+                if due > since and item.revision < newest[0]:
+                    yield f"entry {newest[1]} was changed by hand: roll the topology anew"
+                    newest = 0, 0
+                newest = max(newest, (item.revision, due - 1))
+            if len(items) < KEYS:
+                return
+            start = f"{items[-1].key}\0"
 
     def newest_base(self) -> Base:
         look = self.look()
@@ -407,6 +439,8 @@ class Log:
     ) -> bool:
         """Puts an entry behind the last one that was seen, with its checksum; not where another came between, nor where one of
         these conditions does not hold."""
+        if look.bases:
+            self.check_end(look)
         before = look.entries[-1].checksum if look.entries else ""
         # by its id it is another text than any other one, also where a log that was restored gives its number again
         octets = entry_octets(kind, before, signed, {"id": ident, **content})
@@ -424,6 +458,17 @@ class Log:
             put(by, str(look.last + 1), self.etcd.lease(KEPT)),
         ]
         return self.etcd.txn(puts + (more or []), conditions).held
+
+    def check_end(self, look: Look) -> None:
+        """That followers come to the end of the log; a fault where that was put by hand, and they do not."""
+        if look.last > look.first and len(look.entries) == 1:
+            raise Fault(gap(look.last - 1, self.key(look.last)))
+        if look.last >= MOST_NUMBER:
+            raise Fault(by_hand(self.key(look.last)))
+        if look.entries and look.entries[-1].kind == NONE:
+            row = self.page(max(look.last - MOST_BY_HAND - 1, 1), MOST_BY_HAND + 2)
+            if len(row) > MOST_BY_HAND + 1 and all(entry.kind == NONE for entry in row[1:]):
+                raise Fault(many_by_hand())
 
     def put_bases(self, bases: list[Base]) -> Message:
         listed = [[base.number, base.checksum, base.upto, base.chain] for base in bases]
@@ -510,9 +555,10 @@ class Log:
         ]
         self.etcd.txn([*notes, put(self.at(self.states, name), json.dumps(state), lease)])
 
-    def ask(self, words: str) -> int:
-        """Asks each follower whether its server answers, and says the revision of that."""
-        return self.etcd.txn([put(self.at("look"), words)]).revision
+    def ask(self, word: str, look: Look) -> None:
+        """Asks each follower whether its server answers, where nobody else asked since; what was asked before stands behind."""
+        words = " ".join([word, *look.asked[: ASKED - 1]])
+        self.etcd.txn([put(self.at("look"), words)], [is_at(self.at("look"), look.asked_revision)])
 
     def news(self) -> tuple[str, str]:
         """The range of keys whose change is news for a follower: entries, and what glb-fleet asks."""
@@ -544,6 +590,25 @@ class Log:
         self.etcd.txn([delete(key)], [is_at(key, revision)])
 
 
+class Asker:
+    """Asks all followers whether their servers answer. What others ask since does as well, so that those who ask at once do
+    not hinder each other."""
+
+    def __init__(self, log: Log) -> None:
+        self.log, self.own = log, ""
+        self.words: set[str] = set()
+
+    def has_asked(self, look: Look) -> bool:
+        """Whether it had asked before that look; else it asks. Who restores etcd takes back what was asked."""
+        if self.own in look.asked:
+            self.words.update(look.asked[: look.asked.index(self.own) + 1])
+            return True
+        self.own = secrets.token_hex(4)
+        self.words = {self.own}
+        self.log.ask(self.own, look)
+        return False
+
+
 def in_row(items: list[Item], number: int) -> list[Entry]:
     """Entries one behind the other, from a number on (from whichever is first at 0). Of the first one nobody looks behind
     which it stands, but of entry 1, which stands behind none."""
@@ -557,6 +622,30 @@ def in_row(items: list[Item], number: int) -> list[Entry]:
             entry = entry.behind(row[-1].checksum if row else "")
         row.append(entry)
     return row
+
+
+def ends_with(last: list[Item]) -> list[Entry]:
+    """The last entry, and the one before it where that is there, by the last two keys."""
+    row = in_row(last[::-1], 0)
+    return row if len(row) == len(last) else in_row(last[:1], 0)
+
+
+def many_by_hand() -> str:
+    return (
+        f"more than {MOST_BY_HAND} keys in a row were put by hand: delete them, from the last one on"
+        " (glb-log --all --kind none)"
+    )
+
+
+def gap(number: int, key: str) -> str:
+    return (
+        f"entry {number} is not there, and {key} is: delete that one if it was put by hand; else put any text in the place,"
+        " and roll the topology anew"
+    )
+
+
+def by_hand(key: str) -> str:
+    return f"{plain(key)} was put by hand: delete it (etcdctl del {plain(key)})"
 
 
 def without_base(look: Look) -> str:

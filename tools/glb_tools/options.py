@@ -33,12 +33,16 @@ STATUSES = {
 }
 # by module, Debian's package of it
 PACKAGES = {
+    "dns": "python3-dnspython",
+    "flask": "python3-flask",
     "jinja2": "python3-jinja2",
     "maxminddb": "python3-maxminddb",
     "numpy": "python3-numpy",
     "prometheus_client": "python3-prometheus-client",
     "requests": "python3-requests",
     "scipy": "python3-scipy",
+    "waitress": "python3-waitress",
+    "werkzeug": "python3-werkzeug",
     "yaml": "python3-yaml",
 }
 # how long a command works before it shows its progress, in seconds
@@ -191,6 +195,14 @@ def told_without(name: str, words: list[str], package: str) -> bool:
     return True
 
 
+def check_word(word: str, option: str, more: str = "") -> None:
+    """That a word can be part of a key in etcd."""
+    is_text = word.isascii() or word.encode(errors="replace").decode() == word
+    if not word or not is_text or any(letter in word for letter in more):
+        without = f" without `{more}`" if more else ""
+        raise Fault(f"{option} is a word of UTF-8{without}", WRONG_WORDS)
+
+
 class Progress:
     """Shows on a terminal what a command does, once it has taken longer than two seconds."""
 
@@ -240,8 +252,10 @@ def written_whole(path: str | Path, mode: int = 0o644) -> Iterator[Path]:
             os.fsync(file.fileno())
         os.chmod(beside, mode)
         os.replace(beside, path)
-    except BaseException:
+    except BaseException as why:
         beside.unlink(missing_ok=True)
+        if isinstance(why, OSError):
+            why.filename = str(path)
         raise
 
 

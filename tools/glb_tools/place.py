@@ -29,8 +29,8 @@ class Identity:
     map: str | None = None
     next_entry: int | None = None
     next_chain: str | None = None
-    # where its last entry was put by hand: the checksums of those before it, from the last one on that was not (of a hundred
-    # at most), since that one alone says what stands before it
+    # where its last entry was put by hand: the checksums of those before it, from the last one on that was not, since that
+    # one alone says what stands before it
     row: list[str] = field(default_factory=list)
     # the last batches that it dropped whole, by their numbers, with the reasons
     dropped: dict[str, str] = field(default_factory=dict)
@@ -47,6 +47,13 @@ class Place:
             return Identity(**told_in(self.file.read_bytes()))
         except (OSError, TypeError):
             return None
+
+    def begun_from(self) -> str:
+        """The checksum of the copy that the server began from, as it is now."""
+        try:
+            return checksum_of((self.folder / "topology.toml").read_bytes())
+        except OSError:
+            return ""
 
     def keep(self, identity: Identity) -> None:
         write_file(self.file, json.dumps(asdict(identity)).encode())

@@ -49,8 +49,8 @@ class Served:
     map: bytes
 
 
-def asked(glb: str, command: str, *octets: bytes) -> bytes:
-    """What the program writes for a command over these files; a refusal is told."""
+def asked(glb: str, command: str, *octets: bytes, patience: float | None = None) -> bytes:
+    """What the program writes for a command over these files, within so many seconds; a refusal is told."""
     with tempfile.TemporaryDirectory(prefix="glb-plan-") as folder:
         paths = []
         for number, each in enumerate(octets):
@@ -58,9 +58,11 @@ def asked(glb: str, command: str, *octets: bytes) -> bytes:
             path.write_bytes(each)
             paths.append(str(path))
         try:
-            ended = subprocess.run([glb, command, *paths], capture_output=True)
+            ended = subprocess.run([glb, command, *paths], capture_output=True, timeout=patience)
         except OSError as why:
             raise Fault(f"{glb}: {why.strerror}") from None
+        except subprocess.TimeoutExpired:
+            raise Fault(f"{glb} {command} took longer than {patience:g} s") from None
     if ended.returncode in (2, 7):
         raise Fault(ended.stdout[:400].decode("utf-8", "replace").strip(), REFUSED)
     if ended.returncode:

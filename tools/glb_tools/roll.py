@@ -110,6 +110,8 @@ class Roll:
         waits = str(state.get("waits", ""))
         if "refused" in waits and self.checksum[:12] in waits:
             raise Fault(f"{name} waits: {waits}; nothing was rolled")
+        if waits:
+            self.say(name, f"waits: {waits}")
         return False
 
     def run_beside(self, name: str, topology: bytes, options: argparse.Namespace) -> int:
@@ -144,7 +146,7 @@ class Roll:
         end = time.monotonic() + seconds
         while True:
             look = self.look()
-            states = [judged(name, look, "") for name in names_in(look)]
+            states = [judged(name, look) for name in names_in(look)]
             for state in states:
                 self.say(state["name"], progress_of(state, self.checksum))
             over = [state for state in states if is_over(state, self.checksum)]
@@ -227,6 +229,8 @@ def back_to(log: Log) -> bytes:
 def roll(log: Log, topology: bytes, signed: Signed, options: argparse.Namespace) -> int:
     checksum = checksum_of(topology)
     look = log.look()
+    if options.canary and options.canary not in names_in(look):
+        raise Fault(f"there is no server {options.canary}: glb-fleet lists them")
     rolling = Roll(log, signed, checksum)
     try:
         if look.newest is None or look.newest.checksum != checksum:

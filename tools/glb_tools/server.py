@@ -27,6 +27,10 @@ END, HEAD = b"\nend\n", 16
 QUERY, LABEL = "000000000001000000000000", 16
 
 
+class Lost(Fault):
+    """It is not known any more how far a server is: whoever follows it ends, and the next one finds out."""
+
+
 @dataclass
 class Shown:
     """What a server says of its newest map."""
@@ -127,7 +131,7 @@ class Server:
         line = self.line(idle)
         found = SHOWN.fullmatch(line)
         if not found:
-            raise Fault(f"the server said `{line}` and not what it shows: who else writes to it?")
+            raise Lost(f"the server said `{line}` and not what it shows: who else writes to it?")
         return Shown(*map(int, found.groups()[:3]))
 
     def find(self, idle: Callable[[], None]) -> Worked:

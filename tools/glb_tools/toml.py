@@ -10,7 +10,7 @@ import gc
 import json
 import re
 import tomllib
-from collections.abc import Iterator
+from collections.abc import Iterable, Iterator
 from contextlib import contextmanager
 from pathlib import Path
 from typing import Any
@@ -259,18 +259,22 @@ class Document:
         except Unusual:
             self.top = tomllib.loads(self.text)
 
-    def written(self, numbers: dict[Place, int]) -> str:
-        """The text with these numbers, without a byte order mark. Only the digits of values change: remarks and order stay."""
+    def spans(self, places: Iterable[Place]) -> dict[Place, Span]:
+        """Where in the text the numbers at these places stand."""
         if self.plain is not None:
-            return replaced(self.text, self.plain.spans, numbers)
-        walked = Walk(self.text).found
-        spans = {place: walked[place] for place in numbers if place in walked}
-        for place in numbers:
-            if place not in spans:
+            return {place: self.plain.spans[place] for place in places}
+        walked, found = Walk(self.text).found, {}
+        for place in places:
+            if place not in walked:
                 table, entry, key = place
                 raise Fault(f"{self.path}: where `{key}` of {table} {entry} stands was not found")
-        text = replaced(self.text, spans, numbers)
-        if not self.differs_by(tomllib.loads(text), numbers):
+            found[place] = walked[place]
+        return found
+
+    def written(self, numbers: dict[Place, int]) -> str:
+        """The text with these numbers, without a byte order mark. Only the digits of values change: remarks and order stay."""
+        text = replaced(self.text, self.spans(numbers), numbers)
+        if self.plain is None and not self.differs_by(tomllib.loads(text), numbers):
             raise Fault(f"{self.path}: the numbers were not found in the text: write them by hand")
         return text
 

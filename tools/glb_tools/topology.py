@@ -13,7 +13,7 @@ from typing import Any
 
 from glb_tools.options import Fault
 from glb_tools.text import MOST_CAPACITY, MOST_UNITS, Change
-from glb_tools.toml import Document, Place, without_collections
+from glb_tools.toml import Document, Place, Span, without_collections
 
 # the limit of an offer that has none of its own
 NO_LIMIT = 2**32 - 1
@@ -262,6 +262,14 @@ def place_of(topology: Topology, change: Change) -> Place:
     if number < topology.groups:
         return "group", number, word
     return "class", number - topology.groups, word
+
+
+def spans_of(topology: Topology) -> tuple[list[Span], list[Span]]:
+    """Where in the text the capacity of each node stands, and the demand of each unit."""
+    nodes = [place_of(topology, ("capacity", number)) for number in range(len(topology.nodes))]
+    units = [place_of(topology, ("demand", number)) for number in range(len(topology.units))]
+    found = topology.document.spans([*nodes, *units])
+    return [found[place] for place in nodes], [found[place] for place in units]
 
 
 def written(topology: Topology, numbers: Mapping[Change, int]) -> str:

@@ -7,6 +7,7 @@ it, or etcd does the call or not and does not answer.
 """
 
 import base64
+import errno
 import functools
 import hashlib
 import json
@@ -17,6 +18,9 @@ from glb_tools import fleet, follow, follower
 from glb_tools.etcd import Answer, Etcd, Item, NoLease, Unreachable, after, put
 from glb_tools.log import (
     ALIVE,
+    ASKED,
+    LOOKED_BACK,
+    NUMBER,
     Base,
     Entry,
     Log,
@@ -29,15 +33,16 @@ from glb_tools.log import (
 )
 from glb_tools.options import Fault
 from glb_tools.place import Identity
-from glb_tools.server import Shown, Worked
+from glb_tools.server import Lost, Shown, Worked
 
-CRASH_BEFORE, CRASH_AFTER, LOST_BEFORE, LOST_AFTER = (
+CRASH_BEFORE, CRASH_AFTER, LOST_BEFORE, LOST_AFTER, FULL_DISK = (
     "crash before",
     "crash after",
     "lost before",
     "lost after",
+    "full disk",
 )
-FAULTS = (CRASH_BEFORE, CRASH_AFTER, LOST_BEFORE, LOST_AFTER)
+FAULTS = (CRASH_BEFORE, CRASH_AFTER, LOST_BEFORE, LOST_AFTER, FULL_DISK)
 OPS = Signed("ops", time=1)
 
 
@@ -150,7 +155,7 @@ class Outside:
     def plan(self, at=0, fault=None):
         self.count, self.at, self.fault = 0, at, fault
 
-    def call(self, do, is_etcd=False):
+    def call(self, do, is_etcd=False, is_disk=False):
         self.count += 1
         self.world.note_who_is_in()
         fault = self.fault if self.count == self.at else None
@@ -160,6 +165,8 @@ class Outside:
             raise Crash
         if is_etcd and (fault == LOST_BEFORE or self.cut_off):
             raise Unreachable("lost")
+        if is_disk and fault == FULL_DISK:
+            raise OSError(errno.ENOSPC, "No space left on device")
         answer = do()
         if fault == CRASH_AFTER:
             raise Crash
@@ -258,7 +265,10 @@ class Place:
         return self.kept
 
     def keep(self, identity):
-        self.outside.call(lambda: setattr(self, "kept", identity))
+        self.outside.call(lambda: setattr(self, "kept", identity), is_disk=True)
+
+    def begun_from(self):
+        return checksum_of(self.topology)
 
     def prepare(self, topology, identity):
         self.kept, self.topology = identity, topology
@@ -274,13 +284,13 @@ class Bases:
         return self.files.get(checksum)
 
     def put(self, checksum, octets):
-        self.outside.call(lambda: self.files.update({checksum: octets}))
+        self.outside.call(lambda: self.files.update({checksum: octets}), is_disk=True)
 
     def chosen(self):
         return self.choice
 
     def choose(self, checksum):
-        self.outside.call(lambda: setattr(self, "choice", checksum))
+        self.outside.call(lambda: setattr(self, "choice", checksum), is_disk=True)
 
     def prune(self, kept):
         pass
@@ -315,7 +325,7 @@ class Host:
         self.is_in, self.last_in, self.asked_at = False, 0, 0
 
     def let_in(self, is_in):
-        if is_in:
+        if is_in and not self.is_in:
             self.world.check_ready(self)
         self.is_in = is_in
 
@@ -323,9 +333,9 @@ class Host:
         log = Log(Client(self.world, self.outside), "glb")
         ask = log.ask
 
-        def noted(words):
+        def noted(*words):
             self.asked_at = self.world.moment
-            return ask(words)
+            return ask(*words)
 
         log.ask = noted
         return log
@@ -336,6 +346,12 @@ class Host:
             self.server_ends()
             self.machine = Machine(self.place.topology, self)
             self.world.ask()
+
+    def edit_by_hand(self):
+        """The same, over a copy of the topology that was edited."""
+        if self.machine:
+            self.place.topology += b"edited "
+            self.start_by_hand()
 
     def lose_memory(self):
         if self.machine:
@@ -371,10 +387,10 @@ class Host:
             self.follower_ends()
         except follower.Over:
             self.follower_ends()
-        except Unreachable:
-            return False
-        except Fault:
+        except Lost:
             self.follower_ends()
+            return False
+        except (Fault, OSError):
             return False
         finally:
             if self.machine and not self.machine.is_alive:
@@ -394,8 +410,18 @@ class Host:
             self.follower = made
             made.begin()
         else:
-            return self.follower.step()
+            return self.step()
         return True
+
+    def step(self):
+        """As `follow` does it: what does not let it go on is told, and the server answers on."""
+        try:
+            return self.follower.step()
+        except Lost:
+            raise
+        except (Fault, OSError) as why:
+            self.follower.hold_up(str(why))
+            return False
 
 
 @functools.lru_cache(None)
@@ -504,7 +530,9 @@ class World:
     def ask(self):
         """As glb-fleet does first of all."""
         self.asked = self.ident()
-        self.log.ask(self.asked)
+        there = self.table.items.get("glb/look")
+        words = [self.asked, *(there.octets.decode().split() if there else [])]
+        self.log.etcd.txn([put("glb/look", " ".join(words[:ASKED]))])
 
     def tick(self, seconds=ALIVE + 5):
         """Time goes by; followers that live and reach etcd keep their leases."""
@@ -531,7 +559,8 @@ class World:
     def entries(self):
         """The log itself, read off the table."""
         start = self.log.at("log", "")
-        found = [entry_of(item) for item in self.table.within(start, after(start))]
+        items = self.table.within(start, after(start))
+        found = [entry_of(item) for item in items if NUMBER.fullmatch(item.name)]
         for number, (before, entry) in enumerate(zip(found, found[1:]), 1):
             self.before[entry.number, entry.checksum] = before
             if entry.kind != "none" and entry.before != before.checksum:
@@ -565,7 +594,7 @@ class World:
         return worked, dropped
 
     def report(self):
-        return fleet.report(self.log, self.log.look(), self.asked)
+        return fleet.report(self.log, self.log.look(), frozenset({self.asked} - {""}))
 
     def note_who_is_in(self):
         """Which hosts let queries in, at the moments between calls to the outside."""
@@ -649,11 +678,22 @@ class World:
         left = [words for _, words in found.advice if "dropped" not in words]
         assert not left, left
         assert all(host.is_in for host in self.hosts)
-        missed = set(self.due(found.base, found.last)[1]) - set(found.dropped)
+        due = self.due(found.base, found.last)[1]
+        missed = {at for at in due if at > found.last - LOOKED_BACK} - set(found.dropped)
         assert not missed, f"nobody says that {missed} were dropped"
+
+    def mend(self):
+        """As followers and glb-append advise: of too many keys in a row that were put by hand the last ones go."""
+        while True:
+            look = self.log.look()
+            try:
+                return self.log.check_end(look)
+            except Fault:
+                del self.table.items[self.log.key(look.last)]
 
     def settle(self, rounds=15):
         """What comes of it when nothing more happens than one batch."""
+        self.mend()
         self.append("demand A 3\n")
         for host in self.hosts:
             host.outside.cut_off = False

@@ -32,6 +32,7 @@ WRITERS = {
 # the modules that a command needs beside Python's own
 NEEDS = {
     "glb-exporter": "prometheus_client",
+    "glb-page": "waitress",
     "glb-topology": "numpy",
     "glb-watch": "requests",
     "metrics.py": "prometheus_client",

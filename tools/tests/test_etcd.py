@@ -3,14 +3,19 @@
 import argparse
 import contextlib
 import json
+import shutil
 import socket
+import ssl
+import subprocess
+import tempfile
 import threading
 import time
 import unittest
 from http.server import BaseHTTPRequestHandler, ThreadingHTTPServer
+from pathlib import Path
 from unittest import mock
 
-from glb_tools import etcd
+from glb_tools import etcd, fleet
 from glb_tools.etcd import Etcd, Full, NoLease, Unreachable, etcd_of, one
 from glb_tools.options import WRONG_WORDS, Fault
 
@@ -18,8 +23,8 @@ EMPTY = {"header": {"revision": "7"}, "succeeded": True, "responses": [{"respons
 
 
 @contextlib.contextmanager
-def member(status=200, told=None, octets=None):
-    """A member that answers each call alike; the list of calls comes with its address."""
+def member(status=200, told=None, octets=None, context=None):
+    """A member that answers each call alike; the list of calls comes with its address. With a context it speaks https."""
     calls = []
 
     class Answers(BaseHTTPRequestHandler):
@@ -38,9 +43,12 @@ def member(status=200, told=None, octets=None):
             pass
 
     server = ThreadingHTTPServer(("127.0.0.1", 0), Answers)
-    threading.Thread(target=server.serve_forever, daemon=True).start()
+    server.handle_error = lambda *words: None
+    if context:
+        server.socket = context.wrap_socket(server.socket, server_side=True)
+    threading.Thread(target=server.serve_forever, args=(0.02,), daemon=True).start()
     try:
-        yield f"http://127.0.0.1:{server.server_port}", calls
+        yield f"http{'s' if context else ''}://127.0.0.1:{server.server_port}", calls
     finally:
         server.shutdown()
         server.server_close()
@@ -121,6 +129,118 @@ class Members(unittest.TestCase):
             "os.environ", {"http_proxy": "http://127.0.0.1:1"}
         ):
             self.assertTrue(Etcd([address]).txn([one("a")]).held)
+
+
+class Certificates(unittest.TestCase):
+    """Members that speak https, by certificates that openssl makes."""
+
+    @classmethod
+    def setUpClass(cls):
+        if not shutil.which("openssl"):
+            raise unittest.SkipTest("openssl is not installed (Debian: openssl)")
+        folder = tempfile.TemporaryDirectory()
+        cls.addClassCleanup(folder.cleanup)
+        cls.folder = Path(folder.name)
+        for name in ("good", "other"):
+            words = ["req", "-x509", *cls.new(name), "-subj", f"/CN={name}", "-days", "9"]
+            cls.openssl(*words, "-out", cls.at(f"{name}.pem"))
+        cls.sign("member", "good", "IP:127.0.0.1")
+        cls.sign("elsewhere", "good", "DNS:etcd.example")
+        cls.sign("expired", "good", "IP:127.0.0.1", days="-1")
+        cls.sign("client", "good", "DNS:client")
+        cls.sign("stranger", "other", "DNS:client")
+
+    @classmethod
+    def openssl(cls, *words):
+        subprocess.run(["openssl", *words], check=True, capture_output=True, timeout=20)
+
+    @classmethod
+    def at(cls, name):
+        return str(cls.folder / name)
+
+    @classmethod
+    def new(cls, name):
+        key = ["-newkey", "ec", "-pkeyopt", "ec_paramgen_curve:P-256", "-nodes"]
+        return [*key, "-keyout", cls.at(f"{name}.key")]
+
+    @classmethod
+    def sign(cls, name, signer, names, days="9"):
+        (cls.folder / f"{name}.ext").write_text(f"subjectAltName={names}\n")
+        cls.openssl("req", *cls.new(name), "-subj", "/O=fleet", "-out", cls.at(f"{name}.csr"))
+        words = ["-CA", cls.at(f"{signer}.pem"), "-CAkey", cls.at(f"{signer}.key"), "-days", days]
+        words += ["-CAcreateserial", "-extfile", cls.at(f"{name}.ext")]
+        cls.openssl(
+            "x509", "-req", "-in", cls.at(f"{name}.csr"), *words, "-out", cls.at(f"{name}.pem")
+        )
+
+    def served(self, name, clients=None):
+        context = ssl.SSLContext(ssl.PROTOCOL_TLS_SERVER)
+        context.load_cert_chain(self.at(f"{name}.pem"), self.at(f"{name}.key"))
+        if clients:
+            context.verify_mode = ssl.CERT_REQUIRED
+            context.load_verify_locations(self.at(f"{clients}.pem"))
+        return member(told=EMPTY, context=context)
+
+    def asked(self, address, *words):
+        parser = argparse.ArgumentParser()
+        etcd.add_etcd_options(parser)
+        found = etcd_of(parser.parse_args(["--etcd", address, *words]))
+        return found.txn([one("a")]).revision
+
+    def of(self, name):
+        return ["--cert", self.at(f"{name}.pem"), "--key", self.at(f"{name}.key")]
+
+    def test_what_is_taken(self):
+        signed = ["--cacert", self.at("good.pem")]
+        with self.served("member") as (address, _):
+            self.assertEqual(self.asked(address, *signed), 7)
+        with self.served("member", "good") as (address, _):
+            self.assertEqual(self.asked(address, *signed, *self.of("client")), 7)
+        with self.served("expired") as (expired, _), self.served("member") as (address, _):
+            self.assertEqual(self.asked(f"{expired},{address}", *signed), 7)
+
+    def test_what_is_not_taken(self):
+        for name, clients, more, words in (
+            ("member", None, ["--cacert", self.at("other.pem")], "unable to get local issuer"),
+            ("member", None, [], "unable to get local issuer|self-signed"),
+            ("elsewhere", None, ["--cacert", self.at("good.pem")], "not valid for '127.0.0.1'"),
+            ("expired", None, ["--cacert", self.at("good.pem")], "has expired"),
+            ("member", "good", ["--cacert", self.at("good.pem")], "certificate"),
+            ("member", "good", ["--cacert", self.at("good.pem"), *self.of("stranger")], ""),
+        ):
+            with self.subTest(words), self.served(name, clients) as (address, _):
+                began = time.monotonic()
+                with self.assertRaisesRegex(Unreachable, f"^etcd: {address}: .*({words})"):
+                    self.asked(address, *more)
+                self.assertLess(time.monotonic() - began, 3)
+
+    def test_one_side_without_tls(self):
+        signed = ["--cacert", self.at("good.pem")]
+        with member(told=EMPTY) as (address, _):
+            with self.assertRaisesRegex(Unreachable, "does it speak https"):
+                self.asked(address.replace("http:", "https:"), *signed)
+        with self.served("member") as (address, _), self.assertRaises(Unreachable):
+            self.asked(address.replace("https:", "http:"))
+        with silent() as hangs, mock.patch.object(etcd, "PATIENCE", 0.3):
+            with self.assertRaisesRegex(Unreachable, "timed out"):
+                self.asked(hangs.replace("http:", "https:"), *signed)
+
+    def test_files_that_do_not_go_together(self):
+        client, other = self.of("client"), self.of("stranger")
+        with self.assertRaisesRegex(Fault, "client.pem, .*stranger.key: .*mismatch"):
+            self.asked("https://127.0.0.1:1", *client[:2], *other[2:])
+        with self.assertRaisesRegex(Fault, "client.key: "):
+            self.asked("https://127.0.0.1:1", "--cacert", self.at("client.key"))
+
+    def test_glb_fleet_says_why_a_member_is_left_out(self):
+        with self.served("expired") as (address, _):
+            parser = argparse.ArgumentParser()
+            etcd.add_etcd_options(parser)
+            words = ["--etcd", address, "--cacert", self.at("good.pem")]
+            found, told = fleet.Report(), etcd_of(parser.parse_args(words))
+            with mock.patch.object(Etcd, "alarms", lambda self: []):
+                fleet.look_at_members(told, found)
+        self.assertIn("its certificate is not taken: certificate has expired", found.advice[0][1])
 
 
 class Options(unittest.TestCase):

@@ -22,7 +22,7 @@ class Told(unittest.TestCase):
 
     def shown(self, asked=""):
         log = self.world.log
-        found, out = report(log, log.look(), asked), io.StringIO()
+        found, out = report(log, log.look(), frozenset({asked} - {""})), io.StringIO()
         with contextlib.redirect_stdout(out):
             say(found)
         return found, out.getvalue()

@@ -219,7 +219,10 @@ class Entries:
             for n, lines in enumerate(self.batches, 1)
         ]
         return SimpleNamespace(
-            newest=self.base, entries=every[number - 1 :], base_at=lambda _: self.base
+            newest=self.base,
+            last=len(every),
+            entries=every[number - 1 :],
+            base_at=lambda _: self.base,
         )
 
 

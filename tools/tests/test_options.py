@@ -9,7 +9,16 @@ import unittest.mock
 from pathlib import Path
 
 from glb_tools import VERSION
-from glb_tools.options import Fault, parser, start, told, write_file, written_whole
+from glb_tools.options import (
+    WRONG_WORDS,
+    Fault,
+    check_word,
+    parser,
+    start,
+    told,
+    write_file,
+    written_whole,
+)
 
 
 def ended(main):
@@ -124,6 +133,19 @@ class Files(unittest.TestCase):
             beside.write_bytes(b"tw")
             raise KeyboardInterrupt
         self.assertEqual((self.path.read_bytes(), self.names()), (b"one", ["file"]))
+
+
+class Words(unittest.TestCase):
+    def test_what_a_key_can_have(self):
+        for word in ("a", "host1-v4", "ü", "a b"):
+            check_word(word, "--name", "/")
+        check_word("glb/one", "--prefix")
+        for word in ("", "a/b", "/", "\udcff", "x\udc80y"):
+            with self.subTest(word), self.assertRaisesRegex(
+                Fault, "^--name is a word of UTF-8 without `/`$"
+            ) as found:
+                check_word(word, "--name", "/")
+            self.assertEqual(found.exception.status, WRONG_WORDS)
 
 
 if __name__ == "__main__":

@@ -1,0 +1,1 @@
+"""The page of what is served: a web server that only reads."""
