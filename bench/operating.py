@@ -37,6 +37,11 @@ BLOCKS = {
         ("/usr/local/lib/glb/glb-moves examples/tree.map examples/tree.map", "0 groups, .*"),
         ("/usr/local/lib/glb/moves.py examples/tree.map examples/tree.map", "0 groups, .*"),
     ),
+    # the group is not there, so the file goes again
+    "mkdir -p /etc/systemd/system/glb-follow@.service.d": Block(
+        ("systemctl daemon-reload; systemctl show --value -p SupplementaryGroups glb-follow@v4", "bird"),
+        ("rm -r /etc/systemd/system/glb-follow@.service.d; systemctl daemon-reload; systemctl show --value -p SupplementaryGroups glb-follow@v4", ""),
+    ),
     "DEBFULLNAME": Block(
         ("dpkg -s glb", "(?s).*Status: install ok installed.*"),
         ("cp examples/tree.toml /etc/glb/topology.toml; systemctl start glb@v4; sleep 2; " + ANSWER.format("127.0.0.1"), ADDRESS),
