@@ -373,12 +373,17 @@ class Looks:
     def views(self, browser):
         browser.open(VIEWS["what-if"])
         self.until("the dry run ends", lambda: "What would come" in browser.text(), 60)
+        self.until("the charts have values", lambda: self.has_charts(browser), 60)
         for scheme in ("light", "dark"):
             browser.scheme(scheme)
             for width, height in SIZES:
                 browser.size(width, height)
                 for name, path in VIEWS.items():
                     self.view(browser, f"{name}-{width}-{scheme}", path, width, height)
+
+    def has_charts(self, browser):
+        browser.open(VIEWS["time"])
+        return browser.run("return document.querySelectorAll('figure').length") > 2
 
     def view(self, browser, name, path, width, height):
         browser.open(path)
