@@ -16,7 +16,7 @@ ghost use Rattle.drive.specs.Feeds.{AllStand, AnyRose, NoneFell};
 ghost use Rattle.drive.specs.Queue.{IsFeedQueue};
 ghost use Rattle.drive.specs.Read.{IsRead};
 ghost use Rattle.drive.specs.Streams.{AreStreamsDone};
-ghost use Rattle.drive.specs.Told.{feed_told, lane_told, lent_of, stream_told};
+ghost use Rattle.drive.specs.Told.{feed_told, lent_of};
 
 use crate::beside::run_beside;
 use crate::feeders::run_among;
@@ -180,9 +180,9 @@ fn serve_all<
     ensures history { IsHistory mapper.new.history }
     ensures len { vec_len works.new.lanes ≡ vec_len works.old.lanes }
     ensures done { (rest : List Version) × (mapper.new.history ≡ mapper.old.newest ∷ rest) × AllDone (λ i l k w. IsDone loan.old.side.turns mapper.old.newest rest i
-        (lane_told P.told P.faults G.told D.asked D.looks D.greatest D.faults l) (lane_told P.told P.faults G.told D.asked D.looks D.greatest D.faults k) w.ended) 0 loan.old.lanes.now loan.new.lanes.now works.new.lanes.items
+        l k w.ended) 0 loan.old.lanes.now loan.new.lanes.now works.new.lanes.items
         × AreStreamsDone loan.old.side.turns mapper.old.newest rest (vec_len works.old.lanes) (option_map (λ w. w.ended) works.new.stream)
-        (stream_told Q.told Q.faults G.told D.asked D.looks D.greatest D.faults stream.old) (stream_told Q.told Q.faults G.told D.asked D.looks D.greatest D.faults stream.new) }
+        stream.old stream.new }
     ensures same { length (option_to_list works.new.stream) ≡ length (option_to_list works.old.stream) }
 {
     let _ = row.put_at(rt, 0, mapper.note());
@@ -237,9 +237,9 @@ fn serve_several<
     ensures history { IsHistory mapper.new.history }
     ensures len { vec_len works.new.lanes ≡ vec_len works.old.lanes }
     ensures done { (rest : List Version) × (mapper.new.history ≡ mapper.old.newest ∷ rest) × AllDone (λ i l k w. IsDone desk.now.turns mapper.old.newest rest i
-        (lane_told P.told P.faults G.told D.asked D.looks D.greatest D.faults l) (lane_told P.told P.faults G.told D.asked D.looks D.greatest D.faults k) w.ended) 0 lanes.old lanes.new works.new.lanes.items
+        l k w.ended) 0 lanes.old lanes.new works.new.lanes.items
         × AreStreamsDone desk.now.turns mapper.old.newest rest (vec_len works.old.lanes) (option_map (λ w. w.ended) works.new.stream)
-        (stream_told Q.told Q.faults G.told D.asked D.looks D.greatest D.faults stream.old) (stream_told Q.told Q.faults G.told D.asked D.looks D.greatest D.faults stream.new) }
+        stream.old stream.new }
     ensures same { length (option_to_list works.new.stream) ≡ length (option_to_list works.old.stream) }
 {
     let _ = row.put_at(rt, 0, mapper.note());
@@ -283,8 +283,8 @@ fn drive_one<
     requires listener { IfSome prepared.works.stream (λ w. (w.worker.number ≡ vec_len prepared.works.lanes) × (w.worker.count ≡ 0) × (w.worker.viewer.seen ≡ mapper.history) × (w.worker.viewer.heard ≡ mapper.history) × (w.turns ≡ turns)) }
     requires few { (vec_len prepared.works.lanes ≤ 16) × (vec_len prepared.works.lanes ≤ length lanes.old) }
     ensures driven { (ends : List Ended) × (length ends ≡ vec_len prepared.works.lanes) × AreEnds ends result.lanes × IsDriven turns mapper.newest result.feed ends result.stream
-        (lent_of (feed_told S.told S.faults) (feed_told T.told T.faults) K.told M.told (lane_told P.told P.faults G.told D.asked D.looks D.greatest D.faults) (stream_told Q.told Q.faults G.told D.asked D.looks D.greatest D.faults) feed.old [] out.old maps.old pace.old lanes.old stream.old)
-        (lent_of (feed_told S.told S.faults) (feed_told T.told T.faults) K.told M.told (lane_told P.told P.faults G.told D.asked D.looks D.greatest D.faults) (stream_told Q.told Q.faults G.told D.asked D.looks D.greatest D.faults) feed.new [] out.new maps.new pace.new lanes.new stream.new) }
+        (lent_of (feed_told S.told S.faults) (feed_told T.told T.faults) K.told M.told feed.old [] out.old maps.old pace.old lanes.old stream.old)
+        (lent_of (feed_told S.told S.faults) (feed_told T.told T.faults) K.told M.told feed.new [] out.new maps.new pace.new lanes.new stream.new) }
     ensures untouched { drop (vec_len prepared.works.lanes) lanes.new ≡ drop (vec_len prepared.works.lanes) lanes.old }
     ensures stream { length (option_to_list result.stream) ≡ length (option_to_list prepared.works.stream) }
     ensures later { (K.faults out.old ≤ K.faults out.new) × (K.faults maps.old ≤ K.faults maps.new) × (S.faults feed.old ≤ S.faults feed.new) }
@@ -354,8 +354,8 @@ fn drive_several<
     requires few { (vec_len prepared.works.lanes ≤ 16) × (vec_len prepared.works.lanes ≤ length lanes.old) }
     requires several { more.old ≢ [] }
     ensures driven { (ends : List Ended) × (length ends ≡ vec_len prepared.works.lanes) × AreEnds ends result.lanes × IsDriven queue.desk.turns mapper.newest result.feed ends result.stream
-        (lent_of (feed_told S.told S.faults) (feed_told T.told T.faults) K.told M.told (lane_told P.told P.faults G.told D.asked D.looks D.greatest D.faults) (stream_told Q.told Q.faults G.told D.asked D.looks D.greatest D.faults) feed.old more.old out.old maps.old pace.old lanes.old stream.old)
-        (lent_of (feed_told S.told S.faults) (feed_told T.told T.faults) K.told M.told (lane_told P.told P.faults G.told D.asked D.looks D.greatest D.faults) (stream_told Q.told Q.faults G.told D.asked D.looks D.greatest D.faults) feed.new more.new out.new maps.new pace.new lanes.new stream.new) }
+        (lent_of (feed_told S.told S.faults) (feed_told T.told T.faults) K.told M.told feed.old more.old out.old maps.old pace.old lanes.old stream.old)
+        (lent_of (feed_told S.told S.faults) (feed_told T.told T.faults) K.told M.told feed.new more.new out.new maps.new pace.new lanes.new stream.new) }
     ensures untouched { drop (vec_len prepared.works.lanes) lanes.new ≡ drop (vec_len prepared.works.lanes) lanes.old }
     ensures stream { length (option_to_list result.stream) ≡ length (option_to_list prepared.works.stream) }
     ensures later { (K.faults out.old ≤ K.faults out.new) × (K.faults maps.old ≤ K.faults maps.new) × (S.faults feed.old ≤ S.faults feed.new) × NoneFell (map (feed_told T.told T.faults) more.old) (map (feed_told T.told T.faults) more.new) }
@@ -447,8 +447,8 @@ fn drive_with<
     requires few { (vec_len prepared.works.lanes ≤ 16) × (vec_len prepared.works.lanes ≤ length lanes.old) }
     requires several { (more.old ≢ []) × (length more.old ≤ 3) }
     ensures driven { IfOk result (λ r. (ends : List Ended) × (length ends ≡ vec_len prepared.works.lanes) × AreEnds ends r.lanes × IsDriven turns mapper.newest r.feed ends r.stream
-        (lent_of (feed_told S.told S.faults) (feed_told T.told T.faults) K.told M.told (lane_told P.told P.faults G.told D.asked D.looks D.greatest D.faults) (stream_told Q.told Q.faults G.told D.asked D.looks D.greatest D.faults) feed.old more.old out.old maps.old pace.old lanes.old stream.old)
-        (lent_of (feed_told S.told S.faults) (feed_told T.told T.faults) K.told M.told (lane_told P.told P.faults G.told D.asked D.looks D.greatest D.faults) (stream_told Q.told Q.faults G.told D.asked D.looks D.greatest D.faults) feed.new more.new out.new maps.new pace.new lanes.new stream.new)) }
+        (lent_of (feed_told S.told S.faults) (feed_told T.told T.faults) K.told M.told feed.old more.old out.old maps.old pace.old lanes.old stream.old)
+        (lent_of (feed_told S.told S.faults) (feed_told T.told T.faults) K.told M.told feed.new more.new out.new maps.new pace.new lanes.new stream.new)) }
     ensures untouched { drop (vec_len prepared.works.lanes) lanes.new ≡ drop (vec_len prepared.works.lanes) lanes.old }
     ensures stream { IfOk result (λ r. length (option_to_list r.stream) ≡ length (option_to_list prepared.works.stream)) }
     ensures no_memory { OnErr result ((feed.new ≡ feed.old) × (more.new ≡ more.old) × (out.new ≡ out.old) × (maps.new ≡ maps.old) × (lanes.new ≡ lanes.old) × (stream.new ≡ stream.old) × (pace.new ≡ pace.old)) }
@@ -517,8 +517,8 @@ pub fn drive<
     requires few { (vec_len viewers ≤ 16) × (vec_len viewers ≤ length lanes.old) }
     requires feeds { length more.old ≤ 3 }
     ensures driven { IfOk result (λ r. (ends : List Ended) × (length ends ≡ vec_len viewers) × AreEnds ends r.lanes × IsDriven turns mapper.newest r.feed ends r.stream
-        (lent_of (feed_told S.told S.faults) (feed_told T.told T.faults) K.told M.told (lane_told P.told P.faults G.told D.asked D.looks D.greatest D.faults) (stream_told Q.told Q.faults G.told D.asked D.looks D.greatest D.faults) feed.old more.old out.old maps.old pace.old lanes.old stream.old)
-        (lent_of (feed_told S.told S.faults) (feed_told T.told T.faults) K.told M.told (lane_told P.told P.faults G.told D.asked D.looks D.greatest D.faults) (stream_told Q.told Q.faults G.told D.asked D.looks D.greatest D.faults) feed.new more.new out.new maps.new pace.new lanes.new stream.new)) }
+        (lent_of (feed_told S.told S.faults) (feed_told T.told T.faults) K.told M.told feed.old more.old out.old maps.old pace.old lanes.old stream.old)
+        (lent_of (feed_told S.told S.faults) (feed_told T.told T.faults) K.told M.told feed.new more.new out.new maps.new pace.new lanes.new stream.new)) }
     ensures untouched { drop (vec_len viewers) lanes.new ≡ drop (vec_len viewers) lanes.old }
     ensures stream { IfOk result (λ r. length (option_to_list r.stream) ≡ length (option_to_list listener)) }
     ensures no_memory { OnErr result ((feed.new ≡ feed.old) × (more.new ≡ more.old) × (out.new ≡ out.old) × (maps.new ≡ maps.old) × (lanes.new ≡ lanes.old) × (stream.new ≡ stream.old) × (pace.new ≡ pace.old)) }

@@ -277,7 +277,8 @@ fn drive_one<R: Threads + Wait + Sync>(
     ) {
         None => None,
         Some(ended) => {
-            let port = &lanes[0].port;
+            let lane = &lanes[0];
+            let port = &lane.port;
             Some((ended, port.taken().len(), port.tries().len()))
         }
     }
@@ -338,7 +339,10 @@ fn sixteen_lanes(alloc: Global) -> Option<Vec<Lane<MemPort, MemGate, MemDoor>>> 
 fn taken_by(lanes: &[Lane<MemPort, MemGate, MemDoor>]) -> usize {
     lanes
         .iter()
-        .filter(|lane| lane.port.taken().len() == 1)
+        .filter(|lane| {
+            let lane: &Lane<MemPort, MemGate, MemDoor> = lane;
+            lane.port.taken().len() == 1
+        })
         .count()
 }
 

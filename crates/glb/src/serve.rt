@@ -9,7 +9,6 @@ ghost use Rattle.glb.specs.Program.{IsPromised};
 ghost use Rattle.glb.specs.Serve.{IsFirstSession, IsSession, PlacedFirst, is_cell_fault, is_port_fault, is_spent, status_by};
 ghost use Rattle.glb.specs.Starting.{IsAskedSome, at_place, status_at};
 ghost use Rattle.glb.specs.Commands.{service_asked};
-ghost use Rattle.drive.specs.Told.{lane_told};
 ghost use Rattle.glb.specs.Told.{IsSame, stage_of, surroundings};
 ghost use Rattle.glb.specs.Words.{given, lanes_of, most_workers, serve as task, streams_of};
 
@@ -117,8 +116,8 @@ fn open_by<J: Naming, R: Wait, P: Port, G: Gate, D: Door>(
     ensures mapper { IfOk result (λ r. IsFirst topology r.0) }
     ensures scratch { IfOk result (λ r. IsFromScratch topology.market r.0.newest.lines) }
     ensures viewers { IfOk result (λ r. (vec_len r.1 ≡ workers) × All (λ v. (v.seen ≡ r.0.history) × (v.heard ≡ r.0.history)) r.1.items) }
-    ensures asked { IfOk result (λ _. PlacedFirst workers (lane_told P.told P.faults G.told D.asked D.looks D.greatest D.faults lane.old ∷ []) (lane_told P.told P.faults G.told D.asked D.looks D.greatest D.faults lane.new ∷ [])) }
-    ensures refused { IfErr result (λ e. IsAskedSome workers e (lane_told P.told P.faults G.told D.asked D.looks D.greatest D.faults lane.old ∷ []) (lane_told P.told P.faults G.told D.asked D.looks D.greatest D.faults lane.new ∷ [])) }
+    ensures asked { IfOk result (λ _. PlacedFirst workers (lane.old ∷ []) (lane.new ∷ [])) }
+    ensures refused { IfErr result (λ e. IsAskedSome workers e (lane.old ∷ []) (lane.new ∷ [])) }
 {
     let mut steps = Steps::<Proposals>::new();
     Mapper::<J>::open(
@@ -148,8 +147,8 @@ fn open_first<J: Naming, R: Wait, P: Port, G: Gate, D: Door>(
     ensures scratch { IfOk result (λ r. IsFromScratch topology.market r.0.newest.lines) }
     ensures viewers { IfOk result (λ r. (vec_len r.1 ≡ workers) × All (λ v. (v.seen ≡ r.0.history) × (v.heard ≡ r.0.history)) r.1.items) }
     ensures length { length lanes.new ≡ length lanes.old }
-    ensures asked { IfOk result (λ _. PlacedFirst workers (map (lane_told P.told P.faults G.told D.asked D.looks D.greatest D.faults) lanes.old) (map (lane_told P.told P.faults G.told D.asked D.looks D.greatest D.faults) lanes.new)) }
-    ensures refused { IfErr result (λ e. IsAskedSome workers e (map (lane_told P.told P.faults G.told D.asked D.looks D.greatest D.faults) lanes.old) (map (lane_told P.told P.faults G.told D.asked D.looks D.greatest D.faults) lanes.new)) }
+    ensures asked { IfOk result (λ _. PlacedFirst workers lanes.old lanes.new) }
+    ensures refused { IfErr result (λ e. IsAskedSome workers e lanes.old lanes.new) }
 {
     open_by::<J, R, P, G, D>(rt, alloc, history, topology, workers, &mut lanes[0])
 }
@@ -170,8 +169,8 @@ fn open_mapper<J: Naming, R: Wait, P: Port, G: Gate, D: Door>(
     ensures scratch { IfOk result (λ r. IsFromScratch topology.market r.0.newest.lines) }
     ensures viewers { IfOk result (λ r. (vec_len r.1 ≡ workers) × All (λ v. (v.seen ≡ r.0.history) × (v.heard ≡ r.0.history)) r.1.items) }
     ensures length { length lanes.new ≡ length lanes.old }
-    ensures asked { IfOk result (λ _. PlacedFirst workers (map (lane_told P.told P.faults G.told D.asked D.looks D.greatest D.faults) lanes.old) (map (lane_told P.told P.faults G.told D.asked D.looks D.greatest D.faults) lanes.new)) }
-    ensures refused { IfErr result (λ e. IsAskedSome workers e (map (lane_told P.told P.faults G.told D.asked D.looks D.greatest D.faults) lanes.old) (map (lane_told P.told P.faults G.told D.asked D.looks D.greatest D.faults) lanes.new)) }
+    ensures asked { IfOk result (λ _. PlacedFirst workers lanes.old lanes.new) }
+    ensures refused { IfErr result (λ e. IsAskedSome workers e lanes.old lanes.new) }
 {
     let (first, _others) = lanes.split_at_mut(1);
     open_first::<J, R, P, G, D>(rt, alloc, history, topology, workers, first)
@@ -247,7 +246,7 @@ fn serve_first<
     requires turns { lent.old.turns ≤ MOST_TURNS }
     requires feeds { length lent.old.more.now ≡ 3 }
     ensures keeps { IsSame lent.old lent.new }
-    ensures served { IsFirstSession lent.old.turns (service_asked service.now) mapper.newest (stage_of S.told S.faults N.told N.faults N.opens K.told K.faults P.told P.faults Q.told Q.faults G.told D.asked D.looks D.greatest D.faults M.told lent.old stream.old) (stage_of S.told S.faults N.told N.faults N.opens K.told K.faults P.told P.faults Q.told Q.faults G.told D.asked D.looks D.greatest D.faults M.told lent.new stream.new) result }
+    ensures served { IsFirstSession lent.old.turns (service_asked service.now) mapper.newest (stage_of S.told S.faults N.told N.faults N.opens K.told K.faults M.told lent.old stream.old) (stage_of S.told S.faults N.told N.faults N.opens K.told K.faults M.told lent.new stream.new) result }
 {
     match start_lanes(
         mapper.text(),
@@ -310,7 +309,7 @@ fn serve_topology<
     requires turns { lent.old.turns ≤ MOST_TURNS }
     requires feeds { length lent.old.more.now ≡ 3 }
     ensures keeps { IsSame lent.old lent.new }
-    ensures session { IsSession lent.old.turns (service_asked service.now) topology (stage_of S.told S.faults N.told N.faults N.opens K.told K.faults P.told P.faults Q.told Q.faults G.told D.asked D.looks D.greatest D.faults M.told lent.old stream.old) (stage_of S.told S.faults N.told N.faults N.opens K.told K.faults P.told P.faults Q.told Q.faults G.told D.asked D.looks D.greatest D.faults M.told lent.new stream.new) result }
+    ensures session { IsSession lent.old.turns (service_asked service.now) topology (stage_of S.told S.faults N.told N.faults N.opens K.told K.faults M.told lent.old stream.old) (stage_of S.told S.faults N.told N.faults N.opens K.told K.faults M.told lent.new stream.new) result }
 {
     match open_mapper::<J, R, P, G, D>(
         rt,
@@ -350,7 +349,7 @@ pub fn serve<
     requires turns { lent.old.turns ≤ MOST_TURNS }
     requires feeds { length lent.old.more.now ≡ 3 }
     ensures keeps { IsSame lent.old lent.new }
-    ensures promised { IsPromised lent.old.turns (Some (task (service_asked service.now))) (surroundings (F.told files.old) (F.faults files.old) (stage_of S.told S.faults N.told N.faults N.opens K.told K.faults P.told P.faults Q.told Q.faults G.told D.asked D.looks D.greatest D.faults M.told lent.old stream.old)) (surroundings (F.told files.new) (F.faults files.new) (stage_of S.told S.faults N.told N.faults N.opens K.told K.faults P.told P.faults Q.told Q.faults G.told D.asked D.looks D.greatest D.faults M.told lent.new stream.new)) result }
+    ensures promised { IsPromised lent.old.turns (Some (task (service_asked service.now))) (surroundings (F.told files.old) (F.faults files.old) (stage_of S.told S.faults N.told N.faults N.opens K.told K.faults M.told lent.old stream.old)) (surroundings (F.told files.new) (F.faults files.new) (stage_of S.told S.faults N.told N.faults N.opens K.told K.faults M.told lent.new stream.new)) result }
 {
     match load_topology(alloc, files, service.topology) {
         Ok(topology) => serve_topology::<Brand, R, S, N, K, P, Q, G, D, M>(

@@ -4,7 +4,7 @@
 ghost use Rattle.std.specs.Prelude.{◌≡◌, length, map};
 ghost use Rattle.std.specs.Process.{exit_status};
 ghost use Rattle.glb.specs.Outcome.{code_of};
-ghost use Rattle.drive.specs.Told.{feed_told, lane_told, stream_told};
+ghost use Rattle.drive.specs.Told.{feed_told};
 ghost use Rattle.glb.specs.Told.{stage, surroundings};
 ghost use Rattle.glb_program.specs.Fresh.{new_surroundings};
 ghost use Rattle.glb_program.specs.Ran.{Ran};
@@ -70,9 +70,9 @@ fn run_words<
     requires feeds { length more.old ≡ 3 }
     requires lanes { length lanes.old ≡ 16 }
     // All of it is new: so each count of faults counts from 0 on, and what is told is all that was ever asked.
-    requires fresh { (surroundings (F.told files.old) (F.faults files.old) (stage (feed_told S.told S.faults feed.old) (map (feed_told N.told N.faults) more.old) (map N.opens more.old) (K.told out.old) (K.told maps.old) (M.told pace.old) (map (lane_told P.told P.faults G.told D.asked D.looks D.greatest D.faults) lanes.old) (stream_told Q.told Q.faults G.told D.asked D.looks D.greatest D.faults stream.old) (K.faults out.old) (K.faults maps.old))) ≡ new_surroundings }
+    requires fresh { (surroundings (F.told files.old) (F.faults files.old) (stage (feed_told S.told S.faults feed.old) (map (feed_told N.told N.faults) more.old) (map N.opens more.old) (K.told out.old) (K.told maps.old) (M.told pace.old) lanes.old stream.old (K.faults out.old) (K.faults maps.old))) ≡ new_surroundings }
     // Unless the words could not be read for want of memory, where nothing is touched, it is a run of what some words ask for.
-    ensures { Ran (surroundings (F.told files.old) (F.faults files.old) (stage (feed_told S.told S.faults feed.old) (map (feed_told N.told N.faults) more.old) (map N.opens more.old) (K.told out.old) (K.told maps.old) (M.told pace.old) (map (lane_told P.told P.faults G.told D.asked D.looks D.greatest D.faults) lanes.old) (stream_told Q.told Q.faults G.told D.asked D.looks D.greatest D.faults stream.old) (K.faults out.old) (K.faults maps.old))) (surroundings (F.told files.new) (F.faults files.new) (stage (feed_told S.told S.faults feed.new) (map (feed_told N.told N.faults) more.new) (map N.opens more.new) (K.told out.new) (K.told maps.new) (M.told pace.new) (map (lane_told P.told P.faults G.told D.asked D.looks D.greatest D.faults) lanes.new) (stream_told Q.told Q.faults G.told D.asked D.looks D.greatest D.faults stream.new) (K.faults out.new) (K.faults maps.new))) result }
+    ensures { Ran (surroundings (F.told files.old) (F.faults files.old) (stage (feed_told S.told S.faults feed.old) (map (feed_told N.told N.faults) more.old) (map N.opens more.old) (K.told out.old) (K.told maps.old) (M.told pace.old) lanes.old stream.old (K.faults out.old) (K.faults maps.old))) (surroundings (F.told files.new) (F.faults files.new) (stage (feed_told S.told S.faults feed.new) (map (feed_told N.told N.faults) more.new) (map N.opens more.new) (K.told out.new) (K.told maps.new) (M.told pace.new) lanes.new stream.new (K.faults out.new) (K.faults maps.new))) result }
 {
     match read_args(rt) {
         Ok(words) => glb(

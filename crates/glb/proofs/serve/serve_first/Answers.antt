@@ -1,6 +1,6 @@
 use Rattle.std.proofs.Common.{rules, ◌++◌, map, ap, sym, ◌∙◌}
 use Rattle.std.proofs.lemmas.List.{length-map, map-append}
-use Rattle.drive.specs.Told.{feed_told, lane_told, stream_told}
+use Rattle.drive.specs.Told.{feed_told}
 use Rattle.glb.specs.Commands.{service_asked}
 use Rattle.glb.specs.Feeds.{Named}
 use Rattle.glb.proofs.First.{behind_same, served_session, starts, unfed_session}
@@ -26,7 +26,7 @@ returns-in-Err-clause-served g c =
     c.text.ensures c.in-Ready.ensures.start in
     unfed_session _ (service_asked c.args.service.now) _ _ _ _ begin
     (same_stage _ _ _ _ _ _ _ _ _ _ _ _ _ _ _ _ _ _ _ _ (ap (feed_told g.S.Source.told g.S.Source.faults) n.0) (ap (map tell) all) (ap (map g.N.NamedSource.opens) all) (ap g.K.Sink.told n.2) (ap g.K.Sink.told n.3) (ap g.M.Pace.told n.6)
-    (ap (map (lane_told g.P.Port.told g.P.Port.faults g.G.Gate.told g.D.Door.asked g.D.Door.looks g.D.Door.greatest g.D.Door.faults)) n.4) (ap (stream_told g.Q.Streams.told g.Q.Streams.faults g.G.Gate.told g.D.Door.asked g.D.Door.looks g.D.Door.greatest g.D.Door.faults) n.5)
+    n.4 n.5
     (ap g.K.Sink.faults n.2) (ap g.K.Sink.faults n.3))
 
 pub returns-in-Ok-clause-served : goal.returns-in-Ok-clause-served
