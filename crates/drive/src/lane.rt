@@ -29,9 +29,15 @@ impl<P: Port, G: Gate, D: Door> Model for Lane<P, G, D> {
     ghost Value = { LaneTold };
 
     ghost view = { λ l. record {
-        port = P.told l.port; port_faults = P.faults l.port; gate = G.told l.gate; gate_faults = G.faults l.gate;
-        asked = D.asked l.door; looks = D.looks l.door; greatest = D.greatest l.door; door_faults = D.faults l.door;
-        noted = l.noted
+      port = P.told l.port;
+      port_faults = P.faults l.port;
+      gate = G.told l.gate;
+      gate_faults = G.faults l.gate;
+      asked = D.asked l.door;
+      looks = D.looks l.door;
+      greatest = D.greatest l.door;
+      door_faults = D.faults l.door;
+      noted = l.noted;
     } };
 }
 
@@ -39,9 +45,15 @@ impl<P: Port, G: Gate, D: Door> Lane<P, G, D> {
     /// One that served nobody so far.
     pub fn new(port: P, gate: G, door: D) -> Lane<P, G, D>
         ensures { result ≡ record {
-            port = P.told port; port_faults = P.faults port; gate = G.told gate; gate_faults = G.faults gate;
-            asked = D.asked door; looks = D.looks door; greatest = D.greatest door; door_faults = D.faults door;
-            noted = 0
+          port = P.told port;
+          port_faults = P.faults port;
+          gate = G.told gate;
+          gate_faults = G.faults gate;
+          asked = D.asked door;
+          looks = D.looks door;
+          greatest = D.greatest door;
+          door_faults = D.faults door;
+          noted = 0;
         } }
     {
         Lane {

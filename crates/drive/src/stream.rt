@@ -26,9 +26,15 @@ impl<Q: Streams, G: Gate, D: Door> Model for StreamLane<Q, G, D> {
     ghost Value = { StreamLaneTold };
 
     ghost view = { λ l. record {
-        port = Q.told l.streams; port_faults = Q.faults l.streams; gate = G.told l.gate; gate_faults = G.faults l.gate;
-        asked = D.asked l.door; looks = D.looks l.door; greatest = D.greatest l.door; door_faults = D.faults l.door;
-        noted = l.noted
+      port = Q.told l.streams;
+      port_faults = Q.faults l.streams;
+      gate = G.told l.gate;
+      gate_faults = G.faults l.gate;
+      asked = D.asked l.door;
+      looks = D.looks l.door;
+      greatest = D.greatest l.door;
+      door_faults = D.faults l.door;
+      noted = l.noted;
     } };
 }
 
@@ -36,9 +42,15 @@ impl<Q: Streams, G: Gate, D: Door> StreamLane<Q, G, D> {
     /// One that served nobody so far.
     pub fn new(streams: Q, gate: G, door: D) -> StreamLane<Q, G, D>
         ensures { result ≡ record {
-            port = Q.told streams; port_faults = Q.faults streams; gate = G.told gate; gate_faults = G.faults gate;
-            asked = D.asked door; looks = D.looks door; greatest = D.greatest door; door_faults = D.faults door;
-            noted = 0
+          port = Q.told streams;
+          port_faults = Q.faults streams;
+          gate = G.told gate;
+          gate_faults = G.faults gate;
+          asked = D.asked door;
+          looks = D.looks door;
+          greatest = D.greatest door;
+          door_faults = D.faults door;
+          noted = 0;
         } }
     {
         StreamLane {
