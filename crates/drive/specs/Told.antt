@@ -64,10 +64,12 @@ abbrev pub feed_told : {T : Type 0} → (T → Option Fed) → (T → ℕ) → T
 feed_told fed faults feed = record { fed = fed feed; faults = faults feed }
 
 -- all that is lent, by what a feed, a further one, an output and a pace tell
-abbrev pub lent_of : {S F K M : Type 0} → (S → FeedTold) → (F → FeedTold) → (K → Option Written) → (M → Option (List PaceCall)) → S → List F → K → K → M → List LaneTold → StreamLaneTold → Lent
-lent_of first other told paced feed more out maps pace lanes stream = record {
-  feed = first feed;
-  more = map other more;
+abbrev pub lent_of : {S T K M : Type 0}
+    → (S → Option Fed) → (S → ℕ) → (T → Option Fed) → (T → ℕ) → (K → Option Written) → (M → Option (List PaceCall))
+    → S → List T → K → K → M → List LaneTold → StreamLaneTold → Lent
+lent_of fed faults other others_faults told paced feed more out maps pace lanes stream = record {
+  feed = feed_told fed faults feed;
+  more = map (feed_told other others_faults) more;
   out = told out;
   maps = told maps;
   pace = paced pace;

@@ -102,7 +102,8 @@ pub(crate) fn close_lane<J: Naming, D: Door>(
     served: Ended,
 ) -> Ended
     ensures closing { IsClosing note.now.front
-        (eyes_of D.looks D.greatest D.faults worker.old.viewer door.old) (eyes_of D.looks D.greatest D.faults worker.new.viewer door.new) served result }
+        (eyes_of D.looks D.greatest D.faults worker.old.viewer door.old)
+        (eyes_of D.looks D.greatest D.faults worker.new.viewer door.new) served result }
     ensures asked { D.asked door.new ≡ D.asked door.old }
 {
     door.learn(&mut worker.viewer, note);

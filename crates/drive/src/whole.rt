@@ -58,7 +58,10 @@ fn hold_all<J: Naming>(
 ) -> Result<Vec<LaneWorker<J>>, NoMemory>
     requires { vec_len viewers ≤ 16 }
     ensures len { IfOk result (λ r. vec_len r ≡ vec_len viewers) }
-    ensures held { (h : List Version) → All (λ e. (e.seen ≡ h) × (e.heard ≡ h)) viewers.items → IfOk result (λ r. AllHeld (λ i w. (w.worker.number ≡ i) × (w.worker.count ≡ 0) × (w.worker.viewer.seen ≡ h) × (w.worker.viewer.heard ≡ h) × (w.turns ≡ turns)) 0 r.items) }
+    ensures held { (h : List Version) → All (λ e. (e.seen ≡ h) × (e.heard ≡ h)) viewers.items
+        → IfOk result
+        (λ r. AllHeld (λ i w. (w.worker.number ≡ i) × (w.worker.count ≡ 0)
+        × (w.worker.viewer.seen ≡ h) × (w.worker.viewer.heard ≡ h) × (w.turns ≡ turns)) 0 r.items) }
 {
     let mut left = viewers;
     let mut works = Vec::with_capacity(alloc, left.len())?;
@@ -76,7 +79,9 @@ fn hold_all<J: Naming>(
 /// The worker of that number for a viewer, if there is one, of so many turns.
 fn hold_one<J: Naming>(viewer: Option<Viewer<J>>, number: u8, turns: u64) -> Option<LaneWorker<J>>
     requires { number ≤ 16 }
-    ensures held { (h : List Version) → IfSome viewer (λ e. (e.seen ≡ h) × (e.heard ≡ h)) → IfSome result (λ w. (w.worker.number ≡ number) × (w.worker.count ≡ 0) × (w.worker.viewer.seen ≡ h) × (w.worker.viewer.heard ≡ h) × (w.turns ≡ turns)) }
+    ensures held { (h : List Version) → IfSome viewer (λ e. (e.seen ≡ h) × (e.heard ≡ h))
+        → IfSome result (λ w. (w.worker.number ≡ number) × (w.worker.count ≡ 0)
+        × (w.worker.viewer.seen ≡ h) × (w.worker.viewer.heard ≡ h) × (w.turns ≡ turns)) }
     ensures same { length (option_to_list result) ≡ length (option_to_list viewer) }
 {
     match viewer {
@@ -130,9 +135,17 @@ fn prepare<J: Naming, R: Threads>(
     requires few { vec_len viewers ≤ 16 }
     requires feeders { feeders ≤ 4 }
     ensures len { IfOk result (λ r. vec_len r.works.lanes ≡ vec_len viewers) }
-    ensures held { (h : List Version) → All (λ e. (e.seen ≡ h) × (e.heard ≡ h)) viewers.items → IfOk result (λ r. AllHeld (λ i w. (w.worker.number ≡ i) × (w.worker.count ≡ 0) × (w.worker.viewer.seen ≡ h) × (w.worker.viewer.heard ≡ h) × (w.turns ≡ turns)) 0 r.works.lanes.items) }
-    ensures listener { (h : List Version) → IfSome listener (λ e. (e.seen ≡ h) × (e.heard ≡ h)) → IfOk result (λ r. IfSome r.works.stream (λ w. (w.worker.number ≡ vec_len viewers) × (w.worker.count ≡ 0) × (w.worker.viewer.seen ≡ h) × (w.worker.viewer.heard ≡ h) × (w.turns ≡ turns))) }
-    ensures same { IfOk result (λ r. length (option_to_list r.works.stream) ≡ length (option_to_list listener)) }
+    ensures held { (h : List Version) → All (λ e. (e.seen ≡ h) × (e.heard ≡ h)) viewers.items
+        → IfOk result
+        (λ r. AllHeld (λ i w. (w.worker.number ≡ i) × (w.worker.count ≡ 0)
+        × (w.worker.viewer.seen ≡ h) × (w.worker.viewer.heard ≡ h)
+        × (w.turns ≡ turns)) 0 r.works.lanes.items) }
+    ensures listener { (h : List Version) → IfSome listener (λ e. (e.seen ≡ h) × (e.heard ≡ h))
+        → IfOk result
+        (λ r. IfSome r.works.stream (λ w. (w.worker.number ≡ vec_len viewers) × (w.worker.count ≡ 0)
+        × (w.worker.viewer.seen ≡ h) × (w.worker.viewer.heard ≡ h) × (w.turns ≡ turns))) }
+    ensures same { IfOk result
+        (λ r. length (option_to_list r.works.stream) ≡ length (option_to_list listener)) }
 {
     let count = viewers.len();
     let row = NoteRow::new(alloc)?;
@@ -171,19 +184,28 @@ fn serve_all<
     stream: &mut StreamLane<Q, G, D>,
 )
     requires turns { loan.old.side.turns ≤ MOST_TURNS }
-    requires first { (mapper.old.history ≡ mapper.old.newest ∷ []) × (mapper.old.newest.serial ≡ 0) }
-    requires fresh { AllHeld (λ i w. (w.worker.number ≡ i) × (w.worker.count ≡ 0) × (w.worker.viewer.seen ≡ mapper.old.history) × (w.worker.viewer.heard ≡ mapper.old.history) × (w.turns ≡ loan.old.side.turns)) 0 works.old.lanes.items }
+    requires first { (mapper.old.history ≡ mapper.old.newest ∷ [])
+        × (mapper.old.newest.serial ≡ 0) }
+    requires fresh { AllHeld (λ i w. (w.worker.number ≡ i) × (w.worker.count ≡ 0)
+        × (w.worker.viewer.seen ≡ mapper.old.history) × (w.worker.viewer.heard ≡ mapper.old.history)
+        × (w.turns ≡ loan.old.side.turns)) 0 works.old.lanes.items }
     requires lanes { length loan.old.lanes.now ≡ vec_len works.old.lanes }
-    requires listener { IfSome works.old.stream (λ w. (w.worker.number ≡ vec_len works.old.lanes) × (w.worker.count ≡ 0) × (w.worker.viewer.seen ≡ mapper.old.history) × (w.worker.viewer.heard ≡ mapper.old.history) × (w.turns ≡ loan.old.side.turns)) }
-    ensures fed { IsFedBy S.told S.faults K.told K.faults M.told loan.old.side loan.new.side mapper.old mapper.new }
+    requires listener { IfSome works.old.stream (λ w. (w.worker.number ≡ vec_len works.old.lanes)
+        × (w.worker.count ≡ 0) × (w.worker.viewer.seen ≡ mapper.old.history)
+        × (w.worker.viewer.heard ≡ mapper.old.history) × (w.turns ≡ loan.old.side.turns)) }
+    ensures fed { IsFedBy S.told S.faults K.told K.faults M.told
+        loan.old.side loan.new.side mapper.old mapper.new }
     ensures lanes { loan.new.lanes.ghost_name ≡ loan.old.lanes.ghost_name }
     ensures history { IsHistory mapper.new.history }
     ensures len { vec_len works.new.lanes ≡ vec_len works.old.lanes }
-    ensures done { (rest : List Version) × (mapper.new.history ≡ mapper.old.newest ∷ rest) × AllDone (λ i l k w. IsDone loan.old.side.turns mapper.old.newest rest i
+    ensures done { (rest : List Version) × (mapper.new.history ≡ mapper.old.newest ∷ rest)
+        × AllDone (λ i l k w. IsDone loan.old.side.turns mapper.old.newest rest i
         l k w.ended) 0 loan.old.lanes.now loan.new.lanes.now works.new.lanes.items
-        × AreStreamsDone loan.old.side.turns mapper.old.newest rest (vec_len works.old.lanes) (option_map (λ w. w.ended) works.new.stream)
+        × AreStreamsDone loan.old.side.turns mapper.old.newest rest (vec_len works.old.lanes)
+        (option_map (λ w. w.ended) works.new.stream)
         stream.old stream.new }
-    ensures same { length (option_to_list works.new.stream) ≡ length (option_to_list works.old.stream) }
+    ensures same { length (option_to_list works.new.stream) ≡ length
+        (option_to_list works.old.stream) }
 {
     let _ = row.put_at(rt, 0, mapper.note());
     run_beside(rt, row, works, loan.lanes, stream, mapper, &mut loan.side);
@@ -223,24 +245,38 @@ fn serve_several<
     stream: &mut StreamLane<Q, G, D>,
 )
     requires turns { desk.now.turns ≤ MOST_TURNS }
-    requires groups { (length (arc_value desk.now.topology).market.groups ≡ N.groups) × (length mapper.old.newest.plan.market.groups ≡ N.groups) }
-    requires nodes { (length (arc_value desk.now.topology).market.nodes ≡ N.nodes) × (length mapper.old.newest.plan.market.nodes ≡ N.nodes) }
-    requires unused { (first.old.sent ≡ []) × All (λ f. f.sent ≡ []) feeders.old.items × (side.old.taker.now.taken ≡ []) }
+    requires groups { (length (arc_value desk.now.topology).market.groups ≡ N.groups)
+        × (length mapper.old.newest.plan.market.groups ≡ N.groups) }
+    requires nodes { (length (arc_value desk.now.topology).market.nodes ≡ N.nodes)
+        × (length mapper.old.newest.plan.market.nodes ≡ N.nodes) }
+    requires unused { (first.old.sent ≡ []) × All (λ f. f.sent ≡ []) feeders.old.items
+        × (side.old.taker.now.taken ≡ []) }
     requires feeds { length more.old ≡ vec_len feeders.old }
-    requires first { (mapper.old.history ≡ mapper.old.newest ∷ []) × (mapper.old.newest.serial ≡ 0) }
-    requires fresh { AllHeld (λ i w. (w.worker.number ≡ i) × (w.worker.count ≡ 0) × (w.worker.viewer.seen ≡ mapper.old.history) × (w.worker.viewer.heard ≡ mapper.old.history) × (w.turns ≡ desk.now.turns)) 0 works.old.lanes.items }
+    requires first { (mapper.old.history ≡ mapper.old.newest ∷ [])
+        × (mapper.old.newest.serial ≡ 0) }
+    requires fresh { AllHeld (λ i w. (w.worker.number ≡ i) × (w.worker.count ≡ 0)
+        × (w.worker.viewer.seen ≡ mapper.old.history) × (w.worker.viewer.heard ≡ mapper.old.history)
+        × (w.turns ≡ desk.now.turns)) 0 works.old.lanes.items }
     requires lanes { length lanes.old ≡ vec_len works.old.lanes }
-    requires listener { IfSome works.old.stream (λ w. (w.worker.number ≡ vec_len works.old.lanes) × (w.worker.count ≡ 0) × (w.worker.viewer.seen ≡ mapper.old.history) × (w.worker.viewer.heard ≡ mapper.old.history) × (w.turns ≡ desk.now.turns)) }
-    ensures first { IsRead (arc_value desk.now.topology) desk.now.turns (S.told feed.old) (S.told feed.new) (S.faults feed.old) (S.faults feed.new) first.old first.new }
-    ensures sent { AllRan (λ a b f g. IsRead (arc_value desk.now.topology) desk.now.turns (T.told a) (T.told b) (T.faults a) (T.faults b) f g) more.old more.new feeders.old.items feeders.new.items }
+    requires listener { IfSome works.old.stream (λ w. (w.worker.number ≡ vec_len works.old.lanes)
+        × (w.worker.count ≡ 0) × (w.worker.viewer.seen ≡ mapper.old.history)
+        × (w.worker.viewer.heard ≡ mapper.old.history) × (w.turns ≡ desk.now.turns)) }
+    ensures first { IsRead (arc_value desk.now.topology) desk.now.turns (S.told feed.old)
+        (S.told feed.new) (S.faults feed.old) (S.faults feed.new) first.old first.new }
+    ensures sent { AllRan
+        (λ a b f g. IsRead (arc_value desk.now.topology) desk.now.turns (T.told a) (T.told b)
+        (T.faults a) (T.faults b) f g) more.old more.new feeders.old.items feeders.new.items }
     ensures worked { AreWorked K.told K.faults M.told side.old side.new mapper.old mapper.new }
     ensures history { IsHistory mapper.new.history }
     ensures len { vec_len works.new.lanes ≡ vec_len works.old.lanes }
-    ensures done { (rest : List Version) × (mapper.new.history ≡ mapper.old.newest ∷ rest) × AllDone (λ i l k w. IsDone desk.now.turns mapper.old.newest rest i
+    ensures done { (rest : List Version) × (mapper.new.history ≡ mapper.old.newest ∷ rest)
+        × AllDone (λ i l k w. IsDone desk.now.turns mapper.old.newest rest i
         l k w.ended) 0 lanes.old lanes.new works.new.lanes.items
-        × AreStreamsDone desk.now.turns mapper.old.newest rest (vec_len works.old.lanes) (option_map (λ w. w.ended) works.new.stream)
+        × AreStreamsDone desk.now.turns mapper.old.newest rest (vec_len works.old.lanes)
+        (option_map (λ w. w.ended) works.new.stream)
         stream.old stream.new }
-    ensures same { length (option_to_list works.new.stream) ≡ length (option_to_list works.old.stream) }
+    ensures same { length (option_to_list works.new.stream) ≡ length
+        (option_to_list works.old.stream) }
 {
     let _ = row.put_at(rt, 0, mapper.note());
     run_among(
@@ -279,19 +315,35 @@ fn drive_one<
 ) -> DriveEnd
     requires serial { mapper.newest.serial ≡ 0 }
     requires turns { turns ≤ MOST_TURNS }
-    requires fresh { AllHeld (λ i w. (w.worker.number ≡ i) × (w.worker.count ≡ 0) × (w.worker.viewer.seen ≡ mapper.history) × (w.worker.viewer.heard ≡ mapper.history) × (w.turns ≡ turns)) 0 prepared.works.lanes.items }
-    requires listener { IfSome prepared.works.stream (λ w. (w.worker.number ≡ vec_len prepared.works.lanes) × (w.worker.count ≡ 0) × (w.worker.viewer.seen ≡ mapper.history) × (w.worker.viewer.heard ≡ mapper.history) × (w.turns ≡ turns)) }
-    requires few { (vec_len prepared.works.lanes ≤ 16) × (vec_len prepared.works.lanes ≤ length lanes.old) }
-    ensures driven { (ends : List Ended) × (length ends ≡ vec_len prepared.works.lanes) × AreEnds ends result.lanes × IsDriven turns mapper.newest result.feed ends result.stream
-        (lent_of (feed_told S.told S.faults) (feed_told T.told T.faults) K.told M.told feed.old [] out.old maps.old pace.old lanes.old stream.old)
-        (lent_of (feed_told S.told S.faults) (feed_told T.told T.faults) K.told M.told feed.new [] out.new maps.new pace.new lanes.new stream.new) }
-    ensures untouched { drop (vec_len prepared.works.lanes) lanes.new ≡ drop (vec_len prepared.works.lanes) lanes.old }
-    ensures stream { length (option_to_list result.stream) ≡ length (option_to_list prepared.works.stream) }
-    ensures later { (K.faults out.old ≤ K.faults out.new) × (K.faults maps.old ≤ K.faults maps.new) × (S.faults feed.old ≤ S.faults feed.new) }
-    ensures sink { result.feed ≡ FeedEnd.SinkFault → Rose (K.faults out.old) (K.faults out.new) ⊎ Rose (K.faults maps.old) (K.faults maps.new) }
-    ensures sink_stays { result.feed ≢ FeedEnd.SinkFault → (K.faults out.new ≡ K.faults out.old) × (K.faults maps.new ≡ K.faults maps.old) }
-    ensures source { result.feed ≡ FeedEnd.SourceFault → Rose (S.faults feed.old) (S.faults feed.new) }
-    ensures source_stays { result.feed ≢ FeedEnd.SourceFault → S.faults feed.new ≡ S.faults feed.old }
+    requires fresh { AllHeld (λ i w. (w.worker.number ≡ i) × (w.worker.count ≡ 0)
+        × (w.worker.viewer.seen ≡ mapper.history) × (w.worker.viewer.heard ≡ mapper.history)
+        × (w.turns ≡ turns)) 0 prepared.works.lanes.items }
+    requires listener { IfSome prepared.works.stream
+        (λ w. (w.worker.number ≡ vec_len prepared.works.lanes) × (w.worker.count ≡ 0)
+        × (w.worker.viewer.seen ≡ mapper.history) × (w.worker.viewer.heard ≡ mapper.history)
+        × (w.turns ≡ turns)) }
+    requires few { (vec_len prepared.works.lanes ≤ 16)
+        × (vec_len prepared.works.lanes ≤ length lanes.old) }
+    ensures driven { (ends : List Ended) × (length ends ≡ vec_len prepared.works.lanes)
+        × AreEnds ends result.lanes × IsDriven turns mapper.newest result.feed ends result.stream
+        (lent_of S.told S.faults T.told T.faults K.told M.told
+        feed.old [] out.old maps.old pace.old lanes.old stream.old)
+        (lent_of S.told S.faults T.told T.faults K.told M.told
+        feed.new [] out.new maps.new pace.new lanes.new stream.new) }
+    ensures untouched { drop (vec_len prepared.works.lanes) lanes.new ≡ drop
+        (vec_len prepared.works.lanes) lanes.old }
+    ensures stream { length (option_to_list result.stream) ≡ length
+        (option_to_list prepared.works.stream) }
+    ensures later { (K.faults out.old ≤ K.faults out.new) × (K.faults maps.old ≤ K.faults maps.new)
+        × (S.faults feed.old ≤ S.faults feed.new) }
+    ensures sink { result.feed ≡ FeedEnd.SinkFault → Rose (K.faults out.old) (K.faults out.new)
+        ⊎ Rose (K.faults maps.old) (K.faults maps.new) }
+    ensures sink_stays { result.feed ≢ FeedEnd.SinkFault → (K.faults out.new ≡ K.faults out.old)
+        × (K.faults maps.new ≡ K.faults maps.old) }
+    ensures source { result.feed ≡ FeedEnd.SourceFault
+        → Rose (S.faults feed.old) (S.faults feed.new) }
+    ensures source_stays { result.feed ≢ FeedEnd.SourceFault
+        → S.faults feed.new ≡ S.faults feed.old }
 {
     let mut mapper = mapper;
     // tells the prover what the type keeps
@@ -349,20 +401,43 @@ fn drive_several<
     requires serial { mapper.newest.serial ≡ 0 }
     requires queue { IsFeedQueue N.groups N.nodes (length more.old) mapper.newest.plan queue }
     requires turns { queue.desk.turns ≤ MOST_TURNS }
-    requires fresh { AllHeld (λ i w. (w.worker.number ≡ i) × (w.worker.count ≡ 0) × (w.worker.viewer.seen ≡ mapper.history) × (w.worker.viewer.heard ≡ mapper.history) × (w.turns ≡ queue.desk.turns)) 0 prepared.works.lanes.items }
-    requires listener { IfSome prepared.works.stream (λ w. (w.worker.number ≡ vec_len prepared.works.lanes) × (w.worker.count ≡ 0) × (w.worker.viewer.seen ≡ mapper.history) × (w.worker.viewer.heard ≡ mapper.history) × (w.turns ≡ queue.desk.turns)) }
-    requires few { (vec_len prepared.works.lanes ≤ 16) × (vec_len prepared.works.lanes ≤ length lanes.old) }
+    requires fresh { AllHeld (λ i w. (w.worker.number ≡ i) × (w.worker.count ≡ 0)
+        × (w.worker.viewer.seen ≡ mapper.history) × (w.worker.viewer.heard ≡ mapper.history)
+        × (w.turns ≡ queue.desk.turns)) 0 prepared.works.lanes.items }
+    requires listener { IfSome prepared.works.stream
+        (λ w. (w.worker.number ≡ vec_len prepared.works.lanes) × (w.worker.count ≡ 0)
+        × (w.worker.viewer.seen ≡ mapper.history) × (w.worker.viewer.heard ≡ mapper.history)
+        × (w.turns ≡ queue.desk.turns)) }
+    requires few { (vec_len prepared.works.lanes ≤ 16)
+        × (vec_len prepared.works.lanes ≤ length lanes.old) }
     requires several { more.old ≢ [] }
-    ensures driven { (ends : List Ended) × (length ends ≡ vec_len prepared.works.lanes) × AreEnds ends result.lanes × IsDriven queue.desk.turns mapper.newest result.feed ends result.stream
-        (lent_of (feed_told S.told S.faults) (feed_told T.told T.faults) K.told M.told feed.old more.old out.old maps.old pace.old lanes.old stream.old)
-        (lent_of (feed_told S.told S.faults) (feed_told T.told T.faults) K.told M.told feed.new more.new out.new maps.new pace.new lanes.new stream.new) }
-    ensures untouched { drop (vec_len prepared.works.lanes) lanes.new ≡ drop (vec_len prepared.works.lanes) lanes.old }
-    ensures stream { length (option_to_list result.stream) ≡ length (option_to_list prepared.works.stream) }
-    ensures later { (K.faults out.old ≤ K.faults out.new) × (K.faults maps.old ≤ K.faults maps.new) × (S.faults feed.old ≤ S.faults feed.new) × NoneFell (map (feed_told T.told T.faults) more.old) (map (feed_told T.told T.faults) more.new) }
-    ensures sink { result.feed ≡ FeedEnd.SinkFault → Rose (K.faults out.old) (K.faults out.new) ⊎ Rose (K.faults maps.old) (K.faults maps.new) }
-    ensures sink_stays { result.feed ≢ FeedEnd.SinkFault → (K.faults out.new ≡ K.faults out.old) × (K.faults maps.new ≡ K.faults maps.old) }
-    ensures source { result.feed ≡ FeedEnd.SourceFault → Rose (S.faults feed.old) (S.faults feed.new) ⊎ AnyRose (map (feed_told T.told T.faults) more.old) (map (feed_told T.told T.faults) more.new) }
-    ensures source_stays { result.feed ≢ FeedEnd.SourceFault → result.feed ≢ FeedEnd.SinkFault → (S.faults feed.new ≡ S.faults feed.old) × AllStand (map (feed_told T.told T.faults) more.old) (map (feed_told T.told T.faults) more.new) }
+    ensures driven { (ends : List Ended) × (length ends ≡ vec_len prepared.works.lanes)
+        × AreEnds ends result.lanes
+        × IsDriven queue.desk.turns mapper.newest result.feed ends result.stream
+        (lent_of S.told S.faults T.told T.faults K.told M.told
+        feed.old more.old out.old maps.old pace.old lanes.old stream.old)
+        (lent_of S.told S.faults T.told T.faults K.told M.told
+        feed.new more.new out.new maps.new pace.new lanes.new stream.new) }
+    ensures untouched { drop (vec_len prepared.works.lanes) lanes.new ≡ drop
+        (vec_len prepared.works.lanes) lanes.old }
+    ensures stream { length (option_to_list result.stream) ≡ length
+        (option_to_list prepared.works.stream) }
+    ensures later { (K.faults out.old ≤ K.faults out.new) × (K.faults maps.old ≤ K.faults maps.new)
+        × (S.faults feed.old ≤ S.faults feed.new)
+        × NoneFell (map (feed_told T.told T.faults) more.old)
+        (map (feed_told T.told T.faults) more.new) }
+    ensures sink { result.feed ≡ FeedEnd.SinkFault → Rose (K.faults out.old) (K.faults out.new)
+        ⊎ Rose (K.faults maps.old) (K.faults maps.new) }
+    ensures sink_stays { result.feed ≢ FeedEnd.SinkFault → (K.faults out.new ≡ K.faults out.old)
+        × (K.faults maps.new ≡ K.faults maps.old) }
+    ensures source { result.feed ≡ FeedEnd.SourceFault
+        → Rose (S.faults feed.old) (S.faults feed.new)
+        ⊎ AnyRose (map (feed_told T.told T.faults) more.old)
+        (map (feed_told T.told T.faults) more.new) }
+    ensures source_stays { result.feed ≢ FeedEnd.SourceFault → result.feed ≢ FeedEnd.SinkFault
+        → (S.faults feed.new ≡ S.faults feed.old)
+        × AllStand (map (feed_told T.told T.faults) more.old)
+        (map (feed_told T.told T.faults) more.new) }
 {
     let mut mapper = mapper;
     // tells the prover what the type keeps
@@ -442,21 +517,47 @@ fn drive_with<
     requires groups { length mapper.newest.plan.market.groups ≡ N.groups }
     requires nodes { length mapper.newest.plan.market.nodes ≡ N.nodes }
     requires turns { turns ≤ MOST_TURNS }
-    requires fresh { AllHeld (λ i w. (w.worker.number ≡ i) × (w.worker.count ≡ 0) × (w.worker.viewer.seen ≡ mapper.history) × (w.worker.viewer.heard ≡ mapper.history) × (w.turns ≡ turns)) 0 prepared.works.lanes.items }
-    requires listener { IfSome prepared.works.stream (λ w. (w.worker.number ≡ vec_len prepared.works.lanes) × (w.worker.count ≡ 0) × (w.worker.viewer.seen ≡ mapper.history) × (w.worker.viewer.heard ≡ mapper.history) × (w.turns ≡ turns)) }
-    requires few { (vec_len prepared.works.lanes ≤ 16) × (vec_len prepared.works.lanes ≤ length lanes.old) }
+    requires fresh { AllHeld (λ i w. (w.worker.number ≡ i) × (w.worker.count ≡ 0)
+        × (w.worker.viewer.seen ≡ mapper.history) × (w.worker.viewer.heard ≡ mapper.history)
+        × (w.turns ≡ turns)) 0 prepared.works.lanes.items }
+    requires listener { IfSome prepared.works.stream
+        (λ w. (w.worker.number ≡ vec_len prepared.works.lanes) × (w.worker.count ≡ 0)
+        × (w.worker.viewer.seen ≡ mapper.history) × (w.worker.viewer.heard ≡ mapper.history)
+        × (w.turns ≡ turns)) }
+    requires few { (vec_len prepared.works.lanes ≤ 16)
+        × (vec_len prepared.works.lanes ≤ length lanes.old) }
     requires several { (more.old ≢ []) × (length more.old ≤ 3) }
-    ensures driven { IfOk result (λ r. (ends : List Ended) × (length ends ≡ vec_len prepared.works.lanes) × AreEnds ends r.lanes × IsDriven turns mapper.newest r.feed ends r.stream
-        (lent_of (feed_told S.told S.faults) (feed_told T.told T.faults) K.told M.told feed.old more.old out.old maps.old pace.old lanes.old stream.old)
-        (lent_of (feed_told S.told S.faults) (feed_told T.told T.faults) K.told M.told feed.new more.new out.new maps.new pace.new lanes.new stream.new)) }
-    ensures untouched { drop (vec_len prepared.works.lanes) lanes.new ≡ drop (vec_len prepared.works.lanes) lanes.old }
-    ensures stream { IfOk result (λ r. length (option_to_list r.stream) ≡ length (option_to_list prepared.works.stream)) }
-    ensures no_memory { OnErr result ((feed.new ≡ feed.old) × (more.new ≡ more.old) × (out.new ≡ out.old) × (maps.new ≡ maps.old) × (lanes.new ≡ lanes.old) × (stream.new ≡ stream.old) × (pace.new ≡ pace.old)) }
-    ensures later { (K.faults out.old ≤ K.faults out.new) × (K.faults maps.old ≤ K.faults maps.new) × (S.faults feed.old ≤ S.faults feed.new) × NoneFell (map (feed_told T.told T.faults) more.old) (map (feed_told T.told T.faults) more.new) }
-    ensures sink { IfOk result (λ r. r.feed ≡ FeedEnd.SinkFault → Rose (K.faults out.old) (K.faults out.new) ⊎ Rose (K.faults maps.old) (K.faults maps.new)) }
-    ensures sink_stays { IfOk result (λ r. r.feed ≢ FeedEnd.SinkFault → (K.faults out.new ≡ K.faults out.old) × (K.faults maps.new ≡ K.faults maps.old)) }
-    ensures source { IfOk result (λ r. r.feed ≡ FeedEnd.SourceFault → Rose (S.faults feed.old) (S.faults feed.new) ⊎ AnyRose (map (feed_told T.told T.faults) more.old) (map (feed_told T.told T.faults) more.new)) }
-    ensures source_stays { IfOk result (λ r. r.feed ≢ FeedEnd.SourceFault → r.feed ≢ FeedEnd.SinkFault → (S.faults feed.new ≡ S.faults feed.old) × AllStand (map (feed_told T.told T.faults) more.old) (map (feed_told T.told T.faults) more.new)) }
+    ensures driven { IfOk result (λ r. (ends : List Ended)
+        × (length ends ≡ vec_len prepared.works.lanes) × AreEnds ends r.lanes
+        × IsDriven turns mapper.newest r.feed ends r.stream
+        (lent_of S.told S.faults T.told T.faults K.told M.told
+        feed.old more.old out.old maps.old pace.old lanes.old stream.old)
+        (lent_of S.told S.faults T.told T.faults K.told M.told
+        feed.new more.new out.new maps.new pace.new lanes.new stream.new)) }
+    ensures untouched { drop (vec_len prepared.works.lanes) lanes.new ≡ drop
+        (vec_len prepared.works.lanes) lanes.old }
+    ensures stream { IfOk result
+        (λ r. length (option_to_list r.stream) ≡ length (option_to_list prepared.works.stream)) }
+    ensures no_memory { OnErr result ((feed.new ≡ feed.old) × (more.new ≡ more.old)
+        × (out.new ≡ out.old) × (maps.new ≡ maps.old) × (lanes.new ≡ lanes.old)
+        × (stream.new ≡ stream.old) × (pace.new ≡ pace.old)) }
+    ensures later { (K.faults out.old ≤ K.faults out.new) × (K.faults maps.old ≤ K.faults maps.new)
+        × (S.faults feed.old ≤ S.faults feed.new)
+        × NoneFell (map (feed_told T.told T.faults) more.old)
+        (map (feed_told T.told T.faults) more.new) }
+    ensures sink { IfOk result (λ r. r.feed ≡ FeedEnd.SinkFault
+        → Rose (K.faults out.old) (K.faults out.new)
+        ⊎ Rose (K.faults maps.old) (K.faults maps.new)) }
+    ensures sink_stays { IfOk result (λ r. r.feed ≢ FeedEnd.SinkFault
+        → (K.faults out.new ≡ K.faults out.old) × (K.faults maps.new ≡ K.faults maps.old)) }
+    ensures source { IfOk result (λ r. r.feed ≡ FeedEnd.SourceFault
+        → Rose (S.faults feed.old) (S.faults feed.new)
+        ⊎ AnyRose (map (feed_told T.told T.faults) more.old)
+        (map (feed_told T.told T.faults) more.new)) }
+    ensures source_stays { IfOk result (λ r. r.feed ≢ FeedEnd.SourceFault
+        → r.feed ≢ FeedEnd.SinkFault → (S.faults feed.new ≡ S.faults feed.old)
+        × AllStand (map (feed_told T.told T.faults) more.old)
+        (map (feed_told T.told T.faults) more.new)) }
 {
     let count = more.len() as u8;
     let Ok(queue) = open_queue::<N>(alloc, mapper.topology(), count, turns) else {
@@ -512,21 +613,41 @@ pub fn drive<
 ) -> Result<DriveEnd, NoMemory>
     requires serial { mapper.newest.serial ≡ 0 }
     requires turns { turns ≤ MOST_TURNS }
-    requires viewers { All (λ v. (v.seen ≡ mapper.history) × (v.heard ≡ mapper.history)) viewers.items }
-    requires listener { IfSome listener (λ v. (v.seen ≡ mapper.history) × (v.heard ≡ mapper.history)) }
+    requires viewers { All (λ v. (v.seen ≡ mapper.history)
+        × (v.heard ≡ mapper.history)) viewers.items }
+    requires listener { IfSome listener (λ v. (v.seen ≡ mapper.history)
+        × (v.heard ≡ mapper.history)) }
     requires few { (vec_len viewers ≤ 16) × (vec_len viewers ≤ length lanes.old) }
     requires feeds { length more.old ≤ 3 }
-    ensures driven { IfOk result (λ r. (ends : List Ended) × (length ends ≡ vec_len viewers) × AreEnds ends r.lanes × IsDriven turns mapper.newest r.feed ends r.stream
-        (lent_of (feed_told S.told S.faults) (feed_told T.told T.faults) K.told M.told feed.old more.old out.old maps.old pace.old lanes.old stream.old)
-        (lent_of (feed_told S.told S.faults) (feed_told T.told T.faults) K.told M.told feed.new more.new out.new maps.new pace.new lanes.new stream.new)) }
+    ensures driven { IfOk result (λ r. (ends : List Ended) × (length ends ≡ vec_len viewers)
+        × AreEnds ends r.lanes × IsDriven turns mapper.newest r.feed ends r.stream
+        (lent_of S.told S.faults T.told T.faults K.told M.told
+        feed.old more.old out.old maps.old pace.old lanes.old stream.old)
+        (lent_of S.told S.faults T.told T.faults K.told M.told
+        feed.new more.new out.new maps.new pace.new lanes.new stream.new)) }
     ensures untouched { drop (vec_len viewers) lanes.new ≡ drop (vec_len viewers) lanes.old }
-    ensures stream { IfOk result (λ r. length (option_to_list r.stream) ≡ length (option_to_list listener)) }
-    ensures no_memory { OnErr result ((feed.new ≡ feed.old) × (more.new ≡ more.old) × (out.new ≡ out.old) × (maps.new ≡ maps.old) × (lanes.new ≡ lanes.old) × (stream.new ≡ stream.old) × (pace.new ≡ pace.old)) }
-    ensures later { (K.faults out.old ≤ K.faults out.new) × (K.faults maps.old ≤ K.faults maps.new) × (S.faults feed.old ≤ S.faults feed.new) × NoneFell (map (feed_told T.told T.faults) more.old) (map (feed_told T.told T.faults) more.new) }
-    ensures sink { IfOk result (λ r. r.feed ≡ FeedEnd.SinkFault → Rose (K.faults out.old) (K.faults out.new) ⊎ Rose (K.faults maps.old) (K.faults maps.new)) }
-    ensures sink_stays { IfOk result (λ r. r.feed ≢ FeedEnd.SinkFault → (K.faults out.new ≡ K.faults out.old) × (K.faults maps.new ≡ K.faults maps.old)) }
-    ensures source { IfOk result (λ r. r.feed ≡ FeedEnd.SourceFault → Rose (S.faults feed.old) (S.faults feed.new) ⊎ AnyRose (map (feed_told T.told T.faults) more.old) (map (feed_told T.told T.faults) more.new)) }
-    ensures source_stays { IfOk result (λ r. r.feed ≢ FeedEnd.SourceFault → (r.feed ≡ FeedEnd.SinkFault → more.old ≡ []) → (S.faults feed.new ≡ S.faults feed.old) × AllStand (map (feed_told T.told T.faults) more.old) (map (feed_told T.told T.faults) more.new)) }
+    ensures stream { IfOk result
+        (λ r. length (option_to_list r.stream) ≡ length (option_to_list listener)) }
+    ensures no_memory { OnErr result ((feed.new ≡ feed.old) × (more.new ≡ more.old)
+        × (out.new ≡ out.old) × (maps.new ≡ maps.old) × (lanes.new ≡ lanes.old)
+        × (stream.new ≡ stream.old) × (pace.new ≡ pace.old)) }
+    ensures later { (K.faults out.old ≤ K.faults out.new) × (K.faults maps.old ≤ K.faults maps.new)
+        × (S.faults feed.old ≤ S.faults feed.new)
+        × NoneFell (map (feed_told T.told T.faults) more.old)
+        (map (feed_told T.told T.faults) more.new) }
+    ensures sink { IfOk result (λ r. r.feed ≡ FeedEnd.SinkFault
+        → Rose (K.faults out.old) (K.faults out.new)
+        ⊎ Rose (K.faults maps.old) (K.faults maps.new)) }
+    ensures sink_stays { IfOk result (λ r. r.feed ≢ FeedEnd.SinkFault
+        → (K.faults out.new ≡ K.faults out.old) × (K.faults maps.new ≡ K.faults maps.old)) }
+    ensures source { IfOk result (λ r. r.feed ≡ FeedEnd.SourceFault
+        → Rose (S.faults feed.old) (S.faults feed.new)
+        ⊎ AnyRose (map (feed_told T.told T.faults) more.old)
+        (map (feed_told T.told T.faults) more.new)) }
+    ensures source_stays { IfOk result (λ r. r.feed ≢ FeedEnd.SourceFault
+        → (r.feed ≡ FeedEnd.SinkFault → more.old ≡ []) → (S.faults feed.new ≡ S.faults feed.old)
+        × AllStand (map (feed_told T.told T.faults) more.old)
+        (map (feed_told T.told T.faults) more.new)) }
 {
     let count = more.len();
     let feeders = if count == 0 { 0 } else { count + 1 };

@@ -33,9 +33,12 @@ stage feed more opens out maps pace lanes stream out_faults maps_faults = record
 }
 
 -- what all that is lent to a session tells
-abbrev pub stage_of : {S N K P G D M : Type 0} → (S → Option Fed) → (S → ℕ) → (N → Option Fed) → (N → ℕ) → (N → Option (List (List ℕ))) → (K → Option Written) → (K → ℕ) → (M → Option (List PaceCall)) → Lent S N K P G D M → StreamLaneTold → Stage
-stage_of fed feed_faults named named_faults opens written faults paced l s =
-    stage (feed_told fed feed_faults l.feed.now) (map (feed_told named named_faults) l.more.now) (map opens l.more.now) (written l.out.now) (written l.maps.now) (paced l.pace.now) l.lanes.now s (faults l.out.now) (faults l.maps.now)
+abbrev pub stage_of : {S N K P G D M : Type 0}
+    → (S → Option Fed) → (S → ℕ) → (N → Option Fed) → (N → ℕ) → (N → Option (List (List ℕ)))
+    → (K → Option Written) → (K → ℕ) → (M → Option (List PaceCall)) → Lent S N K P G D M → StreamLaneTold → Stage
+stage_of fed feed_faults named named_faults opens written faults paced l s = stage
+    (feed_told fed feed_faults l.feed.now) (map (feed_told named named_faults) l.more.now) (map opens l.more.now)
+    (written l.out.now) (written l.maps.now) (paced l.pace.now) l.lanes.now s (faults l.out.now) (faults l.maps.now)
 
 -- the same things are lent
 abbrev pub IsSame : {S N K P G D M : Type 0} → Lent S N K P G D M → Lent S N K P G D M → Type 0
@@ -43,6 +46,24 @@ IsSame a b = (b.feed.ghost_name ≡ a.feed.ghost_name) × (b.more.ghost_name ≡
 
 abbrev pub surroundings : Option Shelved → ℕ → Stage → Surroundings
 surroundings files files_faults stage = record { files = files; files_faults = files_faults; stage = stage }
+
+-- what all outside tells: the files, and all that is lent to a session
+abbrev pub told_over : {F S N K P G D M : Type 0}
+    → (F → Option Shelved) → (F → ℕ) → (S → Option Fed) → (S → ℕ) → (N → Option Fed) → (N → ℕ)
+    → (N → Option (List (List ℕ))) → (K → Option Written) → (K → ℕ) → (M → Option (List PaceCall))
+    → F → Lent S N K P G D M → StreamLaneTold → Surroundings
+told_over shelved files_faults fed feed_faults named named_faults opens written faults paced files l s =
+    surroundings (shelved files) (files_faults files) (stage_of fed feed_faults named named_faults opens written faults paced l s)
+
+-- what all outside tells: the files, the feed, the further feeds, both outputs, the lanes, the one for conversations, and the pace
+abbrev pub all_told : {F S N K M : Type 0}
+    → (F → Option Shelved) → (F → ℕ) → (S → Option Fed) → (S → ℕ) → (N → Option Fed) → (N → ℕ)
+    → (N → Option (List (List ℕ))) → (K → Option Written) → (K → ℕ) → (M → Option (List PaceCall))
+    → F → S → List N → K → K → List LaneTold → StreamLaneTold → M → Surroundings
+all_told shelved files_faults fed feed_faults named named_faults opens written faults paced files feed more out maps lanes stream pace =
+    surroundings (shelved files) (files_faults files) (stage
+    (feed_told fed feed_faults feed) (map (feed_told named named_faults) more) (map opens more)
+    (written out) (written maps) (paced pace) lanes stream (faults out) (faults maps))
 
 -- the files and the output, which are all that most commands ask
 abbrev pub outside_of : Surroundings → Outside

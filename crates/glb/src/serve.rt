@@ -9,7 +9,7 @@ ghost use Rattle.glb.specs.Program.{IsPromised};
 ghost use Rattle.glb.specs.Serve.{IsFirstSession, IsSession, PlacedFirst, is_cell_fault, is_port_fault, is_spent, status_by};
 ghost use Rattle.glb.specs.Starting.{IsAskedSome, at_place, status_at};
 ghost use Rattle.glb.specs.Commands.{service_asked};
-ghost use Rattle.glb.specs.Told.{IsSame, stage_of, surroundings};
+ghost use Rattle.glb.specs.Told.{IsSame, stage_of, told_over};
 ghost use Rattle.glb.specs.Words.{given, lanes_of, most_workers, serve as task, streams_of};
 
 use crate::ending::finish;
@@ -115,7 +115,8 @@ fn open_by<J: Naming, R: Wait, P: Port, G: Gate, D: Door>(
     requires workers { workers ≤ 16 }
     ensures mapper { IfOk result (λ r. IsFirst topology r.0) }
     ensures scratch { IfOk result (λ r. IsFromScratch topology.market r.0.newest.lines) }
-    ensures viewers { IfOk result (λ r. (vec_len r.1 ≡ workers) × All (λ v. (v.seen ≡ r.0.history) × (v.heard ≡ r.0.history)) r.1.items) }
+    ensures viewers { IfOk result (λ r. (vec_len r.1 ≡ workers)
+        × All (λ v. (v.seen ≡ r.0.history) × (v.heard ≡ r.0.history)) r.1.items) }
     ensures asked { IfOk result (λ _. PlacedFirst workers (lane.old ∷ []) (lane.new ∷ [])) }
     ensures refused { IfErr result (λ e. IsAskedSome workers e (lane.old ∷ []) (lane.new ∷ [])) }
 {
@@ -145,7 +146,8 @@ fn open_first<J: Naming, R: Wait, P: Port, G: Gate, D: Door>(
     requires lanes { length lanes.old ≡ 1 }
     ensures mapper { IfOk result (λ r. IsFirst topology r.0) }
     ensures scratch { IfOk result (λ r. IsFromScratch topology.market r.0.newest.lines) }
-    ensures viewers { IfOk result (λ r. (vec_len r.1 ≡ workers) × All (λ v. (v.seen ≡ r.0.history) × (v.heard ≡ r.0.history)) r.1.items) }
+    ensures viewers { IfOk result (λ r. (vec_len r.1 ≡ workers)
+        × All (λ v. (v.seen ≡ r.0.history) × (v.heard ≡ r.0.history)) r.1.items) }
     ensures length { length lanes.new ≡ length lanes.old }
     ensures asked { IfOk result (λ _. PlacedFirst workers lanes.old lanes.new) }
     ensures refused { IfErr result (λ e. IsAskedSome workers e lanes.old lanes.new) }
@@ -167,7 +169,8 @@ fn open_mapper<J: Naming, R: Wait, P: Port, G: Gate, D: Door>(
     requires lanes { 1 ≤ length lanes.old }
     ensures mapper { IfOk result (λ r. IsFirst topology r.0) }
     ensures scratch { IfOk result (λ r. IsFromScratch topology.market r.0.newest.lines) }
-    ensures viewers { IfOk result (λ r. (vec_len r.1 ≡ workers) × All (λ v. (v.seen ≡ r.0.history) × (v.heard ≡ r.0.history)) r.1.items) }
+    ensures viewers { IfOk result (λ r. (vec_len r.1 ≡ workers)
+        × All (λ v. (v.seen ≡ r.0.history) × (v.heard ≡ r.0.history)) r.1.items) }
     ensures length { length lanes.new ≡ length lanes.old }
     ensures asked { IfOk result (λ _. PlacedFirst workers lanes.old lanes.new) }
     ensures refused { IfErr result (λ e. IsAskedSome workers e lanes.old lanes.new) }
@@ -209,7 +212,9 @@ fn split_viewers<J: Naming>(
     requires { streams_of tcp.now ≤ vec_len viewers }
     ensures count { vec_len result.0 + streams_of tcp.now ≡ vec_len viewers }
     ensures asked { length (option_to_list result.1) ≡ streams_of tcp.now }
-    ensures same { (h : List Version) → All (λ v. (v.seen ≡ h) × (v.heard ≡ h)) viewers.items → All (λ v. (v.seen ≡ h) × (v.heard ≡ h)) result.0.items × IfSome result.1 (λ v. (v.seen ≡ h) × (v.heard ≡ h)) }
+    ensures same { (h : List Version) → All (λ v. (v.seen ≡ h) × (v.heard ≡ h)) viewers.items
+        → All (λ v. (v.seen ≡ h) × (v.heard ≡ h)) result.0.items
+        × IfSome result.1 (λ v. (v.seen ≡ h) × (v.heard ≡ h)) }
 {
     let mut viewers = viewers;
     let listener = match tcp {
@@ -241,12 +246,19 @@ fn serve_first<
     stream: &mut StreamLane<Q, G, D>,
 ) -> Status
     requires serial { mapper.newest.serial ≡ 0 }
-    requires viewers { (vec_len viewers ≡ lanes_of (service_asked service.now)) × All (λ v. (v.seen ≡ mapper.history) × (v.heard ≡ mapper.history)) viewers.items }
-    requires workers { (service.now.workers ≤ most_workers service.now.tcp) × (service.now.workers ≤ length lent.old.lanes.now) }
+    requires viewers { (vec_len viewers ≡ lanes_of (service_asked service.now))
+        × All (λ v. (v.seen ≡ mapper.history) × (v.heard ≡ mapper.history)) viewers.items }
+    requires workers { (service.now.workers ≤ most_workers service.now.tcp)
+        × (service.now.workers ≤ length lent.old.lanes.now) }
     requires turns { lent.old.turns ≤ MOST_TURNS }
     requires feeds { length lent.old.more.now ≡ 3 }
     ensures keeps { IsSame lent.old lent.new }
-    ensures served { IsFirstSession lent.old.turns (service_asked service.now) mapper.newest (stage_of S.told S.faults N.told N.faults N.opens K.told K.faults M.told lent.old stream.old) (stage_of S.told S.faults N.told N.faults N.opens K.told K.faults M.told lent.new stream.new) result }
+    ensures served { IsFirstSession lent.old.turns (service_asked service.now) mapper.newest
+        (stage_of S.told S.faults N.told N.faults N.opens K.told K.faults M.told
+        lent.old stream.old)
+        (stage_of S.told S.faults N.told N.faults N.opens K.told K.faults M.told
+        lent.new stream.new)
+        result }
 {
     match start_lanes(
         mapper.text(),
@@ -305,11 +317,17 @@ fn serve_topology<
     stream: &mut StreamLane<Q, G, D>,
 ) -> Status
     requires book { history ≡ J.book }
-    requires workers { (service.now.workers ≤ most_workers service.now.tcp) × (service.now.workers ≤ length lent.old.lanes.now) × (1 ≤ length lent.old.lanes.now) }
+    requires workers { (service.now.workers ≤ most_workers service.now.tcp)
+        × (service.now.workers ≤ length lent.old.lanes.now) × (1 ≤ length lent.old.lanes.now) }
     requires turns { lent.old.turns ≤ MOST_TURNS }
     requires feeds { length lent.old.more.now ≡ 3 }
     ensures keeps { IsSame lent.old lent.new }
-    ensures session { IsSession lent.old.turns (service_asked service.now) topology (stage_of S.told S.faults N.told N.faults N.opens K.told K.faults M.told lent.old stream.old) (stage_of S.told S.faults N.told N.faults N.opens K.told K.faults M.told lent.new stream.new) result }
+    ensures session { IsSession lent.old.turns (service_asked service.now) topology
+        (stage_of S.told S.faults N.told N.faults N.opens K.told K.faults M.told
+        lent.old stream.old)
+        (stage_of S.told S.faults N.told N.faults N.opens K.told K.faults M.told
+        lent.new stream.new)
+        result }
 {
     match open_mapper::<J, R, P, G, D>(
         rt,
@@ -344,12 +362,18 @@ pub fn serve<
     lent: &mut Lent<'_, '_, '_, '_, '_, '_, S, N, K, P, G, D, M>,
     stream: &mut StreamLane<Q, G, D>,
 ) -> Status
-    requires workers { (1 ≤ service.now.workers) × (service.now.workers ≤ most_workers service.now.tcp) }
+    requires workers { (1 ≤ service.now.workers)
+        × (service.now.workers ≤ most_workers service.now.tcp) }
     requires lanes { length lent.old.lanes.now ≡ 16 }
     requires turns { lent.old.turns ≤ MOST_TURNS }
     requires feeds { length lent.old.more.now ≡ 3 }
     ensures keeps { IsSame lent.old lent.new }
-    ensures promised { IsPromised lent.old.turns (Some (task (service_asked service.now))) (surroundings (F.told files.old) (F.faults files.old) (stage_of S.told S.faults N.told N.faults N.opens K.told K.faults M.told lent.old stream.old)) (surroundings (F.told files.new) (F.faults files.new) (stage_of S.told S.faults N.told N.faults N.opens K.told K.faults M.told lent.new stream.new)) result }
+    ensures promised { IsPromised lent.old.turns (Some (task (service_asked service.now)))
+        (told_over F.told F.faults S.told S.faults N.told N.faults N.opens K.told K.faults M.told
+        files.old lent.old stream.old)
+        (told_over F.told F.faults S.told S.faults N.told N.faults N.opens K.told K.faults M.told
+        files.new lent.new stream.new)
+        result }
 {
     match load_topology(alloc, files, service.topology) {
         Ok(topology) => serve_topology::<Brand, R, S, N, K, P, Q, G, D, M>(

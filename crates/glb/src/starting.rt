@@ -70,7 +70,15 @@ fn open_streams<Q: Streams, G: Gate, D: Door>(
 fn open_feed<N: NamedSource>(feeds: &mut [N], name: &str) -> Opening
     requires { length feeds.old ≡ 1 }
     ensures same { length feeds.new ≡ length feeds.old }
-    ensures named { HasNamed (name.now ∷ []) result (record { feeds = map (feed_told N.told N.faults) feeds.old; opens = map N.opens feeds.old }) (record { feeds = map (feed_told N.told N.faults) feeds.new; opens = map N.opens feeds.new }) }
+    ensures named { HasNamed (name.now ∷ []) result
+        (record {
+          feeds = map (feed_told N.told N.faults) feeds.old;
+          opens = map N.opens feeds.old;
+        })
+        (record {
+          feeds = map (feed_told N.told N.faults) feeds.new;
+          opens = map N.opens feeds.new;
+        }) }
 {
     feeds[0].open(name)
 }
@@ -79,7 +87,15 @@ fn open_feed<N: NamedSource>(feeds: &mut [N], name: &str) -> Opening
 pub fn open_feeds<N: NamedSource>(feeds: &mut [N], names: &[Option<&str>]) -> Opening
     requires { length names.now ≤ length feeds.old }
     ensures same { length feeds.new ≡ length feeds.old }
-    ensures named { HasNamed (given (map (option_map (λ n. n.now)) names.now)) result (record { feeds = map (feed_told N.told N.faults) feeds.old; opens = map N.opens feeds.old }) (record { feeds = map (feed_told N.told N.faults) feeds.new; opens = map N.opens feeds.new }) }
+    ensures named { HasNamed (given (map (option_map (λ n. n.now)) names.now)) result
+        (record {
+          feeds = map (feed_told N.told N.faults) feeds.old;
+          opens = map N.opens feeds.old;
+        })
+        (record {
+          feeds = map (feed_told N.told N.faults) feeds.new;
+          opens = map N.opens feeds.new;
+        }) }
 {
     let Some((first, rest)) = names.split_first() else {
         return Opening::Ready;
@@ -109,8 +125,26 @@ pub fn start_lanes<N: NamedSource, K: Sink, P: Port, Q: Streams, G: Gate, D: Doo
     ensures same { length lanes.new ≡ length lanes.old }
     ensures feeds { length feeds.new ≡ length feeds.old }
     ensures start { IsStart (service_asked service.now) text.now result
-        (record { maps = K.told maps.old; maps_faults = K.faults maps.old; lanes = lanes.old; stream = stream.old; named = record { feeds = map (feed_told N.told N.faults) feeds.old; opens = map N.opens feeds.old } })
-        (record { maps = K.told maps.new; maps_faults = K.faults maps.new; lanes = lanes.new; stream = stream.new; named = record { feeds = map (feed_told N.told N.faults) feeds.new; opens = map N.opens feeds.new } }) }
+        (record {
+          maps = K.told maps.old;
+          maps_faults = K.faults maps.old;
+          lanes = lanes.old;
+          stream = stream.old;
+          named = record {
+            feeds = map (feed_told N.told N.faults) feeds.old;
+            opens = map N.opens feeds.old;
+          };
+        })
+        (record {
+          maps = K.told maps.new;
+          maps_faults = K.faults maps.new;
+          lanes = lanes.new;
+          stream = stream.new;
+          named = record {
+            feeds = map (feed_told N.told N.faults) feeds.new;
+            opens = map N.opens feeds.new;
+          };
+        }) }
 {
     if let Opening::Failed = open_ports(lanes, service.workers, &service.listen) {
         return Start::NoPort;

@@ -1,11 +1,10 @@
 //! The top call: words and all outside to a status.
-ghost use Rattle.std.specs.Prelude.{◌≡◌, ◌≤◌, ◌^◌, length, map, option_map};
+ghost use Rattle.std.specs.Prelude.{◌≡◌, ◌≤◌, ◌^◌, length, option_map};
 ghost use Rattle.demand_feed.specs.declared.limits.TheConstants.{MOST_TURNS};
 ghost use Rattle.command_line.specs.Asked.{texts};
 ghost use Rattle.glb.specs.Program.{IsPromised};
 ghost use Rattle.glb.specs.Commands.{IsManned, task_of};
-ghost use Rattle.drive.specs.Told.{feed_told};
-ghost use Rattle.glb.specs.Told.{IsSame, stage, stage_of, surroundings};
+ghost use Rattle.glb.specs.Told.{IsSame, all_told, told_over};
 ghost use Rattle.glb.specs.Words.{asked};
 
 use crate::large::large;
@@ -47,7 +46,12 @@ fn run_order<
     requires turns { (1 ≤ lent.old.turns) × (lent.old.turns ≤ 2 ^ 48) }
     requires feeds { length lent.old.more.now ≡ 3 }
     ensures keeps { IsSame lent.old lent.new }
-    ensures promised { IsPromised lent.old.turns (option_map task_of order.entry) (surroundings (F.told files.old) (F.faults files.old) (stage_of S.told S.faults N.told N.faults N.opens K.told K.faults M.told lent.old stream.old)) (surroundings (F.told files.new) (F.faults files.new) (stage_of S.told S.faults N.told N.faults N.opens K.told K.faults M.told lent.new stream.new)) result }
+    ensures promised { IsPromised lent.old.turns (option_map task_of order.entry)
+        (told_over F.told F.faults S.told S.faults N.told N.faults N.opens K.told K.faults M.told
+        files.old lent.old stream.old)
+        (told_over F.told F.faults S.told S.faults N.told N.faults N.opens K.told K.faults M.told
+        files.new lent.new stream.new)
+        result }
 {
     match order {
         Some(Order::Say(command)) => run_files(alloc, Some(command), files, lent.out),
@@ -89,7 +93,12 @@ pub fn glb<
     requires feeds { length more.old ≡ 3 }
     requires lanes { length lanes.old ≡ 16 }
     requires turns { (1 ≤ turns) × (turns ≤ 2 ^ 48) }
-    ensures { IsPromised turns (asked (texts words.now)) (surroundings (F.told files.old) (F.faults files.old) (stage (feed_told S.told S.faults feed.old) (map (feed_told N.told N.faults) more.old) (map N.opens more.old) (K.told out.old) (K.told maps.old) (M.told pace.old) lanes.old stream.old (K.faults out.old) (K.faults maps.old))) (surroundings (F.told files.new) (F.faults files.new) (stage (feed_told S.told S.faults feed.new) (map (feed_told N.told N.faults) more.new) (map N.opens more.new) (K.told out.new) (K.told maps.new) (M.told pace.new) lanes.new stream.new (K.faults out.new) (K.faults maps.new))) result }
+    ensures { IsPromised turns (asked (texts words.now))
+        (all_told F.told F.faults S.told S.faults N.told N.faults N.opens K.told K.faults M.told
+        files.old feed.old more.old out.old maps.old lanes.old stream.old pace.old)
+        (all_told F.told F.faults S.told S.faults N.told N.faults N.opens K.told K.faults M.told
+        files.new feed.new more.new out.new maps.new lanes.new stream.new pace.new)
+        result }
 {
     match read_words(alloc, words) {
         Ok(order) => {

@@ -75,7 +75,8 @@ pub fn lent_of<P: Port, Q: Streams, G: Gate, D: Door, M>(
     stream: StreamLane<Q, G, D>,
     pace: M,
 ) -> AllLent<P, Q, G, D, M>
-    ensures { (vec_len result.lanes ≡ vec_len lanes) × (vec_len result.more ≡ vec_len devices.feeds.more) }
+    ensures { (vec_len result.lanes ≡ vec_len lanes)
+        × (vec_len result.more ≡ vec_len devices.feeds.more) }
 {
     let Devices {
         words,

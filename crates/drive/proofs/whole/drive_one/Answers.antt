@@ -3,7 +3,7 @@ use Rattle.std.proofs.lemmas.List.{length-map}
 use Rattle.drive.proofs.Ends.{sole_history}
 use Rattle.drive.proofs.Growing.{feed_goes_on, feed_over}
 use Rattle.drive.proofs.Together.{are_done_in, ended_as}
-use Rattle.drive.specs.Told.{feed_told, lent_of}
+use Rattle.drive.specs.Told.{lent_of}
 use Rattle.drive.specs.Driven.{IsDriven}
 use Rattle.drive.proofs.whole.drive_one.Goals as goal
 
@@ -16,8 +16,8 @@ returns-clause-driven g c =
     let opened = sole_history c.args.mapper.history c.args.mapper.newest c.newest.ensures.last c.requires.serial in
     let size : length c.serve_all.new.works.lanes.items ≡ vec_len c.args.prepared.works.lanes = search rules in
     let driven : IsDriven c.args.turns c.args.mapper.newest c.serve_all.new.loan.side.end (map (λ w. w.ended) c.serve_all.new.works.lanes.items) c.end_of.result
-    (lent_of (feed_told g.S.Source.told g.S.Source.faults) (feed_told g.T.Source.told g.T.Source.faults) g.K.Sink.told g.M.Pace.told c.args.feed.now [] c.args.out.now c.args.maps.now c.args.pace.now c.args.lanes.now c.args.stream.now)
-    (lent_of (feed_told g.S.Source.told g.S.Source.faults) (feed_told g.T.Source.told g.T.Source.faults) g.K.Sink.told g.M.Pace.told c.serve_all.new.loan.side.feed.now [] c.serve_all.new.loan.side.out.now c.serve_all.new.loan.side.maps.now c.serve_all.new.loan.side.pace.now (c.serve_all.new.loan.lanes.now ++ c.split_at_mut-served.result.1.now) c.serve_all.new.stream) = record {
+    (lent_of g.S.Source.told g.S.Source.faults g.T.Source.told g.T.Source.faults g.K.Sink.told g.M.Pace.told c.args.feed.now [] c.args.out.now c.args.maps.now c.args.pace.now c.args.lanes.now c.args.stream.now)
+    (lent_of g.S.Source.told g.S.Source.faults g.T.Source.told g.T.Source.faults g.K.Sink.told g.M.Pace.told c.serve_all.new.loan.side.feed.now [] c.serve_all.new.loan.side.out.now c.serve_all.new.loan.side.maps.now c.serve_all.new.loan.side.pace.now (c.serve_all.new.loan.lanes.now ++ c.split_at_mut-served.result.1.now) c.serve_all.new.stream) = record {
       rest = s.done.0;
       newest = c.serve_all.new.mapper.newest;
       feed = (feed_over _ _ _ _ _ _ _ _ _ _ _ _ _ _ _ _ _ opened s.done.1 s.fed.run, record { rose = s.fed.source; stays = s.fed.source_stays }, refl);

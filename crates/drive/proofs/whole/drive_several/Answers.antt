@@ -41,8 +41,8 @@ returns-clause-driven g c =
     let maps : c.maps-1.given.0 ≡ c.serve_several.new.side.maps.now = search rules in
     let pace : c.pace-1.given.0 ≡ c.serve_several.new.side.pace.now = search rules in
     let driven : IsDriven c.args.queue.desk.turns c.args.mapper.newest c.serve_several.new.side.end (map (λ w. w.ended) c.serve_several.new.works.lanes.items) c.end_of.result
-    (lent_of (feed_told g.S.Source.told g.S.Source.faults) (feed_told g.T.Source.told g.T.Source.faults) g.K.Sink.told g.M.Pace.told c.args.feed.now c.args.more.now c.args.out.now c.args.maps.now c.args.pace.now c.args.lanes.now c.args.stream.now)
-    (lent_of (feed_told g.S.Source.told g.S.Source.faults) (feed_told g.T.Source.told g.T.Source.faults) g.K.Sink.told g.M.Pace.told c.serve_several.new.feed c.serve_several.new.more c.serve_several.new.side.out.now c.serve_several.new.side.maps.now c.serve_several.new.side.pace.now (c.serve_several.new.lanes ++ c.split_at_mut-served.result.1.now) c.serve_several.new.stream) =
+    (lent_of g.S.Source.told g.S.Source.faults g.T.Source.told g.T.Source.faults g.K.Sink.told g.M.Pace.told c.args.feed.now c.args.more.now c.args.out.now c.args.maps.now c.args.pace.now c.args.lanes.now c.args.stream.now)
+    (lent_of g.S.Source.told g.S.Source.faults g.T.Source.told g.T.Source.faults g.K.Sink.told g.M.Pace.told c.serve_several.new.feed c.serve_several.new.more c.serve_several.new.side.out.now c.serve_several.new.side.maps.now c.serve_several.new.side.pace.now (c.serve_several.new.lanes ++ c.split_at_mut-served.result.1.now) c.serve_several.new.stream) =
     let taker : c.taker-2-1.given.0 ≡ c.serve_several.new.side.taker.now = search rules in
     let run = several (arc_value c.args.queue.desk.topology) c.args.mapper.newest.plan c.args.queue.desk.turns g.T.Source.told g.T.Source.faults g.N.Numbers.groups g.N.Numbers.nodes _ _ (g.S.Source.faults c.args.feed.now) (g.S.Source.faults c.serve_several.new.feed) _ _ c.args.more.now c.serve_several.new.more c.args.queue.feeders.items c.serve_several.new.feeders.items c.args.queue.taker c.taker-2-1.given.0 c.serve_several.new.side.taker.now _ _ _ c.requires.queue.topology taker s.worked.queue.1 c.requires.queue.taker c.requires.queue.first c.requires.queue.feeders s.first s.sent c.all_back.ensures.taken c.all_back.ensures.first c.all_back.ensures.begins s.worked.run s.worked.merged in
     record {
@@ -54,8 +54,8 @@ returns-clause-driven g c =
       stream = ended_as _ _ _ _ _ _ _ _ _ s.done.3 (length-map _ _ ∙ search rules) c.end_of.ensures;
     } in
     let whole : IsDriven c.args.queue.desk.turns c.args.mapper.newest c.serve_several.new.side.end (map (λ w. w.ended) c.serve_several.new.works.lanes.items) c.end_of.result
-    (lent_of (feed_told g.S.Source.told g.S.Source.faults) (feed_told g.T.Source.told g.T.Source.faults) g.K.Sink.told g.M.Pace.told c.args.feed.now c.args.more.now c.args.out.now c.args.maps.now c.args.pace.now c.args.lanes.now c.args.stream.now)
-    (lent_of (feed_told g.S.Source.told g.S.Source.faults) (feed_told g.T.Source.told g.T.Source.faults) g.K.Sink.told g.M.Pace.told c.serve_several.new.feed c.serve_several.new.more c.out-1.given.0 c.maps-1.given.0 c.pace-1.given.0 (c.serve_several.new.lanes ++ c.split_at_mut-served.result.1.now) c.serve_several.new.stream) = rw (out, maps, pace) driven in (
+    (lent_of g.S.Source.told g.S.Source.faults g.T.Source.told g.T.Source.faults g.K.Sink.told g.M.Pace.told c.args.feed.now c.args.more.now c.args.out.now c.args.maps.now c.args.pace.now c.args.lanes.now c.args.stream.now)
+    (lent_of g.S.Source.told g.S.Source.faults g.T.Source.told g.T.Source.faults g.K.Sink.told g.M.Pace.told c.serve_several.new.feed c.serve_several.new.more c.out-1.given.0 c.maps-1.given.0 c.pace-1.given.0 (c.serve_several.new.lanes ++ c.split_at_mut-served.result.1.now) c.serve_several.new.stream) = rw (out, maps, pace) driven in (
       map (λ w. w.ended) c.serve_several.new.works.lanes.items,
       length-map _ _ ∙ size,
       c.ends_of.ensures,
