@@ -30,7 +30,8 @@ fn open_port<P: Port, G: Gate, D: Door>(lanes: &mut [Lane<P, G, D>], listen: &Li
     ensures same { length lanes.new ≡ length lanes.old }
     ensures opened { HasOpened listen.now 1 result lanes.old lanes.new }
 {
-    lanes[0].port.open(listen)
+    let lane = &mut lanes[0];
+    lane.port.open(listen)
 }
 
 /// Opens the ports of the first lanes in order, up to the first that fails.
