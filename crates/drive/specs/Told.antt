@@ -1,5 +1,5 @@
 -- What is told at one moment by all that a drive is lent, and what that is for a worker.
-use Rattle.std.specs.Prelude.{ℕ, ◌-◌, List, Option, Some, map}
+use Rattle.std.specs.Prelude.{◌≡◌, ℕ, ◌-◌, List, Option, Some, map}
 use Rattle.std.specs.List.{range_with_len}
 use Rattle.outside.specs.Limits.{most_notes}
 use Rattle.outside.specs.Notes.{NotesTold}
@@ -14,6 +14,7 @@ use Rattle.tcp_lane.specs.Turns.{no_talk}
 use Rattle.drive.specs.Done.{LaneTold, ServerTold, StreamLaneTold}
 use Rattle.drive.specs.Driven.{Lent}
 use Rattle.drive.specs.Feeds.{FeedTold}
+use Rattle.drive.specs.declared.lent.Lent.{Lent as LentParts}
 
 -- a worker's viewer, with what its lane tells of its door
 abbrev pub eyes_at : {T : Type 0} → ViewerState → ServerTold T → Eyes Version
@@ -63,16 +64,24 @@ stream_moment_at lane viewer notes count = record {
 abbrev pub feed_told : {T : Type 0} → (T → Option Fed) → (T → ℕ) → T → FeedTold
 feed_told fed faults feed = record { fed = fed feed; faults = faults feed }
 
+-- the same things are lent, for as many turns
+abbrev pub IsSameLent : {S N K P G D M : Type 0} → LentParts S N K P G D M → LentParts S N K P G D M → Type 0
+IsSameLent a b = (b.feed.ghost_name ≡ a.feed.ghost_name) × (b.more.ghost_name ≡ a.more.ghost_name) × (b.out.ghost_name ≡ a.out.ghost_name) × (b.maps.ghost_name ≡ a.maps.ghost_name) × (b.lanes.ghost_name ≡ a.lanes.ghost_name) × (b.pace.ghost_name ≡ a.pace.ghost_name)
+
+-- nothing that is lent was touched
+abbrev pub AreUntouched : {S N K P G D M : Type 0} → LentParts S N K P G D M → LentParts S N K P G D M → Type 0
+AreUntouched a b = (b.feed.now ≡ a.feed.now) × (b.more.now ≡ a.more.now) × (b.out.now ≡ a.out.now) × (b.maps.now ≡ a.maps.now) × (b.lanes.now ≡ a.lanes.now) × (b.pace.now ≡ a.pace.now)
+
 -- all that is lent, by what a feed, a further one, an output and a pace tell
-abbrev pub lent_of : {S T K M : Type 0}
-    → (S → Option Fed) → (S → ℕ) → (T → Option Fed) → (T → ℕ) → (K → Option Written) → (M → Option (List PaceCall))
-    → S → List T → K → K → M → List LaneTold → StreamLaneTold → Lent
-lent_of fed faults other others_faults told paced feed more out maps pace lanes stream = record {
-  feed = feed_told fed faults feed;
-  more = map (feed_told other others_faults) more;
-  out = told out;
-  maps = told maps;
-  pace = paced pace;
-  lanes = lanes;
+abbrev pub lent_of : {S N K P G D M : Type 0}
+    → (S → Option Fed) → (S → ℕ) → (N → Option Fed) → (N → ℕ) → (K → Option Written) → (M → Option (List PaceCall))
+    → LentParts S N K P G D M → StreamLaneTold → Lent
+lent_of fed faults named named_faults written paced l stream = record {
+  feed = feed_told fed faults l.feed.now;
+  more = map (feed_told named named_faults) l.more.now;
+  out = written l.out.now;
+  maps = written l.maps.now;
+  pace = paced l.pace.now;
+  lanes = l.lanes.now;
   stream = stream;
 }

@@ -1,27 +1,27 @@
 //! A drive: what it takes ahead of the first lane, its run, and its ends.
-ghost use Rattle.std.specs.Prelude.{◌≡◌, ◌≢◌, ◌⊎◌, ◌+◌, ◌≤◌, ◌∷◌, [], List, All, IfOk, IfSome, OnErr, drop, length, map, option_map, vec_len};
+ghost use Rattle.std.specs.Prelude.{◌≡◌, ◌≢◌, ◌+◌, ◌≤◌, ◌∷◌, [], List, All, IfOk, IfSome, OnErr, drop, length, map, option_map, vec_len};
 ghost use Rattle.std.specs.Arc.{arc_value};
 ghost use Rattle.std.specs.Option.{option_to_list};
-ghost use Rattle.outside.specs.Faults.{Rose};
 ghost use Rattle.demand_feed.specs.declared.limits.TheConstants.{MOST_TURNS};
 ghost use Rattle.published_map.specs.Version.{Version};
 ghost use Rattle.map_cell.specs.Histories.{IsHistory};
 ghost use Rattle.lane_model.specs.declared.ended.Ended.{Ended};
-ghost use Rattle.drive.specs.AllDone.{AllDone, AllHeld};
+ghost use Rattle.drive.specs.AllDone.{AllDone, AllHeld, IsFresh};
+ghost use Rattle.drive.specs.Counted.{AreCounted, counts_of};
 ghost use Rattle.drive.specs.Done.{IsDone};
 ghost use Rattle.drive.specs.All.{AllRan};
 ghost use Rattle.drive.specs.Driven.{AreEnds, IsDriven};
 ghost use Rattle.drive.specs.Fed.{AreWorked, IsFedBy};
-ghost use Rattle.drive.specs.Feeds.{AllStand, AnyRose, NoneFell};
 ghost use Rattle.drive.specs.Queue.{IsFeedQueue};
 ghost use Rattle.drive.specs.Read.{IsRead};
 ghost use Rattle.drive.specs.Streams.{AreStreamsDone};
-ghost use Rattle.drive.specs.Told.{feed_told, lent_of};
+ghost use Rattle.drive.specs.Told.{AreUntouched, IsSameLent, lent_of};
 
 use crate::beside::run_beside;
 use crate::feeders::run_among;
 use crate::joins::{close_all, close_more};
 use crate::lane::{Lane, LaneWorker, Workers};
+use crate::lent::Lent;
 use crate::loan::{Desk, FeedLoan, Loan, TakerLoan};
 use crate::queue::{FeedQueue, all_back, open_queue};
 use crate::stream::StreamLane;
@@ -60,8 +60,7 @@ fn hold_all<J: Naming>(
     ensures len { IfOk result (λ r. vec_len r ≡ vec_len viewers) }
     ensures held { (h : List Version) → All (λ e. (e.seen ≡ h) × (e.heard ≡ h)) viewers.items
         → IfOk result
-        (λ r. AllHeld (λ i w. (w.worker.number ≡ i) × (w.worker.count ≡ 0)
-        × (w.worker.viewer.seen ≡ h) × (w.worker.viewer.heard ≡ h) × (w.turns ≡ turns)) 0 r.items) }
+        (λ r. AllHeld (IsFresh h turns) 0 r.items) }
 {
     let mut left = viewers;
     let mut works = Vec::with_capacity(alloc, left.len())?;
@@ -80,8 +79,7 @@ fn hold_all<J: Naming>(
 fn hold_one<J: Naming>(viewer: Option<Viewer<J>>, number: u8, turns: u64) -> Option<LaneWorker<J>>
     requires { number ≤ 16 }
     ensures held { (h : List Version) → IfSome viewer (λ e. (e.seen ≡ h) × (e.heard ≡ h))
-        → IfSome result (λ w. (w.worker.number ≡ number) × (w.worker.count ≡ 0)
-        × (w.worker.viewer.seen ≡ h) × (w.worker.viewer.heard ≡ h) × (w.turns ≡ turns)) }
+        → IfSome result (IsFresh h turns number) }
     ensures same { length (option_to_list result) ≡ length (option_to_list viewer) }
 {
     match viewer {
@@ -137,13 +135,10 @@ fn prepare<J: Naming, R: Threads>(
     ensures len { IfOk result (λ r. vec_len r.works.lanes ≡ vec_len viewers) }
     ensures held { (h : List Version) → All (λ e. (e.seen ≡ h) × (e.heard ≡ h)) viewers.items
         → IfOk result
-        (λ r. AllHeld (λ i w. (w.worker.number ≡ i) × (w.worker.count ≡ 0)
-        × (w.worker.viewer.seen ≡ h) × (w.worker.viewer.heard ≡ h)
-        × (w.turns ≡ turns)) 0 r.works.lanes.items) }
+        (λ r. AllHeld (IsFresh h turns) 0 r.works.lanes.items) }
     ensures listener { (h : List Version) → IfSome listener (λ e. (e.seen ≡ h) × (e.heard ≡ h))
         → IfOk result
-        (λ r. IfSome r.works.stream (λ w. (w.worker.number ≡ vec_len viewers) × (w.worker.count ≡ 0)
-        × (w.worker.viewer.seen ≡ h) × (w.worker.viewer.heard ≡ h) × (w.turns ≡ turns))) }
+        (λ r. IfSome r.works.stream (IsFresh h turns (vec_len viewers))) }
     ensures same { IfOk result
         (λ r. length (option_to_list r.works.stream) ≡ length (option_to_list listener)) }
 {
@@ -186,13 +181,11 @@ fn serve_all<
     requires turns { loan.old.side.turns ≤ MOST_TURNS }
     requires first { (mapper.old.history ≡ mapper.old.newest ∷ [])
         × (mapper.old.newest.serial ≡ 0) }
-    requires fresh { AllHeld (λ i w. (w.worker.number ≡ i) × (w.worker.count ≡ 0)
-        × (w.worker.viewer.seen ≡ mapper.old.history) × (w.worker.viewer.heard ≡ mapper.old.history)
-        × (w.turns ≡ loan.old.side.turns)) 0 works.old.lanes.items }
+    requires fresh { AllHeld
+        (IsFresh mapper.old.history loan.old.side.turns) 0 works.old.lanes.items }
     requires lanes { length loan.old.lanes.now ≡ vec_len works.old.lanes }
-    requires listener { IfSome works.old.stream (λ w. (w.worker.number ≡ vec_len works.old.lanes)
-        × (w.worker.count ≡ 0) × (w.worker.viewer.seen ≡ mapper.old.history)
-        × (w.worker.viewer.heard ≡ mapper.old.history) × (w.turns ≡ loan.old.side.turns)) }
+    requires listener { IfSome works.old.stream
+        (IsFresh mapper.old.history loan.old.side.turns (vec_len works.old.lanes)) }
     ensures fed { IsFedBy S.told S.faults K.told K.faults M.told
         loan.old.side loan.new.side mapper.old mapper.new }
     ensures lanes { loan.new.lanes.ghost_name ≡ loan.old.lanes.ghost_name }
@@ -254,13 +247,10 @@ fn serve_several<
     requires feeds { length more.old ≡ vec_len feeders.old }
     requires first { (mapper.old.history ≡ mapper.old.newest ∷ [])
         × (mapper.old.newest.serial ≡ 0) }
-    requires fresh { AllHeld (λ i w. (w.worker.number ≡ i) × (w.worker.count ≡ 0)
-        × (w.worker.viewer.seen ≡ mapper.old.history) × (w.worker.viewer.heard ≡ mapper.old.history)
-        × (w.turns ≡ desk.now.turns)) 0 works.old.lanes.items }
+    requires fresh { AllHeld (IsFresh mapper.old.history desk.now.turns) 0 works.old.lanes.items }
     requires lanes { length lanes.old ≡ vec_len works.old.lanes }
-    requires listener { IfSome works.old.stream (λ w. (w.worker.number ≡ vec_len works.old.lanes)
-        × (w.worker.count ≡ 0) × (w.worker.viewer.seen ≡ mapper.old.history)
-        × (w.worker.viewer.heard ≡ mapper.old.history) × (w.turns ≡ desk.now.turns)) }
+    requires listener { IfSome works.old.stream
+        (IsFresh mapper.old.history desk.now.turns (vec_len works.old.lanes)) }
     ensures first { IsRead (arc_value desk.now.topology) desk.now.turns (S.told feed.old)
         (S.told feed.new) (S.faults feed.old) (S.faults feed.new) first.old first.new }
     ensures sent { AllRan
@@ -305,45 +295,30 @@ fn drive_one<
     rt: &R,
     mapper: Mapper<J>,
     prepared: Prepared<J>,
-    feed: &mut S,
-    out: &mut K,
-    maps: &mut K,
-    lanes: &mut [Lane<P, G, D>],
+    lent: &mut Lent<'_, '_, '_, '_, '_, '_, S, T, K, P, G, D, M>,
     stream: &mut StreamLane<Q, G, D>,
-    pace: &mut M,
-    turns: u64,
 ) -> DriveEnd
     requires serial { mapper.newest.serial ≡ 0 }
-    requires turns { turns ≤ MOST_TURNS }
-    requires fresh { AllHeld (λ i w. (w.worker.number ≡ i) × (w.worker.count ≡ 0)
-        × (w.worker.viewer.seen ≡ mapper.history) × (w.worker.viewer.heard ≡ mapper.history)
-        × (w.turns ≡ turns)) 0 prepared.works.lanes.items }
+    requires turns { lent.old.turns ≤ MOST_TURNS }
+    requires fresh { AllHeld (IsFresh mapper.history lent.old.turns) 0 prepared.works.lanes.items }
     requires listener { IfSome prepared.works.stream
-        (λ w. (w.worker.number ≡ vec_len prepared.works.lanes) × (w.worker.count ≡ 0)
-        × (w.worker.viewer.seen ≡ mapper.history) × (w.worker.viewer.heard ≡ mapper.history)
-        × (w.turns ≡ turns)) }
+        (IsFresh mapper.history lent.old.turns (vec_len prepared.works.lanes)) }
     requires few { (vec_len prepared.works.lanes ≤ 16)
-        × (vec_len prepared.works.lanes ≤ length lanes.old) }
+        × (vec_len prepared.works.lanes ≤ length lent.old.lanes.now) }
+    requires one { lent.old.more.now ≡ [] }
+    ensures keeps { IsSameLent lent.old lent.new }
     ensures driven { (ends : List Ended) × (length ends ≡ vec_len prepared.works.lanes)
-        × AreEnds ends result.lanes × IsDriven turns mapper.newest result.feed ends result.stream
-        (lent_of S.told S.faults T.told T.faults K.told M.told
-        feed.old [] out.old maps.old pace.old lanes.old stream.old)
-        (lent_of S.told S.faults T.told T.faults K.told M.told
-        feed.new [] out.new maps.new pace.new lanes.new stream.new) }
-    ensures untouched { drop (vec_len prepared.works.lanes) lanes.new ≡ drop
-        (vec_len prepared.works.lanes) lanes.old }
+        × AreEnds ends result.lanes
+        × IsDriven lent.old.turns mapper.newest result.feed ends result.stream
+        (lent_of S.told S.faults T.told T.faults K.told M.told lent.old stream.old)
+        (lent_of S.told S.faults T.told T.faults K.told M.told lent.new stream.new) }
+    ensures untouched { drop (vec_len prepared.works.lanes) lent.new.lanes.now ≡ drop
+        (vec_len prepared.works.lanes) lent.old.lanes.now }
     ensures stream { length (option_to_list result.stream) ≡ length
         (option_to_list prepared.works.stream) }
-    ensures later { (K.faults out.old ≤ K.faults out.new) × (K.faults maps.old ≤ K.faults maps.new)
-        × (S.faults feed.old ≤ S.faults feed.new) }
-    ensures sink { result.feed ≡ FeedEnd.SinkFault → Rose (K.faults out.old) (K.faults out.new)
-        ⊎ Rose (K.faults maps.old) (K.faults maps.new) }
-    ensures sink_stays { result.feed ≢ FeedEnd.SinkFault → (K.faults out.new ≡ K.faults out.old)
-        × (K.faults maps.new ≡ K.faults maps.old) }
-    ensures source { result.feed ≡ FeedEnd.SourceFault
-        → Rose (S.faults feed.old) (S.faults feed.new) }
-    ensures source_stays { result.feed ≢ FeedEnd.SourceFault
-        → S.faults feed.new ≡ S.faults feed.old }
+    ensures counted { AreCounted result.feed
+        (counts_of S.told S.faults T.told T.faults K.faults lent.old)
+        (counts_of S.told S.faults T.told T.faults K.faults lent.new) }
 {
     let mut mapper = mapper;
     // tells the prover what the type keeps
@@ -351,14 +326,14 @@ fn drive_one<
     let Prepared { row, works } = prepared;
     let mut works = works;
     let count = works.lanes.len();
-    let (served, _behind) = lanes.split_at_mut(count);
+    let (served, _behind) = lent.lanes.split_at_mut(count);
     let mut loan = Loan {
         side: FeedLoan {
-            feed,
-            out,
-            maps,
-            pace,
-            turns,
+            feed: lent.feed,
+            out: lent.out,
+            maps: lent.maps,
+            pace: lent.pace,
+            turns: lent.turns,
             end: FeedEnd::Ended,
         },
         lanes: served,
@@ -390,54 +365,31 @@ fn drive_several<
     queue: FeedQueue<N>,
     mapper: Mapper<J>,
     prepared: Prepared<J>,
-    feed: &mut S,
-    more: &mut [T],
-    out: &mut K,
-    maps: &mut K,
-    lanes: &mut [Lane<P, G, D>],
+    lent: &mut Lent<'_, '_, '_, '_, '_, '_, S, T, K, P, G, D, M>,
     stream: &mut StreamLane<Q, G, D>,
-    pace: &mut M,
 ) -> DriveEnd
     requires serial { mapper.newest.serial ≡ 0 }
-    requires queue { IsFeedQueue N.groups N.nodes (length more.old) mapper.newest.plan queue }
-    requires turns { queue.desk.turns ≤ MOST_TURNS }
-    requires fresh { AllHeld (λ i w. (w.worker.number ≡ i) × (w.worker.count ≡ 0)
-        × (w.worker.viewer.seen ≡ mapper.history) × (w.worker.viewer.heard ≡ mapper.history)
-        × (w.turns ≡ queue.desk.turns)) 0 prepared.works.lanes.items }
+    requires queue { IsFeedQueue N.groups N.nodes (length lent.old.more.now) mapper.newest.plan queue }
+    requires turns { (lent.old.turns ≤ MOST_TURNS) × (queue.desk.turns ≡ lent.old.turns) }
+    requires fresh { AllHeld (IsFresh mapper.history lent.old.turns) 0 prepared.works.lanes.items }
     requires listener { IfSome prepared.works.stream
-        (λ w. (w.worker.number ≡ vec_len prepared.works.lanes) × (w.worker.count ≡ 0)
-        × (w.worker.viewer.seen ≡ mapper.history) × (w.worker.viewer.heard ≡ mapper.history)
-        × (w.turns ≡ queue.desk.turns)) }
+        (IsFresh mapper.history lent.old.turns (vec_len prepared.works.lanes)) }
     requires few { (vec_len prepared.works.lanes ≤ 16)
-        × (vec_len prepared.works.lanes ≤ length lanes.old) }
-    requires several { more.old ≢ [] }
+        × (vec_len prepared.works.lanes ≤ length lent.old.lanes.now) }
+    requires several { lent.old.more.now ≢ [] }
+    ensures keeps { IsSameLent lent.old lent.new }
     ensures driven { (ends : List Ended) × (length ends ≡ vec_len prepared.works.lanes)
         × AreEnds ends result.lanes
-        × IsDriven queue.desk.turns mapper.newest result.feed ends result.stream
-        (lent_of S.told S.faults T.told T.faults K.told M.told
-        feed.old more.old out.old maps.old pace.old lanes.old stream.old)
-        (lent_of S.told S.faults T.told T.faults K.told M.told
-        feed.new more.new out.new maps.new pace.new lanes.new stream.new) }
-    ensures untouched { drop (vec_len prepared.works.lanes) lanes.new ≡ drop
-        (vec_len prepared.works.lanes) lanes.old }
+        × IsDriven lent.old.turns mapper.newest result.feed ends result.stream
+        (lent_of S.told S.faults T.told T.faults K.told M.told lent.old stream.old)
+        (lent_of S.told S.faults T.told T.faults K.told M.told lent.new stream.new) }
+    ensures untouched { drop (vec_len prepared.works.lanes) lent.new.lanes.now ≡ drop
+        (vec_len prepared.works.lanes) lent.old.lanes.now }
     ensures stream { length (option_to_list result.stream) ≡ length
         (option_to_list prepared.works.stream) }
-    ensures later { (K.faults out.old ≤ K.faults out.new) × (K.faults maps.old ≤ K.faults maps.new)
-        × (S.faults feed.old ≤ S.faults feed.new)
-        × NoneFell (map (feed_told T.told T.faults) more.old)
-        (map (feed_told T.told T.faults) more.new) }
-    ensures sink { result.feed ≡ FeedEnd.SinkFault → Rose (K.faults out.old) (K.faults out.new)
-        ⊎ Rose (K.faults maps.old) (K.faults maps.new) }
-    ensures sink_stays { result.feed ≢ FeedEnd.SinkFault → (K.faults out.new ≡ K.faults out.old)
-        × (K.faults maps.new ≡ K.faults maps.old) }
-    ensures source { result.feed ≡ FeedEnd.SourceFault
-        → Rose (S.faults feed.old) (S.faults feed.new)
-        ⊎ AnyRose (map (feed_told T.told T.faults) more.old)
-        (map (feed_told T.told T.faults) more.new) }
-    ensures source_stays { result.feed ≢ FeedEnd.SourceFault → result.feed ≢ FeedEnd.SinkFault
-        → (S.faults feed.new ≡ S.faults feed.old)
-        × AllStand (map (feed_told T.told T.faults) more.old)
-        (map (feed_told T.told T.faults) more.new) }
+    ensures counted { AreCounted result.feed
+        (counts_of S.told S.faults T.told T.faults K.faults lent.old)
+        (counts_of S.told S.faults T.told T.faults K.faults lent.new) }
 {
     let mut mapper = mapper;
     // tells the prover what the type keeps
@@ -454,21 +406,21 @@ fn drive_several<
     let mut feeders = feeders;
     let mut taker = taker;
     let count = works.lanes.len();
-    let (served, _behind) = lanes.split_at_mut(count);
+    let (served, _behind) = lent.lanes.split_at_mut(count);
     let mut side = TakerLoan {
         taker: &mut taker,
-        out,
-        maps,
-        pace,
+        out: lent.out,
+        maps: lent.maps,
+        pace: lent.pace,
         end: FeedEnd::Ended,
     };
     serve_several(
         rt,
         &desk,
         &mut first,
-        feed,
+        lent.feed,
         &mut feeders,
-        more,
+        lent.more,
         &row,
         &mut mapper,
         &mut works,
@@ -504,69 +456,49 @@ fn drive_with<
     alloc: Global,
     mapper: Mapper<J>,
     prepared: Prepared<J>,
-    feed: &mut S,
-    more: &mut [T],
-    out: &mut K,
-    maps: &mut K,
-    lanes: &mut [Lane<P, G, D>],
+    lent: &mut Lent<'_, '_, '_, '_, '_, '_, S, T, K, P, G, D, M>,
     stream: &mut StreamLane<Q, G, D>,
-    pace: &mut M,
-    turns: u64,
 ) -> Result<DriveEnd, NoMemory>
     requires serial { mapper.newest.serial ≡ 0 }
     requires groups { length mapper.newest.plan.market.groups ≡ N.groups }
     requires nodes { length mapper.newest.plan.market.nodes ≡ N.nodes }
-    requires turns { turns ≤ MOST_TURNS }
-    requires fresh { AllHeld (λ i w. (w.worker.number ≡ i) × (w.worker.count ≡ 0)
-        × (w.worker.viewer.seen ≡ mapper.history) × (w.worker.viewer.heard ≡ mapper.history)
-        × (w.turns ≡ turns)) 0 prepared.works.lanes.items }
+    requires turns { lent.old.turns ≤ MOST_TURNS }
+    requires fresh { AllHeld (IsFresh mapper.history lent.old.turns) 0 prepared.works.lanes.items }
     requires listener { IfSome prepared.works.stream
-        (λ w. (w.worker.number ≡ vec_len prepared.works.lanes) × (w.worker.count ≡ 0)
-        × (w.worker.viewer.seen ≡ mapper.history) × (w.worker.viewer.heard ≡ mapper.history)
-        × (w.turns ≡ turns)) }
+        (IsFresh mapper.history lent.old.turns (vec_len prepared.works.lanes)) }
     requires few { (vec_len prepared.works.lanes ≤ 16)
-        × (vec_len prepared.works.lanes ≤ length lanes.old) }
-    requires several { (more.old ≢ []) × (length more.old ≤ 3) }
+        × (vec_len prepared.works.lanes ≤ length lent.old.lanes.now) }
+    requires several { (lent.old.more.now ≢ []) × (length lent.old.more.now ≤ 3) }
+    ensures keeps { IsSameLent lent.old lent.new }
     ensures driven { IfOk result (λ r. (ends : List Ended)
         × (length ends ≡ vec_len prepared.works.lanes) × AreEnds ends r.lanes
-        × IsDriven turns mapper.newest r.feed ends r.stream
-        (lent_of S.told S.faults T.told T.faults K.told M.told
-        feed.old more.old out.old maps.old pace.old lanes.old stream.old)
-        (lent_of S.told S.faults T.told T.faults K.told M.told
-        feed.new more.new out.new maps.new pace.new lanes.new stream.new)) }
-    ensures untouched { drop (vec_len prepared.works.lanes) lanes.new ≡ drop
-        (vec_len prepared.works.lanes) lanes.old }
+        × IsDriven lent.old.turns mapper.newest r.feed ends r.stream
+        (lent_of S.told S.faults T.told T.faults K.told M.told lent.old stream.old)
+        (lent_of S.told S.faults T.told T.faults K.told M.told lent.new stream.new)) }
+    ensures untouched { drop (vec_len prepared.works.lanes) lent.new.lanes.now ≡ drop
+        (vec_len prepared.works.lanes) lent.old.lanes.now }
     ensures stream { IfOk result
         (λ r. length (option_to_list r.stream) ≡ length (option_to_list prepared.works.stream)) }
-    ensures no_memory { OnErr result ((feed.new ≡ feed.old) × (more.new ≡ more.old)
-        × (out.new ≡ out.old) × (maps.new ≡ maps.old) × (lanes.new ≡ lanes.old)
-        × (stream.new ≡ stream.old) × (pace.new ≡ pace.old)) }
-    ensures later { (K.faults out.old ≤ K.faults out.new) × (K.faults maps.old ≤ K.faults maps.new)
-        × (S.faults feed.old ≤ S.faults feed.new)
-        × NoneFell (map (feed_told T.told T.faults) more.old)
-        (map (feed_told T.told T.faults) more.new) }
-    ensures sink { IfOk result (λ r. r.feed ≡ FeedEnd.SinkFault
-        → Rose (K.faults out.old) (K.faults out.new)
-        ⊎ Rose (K.faults maps.old) (K.faults maps.new)) }
-    ensures sink_stays { IfOk result (λ r. r.feed ≢ FeedEnd.SinkFault
-        → (K.faults out.new ≡ K.faults out.old) × (K.faults maps.new ≡ K.faults maps.old)) }
-    ensures source { IfOk result (λ r. r.feed ≡ FeedEnd.SourceFault
-        → Rose (S.faults feed.old) (S.faults feed.new)
-        ⊎ AnyRose (map (feed_told T.told T.faults) more.old)
-        (map (feed_told T.told T.faults) more.new)) }
-    ensures source_stays { IfOk result (λ r. r.feed ≢ FeedEnd.SourceFault
-        → r.feed ≢ FeedEnd.SinkFault → (S.faults feed.new ≡ S.faults feed.old)
-        × AllStand (map (feed_told T.told T.faults) more.old)
-        (map (feed_told T.told T.faults) more.new)) }
+    ensures no_memory { OnErr result (AreUntouched lent.old lent.new × (stream.new ≡ stream.old)) }
+    ensures counted { IfOk result (λ r. AreCounted r.feed
+        (counts_of S.told S.faults T.told T.faults K.faults lent.old)
+        (counts_of S.told S.faults T.told T.faults K.faults lent.new)) }
 {
-    let count = more.len() as u8;
-    let Ok(queue) = open_queue::<N>(alloc, mapper.topology(), count, turns) else {
+    let count = lent.more.len() as u8;
+    let Ok(queue) = open_queue::<N>(alloc, mapper.topology(), count, lent.turns) else {
         mapper.close(rt);
         return Err(NoMemory);
     };
-    Ok(drive_several(
-        rt, queue, mapper, prepared, feed, more, out, maps, lanes, stream, pace,
-    ))
+    Ok(drive_several(rt, queue, mapper, prepared, lent, stream))
+}
+
+/// Who works in a drive: the mapper, a viewer of its maps for each of the first lanes, and one for the lane for conversations,
+/// where these are to be answered.
+#[derive(Drop)]
+pub struct Crew<J: Naming> {
+    pub mapper: Mapper<J>,
+    pub viewers: Vec<Viewer<J>>,
+    pub listener: Option<Viewer<J>>,
 }
 
 /// Runs a mapper's feed, or several at once, beside the first lanes, one for each viewer, and beside the lane for
@@ -599,68 +531,47 @@ pub fn drive<
 >(
     rt: &R,
     alloc: Global,
-    mapper: Mapper<J>,
-    viewers: Vec<Viewer<J>>,
-    listener: Option<Viewer<J>>,
-    feed: &mut S,
-    more: &mut [T],
-    out: &mut K,
-    maps: &mut K,
-    lanes: &mut [Lane<P, G, D>],
+    crew: Crew<J>,
+    lent: &mut Lent<'_, '_, '_, '_, '_, '_, S, T, K, P, G, D, M>,
     stream: &mut StreamLane<Q, G, D>,
-    pace: &mut M,
-    turns: u64,
 ) -> Result<DriveEnd, NoMemory>
-    requires serial { mapper.newest.serial ≡ 0 }
-    requires turns { turns ≤ MOST_TURNS }
-    requires viewers { All (λ v. (v.seen ≡ mapper.history)
-        × (v.heard ≡ mapper.history)) viewers.items }
-    requires listener { IfSome listener (λ v. (v.seen ≡ mapper.history)
-        × (v.heard ≡ mapper.history)) }
-    requires few { (vec_len viewers ≤ 16) × (vec_len viewers ≤ length lanes.old) }
-    requires feeds { length more.old ≤ 3 }
-    ensures driven { IfOk result (λ r. (ends : List Ended) × (length ends ≡ vec_len viewers)
-        × AreEnds ends r.lanes × IsDriven turns mapper.newest r.feed ends r.stream
-        (lent_of S.told S.faults T.told T.faults K.told M.told
-        feed.old more.old out.old maps.old pace.old lanes.old stream.old)
-        (lent_of S.told S.faults T.told T.faults K.told M.told
-        feed.new more.new out.new maps.new pace.new lanes.new stream.new)) }
-    ensures untouched { drop (vec_len viewers) lanes.new ≡ drop (vec_len viewers) lanes.old }
+    requires serial { crew.mapper.newest.serial ≡ 0 }
+    requires turns { lent.old.turns ≤ MOST_TURNS }
+    requires viewers { All (λ v. (v.seen ≡ crew.mapper.history) × (v.heard ≡ crew.mapper.history))
+        crew.viewers.items }
+    requires listener { IfSome crew.listener
+        (λ v. (v.seen ≡ crew.mapper.history) × (v.heard ≡ crew.mapper.history)) }
+    requires few { (vec_len crew.viewers ≤ 16)
+        × (vec_len crew.viewers ≤ length lent.old.lanes.now) }
+    requires feeds { length lent.old.more.now ≤ 3 }
+    ensures keeps { IsSameLent lent.old lent.new }
+    ensures driven { IfOk result (λ r. (ends : List Ended) × (length ends ≡ vec_len crew.viewers)
+        × AreEnds ends r.lanes
+        × IsDriven lent.old.turns crew.mapper.newest r.feed ends r.stream
+        (lent_of S.told S.faults T.told T.faults K.told M.told lent.old stream.old)
+        (lent_of S.told S.faults T.told T.faults K.told M.told lent.new stream.new)) }
+    ensures untouched { drop (vec_len crew.viewers) lent.new.lanes.now ≡ drop
+        (vec_len crew.viewers) lent.old.lanes.now }
     ensures stream { IfOk result
-        (λ r. length (option_to_list r.stream) ≡ length (option_to_list listener)) }
-    ensures no_memory { OnErr result ((feed.new ≡ feed.old) × (more.new ≡ more.old)
-        × (out.new ≡ out.old) × (maps.new ≡ maps.old) × (lanes.new ≡ lanes.old)
-        × (stream.new ≡ stream.old) × (pace.new ≡ pace.old)) }
-    ensures later { (K.faults out.old ≤ K.faults out.new) × (K.faults maps.old ≤ K.faults maps.new)
-        × (S.faults feed.old ≤ S.faults feed.new)
-        × NoneFell (map (feed_told T.told T.faults) more.old)
-        (map (feed_told T.told T.faults) more.new) }
-    ensures sink { IfOk result (λ r. r.feed ≡ FeedEnd.SinkFault
-        → Rose (K.faults out.old) (K.faults out.new)
-        ⊎ Rose (K.faults maps.old) (K.faults maps.new)) }
-    ensures sink_stays { IfOk result (λ r. r.feed ≢ FeedEnd.SinkFault
-        → (K.faults out.new ≡ K.faults out.old) × (K.faults maps.new ≡ K.faults maps.old)) }
-    ensures source { IfOk result (λ r. r.feed ≡ FeedEnd.SourceFault
-        → Rose (S.faults feed.old) (S.faults feed.new)
-        ⊎ AnyRose (map (feed_told T.told T.faults) more.old)
-        (map (feed_told T.told T.faults) more.new)) }
-    ensures source_stays { IfOk result (λ r. r.feed ≢ FeedEnd.SourceFault
-        → (r.feed ≡ FeedEnd.SinkFault → more.old ≡ []) → (S.faults feed.new ≡ S.faults feed.old)
-        × AllStand (map (feed_told T.told T.faults) more.old)
-        (map (feed_told T.told T.faults) more.new)) }
+        (λ r. length (option_to_list r.stream) ≡ length (option_to_list crew.listener)) }
+    ensures no_memory { OnErr result (AreUntouched lent.old lent.new × (stream.new ≡ stream.old)) }
+    ensures counted { IfOk result (λ r. AreCounted r.feed
+        (counts_of S.told S.faults T.told T.faults K.faults lent.old)
+        (counts_of S.told S.faults T.told T.faults K.faults lent.new)) }
 {
-    let count = more.len();
+    let Crew {
+        mapper,
+        viewers,
+        listener,
+    } = crew;
+    let count = lent.more.len();
     let feeders = if count == 0 { 0 } else { count + 1 };
-    let Ok(prepared) = prepare(rt, alloc, viewers, listener, feeders, turns) else {
+    let Ok(prepared) = prepare(rt, alloc, viewers, listener, feeders, lent.turns) else {
         mapper.close(rt);
         return Err(NoMemory);
     };
     if count == 0 {
-        return Ok(drive_one::<J, S, T, K, P, Q, G, D, M, R>(
-            rt, mapper, prepared, feed, out, maps, lanes, stream, pace, turns,
-        ));
+        return Ok(drive_one::<J, S, T, K, P, Q, G, D, M, R>(rt, mapper, prepared, lent, stream));
     }
-    drive_with::<J, Brand, S, T, K, P, Q, G, D, M, R>(
-        rt, alloc, mapper, prepared, feed, more, out, maps, lanes, stream, pace, turns,
-    )
+    drive_with::<J, Brand, S, T, K, P, Q, G, D, M, R>(rt, alloc, mapper, prepared, lent, stream)
 }
