@@ -494,7 +494,6 @@ fn drive_with<
 
 /// Who works in a drive: the mapper, a viewer of its maps for each of the first lanes, and one for the lane for conversations,
 /// where these are to be answered.
-#[derive(Drop)]
 pub struct Crew<J: Naming> {
     pub mapper: Mapper<J>,
     pub viewers: Vec<Viewer<J>>,
