@@ -3,4 +3,4 @@ use Rattle.drive.proofs.whole.drive.Given as goal
 
 -- the numbers of the mapper's topology
 abbrev pub ghosts-drive_with : goal.ghosts-drive_with
-ghosts-drive_with g a = record { groups = length a.crew.mapper.newest.plan.market.groups; nodes = length a.crew.mapper.newest.plan.market.nodes }
+ghosts-drive_with g a = record { groups = length a.mapper.newest.plan.market.groups; nodes = length a.mapper.newest.plan.market.nodes }

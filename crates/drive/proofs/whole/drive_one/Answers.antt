@@ -3,7 +3,7 @@ use Rattle.std.proofs.lemmas.List.{length-map}
 use Rattle.drive.proofs.Ends.{sole_history}
 use Rattle.drive.proofs.Growing.{feed_goes_on, feed_over}
 use Rattle.drive.proofs.Together.{are_done_in, ended_as}
-use Rattle.drive.specs.Told.{lent_of}
+use Rattle.drive.specs.Told.{feed_told}
 use Rattle.drive.specs.Driven.{IsDriven}
 use Rattle.drive.proofs.whole.drive_one.Goals as goal
 
@@ -15,9 +15,9 @@ returns-clause-driven g c =
     let s = c.serve_all.ensures in
     let opened = sole_history c.args.mapper.history c.args.mapper.newest c.newest.ensures.last c.requires.serial in
     let size : length c.serve_all.new.works.lanes.items ≡ vec_len c.args.prepared.works.lanes = search rules in
-    let driven : IsDriven c.args.turns c.args.mapper.newest c.serve_all.new.loan.side.end (map (λ w. w.ended) c.serve_all.new.works.lanes.items) c.end_of.result
-    (lent_of g.S.Source.told g.S.Source.faults g.T.Source.told g.T.Source.faults g.K.Sink.told g.M.Pace.told c.args.feed.now [] c.args.out.now c.args.maps.now c.args.pace.now c.args.lanes.now c.args.stream.now)
-    (lent_of g.S.Source.told g.S.Source.faults g.T.Source.told g.T.Source.faults g.K.Sink.told g.M.Pace.told c.serve_all.new.loan.side.feed.now [] c.serve_all.new.loan.side.out.now c.serve_all.new.loan.side.maps.now c.serve_all.new.loan.side.pace.now (c.serve_all.new.loan.lanes.now ++ c.split_at_mut-served.result.1.now) c.serve_all.new.stream) = record {
+    let driven : IsDriven c.args.lent.now.turns c.args.mapper.newest c.serve_all.new.loan.side.end (map (λ w. w.ended) c.serve_all.new.works.lanes.items) c.end_of.result
+    (record { feed = feed_told g.S.Source.told g.S.Source.faults c.args.lent.now.feed.now; more = []; out = g.K.Sink.told c.args.lent.now.out.now; maps = g.K.Sink.told c.args.lent.now.maps.now; pace = g.M.Pace.told c.args.lent.now.pace.now; lanes = c.args.lent.now.lanes.now; stream = c.args.stream.now })
+    (record { feed = feed_told g.S.Source.told g.S.Source.faults c.serve_all.new.loan.side.feed.now; more = []; out = g.K.Sink.told c.serve_all.new.loan.side.out.now; maps = g.K.Sink.told c.serve_all.new.loan.side.maps.now; pace = g.M.Pace.told c.serve_all.new.loan.side.pace.now; lanes = (c.serve_all.new.loan.lanes.now ++ c.split_at_mut-served.result.1.now); stream = c.serve_all.new.stream }) = record {
       rest = s.done.0;
       newest = c.serve_all.new.mapper.newest;
       feed = (feed_over _ _ _ _ _ _ _ _ _ _ _ _ _ _ _ _ _ opened s.done.1 s.fed.run, record { rose = s.fed.source; stays = s.fed.source_stays }, refl);
@@ -28,22 +28,8 @@ returns-clause-driven g c =
       map (λ w. w.ended) c.serve_all.new.works.lanes.items,
       length-map _ _ ∙ size,
       c.ends_of.ensures,
-      search (rules, driven),
+      rw c.requires.one (search (rules, driven)),
     )
 
-pub returns-clause-sink : goal.returns-clause-sink
-returns-clause-sink g c =
-    let out : c.out-1.given.0 ≡ c.serve_all.new.loan.side.out.now = search rules in
-    let maps : c.maps-1.given.0 ≡ c.serve_all.new.loan.side.maps.now = search rules in
-    rw (out, maps) c.serve_all.ensures.fed.sink
-
-pub returns-clause-sink_stays : goal.returns-clause-sink_stays
-returns-clause-sink_stays g c =
-    let out : c.out-1.given.0 ≡ c.serve_all.new.loan.side.out.now = search rules in
-    let maps : c.maps-1.given.0 ≡ c.serve_all.new.loan.side.maps.now = search rules in
-    rw (out, maps) c.serve_all.ensures.fed.sink_stays
-
-pub returns-clause-source_stays : goal.returns-clause-source_stays
-returns-clause-source_stays g c =
-    let feed : c.feed-1.given.0 ≡ c.serve_all.new.loan.side.feed.now = search rules in
-    rw feed c.serve_all.ensures.fed.source_stays
+pub returns-clause-counted : goal.returns-clause-counted
+returns-clause-counted g c = ?
