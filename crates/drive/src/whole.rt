@@ -326,7 +326,8 @@ fn drive_one<
     let Prepared { row, works } = prepared;
     let mut works = works;
     let count = works.lanes.len();
-    let (served, _behind) = lent.lanes.split_at_mut(count);
+    let lanes = &mut *lent.lanes;
+    let (served, _behind) = lanes.split_at_mut(count);
     let mut loan = Loan {
         side: FeedLoan {
             feed: lent.feed,
@@ -406,7 +407,8 @@ fn drive_several<
     let mut feeders = feeders;
     let mut taker = taker;
     let count = works.lanes.len();
-    let (served, _behind) = lent.lanes.split_at_mut(count);
+    let lanes = &mut *lent.lanes;
+    let (served, _behind) = lanes.split_at_mut(count);
     let mut side = TakerLoan {
         taker: &mut taker,
         out: lent.out,
