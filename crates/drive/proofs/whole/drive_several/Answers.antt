@@ -65,5 +65,5 @@ returns-clause-counted g c =
       sink = s.worked.sink;
       sink_stays = s.worked.sink_stays;
       source = run.source;
-      source_stays = λ other one. run.stays other (λ sink. c.requires.several (one sink));
+      source_stays = λ other one. run.stays other (λ sink. some_told (feed_told g.T.Source.told g.T.Source.faults) c.args.lent.now.more.now c.requires.several (one sink));
     }
