@@ -9,7 +9,7 @@ use Rattle.drive.specs.Driven.{Lent as LentTold}
 use Rattle.drive.specs.Feeds.{FeedTold}
 use Rattle.drive.specs.Told.{feed_told}
 use Rattle.glb.specs.Outcome.{Faults, Outside}
-use Rattle.glb.specs.declared.lent.Lent.{Lent}
+use Rattle.drive.specs.declared.lent.Lent.{Lent}
 
 -- What all but the files tells at one moment: what a drive is lent, the names under which each further feed was opened, and the counts of faults of both outputs.
 pub record Stage : Type 0 where
@@ -39,10 +39,6 @@ abbrev pub stage_of : {S N K P G D M : Type 0}
 stage_of fed feed_faults named named_faults opens written faults paced l s = stage
     (feed_told fed feed_faults l.feed.now) (map (feed_told named named_faults) l.more.now) (map opens l.more.now)
     (written l.out.now) (written l.maps.now) (paced l.pace.now) l.lanes.now s (faults l.out.now) (faults l.maps.now)
-
--- the same things are lent
-abbrev pub IsSame : {S N K P G D M : Type 0} → Lent S N K P G D M → Lent S N K P G D M → Type 0
-IsSame a b = (b.feed.ghost_name ≡ a.feed.ghost_name) × (b.more.ghost_name ≡ a.more.ghost_name) × (b.out.ghost_name ≡ a.out.ghost_name) × (b.maps.ghost_name ≡ a.maps.ghost_name) × (b.lanes.ghost_name ≡ a.lanes.ghost_name) × (b.pace.ghost_name ≡ a.pace.ghost_name)
 
 abbrev pub surroundings : Option Shelved → ℕ → Stage → Surroundings
 surroundings files files_faults stage = record { files = files; files_faults = files_faults; stage = stage }

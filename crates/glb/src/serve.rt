@@ -9,18 +9,18 @@ ghost use Rattle.glb.specs.Program.{IsPromised};
 ghost use Rattle.glb.specs.Serve.{IsFirstSession, IsSession, PlacedFirst, is_cell_fault, is_port_fault, is_spent, status_by};
 ghost use Rattle.glb.specs.Starting.{IsAskedSome, at_place, status_at};
 ghost use Rattle.glb.specs.Commands.{service_asked};
-ghost use Rattle.glb.specs.Told.{IsSame, stage_of, told_over};
+ghost use Rattle.drive.specs.Told.{IsSameLent};
+ghost use Rattle.glb.specs.Told.{stage_of, told_over};
 ghost use Rattle.glb.specs.Words.{given, lanes_of, most_workers, serve as task, streams_of};
 
 use crate::ending::finish;
 use crate::files::load_topology;
-use crate::lent::Lent;
 use crate::starting::{Start, start_lanes};
 use crate::status::Status;
 use crate::words::Service;
 use addr_text::Listen;
 use demand_feed::FeedEnd;
-use drive::{Lane, StreamLane, drive};
+use drive::{Crew, Lane, Lent, StreamLane, drive};
 use lane_model::Ended;
 use map_cell::{Door, EmptyHistory, Naming, OpenFault, Viewer};
 use map_model::{Proposals, Steps};
@@ -239,21 +239,22 @@ fn serve_first<
 >(
     rt: &R,
     alloc: Global,
-    mapper: Mapper<J>,
-    viewers: Vec<Viewer<J>>,
+    crew: Crew<J>,
     service: &Service<'_>,
     lent: &mut Lent<'_, '_, '_, '_, '_, '_, S, N, K, P, G, D, M>,
     stream: &mut StreamLane<Q, G, D>,
 ) -> Status
-    requires serial { mapper.newest.serial ≡ 0 }
-    requires viewers { (vec_len viewers ≡ lanes_of (service_asked service.now))
-        × All (λ v. (v.seen ≡ mapper.history) × (v.heard ≡ mapper.history)) viewers.items }
+    requires serial { crew.mapper.newest.serial ≡ 0 }
+    requires viewers { (vec_len crew.viewers + streams_of service.now.tcp ≡ lanes_of (service_asked service.now))
+        × All (λ v. (v.seen ≡ crew.mapper.history) × (v.heard ≡ crew.mapper.history)) crew.viewers.items }
+    requires listener { (length (option_to_list crew.listener) ≡ streams_of service.now.tcp)
+        × IfSome crew.listener (λ v. (v.seen ≡ crew.mapper.history) × (v.heard ≡ crew.mapper.history)) }
     requires workers { (service.now.workers ≤ most_workers service.now.tcp)
         × (service.now.workers ≤ length lent.old.lanes.now) }
     requires turns { lent.old.turns ≤ MOST_TURNS }
     requires feeds { length lent.old.more.now ≡ 3 }
-    ensures keeps { IsSame lent.old lent.new }
-    ensures served { IsFirstSession lent.old.turns (service_asked service.now) mapper.newest
+    ensures keeps { IsSameLent lent.old lent.new }
+    ensures served { IsFirstSession lent.old.turns (service_asked service.now) crew.mapper.newest
         (stage_of S.told S.faults N.told N.faults N.opens K.told K.faults M.told
         lent.old stream.old)
         (stage_of S.told S.faults N.told N.faults N.opens K.told K.faults M.told
@@ -261,7 +262,7 @@ fn serve_first<
         result }
 {
     match start_lanes(
-        mapper.text(),
+        crew.mapper.text(),
         service,
         lent.more,
         lent.maps,
@@ -269,30 +270,45 @@ fn serve_first<
         stream,
     ) {
         Start::NoPort => {
-            mapper.close(rt);
+            crew.mapper.close(rt);
             Status::PortFault
         }
         Start::NoFeed => {
-            mapper.close(rt);
+            crew.mapper.close(rt);
             Status::SourceFault
         }
         Start::NoSink => {
-            mapper.close(rt);
+            crew.mapper.close(rt);
             Status::SinkFault
         }
         Start::Ready => {
-            let (viewers, listener) = split_viewers(viewers, &service.tcp);
             let more = &mut *lent.more;
             let (opened, _shut) = more.split_at_mut(count_of(&service.more));
-            match drive(
-                rt, alloc, mapper, viewers, listener, lent.feed, opened, lent.out, lent.maps,
-                lent.lanes, stream, lent.pace, lent.turns,
-            ) {
+            let count = lent.lanes.len();
+            let lanes = &mut *lent.lanes;
+            let (all, _none) = lanes.split_at_mut(count);
+            let mut asked = Lent {
+                feed: lent.feed,
+                more: opened,
+                out: lent.out,
+                maps: lent.maps,
+                lanes: all,
+                pace: lent.pace,
+                turns: lent.turns,
+            };
+            match drive(rt, alloc, crew, &mut asked, stream) {
                 Ok(end) => status_of(end.feed, &end.lanes, end.stream),
                 Err(NoMemory) => Status::NoMemory,
             }
         }
     }
+}
+
+/// What a session begins with: the history of a cell of its own, and the topology.
+#[derive(Drop)]
+struct Beginning {
+    history: EmptyHistory,
+    topology: Topology,
 }
 
 /// A session over a topology, in a cell of its own.
@@ -310,25 +326,25 @@ fn serve_topology<
 >(
     rt: &R,
     alloc: Global,
-    history: EmptyHistory,
-    topology: Topology,
+    beginning: Beginning,
     service: &Service<'_>,
     lent: &mut Lent<'_, '_, '_, '_, '_, '_, S, N, K, P, G, D, M>,
     stream: &mut StreamLane<Q, G, D>,
 ) -> Status
-    requires book { history ≡ J.book }
+    requires book { beginning.history ≡ J.book }
     requires workers { (service.now.workers ≤ most_workers service.now.tcp)
         × (service.now.workers ≤ length lent.old.lanes.now) × (1 ≤ length lent.old.lanes.now) }
     requires turns { lent.old.turns ≤ MOST_TURNS }
     requires feeds { length lent.old.more.now ≡ 3 }
-    ensures keeps { IsSame lent.old lent.new }
-    ensures session { IsSession lent.old.turns (service_asked service.now) topology
+    ensures keeps { IsSameLent lent.old lent.new }
+    ensures session { IsSession lent.old.turns (service_asked service.now) beginning.topology
         (stage_of S.told S.faults N.told N.faults N.opens K.told K.faults M.told
         lent.old stream.old)
         (stage_of S.told S.faults N.told N.faults N.opens K.told K.faults M.told
         lent.new stream.new)
         result }
 {
+    let Beginning { history, topology } = beginning;
     match open_mapper::<J, R, P, G, D>(
         rt,
         alloc,
@@ -337,7 +353,15 @@ fn serve_topology<
         lanes_of(service),
         lent.lanes,
     ) {
-        Ok((mapper, viewers)) => serve_first(rt, alloc, mapper, viewers, service, lent, stream),
+        Ok((mapper, viewers)) => {
+            let (viewers, listener) = split_viewers(viewers, &service.tcp);
+            let crew = Crew {
+                mapper,
+                viewers,
+                listener,
+            };
+            serve_first(rt, alloc, crew, service, lent, stream)
+        }
         Err(fault) => status_of_opening(fault),
     }
 }
@@ -367,7 +391,7 @@ pub fn serve<
     requires lanes { length lent.old.lanes.now ≡ 16 }
     requires turns { lent.old.turns ≤ MOST_TURNS }
     requires feeds { length lent.old.more.now ≡ 3 }
-    ensures keeps { IsSame lent.old lent.new }
+    ensures keeps { IsSameLent lent.old lent.new }
     ensures promised { IsPromised lent.old.turns (Some (task (service_asked service.now)))
         (told_over F.told F.faults S.told S.faults N.told N.faults N.opens K.told K.faults M.told
         files.old lent.old stream.old)
@@ -376,15 +400,15 @@ pub fn serve<
         result }
 {
     match load_topology(alloc, files, service.topology) {
-        Ok(topology) => serve_topology::<Brand, R, S, N, K, P, Q, G, D, M>(
-            rt,
-            alloc,
-            EmptyHistory::new(),
-            topology,
-            service,
-            lent,
-            stream,
-        ),
+        Ok(topology) => {
+            let beginning = Beginning {
+                history: EmptyHistory::new(),
+                topology,
+            };
+            serve_topology::<Brand, R, S, N, K, P, Q, G, D, M>(
+                rt, alloc, beginning, service, lent, stream,
+            )
+        }
         Err(stop) => finish(lent.out, Err(stop)),
     }
 }

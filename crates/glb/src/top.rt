@@ -4,16 +4,16 @@ ghost use Rattle.demand_feed.specs.declared.limits.TheConstants.{MOST_TURNS};
 ghost use Rattle.command_line.specs.Asked.{texts};
 ghost use Rattle.glb.specs.Program.{IsPromised};
 ghost use Rattle.glb.specs.Commands.{IsManned, task_of};
-ghost use Rattle.glb.specs.Told.{IsSame, all_told, told_over};
+ghost use Rattle.drive.specs.Told.{IsSameLent};
+ghost use Rattle.glb.specs.Told.{all_told, told_over};
 ghost use Rattle.glb.specs.Words.{asked};
 
 use crate::large::large;
-use crate::lent::Lent;
 use crate::saying::run_files;
 use crate::serve::serve;
 use crate::status::Status;
 use crate::words::{Order, read_words};
-use drive::{Lane, StreamLane};
+use drive::{Lane, Lent, StreamLane};
 use map_cell::Door;
 use no_memory::NoMemory;
 use outside::{Gate, NamedSource, Pace, Port, Shelf, Sink, Source, Streams};
@@ -45,7 +45,7 @@ fn run_order<
     requires lanes { length lent.old.lanes.now ≡ 16 }
     requires turns { (1 ≤ lent.old.turns) × (lent.old.turns ≤ 2 ^ 48) }
     requires feeds { length lent.old.more.now ≡ 3 }
-    ensures keeps { IsSame lent.old lent.new }
+    ensures keeps { IsSameLent lent.old lent.new }
     ensures promised { IsPromised lent.old.turns (option_map task_of order.entry)
         (told_over F.told F.faults S.told S.faults N.told N.faults N.opens K.told K.faults M.told
         files.old lent.old stream.old)
