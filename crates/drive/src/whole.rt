@@ -502,6 +502,18 @@ pub struct Crew<J: Naming> {
     pub listener: Option<Viewer<J>>,
 }
 
+impl<J: Naming> Crew<J> {
+    /// Closes the mapper: nobody works.
+    pub fn close<R: Wait>(self, rt: &R) {
+        let Crew {
+            mapper,
+            viewers: _,
+            listener: _,
+        } = self;
+        mapper.close(rt);
+    }
+}
+
 /// Runs a mapper's feed, or several at once, beside the first lanes, one for each viewer, and beside the lane for
 /// conversations where it has a listener's viewer, whose worker has the number behind the others; and then makes the
 /// closing look of each of these lanes: its worker learns of the newest map, and looks once by its lane's door. The lanes

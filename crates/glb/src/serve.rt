@@ -270,15 +270,15 @@ fn serve_first<
         stream,
     ) {
         Start::NoPort => {
-            crew.mapper.close(rt);
+            crew.close(rt);
             Status::PortFault
         }
         Start::NoFeed => {
-            crew.mapper.close(rt);
+            crew.close(rt);
             Status::SourceFault
         }
         Start::NoSink => {
-            crew.mapper.close(rt);
+            crew.close(rt);
             Status::SinkFault
         }
         Start::Ready => {
