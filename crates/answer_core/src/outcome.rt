@@ -7,6 +7,7 @@ ghost use Rattle.answer_core.specs.Outcome.{answered_kind, at_apex, at_service, 
 ghost use Rattle.answer_core.specs.Reply.{cut_short};
 ghost use Rattle.answer_core.specs.View.{IsShort, outcome_view, request_view};
 
+use crate::names::under;
 use crate::picking::pick;
 use crate::request::{QueryFault, Request};
 use crate::services::{is_apex, service_of};
@@ -14,7 +15,6 @@ use addr_text::Addr;
 use client_subnet::SubnetOpt;
 use dns_wire::numbers::{A, AAAA, ANY, FORMERR, IN, NOERROR, NS, NXDOMAIN, REFUSED, SERVFAIL, SOA};
 use map_model::{GroupId, NodeId, Offer};
-use name_text::under;
 use published_map::MapVersion;
 
 /// The records of a positive answer.
