@@ -2,6 +2,7 @@ pub mod Clients
 pub mod Laid
 pub mod Labels
 pub mod Compared
+pub mod Words
 pub mod Records
 pub mod Bound
 pub mod Silence
