@@ -1,5 +1,10 @@
--- Inside this crate alone: the names of a topology as words.
-use Rattle.std.specs.Prelude.{◌≡◌}
+-- Inside this crate alone: the names of a topology as words, and rows that may be written.
+use Rattle.std.specs.Prelude.{◌≡◌, List, IsTrue}
+use Rattle.std.specs.List.{All}
+use Rattle.map_model.specs.declared.lines.MapLine.{MapLine}
+use Rattle.map_model.specs.declared.lines.NameLine.{NameLine}
+use Rattle.map_model.specs.Allocation.{IsOffer, is_by}
+use Rattle.map_model.specs.Market.{Market}
 use Rattle.topology_text.specs.Plan.{Plan}
 use Rattle.map_text.specs.declared.lexicon.Lexicon.{Lexicon}
 
@@ -7,3 +12,16 @@ use Rattle.map_text.specs.declared.lexicon.Lexicon.{Lexicon}
 pub record HasWords (t : Plan) (lexicon : Lexicon) : Type 0 where
   pub groups : lexicon.groups.items ≡ t.group_names
   pub nodes : lexicon.nodes.items ≡ t.node_names
+
+-- lines of offers
+abbrev pub AreOffers : Market → List MapLine → Type 0
+AreOffers m lines = All (λ x. IsOffer m x.group.0 x.place) lines
+
+-- what a name says is there
+pub record IsNamed (m : Market) (x : NameLine) : Type 0 where
+  pub offer : IsOffer m x.group.0 x.place
+  pub by : IsTrue (is_by m x.by)
+
+-- names of offers, and of what refuses them
+abbrev pub AreNamed : Market → List NameLine → Type 0
+AreNamed m names = All (IsNamed m) names

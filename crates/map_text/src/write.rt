@@ -1,10 +1,10 @@
 //! A map file written.
 ghost use Rattle.std.specs.Prelude.{◌≡◌, ◌++◌, ◌<◌, ◌^◌, length, All, Ok, IfOk, IsTrue};
 ghost use Rattle.std.specs.List.{flat_map};
-ghost use Rattle.map_model.specs.Allocation.{AreLines, AreNames, IsMapForm, IsOffer, is_by};
+ghost use Rattle.map_model.specs.Allocation.{IsMapForm, IsOffer, is_by};
 ghost use Rattle.map_model.specs.Market.{pool_of};
 ghost use Rattle.map_text.specs.Reading.{map_of};
-ghost use Rattle.map_text.specs.Named.{HasWords};
+ghost use Rattle.map_text.specs.Named.{AreNamed, AreOffers, HasWords};
 ghost use Rattle.map_text.specs.Writing.{ended, four, mapped, name_at, name_row, place_row, text_of_map, three};
 
 use crate::lexicon::{Lexicon, group_word, node_word, pool_word};
@@ -110,14 +110,15 @@ fn push_name(
     }
 }
 
-fn push_places(
+/// The rows of lines.
+pub fn push_places(
     text: &mut Vec<u8>,
     topology: &Topology,
     lexicon: &Lexicon,
     lines: &[MapLine],
 ) -> Result<(), NoMemory>
     requires words { HasWords topology.now lexicon.now }
-    requires lines { AreLines topology.now.market lines.now }
+    requires offers { AreOffers topology.now.market lines.now }
     ensures text { IfOk result (λ _. text.new.items ≡ text.old.items ++ flat_map (λ x. ended (place_row topology.now x)) lines.now) }
     ensures fits { IfOk result (λ _. All (λ x. x.amount < 2 ^ 32) lines.now) }
 {
@@ -128,14 +129,15 @@ fn push_places(
     Ok(())
 }
 
-fn push_names(
+/// The rows of names.
+pub fn push_names(
     text: &mut Vec<u8>,
     topology: &Topology,
     lexicon: &Lexicon,
     names: &[NameLine],
 ) -> Result<(), NoMemory>
     requires words { HasWords topology.now lexicon.now }
-    requires names { AreNames topology.now.market names.now }
+    requires named { AreNamed topology.now.market names.now }
     ensures { IfOk result (λ _. text.new.items ≡ text.old.items ++ flat_map (λ x. ended (name_row topology.now x)) names.now) }
 {
     let mut row = Row::new();
