@@ -13,7 +13,7 @@ pub returns-clause-current : goal.returns-clause-current
 unfolding map_text
 returns-clause-current c = λ serial. record {
   version = refl;
-  text = c.in_ok-text_of.ensures.text;
-  cuts = c.in_ok-text_of.ensures.cuts;
+  text = c.in_ok-text.ensures.text;
+  cuts = c.in_ok-text.ensures.cuts;
   totals = c.totals-totals.ensures _ refl (rw c.requires.lines refl);
 }
