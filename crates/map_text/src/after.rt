@@ -15,7 +15,7 @@ use std::alloc::Global;
 use topology_text::Topology;
 
 /// How many groups a piece has: where one of them changed, the rows of all of them are written.
-const TOGETHER: u32 = 16;
+const TOGETHER: u32 = 8;
 
 /// The header, with its end.
 const HEADER: usize = 10;

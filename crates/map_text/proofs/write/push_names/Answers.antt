@@ -18,7 +18,11 @@ loop-name-preserved c =
     let names = c.args.names.now in
     let x = get_or names i (record { group = record { 0 = 0 }; place = 0; by = Limit }) in
     let row = λ (y : NameLine). ended (name_row c.args.topology.now y) in
-    c.in_ok-push_name.ensures
-    ∙ ap (λ (ys : List ℕ). ys ++ row x) c.loop-name.invariant
-    ∙ flat_map_more row c.args.text.now.items (take i names) x
-    ∙ ap (λ (ls : List NameLine). c.args.text.now.items ++ flat_map row ls) (sym (take_more names i (record { group = record { 0 = 0 }; place = 0; by = Limit }) c.loop-name-test.true))
+    record {
+      written =
+          c.in_ok-push_name.ensures.text
+          ∙ ap (λ (ys : List ℕ). ys ++ row x) c.loop-name.invariant.written
+          ∙ flat_map_more row c.args.text.now.items (take i names) x
+          ∙ ap (λ (ls : List NameLine). c.args.text.now.items ++ flat_map row ls) (sym (take_more names i (record { group = record { 0 = 0 }; place = 0; by = Limit }) c.loop-name-test.true));
+      own = c.in_ok-push_name.ensures.own;
+    }

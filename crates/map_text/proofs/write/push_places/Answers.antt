@@ -22,6 +22,7 @@ loop-line-preserved c =
           ∙ flat_map_more row c.args.text.now.items (take i lines) x
           ∙ ap (λ (ls : List MapLine). c.args.text.now.items ++ flat_map row ls) (sym (take_more lines i (record { group = record { 0 = 0 }; place = 0; amount = 0 }) c.loop-line-test.true));
       fits = below_more (λ k. (get_or lines k (record { group = record { 0 = 0 }; place = 0; amount = 0 })).amount < 2 ^ 32) i c.loop-line.invariant.fits c.in_ok-push_place.ensures.fits;
+      own = c.in_ok-push_place.ensures.own;
     }
 
 pub returns-clause-fits : goal.returns-clause-fits
