@@ -2,14 +2,16 @@
 ghost use Rattle.std.specs.Prelude.{◌≡◌, ◌+◌, ◌≤◌, ℕ, List, IfOk, IfSome, OnOk};
 ghost use Rattle.map_model.specs.declared.lines.MapLine.{MapLine};
 ghost use Rattle.map_model.specs.Market.{IsSameShape, Market};
-ghost use Rattle.map_model.specs.Allocation.{IsGood};
+ghost use Rattle.map_model.specs.Allocation.{IsGood, IsMapForm};
 ghost use Rattle.map_model.specs.Batch.{IsApplied, IsBatch};
 ghost use Rattle.map_model.specs.Progress.{IsEnded};
 ghost use Rattle.move_up.specs.Asked.{AreAllListed};
 ghost use Rattle.map_repair.specs.Repaired.{IsKept, IsLocal, IsStateOf, IsWithinSpread};
 ghost use Rattle.map_repair.specs.Resumed.{HasRepaired};
 ghost use Rattle.evict.specs.Standing.{IsReady};
-ghost use Rattle.mapper.specs.Currents.{IsCurrent, IsKeptFor, Makes, version_of};
+ghost use Rattle.map_text.specs.Cutting.{AreCutsOf};
+ghost use Rattle.map_text.specs.Writing.{mapped, text_of_map};
+ghost use Rattle.mapper.specs.Currents.{IsCurrent, IsKeptFor, IsWritten, Makes, version_of};
 ghost use Rattle.mapper.specs.Mappers.{IsMapping, most_offers};
 
 use crate::Totals;
@@ -19,7 +21,7 @@ use demand_feed::{Batch, apply};
 use evict::State;
 use map_model::{Instance, MapLines, Steps};
 use map_repair::resume;
-use map_text::write_map;
+use map_text::{Cuts, Written, write_after, write_first};
 use move_up::Asked;
 use no_memory::NoMemory;
 use std::alloc::Global;
@@ -31,6 +33,7 @@ pub(crate) struct Current {
     pub instance: Instance,
     pub map: MapLines,
     pub text: Vec<u8>,
+    pub cuts: Cuts,
     pub totals: Totals,
 }
 
@@ -117,14 +120,41 @@ fn repaired<L>(
     ended_map(alloc, new, &kept.state)
 }
 
-/// A map with its text and the totals of a state that holds it.
+/// The text of a map over a topology: by that of the map before, if there is one.
+fn text_of(
+    alloc: Global,
+    topology: &Topology,
+    old: Option<&Current>,
+    map: &MapLines,
+) -> Result<Written, NoMemory>
+    requires old { IfSome old (λ c. IsWritten topology.now c.now) }
+    requires form { IsMapForm topology.now.market map.now.lines.items map.now.names.items }
+    ensures text { IfOk result (λ w. w.text.items ≡ text_of_map topology.now (mapped map.now)) }
+    ensures cuts { IfOk result (λ w. AreCutsOf topology.now (mapped map.now) w.cuts) }
+{
+    match old {
+        Some(old) => write_after(
+            alloc,
+            topology,
+            old.text.as_slice(),
+            &old.cuts,
+            &old.map,
+            map,
+        ),
+        None => write_first(alloc, topology, map),
+    }
+}
+
+/// A map with its text and the totals of a state that holds it. The text is made by that of the map before, if there is one.
 fn dressed(
     alloc: Global,
     topology: &Topology,
+    old: Option<&Current>,
     instance: Instance,
     map: MapLines,
     state: &State,
 ) -> Result<Current, NoMemory>
+    requires old { IfSome old (λ c. IsWritten topology.now c.now) }
     requires good { IsGood instance map.lines.items map.names.items }
     requires shape { IsSameShape topology.now.market instance }
     requires ready { IsReady instance state.now }
@@ -134,12 +164,13 @@ fn dressed(
 {
     // tells the prover what the type keeps
     let _groups = instance.groups();
-    let text = write_map(alloc, topology, &map)?;
+    let Written { text, cuts } = text_of(alloc, topology, old, &map)?;
     let totals = totals(&instance, state);
     Ok(Current {
         instance,
         map,
         text,
+        cuts,
         totals,
     })
 }
@@ -187,7 +218,7 @@ pub(crate) fn first_of<L>(
     let instance = topology.instance().try_clone()?;
     let kept = mapped(alloc, &instance, steps)?;
     let map = ended_map(alloc, &instance, &kept.state)?;
-    let current = dressed(alloc, topology, instance, map, &kept.state)?;
+    let current = dressed(alloc, topology, None, instance, map, &kept.state)?;
     Ok(First { current, kept })
 }
 
@@ -220,6 +251,7 @@ pub(crate) fn next_of<L>(
     requires good { IsGood old.now.instance old.now.map.lines.items old.now.map.names.items }
     requires ids { IsBatch old.now.instance batch.now }
     requires shape { IsSameShape topology.now.market old.now.instance }
+    requires written { IsWritten topology.now old.now }
     ensures makes { IfOk result (Makes topology.now old.now batch.now) }
     ensures kept { IfOk result (λ c. IsKeptFor c.instance c.map.lines.items kept.new) }
     ensures counted { IfOk result (λ c. HasRepaired old.now.instance old.now.map.lines.items c.instance c.map.lines.items steps.old steps.new) }
@@ -231,5 +263,5 @@ pub(crate) fn next_of<L>(
     // tells the prover what the type keeps
     let _groups = instance.groups();
     let map = repaired(alloc, old, &instance, kept, steps)?;
-    dressed(alloc, topology, instance, map, &kept.state)
+    dressed(alloc, topology, Some(old), instance, map, &kept.state)
 }
