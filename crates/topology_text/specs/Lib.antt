@@ -6,6 +6,7 @@ pub mod Code
 pub mod Values
 pub mod Names
 pub mod Slots
+pub mod Guessed
 pub mod Prefixes
 pub mod Hosts
 pub mod Soa
