@@ -22,7 +22,6 @@ use crate::values::{
 };
 use crate::visited::TableAt;
 use crate::walk::walk;
-use quick_toml::read_document;
 use std::alloc::Global;
 use toml::Table;
 
@@ -157,10 +156,15 @@ fn parse(alloc: Global, bytes: &[u8]) -> Result<Table, TopologyFault>
         Ok(text) => text,
         Err(_) => return Err(TopologyFault::NotToml),
     };
-    match read_document(alloc, text) {
-        Ok(Some(table)) => Ok(table),
-        Ok(None) => Err(TopologyFault::NotToml),
-        Err(_) => Err(TopologyFault::NoMemory),
+    match toml::table_from_str(alloc, text) {
+        Ok(table) => Ok(table),
+        Err(e) => {
+            if e.is_memory() {
+                Err(TopologyFault::NoMemory)
+            } else {
+                Err(TopologyFault::NotToml)
+            }
+        }
     }
 }
 
