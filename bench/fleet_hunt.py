@@ -4,10 +4,10 @@
     bench/fleet_hunt.py [--seconds N] [--seed N] [--one] [--keep] [--glb PROGRAM]
 
 Each seed is a schedule: one or three members of etcd, one to three servers with their followers,
-and a dozen of things that befall them, at random. Behind it all is mended, and it is quiet. All the
-while, and in the end, each server that glb-fleet calls `there` has to have put the map that a replay
-of the log gives. The replay is made apart: the log is read here by code of its own, and `glb serve`
-works it once more. It wants root (tmpfs), etcd-server, etcd-client and a C compiler.
+and a dozen of things that befall them, at random. Behind it all is mended, and it is quiet. All
+the while, and in the end, each server that glb-fleet calls `there` has to have put the map that a
+replay of the log gives. The replay is made apart: the log is read here by code of its own, and
+`glb serve` works it once more. It wants root (tmpfs), etcd-server, etcd-client and a C compiler.
 """
 
 import argparse

@@ -1,7 +1,7 @@
 """A fleet of real processes for bench/fleet_hunt.py.
 
-Members of etcd, ways to them that can be cut, and hosts with a server and a follower each, which are
-begun again as the units of systemd do it (examples/glb-fleet@.service).
+Members of etcd, ways to them that can be cut, and hosts with a server and a follower each, which
+are begun again as the units of systemd do it (examples/glb-fleet@.service).
 """
 
 import asyncio
@@ -50,8 +50,8 @@ def words_of(is_fast, name):
 
 
 class Ways:
-    """A loop of its own that carries connections to members; each way can be cut, held up, or broken
-    amid an answer."""
+    """A loop of its own that carries connections to members; each way can be cut, held up, or
+    broken amid an answer."""
 
     def __init__(self):
         self.loop = asyncio.new_event_loop()
@@ -73,8 +73,8 @@ class Ways:
 
 class Way:
     """One way. `mode`: pass, drop (takes connections and says nothing), refuse, slow (a delay each
-    way), late (a request is handed on after a while, also where who asked is gone), torn (the answer
-    ends amid)."""
+    way), late (a request is handed on after a while, also where who asked is gone), torn (the
+    answer ends amid)."""
 
     @classmethod
     async def made(cls, target):
