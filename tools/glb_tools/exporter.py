@@ -25,7 +25,8 @@ from prometheus_client import CollectorRegistry, generate_latest, start_http_ser
 from prometheus_client.core import CounterMetricFamily, GaugeMetricFamily, Metric
 from prometheus_client.registry import Collector
 
-from glb_tools.etcd import Etcd, add_etcd_options, etcd_of
+from glb_tools.bounded import Bound
+from glb_tools.etcd import PATIENCE, Etcd, add_etcd_options, etcd_of
 from glb_tools.fleet import Report, look_at_members, report
 from glb_tools.loads import FileWorker, FleetWorker, Worker
 from glb_tools.log import Log
@@ -328,7 +329,7 @@ def outvoted_in(found: Report) -> set[str]:
 def quota_of(etcd: Etcd, member: str) -> float:
     """A member's quota, which it tells among its own metrics alone."""
     try:
-        with etcd.opener.open(f"{member}/metrics", timeout=3) as answer:
+        with etcd.open(member, "/metrics", None, Bound(PATIENCE)) as answer:
             found = QUOTA.search(answer.read(4 << 20))
     except (OSError, ValueError, HTTPException):
         return USUAL_QUOTA
