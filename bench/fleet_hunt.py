@@ -339,7 +339,10 @@ class Hunt:
         return log_tool.Log(ToolsEtcd(self.etcd.addresses()), "glb")
 
     def asked(self):
-        return fleet_tool.seen(self.tools_log(), 3)
+        """As `glb-fleet --expect` does, where the names of all hosts are known."""
+        log = self.tools_log()
+        log.expected = frozenset(host.name for host in self.hosts)
+        return fleet_tool.seen(log, 3)
 
     def look(self, kind):
         """Asks as glb-fleet does, and compares what each server that is there has put."""
@@ -356,9 +359,8 @@ class Hunt:
             if state["state"] != "there":
                 continue
             host = self.hosts[int(state["name"][1:])]
-            if (host.generation, host.server) != before[
-                host.number
-            ] or host.server.poll() is not None:
+            now = host.generation, host.server
+            if now != before[host.number] or host.server.poll() is not None:
                 continue
             if tampered or self.is_tampered:
                 if found.status == 0:
@@ -367,6 +369,8 @@ class Hunt:
             self.compare(host, state, found, log, kind)
         if found.status == 0:
             self.checks["zero"] += 1
+            if len(found.servers) < len(self.hosts):
+                raise Wrong(f"{kind}: status 0, of {found.servers} alone")
         return found
 
     def compare(self, host, state, found, log, kind):
@@ -863,17 +867,17 @@ class Hunt:
         self.later(seconds, lambda: [setattr(way, "mode", "pass") for way in ways])
 
     def cut_off(self):
-        mode = self.draw.choice(["drop", "drop", "refuse", "slow", "late", "torn"])
+        mode = self.draw.choice(["drop", "drop", "refuse", "slow", "late", "torn", "drip"])
         self.way(self.host().ways, mode, self.draw.uniform(0.5, 9))
 
     def one_way(self):
-        mode = self.draw.choice(["drop", "refuse", "slow", "late", "torn"])
+        mode = self.draw.choice(["drop", "refuse", "slow", "late", "torn", "drip"])
         self.way([self.draw.choice(self.host().ways)], mode, self.draw.uniform(0.5, 9))
 
     def operator_cut_off(self):
         self.way(
             self.fleet.own,
-            self.draw.choice(["drop", "torn", "late", "slow"]),
+            self.draw.choice(["drop", "torn", "late", "slow", "drip"]),
             self.draw.uniform(0.5, 5),
         )
         self.append_many()

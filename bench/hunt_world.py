@@ -74,7 +74,7 @@ class Ways:
 class Way:
     """One way. `mode`: pass, drop (takes connections and says nothing), refuse, slow (a delay each
     way), late (a request is handed on after a while, also where who asked is gone), torn (the
-    answer ends amid)."""
+    answer ends amid), drip (the answer comes octet by octet)."""
 
     @classmethod
     async def made(cls, target):
@@ -120,6 +120,11 @@ class Way:
                 writer.write(octets[: random.randrange(len(octets))])
                 writer.close()
                 return
+            while self.mode == "drip" and not is_out and len(octets) > 1:
+                writer.write(octets[:1])
+                await writer.drain()
+                await asyncio.sleep(0.5)
+                octets = octets[1:]
             writer.write(octets)
             await writer.drain()
         if writer.can_write_eof():

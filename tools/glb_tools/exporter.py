@@ -27,7 +27,7 @@ from prometheus_client.registry import Collector
 
 from glb_tools.bounded import Bound
 from glb_tools.etcd import PATIENCE, Etcd, add_etcd_options, etcd_of
-from glb_tools.fleet import Report, look_at_members, report
+from glb_tools.fleet import Report, add_expected, log_of, look_at_members, report
 from glb_tools.loads import FileWorker, FleetWorker, Worker
 from glb_tools.log import Log
 from glb_tools.options import WRONG_WORDS, Fault, parser, tell, write_file
@@ -359,6 +359,7 @@ def options_of() -> argparse.Namespace:
         "--every", metavar="SECONDS", type=float, default=5, help="how often it looks (5)"
     )
     add_etcd_options(words)
+    add_expected(words)
     options = words.parse_args()
     if (options.said is None) == (not options.fleet):
         words.error("one of --said and --fleet")
@@ -386,7 +387,7 @@ def main() -> None:
     path = Path(options.text_file) if options.text_file else None
     worker: Worker | None = None
     if options.fleet:
-        fleet = Fleet(Log(etcd_of(options), options.prefix), options.every)
+        fleet = Fleet(log_of(options), options.every)
         registry.register(fleet)
         if options.glb:
             worker = FleetWorker(options.glb, options.every, Log(etcd_of(options), options.prefix))
