@@ -486,7 +486,8 @@ class Fleet:
         for host in self.hosts:
             host.kill()
         for host in self.hosts:
-            host.thread.join(20)
+            if host.thread.is_alive():
+                host.thread.join(20)
             host.kill()
             host.clean()
         self.etcd.stop()
