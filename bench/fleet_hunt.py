@@ -12,6 +12,7 @@ replay of the log gives. The replay is made apart: the log is read here by code 
 
 import argparse
 import base64
+import contextlib
 import hashlib
 import json
 import random
@@ -297,16 +298,25 @@ class Hunt:
         )
         self.hosts, self.etcd = self.fleet.hosts, self.fleet.etcd
         self.memory, self.done, self.found = {}, [], []
-        # whether entries that stood were changed or taken away by hand; how often a restore began,
-        # and how many checks there were
-        self.is_tampered, self.restores, self.checks = (
-            False,
-            0,
-            {"way": 0, "zero": 0, "end": 0, "dns": 0},
-        )
+        # how often entries that stood were changed or taken away by hand, and how often etcd was
+        # restored: both are counted as they begin and as they end
+        self.tampers = self.restores = 0
+        self.checks = {"way": 0, "zero": 0, "end": 0, "dns": 0}
         self.is_over = threading.Event()
         self.undo, self.lock, self.rolled = [], threading.Lock(), []
         self.copies, self.is_mended, self.rolls_left = {}, False, 6
+
+    @property
+    def is_tampered(self):
+        return self.tampers > 0
+
+    @contextlib.contextmanager
+    def tampering(self):
+        self.tampers += 1
+        try:
+            yield
+        finally:
+            self.tampers += 1
 
     def say(self, words):
         self.done.append(f"{time.time():.2f} {words}")
@@ -347,13 +357,14 @@ class Hunt:
     def look(self, kind):
         """Asks as glb-fleet does, and compares what each server that is there has put."""
         before = [(host.generation, host.server) for host in self.hosts]
-        restores, tampered = self.restores, self.is_tampered
+        counts = self.restores, self.tampers
         try:
             found = self.asked()
             log = Log(Keys(self.etcd), self.memory)
         except (Fault, OSError, ValueError):
             return None
-        if self.restores != restores:
+        if (self.restores, self.tampers) != counts:
+            # what was asked and what is read may be two logs
             return found
         for state in found.servers:
             if state["state"] != "there":
@@ -362,7 +373,7 @@ class Hunt:
             now = host.generation, host.server
             if now != before[host.number] or host.server.poll() is not None:
                 continue
-            if tampered or self.is_tampered:
+            if self.is_tampered:
                 if found.status == 0:
                     self.compare(host, state, found, log, kind + ", status 0, tampered")
                 continue
@@ -501,8 +512,8 @@ class Hunt:
         bases = json.loads(keys.octets.get("glb/bases", b"[]"))
         if not numbers or not bases:
             # nothing is left of the log: a base begins another one
-            self.is_tampered = True
-            self.delete("glb/bases")
+            with self.tampering():
+                self.delete("glb/bases")
             self.roll_one(topology_of(self.draw, f"{self.seed}.anew"))
             return
         upto = bases[-1][2]
@@ -510,8 +521,8 @@ class Hunt:
             self.delete(f"glb/log/{numbers.pop():016d}")
         for number in range(max(upto, 1), numbers[-1]):
             if number not in numbers:
-                self.is_tampered = True
-                self.put(f"glb/log/{number:016d}", b"filled")
+                with self.tampering():
+                    self.put(f"glb/log/{number:016d}", b"filled")
         self.mend_rows()
 
     def mend_rows(self):
@@ -734,19 +745,19 @@ class Hunt:
     def take_last(self):
         log = Log(Keys(self.etcd), self.memory)
         if len(log.numbers) > 1:
-            self.is_tampered = True
-            self.delete(f"glb/log/{log.last:016d}")
+            with self.tampering():
+                self.delete(f"glb/log/{log.last:016d}")
 
     def take_any(self):
         log = Log(Keys(self.etcd), self.memory)
-        self.is_tampered = True
-        self.delete(f"glb/log/{self.draw.choice(log.numbers):016d}")
+        with self.tampering():
+            self.delete(f"glb/log/{self.draw.choice(log.numbers):016d}")
 
     def overwrite(self):
         log = Log(Keys(self.etcd), self.memory)
-        self.is_tampered = True
         number = self.draw.choice(log.numbers)
-        self.put(f"glb/log/{number:016d}", self.junk(log))
+        with self.tampering():
+            self.put(f"glb/log/{number:016d}", self.junk(log))
 
     def odd_key(self):
         log = Log(Keys(self.etcd), self.memory)
@@ -1007,10 +1018,9 @@ class Hunt:
 
     def prepare_by_mistake(self):
         host = self.host()
-        server = host.server
         host.command("--prepare")
         # whoever sees `hangs` begins the server anew
-        self.later(9, lambda: host.signal(server, signal.SIGKILL))
+        self.later(9, lambda: host.signal(host.server, signal.SIGKILL))
 
     def meddle(self):
         """Somebody writes into a server's feed."""

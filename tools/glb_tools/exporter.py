@@ -54,7 +54,7 @@ def plain(name: str, words: str, value: float) -> GaugeMetricFamily:
 # One server.
 
 
-class Said(Collector):
+class Said(Collector):  # type: ignore[misc]
     """What a server says: the lines of its output."""
 
     def __init__(self, server: str) -> None:
@@ -135,7 +135,7 @@ def lines_of(descriptor: int) -> Iterator[str | None]:
 # The loads.
 
 
-class Loaded(Collector):
+class Loaded(Collector):  # type: ignore[misc]
     """The newest loads, and whether the program beside works."""
 
     def __init__(self, worker: Worker) -> None:
@@ -184,7 +184,7 @@ class Loaded(Collector):
 # A fleet.
 
 
-class Fleet(Collector):
+class Fleet(Collector):  # type: ignore[misc]
     """Looks at the log and at what its servers tell, again and again; what it saw last is served."""
 
     def __init__(self, log: Log, every: float) -> None:

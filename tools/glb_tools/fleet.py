@@ -84,7 +84,7 @@ def judged(name: str, look: Look, asked: frozenset[str] = frozenset()) -> State:
         found["state"] = "behind"
     elif not newest or told.get("base") != newest.checksum[: len(str(told.get("base")))]:
         found |= {"state": "waits", "waits": f"for its turn to go over to {newest}"}
-    elif last and not last.checksum.startswith(str(told.get("chain", "-"))):
+    elif not last or not last.checksum.startswith(str(told.get("chain", "-"))):
         found |= {"state": "waits", "waits": "its last entry is none of this log"}
     elif not told.get("ready"):
         found["state"] = "starts"

@@ -6,13 +6,14 @@ import os
 import unittest
 from unittest import mock
 
-from fleet_world import Host, World
+from fleet_world import OPS, Host, World
 from glb_tools import fleet
 from glb_tools.etcd import PATIENCE, Full, Item, Unreachable, add_etcd_options
 from glb_tools.fleet import DIFFER, GONE, HANGS, MEMBER, NOT_THERE, Report, report, say
 from glb_tools.follower import Follower
 from glb_tools.log import ALIVE, TURN, Log
 from glb_tools.options import WRONG_WORDS, Fault, parser
+from glb_tools.roll import Roll
 from samples import TOP
 
 
@@ -48,6 +49,14 @@ class Told(unittest.TestCase):
         self.assertIn("h1: ended: it was ended", self.shown()[1])
         self.put("glb/server/h1", b'{"ended": "begins anew: why"}')
         self.assertEqual(self.shown()[0].status, NOT_THERE)
+
+    def test_a_log_that_was_taken_away(self):
+        """All entries are deleted by hand, and no follower has seen it yet."""
+        for key in [*self.world.table.items]:
+            if key.startswith("glb/log/"):
+                del self.world.table.items[key]
+        found, text = self.shown(self.world.asked)
+        self.assertEqual((found.status, text.count("none of this log")), (NOT_THERE, 4))
 
     def test_what_is_no_state(self):
         for octets in (
@@ -172,6 +181,19 @@ class Listed(unittest.TestCase):
         with self.assertRaises(Fault) as wrong:
             of("--expect", "a/b")
         self.assertEqual(wrong.exception.status, WRONG_WORDS)
+
+    def test_the_first_base_waits_for_nobody_who_cannot_begin_without_it(self):
+        """A host whose units were started ahead of the first roll, or whose log was destroyed."""
+        rolling = Roll(self.world.log, OPS, "c" * 64)
+        self.world.log.register("h9", "")
+        with contextlib.redirect_stdout(io.StringIO()) as said:
+            with self.assertRaisesRegex(Fault, "not all servers have the base"):
+                rolling.spread(0)
+            for key in [*self.world.table.items]:
+                if key.startswith(("glb/log/", "glb/bases")):
+                    del self.world.table.items[key]
+            rolling.spread(0)
+        self.assertIn("h9: begins from the base when it starts", said.getvalue())
 
 
 class Lifetimes(unittest.TestCase):
