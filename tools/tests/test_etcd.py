@@ -2,6 +2,7 @@
 
 import argparse
 import contextlib
+import itertools
 import json
 import re
 import shutil
@@ -172,13 +173,21 @@ class Dripping(unittest.TestCase):
 
     def setUp(self):
         # each octet comes far sooner than that, and all of them far later
-        self.enterContext(mock.patch.object(etcd, "PATIENCE", 0.4))
+        self.bounds = itertools.repeat(0.4)
+        self.enterContext(mock.patch.object(etcd, "Bound", self.bound))
         self.began = time.monotonic()
+
+    def bound(self, seconds):
+        """In the place of three seconds."""
+        self.assertEqual(seconds, 3)
+        return bounded.Bound(next(self.bounds))
 
     def took(self):
         return time.monotonic() - self.began
 
     def passed_over(self, address):
+        # one that answers has time enough on a busy machine
+        self.bounds = iter([0.4, 9])
         with member(told=EMPTY) as (answers, _):
             found = Etcd([address, answers])
             self.assertEqual(found.txn([one("a")]).revision, 7)
@@ -198,6 +207,7 @@ class Dripping(unittest.TestCase):
 
     def test_a_refusal(self):
         head, body = answer_of(b" " * 400, b"503 Not now")
+        self.bounds = iter([0.4, 9])
         with dripping(head + body, len(head)) as address:
             with member(told=EMPTY) as (answers, _):
                 self.assertTrue(Etcd([address, answers]).txn([one("a")]).held)
@@ -240,7 +250,7 @@ class Dripping(unittest.TestCase):
             self.assertIsNone(Etcd([address]).answers(address))
             self.assertLess(self.took(), 3)
             self.began = time.monotonic()
-            with mock.patch.object(etcd, "DEFRAGMENT", 0.4), mock.patch.multiple(
+            with mock.patch.object(etcd, "DEFRAGMENT", 3), mock.patch.multiple(
                 Etcd,
                 txn=lambda *words: etcd.Answer(True, [], 7),
                 call=lambda *words: {},
@@ -264,6 +274,7 @@ class Dripping(unittest.TestCase):
 
     def test_a_host_whose_first_address_hangs(self):
         """Each of its addresses has a share of the time."""
+        self.bounds = iter([2])
         with member(told=EMPTY) as (address, _):
             port = int(address.rsplit(":", 1)[1])
             found = [
@@ -285,7 +296,7 @@ class Dripping(unittest.TestCase):
     def test_a_large_answer_has_longer(self):
         """A page of entries over a slow way is no drip."""
         body = json.dumps(EMPTY).encode().ljust(1 << 20)
-        with member(octets=body) as (address, _), mock.patch.object(bounded, "RATE", 1 << 16):
+        with member(octets=body) as (address, _), mock.patch.object(bounded, "RATE", 1 << 14):
             read = bounded.Reader.readinto
 
             def slow(reader, buffer):
@@ -297,6 +308,7 @@ class Dripping(unittest.TestCase):
         self.assertGreater(self.took(), 1)
 
     def test_an_answer_without_end(self):
+        self.bounds = iter([9])
         with member(octets=bytes(1 << 20)) as (address, _):
             with mock.patch.object(bounded, "MOST", 1 << 18):
                 with self.assertRaisesRegex(Unreachable, "does not end"):
