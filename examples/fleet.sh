@@ -254,7 +254,7 @@ member() {
 # A member whose answers drip octet by octet is passed over by each command; the real ones stand behind it.
 drip() {
     local begun drips
-    on 1 python3 - <<'PYTHON' &
+    be_on 1 python3 - <<'PYTHON' &
 import socket, threading, time
 
 
@@ -273,6 +273,7 @@ while True:
     threading.Thread(target=drip, args=(listener.accept()[0],), daemon=True).start()
 PYTHON
     drips=$!
+    disown "$drips"
     for _ in $(seq 100); do on 1 python3 -c 'import socket; socket.create_connection(("127.0.0.1", 2378))' 2>/dev/null && break; sleep 0.1; done
     begun=$(now)
     on 1 env GLB_ETCD="http://127.0.0.1:2378,$(etcd_of 1)" "$here/tools/glb-fleet" >"$work/fleet"
@@ -282,7 +283,7 @@ PYTHON
     begun=$(now)
     ok 'a batch is appended' [ "$(echo 'demand g1 4' | on 1 env GLB_ETCD="http://127.0.0.1:2378,$(etcd_of 1)" "$here/tools/glb-append")" = "$(last)" ]
     echo "an append past a member that drips: $(since "$begun") ms"
-    pkill -P "$drips"
+    kill "$drips"
     ok 'all agree' agreed
 }
 
@@ -461,6 +462,7 @@ hang() {
     for _ in 1 2 3 4 5; do append 2 >/dev/null && break; done
     tool 1 glb-fleet >"$work/fleet"
     echo "an append and glb-fleet beside a member that hangs: $(since "$begun") ms"
+    ok 'and blames no follower' [ "$(grep -c '^!' "$work/fleet")" = 1 ]
     ok 'glb-fleet names the member' grep -q "^! http://$net.1:2379.* does not answer" "$work/fleet"
     kill -CONT "$(cat "$work/etcd1.pid")"
     ok 'all agree' agreed

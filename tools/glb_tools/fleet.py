@@ -2,6 +2,7 @@
 
 import argparse
 import json
+import math
 import os
 import time
 from dataclasses import asdict, dataclass, field
@@ -109,11 +110,13 @@ def differing(servers: list[State]) -> dict[int, dict[str, list[str]]]:
 
 def asked_of_all(log: Log, seconds: float) -> tuple[frozenset[str], Look]:
     """Asks each follower whether its server answers; the words of which each has to have heard one, and what stands in etcd
-    as soon as all did, or after that time."""
-    asker, end = Asker(log), time.monotonic() + seconds
+    as soon as all did, or that long behind the first time that they were asked."""
+    asker, end = Asker(log), math.inf
     while True:
         look = log.look()
         has_asked = asker.has_asked(look)
+        # a member that was silent until now took nobody's time
+        end = min(end, time.monotonic() + seconds)
         told = [state for state in look.states.values() if "hangs" not in state]
         all_told = all(state.get("heard") in asker.words for state in told)
         if has_asked and all_told or time.monotonic() >= end:
