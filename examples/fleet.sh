@@ -279,7 +279,7 @@ PYTHON
     on 1 env GLB_ETCD="http://127.0.0.1:2378,$(etcd_of 1)" "$here/tools/glb-fleet" >"$work/fleet"
     ok 'glb-fleet says which member does not answer' [ $? = 7 ]
     ok 'and why' grep -q '2378, a member of etcd, does not answer: start it again (timed out)' "$work/fleet"
-    ok 'within some seconds' [ "$(since "$begun")" -lt 15000 ]
+    ok 'and does not wait for its end' [ "$(since "$begun")" -lt 60000 ]
     begun=$(now)
     ok 'a batch is appended' [ "$(echo 'demand g1 4' | on 1 env GLB_ETCD="http://127.0.0.1:2378,$(etcd_of 1)" "$here/tools/glb-append")" = "$(last)" ]
     echo "an append past a member that drips: $(since "$begun") ms"
