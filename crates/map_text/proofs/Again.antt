@@ -4,6 +4,7 @@ use Rattle.std.proofs.Math.Seq.{get_or-append_seam}
 use Rattle.std.proofs.Math.ListN.{get_or-append}
 use Rattle.std.proofs.lemmas.Bool.{and_parts, or_cases, ltb-true, eqb-true}
 use Rattle.std.proofs.lemmas.Bool.Decides.{nat_tests}
+use Rattle.std.proofs.lemmas.List.Elements.{All-from_get_or}
 use Rattle.std.proofs.lemmas.List.{map-append}
 use Rattle.std.proofs.lemmas.List.Concat.{flat_map-append}
 use Rattle.std.proofs.lemmas.Option.{slice_get-get_or}
@@ -26,6 +27,7 @@ use Rattle.topology_text.specs.Plan.{IsPlan, Plan, number_in}
 use Rattle.text_parts.specs.Parts.{unfinished}
 use Rattle.map_text.specs.Words.{four_of, three_of}
 use Rattle.map_text.specs.Lines.{amount_of, entry_of, full_line, limit_line, line_of, offer_of, place_line}
+use Rattle.map_text.specs.Named.{AreNamed, IsNamed}
 use Rattle.map_text.specs.Reading.{Mapped, SoFar, fault_of, map_of, so_far}
 use Rattle.map_text.specs.Reader.{with_line}
 use Rattle.map_text.specs.Writing.{by_row, ended, name_at as word_at, name_row, place_row, rows_of, text_of_map}
@@ -111,11 +113,6 @@ record IsPlaced (m : Market) (x : MapLine) : Type 0 where
   some : 0 < x.amount
   fits : x.amount < 2 ^ 32
 
--- what holds of a name of a map
-pub record IsNamed (m : Market) (x : NameLine) : Type 0 where
-  pub offer : IsOffer m x.group.0 x.place
-  pub by : IsTrue (is_by m x.by)
-
 placed_at : (m : Market) (lines : List MapLine) → AreLines m lines → Fit lines → (i : ℕ) → i < length lines → IsPlaced m (get_or lines i no_line)
 placed_at m lines form fit i lt = let at = IsLineAt-from m lines i (form i lt) in record { offer = at.offer; some = at.some; fits = fit i no_line lt }
 
@@ -125,6 +122,10 @@ named_at m names form i lt =
     let q = and_parts _ _ p.0 in
     let r = and_parts _ _ q.0 in
     record { offer = record { group = ltb-true _ _ r.0; place = ltb-true _ _ r.1 }; by = q.1 }
+
+-- all names of a map's form
+pub all_named : (m : Market) (names : List NameLine) → AreNames m names → AreNamed m names
+all_named m names form = All-from_get_or (IsNamed m) names no_name (named_at m names form)
 
 named_above : (m : Market) (names : List NameLine) (i : ℕ) → IsTrue (is_name m names i) → 0 < i → is_name_before (get_or names (i - 1) no_name) (get_or names i no_name) ≡ true
 named_above m names i h some = elim (or_cases _ _ (and_parts _ _ h).1) [

@@ -6,3 +6,4 @@ mod Rows
 mod Spelled
 mod Again
 mod Copied
+mod Pieces

@@ -5,3 +5,4 @@ pub mod Reading
 pub mod Reader
 pub mod Writing
 pub mod Named
+pub mod Cutting

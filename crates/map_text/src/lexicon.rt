@@ -1,8 +1,9 @@
-//! The names of a topology as words.
+//! The names of a topology as words: those of all nodes, and that of the group whose rows are written.
 ghost use Rattle.std.specs.Prelude.{◌≡◌, ◌<◌, [], length, IfOk, slice_index_or};
 ghost use Rattle.map_model.specs.Allocation.{IsOffer};
 ghost use Rattle.map_model.specs.Market.{pool_of};
-ghost use Rattle.map_text.specs.Named.{HasWords};
+ghost use Rattle.topology_text.specs.Plan.{Plan};
+ghost use Rattle.map_text.specs.Named.{HasWords, IsOwnWord};
 ghost use Rattle.map_text.specs.Writing.{name_at};
 
 use crate::word::Word;
@@ -11,23 +12,17 @@ use no_memory::NoMemory;
 use std::alloc::Global;
 use topology_text::Topology;
 
-/// The names of groups and classes, and those of nodes.
+/// The names of nodes.
 #[derive(Drop)]
 pub struct Lexicon {
-    pub groups: Vec<Word>,
     pub nodes: Vec<Word>,
 }
 
-/// The names of groups and classes.
-fn group_words(alloc: Global, topology: &Topology) -> Result<Vec<Word>, NoMemory>
-    ensures { IfOk result (λ words. words.items ≡ topology.now.group_names) }
-{
-    let instance = topology.instance();
-    let mut words = Vec::new(alloc);
-    for g in 0..instance.groups() {
-        words.push(Word::of(topology.group_name(GroupId(g))))?;
-    }
-    Ok(words)
+/// The name of a group or class that was asked for last, if one was.
+#[derive(Drop)]
+pub struct GroupWord {
+    pub group: Option<GroupId>,
+    pub word: Word,
 }
 
 /// The names of nodes.
@@ -57,22 +52,49 @@ impl Lexicon {
         ensures { IfOk result (λ lexicon. HasWords topology.now lexicon) }
     {
         Ok(Lexicon {
-            groups: group_words(alloc, topology)?,
             nodes: node_words(alloc, topology)?,
         })
     }
 }
 
+impl GroupWord {
+    /// That of no group.
+    pub fn new() -> GroupWord
+        ensures { (t : Plan) → IsOwnWord t result }
+    {
+        GroupWord {
+            group: None,
+            word: Word::new(),
+        }
+    }
+
+    /// Becomes that of a group or class. Where it is of that one, it stays.
+    #[inline(always)]
+    pub fn turn_to(&mut self, topology: &Topology, group: GroupId)
+        requires own { IsOwnWord topology.now self.old }
+        requires group { group.0 < length topology.now.market.groups }
+        ensures own { IsOwnWord topology.now self.new }
+        ensures word { self.new.word ≡ name_at topology.now.group_names group.0 }
+    {
+        if self.group == Some(group) {
+            return;
+        }
+        *self = group_word(topology, group);
+    }
+}
+
 /// The name of a group or class.
-#[inline(always)]
-pub fn group_word<'a>(topology: &Topology, lexicon: &'a Lexicon, group: GroupId) -> &'a Word
-    requires words { HasWords topology.now lexicon.now }
-    requires group { group.0 < length topology.now.market.groups }
-    ensures { result.now ≡ name_at topology.now.group_names group.0 }
+fn group_word(topology: &Topology, group: GroupId) -> GroupWord
+    requires { group.0 < length topology.now.market.groups }
+    ensures own { IsOwnWord topology.now result }
+    ensures word { result.word ≡ name_at topology.now.group_names group.0 }
 {
-    // Tells the prover that there are as many names.
+    // Tells the prover that there are as many names, each of which is short.
     let _instance = topology.instance();
-    word_at(lexicon.groups.as_slice(), group.0)
+    GroupWord {
+        group: Some(group),
+        word: Word::of(topology.group_name(group)),
+    }
 }
 
 /// The name of a node.

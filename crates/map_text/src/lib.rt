@@ -5,6 +5,8 @@
 //! or `limit GROUP POOL` for each of its names, both strictly increasing by the group's number and the pool's place in the group's list.
 #![tactic(auto)]
 
+mod after;
+mod cutting;
 mod fault;
 mod lexicon;
 mod line;
@@ -15,6 +17,8 @@ mod word;
 mod words;
 mod write;
 
+pub use after::{Written, write_after, write_first};
+pub use cutting::{Cut, Cuts};
 pub use fault::MapFault;
 pub use line::{Line, Version};
 pub use read::read_map;

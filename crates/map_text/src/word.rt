@@ -29,7 +29,7 @@ impl Model for Word {
 
 impl Word {
     /// No octets.
-    fn new() -> Word
+    pub fn new() -> Word
         ensures { result ≡ [] }
     {
         Word {

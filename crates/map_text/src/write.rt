@@ -1,13 +1,13 @@
 //! A map file written.
 ghost use Rattle.std.specs.Prelude.{◌≡◌, ◌++◌, ◌<◌, ◌^◌, length, All, Ok, IfOk, IsTrue};
 ghost use Rattle.std.specs.List.{flat_map};
-ghost use Rattle.map_model.specs.Allocation.{AreLines, AreNames, IsMapForm, IsOffer, is_by};
+ghost use Rattle.map_model.specs.Allocation.{IsMapForm, IsOffer, is_by};
 ghost use Rattle.map_model.specs.Market.{pool_of};
 ghost use Rattle.map_text.specs.Reading.{map_of};
-ghost use Rattle.map_text.specs.Named.{HasWords};
+ghost use Rattle.map_text.specs.Named.{AreNamed, AreOffers, HasWords, IsOwnWord};
 ghost use Rattle.map_text.specs.Writing.{ended, four, mapped, name_at, name_row, place_row, text_of_map, three};
 
-use crate::lexicon::{Lexicon, group_word, node_word, pool_word};
+use crate::lexicon::{GroupWord, Lexicon, node_word, pool_word};
 use crate::word::{Row, Word};
 use itoa::Buffer;
 use map_model::{By, MapLine, MapLines, NameLine, Offer};
@@ -65,14 +65,17 @@ fn push_three(
 fn push_place(
     text: &mut Vec<u8>,
     row: &mut Row,
+    own: &mut GroupWord,
     topology: &Topology,
     lexicon: &Lexicon,
     line: MapLine,
 ) -> Result<(), NoMemory>
     requires words { HasWords topology.now lexicon.now }
+    requires own { IsOwnWord topology.now own.old }
     requires offer { IsOffer topology.now.market line.group.0 line.place }
     ensures text { IfOk result (λ _. text.new.items ≡ text.old.items ++ ended (place_row topology.now line)) }
     ensures fits { line.amount < 2 ^ 32 }
+    ensures own { IsOwnWord topology.now own.new }
 {
     let MapLine {
         group,
@@ -80,67 +83,74 @@ fn push_place(
         amount,
     } = line;
     let pool = pool_word(topology, lexicon, Offer { group, place });
-    let group = group_word(topology, lexicon, group);
+    own.turn_to(topology, group);
     let mut digits = Buffer::new();
     let amount = Word::of(digits.format(amount).as_bytes());
-    push_row(text, row, &Word::of(b"place"), group, pool, &amount)
+    push_row(text, row, &Word::of(b"place"), &own.word, pool, &amount)
 }
 
 fn push_name(
     text: &mut Vec<u8>,
     row: &mut Row,
+    own: &mut GroupWord,
     topology: &Topology,
     lexicon: &Lexicon,
     name: NameLine,
 ) -> Result<(), NoMemory>
     requires words { HasWords topology.now lexicon.now }
+    requires own { IsOwnWord topology.now own.old }
     requires offer { IsOffer topology.now.market name.group.0 name.place }
     requires by { IsTrue (is_by topology.now.market name.by) }
-    ensures { IfOk result (λ _. text.new.items ≡ text.old.items ++ ended (name_row topology.now name)) }
+    ensures text { IfOk result (λ _. text.new.items ≡ text.old.items ++ ended (name_row topology.now name)) }
+    ensures own { IsOwnWord topology.now own.new }
 {
     let NameLine { group, place, by } = name;
     let pool = pool_word(topology, lexicon, Offer { group, place });
-    let group = group_word(topology, lexicon, group);
+    own.turn_to(topology, group);
     match by {
-        By::Limit => push_three(text, row, &Word::of(b"limit"), group, pool),
+        By::Limit => push_three(text, row, &Word::of(b"limit"), &own.word, pool),
         By::Node(node) => {
             let node = node_word(topology, lexicon, node);
-            push_row(text, row, &Word::of(b"full"), group, pool, node)
+            push_row(text, row, &Word::of(b"full"), &own.word, pool, node)
         }
     }
 }
 
-fn push_places(
+/// The rows of lines.
+pub fn push_places(
     text: &mut Vec<u8>,
     topology: &Topology,
     lexicon: &Lexicon,
     lines: &[MapLine],
 ) -> Result<(), NoMemory>
     requires words { HasWords topology.now lexicon.now }
-    requires lines { AreLines topology.now.market lines.now }
+    requires offers { AreOffers topology.now.market lines.now }
     ensures text { IfOk result (λ _. text.new.items ≡ text.old.items ++ flat_map (λ x. ended (place_row topology.now x)) lines.now) }
     ensures fits { IfOk result (λ _. All (λ x. x.amount < 2 ^ 32) lines.now) }
 {
     let mut row = Row::new();
+    let mut own = GroupWord::new();
     for line in lines {
-        push_place(text, &mut row, topology, lexicon, *line)?;
+        push_place(text, &mut row, &mut own, topology, lexicon, *line)?;
     }
     Ok(())
 }
 
-fn push_names(
+/// The rows of names.
+pub fn push_names(
     text: &mut Vec<u8>,
     topology: &Topology,
     lexicon: &Lexicon,
     names: &[NameLine],
 ) -> Result<(), NoMemory>
     requires words { HasWords topology.now lexicon.now }
-    requires names { AreNames topology.now.market names.now }
+    requires named { AreNamed topology.now.market names.now }
     ensures { IfOk result (λ _. text.new.items ≡ text.old.items ++ flat_map (λ x. ended (name_row topology.now x)) names.now) }
 {
     let mut row = Row::new();
+    let mut own = GroupWord::new();
     for name in names {
-        push_name(text, &mut row, topology, lexicon, *name)?;
+        push_name(text, &mut row, &mut own, topology, lexicon, *name)?;
     }
     Ok(())
 }

@@ -1,5 +1,5 @@
 //! Maps that are read and written again, and the first fault of those that are not read.
-use map_text::{MapFault, read_map, write_map};
+use map_text::{MapFault, Written, read_map, write_after, write_first, write_map};
 use std::alloc::Global;
 use std::test::Fail;
 use topology_text::{Topology, read_topology};
@@ -76,6 +76,64 @@ fn comes_to(alloc: Global, topology: &Topology, text: &str, expected: &str) -> b
     }
 }
 
+/// Texts of maps, each of which is to be written by each other one.
+const MAPS: &[&str] = &[
+    "glb map 2\nplace g1 A 5\nplace g1 B 3\nplace g2 A 5\nplace g2 B 2\nlimit g1 A\nfull g2 A A\nfull g2 B R\nend\n",
+    "glb map 2\nplace g1 A 5\nplace g1 B 3\nplace g2 A 5\nplace g2 B 2\nlimit g1 A\nfull g2 A A\nlimit g2 B\nend\n",
+    "glb map 2\nplace g1 A 8\nplace g2 A 2\nplace g2 B 5\nfull g2 A A\nfull g2 B R\nend\n",
+    "glb map 2\nend\n",
+];
+
+/// The text of the map that a text says, written by that of another map.
+fn behind(
+    alloc: Global,
+    topology: &Topology,
+    first: &str,
+    text: &str,
+) -> Result<Vec<u8>, MapFault> {
+    let old = read_map(alloc, topology, first.as_bytes())?;
+    let new = read_map(alloc, topology, text.as_bytes())?;
+    let before = write_first(alloc, topology, &old)?;
+    let after = write_after(
+        alloc,
+        topology,
+        before.text.as_slice(),
+        &before.cuts,
+        &old,
+        &new,
+    )?;
+    let Written { text, cuts: _ } = after;
+    Ok(text)
+}
+
+/// Whether a text comes out as it is behind another one.
+fn comes_behind(alloc: Global, topology: &Topology, first: &str, text: &str) -> bool {
+    match behind(alloc, topology, first, text) {
+        Ok(written) => written.as_slice() == text.as_bytes(),
+        Err(_) => false,
+    }
+}
+
+/// The first text behind which another one does not come out as it is.
+fn first_spoiling(alloc: Global, topology: &Topology, text: &str) -> Option<&'static str> {
+    for first in MAPS {
+        if !comes_behind(alloc, topology, *first, text) {
+            return Some(*first);
+        }
+    }
+    None
+}
+
+/// The first text that does not come out as it is behind another one.
+fn first_spoilt(alloc: Global, topology: &Topology) -> Option<&'static str> {
+    for text in MAPS {
+        if first_spoiling(alloc, topology, *text).is_some() {
+            return Some(*text);
+        }
+    }
+    None
+}
+
 /// The first text that does not come to what it should.
 fn first_wrong(alloc: Global, topology: &Topology) -> Option<&'static str> {
     for (text, expected) in ROWS {
@@ -91,5 +149,13 @@ fn what_is_read_is_written_again(rt: HostRuntime) -> Result<(), Fail> {
     let alloc = rt.alloc();
     let topology = read_topology(alloc, TOPOLOGY)?;
     assert_eq!(rt; first_wrong(alloc, &topology), None);
+    Ok(())
+}
+
+#[test]
+fn a_text_is_the_same_by_any_other(rt: HostRuntime) -> Result<(), Fail> {
+    let alloc = rt.alloc();
+    let topology = read_topology(alloc, TOPOLOGY)?;
+    assert_eq!(rt; first_spoilt(alloc, &topology), None);
     Ok(())
 }

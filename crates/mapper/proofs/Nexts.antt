@@ -18,8 +18,10 @@ use Rattle.map_cell.specs.Ends.{PublisherState}
 use Rattle.map_cell.specs.Histories.{IsSealed}
 use Rattle.agree_laws.proofs.Applied.{applied_one}
 use Rattle.mapper.specs.Control.{IsNext}
-use Rattle.mapper.specs.Currents.{IsCurrent, IsKeptFor, IsPrepared, Makes, version_of}
+use Rattle.mapper.specs.Currents.{IsCurrent, IsKeptFor, IsPrepared, IsWritten, Makes, version_of}
 use Rattle.mapper.specs.Mappers.{IsPublished}
+use Rattle.map_text.specs.Writing.{text_of_map}
+use Rattle.mapper.specs.Words.{map_text}
 use Rattle.mapper.specs.declared.current.Current.{Current}
 use Rattle.mapper.specs.declared.current.Kept.{Kept}
 use Rattle.mapper.specs.declared.maps.Following.{Following}
@@ -88,6 +90,14 @@ whenever (Err e) p = tt
 -- the map of a version's parts is good
 pub good_of : (v : Version) (c : Current) → IsVersion v → IsCurrent v c → IsGood c.instance c.map.lines.items c.map.names.items
 good_of v c is current = (subst IsVersion current.version is).good
+
+-- the text that goes with a version is that of the map
+pub written_of : (v : Version) (c : Current) → IsCurrent v c → IsWritten v.plan c
+unfolding map_text
+written_of v c current = record {
+  text = current.text ∙ ap (λ (w : Version). text_of_map v.plan (record { lines = w.lines; names = w.names })) current.version;
+  cuts = current.cuts;
+}
 
 change_for : (m n : Market) → IsSameShape m n → (change : Change) → IsChange m change → IsChange n change
 change_for m n s (Demand group demand) is = (omega (arith, s.groups, is.0), is.1, is.2)

@@ -2,14 +2,16 @@
 ghost use Rattle.std.specs.Prelude.{◌≡◌, ◌+◌, ◌≤◌, ℕ, List, IfOk, IfSome, OnOk};
 ghost use Rattle.map_model.specs.declared.lines.MapLine.{MapLine};
 ghost use Rattle.map_model.specs.Market.{IsSameShape, Market};
-ghost use Rattle.map_model.specs.Allocation.{IsGood};
+ghost use Rattle.map_model.specs.Allocation.{IsGood, IsMapForm};
 ghost use Rattle.map_model.specs.Batch.{IsApplied, IsBatch};
 ghost use Rattle.map_model.specs.Progress.{IsEnded};
 ghost use Rattle.move_up.specs.Asked.{AreAllListed};
 ghost use Rattle.map_repair.specs.Repaired.{IsKept, IsLocal, IsStateOf, IsWithinSpread};
 ghost use Rattle.map_repair.specs.Resumed.{HasRepaired};
 ghost use Rattle.evict.specs.Standing.{IsReady};
-ghost use Rattle.mapper.specs.Currents.{IsCurrent, IsKeptFor, Makes, version_of};
+ghost use Rattle.map_text.specs.Cutting.{AreCutsOf};
+ghost use Rattle.map_text.specs.Writing.{mapped, text_of_map};
+ghost use Rattle.mapper.specs.Currents.{IsCurrent, IsKeptFor, IsWritten, Makes, version_of};
 ghost use Rattle.mapper.specs.Mappers.{IsMapping, most_offers};
 
 use crate::Totals;
@@ -19,7 +21,7 @@ use demand_feed::{Batch, apply};
 use evict::State;
 use map_model::{Instance, MapLines, Steps};
 use map_repair::resume;
-use map_text::write_map;
+use map_text::{Cuts, Written, write_after, write_first};
 use move_up::Asked;
 use no_memory::NoMemory;
 use std::alloc::Global;
@@ -31,6 +33,7 @@ pub(crate) struct Current {
     pub instance: Instance,
     pub map: MapLines,
     pub text: Vec<u8>,
+    pub cuts: Cuts,
     pub totals: Totals,
 }
 
@@ -38,12 +41,12 @@ pub(crate) struct Current {
 /// queues of the nodes above it, and an offer that was emptied since leaves its old seats there unless they are the worst.
 const PROPOSALS_KEPT: u64 = 8;
 
-/// A state of the newest map, from which the next repair goes on, the offers by the trees of their pools, and how many
-/// proposals repairs have made on the state, with the turns in which units moved up.
+/// A state of the newest map, from which the next repair goes on, the offers by the trees of their pools, which the first
+/// repair lists, and how many proposals repairs have made on the state, with the turns in which units moved up.
 #[derive(Drop)]
 pub(crate) struct Kept {
     pub state: State,
-    pub asked: Asked,
+    pub asked: Option<Asked>,
     pub proposals: u64,
 }
 
@@ -80,6 +83,23 @@ fn another(old: &Instance, spare: Option<Instance>) -> Result<Instance, NoMemory
     }
 }
 
+/// Takes out the offers of an instance by the trees of their pools, or lists them where that was not done.
+fn take_asked(
+    alloc: Global,
+    instance: &Instance,
+    state: &State,
+    asked: &mut Option<Asked>,
+) -> Result<Asked, NoMemory>
+    requires ready { IsReady instance.now state.now }
+    requires listed { IfSome asked.old (λ a. AreAllListed instance.now a) }
+    ensures { IfOk result (λ a. AreAllListed instance.now a) }
+{
+    match asked.take() {
+        Some(asked) => Ok(asked),
+        None => Asked::build(alloc, instance, state),
+    }
+}
+
 /// The map of the new instance, by repair of the kept state.
 fn repaired<L>(
     alloc: Global,
@@ -100,15 +120,17 @@ fn repaired<L>(
     ensures later { steps.old ≤ steps.new }
 {
     let before = steps.count();
+    let asked = take_asked(alloc, &old.instance, &kept.state, &mut kept.asked)?;
     let effort = resume(
         alloc,
         &old.instance,
         &old.map,
         new,
-        &kept.asked,
+        &asked,
         &mut kept.state,
         steps,
     )?;
+    kept.asked = Some(asked);
     let proposals = steps.count() - before;
     kept.proposals = kept
         .proposals
@@ -117,14 +139,41 @@ fn repaired<L>(
     ended_map(alloc, new, &kept.state)
 }
 
-/// A map with its text and the totals of a state that holds it.
+/// The text of a map over a topology: by that of the map before, if there is one.
+fn text_of(
+    alloc: Global,
+    topology: &Topology,
+    old: Option<&Current>,
+    map: &MapLines,
+) -> Result<Written, NoMemory>
+    requires old { IfSome old (λ c. IsWritten topology.now c.now) }
+    requires form { IsMapForm topology.now.market map.now.lines.items map.now.names.items }
+    ensures text { IfOk result (λ w. w.text.items ≡ text_of_map topology.now (mapped map.now)) }
+    ensures cuts { IfOk result (λ w. AreCutsOf topology.now (mapped map.now) w.cuts) }
+{
+    match old {
+        Some(old) => write_after(
+            alloc,
+            topology,
+            old.text.as_slice(),
+            &old.cuts,
+            &old.map,
+            map,
+        ),
+        None => write_first(alloc, topology, map),
+    }
+}
+
+/// A map with its text and the totals of a state that holds it. The text is made by that of the map before, if there is one.
 fn dressed(
     alloc: Global,
     topology: &Topology,
+    old: Option<&Current>,
     instance: Instance,
     map: MapLines,
     state: &State,
 ) -> Result<Current, NoMemory>
+    requires old { IfSome old (λ c. IsWritten topology.now c.now) }
     requires good { IsGood instance map.lines.items map.names.items }
     requires shape { IsSameShape topology.now.market instance }
     requires ready { IsReady instance state.now }
@@ -134,12 +183,13 @@ fn dressed(
 {
     // tells the prover what the type keeps
     let _groups = instance.groups();
-    let text = write_map(alloc, topology, &map)?;
+    let Written { text, cuts } = text_of(alloc, topology, old, &map)?;
     let totals = totals(&instance, state);
     Ok(Current {
         instance,
         map,
         text,
+        cuts,
         totals,
     })
 }
@@ -155,17 +205,16 @@ pub(crate) struct First {
 fn mapped<L>(alloc: Global, instance: &Instance, steps: &mut Steps<L>) -> Result<Kept, NoMemory>
     ensures state { IfOk result (λ kept. IsStateOf instance.now kept.state) }
     ensures ended { IfOk result (λ kept. IsEnded instance.now kept.state.pointers kept.state.free) }
-    ensures asked { IfOk result (λ kept. AreAllListed instance.now kept.asked) }
+    ensures asked { IfOk result (λ kept. IfSome kept.asked (λ a. AreAllListed instance.now a)) }
     ensures counted { IfOk result (λ kept. IsMapping instance.now kept.state.lines steps.old steps.new) }
     ensures steps { OnOk result (steps.new ≤ steps.old + most_offers instance.now) }
     ensures later { steps.old ≤ steps.new }
 {
     let mut state = State::fresh(alloc, instance)?;
     run(alloc, instance, &mut state, steps)?;
-    let asked = Asked::build(alloc, instance, &state)?;
     Ok(Kept {
         state,
-        asked,
+        asked: None,
         proposals: 0,
     })
 }
@@ -187,20 +236,19 @@ pub(crate) fn first_of<L>(
     let instance = topology.instance().try_clone()?;
     let kept = mapped(alloc, &instance, steps)?;
     let map = ended_map(alloc, &instance, &kept.state)?;
-    let current = dressed(alloc, topology, instance, map, &kept.state)?;
+    let current = dressed(alloc, topology, None, instance, map, &kept.state)?;
     Ok(First { current, kept })
 }
 
-/// A state of a map, with the offers of its instance.
+/// A state of a map.
 pub(crate) fn kept_of(alloc: Global, current: &Current) -> Result<Kept, NoMemory>
     requires { IsGood current.now.instance current.now.map.lines.items current.now.map.names.items }
     ensures { IfOk result (λ kept. IsKeptFor current.now.instance current.now.map.lines.items kept) }
 {
     let state = State::of_map(alloc, &current.instance, &current.map)?;
-    let asked = Asked::build(alloc, &current.instance, &state)?;
     Ok(Kept {
         state,
-        asked,
+        asked: None,
         proposals: 0,
     })
 }
@@ -220,6 +268,7 @@ pub(crate) fn next_of<L>(
     requires good { IsGood old.now.instance old.now.map.lines.items old.now.map.names.items }
     requires ids { IsBatch old.now.instance batch.now }
     requires shape { IsSameShape topology.now.market old.now.instance }
+    requires written { IsWritten topology.now old.now }
     ensures makes { IfOk result (Makes topology.now old.now batch.now) }
     ensures kept { IfOk result (λ c. IsKeptFor c.instance c.map.lines.items kept.new) }
     ensures counted { IfOk result (λ c. HasRepaired old.now.instance old.now.map.lines.items c.instance c.map.lines.items steps.old steps.new) }
@@ -231,5 +280,5 @@ pub(crate) fn next_of<L>(
     // tells the prover what the type keeps
     let _groups = instance.groups();
     let map = repaired(alloc, old, &instance, kept, steps)?;
-    dressed(alloc, topology, instance, map, &kept.state)
+    dressed(alloc, topology, Some(old), instance, map, &kept.state)
 }

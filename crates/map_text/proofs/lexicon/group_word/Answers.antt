@@ -1,8 +1,8 @@
-use Rattle.std.proofs.Common.{ℕ, List, [], length, slice_index_or, ap, ◌∙◌, arith}
+use Rattle.std.proofs.Common.{[], ◌≤◌, ℕ, List, length, subst, sym, arith}
+use Rattle.map_text.proofs.Copied.{short_name}
 use Rattle.map_text.proofs.lexicon.group_word.Goals as goal
 
-pub word_at-requires : goal.word_at-requires
-word_at-requires c = omega (arith, c.requires.group, c.instance-instance.ensures.plan.groups.as_many, ap (λ (ns : List (List ℕ)). length ns) (c.as_slice.ensures.value ∙ c.requires.words.groups))
-
-pub returns : goal.returns
-returns c = c.word_at.ensures ∙ ap (λ (ns : List (List ℕ)). slice_index_or ns c.args.group.0 []) (c.as_slice.ensures.value ∙ c.requires.words.groups)
+pub of-requires : goal.of-requires
+of-requires c =
+    let plan = c.instance-instance.ensures.plan in
+    subst (λ (name : List ℕ). length name ≤ 32) (sym c.group_name.ensures.name) (short_name _ (plan.groups.each c.args.group.0 [] (omega (arith, c.requires, plan.groups.as_many))))

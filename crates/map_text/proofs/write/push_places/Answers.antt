@@ -3,12 +3,11 @@ use Rattle.std.proofs.lemmas.List.Elements.{All-from_get_or}
 use Rattle.std.proofs.lemmas.List.{flat_map_more, take_more}
 use Rattle.std.specs.List.{flat_map}
 use Rattle.map_model.specs.declared.lines.MapLine.{MapLine}
-use Rattle.map_model.proofs.MapForm.{IsLineAt-from}
 use Rattle.map_text.specs.Writing.{ended, place_row}
 use Rattle.map_text.proofs.write.push_places.Goals as goal
 
 pub push_place-requires-clause-offer : goal.push_place-requires-clause-offer
-push_place-requires-clause-offer c = (IsLineAt-from c.args.topology.now.market c.args.lines.now c.loop-line.line-index (c.requires.lines c.loop-line.line-index c.loop-line-test.true)).offer
+push_place-requires-clause-offer c = c.requires.offers c.loop-line.line-index (record { group = record { 0 = 0 }; place = 0; amount = 0 }) c.loop-line-test.true
 
 pub loop-line-preserved : goal.loop-line-preserved
 loop-line-preserved c =
@@ -23,6 +22,7 @@ loop-line-preserved c =
           ∙ flat_map_more row c.args.text.now.items (take i lines) x
           ∙ ap (λ (ls : List MapLine). c.args.text.now.items ++ flat_map row ls) (sym (take_more lines i (record { group = record { 0 = 0 }; place = 0; amount = 0 }) c.loop-line-test.true));
       fits = below_more (λ k. (get_or lines k (record { group = record { 0 = 0 }; place = 0; amount = 0 })).amount < 2 ^ 32) i c.loop-line.invariant.fits c.in_ok-push_place.ensures.fits;
+      own = c.in_ok-push_place.ensures.own;
     }
 
 pub returns-clause-fits : goal.returns-clause-fits

@@ -4,8 +4,8 @@ use Rattle.map_model.proofs.Shapes.{IsMapForm-shape, shape_sym}
 use Rattle.mapper.specs.Words.{map_text}
 use Rattle.mapper.proofs.current.dressed.Goals as goal
 
-pub write_map-requires : goal.write_map-requires
-write_map-requires c =
+pub text_of-requires-clause-form : goal.text_of-requires-clause-form
+text_of-requires-clause-form c =
     IsMapForm-shape c.args.instance c.args.topology.now.market (shape_sym c.args.topology.now.market c.args.instance c.requires.shape) c.args.map.lines.items c.args.map.names.items
     (IsMapForm-IsGood c.args.instance c.groups-groups.ensures.market c.args.map.lines.items c.args.map.names.items c.requires.good)
 
@@ -14,5 +14,6 @@ unfolding map_text
 returns-clause-current c = λ serial. record {
   version = refl;
   text = c.in_ok-text.ensures.text;
+  cuts = c.in_ok-text.ensures.cuts;
   totals = c.totals-totals.ensures _ refl (rw c.requires.lines refl);
 }

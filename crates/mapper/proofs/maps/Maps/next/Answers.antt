@@ -8,15 +8,20 @@ use Rattle.published_map.specs.Between.{IsBetween}
 use Rattle.published_map.specs.Changes.{after}
 use Rattle.published_map.specs.Version.{IsVersion, Version}
 use Rattle.map_cell.specs.Ends.{PublisherState}
-use Rattle.mapper.specs.Currents.{IsKeptFor, IsPrepared, Makes, version_of}
+use Rattle.mapper.specs.Currents.{IsKeptFor, IsPrepared, IsWritten, Makes, version_of}
 use Rattle.mapper.specs.Mappers.{IsRepairing}
-use Rattle.mapper.proofs.Nexts.{batch_for, good_of, led, prepared}
+use Rattle.mapper.proofs.Nexts.{batch_for, good_of, led, prepared, written_of}
 use Rattle.mapper.proofs.maps.Maps.next.Given.{Over}
 use Rattle.mapper.proofs.maps.Maps.next.Goals.{In_ok-delta}
 use Rattle.mapper.proofs.maps.Maps.next.Goals as goal
 
 pub next_of-requires-clause-good : goal.next_of-requires-clause-good
 next_of-requires-clause-good g c = good_of c.self.inside.publisher.newest c.self.inside.current c.self.invariant.0 c.self.invariant.2
+
+pub next_of-requires-clause-written : goal.next_of-requires-clause-written
+next_of-requires-clause-written g c =
+    let topology : c.topology.result.now ≡ c.self.inside.publisher.newest.plan = c.topology.ensures ∙ ap (λ (w : Version). w.plan) c.newest-newest.ensures in
+    subst (λ (t : Plan). IsWritten t c.self.inside.current) (sym topology) (written_of c.self.inside.publisher.newest c.self.inside.current c.self.invariant.2)
 
 pub next_of-requires-clause-spare : goal.next_of-requires-clause-spare
 next_of-requires-clause-spare g c =
