@@ -16,6 +16,7 @@ import contextlib
 import hashlib
 import json
 import random
+import re
 import shutil
 import signal
 import socket
@@ -538,9 +539,11 @@ class Hunt:
                 return
 
     def settle(self, seconds):
-        """Waits until glb-fleet has nothing to say but what was dropped; else what it says."""
-        end, words, status = time.monotonic() + seconds, "nothing", -1
-        while time.monotonic() < end and not self.found:
+        """Waits until glb-fleet has nothing to say but what was dropped, or nothing has changed for
+        so long; else what it says. On a busy machine a start takes many seconds."""
+        last = end = time.monotonic() + seconds
+        words, status, seen = "nothing", -1, None
+        while time.monotonic() < min(end, last + 8 * seconds) and not self.found:
             try:
                 found = self.look("quiet")
             except Wrong as why:
@@ -552,6 +555,9 @@ class Hunt:
                 self.roll_where_told(words)
                 if not words and all(host.is_in for host in self.hosts):
                     return status, ""
+                now = re.sub("[0-9]+ s", "", words), [host.generation for host in self.hosts]
+                if now != seen:
+                    seen, end = now, time.monotonic() + seconds
             time.sleep(0.4)
         return status, words or f"queries: {[host.is_in for host in self.hosts]}"
 
