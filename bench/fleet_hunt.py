@@ -1,18 +1,22 @@
 #!/usr/bin/env python3
-"""Hunts for a state in which glb-fleet says that all is well, and a server of the fleet answers otherwise.
+"""Hunts for a state in which glb-fleet says that all is well, and a server answers otherwise.
 
     bench/fleet_hunt.py [--seconds N] [--seed N] [--one] [--keep] [--glb PROGRAM]
 
-Each seed is a schedule: one or three members of etcd, one to three servers with their followers, and a dozen of things that
-befall them, at random. Behind it all is mended, and it is quiet. All the while, and in the end, each server that glb-fleet
-calls `there` has to have put the map that a replay of the log gives, which is made apart: the log is read here by code of
-its own, and `glb serve` works it once more. It wants root (tmpfs), etcd-server, etcd-client and a C compiler."""
+Each seed is a schedule: one or three members of etcd, one to three servers with their followers,
+and a dozen of things that befall them, at random. Behind it all is mended, and it is quiet. All
+the while, and in the end, each server that glb-fleet calls `there` has to have put the map that a
+replay of the log gives. The replay is made apart: the log is read here by code of its own, and
+`glb serve` works it once more. It wants root (tmpfs), etcd-server, etcd-client and a C compiler.
+"""
 
 import argparse
 import base64
+import contextlib
 import hashlib
 import json
 import random
+import re
 import shutil
 import signal
 import socket
@@ -54,7 +58,10 @@ class Keys:
     """All keys of a fleet at one moment."""
 
     def __init__(self, etcd):
-        ask = {"key": base64.b64encode(b"glb/").decode(), "range_end": base64.b64encode(b"glb0").decode()}
+        ask = {
+            "key": base64.b64encode(b"glb/").decode(),
+            "range_end": base64.b64encode(b"glb0").decode(),
+        }
         found = etcd.call("/v3/kv/range", ask)
         self.revision = int(found["header"]["revision"])
         self.octets = {}
@@ -94,7 +101,7 @@ def is_change(line):
 
 
 def content_of(octets, before):
-    """What an entry says: ("batch", its lines), ("base", its checksum), or None for what is none."""
+    """What an entry says: ("batch", its lines), ("base", its checksum); None for what is none."""
     try:
         told = json.loads(octets)
         for key in ("author", "why", "time", "before"):
@@ -206,9 +213,19 @@ def is_detail(line):
 
 def topology_of(draw, salt):
     """A small world whose pools are short; now and then a name more or less."""
-    lines = ["[zone]", 'apex = "cdn.example"', 'mname = "ns1.ops.example"', 'rname = "admin.ops.example"']
+    lines = [
+        "[zone]",
+        'apex = "cdn.example"',
+        'mname = "ns1.ops.example"',
+        'rname = "admin.ops.example"',
+    ]
     lines += ["serial = 1", "refresh = 3600", "retry = 600", "expire = 86400", "minimum = 60"]
-    lines += [f"ttl = {draw.randrange(10, 60)}", 'ns = ["ns1.ops.example"]', 'services = ["www"]', f"# {salt}"]
+    lines += [
+        f"ttl = {draw.randrange(10, 60)}",
+        'ns = ["ns1.ops.example"]',
+        'services = ["www"]',
+        f"# {salt}",
+    ]
     pools = []
     for region in range(2):
         lines += ["[[node]]", f'name = "R{region}"', f"capacity = {draw.randrange(15, 40)}"]
@@ -277,14 +294,30 @@ class Hunt:
         self.members = draw.choice([1, 1, 3])
         self.count = draw.choice([1, 2, 2, 3])
         self.is_fast = draw.random() < 0.85
-        self.fleet = Fleet(folder, options.glb, options.shims, self.members, self.count, self.is_fast)
+        self.fleet = Fleet(
+            folder, options.glb, options.shims, self.members, self.count, self.is_fast
+        )
         self.hosts, self.etcd = self.fleet.hosts, self.fleet.etcd
         self.memory, self.done, self.found = {}, [], []
-        # whether entries that stood were changed or taken away by hand; how often a restore began, and how many checks there were
-        self.is_tampered, self.restores, self.checks = False, 0, {"way": 0, "zero": 0, "end": 0, "dns": 0}
+        # how often entries that stood were changed or taken away by hand, and how often etcd was
+        # restored: both are counted as they begin and as they end
+        self.tampers = self.restores = 0
+        self.checks = {"way": 0, "zero": 0, "end": 0, "dns": 0}
         self.is_over = threading.Event()
         self.undo, self.lock, self.rolled = [], threading.Lock(), []
         self.copies, self.is_mended, self.rolls_left = {}, False, 6
+
+    @property
+    def is_tampered(self):
+        return self.tampers > 0
+
+    @contextlib.contextmanager
+    def tampering(self):
+        self.tampers += 1
+        try:
+            yield
+        finally:
+            self.tampers += 1
 
     def say(self, words):
         self.done.append(f"{time.time():.2f} {words}")
@@ -317,32 +350,39 @@ class Hunt:
         return log_tool.Log(ToolsEtcd(self.etcd.addresses()), "glb")
 
     def asked(self):
-        return fleet_tool.seen(self.tools_log(), 3)
+        """As `glb-fleet --expect` does, where the names of all hosts are known."""
+        log = self.tools_log()
+        log.expected = frozenset(host.name for host in self.hosts)
+        return fleet_tool.seen(log, 3)
 
     def look(self, kind):
         """Asks as glb-fleet does, and compares what each server that is there has put."""
         before = [(host.generation, host.server) for host in self.hosts]
-        restores, tampered = self.restores, self.is_tampered
+        counts = self.restores, self.tampers
         try:
             found = self.asked()
             log = Log(Keys(self.etcd), self.memory)
         except (Fault, OSError, ValueError):
             return None
-        if self.restores != restores:
+        if (self.restores, self.tampers) != counts:
+            # what was asked and what is read may be two logs
             return found
         for state in found.servers:
             if state["state"] != "there":
                 continue
             host = self.hosts[int(state["name"][1:])]
-            if (host.generation, host.server) != before[host.number] or host.server.poll() is not None:
+            now = host.generation, host.server
+            if now != before[host.number] or host.server.poll() is not None:
                 continue
-            if tampered or self.is_tampered:
+            if self.is_tampered:
                 if found.status == 0:
                     self.compare(host, state, found, log, kind + ", status 0, tampered")
                 continue
             self.compare(host, state, found, log, kind)
         if found.status == 0:
             self.checks["zero"] += 1
+            if len(found.servers) < len(self.hosts):
+                raise Wrong(f"{kind}: status 0, of {found.servers} alone")
         return found
 
     def compare(self, host, state, found, log, kind):
@@ -356,16 +396,21 @@ class Hunt:
             return
         if not log.is_whole(base, number):
             if found.status == 0:
-                raise Wrong(f"{kind}: {host.name} is there at {number}, status 0, and the log is not whole")
+                raise Wrong(
+                    f"{kind}: {host.name} is there at {number}, status 0, and the log is not whole"
+                )
             return
         due_at, due = replayed(self.options.glb, log, base, number)[number]
         texts = host.texts()
         self.checks["way"] += 1
         if digest(host.topology) != base:
-            raise Wrong(f"{kind}: {host.name} is told to be at base {base[:12]}, and began from another")
+            raise Wrong(
+                f"{kind}: {host.name} is told to be at base {base[:12]}, and began from another"
+            )
         if len(texts) <= due_at or texts[due_at] != due:
             raise Wrong(
-                f"{kind}: {host.name} is told to be there at entry {number}, and has put {len(texts) - 1} maps;"
+                f"{kind}: {host.name} is told to be there at entry {number},"
+                f" and has put {len(texts) - 1} maps;"
                 f" map {due_at} is due: {due!r}, it is {(texts[due_at:] or [b'-'])[0]!r}"
             )
 
@@ -432,7 +477,9 @@ class Hunt:
         path = self.fleet.folder / f"topology{len(self.rolled)}.toml"
         path.write_text(text)
         self.rolled.append(path)
-        return self.fleet.command("roll", path, "--seconds", 2, "--program", self.options.glb, *words)
+        return self.fleet.command(
+            "roll", path, "--seconds", 2, "--program", self.options.glb, *words
+        )
 
     def mend(self):
         self.say("mend")
@@ -456,8 +503,8 @@ class Hunt:
         self.is_mended = True
 
     def mend_log(self):
-        """What an operator does whom glb-fleet tells of a key that was put by hand: takes it away; and rolls anew where an
-        entry is lost."""
+        """What an operator does whom glb-fleet tells of a key that was put by hand: takes it away;
+        and rolls anew where an entry is lost."""
         keys = Keys(self.etcd)
         numbers = sorted(keys.entries())
         odd = [key for key in keys.octets if key.startswith("glb/log/") and not is_number(key[8:])]
@@ -466,8 +513,8 @@ class Hunt:
         bases = json.loads(keys.octets.get("glb/bases", b"[]"))
         if not numbers or not bases:
             # nothing is left of the log: a base begins another one
-            self.is_tampered = True
-            self.delete("glb/bases")
+            with self.tampering():
+                self.delete("glb/bases")
             self.roll_one(topology_of(self.draw, f"{self.seed}.anew"))
             return
         upto = bases[-1][2]
@@ -475,11 +522,13 @@ class Hunt:
             self.delete(f"glb/log/{numbers.pop():016d}")
         for number in range(max(upto, 1), numbers[-1]):
             if number not in numbers:
-                self.is_tampered = True
-                self.put(f"glb/log/{number:016d}", b"filled")
+                with self.tampering():
+                    self.put(f"glb/log/{number:016d}", b"filled")
         self.mend_rows()
+
     def mend_rows(self):
-        """Of more than a hundred keys in a row that were put by hand, those behind the hundredth go, and what is behind them."""
+        """Of more than a hundred keys in a row that were put by hand, those behind the hundredth
+        go, and what is behind them."""
         log, row = Log(Keys(self.etcd), self.memory), 0
         for number in log.numbers:
             row = 0 if log.content(number) else row + 1
@@ -490,9 +539,11 @@ class Hunt:
                 return
 
     def settle(self, seconds):
-        """Waits until glb-fleet has nothing to say but what was dropped; else what it says."""
-        end, words, status = time.monotonic() + seconds, "nothing", -1
-        while time.monotonic() < end and not self.found:
+        """Waits until glb-fleet has nothing to say but what was dropped, or nothing has changed for
+        so long; else what it says. On a busy machine a start takes many seconds."""
+        last = end = time.monotonic() + seconds
+        words, status, seen = "nothing", -1, None
+        while time.monotonic() < min(end, last + 8 * seconds) and not self.found:
             try:
                 found = self.look("quiet")
             except Wrong as why:
@@ -504,6 +555,9 @@ class Hunt:
                 self.roll_where_told(words)
                 if not words and all(host.is_in for host in self.hosts):
                     return status, ""
+                now = re.sub("[0-9]+ s", "", words), [host.generation for host in self.hosts]
+                if now != seen:
+                    seen, end = now, time.monotonic() + seconds
             time.sleep(0.4)
         return status, words or f"queries: {[host.is_in for host in self.hosts]}"
 
@@ -512,7 +566,9 @@ class Hunt:
         if self.is_mended and "roll the topology anew" in words and self.rolls_left:
             self.rolls_left -= 1
             self.say("rolls anew")
-            self.fleet.command("roll", self.rolled[0], "--seconds", 3, "--program", self.options.glb)
+            self.fleet.command(
+                "roll", self.rolled[0], "--seconds", 3, "--program", self.options.glb
+            )
 
     def check_end(self, status, words):
         if words:
@@ -525,10 +581,16 @@ class Hunt:
                 host = self.hosts[int(state["name"][1:])]
                 if state["state"] != "there" or (self.is_tampered and found.status):
                     continue
-                texts, (at, due) = host.texts(), replayed(self.options.glb, log, found.base, log.last)[log.last]
+                texts, (at, due) = (
+                    host.texts(),
+                    replayed(self.options.glb, log, found.base, log.last)[log.last],
+                )
                 self.checks["end"] += 1
                 if len(texts) != at + 1 or texts[-1] != due:
-                    raise Wrong(f"end: {host.name} has put {len(texts) - 1} maps, {at} are due: {texts[-1]!r}, not {due!r}")
+                    raise Wrong(
+                        f"end: {host.name} has put {len(texts) - 1} maps, {at} are due:"
+                        f" {texts[-1]!r}, not {due!r}"
+                    )
                 self.ask_dns(host, log, found.base)
         except Wrong as why:
             self.found.append(str(why))
@@ -536,28 +598,42 @@ class Hunt:
     # What befalls a fleet. Batches and bases.
 
     def put(self, key, octets):
-        message = {"key": base64.b64encode(key.encode()).decode(), "value": base64.b64encode(octets).decode()}
+        message = {
+            "key": base64.b64encode(key.encode()).decode(),
+            "value": base64.b64encode(octets).decode(),
+        }
         self.etcd.call("/v3/kv/put", message)
 
     def delete(self, key):
         self.etcd.call("/v3/kv/deleterange", {"key": base64.b64encode(key.encode()).decode()})
 
     def append(self):
-        self.fleet.command("append", "--wait", "0", "--seconds", "5", stdin=batch_of(self.draw).encode())
+        self.fleet.command(
+            "append", "--wait", "0", "--seconds", "5", stdin=batch_of(self.draw).encode()
+        )
 
     def append_many(self):
         for _ in range(self.draw.randrange(2, 7)):
-            self.fleet.begin("append", "--wait", "0", "--seconds", "8", stdin=batch_of(self.draw).encode())
+            self.fleet.begin(
+                "append", "--wait", "0", "--seconds", "8", stdin=batch_of(self.draw).encode()
+            )
             time.sleep(self.draw.choice([0, 0, 0.1]))
 
     def append_in_process(self):
         log = self.tools_log()
         for _ in range(self.draw.choice([3, 20, 100])):
-            log.append(f"x{self.draw.random()}", log_tool.Signed("hunt"), batch_of(self.draw), lambda names: None)
+            log.append(
+                f"x{self.draw.random()}",
+                log_tool.Signed("hunt"),
+                batch_of(self.draw),
+                lambda names: None,
+            )
 
     def append_unknown(self):
         log = self.tools_log()
-        lines = batch_of(self.draw) + self.draw.choice(["demand g9 3\n", "capacity P99 1\n", "demand g6 0\n", "demand g6 5\n"])
+        lines = batch_of(self.draw) + self.draw.choice(
+            ["demand g9 3\n", "capacity P99 1\n", "demand g6 0\n", "demand g6 5\n"]
+        )
         log.append(f"x{self.draw.random()}", log_tool.Signed("hunt"), lines, lambda names: None)
 
     def append_killed(self):
@@ -588,7 +664,12 @@ class Hunt:
         """A base whose numbers are of before."""
         path = self.fleet.folder / f"late{len(self.rolled)}.toml"
         with open(path, "wb") as file:
-            words = ["--etcd", self.fleet.addresses, "--numbers", str(self.draw.choice(self.rolled))]
+            words = [
+                "--etcd",
+                self.fleet.addresses,
+                "--numbers",
+                str(self.draw.choice(self.rolled)),
+            ]
             command = [sys.executable, str(TOP / "tools" / "glb-append"), *words]
             subprocess.run(command, stdout=file, stderr=subprocess.DEVNULL, timeout=30, check=False)
         if path.stat().st_size:
@@ -624,9 +705,28 @@ class Hunt:
     def junk(self, log):
         last = log.entries.get(log.last, b"")
         good = json.dumps(
-            {"kind": "batch", "before": digest(last), "time": 1, "author": "hand", "why": "", "lines": batch_of(self.draw)}
+            {
+                "kind": "batch",
+                "before": digest(last),
+                "time": 1,
+                "author": "hand",
+                "why": "",
+                "lines": batch_of(self.draw),
+            }
         ).encode()
-        kinds = [b"stop\n", b"", b"\xff\xfe\0", b"null", b"[]", b"{}", b"7", b'"x"', b"[" * 5000, last, good]
+        kinds = [
+            b"stop\n",
+            b"",
+            b"\xff\xfe\0",
+            b"null",
+            b"[]",
+            b"{}",
+            b"7",
+            b'"x"',
+            b"[" * 5000,
+            last,
+            good,
+        ]
         kinds.append(self.draw.choice(list(log.entries.values())))
         kinds.append(good.replace(b'"batch"', b'"basis"'))
         kinds.append(good.replace(b'"lines": "', b'"lines": "stop\\n'))
@@ -651,36 +751,71 @@ class Hunt:
     def take_last(self):
         log = Log(Keys(self.etcd), self.memory)
         if len(log.numbers) > 1:
-            self.is_tampered = True
-            self.delete(f"glb/log/{log.last:016d}")
+            with self.tampering():
+                self.delete(f"glb/log/{log.last:016d}")
 
     def take_any(self):
         log = Log(Keys(self.etcd), self.memory)
-        self.is_tampered = True
-        self.delete(f"glb/log/{self.draw.choice(log.numbers):016d}")
+        with self.tampering():
+            self.delete(f"glb/log/{self.draw.choice(log.numbers):016d}")
 
     def overwrite(self):
         log = Log(Keys(self.etcd), self.memory)
-        self.is_tampered = True
         number = self.draw.choice(log.numbers)
-        self.put(f"glb/log/{number:016d}", self.junk(log))
+        with self.tampering():
+            self.put(f"glb/log/{number:016d}", self.junk(log))
 
     def odd_key(self):
         log = Log(Keys(self.etcd), self.memory)
         number = self.draw.choice(log.numbers)
-        names = ["zzz", "5", f"{number:016d}x", f"{number:017d}", f"{number:015d}", "9" * 16, f"{log.last + 3:016d}", "0" * 16]
-        self.put(f"glb/log/{self.draw.choice(names)}", self.draw.choice([b"x", log.entries[number]]))
+        names = [
+            "zzz",
+            "5",
+            f"{number:016d}x",
+            f"{number:017d}",
+            f"{number:015d}",
+            "9" * 16,
+            f"{log.last + 3:016d}",
+            "0" * 16,
+        ]
+        self.put(
+            f"glb/log/{self.draw.choice(names)}", self.draw.choice([b"x", log.entries[number]])
+        )
 
     def odd_other(self):
         """A key beside the log, put or taken away by hand."""
-        keys = [key for key in Keys(self.etcd).octets if not key.startswith(("glb/log/", "glb/bases", "glb/file", "glb/names"))]
-        keys += ["glb/turn", "glb/roll", "glb/canary", "glb/look", "glb/at/h0", "glb/server/h0", "glb/at/x", "glb/dropped/x"]
+        keys = [
+            key
+            for key in Keys(self.etcd).octets
+            if not key.startswith(("glb/log/", "glb/bases", "glb/file", "glb/names"))
+        ]
+        keys += [
+            "glb/turn",
+            "glb/roll",
+            "glb/canary",
+            "glb/look",
+            "glb/at/h0",
+            "glb/server/h0",
+            "glb/at/x",
+            "glb/dropped/x",
+        ]
         key = self.draw.choice(keys)
-        self.later(8, lambda: [self.delete(each) for each in ("glb/turn", "glb/roll", "glb/canary", "glb/at/x", "glb/dropped/x")])
+        self.later(
+            8,
+            lambda: [
+                self.delete(each)
+                for each in ("glb/turn", "glb/roll", "glb/canary", "glb/at/x", "glb/dropped/x")
+            ],
+        )
         if self.draw.random() < 0.5:
             self.delete(key)
         else:
-            self.put(key, self.draw.choice([b"", b"x", b"{}", b'{"server": "h9"}', b'{"ready": true}', b"\xff"]))
+            self.put(
+                key,
+                self.draw.choice(
+                    [b"", b"x", b"{}", b'{"server": "h9"}', b'{"ready": true}', b"\xff"]
+                ),
+            )
 
     # etcd.
 
@@ -713,7 +848,12 @@ class Hunt:
                 if self.draw.random() < 0.4:
                     self.raw()
                 else:
-                    self.tools_log().append(f"x{self.draw.random()}", log_tool.Signed("h"), batch_of(self.draw), lambda names: None)
+                    self.tools_log().append(
+                        f"x{self.draw.random()}",
+                        log_tool.Signed("h"),
+                        batch_of(self.draw),
+                        lambda names: None,
+                    )
         finally:
             for host in held:
                 host.signal(host.follower, signal.SIGCONT)
@@ -744,15 +884,19 @@ class Hunt:
         self.later(seconds, lambda: [setattr(way, "mode", "pass") for way in ways])
 
     def cut_off(self):
-        mode = self.draw.choice(["drop", "drop", "refuse", "slow", "late", "torn"])
+        mode = self.draw.choice(["drop", "drop", "refuse", "slow", "late", "torn", "drip"])
         self.way(self.host().ways, mode, self.draw.uniform(0.5, 9))
 
     def one_way(self):
-        mode = self.draw.choice(["drop", "refuse", "slow", "late", "torn"])
+        mode = self.draw.choice(["drop", "refuse", "slow", "late", "torn", "drip"])
         self.way([self.draw.choice(self.host().ways)], mode, self.draw.uniform(0.5, 9))
 
     def operator_cut_off(self):
-        self.way(self.fleet.own, self.draw.choice(["drop", "torn", "late", "slow"]), self.draw.uniform(0.5, 5))
+        self.way(
+            self.fleet.own,
+            self.draw.choice(["drop", "torn", "late", "slow", "drip"]),
+            self.draw.uniform(0.5, 5),
+        )
         self.append_many()
 
     # Hosts.
@@ -763,7 +907,9 @@ class Hunt:
 
     def kill_follower(self):
         host = self.host()
-        host.signal(host.follower, self.draw.choice([signal.SIGKILL, signal.SIGKILL, signal.SIGTERM]))
+        host.signal(
+            host.follower, self.draw.choice([signal.SIGKILL, signal.SIGKILL, signal.SIGTERM])
+        )
 
     def kill_amid(self):
         """A follower is killed while its server has a batch in its feed."""
@@ -826,7 +972,10 @@ class Hunt:
         if self.draw.random() < 0.6:
             path = host.run / "topology.toml"
             text = path.read_text()
-            path.write_text(text.replace("capacity = 1", "capacity = 2", 1) + self.draw.choice(["", "# edited\n"]))
+            path.write_text(
+                text.replace("capacity = 1", "capacity = 2", 1)
+                + self.draw.choice(["", "# edited\n"])
+            )
         host.by_hand = True
         host.signal(host.server, signal.SIGKILL)
 
@@ -856,7 +1005,9 @@ class Hunt:
         subprocess.run(["mount", "-o", "remount,ro", str(folder)], check=False, capture_output=True)
         self.later(
             self.draw.uniform(1, 9),
-            lambda: subprocess.run(["mount", "-o", "remount,rw", str(folder)], check=False, capture_output=True),
+            lambda: subprocess.run(
+                ["mount", "-o", "remount,rw", str(folder)], check=False, capture_output=True
+            ),
         )
 
     def second_follower(self):
@@ -873,15 +1024,23 @@ class Hunt:
 
     def prepare_by_mistake(self):
         host = self.host()
-        server = host.server
         host.command("--prepare")
         # whoever sees `hangs` begins the server anew
-        self.later(9, lambda: host.signal(server, signal.SIGKILL))
+        self.later(9, lambda: host.signal(host.server, signal.SIGKILL))
 
     def meddle(self):
         """Somebody writes into a server's feed."""
         host = self.host()
-        words = self.draw.choice([b"show\n", b"show\n", b"nonsense\n", change_of(self.draw).encode() + b"commit\n", b"stop\n", b"comm"])
+        words = self.draw.choice(
+            [
+                b"show\n",
+                b"show\n",
+                b"nonsense\n",
+                change_of(self.draw).encode() + b"commit\n",
+                b"stop\n",
+                b"comm",
+            ]
+        )
         with open(host.run / "feed", "r+b", buffering=0) as feed:
             feed.write(words)
 
@@ -892,7 +1051,9 @@ class Hunt:
             host.clock.write_text("+0\n")
             host.signal(host.follower, signal.SIGTERM)
         else:
-            host.clock.write_text(self.draw.choice(["+3600\n", "-3600\n", "+1000000\n", "-86400\n", "+0\n"]))
+            host.clock.write_text(
+                self.draw.choice(["+3600\n", "-3600\n", "+1000000\n", "-86400\n", "+0\n"])
+            )
 
 
 def is_number(name):
@@ -901,15 +1062,54 @@ def is_number(name):
 
 # By name, how likely each is.
 ACTIONS = {
-    "append": 10, "append_many": 5, "append_in_process": 4, "append_unknown": 2, "append_killed": 3,
-    "roll": 5, "roll_beside": 4, "roll_killed": 4, "roll_late": 3, "back": 3, "canary": 2, "cut": 3, "compact": 1, "forget": 2,
-    "raw": 4, "raw_many": 2, "raw_very_many": 1, "take_last": 1, "take_any": 1, "overwrite": 1, "odd_key": 2, "odd_other": 2,
-    "save": 5, "restore": 3, "restore_and_write": 4, "member_killed": 3, "member_held": 3,
-    "cut_off": 5, "one_way": 3, "operator_cut_off": 2,
-    "kill_server": 4, "kill_follower": 4, "kill_amid": 4, "kill_host": 3, "hold_server": 3, "hold_follower": 4,
-    "lose_bases": 2, "change_identity": 3, "change_choice": 2, "by_hand": 2, "edit_topology": 1,
-    "full_disk": 2, "read_only": 2, "second_follower": 2, "prepare_by_mistake": 1, "meddle": 1, "clock_jump": 2,
-}  # fmt: skip
+    "append": 10,
+    "append_many": 5,
+    "append_in_process": 4,
+    "append_unknown": 2,
+    "append_killed": 3,
+    "roll": 5,
+    "roll_beside": 4,
+    "roll_killed": 4,
+    "roll_late": 3,
+    "back": 3,
+    "canary": 2,
+    "cut": 3,
+    "compact": 1,
+    "forget": 2,
+    "raw": 4,
+    "raw_many": 2,
+    "raw_very_many": 1,
+    "take_last": 1,
+    "take_any": 1,
+    "overwrite": 1,
+    "odd_key": 2,
+    "odd_other": 2,
+    "save": 5,
+    "restore": 3,
+    "restore_and_write": 4,
+    "member_killed": 3,
+    "member_held": 3,
+    "cut_off": 5,
+    "one_way": 3,
+    "operator_cut_off": 2,
+    "kill_server": 4,
+    "kill_follower": 4,
+    "kill_amid": 4,
+    "kill_host": 3,
+    "hold_server": 3,
+    "hold_follower": 4,
+    "lose_bases": 2,
+    "change_identity": 3,
+    "change_choice": 2,
+    "by_hand": 2,
+    "edit_topology": 1,
+    "full_disk": 2,
+    "read_only": 2,
+    "second_follower": 2,
+    "prepare_by_mistake": 1,
+    "meddle": 1,
+    "clock_jump": 2,
+}
 
 
 def schedule(options, seed):
@@ -926,11 +1126,14 @@ def schedule(options, seed):
         if hunt.found:
             try:
                 keys = Keys(hunt.etcd)
-                (folder / "keys").write_text("\n".join(f"{key} {octets[:300]!r}" for key, octets in keys.octets.items()))
+                (folder / "keys").write_text(
+                    "\n".join(f"{key} {octets[:300]!r}" for key, octets in keys.octets.items())
+                )
             except OSError:
                 pass
         hunt.fleet.stop()
-    words = f"{hunt.members} members, {hunt.count} servers{', fast' if hunt.is_fast else ''}, {len(hunt.done)} steps"
+    fast = ", fast" if hunt.is_fast else ""
+    words = f"{hunt.members} members, {hunt.count} servers{fast}, {len(hunt.done)} steps"
     print(f"seed {seed}: {words}, {hunt.checks}, {time.monotonic() - began:.0f} s", flush=True)
     for why in hunt.found:
         print(f"!! seed {seed}: {why}\n   {'; '.join(hunt.done)}", flush=True)
@@ -950,7 +1153,9 @@ def built(folder, name):
 
 
 def main():
-    words = argparse.ArgumentParser(description=__doc__, formatter_class=argparse.RawDescriptionHelpFormatter)
+    words = argparse.ArgumentParser(
+        description=__doc__, formatter_class=argparse.RawDescriptionHelpFormatter
+    )
     words.add_argument("--seconds", type=float, default=600)
     words.add_argument("--seed", type=int, default=1)
     words.add_argument("--step", type=int, default=1, help="from seed to seed")
@@ -971,7 +1176,9 @@ def main():
             checks[key] = checks.get(key, 0) + value
         if options.one:
             break
-    print(f"{count} schedules, {faults} with a fault; compared: {checks}; folders: {options.folder}")
+    print(
+        f"{count} schedules, {faults} with a fault; compared: {checks}; folders: {options.folder}"
+    )
     return 1 if faults else 0
 
 

@@ -1,11 +1,12 @@
 #!/usr/bin/env python3
-"""Looks for a run of the model of the fleet (tools/tests/fleet_world.py) that shows a fault, for as long as it is let.
+"""Looks for a run of the model of the fleet (tools/tests/fleet_world.py) that shows a fault.
 
-    bench/fleet_model.py [SECONDS] [SEED]     300 seconds from seed 1,000,000 on; status 1 where a run shows a fault
+    bench/fleet_model.py [SECONDS] [SEED]     300 seconds from seed 1,000,000 on
 
-Each run has one to three servers and up to 120 steps at random, from its seed alone; the run that shows a fault is said
-step by step, and `explore(SEED, SERVERS, STEPS)` of tools/tests/test_fleet_model.py makes it once more. Beside each goes a
-run `restored(SEED)`, in which the log is restored while hardly anybody looks.
+The status is 1 where a run shows a fault. Each run has one to three servers and up to 120 steps at
+random, from its seed alone; the run that shows a fault is said step by step, and
+`explore(SEED, SERVERS, STEPS)` of tools/tests/test_fleet_model.py makes it once more. Beside each
+goes a run `restored(SEED)`, in which the log is restored while hardly anybody looks.
 """
 
 import sys

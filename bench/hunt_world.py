@@ -1,5 +1,8 @@
-"""A fleet of real processes for bench/fleet_hunt.py: members of etcd, ways to them that can be cut, and hosts with a server
-and a follower each, which are begun again as the units of systemd do it (examples/glb-fleet@.service)."""
+"""A fleet of real processes for bench/fleet_hunt.py.
+
+Members of etcd, ways to them that can be cut, and hosts with a server and a follower each, which
+are begun again as the units of systemd do it (examples/glb-fleet@.service).
+"""
 
 import asyncio
 import json
@@ -18,7 +21,8 @@ from pathlib import Path
 
 TOP = Path(__file__).resolve().parent.parent
 TOOLS = TOP / "tools"
-# how long a lease lives, the turn, a hang, and how long others have to answer, in seconds, where a run is to be short
+# how long a lease lives, the turn, a hang, and how long others have to answer, in seconds, where a
+# run is to be short
 FAST = {"ALIVE": 5, "TURN": 12}
 FAST_FOLLOWER = {"HANGS": 5, "PATIENT": 4}
 FAST_CODE = f"""
@@ -46,7 +50,8 @@ def words_of(is_fast, name):
 
 
 class Ways:
-    """A loop of its own that carries connections to members; each way can be cut, held up, or broken amid an answer."""
+    """A loop of its own that carries connections to members; each way can be cut, held up, or
+    broken amid an answer."""
 
     def __init__(self):
         self.loop = asyncio.new_event_loop()
@@ -67,8 +72,9 @@ class Ways:
 
 
 class Way:
-    """One way. `mode`: pass, drop (takes connections and says nothing), refuse, slow (a delay each way), late (a request is
-    handed on after a while, also where who asked is gone), torn (the answer ends amid)."""
+    """One way. `mode`: pass, drop (takes connections and says nothing), refuse, slow (a delay each
+    way), late (a request is handed on after a while, also where who asked is gone), torn (the
+    answer ends amid), drip (the answer comes octet by octet)."""
 
     @classmethod
     async def made(cls, target):
@@ -100,9 +106,7 @@ class Way:
         answers, there = await asyncio.open_connection("127.0.0.1", self.target)
         there.write(first)
         try:
-            await asyncio.gather(
-                self.copy(reader, there, True), self.copy(answers, writer, False)
-            )
+            await asyncio.gather(self.copy(reader, there, True), self.copy(answers, writer, False))
         finally:
             there.close()
 
@@ -116,6 +120,11 @@ class Way:
                 writer.write(octets[: random.randrange(len(octets))])
                 writer.close()
                 return
+            while self.mode == "drip" and not is_out and len(octets) > 1:
+                writer.write(octets[:1])
+                await writer.drain()
+                await asyncio.sleep(0.5)
+                octets = octets[1:]
             writer.write(octets)
             await writer.drain()
         if writer.can_write_eof():
@@ -144,7 +153,15 @@ class Member:
 
     def start(self, cluster):
         peer = f"http://127.0.0.1:{self.peer}"
-        words = ["etcd", "--name", self.name, "--data-dir", str(self.data), "--listen-peer-urls", peer]
+        words = [
+            "etcd",
+            "--name",
+            self.name,
+            "--data-dir",
+            str(self.data),
+            "--listen-peer-urls",
+            peer,
+        ]
         words += ["--initial-advertise-peer-urls", peer, "--listen-client-urls", self.address]
         words += ["--advertise-client-urls", self.address, "--initial-cluster", cluster]
         log = open(self.folder / f"etcd{self.number}.log", "ab")
@@ -184,7 +201,9 @@ class Etcd:
         for address in self.addresses():
             try:
                 request = urllib.request.Request(
-                    address + path, json.dumps(message).encode(), {"Content-Type": "application/json"}
+                    address + path,
+                    json.dumps(message).encode(),
+                    {"Content-Type": "application/json"},
                 )
                 opener = urllib.request.build_opener(urllib.request.ProxyHandler({}))
                 with opener.open(request, timeout=seconds) as answer:
@@ -246,10 +265,16 @@ class Host:
     def __init__(self, fleet, number):
         self.fleet, self.number, self.name = fleet, number, f"h{number}"
         self.folder = fleet.folder / self.name
-        self.run, self.bases, self.queries = self.folder / "run", self.folder / "bases", self.folder / "queries"
+        self.run, self.bases, self.queries = (
+            self.folder / "run",
+            self.folder / "bases",
+            self.folder / "queries",
+        )
         for path in (self.run, self.bases):
             path.mkdir(parents=True)
-            mounted = subprocess.run(["mount", "-t", "tmpfs", "-o", "size=3m", "tmpfs", str(path)], check=False)
+            mounted = subprocess.run(
+                ["mount", "-t", "tmpfs", "-o", "size=3m", "tmpfs", str(path)], check=False
+            )
             if mounted.returncode:
                 raise OSError("no tmpfs: this wants root")
         self.port = free_port()
@@ -268,7 +293,9 @@ class Host:
 
     @property
     def etcd(self):
-        order = self.ways[self.number % len(self.ways) :] + self.ways[: self.number % len(self.ways)]
+        order = (
+            self.ways[self.number % len(self.ways) :] + self.ways[: self.number % len(self.ways)]
+        )
         return ",".join(f"http://127.0.0.1:{way.port}" for way in order)
 
     def words(self, *more):
@@ -281,7 +308,10 @@ class Host:
     def environment(self):
         env = dict(os.environ, PYTHONPYCACHEPREFIX="/tmp/hunt-pyc")
         if self.clock is not None:
-            env |= {"LD_PRELOAD": str(self.fleet.shims["shift_clock"]), "SHIFT_CLOCK": str(self.clock)}
+            env |= {
+                "LD_PRELOAD": str(self.fleet.shims["shift_clock"]),
+                "SHIFT_CLOCK": str(self.clock),
+            }
         return env
 
     def command(self, *more):
@@ -291,7 +321,12 @@ class Host:
             log.flush()
             try:
                 return subprocess.run(
-                    self.words(*more), env=self.environment(), stdout=log, stderr=log, timeout=70, check=False
+                    self.words(*more),
+                    env=self.environment(),
+                    stdout=log,
+                    stderr=log,
+                    timeout=70,
+                    check=False,
                 ).returncode
             except subprocess.TimeoutExpired:
                 return -1
@@ -306,7 +341,9 @@ class Host:
         words = [str(self.fleet.glb), "serve", str(self.run / "topology.toml"), "--listen"]
         words += [f"127.0.0.1:{self.port}", "--workers", "2"]
         pipes = [open(self.run / name, "r+b", buffering=0) for name in ("feed", "said", "maps")]
-        self.server = subprocess.Popen(words, stdin=pipes[0], stdout=pipes[1], stderr=pipes[2], env=env)
+        self.server = subprocess.Popen(
+            words, stdin=pipes[0], stdout=pipes[1], stderr=pipes[2], env=env
+        )
         self.generation += 1
         for pipe in pipes:
             pipe.close()
@@ -316,7 +353,11 @@ class Host:
             log.write(f"-- {time.time():.2f} begins\n".encode())
             log.flush()
             self.follower = subprocess.Popen(
-                self.words(), env=self.environment(), stdout=log, stderr=log, stdin=subprocess.DEVNULL
+                self.words(),
+                env=self.environment(),
+                stdout=log,
+                stderr=log,
+                stdin=subprocess.DEVNULL,
             )
 
     def go_on(self):
@@ -445,7 +486,8 @@ class Fleet:
         for host in self.hosts:
             host.kill()
         for host in self.hosts:
-            host.thread.join(20)
+            if host.thread.is_alive():
+                host.thread.join(20)
             host.kill()
             host.clean()
         self.etcd.stop()

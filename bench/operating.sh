@@ -20,23 +20,29 @@ clean() {
         sleep 3
         kill -9 "$(leader)" 2>/dev/null || true
     fi
+    if [ ! -d "$base/root" ]; then tail -n 20 "$work/log" >&2 || true; fi
     rm -rf "$work"
 }
 trap clean EXIT
 
 if [ ! -d "$base/root" ]; then
-    debootstrap --variant=minbase --include=systemd,systemd-sysv,dbus,iproute2,bind9-dnsutils,python3,adduser,procps,nftables bookworm "$base" >"$work/log"
+    # whoever is cut off here leaves nothing that the next run takes for a whole one; packages know no folder of this machine's
+    new=$base.new
+    unset TMPDIR
+    rm -rf "$new"
+    debootstrap --variant=minbase --include=systemd,systemd-sysv,dbus,iproute2,bind9-dnsutils,python3,adduser,procps,nftables bookworm "$new" >"$work/log"
     # no service starts while it is installed
-    printf '#!/bin/sh\nexit 101\n' >"$base/usr/sbin/policy-rc.d"
-    chmod 755 "$base/usr/sbin/policy-rc.d"
-    cp /etc/resolv.conf "$base/etc/resolv.conf"
-    chroot "$base" env DEBIAN_FRONTEND=noninteractive apt-get install -y --no-install-recommends binutils curl prometheus-node-exporter python3-prometheus-client python3-requests python3-dnspython python3-flask python3-jinja2 python3-numpy python3-waitress etcd-server etcd-client strace >>"$work/log" 2>&1
-    chroot "$base" systemctl disable etcd prometheus-node-exporter >>"$work/log" 2>&1
+    printf '#!/bin/sh\nexit 101\n' >"$new/usr/sbin/policy-rc.d"
+    chmod 755 "$new/usr/sbin/policy-rc.d"
+    cp /etc/resolv.conf "$new/etc/resolv.conf"
+    chroot "$new" env DEBIAN_FRONTEND=noninteractive apt-get install -y --no-install-recommends binutils curl prometheus-node-exporter python3-prometheus-client python3-requests python3-dnspython python3-flask python3-jinja2 python3-numpy python3-waitress etcd-server etcd-client strace >>"$work/log" 2>&1
+    chroot "$new" systemctl disable etcd prometheus-node-exporter >>"$work/log" 2>&1
     # for what measures; its services are started by the document alone
-    chroot "$base" env DEBIAN_FRONTEND=noninteractive apt-get install -y --no-install-recommends python3-yaml prometheus prometheus-blackbox-exporter nginx mtail >>"$work/log" 2>&1
-    chroot "$base" systemctl disable prometheus prometheus-blackbox-exporter nginx mtail >>"$work/log" 2>&1
-    rm "$base/usr/sbin/policy-rc.d"
-    printf '127.0.0.1 localhost\n::1 localhost\n' >"$base/etc/hosts"
+    chroot "$new" env DEBIAN_FRONTEND=noninteractive apt-get install -y --no-install-recommends python3-yaml prometheus prometheus-blackbox-exporter nginx mtail >>"$work/log" 2>&1
+    chroot "$new" systemctl disable prometheus prometheus-blackbox-exporter nginx mtail >>"$work/log" 2>&1
+    rm "$new/usr/sbin/policy-rc.d"
+    printf '127.0.0.1 localhost\n::1 localhost\n' >"$new/etc/hosts"
+    mv "$new" "$base"
 fi
 cp -a "$base" "$box"
 mkdir -p "$box/root/repository/crates/glb_program/out"

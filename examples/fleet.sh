@@ -9,7 +9,7 @@
 # GLB names the program, as a whole path, and GLB_OTHER another build of it, for the part `build`; the parts `memory`
 # and `clock` want a C compiler, `bird` the package bird2. Nothing is left behind but what it prints.
 set -uo pipefail
-usual="writers answers server follower member cut_off roll skip adopt restore hand dropped cut_log hang hung sums"
+usual="writers answers server follower member drip expected cut_off roll skip adopt restore hand dropped cut_log hang hung sums"
 others="behind full build memory clock bird"
 for part in "$@"; do case " $usual $others " in *" $part "*) ;; *) echo "no such part: $part" && exit 1 ;; esac; done
 if ip netns list | grep -q glbfleet; then echo 'another run is there, or was cut off: ip netns del glbfleet0, ..1, ..2, ..3' && exit 1; fi
@@ -251,6 +251,58 @@ member() {
     ok 'all agree with the member back' agreed
 }
 
+# A member whose answers drip octet by octet is passed over by each command; the real ones stand behind it.
+drip() {
+    local begun drips
+    be_on 1 python3 - <<'PYTHON' &
+import socket, threading, time
+
+
+def drip(sock):
+    try:
+        sock.recv(65536)
+        for octet in b"HTTP/1.1 200 OK\r\nContent-Length: 400\r\n\r\n" + b" " * 400:
+            sock.sendall(bytes([octet]))
+            time.sleep(1)
+    except OSError:
+        pass
+
+
+listener = socket.create_server(("127.0.0.1", 2378))
+while True:
+    threading.Thread(target=drip, args=(listener.accept()[0],), daemon=True).start()
+PYTHON
+    drips=$!
+    disown "$drips"
+    for _ in $(seq 100); do on 1 python3 -c 'import socket; socket.create_connection(("127.0.0.1", 2378))' 2>/dev/null && break; sleep 0.1; done
+    begun=$(now)
+    on 1 env GLB_ETCD="http://127.0.0.1:2378,$(etcd_of 1)" "$here/tools/glb-fleet" >"$work/fleet"
+    ok 'glb-fleet says which member does not answer' [ $? = 7 ]
+    ok 'and why' grep -q '2378, a member of etcd, does not answer: start it again (timed out)' "$work/fleet"
+    ok 'and does not wait for its end' [ "$(since "$begun")" -lt 60000 ]
+    begun=$(now)
+    ok 'a batch is appended' [ "$(echo 'demand g1 4' | on 1 env GLB_ETCD="http://127.0.0.1:2378,$(etcd_of 1)" "$here/tools/glb-append")" = "$(last)" ]
+    echo "an append past a member that drips: $(since "$begun") ms"
+    kill "$drips"
+    ok 'all agree' agreed
+}
+
+# Servers that there should be: one that never began, and one that etcd has no word of any more.
+expected() {
+    all_there >/dev/null
+    tool 1 glb-fleet --expect host1,host2,host3 >"$work/fleet"
+    ok 'all of them are there' [ $? = 0 ]
+    tool 1 glb-fleet --expect host1,host4 >"$work/fleet"
+    ok 'one that never began is gone' [ $? = 5 ]
+    ok 'and named' grep -q '^! host4 is expected, and nothing was ever heard of it' "$work/fleet"
+    mkdir "$work/host4"
+    on 1 env GLB_ETCD="$(etcd_of 1)" "$here/tools/glb-follow" --name host4 --run "$work/host4" --bases "$work/bases1" --program "$glb" --prepare
+    ok 'it is missed from its first start on' [ "$(status_of)" = 1 ]
+    ok 'and so it is said' grep -q '^! host4 starts: it begins for the first time' "$work/fleet"
+    tool 1 glb-fleet --forget host4
+    ok 'until it is taken off the list' all_there
+}
+
 # A host is cut off, with a writer on both sides.
 cut_off() {
     local before
@@ -410,6 +462,7 @@ hang() {
     for _ in 1 2 3 4 5; do append 2 >/dev/null && break; done
     tool 1 glb-fleet >"$work/fleet"
     echo "an append and glb-fleet beside a member that hangs: $(since "$begun") ms"
+    ok 'and blames no follower' [ "$(grep -c '^!' "$work/fleet")" = 1 ]
     ok 'glb-fleet names the member' grep -q "^! http://$net.1:2379.* does not answer" "$work/fleet"
     kill -CONT "$(cat "$work/etcd1.pid")"
     ok 'all agree' agreed

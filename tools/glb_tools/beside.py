@@ -49,8 +49,11 @@ class Beside(Follower):
     def drop(self, entry: Entry, why: str) -> None:
         """Servers themselves tell what was dropped."""
 
-    def record(self, look: Look, **more: Any) -> None:
+    def register(self) -> None:
         """It is no server of the list."""
+
+    def record(self, look: Look, **more: Any) -> None:
+        """Nor is its base kept there."""
 
     def keep_turn(self, look: Look) -> None:
         """The turn is that of the server itself."""

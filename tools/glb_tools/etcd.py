@@ -1,6 +1,7 @@
 """Calls to etcd over its HTTP gateway (/v3), by Python's own library, since a DNS server needs no other.
 
-Every wait is bounded: a member that does not answer within three seconds is passed over for the next one.
+Every call is bounded: a member that has not answered within three seconds is passed over for the next one, however slowly
+it drips its answer (the module `bounded`).
 """
 
 import argparse
@@ -9,15 +10,15 @@ import json
 import os
 import ssl
 import urllib.error
-import urllib.request
 from collections.abc import Callable
 from dataclasses import dataclass
 from http.client import HTTPException
 from typing import Any, TypeVar
 
+from glb_tools.bounded import Bound, Request, opener_of
 from glb_tools.options import WRONG_WORDS, Fault, check_word
 
-# how long a member may be silent, in seconds
+# how long a member may take to answer, in seconds
 PATIENCE = 3.0
 # how long it may take to give back the room that history had
 DEFRAGMENT = 120.0
@@ -132,33 +133,36 @@ class Etcd:
         self.silent: dict[str, str] = {}
         self.login: dict[str, str] | None = None
         self.token: str | None = None
-        # what the environment says of proxies is not meant for members
-        handlers: list[Any] = [urllib.request.ProxyHandler({})]
-        if context:
-            handlers.append(urllib.request.HTTPSHandler(context=context))
-        self.opener = urllib.request.build_opener(*handlers)
+        self.opener = opener_of(context)
 
-    def open(self, member: str, path: str, message: Message, seconds: float) -> Any:
+    def open(self, member: str, path: str, message: Message | None, bound: Bound) -> Any:
+        """A member's answer to a message, or its page where there is none."""
         headers = {"Content-Type": "application/json"}
         if self.token and path != "/v3/auth/authenticate":
             headers["Authorization"] = self.token
-        request = urllib.request.Request(member + path, json.dumps(message).encode(), headers)
-        return self.opener.open(request, timeout=seconds)
+        octets = None if message is None else json.dumps(message).encode()
+        return self.opener.open(Request(bound, member + path, octets, headers))
 
-    def sign_in(self, member: str) -> None:
+    def sign_in(self, member: str, bound: Bound) -> None:
         if self.login and not self.token:
-            with self.open(member, "/v3/auth/authenticate", self.login, PATIENCE) as answer:
+            with self.open(member, "/v3/auth/authenticate", self.login, bound) as answer:
                 self.token = str(json.load(answer)["token"])
 
     def reach(self, path: str, message: Message, use: Callable[[Any], Found]) -> Found:
         """What comes of a call at the first member that answers it."""
+        return self.reach_within(path, message, lambda answer, bound: use(answer))
+
+    def reach_within(
+        self, path: str, message: Message, use: Callable[[Any, Bound], Found]
+    ) -> Found:
+        """The same, where the bound of the call is used as well."""
         why: object = None
         for _ in range(len(self.members)):
-            member = self.members[0]
+            member, bound = self.members[0], Bound(PATIENCE)
             try:
-                self.sign_in(member)
-                with self.open(member, path, message, PATIENCE) as answer:
-                    return use(answer)
+                self.sign_in(member, bound)
+                with self.open(member, path, message, bound) as answer:
+                    return use(answer, bound)
             except urllib.error.HTTPError as error:
                 why = self.refused(member, error)
             except (OSError, HTTPException, *NONSENSE) as error:
@@ -225,26 +229,27 @@ class Etcd:
     def wait(self, key: str, end: str, revision: int, seconds: float) -> None:
         """Waits until something in the range is put behind a revision, or for so long."""
 
-        def heard(answer: Any) -> None:
+        def heard(answer: Any, bound: Bound) -> None:
             # the first line says that the watch is made
             answer.readline()
             try:
-                answer.fp.raw._sock.settimeout(seconds)
+                bound.begin(seconds)
                 answer.readline()
             except TimeoutError:
                 # nothing came, which is no fault of this member
                 pass
 
         span = {"key": encoded(key), "range_end": encoded(end), "start_revision": str(revision + 1)}
-        self.reach("/v3/watch", {"create_request": span}, heard)
+        self.reach_within("/v3/watch", {"create_request": span}, heard)
 
     # What an operator looks after.
 
     def answers(self, member: str) -> Message | None:
         """What a member says of itself; none where it does not answer."""
+        bound = Bound(PATIENCE)
         try:
-            self.sign_in(member)
-            with self.open(member, "/v3/maintenance/status", {}, PATIENCE) as answer:
+            self.sign_in(member, bound)
+            with self.open(member, "/v3/maintenance/status", {}, bound) as answer:
                 told: Message = json.load(answer)
                 return told
         except (OSError, HTTPException, *NONSENSE) as error:
@@ -259,7 +264,9 @@ class Etcd:
         for member in list(self.members):
             try:
                 # a member stands still meanwhile
-                with self.open(member, "/v3/maintenance/defragment", {}, DEFRAGMENT) as answer:
+                with self.open(
+                    member, "/v3/maintenance/defragment", {}, Bound(DEFRAGMENT)
+                ) as answer:
                     answer.read()
             except (OSError, HTTPException):
                 silent.append(member)

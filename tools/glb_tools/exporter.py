@@ -25,8 +25,9 @@ from prometheus_client import CollectorRegistry, generate_latest, start_http_ser
 from prometheus_client.core import CounterMetricFamily, GaugeMetricFamily, Metric
 from prometheus_client.registry import Collector
 
-from glb_tools.etcd import Etcd, add_etcd_options, etcd_of
-from glb_tools.fleet import Report, look_at_members, report
+from glb_tools.bounded import Bound
+from glb_tools.etcd import PATIENCE, Etcd, add_etcd_options, etcd_of
+from glb_tools.fleet import Report, add_expected, log_of, look_at_members, report
 from glb_tools.loads import FileWorker, FleetWorker, Worker
 from glb_tools.log import Log
 from glb_tools.options import WRONG_WORDS, Fault, parser, tell, write_file
@@ -53,7 +54,7 @@ def plain(name: str, words: str, value: float) -> GaugeMetricFamily:
 # One server.
 
 
-class Said(Collector):
+class Said(Collector):  # type: ignore[misc]
     """What a server says: the lines of its output."""
 
     def __init__(self, server: str) -> None:
@@ -134,7 +135,7 @@ def lines_of(descriptor: int) -> Iterator[str | None]:
 # The loads.
 
 
-class Loaded(Collector):
+class Loaded(Collector):  # type: ignore[misc]
     """The newest loads, and whether the program beside works."""
 
     def __init__(self, worker: Worker) -> None:
@@ -183,7 +184,7 @@ class Loaded(Collector):
 # A fleet.
 
 
-class Fleet(Collector):
+class Fleet(Collector):  # type: ignore[misc]
     """Looks at the log and at what its servers tell, again and again; what it saw last is served."""
 
     def __init__(self, log: Log, every: float) -> None:
@@ -328,7 +329,7 @@ def outvoted_in(found: Report) -> set[str]:
 def quota_of(etcd: Etcd, member: str) -> float:
     """A member's quota, which it tells among its own metrics alone."""
     try:
-        with etcd.opener.open(f"{member}/metrics", timeout=3) as answer:
+        with etcd.open(member, "/metrics", None, Bound(PATIENCE)) as answer:
             found = QUOTA.search(answer.read(4 << 20))
     except (OSError, ValueError, HTTPException):
         return USUAL_QUOTA
@@ -358,6 +359,7 @@ def options_of() -> argparse.Namespace:
         "--every", metavar="SECONDS", type=float, default=5, help="how often it looks (5)"
     )
     add_etcd_options(words)
+    add_expected(words)
     options = words.parse_args()
     if (options.said is None) == (not options.fleet):
         words.error("one of --said and --fleet")
@@ -385,7 +387,7 @@ def main() -> None:
     path = Path(options.text_file) if options.text_file else None
     worker: Worker | None = None
     if options.fleet:
-        fleet = Fleet(Log(etcd_of(options), options.prefix), options.every)
+        fleet = Fleet(log_of(options), options.every)
         registry.register(fleet)
         if options.glb:
             worker = FleetWorker(options.glb, options.every, Log(etcd_of(options), options.prefix))

@@ -2,6 +2,8 @@
 
 import argparse
 import json
+import math
+import os
 import time
 from dataclasses import asdict, dataclass, field
 from typing import Any
@@ -15,8 +17,8 @@ from glb_tools.etcd import (
     add_etcd_options,
     etcd_of,
 )
-from glb_tools.log import ANEW, LOOKED_BACK, Asker, Log, Look, maps_of, plain, spot_of
-from glb_tools.options import DONE, Fault, parser, run
+from glb_tools.log import ANEW, FIRST, LOOKED_BACK, Asker, Log, Look, maps_of, plain, spot_of
+from glb_tools.options import DONE, Fault, check_word, parser, run
 
 NOT_THERE, DIFFER, GONE, HANGS, MEMBER = 1, 2, 5, 6, 7
 STATUSES = {
@@ -24,7 +26,7 @@ STATUSES = {
     NOT_THERE: "a server is behind, waits or starts, or there is none; a base is rolled; a batch was dropped",
     DIFFER: "two servers have different maps at one entry of one base",
     **ETCD_STATUSES,
-    GONE: "nothing is heard of a server: its follower has ended or hangs, or its host is cut off",
+    GONE: "nothing is heard of a server: its follower has ended or hangs, its host is cut off, or it never began",
     HANGS: "a server does not answer its follower",
     MEMBER: "a member of etcd does not answer; else all is well",
 }
@@ -33,6 +35,8 @@ ORDER = (NO_MAJORITY, DIFFER, FULL, HANGS, GONE, NOT_THERE, MEMBER)
 State = dict[str, Any]
 # how often it is looked whether all followers answered, in seconds
 AGAIN = 0.05
+# what is said of a server that is expected and that etcd has no word of
+NEVER = "nothing was ever heard of it"
 
 
 @dataclass
@@ -65,8 +69,9 @@ def judged(name: str, look: Look, asked: frozenset[str] = frozenset()) -> State:
     record, told = look.servers.get(name, {}), look.states.get(name)
     if told is None:
         ended = str(record.get("ended", ""))
-        state = "starts" if ended.startswith(ANEW) else "ended" if ended else "gone"
-        return {"name": name, "state": state, "why": ended or "it says nothing"}
+        state = "starts" if ended.startswith((ANEW, FIRST)) else "ended" if ended else "gone"
+        silent = "it says nothing" if name in look.servers else NEVER
+        return {"name": name, "state": state, "why": ended or silent}
     behind = look.last - number_in(told, "entry")
     found = {"name": name, "state": "there", **told, "behind": max(behind, 0)}
     newest, last = look.newest, look.entries[-1] if look.entries else None
@@ -80,7 +85,7 @@ def judged(name: str, look: Look, asked: frozenset[str] = frozenset()) -> State:
         found["state"] = "behind"
     elif not newest or told.get("base") != newest.checksum[: len(str(told.get("base")))]:
         found |= {"state": "waits", "waits": f"for its turn to go over to {newest}"}
-    elif last and not last.checksum.startswith(str(told.get("chain", "-"))):
+    elif not last or not last.checksum.startswith(str(told.get("chain", "-"))):
         found |= {"state": "waits", "waits": "its last entry is none of this log"}
     elif not told.get("ready"):
         found["state"] = "starts"
@@ -105,11 +110,13 @@ def differing(servers: list[State]) -> dict[int, dict[str, list[str]]]:
 
 def asked_of_all(log: Log, seconds: float) -> tuple[frozenset[str], Look]:
     """Asks each follower whether its server answers; the words of which each has to have heard one, and what stands in etcd
-    as soon as all did, or after that time."""
-    asker, end = Asker(log), time.monotonic() + seconds
+    as soon as all did, or that long behind the first time that they were asked."""
+    asker, end = Asker(log), math.inf
     while True:
         look = log.look()
         has_asked = asker.has_asked(look)
+        # a member that was silent until now took nobody's time
+        end = min(end, time.monotonic() + seconds)
         told = [state for state in look.states.values() if "hangs" not in state]
         all_told = all(state.get("heard") in asker.words for state in told)
         if has_asked and all_told or time.monotonic() >= end:
@@ -125,7 +132,7 @@ def report(log: Log, look: Look, asked: frozenset[str] = frozenset()) -> Report:
         found.base, found.base_entry = newest.checksum, newest.number
     else:
         found.advise(NOT_THERE, "the log has no base: glb-roll TOPOLOGY makes one")
-    names = sorted(look.servers.keys() | look.states.keys())
+    names = sorted(look.servers.keys() | look.states.keys() | log.expected)
     found.servers = [judged(name, look, asked) for name in names]
     found.differ = differing(found.servers)
     for server in found.servers:
@@ -159,7 +166,9 @@ def advise(found: Report) -> None:
 
 def advise_of(server: State, found: Report) -> None:
     name, state = server["name"], server["state"]
-    if state == "gone":
+    if state == "gone" and server["why"] == NEVER:
+        found.advise(GONE, f"{name} is expected, and {NEVER}: start glb-fleet@ on its host")
+    elif state == "gone":
         words = f"nothing is heard of {name}: look at its host, glb-fleet@ and glb-follow@ there;"
         found.advise(GONE, f"{words} glb-fleet --forget {name} if it is no more")
     elif state == "ended":
@@ -221,6 +230,25 @@ def seen(log: Log, seconds: float) -> Report:
 # The command.
 
 
+def add_expected(parser: argparse.ArgumentParser) -> None:
+    parser.add_argument(
+        "--expect",
+        metavar="NAMES",
+        default=os.environ.get("GLB_EXPECT", ""),
+        help="names of servers that there should be, joined by commas: one that etcd has no word of is gone (GLB_EXPECT)",
+    )
+
+
+def log_of(options: argparse.Namespace) -> Log:
+    """The log, for whoever looks at its servers."""
+    log = Log(etcd_of(options), options.prefix)
+    names = [name.strip() for name in options.expect.split(",") if name.strip()]
+    for name in names:
+        check_word(name, "--expect", "/")
+    log.expected = frozenset(names)
+    return log
+
+
 def line_of(server: State) -> str:
     if "entry" not in server:
         return f"{server['name']}: {server['state']}: {server.get('why', 'what it told cannot be read')}"
@@ -253,6 +281,7 @@ statuses hold, the first of 3, 2, 4, 6, 5, 1 and 7 is the command's."""
 def main() -> int:
     words = parser("glb-fleet", ABOUT, STATUSES, json=True)
     add_etcd_options(words)
+    add_expected(words)
     words.add_argument(
         "--wait", type=float, default=3, metavar="N", help="how long followers have to answer (3)"
     )
@@ -260,7 +289,7 @@ def main() -> int:
         "--forget", metavar="NAME", help="takes a server off the list that is no more"
     )
     options = words.parse_args()
-    log = Log(etcd_of(options), options.prefix)
+    log = log_of(options)
     if options.forget:
         return forget(log, options)
     found = seen(log, options.wait)

@@ -25,9 +25,12 @@ SOON = 1.0
 
 def prepare(name: str, log: Log, place: Place, bases: Bases) -> None:
     """Makes what a server begins with: a copy of its base, its pipes, and its identity. Before that nobody says of it any
-    more what was true of the server before it."""
-    silence(name, log)
+    more what was true of the server before it, and it is on the list of those that there should be.
+    """
+    is_reached = silence(name, log)
     checksum = bases.chosen()
+    if is_reached:
+        register(name, log, checksum or "")
     octets = bases.topology(checksum) if checksum else None
     if octets is None:
         newest = log.newest_base()
@@ -43,18 +46,27 @@ def prepare(name: str, log: Log, place: Place, bases: Bases) -> None:
     place.prepare(octets, Identity(checksum, bases.program_checksum(), run, entry, chain))
 
 
-def silence(name: str, log: Log, seconds: float = ALIVE) -> None:
-    """Takes away what was told of the server; where etcd cannot be reached, it is gone after that time by itself."""
+def silence(name: str, log: Log, seconds: float = ALIVE) -> bool:
+    """Takes away what was told of the server, and says whether; where etcd cannot be reached, it is gone after that time by
+    itself."""
     end = time.monotonic() + seconds
     while True:
         try:
             log.etcd.txn([delete(log.at("at", name))])
-            return
+            return True
         except Unreachable as why:
             if time.monotonic() >= end:
-                return
+                return False
             say(str(why))
             time.sleep(SOON)
+
+
+def register(name: str, log: Log, base: str) -> None:
+    """Puts the server on the list. Where etcd takes nothing now, it begins nevertheless, and its follower does so later."""
+    try:
+        log.register(name, base)
+    except Fault as why:
+        say(str(why))
 
 
 def follow(follower: Follower) -> NoReturn:

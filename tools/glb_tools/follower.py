@@ -211,6 +211,8 @@ class Follower:
         row = len(identity.row)
         look = self.log.look(max(identity.entry - row, 1), PAGE + row)
         self.revision = look.revision
+        if self.name not in look.servers:
+            self.register()
         if look.asked and look.asked[0] != self.heard:
             self.see()
             self.heard = look.asked[0]
@@ -518,6 +520,10 @@ class Follower:
         self.begin_anew(look, why, self.due_base(look))
 
     # The list of servers.
+
+    def register(self) -> None:
+        """Puts the server on the list, whatever else keeps it from going on: it may be the first time, or etcd was restored."""
+        self.log.register(self.name, self.identity.base)
 
     def record(self, look: Look, **more: Any) -> None:
         """Keeps for as long as the server is one of the fleet what base it is at, and more. Where etcd was restored and has not

@@ -5,7 +5,7 @@
     PREFIX/file/SHA256            the topology of a base, and PREFIX/names/SHA256 its names, in pieces
     PREFIX/by/ID                  the number that an append got, for an hour: so none is appended twice
     PREFIX/dropped/0000000000000001   which server dropped that batch whole, and why
-    PREFIX/server/NAME            a server that there should be, and the base that it was last at
+    PREFIX/server/NAME            a server that there should be, and the base that it was last at; put ahead of its first start
     PREFIX/at/NAME                how far it is, as long as its follower lives (15 s)
     PREFIX/look                   what glb-fleet asks: each follower tells that it heard it, once its server answered
     PREFIX/turn                   which server begins anew: one at a time (60 s)
@@ -72,8 +72,8 @@ ASKED = 16
 # behind so many keys in a row that were put by hand nobody goes on, and how many keys are read at once where no octets are
 MOST_BY_HAND, KEYS = 100, 4096
 BATCH, BASE, NONE = "batch", "base", "none"
-# what is said of a follower that ended with its server, which begins anew
-ANEW = "begins anew"
+# what is said of a follower that ended with its server, which begins anew; and of a server that nothing was told of yet
+ANEW, FIRST = "begins anew", "begins for the first time"
 # the first line of a base; without a checksum it is one of a release whose logs had no chain
 UP_TO = re.compile(rb"# the numbers up to entry (\d{1,16}) of the log(?:, ([0-9a-f]{64}))?\n")
 NUMBER = re.compile(r"[0-9]{16}")
@@ -292,6 +292,8 @@ class Log:
         self.known: dict[str, Names] = {}
         # under which word servers tell their states
         self.states = "at"
+        # the servers that there should be, as whoever looks knows it
+        self.expected: frozenset[str] = frozenset()
 
     def at(self, *words: str) -> str:
         return "/".join((self.prefix, *words))
@@ -566,6 +568,12 @@ class Log:
 
     def put_server(self, name: str, told: Message) -> None:
         self.etcd.txn([put(self.at("server", name), json.dumps(told))])
+
+    def register(self, name: str, base: str) -> None:
+        """Puts a server on the list that is not there: from now on it is missed where nothing is told of it."""
+        told = {"base": base, "ended": FIRST, "time": int(time.time())}
+        key = self.at("server", name)
+        self.etcd.txn([put(key, json.dumps(told))], [is_at(key, 0)])
 
     def forget(self, name: str) -> None:
         self.etcd.txn([delete(self.at("server", name)), delete(self.at("at", name))])

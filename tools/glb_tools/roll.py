@@ -101,6 +101,10 @@ class Roll:
 
     def has(self, name: str, look: Look) -> bool:
         state = look.states.get(name)
+        if state is None and not look.bases:
+            # it cannot begin ahead of the first base
+            self.say(name, "begins from the base when it starts")
+            return True
         if state is None:
             self.say(name, f"is gone: bring it back, or glb-fleet --forget {name}")
             return False

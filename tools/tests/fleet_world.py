@@ -698,9 +698,11 @@ class World:
         for host in self.hosts:
             host.outside.cut_off = False
         for _ in range(rounds):
-            for _ in range(6):
-                for host in self.hosts:
-                    host.run()
+            for left in range(6, 0, -1):
+                if not any([host.run() for host in self.hosts]):
+                    # until time has gone by they have nothing to do
+                    self.tick(left)
+                    break
                 self.tick(1)
             self.ask()
             for host in self.hosts:

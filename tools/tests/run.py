@@ -11,6 +11,7 @@ tests are also pytest's: `pytest tools`.
 
 import os
 import re
+import signal
 import subprocess
 import sys
 import time
@@ -119,6 +120,8 @@ def said_of(counts: Mapping[str, int]) -> str:
 def main() -> int:
     sys.path.insert(0, str(HERE))
     sys.path.append(str(HERE.parent))
+    # whoever is started in the background ignores it, and so would all that the tests start and interrupt
+    signal.signal(signal.SIGINT, signal.default_int_handler)
     names, began = sys.argv[1:], time.monotonic()
     if "--help" in names:
         print(__doc__)

@@ -5,7 +5,6 @@ import shutil
 import subprocess
 import tempfile
 import unittest
-from concurrent.futures import ThreadPoolExecutor
 from pathlib import Path
 
 from samples import EXAMPLES, TOP, Case
@@ -32,8 +31,8 @@ def others(found):
 class Alerts(Case):
     rules, test = EXAMPLES / "glb-alerts.yml", EXAMPLES / "glb-alerts-test.yml"
 
-    def ends_well(self, rules, test):
-        """Whether the test of the alerts passes with these rules."""
+    def written(self, rules, test):
+        """The path of a test of the alerts, with these rules beside it."""
         folder = Path(tempfile.mkdtemp(dir=self.folder))
         head = (
             ""
@@ -42,11 +41,23 @@ class Alerts(Case):
         )
         (folder / self.rules.name).write_text(head + rules)
         (folder / self.test.name).write_text(test)
-        words = ["promtool", "test", "rules", self.test.name]
-        return subprocess.run(words, cwd=folder, capture_output=True, timeout=60).returncode == 0
+        return str(folder / self.test.name)
+
+    def ends_well(self, tried):
+        """Of each pair of rules and a test, whether the test passes: by one process, which says so of one after another."""
+        paths = [self.written(*pair) for pair in tried]
+        words = ["promtool", "test", "rules", *paths]
+        pipe = {"stdout": subprocess.PIPE, "stderr": subprocess.STDOUT}
+        found = subprocess.run(words, **pipe, text=True, timeout=100)
+        said = re.findall(r"(?m)^Unit Testing:  (.*)\n  (SUCCESS|FAILED):?$", found.stdout)
+        self.assertEqual([path for path, _ in said], paths, found.stdout)
+        well = [word == "SUCCESS" for _, word in said]
+        self.assertEqual(found.returncode == 0, all(well))
+        return well
 
     def test_they_fire(self):
-        self.assertTrue(self.ends_well(self.rules.read_text(), self.test.read_text()))
+        both = self.rules.read_text(), self.test.read_text()
+        self.assertEqual(self.ends_well([both]), [True])
 
     def test_each_changed_number_is_noticed(self):
         _, *rules = re.split(r"(?m)^(?=      - alert: )", self.rules.read_text())
@@ -64,9 +75,8 @@ class Alerts(Case):
                     changed = rule[:begin] + digits + rule[end:]
                     tried[f"{name}, {found[0].strip()}, by {digits}"] = changed, own
         self.assertGreater(len(tried), 3 * len(rules))
-        with ThreadPoolExecutor(4) as pool:
-            passed = pool.map(self.ends_well, *zip(*tried.values()))
-            well = [name for name, passes in zip(tried, passed) if passes]
+        passed = self.ends_well(tried.values())
+        well = [name for name, passes in zip(tried, passed) if passes]
         self.assertEqual(well, [name for name in tried if "," not in name])
 
     def test_none_by_absent(self):

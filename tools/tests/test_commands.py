@@ -11,6 +11,7 @@ import unittest
 from concurrent.futures import ThreadPoolExecutor
 from pathlib import Path
 
+from forked import forked
 from samples import EXAMPLES, SMALL, SMALL_MAP, TOOLS, Case, command
 
 # the commands of this package: those that run a module of it
@@ -31,17 +32,17 @@ WRITERS = {
 }
 # the modules that a command needs beside Python's own
 NEEDS = {
-    "glb-exporter": "prometheus_client",
-    "glb-page": "waitress",
-    "glb-topology": "numpy",
-    "glb-watch": "requests",
-    "metrics.py": "prometheus_client",
+    "glb-exporter": ["prometheus_client"],
+    "glb-page": ["waitress", "flask", "dns"],
+    "glb-topology": ["numpy"],
+    "glb-watch": ["requests"],
+    "metrics.py": ["prometheus_client"],
 }
 
 
 def is_there(name):
     """Whether what a command needs is installed."""
-    return name not in NEEDS or importlib.util.find_spec(NEEDS[name]) is not None
+    return all(importlib.util.find_spec(module) for module in NEEDS.get(name, []))
 
 
 THERE = [name for name in COMMANDS if is_there(name)]
@@ -53,13 +54,28 @@ def at_once(run, names):
         return zip(names, pool.map(run, names))
 
 
+# what each command is started with, and where its output goes
+CASES = {
+    "help": (["--help"], None),
+    "version": (["--version"], None),
+    "wrong words": (["--no-such-word"], None),
+    "help to a full disk": (["--help"], "/dev/full"),
+    "version to a full disk": (["--version"], "/dev/full"),
+}
+
+
 class Commands(Case):
+    @classmethod
+    def setUpClass(cls):
+        run = lambda name: list(forked(TOOLS / name, list(CASES.values())))  # noqa: E731
+        cls.ended = {name: dict(zip(CASES, found)) for name, found in at_once(run, THERE)}
+
     def test_none_is_left_out(self):
         for name in COMMANDS:
             with self.subTest(name):
                 if not is_there(name):
                     self.skipTest(
-                        f"{name} needs the module {NEEDS[name]}: none of its cases is tried"
+                        f"{name} needs {', '.join(NEEDS[name])}: none of its cases is tried"
                     )
 
     def setUp(self):
@@ -83,28 +99,30 @@ class Commands(Case):
         self.assertLessEqual(set(WRITERS), set(COMMANDS))
 
     def test_help(self):
-        for name, found in at_once(lambda name: command(name, "--help"), THERE):
+        for name, ended in self.ended.items():
+            found = ended["help"]
             with self.subTest(name):
                 self.assertEqual((found.returncode, found.stderr), (0, b""))
                 for status in (0, 1, 64, 130):
                     self.assertRegex(found.stdout.decode(), rf"(?m)^  {status} ")
 
     def test_version(self):
-        for name, found in at_once(lambda name: command(name, "--version"), THERE):
+        for name, found in self.ended.items():
             with self.subTest(name):
-                self.assertRegex(found.stdout.decode(), r"^[a-z.-]+ \d+\.\d+\n$")
+                self.assertRegex(found["version"].stdout.decode(), r"^[a-z.-]+ \d+\.\d+\n$")
+                self.assertEqual(found["version"].returncode, 0)
 
     def test_wrong_words(self):
-        for name, found in at_once(lambda name: command(name, "--no-such-word"), THERE):
+        for name, found in self.ended.items():
             with self.subTest(name):
-                self.one_line(found, name, 64)
+                self.one_line(found["wrong words"], name, 64)
 
     def test_full_disk(self):
+        for name, found in self.ended.items():
+            for case in ("help to a full disk", "version to a full disk"):
+                with self.subTest(f"{name}: {case}"):
+                    self.one_line(found[case], name, 1)
         with open("/dev/full", "wb") as full:
-            for word in ("--help", "--version"):
-                for name, found in at_once(lambda name: command(name, word, stdout=full), THERE):
-                    with self.subTest(f"{name} {word}"):
-                        self.one_line(found, name, 1)
             run = lambda name: command(name, *self.words(name), stdout=full)  # noqa: E731
             for name, found in at_once(run, WRITERS):
                 with self.subTest(name):
@@ -132,13 +150,15 @@ class Commands(Case):
                 self.one_line(found, name, 1)
 
     def test_unreadable(self):
-        for path in ("/", "/nowhere/at/all", "/proc/self/mem"):
+        paths = "/", "/nowhere/at/all", "/proc/self/mem"
 
-            def run(name):
-                words = [path if Path(word).is_file() else word for word in self.words(name)]
-                return command(name, *words)
+        def run(name):
+            words = self.words(name)
+            each = [[path if Path(word).is_file() else word for word in words] for path in paths]
+            return list(forked(TOOLS / name, [(words, None) for words in each]))
 
-            for name, found in at_once(run, WRITERS):
+        for name, ended in at_once(run, WRITERS):
+            for path, found in zip(paths, ended):
                 with self.subTest(f"{name} {path}"):
                     self.one_line(found, name, 1)
 

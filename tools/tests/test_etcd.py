@@ -2,7 +2,9 @@
 
 import argparse
 import contextlib
+import itertools
 import json
+import re
 import shutil
 import socket
 import ssl
@@ -15,7 +17,7 @@ from http.server import BaseHTTPRequestHandler, ThreadingHTTPServer
 from pathlib import Path
 from unittest import mock
 
-from glb_tools import etcd, fleet
+from glb_tools import bounded, etcd, fleet
 from glb_tools.etcd import Etcd, Full, NoLease, Unreachable, etcd_of, one
 from glb_tools.options import WRONG_WORDS, Fault
 
@@ -59,6 +61,36 @@ def silent():
     """A member that takes connections and says nothing."""
     with socket.create_server(("127.0.0.1", 0)) as listener:
         yield f"http://127.0.0.1:{listener.getsockname()[1]}"
+
+
+@contextlib.contextmanager
+def dripping(octets, whole=0, every=0.05, reads=True):
+    """A member that says the first octets of an answer at once, and of the others one after a while."""
+    over = threading.Event()
+
+    def drip(sock):
+        with sock, contextlib.suppress(OSError):
+            if reads:
+                sock.recv(1 << 16)
+            sock.sendall(octets[:whole])
+            for octet in octets[whole:]:
+                if over.wait(every):
+                    return
+                sock.sendall(bytes([octet]))
+            over.wait(10)
+
+    def take():
+        with contextlib.suppress(OSError):
+            while True:
+                threading.Thread(target=drip, args=(listener.accept()[0],), daemon=True).start()
+
+    with socket.create_server(("127.0.0.1", 0)) as listener:
+        threading.Thread(target=take, daemon=True).start()
+        try:
+            yield f"http://127.0.0.1:{listener.getsockname()[1]}"
+        finally:
+            over.set()
+            listener.shutdown(socket.SHUT_RDWR)
 
 
 def refused(code, words):
@@ -129,6 +161,172 @@ class Members(unittest.TestCase):
             "os.environ", {"http_proxy": "http://127.0.0.1:1"}
         ):
             self.assertTrue(Etcd([address]).txn([one("a")]).held)
+
+
+def answer_of(body, status=b"200 OK", length=None):
+    head = b"HTTP/1.1 %s\r\nContent-Length: %d\r\n\r\n" % (status, length or len(body))
+    return head, body
+
+
+class Dripping(unittest.TestCase):
+    """Members whose answers come octet by octet: the time of a whole call is bounded."""
+
+    def setUp(self):
+        # each octet comes far sooner than that, and all of them far later
+        self.bounds = itertools.repeat(0.4)
+        self.enterContext(mock.patch.object(etcd, "Bound", self.bound))
+        self.began = time.monotonic()
+
+    def bound(self, seconds):
+        """In the place of three seconds."""
+        self.assertEqual(seconds, 3)
+        return bounded.Bound(next(self.bounds))
+
+    def took(self):
+        return time.monotonic() - self.began
+
+    def passed_over(self, address):
+        # one that answers has time enough on a busy machine
+        self.bounds = iter([0.4, 9])
+        with member(told=EMPTY) as (answers, _):
+            found = Etcd([address, answers])
+            self.assertEqual(found.txn([one("a")]).revision, 7)
+            self.assertEqual(found.silent, {address: "timed out"})
+            self.assertEqual(found.members, [answers, address])
+        self.assertGreater(self.took(), 0.3)
+        self.assertLess(self.took(), 3)
+
+    def test_the_head(self):
+        with dripping(b"HTTP/1.1 200 OK\r\n" + b"X-More: and more\r\n" * 90) as address:
+            self.passed_over(address)
+
+    def test_the_answer(self):
+        head, body = answer_of(json.dumps(EMPTY).encode().ljust(400))
+        with dripping(head + body, len(head)) as address:
+            self.passed_over(address)
+
+    def test_a_refusal(self):
+        head, body = answer_of(b" " * 400, b"503 Not now")
+        self.bounds = iter([0.4, 9])
+        with dripping(head + body, len(head)) as address:
+            with member(told=EMPTY) as (answers, _):
+                self.assertTrue(Etcd([address, answers]).txn([one("a")]).held)
+        self.assertLess(self.took(), 3)
+
+    def test_a_handshake(self):
+        # the head of a record of TLS, and then its octets
+        with dripping(b"\x16\x03\x03\x3f\xff\x02\x00\x3f\xfb" + bytes(400)) as address:
+            with self.assertRaisesRegex(Unreachable, "timed out"):
+                Etcd([address.replace("http:", "https:")]).txn([one("a")])
+        self.assertLess(self.took(), 3)
+
+    def test_one_that_takes_no_octets(self):
+        with dripping(bytes(400), reads=False) as address:
+            with self.assertRaisesRegex(Unreachable, "timed out"):
+                Etcd([address]).txn([etcd.put("a", bytes(20 << 20))])
+        self.assertLess(self.took(), 9)
+
+    def test_a_password(self):
+        head, body = answer_of(b" " * 400)
+        with dripping(head + body, len(head)) as address:
+            found = Etcd([address])
+            found.login = {"name": "ops", "password": "secret"}
+            with self.assertRaises(Unreachable):
+                found.txn([one("a")])
+            self.assertIsNone(found.answers(address))
+        self.assertLess(self.took(), 3)
+
+    def test_news(self):
+        """A watch whose news drip is one without news, for as long as it is waited for."""
+        head, body = answer_of(b'{"result":{"created":true}}\n' + b" " * 400)
+        with dripping(head + body, len(head) + body.index(b"\n") + 1) as address:
+            Etcd([address]).wait("a", "b", 1, 0.6)
+        self.assertGreater(self.took(), 0.5)
+        self.assertLess(self.took(), 3)
+
+    def test_what_looks_at_each_member(self):
+        head, body = answer_of(b" " * 400)
+        with dripping(head + body, len(head)) as address:
+            self.assertIsNone(Etcd([address]).answers(address))
+            self.assertLess(self.took(), 3)
+            self.began = time.monotonic()
+            with mock.patch.object(etcd, "DEFRAGMENT", 3), mock.patch.multiple(
+                Etcd,
+                txn=lambda *words: etcd.Answer(True, [], 7),
+                call=lambda *words: {},
+            ):
+                self.assertEqual(Etcd([address]).make_room(), (7, [address]))
+        self.assertLess(self.took(), 3)
+
+    def test_a_name_that_nobody_looks_up(self):
+        over = threading.Event()
+        self.addCleanup(over.set)
+
+        def look_up(host, port, **more):
+            if more.get("flags"):
+                raise socket.gaierror("no number")
+            over.wait(10)
+
+        with mock.patch.object(socket, "getaddrinfo", look_up):
+            with self.assertRaisesRegex(Unreachable, "not looked up in time"):
+                Etcd(["http://etcd.example:2379"]).txn([one("a")])
+        self.assertLess(self.took(), 3)
+
+    def test_a_host_whose_first_address_hangs(self):
+        """Each of its addresses has a share of the time."""
+        self.bounds = iter([2])
+        with member(told=EMPTY) as (address, _):
+            port = int(address.rsplit(":", 1)[1])
+            found = [
+                (socket.AF_INET, socket.SOCK_STREAM, 6, "", (host, port))
+                for host in ("127.0.0.2", "127.0.0.1")
+            ]
+            connect = socket.socket.connect
+
+            def connected(sock, at):
+                if at[0] == "127.0.0.2":
+                    time.sleep(sock.gettimeout())
+                    raise TimeoutError("timed out")
+                connect(sock, at)
+
+            with mock.patch.object(socket, "getaddrinfo", lambda *words, **more: found):
+                with mock.patch.object(socket.socket, "connect", connected):
+                    self.assertTrue(Etcd([f"http://etcd.example:{port}"]).txn([one("a")]).held)
+
+    def test_a_large_answer_has_longer(self):
+        """A page of entries over a slow way is no drip."""
+        body = json.dumps(EMPTY).encode().ljust(1 << 20)
+        with member(octets=body) as (address, _), mock.patch.object(bounded, "RATE", 1 << 14):
+            read = bounded.Reader.readinto
+
+            def slow(reader, buffer):
+                time.sleep(0.005)
+                return read(reader, memoryview(buffer)[:4096])
+
+            with mock.patch.object(bounded.Reader, "readinto", slow):
+                self.assertTrue(Etcd([address]).txn([one("a")]).held)
+        self.assertGreater(self.took(), 1)
+
+    def test_an_answer_without_end(self):
+        self.bounds = iter([9])
+        with member(octets=bytes(1 << 20)) as (address, _):
+            with mock.patch.object(bounded, "MOST", 1 << 18):
+                with self.assertRaisesRegex(Unreachable, "does not end"):
+                    Etcd([address]).txn([one("a")])
+
+
+class Outside(unittest.TestCase):
+    def test_all_that_speak_to_etcd_do_so_bounded(self):
+        """No other module than these opens connections to members."""
+        opens = re.compile(
+            r"urllib\.request|http\.client import HTTPS?Connection|create_connection"
+        )
+        found = {
+            path.name
+            for path in Path(etcd.__file__).parent.rglob("*.py")
+            if opens.search(path.read_text())
+        }
+        self.assertEqual(found, {"bounded.py"})
 
 
 class Certificates(unittest.TestCase):

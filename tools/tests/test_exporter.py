@@ -12,6 +12,7 @@ import time
 import unittest
 import urllib.request
 from types import SimpleNamespace
+from unittest import mock
 
 from samples import EXAMPLES, SMALL, TOOLS, TOP, Case, command
 
@@ -21,9 +22,10 @@ if importlib.util.find_spec("prometheus_client") is None:
 from prometheus_client import CollectorRegistry, generate_latest
 from prometheus_client.parser import text_string_to_metric_families
 
+from fleet_world import World
 from glb_tools import exporter
 from glb_tools.etcd import Etcd
-from glb_tools.fleet import Report
+from glb_tools.fleet import GONE, Report
 from glb_tools.loads import Loads
 from glb_tools.log import Log, Names, Signed, checksum_of
 from glb_tools.options import Fault
@@ -207,6 +209,19 @@ class Fleets(unittest.TestCase):
         self.assertEqual(
             self.fleet(None), {("glb_log_up",): 0, ("glb_looked_timestamp_seconds",): 1000}
         )
+
+    def test_one_that_is_expected(self):
+        """It has a series, so that the alert of one that is gone tells of it, though etcd has no word of it."""
+        world = World(1)
+        world.settle()
+        world.log.expected, world.log.etcd.members = frozenset(["h0", "h7"]), []
+        fleet = exporter.Fleet(world.log, 5)
+        with mock.patch.object(Etcd, "alarms", lambda self: []):
+            fleet.look()
+        found = served(fleet)
+        self.assertEqual((found["glb_server_up", "h0"], found["glb_server_up", "h7"]), (1, 0))
+        self.assertEqual(found["glb_server_state", "h7", "gone"], 1)
+        self.assertEqual((found["glb_servers",], found["glb_fleet_status",]), (2, GONE))
 
     def test_outvoted(self):
         found = Report()

@@ -152,7 +152,7 @@ class Random(unittest.TestCase):
 
     def test_many_things_at_random(self):
         there = sum(explore(seed, 1 + seed % 3, 40) for seed in range(60))
-        self.assertGreater(there, 500)
+        self.assertGreater(there, 400)
 
 
 # What an operator does, or what befalls a fleet of two that is there, a word each.
@@ -176,21 +176,23 @@ UNSEEN = [
 
 
 def scenario(names, number, at, fault):
-    """A scenario, with one fault at one call of one host to the outside; whether that call came."""
+    """A scenario, with one fault at one call of one host to the outside; by how many calls each of its steps has ended."""
     world = World(2)
     world.settle()
     every = operations() | mishaps(0) | mishaps(1)
-    calls = 0
+    calls, ends = 0, []
     for name in names + [""] * 4:
         if name:
             every[name](world)
         for host in world.hosts:
-            planned = host.name == f"h{number}" and calls < at
-            host.run(at - calls if planned else 0, fault)
-            calls += host.outside.count if planned else 0
+            planned = host.name == f"h{number}"
+            host.run(at - calls if planned and calls < at else 0, fault)
+            if planned:
+                calls += host.outside.count
+                ends.append(calls)
             world.check()
     world.check_end(world.settle())
-    return calls >= at
+    return ends
 
 
 class EachCall(unittest.TestCase):
@@ -199,11 +201,14 @@ class EachCall(unittest.TestCase):
     def test_each_fault_at_each_call(self):
         reached = 0
         for names in SCENARIOS:
+            ends = [scenario(names, number, 0, None) for number in (0, 1)]
             for fault in (CRASH_BEFORE, CRASH_AFTER, LOST_AFTER):
-                at = 1
-                while scenario(names, at % 2, at, fault):
-                    at, reached = at + 1, reached + 1
-        self.assertGreater(reached, 300)
+                for at in range(1, 1 + min(ends[0][-1], ends[1][-1])):
+                    # behind a call is ahead of the next one, but for the last one of a step
+                    if fault != CRASH_AFTER or at in ends[at % 2]:
+                        scenario(names, at % 2, at, fault)
+                        reached += 1
+        self.assertGreater(reached, 250)
 
 
 class Unseen(unittest.TestCase):
@@ -291,10 +296,17 @@ class Short(unittest.TestCase):
     NAMES = ["append A B", "roll A B late", "go back", "save", "restore", "kill server 0"]
     NAMES += ["cut"]
 
+    # what does nothing where the other one did not come before it, as `save` does without a `restore` behind it
+    BEHIND = {"restore": "save", "go back": "roll A B late"}
+
     def test_each_sequence(self):
+        done = 0
         for names in itertools.product(self.NAMES, repeat=3):
-            with self.subTest(names):
-                self.one(names)
+            if all(self.BEHIND.get(name, name) in names[: at + 1] for at, name in enumerate(names)):
+                done += 1
+                with self.subTest(names):
+                    self.one(names)
+        self.assertGreater(done, 150)
 
     def one(self, names):
         world, every = World(2), operations() | mishaps(0) | mishaps(1)
@@ -369,7 +381,12 @@ PLANTED = {
 
 
 # from which seed on a run shows a fault that few runs do
-FIRST = {"the chain is not looked at": 75, "what was told of the server before stays": 165}
+FIRST = {
+    "the chain is not looked at": 75,
+    "what was told of the server before stays": 165,
+    "others are not asked again": 25,
+    "maps are not compared": 180,
+}
 
 
 class Planted(unittest.TestCase):

@@ -2,6 +2,7 @@
 
 import errno
 import io
+import itertools
 import json
 import time
 import unittest
@@ -269,6 +270,21 @@ class Asked(unittest.TestCase):
 
     def test_they_do_not_hinder_each_other(self):
         asked, look = asked_of_all(self.amid(self.others), 1)
+        states = [fleet.judged(name, look, asked)["state"] for name in look.states]
+        self.assertEqual(states, ["there", "there"])
+
+    def test_a_member_that_is_silent_is_nobodys_fault(self):
+        """The first look takes as long as followers have to answer: they have that long behind it."""
+        looks = itertools.count()
+
+        def slow():
+            if next(looks):
+                for host in self.world.hosts:
+                    host.run()
+            else:
+                time.sleep(0.4)
+
+        asked, look = asked_of_all(self.amid(slow), 0.3)
         states = [fleet.judged(name, look, asked)["state"] for name in look.states]
         self.assertEqual(states, ["there", "there"])
 

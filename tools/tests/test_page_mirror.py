@@ -18,6 +18,7 @@ from glb_tools.drains import Drain
 from glb_tools.etcd import Etcd
 from glb_tools.fleet import Report
 from glb_tools.log import BASE, BATCH, NONE
+from glb_tools.log import Log as FleetLog
 from glb_tools.options import Fault
 from glb_tools.page import counters, mirror, sources
 from glb_tools.page.mirror import Busy, FileMirror, FleetMirror
@@ -233,7 +234,7 @@ class Sources(Case):
         silent = socket.create_server(("127.0.0.1", 0))
         self.addCleanup(silent.close)
         members = Etcd([f"http://127.0.0.1:{silent.getsockname()[1]}"])
-        found = FleetSource(0.01, members, "glb", [])
+        found = FleetSource(0.01, FleetLog(members, "glb"), [])
         found.sight.time = 77.0
         with mock.patch.object(etcd, "PATIENCE", 0.05), mock.patch.object(sources, "tell"):
             thread = threading.Thread(target=found.run)
@@ -252,7 +253,7 @@ class Sources(Case):
                 calls.append((path, message))
                 raise Fault("looked at")
 
-        found = FleetSource(0.01, Members(["http://127.0.0.1:1"]), "glb", [])
+        found = FleetSource(0.01, FleetLog(Members(["http://127.0.0.1:1"]), "glb"), [])
         self.assertRaises(Fault, found.look)
         self.assertTrue(calls)
         for path, message in calls:

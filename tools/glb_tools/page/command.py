@@ -22,6 +22,7 @@ from typing import NoReturn
 import waitress
 
 from glb_tools.etcd import add_etcd_options, etcd_of
+from glb_tools.fleet import add_expected, log_of
 from glb_tools.log import Log
 from glb_tools.options import WRONG_WORDS, Fault, parser
 from glb_tools.page.counters import endpoint, rule_packets, unit_packets
@@ -92,6 +93,7 @@ def options_of() -> argparse.Namespace:
         "--every", metavar="SECONDS", type=float, default=2, help="how often it looks (2)"
     )
     add_etcd_options(words)
+    add_expected(words)
     options = words.parse_args()
     if not 0.1 <= options.every <= 3600:
         words.error("--every is 0.1 to 3600")
@@ -208,7 +210,7 @@ def page_of(options: argparse.Namespace, access: Access) -> Page:
     else:
         mirror = FleetMirror(options.glb, options.every, Log(etcd_of(options), options.prefix))
         locals = locals_of(options, "")
-        source = FleetSource(options.every, etcd_of(options), options.prefix, locals)
+        source = FleetSource(options.every, log_of(options), locals)
         title = f"fleet {options.prefix}"
     rings, dry_runs = Rings(), DryRuns(options.glb)
     page = Page(title, source, mirror, rings, dry_runs, access)

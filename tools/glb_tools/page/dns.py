@@ -20,7 +20,8 @@ def query(name: str, kind: str) -> bytes:
     message = dns.message.make_query(name, kind)
     # the reply repeats it
     message.id = 0x1234
-    return message.to_wire()
+    octets: bytes = message.to_wire()
+    return octets
 
 
 def reply_shown(octets: bytes | None) -> Shown:

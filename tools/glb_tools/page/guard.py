@@ -43,7 +43,7 @@ class Access:
             raise Denied(401, "a token is needed", ask)
         if not self.user_header:
             return ""
-        user = request.headers.get(self.user_header, "")
+        user: str = request.headers.get(self.user_header, "")
         if not user or len(user) > 200 or not user.isprintable():
             raise Denied(403, f"no user: the proxy in front has to say {self.user_header}")
         return user

@@ -307,29 +307,29 @@ def app_of(page: Page) -> flask.Flask:
     for path, view in paths:
         app.add_url_rule(path, view.__name__, view, provide_automatic_options=False)
 
-    @app.before_request
     def passes() -> None:
         guard.check(flask.request, page.access)
 
-    @app.errorhandler(Denied)
     def denied(why: Denied) -> AnyResponse:
         return views.denied(why)
 
-    @app.errorhandler(HTTPException)
     def refused(why: HTTPException) -> AnyResponse:
         status = why.code or 500
         headers = {"Allow": "GET, HEAD"} if status == 405 else {}
         words = "there is no such page" if status == 404 else str(why.name)
         return views.denied(Denied(status, words, headers))
 
-    @app.errorhandler(Exception)
     def failed(why: Exception) -> AnyResponse:
         tell(why)
         return views.denied(Denied(500, "a fault of the page: its journal says which"))
 
-    @app.after_request
     def shielded(response: flask.Response) -> flask.Response:
         response.headers.update(guard.HEADERS)
         return response
 
+    app.before_request(passes)
+    app.errorhandler(Denied)(denied)
+    app.errorhandler(HTTPException)(refused)
+    app.errorhandler(Exception)(failed)
+    app.after_request(shielded)
     return app

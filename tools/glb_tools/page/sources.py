@@ -12,7 +12,6 @@ from typing import Any
 
 from glb_tools import drains
 from glb_tools.drains import Drain
-from glb_tools.etcd import Etcd
 from glb_tools.fleet import Report, look_at_members, number_in, report
 from glb_tools.log import Log, maps_of, spot_of
 from glb_tools.options import tell
@@ -141,9 +140,9 @@ class FleetSource(Source):
 
     kind = "fleet"
 
-    def __init__(self, every: float, etcd: Etcd, prefix: str, locals: "list[Local]") -> None:
+    def __init__(self, every: float, log: Log, locals: "list[Local]") -> None:
         super().__init__(every)
-        self.log = Log(etcd, prefix)
+        self.log = log
         self.locals = {local.name: local for local in locals}
         self.looks, self.members = 0, Report()
 
