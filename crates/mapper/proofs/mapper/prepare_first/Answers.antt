@@ -1,7 +1,9 @@
-use Rattle.std.proofs.Common.{◌≡◌, List, rules, subst, sym}
+use Rattle.std.proofs.Common.{◌≡◌, ◌∙◌, List, ap, rules, subst, sym}
 use Rattle.map_model.specs.declared.lines.MapLine.{MapLine}
 use Rattle.map_model.specs.Progress.{IsGroupBest}
-use Rattle.published_map.specs.Version.{IsVersion}
+use Rattle.topology_text.specs.Plan.{Plan}
+use Rattle.published_map.specs.Version.{IsVersion, Version}
+use Rattle.mapper.specs.Currents.{IsCurrent, version_of}
 use Rattle.mapper.proofs.Opened.{first_is}
 use Rattle.mapper.proofs.mapper.prepare_first.Goals as goal
 
@@ -11,3 +13,9 @@ returns-in-Ok-make-clause-first g =
     let plan : g.in-Ok-make.version.plan ≡ g.args.topology = search rules in
     let lines : g.in-Ok-make.version.lines ≡ g.args.first.current.map.lines.items = search rules in
     first_is g.args.topology g.in-Ok-make.version version plan (subst (λ (ls : List MapLine). IsGroupBest g.args.topology.market ls) (sym lines) g.requires.best)
+
+pub returns-in-Ok-make-clause-current : goal.returns-in-Ok-make-clause-current
+returns-in-Ok-make-clause-current g =
+    let current = g.args.first.current in
+    let version : g.in-Ok-make.version ≡ version_of 0 g.args.topology current = g.in-Ok-make.ensures.value ∙ ap (λ (t : Plan). version_of 0 t current) g.in-Ok.ensures.plan.1 in
+    subst (λ (v : Version). IsCurrent v current) (sym version) (g.requires.current 0)
