@@ -1,7 +1,7 @@
 #!/usr/bin/env python3
 """Writes a topology and a good map of it, for benchmarks.
 
-    generate.py [--limits] [--classes N] GROUPS POOLS LEVELS PERCENT TOPOLOGY [MAP]
+    generate.py [--limits] [--classes N] [--long] GROUPS POOLS LEVELS PERCENT TOPOLOGY [MAP]
 
 GROUPS groups each rank sixteen of POOLS pools. With LEVELS 1 every pool is a
 root; with more, each node of a level has two children on the level below, and
@@ -9,6 +9,8 @@ the pools are the lowest level. The pools together hold PERCENT of the demand.
 With --limits every third group has limits, each from 1 to its demand, and every
 third class. With --classes there are two services, and N classes, one of each
 service for the first groups: what they ask for comes on top of the PERCENT.
+With --long each name has 32 letters, and each prefix is a long one of IPv6: with
+65,536 groups and 4,080 pools on 8 levels the file is near the end of all limits (65 MB).
 The map is computed here by deferred acceptance with a heap for each node, apart
 from glb's own code, so that `glb check` has something to judge. The same
 arguments give the same files.
@@ -49,11 +51,18 @@ def make_nodes(pools, levels):
     return parents, first
 
 
-def prefixes_of(group, count):
-    """The prefixes of a group: both defaults for the first, and /32s for the rest."""
+def long_name(name):
+    """The name with 32 letters, of which the last ones differ from name to name."""
+    return name[0] + name[1:].rjust(31, "0")
+
+
+def prefixes_of(group, count, is_long):
+    """The prefixes of a group: both defaults for the first, and /32s or /128s for the rest."""
     if group == 0:
         return ["0.0.0.0/0", "::/0"]
     first = group * count
+    if is_long:
+        return ["2001:db8:a1b2::%x:%x/128" % (0x1000 + (n >> 12), 0x1000 + (n & 4095)) for n in range(first, first + count)]
     return [
         "%d.%d.%d.%d/32" % (100 + (n >> 24), n >> 16 & 255, n >> 8 & 255, n & 255)
         for n in range(first, first + count)
@@ -61,8 +70,9 @@ def prefixes_of(group, count):
 
 
 class World:
-    def __init__(self, groups, pools, levels, percent, has_limits, classes):
+    def __init__(self, groups, pools, levels, percent, has_limits, classes, is_long):
         draw = random.Random(20151)
+        self.is_long = is_long
         self.parents, self.first_pool = make_nodes(pools, levels)
         nodes = len(self.parents)
         self.paths = []
@@ -94,12 +104,18 @@ class World:
         # units: the groups, and behind them the classes
         self.groups = groups
         self.names = ["g%d" % g for g in range(groups)] + ["c%d" % c for c in range(classes)]
+        if is_long:
+            self.names = [long_name(name) for name in self.names]
         for c in range(classes):
             pools_of = [self.first_pool + p for p in draw.sample(range(pools), min(LIST, pools))]
             self.demand.append(draw.randint(50, 150))
             self.lists.append(pools_of)
             self.scores.append([draw.randrange(1 << 32) for _ in pools_of])
             self.limits.append([draw.randint(1, self.demand[-1]) for _ in pools_of] if has_limits and c % 3 == 0 else None)
+
+    def node(self, number):
+        name = "n%d" % number
+        return long_name(name) if self.is_long else name
 
     def limit(self, group, place):
         limits = self.limits[group]
@@ -171,9 +187,9 @@ class World:
         with open(path, "w") as out:
             out.write(ZONE % ", ".join('"%s"' % service for service in services))
             for n, parent in enumerate(self.parents):
-                out.write('[[node]]\nname = "n%d"\ncapacity = %d\n' % (n, self.capacity[n]))
+                out.write('[[node]]\nname = "%s"\ncapacity = %d\n' % (self.node(n), self.capacity[n]))
                 if parent is not None:
-                    out.write('parent = "n%d"\n' % parent)
+                    out.write('parent = "%s"\n' % self.node(parent))
                 if n >= self.first_pool:
                     out.write('pool = true\na = ["192.0.2.%d"]\n' % (n % 256))
             for unit in range(len(self.names)):
@@ -184,14 +200,14 @@ class World:
         out.write('name = "%s"\n' % self.names[unit])
         if unit >= self.groups:
             number = unit - self.groups
-            out.write('group = "g%d"\nservice = "%s"\n' % (number // 2, SERVICES[number % 2]))
+            out.write('group = "%s"\nservice = "%s"\n' % (self.names[number // 2], SERVICES[number % 2]))
         out.write("demand = %d\n" % self.demand[unit])
-        out.write("pools = [%s]\n" % ", ".join('"n%d"' % p for p in self.lists[unit]))
+        out.write("pools = [%s]\n" % ", ".join('"%s"' % self.node(p) for p in self.lists[unit]))
         out.write("scores = [%s]\n" % ", ".join(str(s) for s in self.scores[unit]))
         if self.limits[unit] is not None:
             out.write("limits = [%s]\n" % ", ".join(str(s) for s in self.limits[unit]))
         if unit < self.groups:
-            out.write("prefixes = [%s]\n" % ", ".join('"%s"' % p for p in prefixes_of(unit, count)))
+            out.write("prefixes = [%s]\n" % ", ".join('"%s"' % p for p in prefixes_of(unit, count, self.is_long)))
 
     def write_map(self, path):
         full = [self.load[n] == self.capacity[n] for n in range(len(self.parents))]
@@ -201,7 +217,7 @@ class World:
             for g, amounts in enumerate(self.amount):
                 for k, amount in enumerate(amounts):
                     if amount:
-                        out.write("place %s n%d %d\n" % (self.names[g], self.lists[g][k], amount))
+                        out.write("place %s %s %d\n" % (self.names[g], self.node(self.lists[g][k]), amount))
             for g, amounts in enumerate(self.amount):
                 placed = 0
                 for k, amount in enumerate(amounts):
@@ -210,12 +226,12 @@ class World:
                         break
                     pool = self.lists[g][k]
                     if amount == self.limit(g, k):
-                        out.write("limit %s n%d\n" % (self.names[g], pool))
+                        out.write("limit %s %s\n" % (self.names[g], self.node(pool)))
                         continue
                     key = (self.scores[g][k], g, pool)
                     for n in self.paths[pool]:
                         if full[n] and (worst[n] is None or worst[n] <= key):
-                            out.write("full %s n%d n%d\n" % (self.names[g], pool, n))
+                            out.write("full %s %s %s\n" % (self.names[g], self.node(pool), self.node(n)))
                             break
                     else:
                         sys.exit("no node refuses %s at place %d" % (self.names[g], k))
@@ -226,12 +242,15 @@ def main():
     parser = argparse.ArgumentParser()
     parser.add_argument("--limits", action="store_true")
     parser.add_argument("--classes", type=int, default=0)
+    parser.add_argument("--long", action="store_true")
     for word in ("groups", "pools", "levels", "percent"):
         parser.add_argument(word, type=int)
     parser.add_argument("topology")
     parser.add_argument("map", nargs="?")
     options = parser.parse_args()
-    world = World(options.groups, options.pools, options.levels, options.percent, options.limits, options.classes)
+    world = World(
+        options.groups, options.pools, options.levels, options.percent, options.limits, options.classes, options.long
+    )
     world.write_topology(options.topology)
     if options.map is None:
         return

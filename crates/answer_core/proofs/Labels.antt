@@ -42,7 +42,7 @@ same_length [] (y ∷ ys) h = absurd cc
 same_length (x ∷ xs) [] h = absurd cc
 same_length (x ∷ xs) (y ∷ ys) h = ap suc (same_length xs ys (and_parts (eqb (to_ascii_lowercase x) (to_ascii_lowercase y)) (is_same xs ys) h).1)
 
-other_length : (xs ys : List ℕ) → (length xs ≡ length ys → ⊥) → is_same xs ys ≡ false
+pub other_length : (xs ys : List ℕ) → (length xs ≡ length ys → ⊥) → is_same xs ys ≡ false
 other_length xs ys other = false_from_ne_true (is_same xs ys) (λ h. other (same_length xs ys h))
 
 -- where both end with the apex, what stands before it decides

@@ -1,6 +1,8 @@
 pub mod Clients
 pub mod Laid
 pub mod Labels
+pub mod Compared
+pub mod Words
 pub mod Records
 pub mod Bound
 pub mod Silence

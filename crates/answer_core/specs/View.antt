@@ -10,7 +10,7 @@ use Rattle.answer_core.specs.Grammar as grammar
 use Rattle.answer_core.specs.Outcome as meaning
 
 abbrev pub request_view : request.Request → grammar.Request
-request_view r = record { asked = asked r.query; subnet = r.subnet; fault = r.fault }
+request_view r = record { asked = asked r.query.now; subnet = r.subnet; fault = r.fault }
 
 abbrev pub records_view : code_records.Records → meaning.Records
 records_view records.Soa = meaning.Soa

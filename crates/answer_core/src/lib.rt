@@ -3,6 +3,7 @@
 
 mod columns;
 mod limit;
+mod names;
 mod outcome;
 mod picking;
 mod replying;

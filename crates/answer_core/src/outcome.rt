@@ -7,6 +7,7 @@ ghost use Rattle.answer_core.specs.Outcome.{answered_kind, at_apex, at_service, 
 ghost use Rattle.answer_core.specs.Reply.{cut_short};
 ghost use Rattle.answer_core.specs.View.{IsShort, outcome_view, request_view};
 
+use crate::names::under;
 use crate::picking::pick;
 use crate::request::{QueryFault, Request};
 use crate::services::{is_apex, service_of};
@@ -14,7 +15,6 @@ use addr_text::Addr;
 use client_subnet::SubnetOpt;
 use dns_wire::numbers::{A, AAAA, ANY, FORMERR, IN, NOERROR, NS, NXDOMAIN, REFUSED, SERVFAIL, SOA};
 use map_model::{GroupId, NodeId, Offer};
-use name_text::under;
 use published_map::MapVersion;
 
 /// The records of a positive answer.
@@ -163,10 +163,10 @@ fn at_apex<'v>(kind: u16) -> Outcome<'v>
 fn by_name<'v>(version: &'v MapVersion, request: &Request, from: Addr, draw: u64) -> Outcome<'v>
     requires { IsVersion version.now }
     ensures exact { outcome_view result ≡ by_name version.now (request_view request.now) from draw }
-    ensures short { IsShort (length request.now.query.name.now) result }
+    ensures short { IsShort (length request.now.query.now.name.now) result }
 {
     let zone = version.zone();
-    let query = &request.query;
+    let query = request.query;
     if query.class != IN || !under(query.name, zone.apex.wire()) {
         return Outcome::Error(REFUSED);
     }
@@ -188,7 +188,7 @@ pub(crate) fn decide<'v>(
 ) -> Outcome<'v>
     requires { IsVersion version.now }
     ensures exact { outcome_view result ≡ outcome_of version.now (request_view request.now) from draw }
-    ensures short { IsShort (length request.now.query.name.now) result }
+    ensures short { IsShort (length request.now.query.now.name.now) result }
 {
     match request.fault {
         Some(QueryFault::Version) => Outcome::BadVers,

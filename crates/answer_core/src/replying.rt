@@ -47,7 +47,7 @@ fn write_reply(
     ensures short { length out.new.items ≤ limit_of way (asked query.entry).opt }
     ensures room { length out.new.items ≤ longest_reply }
 {
-    let request = read_request(query);
+    let request = read_request(&query);
     let outcome = decide(version, &request, from, draw);
     write_full(out, version.zone(), &request, &outcome);
     if out.len() > limit_of(way, request.query.opt) {

@@ -22,7 +22,7 @@ pub(crate) enum QueryFault {
 /// A query, the client's subnet where it gives one, and what is at fault in it.
 #[derive(Clone, Copy)]
 pub(crate) struct Request<'a> {
-    pub(crate) query: Query<'a>,
+    pub(crate) query: &'a Query<'a>,
     pub(crate) subnet: Option<SubnetOpt>,
     pub(crate) fault: Option<QueryFault>,
 }
@@ -75,10 +75,10 @@ fn fault_of(opt: Option<Opt>, subnet: ClientSubnet) -> Option<QueryFault>
 }
 
 /// The query with what its options say.
-pub(crate) fn read_request(query: Query<'_>) -> Request<'_>
-    requires { IsName query.name.now }
-    ensures exact { request_view result ≡ request_of (asked query.entry) }
-    ensures name { IsName result.query.name.now }
+pub(crate) fn read_request<'a>(query: &'a Query<'a>) -> Request<'a>
+    requires { IsName query.now.name.now }
+    ensures exact { request_view result ≡ request_of (asked query.now) }
+    ensures name { IsName result.query.now.name.now }
     ensures form { IfSome result.subnet IsSubnet }
 {
     let subnet = client_subnet_of(query.opt);

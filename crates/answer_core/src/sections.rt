@@ -137,8 +137,8 @@ fn write_extension(
 /// Writes the OPT record of a reply, where the query has one.
 pub(crate) fn write_additional(out: &mut ReplyBuffer, request: &Request, outcome: &Outcome)
     requires form { IfSome request.now.subnet IsSubnet }
-    requires room { HasRoom (array_vec_len out.old) (length (spec.additional (option_map extension request.now.query.opt) request.now.subnet (outcome_view outcome.now))) }
-    ensures { out.new.items ≡ out.old.items ++ spec.additional (option_map extension request.now.query.opt) request.now.subnet (outcome_view outcome.now) }
+    requires room { HasRoom (array_vec_len out.old) (length (spec.additional (option_map extension request.now.query.now.opt) request.now.subnet (outcome_view outcome.now))) }
+    ensures { out.new.items ≡ out.old.items ++ spec.additional (option_map extension request.now.query.now.opt) request.now.subnet (outcome_view outcome.now) }
 {
     if let Some(opt) = request.query.opt {
         write_extension(

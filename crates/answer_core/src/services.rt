@@ -3,7 +3,8 @@ ghost use Rattle.std.specs.Prelude.{◌≡◌, ◌<◌, true, IfSome, length, po
 ghost use Rattle.name_text.specs.Names.{is_same, is_under, labels_part};
 ghost use Rattle.answer_core.specs.Outcome.{service_of};
 
-use name_text::{Name, same_name};
+use crate::names::same_name;
+use name_text::Name;
 use topology_text::Zone;
 
 /// The octets of a name but its last one, the 0.

@@ -28,13 +28,13 @@ pub(crate) fn write_alone(out: &mut ReplyBuffer, head: &Head, rcode: u8)
 pub(crate) fn write_full(out: &mut ReplyBuffer, zone: &Zone, request: &Request, outcome: &Outcome)
     requires empty { out.old.items ≡ [] }
     requires zone { IsZone zone.now }
-    requires name { IsName request.now.query.name.now }
+    requires name { IsName request.now.query.now.name.now }
     requires form { IfSome request.now.subnet IsSubnet }
     requires few { IsFew outcome.now }
     requires room { length (full zone.now (request_view request.now) (outcome_view outcome.now)) ≤ reply_size }
     ensures { out.new.items ≡ full zone.now (request_view request.now) (outcome_view outcome.now) }
 {
-    let query = &request.query;
+    let query = request.query;
     let counts = [
         1,
         count_of_answers(zone, outcome),

@@ -16,14 +16,34 @@ fn flag(set: bool, worth: u8) -> u8
     if set { worth } else { 0 }
 }
 
-/// Appends numbers of 16 bits.
-fn put_numbers(out: &mut ReplyBuffer, numbers: &[u16])
-    requires { HasRoom (array_vec_len out.old) (2 * length numbers.now) }
-    ensures { out.new.items ≡ out.old.items ++ flat_map spelling.u16 numbers.now }
+/// Appends the header of a reply, with these two octets of flags, at once.
+fn put_head(out: &mut ReplyBuffer, id: u16, flags: u8, rcode: u8, counts: &[u16])
+    requires room { HasRoom (array_vec_len out.old) 12 }
+    requires four { length counts.now ≡ 4 }
+    ensures { out.new.items ≡ out.old.items ++ (spelling.u16 id ++ flags ∷ rcode ∷ flat_map spelling.u16 counts.now) }
 {
-    for number in numbers {
-        put(out, &u16_octets(*number));
-    }
+    let id = u16_octets(id);
+    let questions = u16_octets(counts[0]);
+    let answers = u16_octets(counts[1]);
+    let authority = u16_octets(counts[2]);
+    let additional = u16_octets(counts[3]);
+    put(
+        out,
+        &[
+            id[0],
+            id[1],
+            flags,
+            rcode,
+            questions[0],
+            questions[1],
+            answers[0],
+            answers[1],
+            authority[0],
+            authority[1],
+            additional[0],
+            additional[1],
+        ],
+    );
 }
 
 /// Writes the header of a reply (RFC 1035 section 4.1.1): QR 1, RA and Z 0, and the four counts of its sections. Of `opcode` and `rcode` the low four bits count.
@@ -39,9 +59,7 @@ pub fn write_head(
     ensures { out.new.items ≡ out.old.items ++ spelling.header head.now aa tc rcode counts }
 {
     let flags = 0x80 + 8 * (head.opcode % 16) + flag(aa, 4) + flag(tc, 2) + flag(head.rd, 1);
-    let id = u16_octets(head.id);
-    put(out, &[id[0], id[1], flags, rcode % 16]);
-    put_numbers(out, &counts);
+    put_head(out, head.id, flags, rcode % 16, &counts);
 }
 
 /// Writes a question (RFC 1035 section 4.1.2). The name is its octets on the wire.

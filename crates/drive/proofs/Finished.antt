@@ -35,8 +35,8 @@ rose_twice : (x y z : ℕ) → Rose x y → Rose y z → raised x 2 ≤ z
 rose_twice x y z r q = omega (arith, r, q)
 
 -- what a lane tells, by its port and gate, its viewer's door, the places that were asked for and the notes that were given
-abbrev pub told_by : {T : Type 0} → Option T → ℕ → Option GateTold → Eyes Version → ℕ → ℕ → ServerTold T
-told_by port faults gate e n noted = record { port = port; port_faults = faults; gate = gate; asked = n; looks = e.looks; greatest = e.greatest; door_faults = e.faults; noted = noted }
+abbrev pub told_by : {T : Type 0} → Option T → ℕ → Option GateTold → ℕ → Eyes Version → ℕ → ℕ → ServerTold T
+told_by port faults gate gate_faults e n noted = record { port = port; port_faults = faults; gate = gate; gate_faults = gate_faults; asked = n; looks = e.looks; greatest = e.greatest; door_faults = e.faults; noted = noted }
 
 -- a call of a lane and its closing look, by its log: what both kinds of lanes have of it
 pub record HasLogged (a : Answers Version) (first : Version) (rest : List Version) (w : ℕ) (log : List Turn) (shown : ℕ) (m m' : Moment Version) (f : Eyes Version) (served e : Ended) (n n' k : ℕ) : Type 0 where
@@ -51,11 +51,11 @@ pub record HasLogged (a : Answers Version) (first : Version) (rest : List Versio
   pub count : m.count ≡ 0
 
 -- the same of a lane over one history or another
-log_over : {T : Type 0} (a : Answers Version) (first : Version) (rest : List Version) (w : ℕ) (log : List Turn) (shown : ℕ) (m m' : Moment Version) (f : Eyes Version) (served e : Ended) (n n' j k : ℕ) (port port' : Option T) (gate gate' : Option GateTold) → length m.eyes.heard ≡ 1
+log_over : {T : Type 0} (a : Answers Version) (first : Version) (rest : List Version) (w : ℕ) (log : List Turn) (shown : ℕ) (m m' : Moment Version) (f : Eyes Version) (served e : Ended) (n n' j k : ℕ) (port port' : Option T) (gate gate' : Option GateTold) (g g' : ℕ) → length m.eyes.heard ≡ 1
     → HasLogged a first rest w log shown m m' f served e n n' k → (over : List Version) → IsLaneRun a over w 0 0 (entries_of a.way log) (tries_of log)
-    → (IsOverNewest (first ∷ rest) over log served e (told_by port m.port_faults gate m.eyes n j) (told_by port' m'.port_faults gate' f n' k) ⊎ IsOverSeen first (first ∷ rest) over served e (told_by port m.port_faults gate m.eyes n j) (told_by port' m'.port_faults gate' f n' k) ⊎ IsOverPast (first ∷ rest) over log e (told_by port m.port_faults gate m.eyes n j) (told_by port' m'.port_faults gate' f n' k))
-    → IsServedLog a first rest w log served e shown (told_by port m.port_faults gate m.eyes n j) (told_by port' m'.port_faults gate' f n' k)
-log_over a first rest w log shown m m' f served e n n' j k port port' gate gate' one h over run which =
+    → (IsOverNewest (first ∷ rest) over log served e (told_by port m.port_faults gate g m.eyes n j) (told_by port' m'.port_faults gate' g' f n' k) ⊎ IsOverSeen first (first ∷ rest) over served e (told_by port m.port_faults gate g m.eyes n j) (told_by port' m'.port_faults gate' g' f n' k) ⊎ IsOverPast (first ∷ rest) over log e (told_by port m.port_faults gate g m.eyes n j) (told_by port' m'.port_faults gate' g' f n' k))
+    → IsServedLog a first rest w log served e shown (told_by port m.port_faults gate g m.eyes n j) (told_by port' m'.port_faults gate' g' f n' k)
+log_over a first rest w log shown m m' f served e n n' j k port port' gate gate' g g' one h over run which =
     let some : 0 < length m.eyes.heard = omega (arith, one) in
     let rise = rise_trans m.eyes m'.eyes f h.all.rise h.closing.rise in
     record {
@@ -84,17 +84,17 @@ log_over a first rest w log shown m m' f served e n n' j k port port' gate gate'
 shown_past : (known before after : ℕ) → known ≤ after + 1 → after + 1 ≤ max (before + 1) known → (after + 1 ≡ known) ⊎ (known ≤ before)
 shown_past known before after le most = ⊎_elim (λ (is : known ≡ after + 1). inl (sym is)) (λ (lt : known < after + 1). inr (omega (arith, lt, most))) (eq-or-lt_of_le le)
 
-pub served_log : {T : Type 0} (a : Answers Version) (first : Version) (rest : List Version) (w : ℕ) (log : List Turn) (shown : ℕ) (m m' : Moment Version) (f : Eyes Version) (served e : Ended) (n n' j k : ℕ) (port port' : Option T) (gate gate' : Option GateTold)
+pub served_log : {T : Type 0} (a : Answers Version) (first : Version) (rest : List Version) (w : ℕ) (log : List Turn) (shown : ℕ) (m m' : Moment Version) (f : Eyes Version) (served e : Ended) (n n' j k : ℕ) (port port' : Option T) (gate gate' : Option GateTold) (g g' : ℕ)
     → HasLogged a first rest w log shown m m' f served e n n' k
-    → (logged : IsServedLog a first rest w log served e shown (told_by port m.port_faults gate m.eyes n j) (told_by port' m'.port_faults gate' f n' k)) × IsPrefix m'.eyes.seen logged.over
+    → (logged : IsServedLog a first rest w log served e shown (told_by port m.port_faults gate g m.eyes n j) (told_by port' m'.port_faults gate' g' f n' k)) × IsPrefix m'.eyes.seen logged.over
 unfolding log_over
-served_log a first rest w log shown m m' f served e n n' j k port port' gate gate' h =
+served_log a first rest w log shown m m' f served e n n' j k port port' gate gate' g g' h =
     let one : length m.eyes.heard ≡ 1 = ap length h.heard in
     let some : 0 < length m.eyes.heard = omega (arith, one) in
     let run : IsLaneRun a m'.eyes.seen w 0 0 (entries_of a.way log) (tries_of log) = subst (λ (n : ℕ). IsLaneRun a m'.eyes.seen w n 0 (entries_of a.way log) (tries_of log)) h.count (h.all.run 0 some) in
     let begins : IsPrefix (first ∷ []) m'.eyes.seen = subst (λ (l : List Version). IsPrefix l m'.eyes.seen) h.seen h.all.rise.seen in
     let rise = rise_trans m.eyes m'.eyes f h.all.rise h.closing.rise in
-    let by = log_over a first rest w log shown m m' f served e n n' j k port port' gate gate' one h in
+    let by = log_over a first rest w log shown m m' f served e n n' j k port port' gate gate' g g' one h in
     ⊎_elim
     (λ (s : IsShut (first ∷ rest) m'.eyes f served e).
     (by m'.eyes.seen run (inr (inl (record { first_is = begins; beside = subst (λ l. IsPrefix l (first ∷ rest) ⊎ IsPrefix (first ∷ rest) l) s.seen s.beside; history = subst IsHistory s.seen s.history; rose = rose_later m.eyes.faults m'.eyes.faults f.faults h.all.rise.faults s.rose; twice = λ is. rose_twice m.eyes.faults m'.eyes.faults f.faults (h.all.refusal (h.refusing is)) s.rose; ended_is = s.ended_is }))), ([], append-nil m'.eyes.seen)))
@@ -117,12 +117,12 @@ served_log a first rest w log shown m m' f served e n n' j k port port' gate gat
     h.closing.case
 
 pub done_of : (turns : ℕ) (first : Version) (rest : List Version) (w : ℕ) (m m' : Moment Version) (f : Eyes Version) (served e : Ended) (n n' j k : ℕ) → n' ≡ n → m.eyes.seen ≡ first ∷ [] → m.eyes.heard ≡ first ∷ [] → m.count ≡ 0
-    → (c : IsLaneCall replies w turns m m' served) → flat_map (λ t. t.notes) c.log ≡ range_with_len 0 k → IsClosing (first ∷ rest) m'.eyes f served e → IsDone turns first rest w (told_by m.port m.port_faults m.gate m.eyes n j) (told_by m'.port m'.port_faults m'.gate f n' k) e
+    → (c : IsLaneCall replies w turns m m' served) → flat_map (λ t. t.notes) c.log ≡ range_with_len 0 k → IsClosing (first ∷ rest) m'.eyes f served e → IsDone turns first rest w (told_by m.port m.port_faults m.gate m.gate_faults m.eyes n j) (told_by m'.port m'.port_faults m'.gate m'.gate_faults f n' k) e
 done_of turns first rest w m m' f served e n n' j k asked seen heard count c are q = record {
   log = c.log;
   served = served;
   shown = c.shown;
-  served_log = (served_log replies first rest w c.log c.shown m m' f served e n n' j k m.port m'.port m.gate m'.gate (record {
+  served_log = (served_log replies first rest w c.log c.shown m m' f served e n n' j k m.port m'.port m.gate m'.gate m.gate_faults m'.gate_faults (record {
     shown_is = c.shown_is;
     all = c.all;
     notes = are;
@@ -139,12 +139,12 @@ done_of turns first rest w m m' f served e n n' j k asked seen heard count c are
 }
 
 -- the same, where some things are told by equations
-pub done_by : (turns : ℕ) (first : Version) (rest : List Version) (i w t : ℕ) (m m' : Moment Version) (f : Eyes Version) (served e : Ended) (h0 h : List Version) (port : Option PortTold) (faults : ℕ) (gate : Option GateTold) (n n' n'' j k l nones : ℕ) → w ≡ i → t ≡ turns → h ≡ first ∷ rest → h0 ≡ first ∷ []
+pub done_by : (turns : ℕ) (first : Version) (rest : List Version) (i w t : ℕ) (m m' : Moment Version) (f : Eyes Version) (served e : Ended) (h0 h : List Version) (port : Option PortTold) (faults : ℕ) (gate : Option GateTold) (gate_faults n n' n'' j k l nones : ℕ) → w ≡ i → t ≡ turns → h ≡ first ∷ rest → h0 ≡ first ∷ []
     → m.eyes.seen ≡ h0 → m.eyes.heard ≡ h0 → m.count ≡ 0 → m.notes ≡ Some (record { coming = range_with_len 0 most_notes; nones = 0 }) → m'.notes ≡ Some (record { coming = range_with_len k (most_notes - k); nones = nones }) → k ≤ most_notes
-    → IsLaneCall replies w t m m' served → IsClosing h m'.eyes f served e → port ≡ m'.port → faults ≡ m'.port_faults → gate ≡ m'.gate → n' ≡ n → n'' ≡ n' → l ≡ k
-    → IsDone turns first rest i (told_by m.port m.port_faults m.gate m.eyes n j) (told_by port faults gate f n'' l) e
-done_by turns first rest i w t m m' f served e h0 h port faults gate n n' n'' j k l nones same long is opened seen heard count b a le c q p1 p2 p3 p4 p5 p6 =
+    → IsLaneCall replies w t m m' served → IsClosing h m'.eyes f served e → port ≡ m'.port → faults ≡ m'.port_faults → gate ≡ m'.gate → n' ≡ n → n'' ≡ n' → l ≡ k → gate_faults ≡ m'.gate_faults
+    → IsDone turns first rest i (told_by m.port m.port_faults m.gate m.gate_faults m.eyes n j) (told_by port faults gate gate_faults f n'' l) e
+done_by turns first rest i w t m m' f served e h0 h port faults gate gate_faults n n' n'' j k l nones same long is opened seen heard count b a le c q p1 p2 p3 p4 p5 p6 p7 =
     let call = subst (λ (x : ℕ). IsLaneCall replies i x m m' served) long (subst (λ (x : ℕ). IsLaneCall replies x t m m' served) same c) in
     let given = subst (λ x. BothTell x (Some (record { coming = range_with_len k (most_notes - k); nones = nones })) (AreGiven call.log)) b (subst (λ x. BothTell m.notes x (AreGiven call.log)) a call.all.notes) in
     let done = done_of turns first rest i m m' f served e n n' j k p4 (seen ∙ opened) (heard ∙ opened) count call (notes_are call.log k nones 0 le given) (subst (λ (x : List Version). IsClosing x m'.eyes f served e) is q) in
-    subst (λ (x : LaneTold). IsDone turns first rest i (told_by m.port m.port_faults m.gate m.eyes n j) x e) (cc (p1, p2, p3, p5, p6)) done
+    subst (λ (x : LaneTold). IsDone turns first rest i (told_by m.port m.port_faults m.gate m.gate_faults m.eyes n j) x e) (cc (p1, p2, p3, p5, p6, p7)) done

@@ -22,10 +22,10 @@ use Rattle.drive.proofs.Noted.{notes_are}
 
 stream_of : (turns : ℕ) (first : Version) (rest : List Version) (w : ℕ) (m m' : StreamMoment Version) (f : Eyes Version) (served e : Ended) (n n' j k : ℕ) → n' ≡ n → m.eyes.seen ≡ first ∷ [] → m.eyes.heard ≡ first ∷ [] → m.count ≡ 0 → m.talk ≡ no_talk
     → (c : IsStreamCall stream_replies w turns m m' served) → flat_map (λ t. t.notes) (map lead_of c.log) ≡ range_with_len 0 k → IsClosing (first ∷ rest) m'.eyes f served e
-    → IsStreamDone turns first rest w (told_by m.streams m.stream_faults m.gate m.eyes n j) (told_by m'.streams m'.stream_faults m'.gate f n' k) e
+    → IsStreamDone turns first rest w (told_by m.streams m.stream_faults m.gate m.gate_faults m.eyes n j) (told_by m'.streams m'.stream_faults m'.gate m'.gate_faults f n' k) e
 stream_of turns first rest w m m' f served e n n' j k asked seen heard count fresh c are q =
     let some : 0 < length m.eyes.heard = omega (arith, ap length heard) in
-    let logged = served_log stream_replies first rest w (lane_of c.log) c.shown (inner m.eyes m.count m.stream_faults) (inner m'.eyes m'.count m'.stream_faults) f served e n n' j k m.streams m'.streams m.gate m'.gate (record {
+    let logged = served_log stream_replies first rest w (lane_of c.log) c.shown (inner m.eyes m.count m.stream_faults) (inner m'.eyes m'.count m'.stream_faults) f served e n n' j k m.streams m'.streams m.gate m'.gate m.gate_faults m'.gate_faults (record {
       shown_is = c.shown_is;
       all = c.all;
       notes = lane_notes c.log ∙ are;
@@ -56,12 +56,12 @@ stream_of turns first rest w m m' f served e n n' j k asked seen heard count fre
     }
 
 -- the same, where some things are told by equations
-pub stream_by : (turns : ℕ) (first : Version) (rest : List Version) (i w t : ℕ) (m m' : StreamMoment Version) (f : Eyes Version) (served e : Ended) (h0 h : List Version) (streams : Option StreamsTold) (faults : ℕ) (gate : Option GateTold) (n n' n'' j k l nones : ℕ) → w ≡ i → t ≡ turns → h ≡ first ∷ rest → h0 ≡ first ∷ []
+pub stream_by : (turns : ℕ) (first : Version) (rest : List Version) (i w t : ℕ) (m m' : StreamMoment Version) (f : Eyes Version) (served e : Ended) (h0 h : List Version) (streams : Option StreamsTold) (faults : ℕ) (gate : Option GateTold) (gate_faults n n' n'' j k l nones : ℕ) → w ≡ i → t ≡ turns → h ≡ first ∷ rest → h0 ≡ first ∷ []
     → m.eyes.seen ≡ h0 → m.eyes.heard ≡ h0 → m.count ≡ 0 → m.talk ≡ no_talk → m.notes ≡ Some (record { coming = range_with_len 0 most_notes; nones = 0 }) → m'.notes ≡ Some (record { coming = range_with_len k (most_notes - k); nones = nones }) → k ≤ most_notes
-    → IsStreamCall stream_replies w t m m' served → IsClosing h m'.eyes f served e → streams ≡ m'.streams → faults ≡ m'.stream_faults → gate ≡ m'.gate → n' ≡ n → n'' ≡ n' → l ≡ k
-    → IsStreamDone turns first rest i (told_by m.streams m.stream_faults m.gate m.eyes n j) (told_by streams faults gate f n'' l) e
-stream_by turns first rest i w t m m' f served e h0 h streams faults gate n n' n'' j k l nones same long is opened seen heard count fresh b a le c q p1 p2 p3 p4 p5 p6 =
+    → IsStreamCall stream_replies w t m m' served → IsClosing h m'.eyes f served e → streams ≡ m'.streams → faults ≡ m'.stream_faults → gate ≡ m'.gate → n' ≡ n → n'' ≡ n' → l ≡ k → gate_faults ≡ m'.gate_faults
+    → IsStreamDone turns first rest i (told_by m.streams m.stream_faults m.gate m.gate_faults m.eyes n j) (told_by streams faults gate gate_faults f n'' l) e
+stream_by turns first rest i w t m m' f served e h0 h streams faults gate gate_faults n n' n'' j k l nones same long is opened seen heard count fresh b a le c q p1 p2 p3 p4 p5 p6 p7 =
     let call = subst (λ (x : ℕ). IsStreamCall stream_replies i x m m' served) long (subst (λ (x : ℕ). IsStreamCall stream_replies x t m m' served) same c) in
     let given = subst (λ x. BothTell x (Some (record { coming = range_with_len k (most_notes - k); nones = nones })) (AreGiven (map lead_of call.log))) b (subst (λ x. BothTell m.notes x (AreGiven (map lead_of call.log))) a call.notes) in
     let done = stream_of turns first rest i m m' f served e n n' j k p4 (seen ∙ opened) (heard ∙ opened) count fresh call (notes_are (map lead_of call.log) k nones 0 le given) (subst (λ (x : List Version). IsClosing x m'.eyes f served e) is q) in
-    subst (λ (x : StreamLaneTold). IsStreamDone turns first rest i (told_by m.streams m.stream_faults m.gate m.eyes n j) x e) (cc (p1, p2, p3, p5, p6)) done
+    subst (λ (x : StreamLaneTold). IsStreamDone turns first rest i (told_by m.streams m.stream_faults m.gate m.gate_faults m.eyes n j) x e) (cc (p1, p2, p3, p5, p6, p7)) done

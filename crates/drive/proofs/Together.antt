@@ -26,33 +26,33 @@ all_done R C F D f i (a ∷ ls) (b ∷ bs) [] (v ∷ vs) (w ∷ ws) xs h p q = a
 all_done R C F D f i (a ∷ ls) (b ∷ bs) (c ∷ cs) (v ∷ vs) (w ∷ ws) [] h p q = absurd q
 all_done R C F D f i (a ∷ ls) (b ∷ bs) (c ∷ cs) (v ∷ vs) (w ∷ ws) (x ∷ xs) h p q = (f i a b c v w x h.0 p.0 q.0, all_done R C F D f (i + 1) ls bs cs vs ws xs h.1 p.1 q.1)
 
--- lanes that are done, as they tell it, with others behind them
-are_done : {A W : Type 0} (tell : A → LaneTold) (ended : W → Ended) (turns : ℕ) (first : Version) (rest : List Version) (i : ℕ) (ls cs behind : List A) (xs : List W)
-    → AllDone (λ k a c x. IsDone turns first rest k (tell a) (tell c) (ended x)) i ls cs xs → AreDone turns first rest i (map ended xs) (map tell (ls ++ behind)) (map tell (cs ++ behind))
-are_done tell ended turns first rest i [] [] behind [] d = refl
-are_done tell ended turns first rest i [] [] behind (x ∷ xs) d = absurd d
-are_done tell ended turns first rest i [] (c ∷ cs) behind xs d = absurd d
-are_done tell ended turns first rest i (a ∷ ls) [] behind xs d = absurd d
-are_done tell ended turns first rest i (a ∷ ls) (c ∷ cs) behind [] d = absurd d
-are_done tell ended turns first rest i (a ∷ ls) (c ∷ cs) behind (x ∷ xs) d = (d.0, are_done tell ended turns first rest (i + 1) ls cs behind xs d.1)
+-- lanes that are done, with others behind them
+are_done : {W : Type 0} (ended : W → Ended) (turns : ℕ) (first : Version) (rest : List Version) (i : ℕ) (ls cs behind : List LaneTold) (xs : List W)
+    → AllDone (λ k a c x. IsDone turns first rest k a c (ended x)) i ls cs xs → AreDone turns first rest i (map ended xs) (ls ++ behind) (cs ++ behind)
+are_done ended turns first rest i [] [] behind [] d = refl
+are_done ended turns first rest i [] [] behind (x ∷ xs) d = absurd d
+are_done ended turns first rest i [] (c ∷ cs) behind xs d = absurd d
+are_done ended turns first rest i (a ∷ ls) [] behind xs d = absurd d
+are_done ended turns first rest i (a ∷ ls) (c ∷ cs) behind [] d = absurd d
+are_done ended turns first rest i (a ∷ ls) (c ∷ cs) behind (x ∷ xs) d = (d.0, are_done ended turns first rest (i + 1) ls cs behind xs d.1)
 
-pub are_done_in : {A W : Type 0} (tell : A → LaneTold) (ended : W → Ended) (turns : ℕ) (first : Version) (rest : List Version) (all ls cs behind : List A) (xs : List W) → all ≡ ls ++ behind
-    → AllDone (λ k a c x. IsDone turns first rest k (tell a) (tell c) (ended x)) 0 ls cs xs → AreDone turns first rest 0 (map ended xs) (map tell all) (map tell (cs ++ behind))
-are_done_in {A = A} tell ended turns first rest all ls cs behind xs is d =
-    subst (λ (l : List A). AreDone turns first rest 0 (map ended xs) (map tell l) (map tell (cs ++ behind))) (sym is) (are_done tell ended turns first rest 0 ls cs behind xs d)
+pub are_done_in : {W : Type 0} (ended : W → Ended) (turns : ℕ) (first : Version) (rest : List Version) (all ls cs behind : List LaneTold) (xs : List W) → all ≡ ls ++ behind
+    → AllDone (λ k a c x. IsDone turns first rest k a c (ended x)) 0 ls cs xs → AreDone turns first rest 0 (map ended xs) all (cs ++ behind)
+are_done_in ended turns first rest all ls cs behind xs is d =
+    subst (λ (l : List LaneTold). AreDone turns first rest 0 (map ended xs) l (cs ++ behind)) (sym is) (are_done ended turns first rest 0 ls cs behind xs d)
 
 -- one lane more: turns and then a closing look, or nothing
-pub may_done : {A W : Type 0} (tell : A → StreamLaneTold) (ended : W → Ended) (R C : A → A → W → W → Type 0) (F : W → Type 0) (turns : ℕ) (first : Version) (rest : List Version) (n : ℕ)
-    → ((a b c : A) (v w x : W) → F v → R a b v w → C b c w x → IsStreamDone turns first rest n (tell a) (tell c) (ended x)) → (a b c : A) (v w x : Option W) → IfSome v F → MayRan R a b v w → MayRan C b c w x
-    → AreStreamsDone turns first rest n (option_map ended x) (tell a) (tell c)
-may_done tell ended R C F turns first rest n f a b c None w x h p q =
+pub may_done : {W : Type 0} (ended : W → Ended) (R C : StreamLaneTold → StreamLaneTold → W → W → Type 0) (F : W → Type 0) (turns : ℕ) (first : Version) (rest : List Version) (n : ℕ)
+    → ((a b c : StreamLaneTold) (v w x : W) → F v → R a b v w → C b c w x → IsStreamDone turns first rest n a c (ended x)) → (a b c : StreamLaneTold) (v w x : Option W) → IfSome v F → MayRan R a b v w → MayRan C b c w x
+    → AreStreamsDone turns first rest n (option_map ended x) a c
+may_done ended R C F turns first rest n f a b c None w x h p q =
     let first_is = p.none refl in
     let then = q.none first_is.0 in
-    subst (λ o. AreStreamsDone turns first rest n (option_map ended o) (tell a) (tell c)) (sym then.0) (ap tell (then.1 ∙ first_is.1))
-may_done tell ended R C F turns first rest n f a b c (Some v) w x h p q =
+    subst (λ o. AreStreamsDone turns first rest n (option_map ended o) a c) (sym then.0) (then.1 ∙ first_is.1)
+may_done ended R C F turns first rest n f a b c (Some v) w x h p q =
     let ran = p.some v refl in
     let closed = q.some ran.0 ran.1 in
-    subst (λ o. AreStreamsDone turns first rest n (option_map ended o) (tell a) (tell c)) (sym closed.1) (f a b c v ran.0 closed.0 h ran.2 closed.2)
+    subst (λ o. AreStreamsDone turns first rest n (option_map ended o) a c) (sym closed.1) (f a b c v ran.0 closed.0 h ran.2 closed.2)
 
 -- it has a worker behind that where it had one before
 pub may_same : {A W : Type 0} (R C : A → A → W → W → Type 0) (a b c : A) (v w x : Option W) → MayRan R a b v w → MayRan C b c w x → length (option_to_list x) ≡ length (option_to_list v)

@@ -1,5 +1,11 @@
 -- Inside this crate alone: lanes and their workers, by their numbers.
-use Rattle.std.specs.Prelude.{ℕ, ◌+◌, List, [], ◌∷◌}
+use Rattle.std.specs.Prelude.{◌≡◌, ℕ, ◌+◌, List, [], ◌∷◌}
+use Rattle.published_map.specs.Version.{Version}
+use Rattle.drive.specs.declared.lane.LaneWorker.{LaneWorker}
+
+-- a worker of that number, which knows this history, has answered nothing, and has so many turns
+abbrev pub IsFresh : {J : Type 0} → List Version → ℕ → ℕ → LaneWorker J → Type 0
+IsFresh h turns i w = (w.worker.number ≡ i) × (w.worker.count ≡ 0) × (w.worker.viewer.seen ≡ h) × (w.worker.viewer.heard ≡ h) × (w.turns ≡ turns)
 
 -- each lane with its worker, from number i on
 abbrev pub AllFresh : {A W : Type 0} → (ℕ → A → W → Type 0) → ℕ → List A → List W → Type 0

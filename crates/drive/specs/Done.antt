@@ -16,11 +16,12 @@ use Rattle.lane_model.specs.Turns.{Turn, IsFated, IsTold, entries_of, failures, 
 use Rattle.lane_model.specs.Calls.{IsEnd, IsGateRun}
 use Rattle.drive.specs.Closing.{shut}
 
--- what a lane tells at one moment: its port, which is one for datagrams or streams, and its gate, where they tell, the port's count of faults, its door's numbers, which are the places and the looks that it was asked for, the greatest serial, and its faults, and how many notes its worker was given
+-- what a lane tells at one moment: its port, which is one for datagrams or streams, and its gate, where they tell, both counts of faults, its door's numbers, which are the places and the looks that it was asked for, the greatest serial, and its faults, and how many notes its worker was given
 pub record ServerTold (T : Type 0) : Type 0 where
   pub port : Option T
   pub port_faults : ℕ
   pub gate : Option GateTold
+  pub gate_faults : ℕ
   pub asked : ℕ
   pub looks : ℕ
   pub greatest : ℕ

@@ -10,3 +10,4 @@ pub mod Read
 pub mod Queue
 pub mod Laws
 pub mod Told
+pub mod Counted

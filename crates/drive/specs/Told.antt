@@ -1,48 +1,87 @@
--- What is told at one moment by all that a drive is lent.
-use Rattle.std.specs.Prelude.{ℕ, List, Option, map}
-use Rattle.outside.specs.Gate.{GateTold}
-use Rattle.outside.specs.Port.{PortTold}
+-- What is told at one moment by all that a drive is lent, and what that is for a worker.
+use Rattle.std.specs.Prelude.{◌≡◌, ℕ, ◌-◌, List, Option, Some, map}
+use Rattle.std.specs.List.{range_with_len}
+use Rattle.outside.specs.Limits.{most_notes}
+use Rattle.outside.specs.Notes.{NotesTold}
 use Rattle.outside.specs.Sink.{Written}
 use Rattle.outside.specs.Source.{Fed}
-use Rattle.outside.specs.Streams.{StreamsTold}
 use Rattle.outside.specs.declared.pace.PaceCall.{PaceCall}
-use Rattle.drive.specs.Done.{LaneTold, StreamLaneTold}
+use Rattle.published_map.specs.Version.{Version}
+use Rattle.map_cell.specs.Ends.{ViewerState}
+use Rattle.lane_model.specs.Calls.{Eyes, Moment}
+use Rattle.tcp_lane.specs.Calls.{StreamMoment}
+use Rattle.tcp_lane.specs.Turns.{no_talk}
+use Rattle.drive.specs.Done.{LaneTold, ServerTold, StreamLaneTold}
 use Rattle.drive.specs.Driven.{Lent}
 use Rattle.drive.specs.Feeds.{FeedTold}
-use Rattle.drive.specs.declared.lane.Lane.{Lane}
-use Rattle.drive.specs.declared.stream.StreamLane.{StreamLane}
+use Rattle.drive.specs.declared.lent.Lent.{Lent as LentParts}
 
--- a lane, by what its port, gate and door tell, and how many notes its worker was given
-abbrev pub lane_told : {P G D : Type 0} → (P → Option PortTold) → (P → ℕ) → (G → Option GateTold) → (D → ℕ) → (D → ℕ) → (D → ℕ) → (D → ℕ) → Lane P G D → LaneTold
-lane_told port port_faults gate asked looks greatest door_faults lane = record {
-  port = port lane.port;
-  port_faults = port_faults lane.port;
-  gate = gate lane.gate;
-  asked = asked lane.door;
-  looks = looks lane.door;
-  greatest = greatest lane.door;
-  door_faults = door_faults lane.door;
-  noted = lane.noted;
+-- a worker's viewer, with what its lane tells of its door
+abbrev pub eyes_at : {T : Type 0} → ViewerState → ServerTold T → Eyes Version
+eyes_at viewer lane = record {
+  seen = viewer.seen;
+  heard = viewer.heard;
+  looks = lane.looks;
+  greatest = lane.greatest;
+  faults = lane.door_faults;
 }
 
--- a lane for conversations, by what its streams, gate and door tell, and how many notes its worker was given
-abbrev pub stream_told : {Q G D : Type 0} → (Q → Option StreamsTold) → (Q → ℕ) → (G → Option GateTold) → (D → ℕ) → (D → ℕ) → (D → ℕ) → (D → ℕ) → StreamLane Q G D → StreamLaneTold
-stream_told streams stream_faults gate asked looks greatest door_faults lane = record {
-  port = streams lane.streams;
-  port_faults = stream_faults lane.streams;
-  gate = gate lane.gate;
-  asked = asked lane.door;
-  looks = looks lane.door;
-  greatest = greatest lane.door;
-  door_faults = door_faults lane.door;
-  noted = lane.noted;
+-- the notes of a row of which none was given
+abbrev pub all_notes : Option NotesTold
+all_notes = Some (record { coming = range_with_len 0 most_notes; nones = 0 })
+
+-- the notes of a row behind so many that were given
+abbrev pub notes_behind : ℕ → ℕ → Option NotesTold
+notes_behind given nones =
+    Some (record { coming = range_with_len given (most_notes - given); nones = nones })
+
+-- a lane and its worker's viewer, with notes and the number of the next datagram
+abbrev pub moment_at : LaneTold → ViewerState → Option NotesTold → ℕ → Moment Version
+moment_at lane viewer notes count = record {
+  port = lane.port;
+  gate = lane.gate;
+  notes = notes;
+  eyes = eyes_at viewer lane;
+  count = count;
+  port_faults = lane.port_faults;
+  gate_faults = lane.gate_faults;
+}
+
+-- the same of a lane for conversations, none of which has begun
+abbrev pub stream_moment_at : StreamLaneTold → ViewerState → Option NotesTold → ℕ → StreamMoment Version
+stream_moment_at lane viewer notes count = record {
+  streams = lane.port;
+  gate = lane.gate;
+  notes = notes;
+  eyes = eyes_at viewer lane;
+  count = count;
+  stream_faults = lane.port_faults;
+  gate_faults = lane.gate_faults;
+  talk = no_talk;
 }
 
 -- a feed, by what it tells and how often an opening or a read of it has failed
 abbrev pub feed_told : {T : Type 0} → (T → Option Fed) → (T → ℕ) → T → FeedTold
 feed_told fed faults feed = record { fed = fed feed; faults = faults feed }
 
--- all that is lent, by what a feed, a further one, an output, a pace, a lane and that for conversations tell
-abbrev pub lent_of : {S F K M T U : Type 0} → (S → FeedTold) → (F → FeedTold) → (K → Option Written) → (M → Option (List PaceCall)) → (T → LaneTold) → (U → StreamLaneTold) → S → List F → K → K → M → List T → U → Lent
-lent_of first other told paced lane talks feed more out maps pace lanes stream =
-    record { feed = first feed; more = map other more; out = told out; maps = told maps; pace = paced pace; lanes = map lane lanes; stream = talks stream }
+-- the same things are lent, for as many turns
+abbrev pub IsSameLent : {S N K P G D M : Type 0} → LentParts S N K P G D M → LentParts S N K P G D M → Type 0
+IsSameLent a b = (b.feed.ghost_name ≡ a.feed.ghost_name) × (b.more.ghost_name ≡ a.more.ghost_name) × (b.out.ghost_name ≡ a.out.ghost_name) × (b.maps.ghost_name ≡ a.maps.ghost_name) × (b.lanes.ghost_name ≡ a.lanes.ghost_name) × (b.pace.ghost_name ≡ a.pace.ghost_name)
+
+-- nothing that is lent was touched
+abbrev pub AreUntouched : {S N K P G D M : Type 0} → LentParts S N K P G D M → LentParts S N K P G D M → Type 0
+AreUntouched a b = (b.feed.now ≡ a.feed.now) × (b.more.now ≡ a.more.now) × (b.out.now ≡ a.out.now) × (b.maps.now ≡ a.maps.now) × (b.lanes.now ≡ a.lanes.now) × (b.pace.now ≡ a.pace.now)
+
+-- all that is lent, by what a feed, a further one, an output and a pace tell
+abbrev pub lent_of : {S N K P G D M : Type 0}
+    → (S → Option Fed) → (S → ℕ) → (N → Option Fed) → (N → ℕ) → (K → Option Written) → (M → Option (List PaceCall))
+    → LentParts S N K P G D M → StreamLaneTold → Lent
+lent_of fed faults named named_faults written paced l stream = record {
+  feed = feed_told fed faults l.feed.now;
+  more = map (feed_told named named_faults) l.more.now;
+  out = written l.out.now;
+  maps = written l.maps.now;
+  pace = paced l.pace.now;
+  lanes = l.lanes.now;
+  stream = stream;
+}

@@ -93,12 +93,16 @@ pub(crate) fn run_beside<
     let served = &mut works.lanes;
     let listener = &mut works.stream;
     let mut all = ||
-        requires { IsSync R.row × IsSend T.row × IsSend H.row × IsSync W.row × (length lanes.now ≡ vec_len served.now) }
-        ensures { AllRan T.ran lanes.entry.now lanes.exit.now served.entry.now.items served.exit.now.items × (vec_len served.exit.now ≡ vec_len served.entry.now) }
+        requires { IsSync R.row × IsSend T.row × IsSend H.row × IsSync W.row
+            × (length lanes.now ≡ vec_len served.now) }
+        ensures { AllRan T.ran lanes.entry.now lanes.exit.now served.entry.now.items served.exit.now.items
+            × (vec_len served.exit.now ≡ vec_len served.entry.now) }
     { run_all(rt, row, served, lanes) };
     let mut rest = ||
-        requires { IsSync R.row × IsSend U.row × IsSend H.row × IsSync W.row × F.ready feed.now mapper.now }
-        ensures { F.fed feed.entry.now feed.exit.now mapper.entry.now mapper.exit.now × MayRan U.ran stream.entry.now stream.exit.now listener.entry.now listener.exit.now }
+        requires { IsSync R.row × IsSend U.row × IsSend H.row × IsSync W.row
+            × F.ready feed.now mapper.now }
+        ensures { F.fed feed.entry.now feed.exit.now mapper.entry.now mapper.exit.now
+            × MayRan U.ran stream.entry.now stream.exit.now listener.entry.now listener.exit.now }
     { run_rest(rt, row, listener, stream, mapper, feed) };
     join_both(rt, &mut all, &mut rest);
 }

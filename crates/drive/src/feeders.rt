@@ -67,7 +67,8 @@ fn run_more<
     requires fresh { All F.fresh feeders.old.items }
     requires len { length feeds.old ≡ vec_len feeders.old }
     ensures inner { I.step inner.old tt inner.new }
-    ensures sent { AllRan (T.sent desk.now) feeds.old feeds.new feeders.old.items feeders.new.items }
+    ensures sent { AllRan
+        (T.sent desk.now) feeds.old feeds.new feeders.old.items feeders.new.items }
     ensures len { vec_len feeders.new ≡ vec_len feeders.old }
     ensures room { vec_capacity feeders.new ≡ vec_capacity feeders.old }
 {
@@ -111,12 +112,17 @@ fn run_last<
 {
     let mut feeder = feeder;
     let mut one = |alone: bool|
-        requires { IsSync R.row × IsSync Q.row × IsSend T.row × IsSend F.row × (length last.now ≡ 1) × T.ready desk.now × F.fresh feeder }
-        ensures { AllRan (T.sent desk.entry.now) last.entry.now last.exit.now (feeder.entry ∷ []) (feeder.exit ∷ []) }
+        requires { IsSync R.row × IsSync Q.row × IsSend T.row × IsSend F.row × (length last.now ≡ 1)
+            × T.ready desk.now × F.fresh feeder }
+        ensures { AllRan (T.sent desk.entry.now) last.entry.now last.exit.now (feeder.entry ∷ [])
+            (feeder.exit ∷ []) }
     { send_one(rt, desk, &mut feeder, last, alone) };
     let mut others = ||
-        requires { IsSync R.row × IsSync Q.row × IsSend T.row × IsSend F.row × (length rest.now ≡ vec_len feeders.now) × T.ready desk.now × All F.fresh feeders.now.items × I.pre inner.now }
-        ensures { AllRan (T.sent desk.entry.now) rest.entry.now rest.exit.now feeders.entry.now.items feeders.exit.now.items × (vec_len feeders.exit.now ≡ vec_len feeders.entry.now) × (vec_capacity feeders.exit.now ≡ vec_capacity feeders.entry.now) × I.step inner.entry.now tt inner.exit.now }
+        requires { IsSync R.row × IsSync Q.row × IsSend T.row × IsSend F.row
+            × (length rest.now ≡ vec_len feeders.now) × T.ready desk.now
+            × All F.fresh feeders.now.items × I.pre inner.now }
+        ensures { AllRan
+            (T.sent desk.entry.now) rest.entry.now rest.exit.now feeders.entry.now.items feeders.exit.now.items × (vec_len feeders.exit.now ≡ vec_len feeders.entry.now) × (vec_capacity feeders.exit.now ≡ vec_capacity feeders.entry.now) × I.step inner.entry.now tt inner.exit.now }
     { run_more(rt, desk, feeders, inner, rest) };
     join_told(rt, &mut one, &mut others);
     feeder
@@ -146,16 +152,21 @@ fn run_feeders<
     requires len { length feeds.old ≡ vec_len feeders.old }
     ensures inner { I.step inner.old tt inner.new }
     ensures first { S.sent desk.now feed.old feed.new first.old first.new }
-    ensures sent { AllRan (T.sent desk.now) feeds.old feeds.new feeders.old.items feeders.new.items }
+    ensures sent { AllRan
+        (T.sent desk.now) feeds.old feeds.new feeders.old.items feeders.new.items }
     ensures len { vec_len feeders.new ≡ vec_len feeders.old }
 {
     let mut one = |alone: bool|
-        requires { IsSync R.row × IsSync Q.row × IsSend S.row × IsSend F.row × S.ready desk.now × F.fresh first.now }
+        requires { IsSync R.row × IsSync Q.row × IsSend S.row × IsSend F.row × S.ready desk.now
+            × F.fresh first.now }
         ensures { S.sent desk.entry.now feed.entry.now feed.exit.now first.entry.now first.exit.now }
     { feed.send(rt, desk, first, alone) };
     let mut others = ||
-        requires { IsSync R.row × IsSync Q.row × IsSend T.row × IsSend F.row × (length feeds.now ≡ vec_len feeders.now) × T.ready desk.now × All F.fresh feeders.now.items × I.pre inner.now }
-        ensures { AllRan (T.sent desk.entry.now) feeds.entry.now feeds.exit.now feeders.entry.now.items feeders.exit.now.items × (vec_len feeders.exit.now ≡ vec_len feeders.entry.now) × I.step inner.entry.now tt inner.exit.now }
+        requires { IsSync R.row × IsSync Q.row × IsSend T.row × IsSend F.row
+            × (length feeds.now ≡ vec_len feeders.now) × T.ready desk.now
+            × All F.fresh feeders.now.items × I.pre inner.now }
+        ensures { AllRan
+            (T.sent desk.entry.now) feeds.entry.now feeds.exit.now feeders.entry.now.items feeders.exit.now.items × (vec_len feeders.exit.now ≡ vec_len feeders.entry.now) × I.step inner.entry.now tt inner.exit.now }
     { run_more(rt, desk, feeders, inner, feeds) };
     join_told(rt, &mut one, &mut others);
 }
@@ -194,7 +205,8 @@ pub(crate) fn run_among<
     requires ready { G.ready side.old mapper.old }
     requires lanes { length lanes.old ≡ vec_len works.old.lanes }
     ensures first { S.sent desk.now feed.old feed.new first.old first.new }
-    ensures sent { AllRan (T.sent desk.now) feeds.old feeds.new feeders.old.items feeders.new.items }
+    ensures sent { AllRan
+        (T.sent desk.now) feeds.old feeds.new feeders.old.items feeders.new.items }
     ensures fed { G.fed side.old side.new mapper.old mapper.new }
     ensures ran { AllRan L.ran lanes.old lanes.new works.old.lanes.items works.new.lanes.items }
     ensures stream { MayRan U.ran stream.old stream.new works.old.stream works.new.stream }
@@ -202,7 +214,8 @@ pub(crate) fn run_among<
 {
     let mut inner = ||
         requires { G.ready side.now mapper.now × (length lanes.now ≡ vec_len works.now.lanes) }
-        ensures { G.fed side.entry.now side.exit.now mapper.entry.now mapper.exit.now × AllRan L.ran lanes.entry.now lanes.exit.now works.entry.now.lanes.items works.exit.now.lanes.items
+        ensures { G.fed side.entry.now side.exit.now mapper.entry.now mapper.exit.now
+            × AllRan L.ran lanes.entry.now lanes.exit.now works.entry.now.lanes.items works.exit.now.lanes.items
             × MayRan U.ran stream.entry.now stream.exit.now works.entry.now.stream works.exit.now.stream × (vec_len works.exit.now.lanes ≡ vec_len works.entry.now.lanes) }
     {
         desk.start(rt);

@@ -48,7 +48,8 @@ fn run_last<W: Sync, H: Drop + Send, T: Runs<W, H> + Send, R: Threads + Wait + S
 {
     let mut work = work;
     let mut others = ||
-        requires { IsSync R.row × IsSend T.row × IsSend H.row × IsSync W.row × (length rest.now ≡ vec_len works.now) }
+        requires { IsSync R.row × IsSend T.row × IsSend H.row × IsSync W.row
+            × (length rest.now ≡ vec_len works.now) }
         ensures { AllRan T.ran rest.entry.now rest.exit.now works.entry.now.items works.exit.now.items × (vec_len works.exit.now ≡ vec_len works.entry.now) × (vec_capacity works.exit.now ≡ vec_capacity works.entry.now) }
     { run_all(rt, row, works, rest) };
     let mut one = ||
@@ -69,7 +70,8 @@ fn run_one<W, H: Drop, T: Runs<W, H>, R: Threads>(_rt: &R, row: &W, work: &mut H
 /// All closing looks, one after the other.
 pub(crate) fn close_all<N, H: Drop, T: Closes<N, H>>(note: &N, works: &mut Vec<H>, lanes: &mut [T])
     requires { length lanes.old ≡ vec_len works.old }
-    ensures closed { AllRan (T.closed note.now) lanes.old lanes.new works.old.items works.new.items }
+    ensures closed { AllRan
+        (T.closed note.now) lanes.old lanes.new works.old.items works.new.items }
     ensures len { vec_len works.new ≡ vec_len works.old }
     ensures room { vec_capacity works.new ≡ vec_capacity works.old }
 {

@@ -8,10 +8,11 @@ use map_cell::{CellFault, Door, Naming, Note, NoteRow, RowNotes};
 use name_workers::{Worker, serve_port};
 use outside::{Gate, Port};
 use published_map::MapVersion;
+use std::marker::Model;
 
 /// What a worker is lent.
 #[derive(Drop)]
-pub struct Lane<P, G, D> {
+pub struct Lane<P: Port, G: Gate, D: Door> {
     /// Where datagrams come from, and replies go to.
     pub port: P,
     /// Asked ahead of each turn.
@@ -22,10 +23,38 @@ pub struct Lane<P, G, D> {
     pub noted: u64,
 }
 
-impl<P, G, D> Lane<P, G, D> {
+impl<P: Port, G: Gate, D: Door> Model for Lane<P, G, D> {
+    ghost use Rattle.drive.specs.Done.{LaneTold};
+
+    ghost Value = { LaneTold };
+
+    ghost view = { λ l. record {
+      port = P.told l.port;
+      port_faults = P.faults l.port;
+      gate = G.told l.gate;
+      gate_faults = G.faults l.gate;
+      asked = D.asked l.door;
+      looks = D.looks l.door;
+      greatest = D.greatest l.door;
+      door_faults = D.faults l.door;
+      noted = l.noted;
+    } };
+}
+
+impl<P: Port, G: Gate, D: Door> Lane<P, G, D> {
     /// One that served nobody so far.
     pub fn new(port: P, gate: G, door: D) -> Lane<P, G, D>
-        ensures { result ≡ record { port = port; gate = gate; door = door; noted = 0 } }
+        ensures { result ≡ record {
+          port = P.told port;
+          port_faults = P.faults port;
+          gate = G.told gate;
+          gate_faults = G.faults gate;
+          asked = D.asked door;
+          looks = D.looks door;
+          greatest = D.greatest door;
+          door_faults = D.faults door;
+          noted = 0;
+        } }
     {
         Lane {
             port,
@@ -73,7 +102,8 @@ pub(crate) fn close_lane<J: Naming, D: Door>(
     served: Ended,
 ) -> Ended
     ensures closing { IsClosing note.now.front
-        (eyes_of D.looks D.greatest D.faults worker.old.viewer door.old) (eyes_of D.looks D.greatest D.faults worker.new.viewer door.new) served result }
+        (eyes_of D.looks D.greatest D.faults worker.old.viewer door.old)
+        (eyes_of D.looks D.greatest D.faults worker.new.viewer door.new) served result }
     ensures asked { D.asked door.new ≡ D.asked door.old }
 {
     door.learn(&mut worker.viewer, note);
@@ -116,17 +146,16 @@ pub(crate) trait Closes<N, H> {
 }
 
 impl<J: Naming, P: Port, G: Gate, D: Door> Runs<NoteRow<J>, LaneWorker<J>> for Lane<P, G, D> {
-    ghost use Rattle.std.specs.Prelude.{◌≡◌, ◌≤◌, ◌-◌, ℕ, Some};
-    ghost use Rattle.std.specs.List.{range_with_len};
+    ghost use Rattle.std.specs.Prelude.{◌≡◌, ◌≤◌, ℕ};
     ghost use Rattle.outside.specs.Limits.{most_notes};
     ghost use Rattle.lane_model.specs.Calls.{IsLaneCall};
     ghost use Rattle.lane_model.specs.Replies.{replies};
-    ghost use Rattle.name_workers.specs.Moments.{eyes_of};
+    ghost use Rattle.drive.specs.Told.{all_notes, moment_at, notes_behind};
 
     ghost ran = { λ a b v w. (nones : ℕ) × IsLaneCall replies v.worker.number v.turns
-        (record { port = P.told a.port; gate = G.told a.gate; notes = Some (record { coming = range_with_len 0 most_notes; nones = 0 }); eyes = eyes_of D.looks D.greatest D.faults v.worker.viewer a.door; count = v.worker.count; port_faults = P.faults a.port; gate_faults = G.faults a.gate })
-        (record { port = P.told b.port; gate = G.told b.gate; notes = Some (record { coming = range_with_len b.noted (most_notes - b.noted); nones = nones }); eyes = eyes_of D.looks D.greatest D.faults w.worker.viewer b.door; count = w.worker.count; port_faults = P.faults b.port; gate_faults = G.faults b.gate })
-        w.ended × (b.noted ≤ most_notes) × (D.asked b.door ≡ D.asked a.door) };
+        (moment_at a v.worker.viewer all_notes v.worker.count)
+        (moment_at b w.worker.viewer (notes_behind b.noted nones) w.worker.count)
+        w.ended × (b.noted ≤ most_notes) × (b.asked ≡ a.asked) };
 
     fn run(&mut self, row: &NoteRow<J>, work: &mut LaneWorker<J>) {
         let mut notes = RowNotes::over(row);
@@ -144,12 +173,13 @@ impl<J: Naming, P: Port, G: Gate, D: Door> Runs<NoteRow<J>, LaneWorker<J>> for L
 
 impl<J: Naming, P: Port, G: Gate, D: Door> Closes<Note<J>, LaneWorker<J>> for Lane<P, G, D> {
     ghost use Rattle.std.specs.Prelude.{◌≡◌};
-    ghost use Rattle.name_workers.specs.Moments.{eyes_of};
     ghost use Rattle.drive.specs.Closing.{IsClosing};
+    ghost use Rattle.drive.specs.Told.{eyes_at};
 
-    ghost closed = { λ note a b v w. IsClosing note.front
-        (eyes_of D.looks D.greatest D.faults v.worker.viewer a.door) (eyes_of D.looks D.greatest D.faults w.worker.viewer b.door)
-        v.ended w.ended × (P.told b.port ≡ P.told a.port) × (P.faults b.port ≡ P.faults a.port) × (G.told b.gate ≡ G.told a.gate) × (D.asked b.door ≡ D.asked a.door) × (b.noted ≡ a.noted) };
+    ghost closed = { λ note a b v w.
+        IsClosing note.front (eyes_at v.worker.viewer a) (eyes_at w.worker.viewer b) v.ended w.ended
+        × (b.port ≡ a.port) × (b.port_faults ≡ a.port_faults) × (b.gate ≡ a.gate)
+        × (b.asked ≡ a.asked) × (b.noted ≡ a.noted) × (b.gate_faults ≡ a.gate_faults) };
 
     fn close(&mut self, note: &Note<J>, work: &mut LaneWorker<J>) {
         work.ended = close_lane(&mut work.worker, &mut self.door, note, work.ended);

@@ -7,6 +7,7 @@ mod fork;
 mod joins;
 mod lane;
 mod laws;
+mod lent;
 mod loan;
 mod queue;
 mod start_signal;
@@ -16,5 +17,6 @@ mod whole;
 
 pub use lane::Lane;
 pub use laws::{drives_are_taken, machines_are_kept};
+pub use lent::Lent;
 pub use stream::StreamLane;
-pub use whole::{DriveEnd, drive};
+pub use whole::{Crew, DriveEnd, drive};

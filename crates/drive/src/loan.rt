@@ -72,9 +72,12 @@ impl<N: Numbers, S: Source> Sends<Desk, Feeder<N>> for S {
     ghost use Rattle.demand_feed.specs.declared.limits.TheConstants.{MOST_TURNS};
     ghost use Rattle.drive.specs.Read.{IsRead};
 
-    ghost ready = { λ desk. (desk.turns ≤ MOST_TURNS) × (length (arc_value desk.topology).market.groups ≡ N.groups) × (length (arc_value desk.topology).market.nodes ≡ N.nodes) };
+    ghost ready = { λ desk. (desk.turns ≤ MOST_TURNS)
+        × (length (arc_value desk.topology).market.groups ≡ N.groups)
+        × (length (arc_value desk.topology).market.nodes ≡ N.nodes) };
 
-    ghost sent = { λ desk a b f g. IsRead (arc_value desk.topology) desk.turns (S.told a) (S.told b) (S.faults a) (S.faults b) f g };
+    ghost sent = { λ desk a b f g.
+        IsRead (arc_value desk.topology) desk.turns (S.told a) (S.told b) (S.faults a) (S.faults b) f g };
 
     fn send<R: Wait>(&mut self, rt: &R, desk: &Desk, feeder: &mut Feeder<N>, alone: bool) {
         if desk.start.may_read(rt, alone) {
@@ -101,7 +104,9 @@ impl<J: Naming, N: Numbers, K: Sink, M: Pace> Feeds<NoteRow<J>, Mapper<J>>
     ghost use Rattle.std.specs.Prelude.{◌≡◌, ◌<◌, ◌^◌, [], length};
     ghost use Rattle.drive.specs.Fed.{AreWorked};
 
-    ghost ready = { λ l m. (length m.newest.plan.market.groups ≡ N.groups) × (length m.newest.plan.market.nodes ≡ N.nodes) × (m.newest.serial < 2 ^ 63) × (l.taker.now.taken ≡ []) };
+    ghost ready = { λ l m. (length m.newest.plan.market.groups ≡ N.groups)
+        × (length m.newest.plan.market.nodes ≡ N.nodes)
+        × (m.newest.serial < 2 ^ 63) × (l.taker.now.taken ≡ []) };
 
     ghost fed = { λ a b m n. AreWorked K.told K.faults M.told a b m n };
 

@@ -32,7 +32,8 @@ pub(crate) fn open_queue<N: Numbers>(
     requires few { count ≤ 3 }
     requires groups { length (arc_value topology.now).market.groups ≡ N.groups }
     requires nodes { length (arc_value topology.now).market.nodes ≡ N.nodes }
-    ensures queue { IfOk result (λ r. IsFeedQueue N.groups N.nodes count (arc_value topology.now) r) }
+    ensures queue { IfOk result
+        (λ r. IsFeedQueue N.groups N.nodes count (arc_value topology.now) r) }
     ensures turns { IfOk result (λ r. r.desk.turns ≡ turns) }
 {
     let topology = Arc::try_clone(topology)?;

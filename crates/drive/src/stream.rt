@@ -4,11 +4,12 @@ ghost use Rattle.std.specs.Prelude.{◌≡◌};
 use crate::lane::{Closes, LaneWorker, Runs, close_lane};
 use map_cell::{Door, Naming, Note, NoteRow, RowNotes};
 use outside::{Gate, Streams};
+use std::marker::Model;
 use tcp_lane::serve_streams;
 
 /// What a worker is lent that answers conversations.
 #[derive(Drop)]
-pub struct StreamLane<Q, G, D> {
+pub struct StreamLane<Q: Streams, G: Gate, D: Door> {
     /// Where conversations come from, and replies go to.
     pub streams: Q,
     /// Asked ahead of each turn.
@@ -19,10 +20,38 @@ pub struct StreamLane<Q, G, D> {
     pub noted: u64,
 }
 
-impl<Q, G, D> StreamLane<Q, G, D> {
+impl<Q: Streams, G: Gate, D: Door> Model for StreamLane<Q, G, D> {
+    ghost use Rattle.drive.specs.Done.{StreamLaneTold};
+
+    ghost Value = { StreamLaneTold };
+
+    ghost view = { λ l. record {
+      port = Q.told l.streams;
+      port_faults = Q.faults l.streams;
+      gate = G.told l.gate;
+      gate_faults = G.faults l.gate;
+      asked = D.asked l.door;
+      looks = D.looks l.door;
+      greatest = D.greatest l.door;
+      door_faults = D.faults l.door;
+      noted = l.noted;
+    } };
+}
+
+impl<Q: Streams, G: Gate, D: Door> StreamLane<Q, G, D> {
     /// One that served nobody so far.
     pub fn new(streams: Q, gate: G, door: D) -> StreamLane<Q, G, D>
-        ensures { result ≡ record { streams = streams; gate = gate; door = door; noted = 0 } }
+        ensures { result ≡ record {
+          port = Q.told streams;
+          port_faults = Q.faults streams;
+          gate = G.told gate;
+          gate_faults = G.faults gate;
+          asked = D.asked door;
+          looks = D.looks door;
+          greatest = D.greatest door;
+          door_faults = D.faults door;
+          noted = 0;
+        } }
     {
         StreamLane {
             streams,
@@ -35,18 +64,16 @@ impl<Q, G, D> StreamLane<Q, G, D> {
 
 impl<J: Naming, Q: Streams, G: Gate, D: Door> Runs<NoteRow<J>, LaneWorker<J>>
     for StreamLane<Q, G, D> {
-    ghost use Rattle.std.specs.Prelude.{◌≡◌, ◌≤◌, ◌-◌, ℕ, Some};
-    ghost use Rattle.std.specs.List.{range_with_len};
+    ghost use Rattle.std.specs.Prelude.{◌≡◌, ◌≤◌, ℕ};
     ghost use Rattle.outside.specs.Limits.{most_notes};
-    ghost use Rattle.name_workers.specs.Moments.{eyes_of};
     ghost use Rattle.tcp_lane.specs.Calls.{IsStreamCall};
     ghost use Rattle.tcp_lane.specs.Replies.{stream_replies};
-    ghost use Rattle.tcp_lane.specs.Turns.{no_talk};
+    ghost use Rattle.drive.specs.Told.{all_notes, notes_behind, stream_moment_at};
 
     ghost ran = { λ a b v w. (nones : ℕ) × IsStreamCall stream_replies v.worker.number v.turns
-        (record { streams = Q.told a.streams; gate = G.told a.gate; notes = Some (record { coming = range_with_len 0 most_notes; nones = 0 }); eyes = eyes_of D.looks D.greatest D.faults v.worker.viewer a.door; count = v.worker.count; stream_faults = Q.faults a.streams; gate_faults = G.faults a.gate; talk = no_talk })
-        (record { streams = Q.told b.streams; gate = G.told b.gate; notes = Some (record { coming = range_with_len b.noted (most_notes - b.noted); nones = nones }); eyes = eyes_of D.looks D.greatest D.faults w.worker.viewer b.door; count = w.worker.count; stream_faults = Q.faults b.streams; gate_faults = G.faults b.gate; talk = no_talk })
-        w.ended × (b.noted ≤ most_notes) × (D.asked b.door ≡ D.asked a.door) };
+        (stream_moment_at a v.worker.viewer all_notes v.worker.count)
+        (stream_moment_at b w.worker.viewer (notes_behind b.noted nones) w.worker.count)
+        w.ended × (b.noted ≤ most_notes) × (b.asked ≡ a.asked) };
 
     fn run(&mut self, row: &NoteRow<J>, work: &mut LaneWorker<J>) {
         let mut notes = RowNotes::over(row);
@@ -65,12 +92,13 @@ impl<J: Naming, Q: Streams, G: Gate, D: Door> Runs<NoteRow<J>, LaneWorker<J>>
 impl<J: Naming, Q: Streams, G: Gate, D: Door> Closes<Note<J>, LaneWorker<J>>
     for StreamLane<Q, G, D> {
     ghost use Rattle.std.specs.Prelude.{◌≡◌};
-    ghost use Rattle.name_workers.specs.Moments.{eyes_of};
     ghost use Rattle.drive.specs.Closing.{IsClosing};
+    ghost use Rattle.drive.specs.Told.{eyes_at};
 
-    ghost closed = { λ note a b v w. IsClosing note.front
-        (eyes_of D.looks D.greatest D.faults v.worker.viewer a.door) (eyes_of D.looks D.greatest D.faults w.worker.viewer b.door)
-        v.ended w.ended × (Q.told b.streams ≡ Q.told a.streams) × (Q.faults b.streams ≡ Q.faults a.streams) × (G.told b.gate ≡ G.told a.gate) × (D.asked b.door ≡ D.asked a.door) × (b.noted ≡ a.noted) };
+    ghost closed = { λ note a b v w.
+        IsClosing note.front (eyes_at v.worker.viewer a) (eyes_at w.worker.viewer b) v.ended w.ended
+        × (b.port ≡ a.port) × (b.port_faults ≡ a.port_faults) × (b.gate ≡ a.gate)
+        × (b.asked ≡ a.asked) × (b.noted ≡ a.noted) × (b.gate_faults ≡ a.gate_faults) };
 
     fn close(&mut self, note: &Note<J>, work: &mut LaneWorker<J>) {
         work.ended = close_lane(&mut work.worker, &mut self.door, note, work.ended);

@@ -1,27 +1,27 @@
 //! A drive: what it takes ahead of the first lane, its run, and its ends.
-ghost use Rattle.std.specs.Prelude.{◌≡◌, ◌≢◌, ◌⊎◌, ◌+◌, ◌≤◌, ◌∷◌, [], List, All, IfOk, IfSome, OnErr, drop, length, map, option_map, vec_len};
+ghost use Rattle.std.specs.Prelude.{◌≡◌, ◌≢◌, ◌+◌, ◌≤◌, ◌∷◌, [], List, All, IfOk, IfSome, OnErr, drop, length, map, option_map, vec_len};
 ghost use Rattle.std.specs.Arc.{arc_value};
 ghost use Rattle.std.specs.Option.{option_to_list};
-ghost use Rattle.outside.specs.Faults.{Rose};
 ghost use Rattle.demand_feed.specs.declared.limits.TheConstants.{MOST_TURNS};
 ghost use Rattle.published_map.specs.Version.{Version};
 ghost use Rattle.map_cell.specs.Histories.{IsHistory};
 ghost use Rattle.lane_model.specs.declared.ended.Ended.{Ended};
-ghost use Rattle.drive.specs.AllDone.{AllDone, AllHeld};
+ghost use Rattle.drive.specs.AllDone.{AllDone, AllHeld, IsFresh};
+ghost use Rattle.drive.specs.Counted.{AreCounted, counts_of};
 ghost use Rattle.drive.specs.Done.{IsDone};
 ghost use Rattle.drive.specs.All.{AllRan};
 ghost use Rattle.drive.specs.Driven.{AreEnds, IsDriven};
 ghost use Rattle.drive.specs.Fed.{AreWorked, IsFedBy};
-ghost use Rattle.drive.specs.Feeds.{AllStand, AnyRose, NoneFell};
 ghost use Rattle.drive.specs.Queue.{IsFeedQueue};
 ghost use Rattle.drive.specs.Read.{IsRead};
 ghost use Rattle.drive.specs.Streams.{AreStreamsDone};
-ghost use Rattle.drive.specs.Told.{feed_told, lane_told, lent_of, stream_told};
+ghost use Rattle.drive.specs.Told.{AreUntouched, IsSameLent, lent_of};
 
 use crate::beside::run_beside;
 use crate::feeders::run_among;
 use crate::joins::{close_all, close_more};
 use crate::lane::{Lane, LaneWorker, Workers};
+use crate::lent::Lent;
 use crate::loan::{Desk, FeedLoan, Loan, TakerLoan};
 use crate::queue::{FeedQueue, all_back, open_queue};
 use crate::stream::StreamLane;
@@ -58,7 +58,9 @@ fn hold_all<J: Naming>(
 ) -> Result<Vec<LaneWorker<J>>, NoMemory>
     requires { vec_len viewers ≤ 16 }
     ensures len { IfOk result (λ r. vec_len r ≡ vec_len viewers) }
-    ensures held { (h : List Version) → All (λ e. (e.seen ≡ h) × (e.heard ≡ h)) viewers.items → IfOk result (λ r. AllHeld (λ i w. (w.worker.number ≡ i) × (w.worker.count ≡ 0) × (w.worker.viewer.seen ≡ h) × (w.worker.viewer.heard ≡ h) × (w.turns ≡ turns)) 0 r.items) }
+    ensures held { (h : List Version) → All (λ e. (e.seen ≡ h) × (e.heard ≡ h)) viewers.items
+        → IfOk result
+        (λ r. AllHeld (IsFresh h turns) 0 r.items) }
 {
     let mut left = viewers;
     let mut works = Vec::with_capacity(alloc, left.len())?;
@@ -76,7 +78,8 @@ fn hold_all<J: Naming>(
 /// The worker of that number for a viewer, if there is one, of so many turns.
 fn hold_one<J: Naming>(viewer: Option<Viewer<J>>, number: u8, turns: u64) -> Option<LaneWorker<J>>
     requires { number ≤ 16 }
-    ensures held { (h : List Version) → IfSome viewer (λ e. (e.seen ≡ h) × (e.heard ≡ h)) → IfSome result (λ w. (w.worker.number ≡ number) × (w.worker.count ≡ 0) × (w.worker.viewer.seen ≡ h) × (w.worker.viewer.heard ≡ h) × (w.turns ≡ turns)) }
+    ensures held { (h : List Version) → IfSome viewer (λ e. (e.seen ≡ h) × (e.heard ≡ h))
+        → IfSome result (IsFresh h turns number) }
     ensures same { length (option_to_list result) ≡ length (option_to_list viewer) }
 {
     match viewer {
@@ -130,9 +133,14 @@ fn prepare<J: Naming, R: Threads>(
     requires few { vec_len viewers ≤ 16 }
     requires feeders { feeders ≤ 4 }
     ensures len { IfOk result (λ r. vec_len r.works.lanes ≡ vec_len viewers) }
-    ensures held { (h : List Version) → All (λ e. (e.seen ≡ h) × (e.heard ≡ h)) viewers.items → IfOk result (λ r. AllHeld (λ i w. (w.worker.number ≡ i) × (w.worker.count ≡ 0) × (w.worker.viewer.seen ≡ h) × (w.worker.viewer.heard ≡ h) × (w.turns ≡ turns)) 0 r.works.lanes.items) }
-    ensures listener { (h : List Version) → IfSome listener (λ e. (e.seen ≡ h) × (e.heard ≡ h)) → IfOk result (λ r. IfSome r.works.stream (λ w. (w.worker.number ≡ vec_len viewers) × (w.worker.count ≡ 0) × (w.worker.viewer.seen ≡ h) × (w.worker.viewer.heard ≡ h) × (w.turns ≡ turns))) }
-    ensures same { IfOk result (λ r. length (option_to_list r.works.stream) ≡ length (option_to_list listener)) }
+    ensures held { (h : List Version) → All (λ e. (e.seen ≡ h) × (e.heard ≡ h)) viewers.items
+        → IfOk result
+        (λ r. AllHeld (IsFresh h turns) 0 r.works.lanes.items) }
+    ensures listener { (h : List Version) → IfSome listener (λ e. (e.seen ≡ h) × (e.heard ≡ h))
+        → IfOk result
+        (λ r. IfSome r.works.stream (IsFresh h turns (vec_len viewers))) }
+    ensures same { IfOk result
+        (λ r. length (option_to_list r.works.stream) ≡ length (option_to_list listener)) }
 {
     let count = viewers.len();
     let row = NoteRow::new(alloc)?;
@@ -171,19 +179,26 @@ fn serve_all<
     stream: &mut StreamLane<Q, G, D>,
 )
     requires turns { loan.old.side.turns ≤ MOST_TURNS }
-    requires first { (mapper.old.history ≡ mapper.old.newest ∷ []) × (mapper.old.newest.serial ≡ 0) }
-    requires fresh { AllHeld (λ i w. (w.worker.number ≡ i) × (w.worker.count ≡ 0) × (w.worker.viewer.seen ≡ mapper.old.history) × (w.worker.viewer.heard ≡ mapper.old.history) × (w.turns ≡ loan.old.side.turns)) 0 works.old.lanes.items }
+    requires first { (mapper.old.history ≡ mapper.old.newest ∷ [])
+        × (mapper.old.newest.serial ≡ 0) }
+    requires fresh { AllHeld
+        (IsFresh mapper.old.history loan.old.side.turns) 0 works.old.lanes.items }
     requires lanes { length loan.old.lanes.now ≡ vec_len works.old.lanes }
-    requires listener { IfSome works.old.stream (λ w. (w.worker.number ≡ vec_len works.old.lanes) × (w.worker.count ≡ 0) × (w.worker.viewer.seen ≡ mapper.old.history) × (w.worker.viewer.heard ≡ mapper.old.history) × (w.turns ≡ loan.old.side.turns)) }
-    ensures fed { IsFedBy S.told S.faults K.told K.faults M.told loan.old.side loan.new.side mapper.old mapper.new }
+    requires listener { IfSome works.old.stream
+        (IsFresh mapper.old.history loan.old.side.turns (vec_len works.old.lanes)) }
+    ensures fed { IsFedBy S.told S.faults K.told K.faults M.told
+        loan.old.side loan.new.side mapper.old mapper.new }
     ensures lanes { loan.new.lanes.ghost_name ≡ loan.old.lanes.ghost_name }
     ensures history { IsHistory mapper.new.history }
     ensures len { vec_len works.new.lanes ≡ vec_len works.old.lanes }
-    ensures done { (rest : List Version) × (mapper.new.history ≡ mapper.old.newest ∷ rest) × AllDone (λ i l k w. IsDone loan.old.side.turns mapper.old.newest rest i
-        (lane_told P.told P.faults G.told D.asked D.looks D.greatest D.faults l) (lane_told P.told P.faults G.told D.asked D.looks D.greatest D.faults k) w.ended) 0 loan.old.lanes.now loan.new.lanes.now works.new.lanes.items
-        × AreStreamsDone loan.old.side.turns mapper.old.newest rest (vec_len works.old.lanes) (option_map (λ w. w.ended) works.new.stream)
-        (stream_told Q.told Q.faults G.told D.asked D.looks D.greatest D.faults stream.old) (stream_told Q.told Q.faults G.told D.asked D.looks D.greatest D.faults stream.new) }
-    ensures same { length (option_to_list works.new.stream) ≡ length (option_to_list works.old.stream) }
+    ensures done { (rest : List Version) × (mapper.new.history ≡ mapper.old.newest ∷ rest)
+        × AllDone (λ i l k w. IsDone loan.old.side.turns mapper.old.newest rest i
+        l k w.ended) 0 loan.old.lanes.now loan.new.lanes.now works.new.lanes.items
+        × AreStreamsDone loan.old.side.turns mapper.old.newest rest (vec_len works.old.lanes)
+        (option_map (λ w. w.ended) works.new.stream)
+        stream.old stream.new }
+    ensures same { length (option_to_list works.new.stream) ≡ length
+        (option_to_list works.old.stream) }
 {
     let _ = row.put_at(rt, 0, mapper.note());
     run_beside(rt, row, works, loan.lanes, stream, mapper, &mut loan.side);
@@ -223,24 +238,35 @@ fn serve_several<
     stream: &mut StreamLane<Q, G, D>,
 )
     requires turns { desk.now.turns ≤ MOST_TURNS }
-    requires groups { (length (arc_value desk.now.topology).market.groups ≡ N.groups) × (length mapper.old.newest.plan.market.groups ≡ N.groups) }
-    requires nodes { (length (arc_value desk.now.topology).market.nodes ≡ N.nodes) × (length mapper.old.newest.plan.market.nodes ≡ N.nodes) }
-    requires unused { (first.old.sent ≡ []) × All (λ f. f.sent ≡ []) feeders.old.items × (side.old.taker.now.taken ≡ []) }
+    requires groups { (length (arc_value desk.now.topology).market.groups ≡ N.groups)
+        × (length mapper.old.newest.plan.market.groups ≡ N.groups) }
+    requires nodes { (length (arc_value desk.now.topology).market.nodes ≡ N.nodes)
+        × (length mapper.old.newest.plan.market.nodes ≡ N.nodes) }
+    requires unused { (first.old.sent ≡ []) × All (λ f. f.sent ≡ []) feeders.old.items
+        × (side.old.taker.now.taken ≡ []) }
     requires feeds { length more.old ≡ vec_len feeders.old }
-    requires first { (mapper.old.history ≡ mapper.old.newest ∷ []) × (mapper.old.newest.serial ≡ 0) }
-    requires fresh { AllHeld (λ i w. (w.worker.number ≡ i) × (w.worker.count ≡ 0) × (w.worker.viewer.seen ≡ mapper.old.history) × (w.worker.viewer.heard ≡ mapper.old.history) × (w.turns ≡ desk.now.turns)) 0 works.old.lanes.items }
+    requires first { (mapper.old.history ≡ mapper.old.newest ∷ [])
+        × (mapper.old.newest.serial ≡ 0) }
+    requires fresh { AllHeld (IsFresh mapper.old.history desk.now.turns) 0 works.old.lanes.items }
     requires lanes { length lanes.old ≡ vec_len works.old.lanes }
-    requires listener { IfSome works.old.stream (λ w. (w.worker.number ≡ vec_len works.old.lanes) × (w.worker.count ≡ 0) × (w.worker.viewer.seen ≡ mapper.old.history) × (w.worker.viewer.heard ≡ mapper.old.history) × (w.turns ≡ desk.now.turns)) }
-    ensures first { IsRead (arc_value desk.now.topology) desk.now.turns (S.told feed.old) (S.told feed.new) (S.faults feed.old) (S.faults feed.new) first.old first.new }
-    ensures sent { AllRan (λ a b f g. IsRead (arc_value desk.now.topology) desk.now.turns (T.told a) (T.told b) (T.faults a) (T.faults b) f g) more.old more.new feeders.old.items feeders.new.items }
+    requires listener { IfSome works.old.stream
+        (IsFresh mapper.old.history desk.now.turns (vec_len works.old.lanes)) }
+    ensures first { IsRead (arc_value desk.now.topology) desk.now.turns (S.told feed.old)
+        (S.told feed.new) (S.faults feed.old) (S.faults feed.new) first.old first.new }
+    ensures sent { AllRan
+        (λ a b f g. IsRead (arc_value desk.now.topology) desk.now.turns (T.told a) (T.told b)
+        (T.faults a) (T.faults b) f g) more.old more.new feeders.old.items feeders.new.items }
     ensures worked { AreWorked K.told K.faults M.told side.old side.new mapper.old mapper.new }
     ensures history { IsHistory mapper.new.history }
     ensures len { vec_len works.new.lanes ≡ vec_len works.old.lanes }
-    ensures done { (rest : List Version) × (mapper.new.history ≡ mapper.old.newest ∷ rest) × AllDone (λ i l k w. IsDone desk.now.turns mapper.old.newest rest i
-        (lane_told P.told P.faults G.told D.asked D.looks D.greatest D.faults l) (lane_told P.told P.faults G.told D.asked D.looks D.greatest D.faults k) w.ended) 0 lanes.old lanes.new works.new.lanes.items
-        × AreStreamsDone desk.now.turns mapper.old.newest rest (vec_len works.old.lanes) (option_map (λ w. w.ended) works.new.stream)
-        (stream_told Q.told Q.faults G.told D.asked D.looks D.greatest D.faults stream.old) (stream_told Q.told Q.faults G.told D.asked D.looks D.greatest D.faults stream.new) }
-    ensures same { length (option_to_list works.new.stream) ≡ length (option_to_list works.old.stream) }
+    ensures done { (rest : List Version) × (mapper.new.history ≡ mapper.old.newest ∷ rest)
+        × AllDone (λ i l k w. IsDone desk.now.turns mapper.old.newest rest i
+        l k w.ended) 0 lanes.old lanes.new works.new.lanes.items
+        × AreStreamsDone desk.now.turns mapper.old.newest rest (vec_len works.old.lanes)
+        (option_map (λ w. w.ended) works.new.stream)
+        stream.old stream.new }
+    ensures same { length (option_to_list works.new.stream) ≡ length
+        (option_to_list works.old.stream) }
 {
     let _ = row.put_at(rt, 0, mapper.note());
     run_among(
@@ -269,29 +295,30 @@ fn drive_one<
     rt: &R,
     mapper: Mapper<J>,
     prepared: Prepared<J>,
-    feed: &mut S,
-    out: &mut K,
-    maps: &mut K,
-    lanes: &mut [Lane<P, G, D>],
+    lent: &mut Lent<'_, '_, '_, '_, '_, '_, S, T, K, P, G, D, M>,
     stream: &mut StreamLane<Q, G, D>,
-    pace: &mut M,
-    turns: u64,
 ) -> DriveEnd
     requires serial { mapper.newest.serial ≡ 0 }
-    requires turns { turns ≤ MOST_TURNS }
-    requires fresh { AllHeld (λ i w. (w.worker.number ≡ i) × (w.worker.count ≡ 0) × (w.worker.viewer.seen ≡ mapper.history) × (w.worker.viewer.heard ≡ mapper.history) × (w.turns ≡ turns)) 0 prepared.works.lanes.items }
-    requires listener { IfSome prepared.works.stream (λ w. (w.worker.number ≡ vec_len prepared.works.lanes) × (w.worker.count ≡ 0) × (w.worker.viewer.seen ≡ mapper.history) × (w.worker.viewer.heard ≡ mapper.history) × (w.turns ≡ turns)) }
-    requires few { (vec_len prepared.works.lanes ≤ 16) × (vec_len prepared.works.lanes ≤ length lanes.old) }
-    ensures driven { (ends : List Ended) × (length ends ≡ vec_len prepared.works.lanes) × AreEnds ends result.lanes × IsDriven turns mapper.newest result.feed ends result.stream
-        (lent_of (feed_told S.told S.faults) (feed_told T.told T.faults) K.told M.told (lane_told P.told P.faults G.told D.asked D.looks D.greatest D.faults) (stream_told Q.told Q.faults G.told D.asked D.looks D.greatest D.faults) feed.old [] out.old maps.old pace.old lanes.old stream.old)
-        (lent_of (feed_told S.told S.faults) (feed_told T.told T.faults) K.told M.told (lane_told P.told P.faults G.told D.asked D.looks D.greatest D.faults) (stream_told Q.told Q.faults G.told D.asked D.looks D.greatest D.faults) feed.new [] out.new maps.new pace.new lanes.new stream.new) }
-    ensures untouched { drop (vec_len prepared.works.lanes) lanes.new ≡ drop (vec_len prepared.works.lanes) lanes.old }
-    ensures stream { length (option_to_list result.stream) ≡ length (option_to_list prepared.works.stream) }
-    ensures later { (K.faults out.old ≤ K.faults out.new) × (K.faults maps.old ≤ K.faults maps.new) × (S.faults feed.old ≤ S.faults feed.new) }
-    ensures sink { result.feed ≡ FeedEnd.SinkFault → Rose (K.faults out.old) (K.faults out.new) ⊎ Rose (K.faults maps.old) (K.faults maps.new) }
-    ensures sink_stays { result.feed ≢ FeedEnd.SinkFault → (K.faults out.new ≡ K.faults out.old) × (K.faults maps.new ≡ K.faults maps.old) }
-    ensures source { result.feed ≡ FeedEnd.SourceFault → Rose (S.faults feed.old) (S.faults feed.new) }
-    ensures source_stays { result.feed ≢ FeedEnd.SourceFault → S.faults feed.new ≡ S.faults feed.old }
+    requires turns { lent.old.turns ≤ MOST_TURNS }
+    requires fresh { AllHeld (IsFresh mapper.history lent.old.turns) 0 prepared.works.lanes.items }
+    requires listener { IfSome prepared.works.stream
+        (IsFresh mapper.history lent.old.turns (vec_len prepared.works.lanes)) }
+    requires few { (vec_len prepared.works.lanes ≤ 16)
+        × (vec_len prepared.works.lanes ≤ length lent.old.lanes.now) }
+    requires one { lent.old.more.now ≡ [] }
+    ensures keeps { IsSameLent lent.old lent.new }
+    ensures driven { (ends : List Ended) × (length ends ≡ vec_len prepared.works.lanes)
+        × AreEnds ends result.lanes
+        × IsDriven lent.old.turns mapper.newest result.feed ends result.stream
+        (lent_of S.told S.faults T.told T.faults K.told M.told lent.old stream.old)
+        (lent_of S.told S.faults T.told T.faults K.told M.told lent.new stream.new) }
+    ensures untouched { drop (vec_len prepared.works.lanes) lent.new.lanes.now ≡ drop
+        (vec_len prepared.works.lanes) lent.old.lanes.now }
+    ensures stream { length (option_to_list result.stream) ≡ length
+        (option_to_list prepared.works.stream) }
+    ensures counted { AreCounted result.feed
+        (counts_of S.told S.faults T.told T.faults K.faults lent.old)
+        (counts_of S.told S.faults T.told T.faults K.faults lent.new) }
 {
     let mut mapper = mapper;
     // tells the prover what the type keeps
@@ -299,14 +326,15 @@ fn drive_one<
     let Prepared { row, works } = prepared;
     let mut works = works;
     let count = works.lanes.len();
+    let lanes = &mut *lent.lanes;
     let (served, _behind) = lanes.split_at_mut(count);
     let mut loan = Loan {
         side: FeedLoan {
-            feed,
-            out,
-            maps,
-            pace,
-            turns,
+            feed: lent.feed,
+            out: lent.out,
+            maps: lent.maps,
+            pace: lent.pace,
+            turns: lent.turns,
             end: FeedEnd::Ended,
         },
         lanes: served,
@@ -338,31 +366,31 @@ fn drive_several<
     queue: FeedQueue<N>,
     mapper: Mapper<J>,
     prepared: Prepared<J>,
-    feed: &mut S,
-    more: &mut [T],
-    out: &mut K,
-    maps: &mut K,
-    lanes: &mut [Lane<P, G, D>],
+    lent: &mut Lent<'_, '_, '_, '_, '_, '_, S, T, K, P, G, D, M>,
     stream: &mut StreamLane<Q, G, D>,
-    pace: &mut M,
 ) -> DriveEnd
     requires serial { mapper.newest.serial ≡ 0 }
-    requires queue { IsFeedQueue N.groups N.nodes (length more.old) mapper.newest.plan queue }
-    requires turns { queue.desk.turns ≤ MOST_TURNS }
-    requires fresh { AllHeld (λ i w. (w.worker.number ≡ i) × (w.worker.count ≡ 0) × (w.worker.viewer.seen ≡ mapper.history) × (w.worker.viewer.heard ≡ mapper.history) × (w.turns ≡ queue.desk.turns)) 0 prepared.works.lanes.items }
-    requires listener { IfSome prepared.works.stream (λ w. (w.worker.number ≡ vec_len prepared.works.lanes) × (w.worker.count ≡ 0) × (w.worker.viewer.seen ≡ mapper.history) × (w.worker.viewer.heard ≡ mapper.history) × (w.turns ≡ queue.desk.turns)) }
-    requires few { (vec_len prepared.works.lanes ≤ 16) × (vec_len prepared.works.lanes ≤ length lanes.old) }
-    requires several { more.old ≢ [] }
-    ensures driven { (ends : List Ended) × (length ends ≡ vec_len prepared.works.lanes) × AreEnds ends result.lanes × IsDriven queue.desk.turns mapper.newest result.feed ends result.stream
-        (lent_of (feed_told S.told S.faults) (feed_told T.told T.faults) K.told M.told (lane_told P.told P.faults G.told D.asked D.looks D.greatest D.faults) (stream_told Q.told Q.faults G.told D.asked D.looks D.greatest D.faults) feed.old more.old out.old maps.old pace.old lanes.old stream.old)
-        (lent_of (feed_told S.told S.faults) (feed_told T.told T.faults) K.told M.told (lane_told P.told P.faults G.told D.asked D.looks D.greatest D.faults) (stream_told Q.told Q.faults G.told D.asked D.looks D.greatest D.faults) feed.new more.new out.new maps.new pace.new lanes.new stream.new) }
-    ensures untouched { drop (vec_len prepared.works.lanes) lanes.new ≡ drop (vec_len prepared.works.lanes) lanes.old }
-    ensures stream { length (option_to_list result.stream) ≡ length (option_to_list prepared.works.stream) }
-    ensures later { (K.faults out.old ≤ K.faults out.new) × (K.faults maps.old ≤ K.faults maps.new) × (S.faults feed.old ≤ S.faults feed.new) × NoneFell (map (feed_told T.told T.faults) more.old) (map (feed_told T.told T.faults) more.new) }
-    ensures sink { result.feed ≡ FeedEnd.SinkFault → Rose (K.faults out.old) (K.faults out.new) ⊎ Rose (K.faults maps.old) (K.faults maps.new) }
-    ensures sink_stays { result.feed ≢ FeedEnd.SinkFault → (K.faults out.new ≡ K.faults out.old) × (K.faults maps.new ≡ K.faults maps.old) }
-    ensures source { result.feed ≡ FeedEnd.SourceFault → Rose (S.faults feed.old) (S.faults feed.new) ⊎ AnyRose (map (feed_told T.told T.faults) more.old) (map (feed_told T.told T.faults) more.new) }
-    ensures source_stays { result.feed ≢ FeedEnd.SourceFault → result.feed ≢ FeedEnd.SinkFault → (S.faults feed.new ≡ S.faults feed.old) × AllStand (map (feed_told T.told T.faults) more.old) (map (feed_told T.told T.faults) more.new) }
+    requires queue { IsFeedQueue N.groups N.nodes (length lent.old.more.now) mapper.newest.plan queue }
+    requires turns { (lent.old.turns ≤ MOST_TURNS) × (queue.desk.turns ≡ lent.old.turns) }
+    requires fresh { AllHeld (IsFresh mapper.history lent.old.turns) 0 prepared.works.lanes.items }
+    requires listener { IfSome prepared.works.stream
+        (IsFresh mapper.history lent.old.turns (vec_len prepared.works.lanes)) }
+    requires few { (vec_len prepared.works.lanes ≤ 16)
+        × (vec_len prepared.works.lanes ≤ length lent.old.lanes.now) }
+    requires several { lent.old.more.now ≢ [] }
+    ensures keeps { IsSameLent lent.old lent.new }
+    ensures driven { (ends : List Ended) × (length ends ≡ vec_len prepared.works.lanes)
+        × AreEnds ends result.lanes
+        × IsDriven lent.old.turns mapper.newest result.feed ends result.stream
+        (lent_of S.told S.faults T.told T.faults K.told M.told lent.old stream.old)
+        (lent_of S.told S.faults T.told T.faults K.told M.told lent.new stream.new) }
+    ensures untouched { drop (vec_len prepared.works.lanes) lent.new.lanes.now ≡ drop
+        (vec_len prepared.works.lanes) lent.old.lanes.now }
+    ensures stream { length (option_to_list result.stream) ≡ length
+        (option_to_list prepared.works.stream) }
+    ensures counted { AreCounted result.feed
+        (counts_of S.told S.faults T.told T.faults K.faults lent.old)
+        (counts_of S.told S.faults T.told T.faults K.faults lent.new) }
 {
     let mut mapper = mapper;
     // tells the prover what the type keeps
@@ -379,21 +407,22 @@ fn drive_several<
     let mut feeders = feeders;
     let mut taker = taker;
     let count = works.lanes.len();
+    let lanes = &mut *lent.lanes;
     let (served, _behind) = lanes.split_at_mut(count);
     let mut side = TakerLoan {
         taker: &mut taker,
-        out,
-        maps,
-        pace,
+        out: lent.out,
+        maps: lent.maps,
+        pace: lent.pace,
         end: FeedEnd::Ended,
     };
     serve_several(
         rt,
         &desk,
         &mut first,
-        feed,
+        lent.feed,
         &mut feeders,
-        more,
+        lent.more,
         &row,
         &mut mapper,
         &mut works,
@@ -429,43 +458,60 @@ fn drive_with<
     alloc: Global,
     mapper: Mapper<J>,
     prepared: Prepared<J>,
-    feed: &mut S,
-    more: &mut [T],
-    out: &mut K,
-    maps: &mut K,
-    lanes: &mut [Lane<P, G, D>],
+    lent: &mut Lent<'_, '_, '_, '_, '_, '_, S, T, K, P, G, D, M>,
     stream: &mut StreamLane<Q, G, D>,
-    pace: &mut M,
-    turns: u64,
 ) -> Result<DriveEnd, NoMemory>
     requires serial { mapper.newest.serial ≡ 0 }
     requires groups { length mapper.newest.plan.market.groups ≡ N.groups }
     requires nodes { length mapper.newest.plan.market.nodes ≡ N.nodes }
-    requires turns { turns ≤ MOST_TURNS }
-    requires fresh { AllHeld (λ i w. (w.worker.number ≡ i) × (w.worker.count ≡ 0) × (w.worker.viewer.seen ≡ mapper.history) × (w.worker.viewer.heard ≡ mapper.history) × (w.turns ≡ turns)) 0 prepared.works.lanes.items }
-    requires listener { IfSome prepared.works.stream (λ w. (w.worker.number ≡ vec_len prepared.works.lanes) × (w.worker.count ≡ 0) × (w.worker.viewer.seen ≡ mapper.history) × (w.worker.viewer.heard ≡ mapper.history) × (w.turns ≡ turns)) }
-    requires few { (vec_len prepared.works.lanes ≤ 16) × (vec_len prepared.works.lanes ≤ length lanes.old) }
-    requires several { (more.old ≢ []) × (length more.old ≤ 3) }
-    ensures driven { IfOk result (λ r. (ends : List Ended) × (length ends ≡ vec_len prepared.works.lanes) × AreEnds ends r.lanes × IsDriven turns mapper.newest r.feed ends r.stream
-        (lent_of (feed_told S.told S.faults) (feed_told T.told T.faults) K.told M.told (lane_told P.told P.faults G.told D.asked D.looks D.greatest D.faults) (stream_told Q.told Q.faults G.told D.asked D.looks D.greatest D.faults) feed.old more.old out.old maps.old pace.old lanes.old stream.old)
-        (lent_of (feed_told S.told S.faults) (feed_told T.told T.faults) K.told M.told (lane_told P.told P.faults G.told D.asked D.looks D.greatest D.faults) (stream_told Q.told Q.faults G.told D.asked D.looks D.greatest D.faults) feed.new more.new out.new maps.new pace.new lanes.new stream.new)) }
-    ensures untouched { drop (vec_len prepared.works.lanes) lanes.new ≡ drop (vec_len prepared.works.lanes) lanes.old }
-    ensures stream { IfOk result (λ r. length (option_to_list r.stream) ≡ length (option_to_list prepared.works.stream)) }
-    ensures no_memory { OnErr result ((feed.new ≡ feed.old) × (more.new ≡ more.old) × (out.new ≡ out.old) × (maps.new ≡ maps.old) × (lanes.new ≡ lanes.old) × (stream.new ≡ stream.old) × (pace.new ≡ pace.old)) }
-    ensures later { (K.faults out.old ≤ K.faults out.new) × (K.faults maps.old ≤ K.faults maps.new) × (S.faults feed.old ≤ S.faults feed.new) × NoneFell (map (feed_told T.told T.faults) more.old) (map (feed_told T.told T.faults) more.new) }
-    ensures sink { IfOk result (λ r. r.feed ≡ FeedEnd.SinkFault → Rose (K.faults out.old) (K.faults out.new) ⊎ Rose (K.faults maps.old) (K.faults maps.new)) }
-    ensures sink_stays { IfOk result (λ r. r.feed ≢ FeedEnd.SinkFault → (K.faults out.new ≡ K.faults out.old) × (K.faults maps.new ≡ K.faults maps.old)) }
-    ensures source { IfOk result (λ r. r.feed ≡ FeedEnd.SourceFault → Rose (S.faults feed.old) (S.faults feed.new) ⊎ AnyRose (map (feed_told T.told T.faults) more.old) (map (feed_told T.told T.faults) more.new)) }
-    ensures source_stays { IfOk result (λ r. r.feed ≢ FeedEnd.SourceFault → r.feed ≢ FeedEnd.SinkFault → (S.faults feed.new ≡ S.faults feed.old) × AllStand (map (feed_told T.told T.faults) more.old) (map (feed_told T.told T.faults) more.new)) }
+    requires turns { lent.old.turns ≤ MOST_TURNS }
+    requires fresh { AllHeld (IsFresh mapper.history lent.old.turns) 0 prepared.works.lanes.items }
+    requires listener { IfSome prepared.works.stream
+        (IsFresh mapper.history lent.old.turns (vec_len prepared.works.lanes)) }
+    requires few { (vec_len prepared.works.lanes ≤ 16)
+        × (vec_len prepared.works.lanes ≤ length lent.old.lanes.now) }
+    requires several { (lent.old.more.now ≢ []) × (length lent.old.more.now ≤ 3) }
+    ensures keeps { IsSameLent lent.old lent.new }
+    ensures driven { IfOk result (λ r. (ends : List Ended)
+        × (length ends ≡ vec_len prepared.works.lanes) × AreEnds ends r.lanes
+        × IsDriven lent.old.turns mapper.newest r.feed ends r.stream
+        (lent_of S.told S.faults T.told T.faults K.told M.told lent.old stream.old)
+        (lent_of S.told S.faults T.told T.faults K.told M.told lent.new stream.new)) }
+    ensures untouched { drop (vec_len prepared.works.lanes) lent.new.lanes.now ≡ drop
+        (vec_len prepared.works.lanes) lent.old.lanes.now }
+    ensures stream { IfOk result
+        (λ r. length (option_to_list r.stream) ≡ length (option_to_list prepared.works.stream)) }
+    ensures no_memory { OnErr result (AreUntouched lent.old lent.new × (stream.new ≡ stream.old)) }
+    ensures counted { IfOk result (λ r. AreCounted r.feed
+        (counts_of S.told S.faults T.told T.faults K.faults lent.old)
+        (counts_of S.told S.faults T.told T.faults K.faults lent.new)) }
 {
-    let count = more.len() as u8;
-    let Ok(queue) = open_queue::<N>(alloc, mapper.topology(), count, turns) else {
+    let count = lent.more.len() as u8;
+    let Ok(queue) = open_queue::<N>(alloc, mapper.topology(), count, lent.turns) else {
         mapper.close(rt);
         return Err(NoMemory);
     };
-    Ok(drive_several(
-        rt, queue, mapper, prepared, feed, more, out, maps, lanes, stream, pace,
-    ))
+    Ok(drive_several(rt, queue, mapper, prepared, lent, stream))
+}
+
+/// Who works in a drive: the mapper, a viewer of its maps for each of the first lanes, and one for the lane for conversations,
+/// where these are to be answered.
+pub struct Crew<J: Naming> {
+    pub mapper: Mapper<J>,
+    pub viewers: Vec<Viewer<J>>,
+    pub listener: Option<Viewer<J>>,
+}
+
+impl<J: Naming> Crew<J> {
+    /// Closes the mapper: nobody works.
+    pub fn close<R: Wait>(self, rt: &R) {
+        let Crew {
+            mapper,
+            viewers: _,
+            listener: _,
+        } = self;
+        mapper.close(rt);
+    }
 }
 
 /// Runs a mapper's feed, or several at once, beside the first lanes, one for each viewer, and beside the lane for
@@ -498,48 +544,47 @@ pub fn drive<
 >(
     rt: &R,
     alloc: Global,
-    mapper: Mapper<J>,
-    viewers: Vec<Viewer<J>>,
-    listener: Option<Viewer<J>>,
-    feed: &mut S,
-    more: &mut [T],
-    out: &mut K,
-    maps: &mut K,
-    lanes: &mut [Lane<P, G, D>],
+    crew: Crew<J>,
+    lent: &mut Lent<'_, '_, '_, '_, '_, '_, S, T, K, P, G, D, M>,
     stream: &mut StreamLane<Q, G, D>,
-    pace: &mut M,
-    turns: u64,
 ) -> Result<DriveEnd, NoMemory>
-    requires serial { mapper.newest.serial ≡ 0 }
-    requires turns { turns ≤ MOST_TURNS }
-    requires viewers { All (λ v. (v.seen ≡ mapper.history) × (v.heard ≡ mapper.history)) viewers.items }
-    requires listener { IfSome listener (λ v. (v.seen ≡ mapper.history) × (v.heard ≡ mapper.history)) }
-    requires few { (vec_len viewers ≤ 16) × (vec_len viewers ≤ length lanes.old) }
-    requires feeds { length more.old ≤ 3 }
-    ensures driven { IfOk result (λ r. (ends : List Ended) × (length ends ≡ vec_len viewers) × AreEnds ends r.lanes × IsDriven turns mapper.newest r.feed ends r.stream
-        (lent_of (feed_told S.told S.faults) (feed_told T.told T.faults) K.told M.told (lane_told P.told P.faults G.told D.asked D.looks D.greatest D.faults) (stream_told Q.told Q.faults G.told D.asked D.looks D.greatest D.faults) feed.old more.old out.old maps.old pace.old lanes.old stream.old)
-        (lent_of (feed_told S.told S.faults) (feed_told T.told T.faults) K.told M.told (lane_told P.told P.faults G.told D.asked D.looks D.greatest D.faults) (stream_told Q.told Q.faults G.told D.asked D.looks D.greatest D.faults) feed.new more.new out.new maps.new pace.new lanes.new stream.new)) }
-    ensures untouched { drop (vec_len viewers) lanes.new ≡ drop (vec_len viewers) lanes.old }
-    ensures stream { IfOk result (λ r. length (option_to_list r.stream) ≡ length (option_to_list listener)) }
-    ensures no_memory { OnErr result ((feed.new ≡ feed.old) × (more.new ≡ more.old) × (out.new ≡ out.old) × (maps.new ≡ maps.old) × (lanes.new ≡ lanes.old) × (stream.new ≡ stream.old) × (pace.new ≡ pace.old)) }
-    ensures later { (K.faults out.old ≤ K.faults out.new) × (K.faults maps.old ≤ K.faults maps.new) × (S.faults feed.old ≤ S.faults feed.new) × NoneFell (map (feed_told T.told T.faults) more.old) (map (feed_told T.told T.faults) more.new) }
-    ensures sink { IfOk result (λ r. r.feed ≡ FeedEnd.SinkFault → Rose (K.faults out.old) (K.faults out.new) ⊎ Rose (K.faults maps.old) (K.faults maps.new)) }
-    ensures sink_stays { IfOk result (λ r. r.feed ≢ FeedEnd.SinkFault → (K.faults out.new ≡ K.faults out.old) × (K.faults maps.new ≡ K.faults maps.old)) }
-    ensures source { IfOk result (λ r. r.feed ≡ FeedEnd.SourceFault → Rose (S.faults feed.old) (S.faults feed.new) ⊎ AnyRose (map (feed_told T.told T.faults) more.old) (map (feed_told T.told T.faults) more.new)) }
-    ensures source_stays { IfOk result (λ r. r.feed ≢ FeedEnd.SourceFault → (r.feed ≡ FeedEnd.SinkFault → more.old ≡ []) → (S.faults feed.new ≡ S.faults feed.old) × AllStand (map (feed_told T.told T.faults) more.old) (map (feed_told T.told T.faults) more.new)) }
+    requires serial { crew.mapper.newest.serial ≡ 0 }
+    requires turns { lent.old.turns ≤ MOST_TURNS }
+    requires viewers { All (λ v. (v.seen ≡ crew.mapper.history) × (v.heard ≡ crew.mapper.history))
+        crew.viewers.items }
+    requires listener { IfSome crew.listener
+        (λ v. (v.seen ≡ crew.mapper.history) × (v.heard ≡ crew.mapper.history)) }
+    requires few { (vec_len crew.viewers ≤ 16)
+        × (vec_len crew.viewers ≤ length lent.old.lanes.now) }
+    requires feeds { length lent.old.more.now ≤ 3 }
+    ensures keeps { IsSameLent lent.old lent.new }
+    ensures driven { IfOk result (λ r. (ends : List Ended) × (length ends ≡ vec_len crew.viewers)
+        × AreEnds ends r.lanes
+        × IsDriven lent.old.turns crew.mapper.newest r.feed ends r.stream
+        (lent_of S.told S.faults T.told T.faults K.told M.told lent.old stream.old)
+        (lent_of S.told S.faults T.told T.faults K.told M.told lent.new stream.new)) }
+    ensures untouched { drop (vec_len crew.viewers) lent.new.lanes.now ≡ drop
+        (vec_len crew.viewers) lent.old.lanes.now }
+    ensures stream { IfOk result
+        (λ r. length (option_to_list r.stream) ≡ length (option_to_list crew.listener)) }
+    ensures no_memory { OnErr result (AreUntouched lent.old lent.new × (stream.new ≡ stream.old)) }
+    ensures counted { IfOk result (λ r. AreCounted r.feed
+        (counts_of S.told S.faults T.told T.faults K.faults lent.old)
+        (counts_of S.told S.faults T.told T.faults K.faults lent.new)) }
 {
-    let count = more.len();
+    let Crew {
+        mapper,
+        viewers,
+        listener,
+    } = crew;
+    let count = lent.more.len();
     let feeders = if count == 0 { 0 } else { count + 1 };
-    let Ok(prepared) = prepare(rt, alloc, viewers, listener, feeders, turns) else {
+    let Ok(prepared) = prepare(rt, alloc, viewers, listener, feeders, lent.turns) else {
         mapper.close(rt);
         return Err(NoMemory);
     };
     if count == 0 {
-        return Ok(drive_one::<J, S, T, K, P, Q, G, D, M, R>(
-            rt, mapper, prepared, feed, out, maps, lanes, stream, pace, turns,
-        ));
+        return Ok(drive_one::<J, S, T, K, P, Q, G, D, M, R>(rt, mapper, prepared, lent, stream));
     }
-    drive_with::<J, Brand, S, T, K, P, Q, G, D, M, R>(
-        rt, alloc, mapper, prepared, feed, more, out, maps, lanes, stream, pace, turns,
-    )
+    drive_with::<J, Brand, S, T, K, P, Q, G, D, M, R>(rt, alloc, mapper, prepared, lent, stream)
 }

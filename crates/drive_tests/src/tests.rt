@@ -3,7 +3,7 @@ ghost use Rattle.std.specs.Prelude.{◌≡◌, ◌≤◌, length};
 
 use addr_text::{Addr, Peer};
 use demand_feed::FeedEnd;
-use drive::{DriveEnd, Lane, StreamLane, drive};
+use drive::{Crew, DriveEnd, Lane, Lent, StreamLane, drive};
 use lane_model::Ended;
 use map_cell::{Door, EmptyHistory, MemDoor, Naming, PlainDoor};
 use map_model::{Proposals, Steps};
@@ -179,11 +179,23 @@ fn drive_over<
         Ok((mapper, seats)) => {
             let Ends { feed, out, maps } = ends;
             let mut none: [MemSource; 0] = [];
-            drive(
-                rt, alloc, mapper, seats, None, feed, &mut none, out, maps, lanes, stream, pace,
-                100,
-            )
-            .ok()
+            let count = lanes.len();
+            let (all, _behind) = lanes.split_at_mut(count);
+            let crew = Crew {
+                mapper,
+                viewers: seats,
+                listener: None,
+            };
+            let mut lent = Lent {
+                feed,
+                more: &mut none,
+                out,
+                maps,
+                lanes: all,
+                pace,
+                turns: 100,
+            };
+            drive(rt, alloc, crew, &mut lent, stream).ok()
         }
     }
 }
@@ -277,7 +289,8 @@ fn drive_one<R: Threads + Wait + Sync>(
     ) {
         None => None,
         Some(ended) => {
-            let port = &lanes[0].port;
+            let lane = &lanes[0];
+            let port = &lane.port;
             Some((ended, port.taken().len(), port.tries().len()))
         }
     }
@@ -338,7 +351,10 @@ fn sixteen_lanes(alloc: Global) -> Option<Vec<Lane<MemPort, MemGate, MemDoor>>> 
 fn taken_by(lanes: &[Lane<MemPort, MemGate, MemDoor>]) -> usize {
     lanes
         .iter()
-        .filter(|lane| lane.port.taken().len() == 1)
+        .filter(|lane| {
+            let lane: &Lane<MemPort, MemGate, MemDoor> = lane;
+            lane.port.taken().len() == 1
+        })
         .count()
 }
 

@@ -1,7 +1,6 @@
 -- Ports that are opened one after another.
-use Rattle.std.proofs.Common.{◌≡◌, ℕ, suc, ◌<◌, List, [], ◌∷◌, ◌++◌, length, ap, sym, ◌∙◌, subst, arith}
-use Rattle.std.specs.Prelude.{◌-◌, map}
-use Rattle.std.proofs.lemmas.List.{length-map, map-append}
+use Rattle.std.proofs.Common.{◌≡◌, ℕ, suc, ◌<◌, List, [], ◌∷◌, ◌++◌, length, ap, sym, subst, arith}
+use Rattle.std.specs.Prelude.{◌-◌}
 use Rattle.addr_text.specs.declared.address.Listen.{Listen}
 use Rattle.outside.specs.declared.port.Opening.{Opening}
 use Rattle.outside.specs.declared.port.Opening.TheVariants as opening
@@ -32,10 +31,9 @@ more_opened listen n opening.Failed a c b d one h k = (suc k.0, omega (arith, k.
 pub first_failed : (listen : Listen) (n : ℕ) (a c b : List LaneTold) → 0 < n → HasOpened listen 1 opening.Failed a c → HasOpened listen n opening.Failed (a ++ b) (c ++ b)
 first_failed listen n a c b some h = (h.0, omega (arith, h.1, some), opened_more listen (then_failed h.0) a c b h.2)
 
--- the same of any lanes that are told of
-pub more_lanes : {L : Type 0} (f : L → LaneTold) (listen : Listen) (n : ℕ) (r : Opening) (xs a b c d : List L) → xs ≡ a ++ b → length a ≡ 1 → 0 < n
-    → HasOpened listen 1 opening.Ready (map f a) (map f c) → HasOpened listen (n - 1) r (map f b) (map f d) → HasOpened listen n r (map f xs) (map f (c ++ d))
-more_lanes f listen n r xs a b c d is one some h k =
+-- the same of all of them
+pub more_lanes : (listen : Listen) (n : ℕ) (r : Opening) (xs a b c d : List LaneTold) → xs ≡ a ++ b → length a ≡ 1 → 0 < n
+    → HasOpened listen 1 opening.Ready a c → HasOpened listen (n - 1) r b d → HasOpened listen n r xs (c ++ d)
+more_lanes listen n r xs a b c d is one some h k =
     let count : n ≡ suc (n - 1) = omega (arith, some) in
-    let whole : HasOpened listen (suc (n - 1)) r (map f a ++ map f b) (map f c ++ map f d) = more_opened listen (n - 1) r (map f a) (map f c) (map f b) (map f d) (length-map a f ∙ one) h k in
-    rw (is, map-append f a b, map-append f c d) (subst (λ m. HasOpened listen m r (map f a ++ map f b) (map f c ++ map f d)) (sym count) whole)
+    rw is (subst (λ m. HasOpened listen m r (a ++ b) (c ++ d)) (sym count) (more_opened listen (n - 1) r a c b d one h k))

@@ -1,19 +1,15 @@
 -- All that is told outside at one moment.
 use Rattle.std.specs.Prelude.{◌≡◌, ℕ, List, Option, map}
-use Rattle.outside.specs.Gate.{GateTold}
-use Rattle.outside.specs.Port.{PortTold}
 use Rattle.outside.specs.Shelf.{Shelved}
 use Rattle.outside.specs.Sink.{Written}
 use Rattle.outside.specs.Source.{Fed}
-use Rattle.outside.specs.Streams.{StreamsTold}
 use Rattle.outside.specs.declared.pace.PaceCall.{PaceCall}
-use Rattle.drive.specs.declared.stream.StreamLane.{StreamLane}
 use Rattle.drive.specs.Done.{LaneTold, StreamLaneTold}
 use Rattle.drive.specs.Driven.{Lent as LentTold}
 use Rattle.drive.specs.Feeds.{FeedTold}
-use Rattle.drive.specs.Told.{feed_told, lane_told, stream_told}
+use Rattle.drive.specs.Told.{feed_told}
 use Rattle.glb.specs.Outcome.{Faults, Outside}
-use Rattle.glb.specs.declared.lent.Lent.{Lent}
+use Rattle.drive.specs.declared.lent.Lent.{Lent}
 
 -- What all but the files tells at one moment: what a drive is lent, the names under which each further feed was opened, and the counts of faults of both outputs.
 pub record Stage : Type 0 where
@@ -37,16 +33,33 @@ stage feed more opens out maps pace lanes stream out_faults maps_faults = record
 }
 
 -- what all that is lent to a session tells
-abbrev pub stage_of : {S N K P Q G D M : Type 0} → (S → Option Fed) → (S → ℕ) → (N → Option Fed) → (N → ℕ) → (N → Option (List (List ℕ))) → (K → Option Written) → (K → ℕ) → (P → Option PortTold) → (P → ℕ) → (Q → Option StreamsTold) → (Q → ℕ) → (G → Option GateTold) → (D → ℕ) → (D → ℕ) → (D → ℕ) → (D → ℕ) → (M → Option (List PaceCall)) → Lent S N K P G D M → StreamLane Q G D → Stage
-stage_of fed feed_faults named named_faults opens written faults port port_faults streams stream_faults gate asked looks greatest door_faults paced l s =
-    stage (feed_told fed feed_faults l.feed.now) (map (feed_told named named_faults) l.more.now) (map opens l.more.now) (written l.out.now) (written l.maps.now) (paced l.pace.now) (map (lane_told port port_faults gate asked looks greatest door_faults) l.lanes.now) (stream_told streams stream_faults gate asked looks greatest door_faults s) (faults l.out.now) (faults l.maps.now)
-
--- the same things are lent
-abbrev pub IsSame : {S N K P G D M : Type 0} → Lent S N K P G D M → Lent S N K P G D M → Type 0
-IsSame a b = (b.feed.ghost_name ≡ a.feed.ghost_name) × (b.more.ghost_name ≡ a.more.ghost_name) × (b.out.ghost_name ≡ a.out.ghost_name) × (b.maps.ghost_name ≡ a.maps.ghost_name) × (b.lanes.ghost_name ≡ a.lanes.ghost_name) × (b.pace.ghost_name ≡ a.pace.ghost_name)
+abbrev pub stage_of : {S N K P G D M : Type 0}
+    → (S → Option Fed) → (S → ℕ) → (N → Option Fed) → (N → ℕ) → (N → Option (List (List ℕ)))
+    → (K → Option Written) → (K → ℕ) → (M → Option (List PaceCall)) → Lent S N K P G D M → StreamLaneTold → Stage
+stage_of fed feed_faults named named_faults opens written faults paced l s = stage
+    (feed_told fed feed_faults l.feed.now) (map (feed_told named named_faults) l.more.now) (map opens l.more.now)
+    (written l.out.now) (written l.maps.now) (paced l.pace.now) l.lanes.now s (faults l.out.now) (faults l.maps.now)
 
 abbrev pub surroundings : Option Shelved → ℕ → Stage → Surroundings
 surroundings files files_faults stage = record { files = files; files_faults = files_faults; stage = stage }
+
+-- what all outside tells: the files, and all that is lent to a session
+abbrev pub told_over : {F S N K P G D M : Type 0}
+    → (F → Option Shelved) → (F → ℕ) → (S → Option Fed) → (S → ℕ) → (N → Option Fed) → (N → ℕ)
+    → (N → Option (List (List ℕ))) → (K → Option Written) → (K → ℕ) → (M → Option (List PaceCall))
+    → F → Lent S N K P G D M → StreamLaneTold → Surroundings
+told_over shelved files_faults fed feed_faults named named_faults opens written faults paced files l s =
+    surroundings (shelved files) (files_faults files) (stage_of fed feed_faults named named_faults opens written faults paced l s)
+
+-- what all outside tells: the files, the feed, the further feeds, both outputs, the lanes, the one for conversations, and the pace
+abbrev pub all_told : {F S N K M : Type 0}
+    → (F → Option Shelved) → (F → ℕ) → (S → Option Fed) → (S → ℕ) → (N → Option Fed) → (N → ℕ)
+    → (N → Option (List (List ℕ))) → (K → Option Written) → (K → ℕ) → (M → Option (List PaceCall))
+    → F → S → List N → K → K → List LaneTold → StreamLaneTold → M → Surroundings
+all_told shelved files_faults fed feed_faults named named_faults opens written faults paced files feed more out maps lanes stream pace =
+    surroundings (shelved files) (files_faults files) (stage
+    (feed_told fed feed_faults feed) (map (feed_told named named_faults) more) (map opens more)
+    (written out) (written maps) (paced pace) lanes stream (faults out) (faults maps))
 
 -- the files and the output, which are all that most commands ask
 abbrev pub outside_of : Surroundings → Outside

@@ -47,7 +47,9 @@ fn reply_text(
     octets: &[u8],
 ) -> Result<Vec<u8>, NoMemory>
     requires { IsVersion version.now }
-    ensures { IfOk result (λ t. t.items ≡ text.answer (answer_of version.now (record { from = from; octets = octets.now }))) }
+    ensures { IfOk result
+        (λ t. t.items ≡ text.answer
+        (answer_of version.now (record { from = from; octets = octets.now }))) }
 {
     let mut out = ArrayVec::new();
     match reply(version, from, octets, DRAW, Way::Datagram, &mut out) {
@@ -65,7 +67,9 @@ fn replied(
     octets: &[u8],
 ) -> Result<Report, NoMemory>
     requires { IsGood topology.market map.lines.items map.names.items }
-    ensures { IfOk result (λ r. IsReplied topology (mapped map) (record { from = from; octets = octets.now }) (outcome_of r)) }
+    ensures { IfOk result
+        (λ r. IsReplied topology (mapped map) (record { from = from; octets = octets.now })
+        (outcome_of r)) }
 {
     let version = first_version(alloc, topology, map)?;
     let text = reply_text(alloc, &version, from, octets)?;
@@ -83,7 +87,8 @@ fn report(
     from: Addr,
     octets: &[u8],
 ) -> Result<Report, Stop>
-    ensures ended { EndsBy (IsAnswered (record { from = from; octets = octets.now }) topology (mapped map)) result }
+    ensures ended { EndsBy
+        (IsAnswered (record { from = from; octets = octets.now }) topology (mapped map)) result }
     ensures source { result ≢ Err Stop.SourceFault }
 {
     match judge(alloc, &topology, &map)? {
@@ -101,7 +106,10 @@ pub fn answer_files<F: Shelf>(
     from: Addr,
     octets: &[u8],
 ) -> Result<Report, Stop>
-    ensures { IsEnd (loads_of_check topology.now map.now) (IsAnswerDue topology.now map.now (record { from = from; octets = octets.now }) (F.told files.old)) (record { told = F.told files.old; faults = F.faults files.old }) (record { told = F.told files.new; faults = F.faults files.new }) result }
+    ensures { IsEnd (loads_of_check topology.now map.now)
+        (IsAnswerDue topology.now map.now (record { from = from; octets = octets.now })
+        (F.told files.old)) (record { told = F.told files.old; faults = F.faults files.old })
+        (record { told = F.told files.new; faults = F.faults files.new }) result }
 {
     let topology = load_topology(alloc, files, topology)?;
     let map = load_map(alloc, files, map, &topology)?;

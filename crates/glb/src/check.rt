@@ -28,7 +28,8 @@ fn status_of_verdict(verdict: Verdict) -> Status
 
 /// The verdict on a map. What it names is there.
 pub fn judge(alloc: Global, topology: &Topology, map: &MapLines) -> Result<Verdict, NoMemory>
-    ensures judged { IfOk result (Judges topology.now.market map.now.lines.items map.now.names.items) }
+    ensures judged { IfOk result
+        (Judges topology.now.market map.now.lines.items map.now.names.items) }
     ensures nameable { IfOk result (IsNameable topology.now.market) }
 {
     let mut room = CheckRoom::new(alloc, topology.instance())?;
@@ -38,7 +39,11 @@ pub fn judge(alloc: Global, topology: &Topology, map: &MapLines) -> Result<Verdi
 /// A verdict other than good, as what is to be said.
 pub fn not_good(alloc: Global, topology: &Topology, verdict: Verdict) -> Result<Report, NoMemory>
     requires { IsNameable topology.now.market verdict }
-    ensures { IfOk result (λ r. outcome_of r ≡ record { status = Status.NotGood; pieces = text.verdict topology.now verdict ∷ [] }) }
+    ensures { IfOk result
+        (λ r. outcome_of r ≡ record {
+          status = Status.NotGood;
+          pieces = text.verdict topology.now verdict ∷ [];
+        }) }
 {
     let text = verdict_text(alloc, topology, verdict)?;
     Ok(Report {
@@ -67,7 +72,10 @@ pub fn check_files<F: Shelf>(
     topology: &str,
     map: &str,
 ) -> Result<Report, Stop>
-    ensures { IsEnd (loads_of_check topology.now map.now) (IsCheckDue topology.now map.now (F.told files.old)) (record { told = F.told files.old; faults = F.faults files.old }) (record { told = F.told files.new; faults = F.faults files.new }) result }
+    ensures { IsEnd (loads_of_check topology.now map.now)
+        (IsCheckDue topology.now map.now (F.told files.old))
+        (record { told = F.told files.old; faults = F.faults files.old })
+        (record { told = F.told files.new; faults = F.faults files.new }) result }
 {
     let topology = load_topology(alloc, files, topology)?;
     let map = load_map(alloc, files, map, &topology)?;

@@ -39,11 +39,13 @@ impl From<NoMemory> for Stop {
 
 /// Puts a text, and answers its status unless that fails.
 pub fn say<K: Sink>(out: &mut K, status: Status, text: &[u8]) -> Status
-    ensures run { Speaks (λ due. due ≡ record { status = status; pieces = text.now ∷ [] }) (K.told out.old) (K.told out.new) result }
+    ensures run { Speaks (λ due. due ≡ record { status = status; pieces = text.now ∷ [] })
+        (K.told out.old) (K.told out.new) result }
     ensures status { result ≡ status ⊎ result ≡ Status.SinkFault }
     ensures later { K.faults out.old ≤ K.faults out.new }
     ensures stays { result ≢ Status.SinkFault → K.faults out.new ≡ K.faults out.old }
-    ensures cause { HasText status → result ≡ Status.SinkFault → Rose (K.faults out.old) (K.faults out.new) }
+    ensures cause { HasText status → result ≡ Status.SinkFault
+        → Rose (K.faults out.old) (K.faults out.new) }
 {
     match out.put(text) {
         Put::Done => status,

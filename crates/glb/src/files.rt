@@ -40,7 +40,8 @@ fn refuse(text: Result<Vec<u8>, NoMemory>) -> Stop
 
 /// The refusal of a topology.
 fn refuse_topology(alloc: Global, fault: TopologyFault) -> Stop
-    ensures said { StopsBy (λ due. (fault ≢ TopologyFault.NoMemory) × (due ≡ refused (text.topology_fault fault))) result }
+    ensures said { StopsBy (λ due. (fault ≢ TopologyFault.NoMemory)
+        × (due ≡ refused (text.topology_fault fault))) result }
     ensures source { result ≢ Stop.SourceFault }
 {
     match fault {
@@ -51,7 +52,8 @@ fn refuse_topology(alloc: Global, fault: TopologyFault) -> Stop
 
 /// What the bytes of a topology say.
 fn parse_topology(alloc: Global, bytes: &[u8]) -> Result<Topology, Stop>
-    ensures said { MatchResult result (λ t. topology_of bytes.now ≡ Ok t) (StopsBy (IsRefusedBy (topology_of bytes.now))) }
+    ensures said { MatchResult result (λ t. topology_of bytes.now ≡ Ok t)
+        (StopsBy (IsRefusedBy (topology_of bytes.now))) }
     ensures source { IfErr result (λ s. s ≢ Stop.SourceFault) }
 {
     match read_topology(alloc, bytes) {
@@ -61,7 +63,8 @@ fn parse_topology(alloc: Global, bytes: &[u8]) -> Result<Topology, Stop>
 }
 
 fn refuse_map(alloc: Global, fault: MapFault) -> Stop
-    ensures said { StopsBy (λ due. (fault ≢ MapFault.NoMemory) × (due ≡ refused (text.map_fault fault))) result }
+    ensures said { StopsBy (λ due. (fault ≢ MapFault.NoMemory)
+        × (due ≡ refused (text.map_fault fault))) result }
     ensures source { result ≢ Stop.SourceFault }
 {
     match fault {
@@ -72,7 +75,8 @@ fn refuse_map(alloc: Global, fault: MapFault) -> Stop
 
 /// What the bytes of a map say over a topology.
 fn parse_map(alloc: Global, topology: &Topology, bytes: &[u8]) -> Result<MapLines, Stop>
-    ensures said { MatchResult result (λ m. mapped_of topology.now bytes.now ≡ Ok (mapped m)) (StopsBy (IsRefusedBy (mapped_of topology.now bytes.now))) }
+    ensures said { MatchResult result (λ m. mapped_of topology.now bytes.now ≡ Ok (mapped m))
+        (StopsBy (IsRefusedBy (mapped_of topology.now bytes.now))) }
     ensures source { IfErr result (λ s. s ≢ Stop.SourceFault) }
 {
     match read_map(alloc, topology, bytes) {
@@ -82,7 +86,8 @@ fn parse_map(alloc: Global, topology: &Topology, bytes: &[u8]) -> Result<MapLine
 }
 
 fn refuse_changes(alloc: Global, fault: ChangesFault) -> Stop
-    ensures said { StopsBy (λ due. (fault ≢ ChangesFault.NoMemory) × (due ≡ refused (text.changes_fault fault))) result }
+    ensures said { StopsBy (λ due. (fault ≢ ChangesFault.NoMemory)
+        × (due ≡ refused (text.changes_fault fault))) result }
     ensures source { result ≢ Stop.SourceFault }
 {
     match fault {
@@ -93,7 +98,8 @@ fn refuse_changes(alloc: Global, fault: ChangesFault) -> Stop
 
 /// What the bytes of a changes file say of a topology.
 fn parse_changes(alloc: Global, topology: &Topology, bytes: &[u8]) -> Result<Batch, Stop>
-    ensures said { MatchResult result (λ b. changes_read topology.now bytes.now ≡ Ok b) (StopsBy (IsRefusedBy (changes_read topology.now bytes.now))) }
+    ensures said { MatchResult result (λ b. changes_read topology.now bytes.now ≡ Ok b)
+        (StopsBy (IsRefusedBy (changes_read topology.now bytes.now))) }
     ensures batch { IfOk result (IsBatch topology.now.market) }
     ensures source { IfErr result (λ s. s ≢ Stop.SourceFault) }
 {
@@ -111,9 +117,15 @@ fn load_file<F: Shelf>(
     limit: usize,
     too_long: &[u8],
 ) -> Result<Vec<u8>, Stop>
-    ensures noted { BothTell (F.told files.old) (F.told files.new) (AreLoadsOf (λ _. record { name = name.now; limit = limit } ∷ [])) }
-    ensures loaded { MatchResult result (λ _. BothTell (F.told files.old) (F.told files.new) (AreLoaded (λ _. record { name = name.now; limit = limit } ∷ []))) (StopsBy (λ _. BothTell (F.told files.old) (F.told files.new) (AreLoaded (λ _. record { name = name.now; limit = limit } ∷ [])))) }
-    ensures bytes { MatchResult result (λ b. AreBytes (F.told files.old) name.now limit b.items) (StopsBy (IsTooLong (F.told files.old) name.now limit (text.line too_long.now))) }
+    ensures noted { BothTell (F.told files.old) (F.told files.new)
+        (AreLoadsOf (λ _. record { name = name.now; limit = limit } ∷ [])) }
+    ensures loaded { MatchResult result
+        (λ _. BothTell (F.told files.old) (F.told files.new)
+        (AreLoaded (λ _. record { name = name.now; limit = limit } ∷ [])))
+        (StopsBy (λ _. BothTell (F.told files.old) (F.told files.new)
+        (AreLoaded (λ _. record { name = name.now; limit = limit } ∷ [])))) }
+    ensures bytes { MatchResult result (λ b. AreBytes (F.told files.old) name.now limit b.items)
+        (StopsBy (IsTooLong (F.told files.old) name.now limit (text.line too_long.now))) }
     ensures later { F.faults files.old ≤ F.faults files.new }
     ensures cause { result ≡ Err Stop.SourceFault → Rose (F.faults files.old) (F.faults files.new) }
     ensures stays { result ≢ Err Stop.SourceFault → F.faults files.new ≡ F.faults files.old }
@@ -128,7 +140,9 @@ fn load_file<F: Shelf>(
 
 /// The topology of that name.
 pub fn load_topology<F: Shelf>(alloc: Global, files: &mut F, name: &str) -> Result<Topology, Stop>
-    ensures { IsReading topology_file (λ t. t) name.now (record { told = F.told files.old; faults = F.faults files.old }) (record { told = F.told files.new; faults = F.faults files.new }) result }
+    ensures { IsReading topology_file (λ t. t) name.now
+        (record { told = F.told files.old; faults = F.faults files.old })
+        (record { told = F.told files.new; faults = F.faults files.new }) result }
 {
     let too_long = b"refused topology too long";
     let bytes = load_file(alloc, files, name, TOPOLOGY_LIMIT, too_long)?;
@@ -142,7 +156,9 @@ pub fn load_map<F: Shelf>(
     name: &str,
     topology: &Topology,
 ) -> Result<MapLines, Stop>
-    ensures { IsReading (map_file topology.now) mapped name.now (record { told = F.told files.old; faults = F.faults files.old }) (record { told = F.told files.new; faults = F.faults files.new }) result }
+    ensures { IsReading (map_file topology.now) mapped name.now
+        (record { told = F.told files.old; faults = F.faults files.old })
+        (record { told = F.told files.new; faults = F.faults files.new }) result }
 {
     let bytes = load_file(alloc, files, name, MAP_LIMIT, b"refused map too long")?;
     parse_map(alloc, topology, bytes.as_slice())
@@ -155,7 +171,9 @@ pub fn load_changes<F: Shelf>(
     name: &str,
     topology: &Topology,
 ) -> Result<Batch, Stop>
-    ensures reading { IsReading (changes_file topology.now) (λ b. b) name.now (record { told = F.told files.old; faults = F.faults files.old }) (record { told = F.told files.new; faults = F.faults files.new }) result }
+    ensures reading { IsReading (changes_file topology.now) (λ b. b) name.now
+        (record { told = F.told files.old; faults = F.faults files.old })
+        (record { told = F.told files.new; faults = F.faults files.new }) result }
     ensures batch { IfOk result (IsBatch topology.now.market) }
 {
     let too_long = b"refused changes too long";

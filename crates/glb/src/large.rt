@@ -17,7 +17,8 @@ use std::sync::Wait;
 
 /// Puts a summary, line by line.
 fn say_summary<K: Sink>(summary: &Summary, out: &mut K) -> Status
-    ensures run { Speaks (λ due. due ≡ record { status = Status.Ok; pieces = lines_of summary.now }) (K.told out.old) (K.told out.new) result }
+    ensures run { Speaks (λ due. due ≡ record { status = Status.Ok; pieces = lines_of summary.now })
+        (K.told out.old) (K.told out.new) result }
     ensures later { K.faults out.old ≤ K.faults out.new }
     ensures cause { result ≡ Status.SinkFault → Rose (K.faults out.old) (K.faults out.new) }
     ensures stays { result ≢ Status.SinkFault → K.faults out.new ≡ K.faults out.old }

@@ -7,7 +7,6 @@ mod ending;
 mod files;
 mod large;
 mod laws;
-mod lent;
 mod map;
 mod placing;
 mod repair;

@@ -22,7 +22,8 @@ use topology_text::Topology;
 /// The state of a good map, from scratch.
 fn state_afresh(alloc: Global, instance: &Instance) -> Result<State, NoMemory>
     ensures ready { IfOk result (λ state. IsReady instance.now state) }
-    ensures good { IfOk result (λ state. IsGood instance.now state.lines (names_of instance.now state.lines)) }
+    ensures good { IfOk result
+        (λ state. IsGood instance.now state.lines (names_of instance.now state.lines)) }
     ensures best { IfOk result (λ state. IsGroupBest instance.now state.lines) }
 {
     let mut state = State::fresh(alloc, instance)?;
@@ -47,7 +48,9 @@ fn report(alloc: Global, topology: &Topology) -> Result<Report, Stop>
 
 /// How many units stand at each place by a group-best map for the instance of the topology of a file.
 pub fn places_files<F: Shelf>(alloc: Global, files: &mut F, topology: &str) -> Result<Report, Stop>
-    ensures { IsEnd (loads_of_places topology.now) (IsPlacesDue topology.now (F.told files.old)) (record { told = F.told files.old; faults = F.faults files.old }) (record { told = F.told files.new; faults = F.faults files.new }) result }
+    ensures { IsEnd (loads_of_places topology.now) (IsPlacesDue topology.now (F.told files.old))
+        (record { told = F.told files.old; faults = F.faults files.old })
+        (record { told = F.told files.new; faults = F.faults files.new }) result }
 {
     let topology = load_topology(alloc, files, topology)?;
     report(alloc, &topology)

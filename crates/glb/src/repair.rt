@@ -29,7 +29,8 @@ fn repaired(
 ) -> Result<Report, NoMemory>
     requires good { IsGood topology.now.market map.now.lines.items map.now.names.items }
     requires batch { IsBatch topology.now.market changes.now }
-    ensures { IfOk result (λ r. IsRepaired topology.now (mapped map.now) changes.now (outcome_of r)) }
+    ensures { IfOk result
+        (λ r. IsRepaired topology.now (mapped map.now) changes.now (outcome_of r)) }
 {
     let mut instance = topology.instance().try_clone()?;
     apply(&mut instance, changes);
@@ -67,7 +68,10 @@ pub fn repair_files<F: Shelf>(
     map: &str,
     changes: &str,
 ) -> Result<Report, Stop>
-    ensures { IsEnd (loads_of_repair topology.now map.now changes.now) (IsRepairDue topology.now map.now changes.now (F.told files.old)) (record { told = F.told files.old; faults = F.faults files.old }) (record { told = F.told files.new; faults = F.faults files.new }) result }
+    ensures { IsEnd (loads_of_repair topology.now map.now changes.now)
+        (IsRepairDue topology.now map.now changes.now (F.told files.old))
+        (record { told = F.told files.old; faults = F.faults files.old })
+        (record { told = F.told files.new; faults = F.faults files.new }) result }
 {
     let topology = load_topology(alloc, files, topology)?;
     let map = load_map(alloc, files, map, &topology)?;

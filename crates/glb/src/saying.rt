@@ -21,7 +21,10 @@ const USAGE: &[u8] = b"usage: glb check, answer, map, repair, serve or large\n";
 
 /// Does what a command asks for, up to its text.
 fn run_command<F: Shelf>(alloc: Global, files: &mut F, command: Command<'_>) -> Result<Report, Stop>
-    ensures end { IsEnd (loads_of_ask (ask_of command.entry)) (IsDue (ask_of command.entry) (F.told files.old)) (record { told = F.told files.old; faults = F.faults files.old }) (record { told = F.told files.new; faults = F.faults files.new }) result }
+    ensures end { IsEnd (loads_of_ask (ask_of command.entry))
+        (IsDue (ask_of command.entry) (F.told files.old))
+        (record { told = F.told files.old; faults = F.faults files.old })
+        (record { told = F.told files.new; faults = F.faults files.new }) result }
     ensures said { EndsBy IsSaid result }
 {
     match command {
@@ -49,12 +52,25 @@ pub fn run_files<F: Shelf, K: Sink>(
     files: &mut F,
     out: &mut K,
 ) -> Status
-    ensures run { IsSayingRun (option_map ask_of command.entry) (record { files = F.told files.old; out = K.told out.old }) (record { files = F.told files.new; out = K.told out.new }) result }
-    ensures noted { BothTell (F.told files.old) (F.told files.new) (AreLoadsOf (loads_of (option_map ask_of command.entry))) }
-    ensures loaded { result ≢ Status.SourceFault → result ≢ Status.NoMemory → BothTell (F.told files.old) (F.told files.new) (AreLoaded (loads_of (option_map ask_of command.entry))) }
-    ensures causes { HasExactCauses (record { files = F.faults files.old; out = K.faults out.old }) (record { files = F.faults files.new; out = K.faults out.new }) result }
-    ensures good { result ≡ Status.Ok → IsGoodRun (option_map ask_of command.entry) (record { files = F.told files.old; out = K.told out.old }) (record { files = F.told files.new; out = K.told out.new }) }
-    ensures complete { IsSome (F.told files.old) → IsSound (option_map ask_of command.entry) (F.told files.old) → ¬ Rose (F.faults files.old) (F.faults files.new) → ¬ Rose (K.faults out.old) (K.faults out.new) → (result ≡ Status.Ok) ⊎ (result ≡ Status.NoMemory) }
+    ensures run { IsSayingRun (option_map ask_of command.entry)
+        (record { files = F.told files.old; out = K.told out.old })
+        (record { files = F.told files.new; out = K.told out.new }) result }
+    ensures noted { BothTell (F.told files.old) (F.told files.new)
+        (AreLoadsOf (loads_of (option_map ask_of command.entry))) }
+    ensures loaded { result ≢ Status.SourceFault → result ≢ Status.NoMemory
+        → BothTell (F.told files.old) (F.told files.new)
+        (AreLoaded (loads_of (option_map ask_of command.entry))) }
+    ensures causes { HasExactCauses (record { files = F.faults files.old; out = K.faults out.old })
+        (record { files = F.faults files.new; out = K.faults out.new }) result }
+    ensures good { result ≡ Status.Ok
+        → IsGoodRun (option_map ask_of command.entry)
+        (record { files = F.told files.old; out = K.told out.old })
+        (record { files = F.told files.new; out = K.told out.new }) }
+    ensures complete { IsSome (F.told files.old)
+        → IsSound (option_map ask_of command.entry) (F.told files.old)
+        → ¬ Rose (F.faults files.old) (F.faults files.new)
+        → ¬ Rose (K.faults out.old) (K.faults out.new) → (result ≡ Status.Ok)
+        ⊎ (result ≡ Status.NoMemory) }
 {
     match command {
         Some(command) => {

@@ -9,19 +9,18 @@ ghost use Rattle.glb.specs.Program.{IsPromised};
 ghost use Rattle.glb.specs.Serve.{IsFirstSession, IsSession, PlacedFirst, is_cell_fault, is_port_fault, is_spent, status_by};
 ghost use Rattle.glb.specs.Starting.{IsAskedSome, at_place, status_at};
 ghost use Rattle.glb.specs.Commands.{service_asked};
-ghost use Rattle.drive.specs.Told.{lane_told};
-ghost use Rattle.glb.specs.Told.{IsSame, stage_of, surroundings};
+ghost use Rattle.drive.specs.Told.{IsSameLent};
+ghost use Rattle.glb.specs.Told.{stage_of, told_over};
 ghost use Rattle.glb.specs.Words.{given, lanes_of, most_workers, serve as task, streams_of};
 
 use crate::ending::finish;
 use crate::files::load_topology;
-use crate::lent::Lent;
 use crate::starting::{Start, start_lanes};
 use crate::status::Status;
 use crate::words::Service;
 use addr_text::Listen;
 use demand_feed::FeedEnd;
-use drive::{Lane, StreamLane, drive};
+use drive::{Crew, Lane, Lent, StreamLane, drive};
 use lane_model::Ended;
 use map_cell::{Door, EmptyHistory, Naming, OpenFault, Viewer};
 use map_model::{Proposals, Steps};
@@ -116,9 +115,10 @@ fn open_by<J: Naming, R: Wait, P: Port, G: Gate, D: Door>(
     requires workers { workers ≤ 16 }
     ensures mapper { IfOk result (λ r. IsFirst topology r.0) }
     ensures scratch { IfOk result (λ r. IsFromScratch topology.market r.0.newest.lines) }
-    ensures viewers { IfOk result (λ r. (vec_len r.1 ≡ workers) × All (λ v. (v.seen ≡ r.0.history) × (v.heard ≡ r.0.history)) r.1.items) }
-    ensures asked { IfOk result (λ _. PlacedFirst workers (lane_told P.told P.faults G.told D.asked D.looks D.greatest D.faults lane.old ∷ []) (lane_told P.told P.faults G.told D.asked D.looks D.greatest D.faults lane.new ∷ [])) }
-    ensures refused { IfErr result (λ e. IsAskedSome workers e (lane_told P.told P.faults G.told D.asked D.looks D.greatest D.faults lane.old ∷ []) (lane_told P.told P.faults G.told D.asked D.looks D.greatest D.faults lane.new ∷ [])) }
+    ensures viewers { IfOk result (λ r. (vec_len r.1 ≡ workers)
+        × All (λ v. (v.seen ≡ r.0.history) × (v.heard ≡ r.0.history)) r.1.items) }
+    ensures asked { IfOk result (λ _. PlacedFirst workers (lane.old ∷ []) (lane.new ∷ [])) }
+    ensures refused { IfErr result (λ e. IsAskedSome workers e (lane.old ∷ []) (lane.new ∷ [])) }
 {
     let mut steps = Steps::<Proposals>::new();
     Mapper::<J>::open(
@@ -146,10 +146,11 @@ fn open_first<J: Naming, R: Wait, P: Port, G: Gate, D: Door>(
     requires lanes { length lanes.old ≡ 1 }
     ensures mapper { IfOk result (λ r. IsFirst topology r.0) }
     ensures scratch { IfOk result (λ r. IsFromScratch topology.market r.0.newest.lines) }
-    ensures viewers { IfOk result (λ r. (vec_len r.1 ≡ workers) × All (λ v. (v.seen ≡ r.0.history) × (v.heard ≡ r.0.history)) r.1.items) }
+    ensures viewers { IfOk result (λ r. (vec_len r.1 ≡ workers)
+        × All (λ v. (v.seen ≡ r.0.history) × (v.heard ≡ r.0.history)) r.1.items) }
     ensures length { length lanes.new ≡ length lanes.old }
-    ensures asked { IfOk result (λ _. PlacedFirst workers (map (lane_told P.told P.faults G.told D.asked D.looks D.greatest D.faults) lanes.old) (map (lane_told P.told P.faults G.told D.asked D.looks D.greatest D.faults) lanes.new)) }
-    ensures refused { IfErr result (λ e. IsAskedSome workers e (map (lane_told P.told P.faults G.told D.asked D.looks D.greatest D.faults) lanes.old) (map (lane_told P.told P.faults G.told D.asked D.looks D.greatest D.faults) lanes.new)) }
+    ensures asked { IfOk result (λ _. PlacedFirst workers lanes.old lanes.new) }
+    ensures refused { IfErr result (λ e. IsAskedSome workers e lanes.old lanes.new) }
 {
     open_by::<J, R, P, G, D>(rt, alloc, history, topology, workers, &mut lanes[0])
 }
@@ -168,10 +169,11 @@ fn open_mapper<J: Naming, R: Wait, P: Port, G: Gate, D: Door>(
     requires lanes { 1 ≤ length lanes.old }
     ensures mapper { IfOk result (λ r. IsFirst topology r.0) }
     ensures scratch { IfOk result (λ r. IsFromScratch topology.market r.0.newest.lines) }
-    ensures viewers { IfOk result (λ r. (vec_len r.1 ≡ workers) × All (λ v. (v.seen ≡ r.0.history) × (v.heard ≡ r.0.history)) r.1.items) }
+    ensures viewers { IfOk result (λ r. (vec_len r.1 ≡ workers)
+        × All (λ v. (v.seen ≡ r.0.history) × (v.heard ≡ r.0.history)) r.1.items) }
     ensures length { length lanes.new ≡ length lanes.old }
-    ensures asked { IfOk result (λ _. PlacedFirst workers (map (lane_told P.told P.faults G.told D.asked D.looks D.greatest D.faults) lanes.old) (map (lane_told P.told P.faults G.told D.asked D.looks D.greatest D.faults) lanes.new)) }
-    ensures refused { IfErr result (λ e. IsAskedSome workers e (map (lane_told P.told P.faults G.told D.asked D.looks D.greatest D.faults) lanes.old) (map (lane_told P.told P.faults G.told D.asked D.looks D.greatest D.faults) lanes.new)) }
+    ensures asked { IfOk result (λ _. PlacedFirst workers lanes.old lanes.new) }
+    ensures refused { IfErr result (λ e. IsAskedSome workers e lanes.old lanes.new) }
 {
     let (first, _others) = lanes.split_at_mut(1);
     open_first::<J, R, P, G, D>(rt, alloc, history, topology, workers, first)
@@ -210,7 +212,9 @@ fn split_viewers<J: Naming>(
     requires { streams_of tcp.now ≤ vec_len viewers }
     ensures count { vec_len result.0 + streams_of tcp.now ≡ vec_len viewers }
     ensures asked { length (option_to_list result.1) ≡ streams_of tcp.now }
-    ensures same { (h : List Version) → All (λ v. (v.seen ≡ h) × (v.heard ≡ h)) viewers.items → All (λ v. (v.seen ≡ h) × (v.heard ≡ h)) result.0.items × IfSome result.1 (λ v. (v.seen ≡ h) × (v.heard ≡ h)) }
+    ensures same { (h : List Version) → All (λ v. (v.seen ≡ h) × (v.heard ≡ h)) viewers.items
+        → All (λ v. (v.seen ≡ h) × (v.heard ≡ h)) result.0.items
+        × IfSome result.1 (λ v. (v.seen ≡ h) × (v.heard ≡ h)) }
 {
     let mut viewers = viewers;
     let listener = match tcp {
@@ -235,22 +239,30 @@ fn serve_first<
 >(
     rt: &R,
     alloc: Global,
-    mapper: Mapper<J>,
-    viewers: Vec<Viewer<J>>,
+    crew: Crew<J>,
     service: &Service<'_>,
     lent: &mut Lent<'_, '_, '_, '_, '_, '_, S, N, K, P, G, D, M>,
     stream: &mut StreamLane<Q, G, D>,
 ) -> Status
-    requires serial { mapper.newest.serial ≡ 0 }
-    requires viewers { (vec_len viewers ≡ lanes_of (service_asked service.now)) × All (λ v. (v.seen ≡ mapper.history) × (v.heard ≡ mapper.history)) viewers.items }
-    requires workers { (service.now.workers ≤ most_workers service.now.tcp) × (service.now.workers ≤ length lent.old.lanes.now) }
+    requires serial { crew.mapper.newest.serial ≡ 0 }
+    requires viewers { (vec_len crew.viewers + streams_of service.now.tcp ≡ lanes_of (service_asked service.now))
+        × All (λ v. (v.seen ≡ crew.mapper.history) × (v.heard ≡ crew.mapper.history)) crew.viewers.items }
+    requires listener { (length (option_to_list crew.listener) ≡ streams_of service.now.tcp)
+        × IfSome crew.listener (λ v. (v.seen ≡ crew.mapper.history) × (v.heard ≡ crew.mapper.history)) }
+    requires workers { (service.now.workers ≤ most_workers service.now.tcp)
+        × (service.now.workers ≤ length lent.old.lanes.now) }
     requires turns { lent.old.turns ≤ MOST_TURNS }
     requires feeds { length lent.old.more.now ≡ 3 }
-    ensures keeps { IsSame lent.old lent.new }
-    ensures served { IsFirstSession lent.old.turns (service_asked service.now) mapper.newest (stage_of S.told S.faults N.told N.faults N.opens K.told K.faults P.told P.faults Q.told Q.faults G.told D.asked D.looks D.greatest D.faults M.told lent.old stream.old) (stage_of S.told S.faults N.told N.faults N.opens K.told K.faults P.told P.faults Q.told Q.faults G.told D.asked D.looks D.greatest D.faults M.told lent.new stream.new) result }
+    ensures keeps { IsSameLent lent.old lent.new }
+    ensures served { IsFirstSession lent.old.turns (service_asked service.now) crew.mapper.newest
+        (stage_of S.told S.faults N.told N.faults N.opens K.told K.faults M.told
+        lent.old stream.old)
+        (stage_of S.told S.faults N.told N.faults N.opens K.told K.faults M.told
+        lent.new stream.new)
+        result }
 {
     match start_lanes(
-        mapper.text(),
+        crew.mapper.text(),
         service,
         lent.more,
         lent.maps,
@@ -258,30 +270,45 @@ fn serve_first<
         stream,
     ) {
         Start::NoPort => {
-            mapper.close(rt);
+            crew.close(rt);
             Status::PortFault
         }
         Start::NoFeed => {
-            mapper.close(rt);
+            crew.close(rt);
             Status::SourceFault
         }
         Start::NoSink => {
-            mapper.close(rt);
+            crew.close(rt);
             Status::SinkFault
         }
         Start::Ready => {
-            let (viewers, listener) = split_viewers(viewers, &service.tcp);
             let more = &mut *lent.more;
             let (opened, _shut) = more.split_at_mut(count_of(&service.more));
-            match drive(
-                rt, alloc, mapper, viewers, listener, lent.feed, opened, lent.out, lent.maps,
-                lent.lanes, stream, lent.pace, lent.turns,
-            ) {
+            let count = lent.lanes.len();
+            let lanes = &mut *lent.lanes;
+            let (all, _none) = lanes.split_at_mut(count);
+            let mut asked = Lent {
+                feed: lent.feed,
+                more: opened,
+                out: lent.out,
+                maps: lent.maps,
+                lanes: all,
+                pace: lent.pace,
+                turns: lent.turns,
+            };
+            match drive(rt, alloc, crew, &mut asked, stream) {
                 Ok(end) => status_of(end.feed, &end.lanes, end.stream),
                 Err(NoMemory) => Status::NoMemory,
             }
         }
     }
+}
+
+/// What a session begins with: the history of a cell of its own, and the topology.
+#[derive(Drop)]
+struct Beginning {
+    history: EmptyHistory,
+    topology: Topology,
 }
 
 /// A session over a topology, in a cell of its own.
@@ -299,19 +326,25 @@ fn serve_topology<
 >(
     rt: &R,
     alloc: Global,
-    history: EmptyHistory,
-    topology: Topology,
+    beginning: Beginning,
     service: &Service<'_>,
     lent: &mut Lent<'_, '_, '_, '_, '_, '_, S, N, K, P, G, D, M>,
     stream: &mut StreamLane<Q, G, D>,
 ) -> Status
-    requires book { history ≡ J.book }
-    requires workers { (service.now.workers ≤ most_workers service.now.tcp) × (service.now.workers ≤ length lent.old.lanes.now) × (1 ≤ length lent.old.lanes.now) }
+    requires book { beginning.history ≡ J.book }
+    requires workers { (service.now.workers ≤ most_workers service.now.tcp)
+        × (service.now.workers ≤ length lent.old.lanes.now) × (1 ≤ length lent.old.lanes.now) }
     requires turns { lent.old.turns ≤ MOST_TURNS }
     requires feeds { length lent.old.more.now ≡ 3 }
-    ensures keeps { IsSame lent.old lent.new }
-    ensures session { IsSession lent.old.turns (service_asked service.now) topology (stage_of S.told S.faults N.told N.faults N.opens K.told K.faults P.told P.faults Q.told Q.faults G.told D.asked D.looks D.greatest D.faults M.told lent.old stream.old) (stage_of S.told S.faults N.told N.faults N.opens K.told K.faults P.told P.faults Q.told Q.faults G.told D.asked D.looks D.greatest D.faults M.told lent.new stream.new) result }
+    ensures keeps { IsSameLent lent.old lent.new }
+    ensures session { IsSession lent.old.turns (service_asked service.now) beginning.topology
+        (stage_of S.told S.faults N.told N.faults N.opens K.told K.faults M.told
+        lent.old stream.old)
+        (stage_of S.told S.faults N.told N.faults N.opens K.told K.faults M.told
+        lent.new stream.new)
+        result }
 {
+    let Beginning { history, topology } = beginning;
     match open_mapper::<J, R, P, G, D>(
         rt,
         alloc,
@@ -320,7 +353,15 @@ fn serve_topology<
         lanes_of(service),
         lent.lanes,
     ) {
-        Ok((mapper, viewers)) => serve_first(rt, alloc, mapper, viewers, service, lent, stream),
+        Ok((mapper, viewers)) => {
+            let (viewers, listener) = split_viewers(viewers, &service.tcp);
+            let crew = Crew {
+                mapper,
+                viewers,
+                listener,
+            };
+            serve_first(rt, alloc, crew, service, lent, stream)
+        }
         Err(fault) => status_of_opening(fault),
     }
 }
@@ -345,23 +386,29 @@ pub fn serve<
     lent: &mut Lent<'_, '_, '_, '_, '_, '_, S, N, K, P, G, D, M>,
     stream: &mut StreamLane<Q, G, D>,
 ) -> Status
-    requires workers { (1 ≤ service.now.workers) × (service.now.workers ≤ most_workers service.now.tcp) }
+    requires workers { (1 ≤ service.now.workers)
+        × (service.now.workers ≤ most_workers service.now.tcp) }
     requires lanes { length lent.old.lanes.now ≡ 16 }
     requires turns { lent.old.turns ≤ MOST_TURNS }
     requires feeds { length lent.old.more.now ≡ 3 }
-    ensures keeps { IsSame lent.old lent.new }
-    ensures promised { IsPromised lent.old.turns (Some (task (service_asked service.now))) (surroundings (F.told files.old) (F.faults files.old) (stage_of S.told S.faults N.told N.faults N.opens K.told K.faults P.told P.faults Q.told Q.faults G.told D.asked D.looks D.greatest D.faults M.told lent.old stream.old)) (surroundings (F.told files.new) (F.faults files.new) (stage_of S.told S.faults N.told N.faults N.opens K.told K.faults P.told P.faults Q.told Q.faults G.told D.asked D.looks D.greatest D.faults M.told lent.new stream.new)) result }
+    ensures keeps { IsSameLent lent.old lent.new }
+    ensures promised { IsPromised lent.old.turns (Some (task (service_asked service.now)))
+        (told_over F.told F.faults S.told S.faults N.told N.faults N.opens K.told K.faults M.told
+        files.old lent.old stream.old)
+        (told_over F.told F.faults S.told S.faults N.told N.faults N.opens K.told K.faults M.told
+        files.new lent.new stream.new)
+        result }
 {
     match load_topology(alloc, files, service.topology) {
-        Ok(topology) => serve_topology::<Brand, R, S, N, K, P, Q, G, D, M>(
-            rt,
-            alloc,
-            EmptyHistory::new(),
-            topology,
-            service,
-            lent,
-            stream,
-        ),
+        Ok(topology) => {
+            let beginning = Beginning {
+                history: EmptyHistory::new(),
+                topology,
+            };
+            serve_topology::<Brand, R, S, N, K, P, Q, G, D, M>(
+                rt, alloc, beginning, service, lent, stream,
+            )
+        }
         Err(stop) => finish(lent.out, Err(stop)),
     }
 }

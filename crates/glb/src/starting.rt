@@ -3,7 +3,7 @@ ghost use Rattle.std.specs.Prelude.{◌≡◌, ◌≤◌, ◌∷◌, [], length,
 ghost use Rattle.glb.specs.Commands.{service_asked};
 ghost use Rattle.glb.specs.Starting.{HasNamed, HasOpened, IsStart, IsStreamStart};
 ghost use Rattle.glb.specs.Words.{given};
-ghost use Rattle.drive.specs.Told.{feed_told, lane_told, stream_told};
+ghost use Rattle.drive.specs.Told.{feed_told};
 
 use crate::words::Service;
 use addr_text::Listen;
@@ -28,9 +28,10 @@ pub enum Start {
 fn open_port<P: Port, G: Gate, D: Door>(lanes: &mut [Lane<P, G, D>], listen: &Listen) -> Opening
     requires { length lanes.old ≡ 1 }
     ensures same { length lanes.new ≡ length lanes.old }
-    ensures opened { HasOpened listen.now 1 result (map (lane_told P.told P.faults G.told D.asked D.looks D.greatest D.faults) lanes.old) (map (lane_told P.told P.faults G.told D.asked D.looks D.greatest D.faults) lanes.new) }
+    ensures opened { HasOpened listen.now 1 result lanes.old lanes.new }
 {
-    lanes[0].port.open(listen)
+    let lane = &mut lanes[0];
+    lane.port.open(listen)
 }
 
 /// Opens the ports of the first lanes in order, up to the first that fails.
@@ -41,7 +42,7 @@ fn open_ports<P: Port, G: Gate, D: Door>(
 ) -> Opening
     requires { count ≤ length lanes.old }
     ensures same { length lanes.new ≡ length lanes.old }
-    ensures opened { HasOpened listen.now count result (map (lane_told P.told P.faults G.told D.asked D.looks D.greatest D.faults) lanes.old) (map (lane_told P.told P.faults G.told D.asked D.looks D.greatest D.faults) lanes.new) }
+    ensures opened { HasOpened listen.now count result lanes.old lanes.new }
 {
     if count == 0 {
         return Opening::Ready;
@@ -58,7 +59,7 @@ fn open_streams<Q: Streams, G: Gate, D: Door>(
     stream: &mut StreamLane<Q, G, D>,
     tcp: &Option<Listen>,
 ) -> Opening
-    ensures { IsStreamStart tcp.now result (stream_told Q.told Q.faults G.told D.asked D.looks D.greatest D.faults stream.old) (stream_told Q.told Q.faults G.told D.asked D.looks D.greatest D.faults stream.new) }
+    ensures { IsStreamStart tcp.now result stream.old stream.new }
 {
     match tcp {
         Some(listen) => stream.streams.open(listen),
@@ -70,7 +71,15 @@ fn open_streams<Q: Streams, G: Gate, D: Door>(
 fn open_feed<N: NamedSource>(feeds: &mut [N], name: &str) -> Opening
     requires { length feeds.old ≡ 1 }
     ensures same { length feeds.new ≡ length feeds.old }
-    ensures named { HasNamed (name.now ∷ []) result (record { feeds = map (feed_told N.told N.faults) feeds.old; opens = map N.opens feeds.old }) (record { feeds = map (feed_told N.told N.faults) feeds.new; opens = map N.opens feeds.new }) }
+    ensures named { HasNamed (name.now ∷ []) result
+        (record {
+          feeds = map (feed_told N.told N.faults) feeds.old;
+          opens = map N.opens feeds.old;
+        })
+        (record {
+          feeds = map (feed_told N.told N.faults) feeds.new;
+          opens = map N.opens feeds.new;
+        }) }
 {
     feeds[0].open(name)
 }
@@ -79,7 +88,15 @@ fn open_feed<N: NamedSource>(feeds: &mut [N], name: &str) -> Opening
 pub fn open_feeds<N: NamedSource>(feeds: &mut [N], names: &[Option<&str>]) -> Opening
     requires { length names.now ≤ length feeds.old }
     ensures same { length feeds.new ≡ length feeds.old }
-    ensures named { HasNamed (given (map (option_map (λ n. n.now)) names.now)) result (record { feeds = map (feed_told N.told N.faults) feeds.old; opens = map N.opens feeds.old }) (record { feeds = map (feed_told N.told N.faults) feeds.new; opens = map N.opens feeds.new }) }
+    ensures named { HasNamed (given (map (option_map (λ n. n.now)) names.now)) result
+        (record {
+          feeds = map (feed_told N.told N.faults) feeds.old;
+          opens = map N.opens feeds.old;
+        })
+        (record {
+          feeds = map (feed_told N.told N.faults) feeds.new;
+          opens = map N.opens feeds.new;
+        }) }
 {
     let Some((first, rest)) = names.split_first() else {
         return Opening::Ready;
@@ -109,8 +126,26 @@ pub fn start_lanes<N: NamedSource, K: Sink, P: Port, Q: Streams, G: Gate, D: Doo
     ensures same { length lanes.new ≡ length lanes.old }
     ensures feeds { length feeds.new ≡ length feeds.old }
     ensures start { IsStart (service_asked service.now) text.now result
-        (record { maps = K.told maps.old; maps_faults = K.faults maps.old; lanes = map (lane_told P.told P.faults G.told D.asked D.looks D.greatest D.faults) lanes.old; stream = stream_told Q.told Q.faults G.told D.asked D.looks D.greatest D.faults stream.old; named = record { feeds = map (feed_told N.told N.faults) feeds.old; opens = map N.opens feeds.old } })
-        (record { maps = K.told maps.new; maps_faults = K.faults maps.new; lanes = map (lane_told P.told P.faults G.told D.asked D.looks D.greatest D.faults) lanes.new; stream = stream_told Q.told Q.faults G.told D.asked D.looks D.greatest D.faults stream.new; named = record { feeds = map (feed_told N.told N.faults) feeds.new; opens = map N.opens feeds.new } }) }
+        (record {
+          maps = K.told maps.old;
+          maps_faults = K.faults maps.old;
+          lanes = lanes.old;
+          stream = stream.old;
+          named = record {
+            feeds = map (feed_told N.told N.faults) feeds.old;
+            opens = map N.opens feeds.old;
+          };
+        })
+        (record {
+          maps = K.told maps.new;
+          maps_faults = K.faults maps.new;
+          lanes = lanes.new;
+          stream = stream.new;
+          named = record {
+            feeds = map (feed_told N.told N.faults) feeds.new;
+            opens = map N.opens feeds.new;
+          };
+        }) }
 {
     if let Opening::Failed = open_ports(lanes, service.workers, &service.listen) {
         return Start::NoPort;

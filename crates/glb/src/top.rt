@@ -1,20 +1,19 @@
 //! The top call: words and all outside to a status.
-ghost use Rattle.std.specs.Prelude.{◌≡◌, ◌≤◌, ◌^◌, length, map, option_map};
+ghost use Rattle.std.specs.Prelude.{◌≡◌, ◌≤◌, ◌^◌, length, option_map};
 ghost use Rattle.demand_feed.specs.declared.limits.TheConstants.{MOST_TURNS};
 ghost use Rattle.command_line.specs.Asked.{texts};
 ghost use Rattle.glb.specs.Program.{IsPromised};
 ghost use Rattle.glb.specs.Commands.{IsManned, task_of};
-ghost use Rattle.drive.specs.Told.{feed_told, lane_told, stream_told};
-ghost use Rattle.glb.specs.Told.{IsSame, stage, stage_of, surroundings};
+ghost use Rattle.drive.specs.Told.{IsSameLent};
+ghost use Rattle.glb.specs.Told.{all_told, told_over};
 ghost use Rattle.glb.specs.Words.{asked};
 
 use crate::large::large;
-use crate::lent::Lent;
 use crate::saying::run_files;
 use crate::serve::serve;
 use crate::status::Status;
 use crate::words::{Order, read_words};
-use drive::{Lane, StreamLane};
+use drive::{Lane, Lent, StreamLane};
 use map_cell::Door;
 use no_memory::NoMemory;
 use outside::{Gate, NamedSource, Pace, Port, Shelf, Sink, Source, Streams};
@@ -46,8 +45,13 @@ fn run_order<
     requires lanes { length lent.old.lanes.now ≡ 16 }
     requires turns { (1 ≤ lent.old.turns) × (lent.old.turns ≤ 2 ^ 48) }
     requires feeds { length lent.old.more.now ≡ 3 }
-    ensures keeps { IsSame lent.old lent.new }
-    ensures promised { IsPromised lent.old.turns (option_map task_of order.entry) (surroundings (F.told files.old) (F.faults files.old) (stage_of S.told S.faults N.told N.faults N.opens K.told K.faults P.told P.faults Q.told Q.faults G.told D.asked D.looks D.greatest D.faults M.told lent.old stream.old)) (surroundings (F.told files.new) (F.faults files.new) (stage_of S.told S.faults N.told N.faults N.opens K.told K.faults P.told P.faults Q.told Q.faults G.told D.asked D.looks D.greatest D.faults M.told lent.new stream.new)) result }
+    ensures keeps { IsSameLent lent.old lent.new }
+    ensures promised { IsPromised lent.old.turns (option_map task_of order.entry)
+        (told_over F.told F.faults S.told S.faults N.told N.faults N.opens K.told K.faults M.told
+        files.old lent.old stream.old)
+        (told_over F.told F.faults S.told S.faults N.told N.faults N.opens K.told K.faults M.told
+        files.new lent.new stream.new)
+        result }
 {
     match order {
         Some(Order::Say(command)) => run_files(alloc, Some(command), files, lent.out),
@@ -89,7 +93,12 @@ pub fn glb<
     requires feeds { length more.old ≡ 3 }
     requires lanes { length lanes.old ≡ 16 }
     requires turns { (1 ≤ turns) × (turns ≤ 2 ^ 48) }
-    ensures { IsPromised turns (asked (texts words.now)) (surroundings (F.told files.old) (F.faults files.old) (stage (feed_told S.told S.faults feed.old) (map (feed_told N.told N.faults) more.old) (map N.opens more.old) (K.told out.old) (K.told maps.old) (M.told pace.old) (map (lane_told P.told P.faults G.told D.asked D.looks D.greatest D.faults) lanes.old) (stream_told Q.told Q.faults G.told D.asked D.looks D.greatest D.faults stream.old) (K.faults out.old) (K.faults maps.old))) (surroundings (F.told files.new) (F.faults files.new) (stage (feed_told S.told S.faults feed.new) (map (feed_told N.told N.faults) more.new) (map N.opens more.new) (K.told out.new) (K.told maps.new) (M.told pace.new) (map (lane_told P.told P.faults G.told D.asked D.looks D.greatest D.faults) lanes.new) (stream_told Q.told Q.faults G.told D.asked D.looks D.greatest D.faults stream.new) (K.faults out.new) (K.faults maps.new))) result }
+    ensures { IsPromised turns (asked (texts words.now))
+        (all_told F.told F.faults S.told S.faults N.told N.faults N.opens K.told K.faults M.told
+        files.old feed.old more.old out.old maps.old lanes.old stream.old pace.old)
+        (all_told F.told F.faults S.told S.faults N.told N.faults N.opens K.told K.faults M.told
+        files.new feed.new more.new out.new maps.new lanes.new stream.new pace.new)
+        result }
 {
     match read_words(alloc, words) {
         Ok(order) => {

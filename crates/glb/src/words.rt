@@ -110,7 +110,9 @@ fn read_serve<'a>(
     tcp: Option<&str>,
     more: [Option<&'a str>; MOST_MORE],
 ) -> Option<Order<'a>>
-    ensures asked { option_map task_of result ≡ option_map serve (service_of topology.entry.now (given (map (option_map (λ t. t.now)) more.entry)) listen.now (option_map (λ t. t.now) workers.entry) (option_map (λ t. t.now) tcp.entry)) }
+    ensures asked { option_map task_of result ≡ option_map serve
+        (service_of topology.entry.now (given (map (option_map (λ t. t.now)) more.entry)) listen.now
+        (option_map (λ t. t.now) workers.entry) (option_map (λ t. t.now) tcp.entry)) }
     ensures manned { IsManned result }
 {
     let listen = read_listen(listen.as_bytes())?;
@@ -127,7 +129,8 @@ fn read_serve<'a>(
 
 /// What `large` with this word asks for.
 fn read_large<'a>(groups: &str) -> Option<Order<'a>>
-    ensures asked { option_map task_of result ≡ option_map large (count_of LARGEST_WORLD groups.now) }
+    ensures asked { option_map task_of result ≡ option_map large
+        (count_of LARGEST_WORLD groups.now) }
     ensures manned { IsManned result }
 {
     match read_count(groups.as_bytes(), u64::from(LARGEST_WORLD)) {
@@ -146,7 +149,9 @@ fn read_answer<'a>(
     addr: &str,
     digits: &str,
 ) -> Result<Option<Command<'a>>, NoMemory>
-    ensures asked { IfOk result (λ c. option_map ask_of c ≡ option_map (answer topology.entry.now map.entry.now) (datagram_of addr.now digits.now)) }
+    ensures asked { IfOk result
+        (λ c. option_map ask_of c ≡ option_map (answer topology.entry.now map.entry.now)
+        (datagram_of addr.now digits.now)) }
     ensures memory { IsErr result → IsSome (addr_of addr.now) × (length digits.now % 2 ≡ 0) }
 {
     let Some(from) = read_addr(addr.as_bytes()) else {

@@ -12,11 +12,11 @@ use Rattle.past_log.specs.Streams.{new_streams}
 
 -- a lane of which nothing was asked
 abbrev pub new_lane : LaneTold
-new_lane = record { port = Some new_port; port_faults = 0; gate = Some new_gate; asked = 0; looks = 0; greatest = 0; door_faults = 0; noted = 0 }
+new_lane = record { port = Some new_port; port_faults = 0; gate = Some new_gate; gate_faults = 0; asked = 0; looks = 0; greatest = 0; door_faults = 0; noted = 0 }
 
 -- a lane for conversations of which nothing was asked
 abbrev pub new_stream_lane : StreamLaneTold
-new_stream_lane = record { port = Some new_streams; port_faults = 0; gate = Some new_gate; asked = 0; looks = 0; greatest = 0; door_faults = 0; noted = 0 }
+new_stream_lane = record { port = Some new_streams; port_faults = 0; gate = Some new_gate; gate_faults = 0; asked = 0; looks = 0; greatest = 0; door_faults = 0; noted = 0 }
 
 -- a feed of which nothing was asked
 abbrev pub new_feed : FeedTold

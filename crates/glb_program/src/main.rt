@@ -1,11 +1,10 @@
 //! `glb`, the mapping system of a content delivery network.
 #![tactic(auto)]
 
-ghost use Rattle.std.specs.Prelude.{◌≡◌, length, map};
+ghost use Rattle.std.specs.Prelude.{◌≡◌, length};
 ghost use Rattle.std.specs.Process.{exit_status};
 ghost use Rattle.glb.specs.Outcome.{code_of};
-ghost use Rattle.drive.specs.Told.{feed_told, lane_told, stream_told};
-ghost use Rattle.glb.specs.Told.{stage, surroundings};
+ghost use Rattle.glb.specs.Told.{all_told};
 ghost use Rattle.glb_program.specs.Fresh.{new_surroundings};
 ghost use Rattle.glb_program.specs.Ran.{Ran};
 
@@ -70,9 +69,17 @@ fn run_words<
     requires feeds { length more.old ≡ 3 }
     requires lanes { length lanes.old ≡ 16 }
     // All of it is new: so each count of faults counts from 0 on, and what is told is all that was ever asked.
-    requires fresh { (surroundings (F.told files.old) (F.faults files.old) (stage (feed_told S.told S.faults feed.old) (map (feed_told N.told N.faults) more.old) (map N.opens more.old) (K.told out.old) (K.told maps.old) (M.told pace.old) (map (lane_told P.told P.faults G.told D.asked D.looks D.greatest D.faults) lanes.old) (stream_told Q.told Q.faults G.told D.asked D.looks D.greatest D.faults stream.old) (K.faults out.old) (K.faults maps.old))) ≡ new_surroundings }
+    requires fresh { (all_told F.told F.faults S.told S.faults N.told N.faults N.opens
+        K.told K.faults M.told
+        files.old feed.old more.old out.old maps.old lanes.old stream.old pace.old)
+        ≡ new_surroundings }
     // Unless the words could not be read for want of memory, where nothing is touched, it is a run of what some words ask for.
-    ensures { Ran (surroundings (F.told files.old) (F.faults files.old) (stage (feed_told S.told S.faults feed.old) (map (feed_told N.told N.faults) more.old) (map N.opens more.old) (K.told out.old) (K.told maps.old) (M.told pace.old) (map (lane_told P.told P.faults G.told D.asked D.looks D.greatest D.faults) lanes.old) (stream_told Q.told Q.faults G.told D.asked D.looks D.greatest D.faults stream.old) (K.faults out.old) (K.faults maps.old))) (surroundings (F.told files.new) (F.faults files.new) (stage (feed_told S.told S.faults feed.new) (map (feed_told N.told N.faults) more.new) (map N.opens more.new) (K.told out.new) (K.told maps.new) (M.told pace.new) (map (lane_told P.told P.faults G.told D.asked D.looks D.greatest D.faults) lanes.new) (stream_told Q.told Q.faults G.told D.asked D.looks D.greatest D.faults stream.new) (K.faults out.new) (K.faults maps.new))) result }
+    ensures { Ran
+        (all_told F.told F.faults S.told S.faults N.told N.faults N.opens K.told K.faults M.told
+        files.old feed.old more.old out.old maps.old lanes.old stream.old pace.old)
+        (all_told F.told F.faults S.told S.faults N.told N.faults N.opens K.told K.faults M.told
+        files.new feed.new more.new out.new maps.new lanes.new stream.new pace.new)
+        result }
 {
     match read_args(rt) {
         Ok(words) => glb(

@@ -1,10 +1,7 @@
 //! What serves a network: lanes over sockets of UDP at one place, and one over connections of TCP, with gates that one flag stops and
 //! plain doors.
 ghost use Rattle.std.specs.Prelude.{◌≡◌, IfOk, replicate};
-ghost use Rattle.map_cell.specs.Doors.{unused};
-ghost use Rattle.past_log.specs.Gate.{new_gate};
-ghost use Rattle.past_log.specs.Port.{new_port};
-ghost use Rattle.past_log.specs.Streams.{new_streams};
+ghost use Rattle.glb_program.specs.Fresh.{new_lane, new_stream_lane};
 
 use edges::{FlagGate, ManyStreams, SharedTcp, SharedUdp, StopFlag, UdpPort};
 use glb::{Lane, StreamLane};
@@ -19,7 +16,7 @@ pub type UdpLane<'a, N> = Lane<UdpPort<'a, N>, FlagGate<'a>, PlainDoor>;
 
 /// A lane that is not opened.
 fn udp_lane<'a, N: Net>(net: &'a N, shared: &'a SharedUdp, flag: &'a StopFlag) -> UdpLane<'a, N>
-    ensures { result ≡ record { port = record { told = new_port; faults = 0 }; gate = new_gate; door = unused; noted = 0 } }
+    ensures { result ≡ new_lane }
 {
     Lane::new(
         UdpPort::new(net, shared),
@@ -35,7 +32,7 @@ pub fn udp_lanes<'a, N: Net>(
     shared: &'a SharedUdp,
     flag: &'a StopFlag,
 ) -> Result<Vec<UdpLane<'a, N>>, NoMemory>
-    ensures { IfOk result (λ v. v.items ≡ replicate 16 (record { port = record { told = new_port; faults = 0 }; gate = new_gate; door = unused; noted = 0 })) }
+    ensures { IfOk result (λ v. v.items ≡ replicate 16 new_lane) }
 {
     let mut lanes = Vec::with_capacity(alloc, MOST_VIEWERS)?;
     for _ in 0..MOST_VIEWERS {
@@ -68,8 +65,8 @@ pub fn lanes_of<'a, R: Net + Clock>(
     tcp: &'a SharedTcp,
     flag: &'a StopFlag,
 ) -> Result<Network<'a, R>, NoMemory>
-    ensures lanes { IfOk result (λ n. n.lanes.items ≡ replicate 16 (record { port = record { told = new_port; faults = 0 }; gate = new_gate; door = unused; noted = 0 })) }
-    ensures stream { IfOk result (λ n. n.stream ≡ record { streams = record { told = new_streams; faults = 0 }; gate = new_gate; door = unused; noted = 0 }) }
+    ensures lanes { IfOk result (λ n. n.lanes.items ≡ replicate 16 new_lane) }
+    ensures stream { IfOk result (λ n. n.stream ≡ new_stream_lane) }
 {
     let lanes = udp_lanes(alloc, rt, udp, flag)?;
     Ok(Network {

@@ -1,5 +1,5 @@
 -- Inside this crate alone: what a mapper holds beside its newest version.
-use Rattle.std.specs.Prelude.{◌≡◌, ℕ, ◌+◌, true, List}
+use Rattle.std.specs.Prelude.{◌≡◌, ℕ, ◌+◌, true, IfSome, List}
 use Rattle.map_model.specs.declared.change.Change.{Change}
 use Rattle.map_model.specs.declared.lines.MapLine.{MapLine}
 use Rattle.map_model.specs.Market.{Market}
@@ -32,11 +32,11 @@ pub record IsWritten (t : Plan) (c : Current) : Type 0 where
   pub text : c.text.items ≡ text_of_map t (mapped c.map)
   pub cuts : AreCutsOf t (mapped c.map) c.cuts
 
--- a state of a good map that holds its lines, and the offers of its instance by tree
+-- a state of a good map that holds its lines, and the offers of its instance by tree where they are listed
 pub record IsKeptFor (m : Market) (lines : List MapLine) (k : Kept) : Type 0 where
   pub state : IsStateOf m k.state
   pub holds : k.state.lines ≡ lines
-  pub asked : AreAllListed m k.asked
+  pub asked : IfSome k.asked (AreAllListed m)
 
 -- a batch makes a map: what goes with the version that it leads to
 pub record Makes (t : Plan) (old : Current) (changes : List Change) (new : Current) : Type 0 where

@@ -41,12 +41,12 @@ pub(crate) struct Current {
 /// queues of the nodes above it, and an offer that was emptied since leaves its old seats there unless they are the worst.
 const PROPOSALS_KEPT: u64 = 8;
 
-/// A state of the newest map, from which the next repair goes on, the offers by the trees of their pools, and how many
-/// proposals repairs have made on the state, with the turns in which units moved up.
+/// A state of the newest map, from which the next repair goes on, the offers by the trees of their pools, which the first
+/// repair lists, and how many proposals repairs have made on the state, with the turns in which units moved up.
 #[derive(Drop)]
 pub(crate) struct Kept {
     pub state: State,
-    pub asked: Asked,
+    pub asked: Option<Asked>,
     pub proposals: u64,
 }
 
@@ -83,6 +83,23 @@ fn another(old: &Instance, spare: Option<Instance>) -> Result<Instance, NoMemory
     }
 }
 
+/// Takes out the offers of an instance by the trees of their pools, or lists them where that was not done.
+fn take_asked(
+    alloc: Global,
+    instance: &Instance,
+    state: &State,
+    asked: &mut Option<Asked>,
+) -> Result<Asked, NoMemory>
+    requires ready { IsReady instance.now state.now }
+    requires listed { IfSome asked.old (λ a. AreAllListed instance.now a) }
+    ensures { IfOk result (λ a. AreAllListed instance.now a) }
+{
+    match asked.take() {
+        Some(asked) => Ok(asked),
+        None => Asked::build(alloc, instance, state),
+    }
+}
+
 /// The map of the new instance, by repair of the kept state.
 fn repaired<L>(
     alloc: Global,
@@ -103,15 +120,17 @@ fn repaired<L>(
     ensures later { steps.old ≤ steps.new }
 {
     let before = steps.count();
+    let asked = take_asked(alloc, &old.instance, &kept.state, &mut kept.asked)?;
     let effort = resume(
         alloc,
         &old.instance,
         &old.map,
         new,
-        &kept.asked,
+        &asked,
         &mut kept.state,
         steps,
     )?;
+    kept.asked = Some(asked);
     let proposals = steps.count() - before;
     kept.proposals = kept
         .proposals
@@ -186,17 +205,16 @@ pub(crate) struct First {
 fn mapped<L>(alloc: Global, instance: &Instance, steps: &mut Steps<L>) -> Result<Kept, NoMemory>
     ensures state { IfOk result (λ kept. IsStateOf instance.now kept.state) }
     ensures ended { IfOk result (λ kept. IsEnded instance.now kept.state.pointers kept.state.free) }
-    ensures asked { IfOk result (λ kept. AreAllListed instance.now kept.asked) }
+    ensures asked { IfOk result (λ kept. IfSome kept.asked (λ a. AreAllListed instance.now a)) }
     ensures counted { IfOk result (λ kept. IsMapping instance.now kept.state.lines steps.old steps.new) }
     ensures steps { OnOk result (steps.new ≤ steps.old + most_offers instance.now) }
     ensures later { steps.old ≤ steps.new }
 {
     let mut state = State::fresh(alloc, instance)?;
     run(alloc, instance, &mut state, steps)?;
-    let asked = Asked::build(alloc, instance, &state)?;
     Ok(Kept {
         state,
-        asked,
+        asked: None,
         proposals: 0,
     })
 }
@@ -222,16 +240,15 @@ pub(crate) fn first_of<L>(
     Ok(First { current, kept })
 }
 
-/// A state of a map, with the offers of its instance.
+/// A state of a map.
 pub(crate) fn kept_of(alloc: Global, current: &Current) -> Result<Kept, NoMemory>
     requires { IsGood current.now.instance current.now.map.lines.items current.now.map.names.items }
     ensures { IfOk result (λ kept. IsKeptFor current.now.instance current.now.map.lines.items kept) }
 {
     let state = State::of_map(alloc, &current.instance, &current.map)?;
-    let asked = Asked::build(alloc, &current.instance, &state)?;
     Ok(Kept {
         state,
-        asked,
+        asked: None,
         proposals: 0,
     })
 }

@@ -1,17 +1,8 @@
 -- A search by halves: each comparison halves what is left.
 use Rattle.std.proofs.Common.{◌≡◌, ℕ, ◌+◌, ◌-◌, ◌*◌, ◌/◌, ◌^◌, ◌<◌, ◌≤◌, List, length, subst, arith, mul-le-mul_left}
-use Rattle.std.specs.Prelude.{Bool, true, false, ◌==◌, if◌then◌else◌}
 use Rattle.std.proofs.Math.Pow.{pow_mono}
 use Rattle.std.proofs.lemmas.Nat.{pow-add}
 use Rattle.prefix_lookup.specs.Ranges.{start_at}
-
--- one tick more, or none at the type's end
-ticked : (t u : ℕ) → u ≡ (if t == 18446744073709551615 then t else t + 1) → (t ≤ u) × (u ≤ t + 1)
-ticked t u e = by (t == 18446744073709551615) e
-  where
-    by : (b : Bool) → u ≡ (if b then t else t + 1) → (t ≤ u) × (u ≤ t + 1)
-    by true is = (omega arith, omega arith)
-    by false is = (omega arith, omega arith)
 
 -- a count that rises by one at most
 one_more : (from t u : ℕ) → from ≤ t → u ≤ t + 1 → 2 ^ (u - from) ≤ 2 ^ (t - from) * 2
@@ -32,7 +23,7 @@ few from t u width all le up some so_far =
     let one : q * 1 ≤ q * width = mul-le-mul_left q some in
     omega (arith, one_more from t u le up)
 
--- The last start up to a number is among `size` starts from `low` on; so many ticks were made since `from`.
+-- The last start up to a number is among `size` starts from `low` on; so many comparisons were told since `from`.
 pub record Halving (starts : List ℕ) (number from low size steps : ℕ) : Type 0 where
   pub some : 0 < size
   pub within : low + size ≤ length starts
@@ -46,33 +37,29 @@ passed_at : (starts : List ℕ) (i j n : ℕ) → i ≡ j → (i < length starts
 passed_at starts i j n e to lt = subst (λ (k : ℕ). n < start_at starts k) e (to (omega arith))
 
 -- it goes on in the upper half
-pub upper : (starts : List ℕ) (number from low size steps next : ℕ) → 1 < size → next ≡ (if steps == 18446744073709551615 then steps else steps + 1) → start_at starts (low + size / 2) ≤ number
+pub upper : (starts : List ℕ) (number from low size steps next : ℕ) → 1 < size → steps ≤ next → next ≤ steps + 1 → start_at starts (low + size / 2) ≤ number
     → Halving starts number from low size steps → Halving starts number from (low + size / 2) (size - size / 2) next
-upper starts number from low size steps next some tick reached i =
-    let t = ticked steps next tick in
-    let up : next ≤ steps + 1 = t.1 in
+upper starts number from low size steps next some risen up reached i =
     record {
       some = omega arith;
       within = omega (arith, i.within);
       reached = reached;
       passed = λ lt. passed_at starts (low + size) (low + size / 2 + (size - size / 2)) number (omega arith) i.passed lt;
-      risen = omega (arith, i.risen, t.0);
+      risen = omega (arith, i.risen, risen);
       halved_so = halved from steps next (size - 1) _ (length starts - 1) i.risen up (omega arith) i.halved_so;
       few_so = few from steps next (size - 1) (length starts) i.risen up (omega arith) i.halved_so;
     }
 
 -- it goes on in the lower half
-pub lower : (starts : List ℕ) (number from low size steps next : ℕ) → 1 < size → next ≡ (if steps == 18446744073709551615 then steps else steps + 1) → number < start_at starts (low + size / 2)
+pub lower : (starts : List ℕ) (number from low size steps next : ℕ) → 1 < size → steps ≤ next → next ≤ steps + 1 → number < start_at starts (low + size / 2)
     → Halving starts number from low size steps → Halving starts number from low (size / 2) next
-lower starts number from low size steps next some tick passed i =
-    let t = ticked steps next tick in
-    let up : next ≤ steps + 1 = t.1 in
+lower starts number from low size steps next some risen up passed i =
     record {
       some = omega arith;
       within = omega (arith, i.within);
       reached = i.reached;
       passed = λ _. passed;
-      risen = omega (arith, i.risen, t.0);
+      risen = omega (arith, i.risen, risen);
       halved_so = halved from steps next (size - 1) _ (length starts - 1) i.risen up (omega arith) i.halved_so;
       few_so = few from steps next (size - 1) (length starts) i.risen up (omega arith) i.halved_so;
     }

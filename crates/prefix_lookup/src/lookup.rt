@@ -8,7 +8,7 @@ ghost use Rattle.prefix_lookup.specs.Search.{IsFew};
 ghost use Rattle.prefix_lookup.specs.Table.{IsTable};
 
 use crate::family::Family;
-use crate::ranges::{Range, RangesV4, RangesV6, ranges_v4, ranges_v6};
+use crate::ranges::{RangesV4, RangesV6, Untold, ranges_v4, ranges_v6};
 use crate::scope::scope_in;
 use addr_text::{Addr, Prefix};
 use map_model::{GroupId, Steps};
@@ -63,8 +63,7 @@ impl Lookup {
         ensures longest { HasLongest self.now addr result }
         ensures table { IsTable self.now }
     {
-        let mut steps: Steps<Lookup> = Steps::new();
-        self.probe(addr, &mut steps)
+        self.find(addr).0
     }
 
     /// The group of the longest prefix that holds the address, with a tick for each comparison of the search.
@@ -102,14 +101,13 @@ impl Lookup {
         ensures within { result.1 ≤ bits_of addr }
         ensures table { IsTable self.now }
     {
-        let mut steps: Steps<Lookup> = Steps::new();
         match addr {
             Addr::V4(number) => {
-                let range = self.v4.range_of(number, &mut steps);
+                let range = self.v4.range_of(number, &mut Untold);
                 (range.group, scope_in(Family::V4, u128::from(number), range))
             }
             Addr::V6(number) => {
-                let range = self.v6.range_of(number, &mut steps);
+                let range = self.v6.range_of(number, &mut Untold);
                 (range.group, scope_in(Family::V6, number, range))
             }
         }

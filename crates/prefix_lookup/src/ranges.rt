@@ -115,19 +115,52 @@ impl Starts for Vec<u128> {
     }
 }
 
-/// The last start up to a number, with a tick for each comparison.
-fn last_up_to<S: Starts, L>(starts: &S, number: u128, steps: &mut Steps<L>) -> usize
+/// What is told of each comparison of a search.
+pub trait Tally {
+    /// How many comparisons it holds.
+    ghost told: { Self → ℕ };
+
+    /// A comparison is made.
+    fn compared(&mut self)
+        ensures risen { told self.old ≤ told self.new }
+        ensures once { told self.new ≤ told self.old + 1 };
+}
+
+/// Each comparison is a tick.
+impl<L> Tally for Steps<L> {
+    ghost told = { λ steps. steps };
+
+    #[inline(always)]
+    fn compared(&mut self) {
+        self.tick();
+    }
+}
+
+/// Nobody asks how many comparisons there are: the search that replies make.
+#[derive(Clone, Copy, Debug, PartialEq, Eq)]
+pub struct Untold;
+
+impl Tally for Untold {
+    ghost told = { λ _. 0 };
+
+    #[inline(always)]
+    fn compared(&mut self) {}
+}
+
+/// The last start up to a number; each comparison is told.
+#[inline(always)]
+fn last_up_to<S: Starts, T: Tally>(starts: &S, number: u128, tally: &mut T) -> usize
     requires some { 0 < length (S.starts starts.now) }
     requires first { start_at (S.starts starts.now) 0 ≡ 0 }
     ensures place { IsLastUpTo (S.starts starts.now) number result }
-    ensures few { 2 ^ (steps.new - steps.old) ≤ 2 * length (S.starts starts.now) }
-    ensures risen { steps.old ≤ steps.new }
+    ensures few { 2 ^ (T.told tally.new - T.told tally.old) ≤ 2 * length (S.starts starts.now) }
+    ensures risen { T.told tally.old ≤ T.told tally.new }
 {
     let mut low = 0;
     let mut size = starts.count();
     while size > 1 {
         let half = size / 2;
-        steps.tick();
+        tally.compared();
         if starts.at(low + half) <= number {
             low += half;
             size -= half;
@@ -139,6 +172,7 @@ fn last_up_to<S: Starts, L>(starts: &S, number: u128, steps: &mut Steps<L>) -> u
 }
 
 /// The start after this place, if there is one.
+#[inline(always)]
 fn next_at<S: Starts>(starts: &S, place: usize) -> Option<u128>
     requires { place < length (S.starts starts.now) }
     ensures { result ≡ next_start (S.starts starts.now) place }
@@ -152,6 +186,7 @@ fn next_at<S: Starts>(starts: &S, place: usize) -> Option<u128>
 }
 
 /// The range at a place.
+#[inline(always)]
 fn range_at<S: Starts>(starts: &S, groups: &[GroupId], place: usize) -> Range
     requires place { place < length (S.starts starts.now) }
     requires beside { length groups.now ≡ length (S.starts starts.now) }
@@ -165,54 +200,57 @@ fn range_at<S: Starts>(starts: &S, groups: &[GroupId], place: usize) -> Range
 }
 
 /// The range in which a number is.
-fn range_in<S: Starts, L>(
+#[inline(always)]
+fn range_in<S: Starts, T: Tally>(
     starts: &S,
     groups: &[GroupId],
     number: u128,
-    steps: &mut Steps<L>,
+    tally: &mut T,
 ) -> Range
     requires some { 0 < length (S.starts starts.now) }
     requires first { start_at (S.starts starts.now) 0 ≡ 0 }
     requires beside { length groups.now ≡ length (S.starts starts.now) }
     ensures range { (family : Family) (table : List (Prefix × GroupId)) → AreRanges family table (S.starts starts.now) groups.now → number < 2 ^ bits_in family → IsRangeOf family table number result }
-    ensures few { 2 ^ (steps.new - steps.old) ≤ 2 * length (S.starts starts.now) }
-    ensures risen { steps.old ≤ steps.new }
+    ensures few { 2 ^ (T.told tally.new - T.told tally.old) ≤ 2 * length (S.starts starts.now) }
+    ensures risen { T.told tally.old ≤ T.told tally.new }
 {
-    let place = last_up_to(starts, number, steps);
+    let place = last_up_to(starts, number, tally);
     range_at(starts, groups, place)
 }
 
 impl RangesV4 {
     /// The range of an address.
-    pub fn range_of<L>(&self, number: u32, steps: &mut Steps<L>) -> Range
+    #[inline(always)]
+    pub fn range_of<T: Tally>(&self, number: u32, tally: &mut T) -> Range
         requires some { 0 < length self.now.starts.items }
         requires first { start_at self.now.starts.items 0 ≡ 0 }
         requires beside { length self.now.groups.items ≡ length self.now.starts.items }
         ensures range { (table : List (Prefix × GroupId)) → AreRanges family.V4 table self.now.starts.items self.now.groups.items → IsRangeOf family.V4 table number result }
         ensures fits { number < 2 ^ 32 }
-        ensures few { 2 ^ (steps.new - steps.old) ≤ 2 * length self.now.starts.items }
-        ensures risen { steps.old ≤ steps.new }
+        ensures few { 2 ^ (T.told tally.new - T.told tally.old) ≤ 2 * length self.now.starts.items }
+        ensures risen { T.told tally.old ≤ T.told tally.new }
     {
         range_in(
             &self.starts,
             self.groups.as_slice(),
             u128::from(number),
-            steps,
+            tally,
         )
     }
 }
 
 impl RangesV6 {
     /// The range of an address.
-    pub fn range_of<L>(&self, number: u128, steps: &mut Steps<L>) -> Range
+    #[inline(always)]
+    pub fn range_of<T: Tally>(&self, number: u128, tally: &mut T) -> Range
         requires some { 0 < length self.now.starts.items }
         requires first { start_at self.now.starts.items 0 ≡ 0 }
         requires beside { length self.now.groups.items ≡ length self.now.starts.items }
         ensures range { (table : List (Prefix × GroupId)) → AreRanges family.V6 table self.now.starts.items self.now.groups.items → IsRangeOf family.V6 table number result }
         ensures fits { number < 2 ^ 128 }
-        ensures few { 2 ^ (steps.new - steps.old) ≤ 2 * length self.now.starts.items }
-        ensures risen { steps.old ≤ steps.new }
+        ensures few { 2 ^ (T.told tally.new - T.told tally.old) ≤ 2 * length self.now.starts.items }
+        ensures risen { T.told tally.old ≤ T.told tally.new }
     {
-        range_in(&self.starts, self.groups.as_slice(), number, steps)
+        range_in(&self.starts, self.groups.as_slice(), number, tally)
     }
 }

@@ -1,6 +1,7 @@
 //! `serve` over a region of two pools, in memory.
 use glb::Status;
 use no_memory::NoMemory;
+use std::alloc::Global;
 use std::process::Abort;
 use std::sync::Wait;
 use std::test::Fail;
@@ -278,4 +279,42 @@ fn assert_rows<R: Abort + Threads + Wait + Sync + AllocGlobal>(
 #[test]
 fn sessions(rt: HostRuntime) -> Result<(), Fail> {
     assert_rows(&rt, ROWS)
+}
+
+/// How many commits a long session makes, and the octets that each output has room for.
+const COMMITS: u64 = 7_000;
+
+const LONG: Scene = Scene {
+    turns: 1_000,
+    room: 1 << 20,
+    ..SCENE
+};
+
+/// Two commits: the second group asks for four units, and for seven again.
+const TWO_COMMITS: &[u8] = b"demand g2 4\ncommit\ndemand g2 7\ncommit\n";
+
+/// The feed of a long session.
+fn long_feed(alloc: Global) -> Result<Vec<u8>, NoMemory> {
+    let mut feed = Vec::new(alloc);
+    for _pair in 0..COMMITS / 2 {
+        feed.extend_from_slice(TWO_COMMITS)?;
+    }
+    Ok(feed)
+}
+
+/// Whether each commit of a long session is published.
+fn publishes_each<R: Threads + Wait + Sync + AllocGlobal>(rt: &R) -> Result<bool, NoMemory> {
+    let feed = long_feed(rt.alloc())?;
+    let came = session_of(rt, LONG, feed.as_slice(), &[])?;
+    Ok(
+        came.status == Status::Ok
+            && came.puts() == COMMITS
+            && came.text().ends_with(b"published 7000\n"),
+    )
+}
+
+#[test]
+fn thousands_of_commits(rt: HostRuntime) -> Result<(), Fail> {
+    assert!(rt; publishes_each(&rt)?);
+    Ok(())
 }

@@ -317,7 +317,8 @@ fn are_written(talks: &[MemTalk], counts: &[usize]) -> bool {
 
 /// Whether a session came out as its row says.
 fn came_so(came: &Came, row: &Row) -> bool {
-    let streams = &came.lent.stream.streams;
+    let stream = &came.lent.stream;
+    let streams = &stream.streams;
     let opens: &[Listen] = if row.is_open { &[OVER] } else { &[] };
     came.status == row.status
         && came.text() == row.out.as_bytes()

@@ -2,6 +2,7 @@ pub mod Firsts
 pub mod Walks
 pub mod Placed
 pub mod Looked
+pub mod FromEnd
 pub mod Documents
 pub mod Numbers
 pub mod Depths

@@ -5,6 +5,8 @@ pub mod Found
 pub mod Code
 pub mod Values
 pub mod Names
+pub mod Slots
+pub mod Guessed
 pub mod Prefixes
 pub mod Hosts
 pub mod Soa

@@ -1,10 +1,11 @@
 //! Rules that look at names, and at what they lead to.
-ghost use Rattle.std.specs.Prelude.{◌≡◌, ◌≤◌, ◌+◌, ℕ, true, false, slice_index_or, map, length, option_map, Some, IsNone};
+ghost use Rattle.std.specs.Prelude.{◌≡◌, ◌≤◌, ◌+◌, ◌∷◌, ◌||◌, ℕ, true, false, slice_index, slice_index_or, drop, map, length, option_map, Some, IsNone};
 ghost use Rattle.std.specs.List.{list_any};
 ghost use Rattle.std.specs.Str.{bytes_eq};
 ghost use Rattle.toml.specs.View.{table_view, view};
 ghost use Rattle.topology_text.specs.Code.{entries, flag_at, visit};
 ghost use Rattle.topology_text.specs.Names.{ascend, count_at, duplicate_name, has_repeat, is_deep, is_deep_at, is_inside, is_misplaced, is_misshapen, is_other, is_pool_number, is_taken, is_under_apex, is_unknown_name, list_shape, misplaced_at, number_of, parent_of, parent_order, repeats_name, repeats_pair, text_in, texts_of, too_deep, units_of};
+ghost use Rattle.topology_text.specs.Slots.{AreInSlots, slot_of};
 ghost use Rattle.topology_text.specs.Values.{whole_if};
 ghost use Rattle.topology_text.specs.Walk.{first, value_at};
 
@@ -17,6 +18,9 @@ use crate::visited::TableAt;
 use map_model::{LEVELS, PLACES};
 use name_text::{Name, under};
 use toml::Value;
+
+/// How many numbers texts may have by which those of a list are told apart.
+const SLOTS: usize = 256;
 
 /// The whole value, where it is bad.
 fn whole_if(bad: bool) -> Option<At>
@@ -242,15 +246,73 @@ fn has_text(items: &[Value], text: &str) -> bool
     false
 }
 
+/// The octet at a place of a text, or 0 behind its end.
+fn octet_at(text: &str, place: usize) -> u8
+    ensures { result ≡ slice_index text.now place }
+{
+    text.as_bytes().get(place).copied().unwrap_or(0)
+}
+
+/// A number below 256 for a text, by its last three octets: texts that are the same have the same.
+#[tactic(auto, unfolding(crate::specs::Slots::slot_of))]
+fn slot_of(text: &str) -> usize
+    ensures { result ≡ slot_of text.now }
+{
+    let last = octet_at(text, text.len().saturating_sub(1)) as usize;
+    let second = octet_at(text, text.len().saturating_sub(2)) as usize;
+    let third = octet_at(text, text.len().saturating_sub(3)) as usize;
+    (last + 16 * second + 7 * third) % SLOTS
+}
+
+/// Notes the number of a text. Whether a text with that number was noted before, or may have been.
+fn is_noted(slots: &mut [bool], text: &str) -> bool
+    ensures before { result ≡ slice_index_or slots.old (slot_of text.now) true }
+    ensures noted { slice_index_or slots.new (slot_of text.now) true ≡ true }
+    ensures kept { (slot : ℕ) → slice_index_or slots.old slot true ≡ true → slice_index_or slots.new slot true ≡ true }
+{
+    let slot = slot_of(text);
+    if slot >= slots.len() {
+        return true;
+    }
+    let before = slots[slot];
+    slots[slot] = true;
+    before
+}
+
+/// The text stands among later items, whose texts are noted; it is noted then, too.
+fn stands_again(slots: &mut [bool], text: &str, later: &[Value]) -> bool
+    requires { AreInSlots slots.old (texts_of (map view later.now)) }
+    ensures found { result ≡ list_any (bytes_eq text.now) (texts_of (map view later.now)) }
+    ensures noted { AreInSlots slots.new (text.now ∷ texts_of (map view later.now)) }
+{
+    if is_noted(slots, text) {
+        has_text(later, text)
+    } else {
+        false
+    }
+}
+
+/// The first item is a text that stands among the others, which are noted; it is noted then, too.
+fn first_stands_again(slots: &mut [bool], items: &[Value]) -> bool
+    requires some { 1 ≤ length items.now }
+    requires noted { AreInSlots slots.old (texts_of (map view (drop 1 items.now))) }
+    ensures found { has_repeat (texts_of (map view items.now)) ≡ (result || has_repeat (texts_of (map view (drop 1 items.now)))) }
+    ensures noted { AreInSlots slots.new (texts_of (map view items.now)) }
+{
+    match items[0].as_str() {
+        Some(text) => stands_again(slots, text, &items[1..]),
+        None => false,
+    }
+}
+
 /// Some text stands twice among a few items.
 fn has_repeat(items: &[Value]) -> bool
     ensures { result ≡ has_repeat (texts_of (map view items.now)) }
 {
-    for (i, item) in items.iter().enumerate() {
-        if let Some(text) = item.as_str() {
-            if has_text(&items[i + 1..], text) {
-                return true;
-            }
+    let mut slots = [false; SLOTS];
+    for done in 0..items.len() {
+        if first_stands_again(&mut slots, &items[items.len() - 1 - done..]) {
+            return true;
         }
     }
     false

@@ -1,11 +1,13 @@
 //! Names of entries.
-ghost use Rattle.std.specs.Prelude.{◌<◌, length, IfSome, ◌≡◌, ℕ, map, List, Option, option_map, option_and_then, IfOk, OnOk, if◌then◌else◌, Some, None, position};
+ghost use Rattle.std.specs.Prelude.{◌<◌, length, IfSome, ◌≡◌, ℕ, map, List, Option, option_map, option_and_then, IfOk, OnOk, if◌then◌else◌, Some, None, true, position};
 ghost use Rattle.name_text.specs.Names.{is_same};
 ghost use Rattle.std.specs.HashMap.{get_by};
 ghost use Rattle.std.specs.Option.{option_or};
 ghost use Rattle.std.specs.Str.{bytes_eq};
+ghost use Rattle.toml.specs.Data.{Data};
 ghost use Rattle.toml.specs.View.{table_view, view};
 ghost use Rattle.topology_text.specs.Walk.{first, value_at};
+ghost use Rattle.topology_text.specs.Guessed.{AreFirst};
 ghost use Rattle.topology_text.specs.Texts.{zone_name};
 ghost use Rattle.topology_text.specs.Names.{entries_of, entry_at, flag_in, is_pool, names_in, number_of, pair_of, parent_of, repeats_in, service_number, text_at, text_in, zone_items, zone_text};
 ghost use Rattle.topology_text.specs.declared.schema.Key.TheVariants.{Apex, Ns, Services};
@@ -87,6 +89,98 @@ pub fn numbers_of(alloc: Global, entries: &[Value]) -> Result<HashMap<&str, usiz
     Ok(numbers)
 }
 
+/// How many places there are for names that are found at once.
+const GUESSES: usize = 16_384;
+
+/// A name with its first number, at a place by the name's octets. Of several names of one place the last one is there.
+type Guess<'a> = Option<(&'a str, usize)>;
+
+/// The place of a name.
+fn place_of(name: &str) -> usize {
+    let mut hash: u32 = 0x811c_9dc5;
+    for octet in name.as_bytes() {
+        hash = (hash ^ u32::from(*octet)).wrapping_mul(0x0100_0193);
+    }
+    (hash ^ (hash >> 15)) as usize % GUESSES
+}
+
+/// Two texts are the same.
+fn are_alike(one: &str, other: &str) -> bool
+    ensures { result ≡ true → one.now ≡ other.now }
+{
+    let (one, other) = (one.as_bytes(), other.as_bytes());
+    if one.len() != other.len() {
+        return false;
+    }
+    for i in 0..one.len() {
+        if one[i] != other[i] {
+            return false;
+        }
+    }
+    true
+}
+
+/// No names.
+fn no_guesses<'a>(alloc: Global) -> Result<Vec<Guess<'a>>, AllocError>
+    ensures { IfOk result (λ v. (entries : List Data) → AreFirst entries v.items) }
+{
+    let mut guesses = Vec::new(alloc);
+    for _place in 0..GUESSES {
+        guesses.push(None)?;
+    }
+    Ok(guesses)
+}
+
+/// Puts a name with its first number at its place.
+fn put_guess<'a>(guesses: &mut [Guess<'a>], name: &'a str, number: usize)
+    ensures { (entries : List Data) → AreFirst entries guesses.old → number_of entries name.now ≡ Some number → AreFirst entries guesses.new }
+{
+    let place = place_of(name);
+    if place < guesses.len() {
+        guesses[place] = Some((name, number));
+    }
+}
+
+/// Puts an entry's name with its first number at its place.
+fn put_entry<'a>(guesses: &mut [Guess<'a>], numbers: &HashMap<&'a str, usize>, entry: &'a Value)
+    ensures { (entries : List Data) → ((q : List ℕ) → get_by (λ k. bytes_eq q k.now) numbers.now ≡ number_of entries q) → AreFirst entries guesses.old → AreFirst entries guesses.new }
+{
+    if let Some(name) = text_at(entry, Key::Name) {
+        if let Some(number) = numbers.get(name) {
+            put_guess(guesses, name, *number);
+        }
+    }
+}
+
+/// The names of entries with their first numbers, each at its place.
+fn guesses_of<'a>(
+    alloc: Global,
+    entries: &'a [Value],
+    numbers: &HashMap<&'a str, usize>,
+) -> Result<Vec<Guess<'a>>, AllocError>
+    requires { (q : List ℕ) → get_by (λ k. bytes_eq q k.now) numbers.now ≡ number_of (map view entries.now) q }
+    ensures { IfOk result (λ v. AreFirst (map view entries.now) v.items) }
+{
+    let mut guesses = no_guesses(alloc)?;
+    for entry in entries {
+        put_entry(guesses.as_mut_slice(), numbers, entry);
+    }
+    Ok(guesses)
+}
+
+/// The first number of a name, if the name is found at its place.
+fn guessed(guesses: &[Guess<'_>], name: &str) -> Option<usize>
+    ensures { (entries : List Data) → AreFirst entries guesses.now → IfSome result (λ n. number_of entries name.now ≡ Some n) }
+{
+    let guess = *guesses.get(place_of(name))?;
+    let (other, number) = guess?;
+    if are_alike(other, name) {
+        Some(number)
+    } else {
+        None
+    }
+}
+
 /// Which of the entries are pools.
 fn pools_of(alloc: Global, entries: &[Value]) -> Result<Vec<bool>, AllocError>
     ensures { IfOk result (λ pools. pools.items ≡ map is_pool (map view entries.now)) }
@@ -124,6 +218,8 @@ pub struct Entries<'a> {
     zone: Option<&'a Table>,
     pools: Vec<bool>,
     node_numbers: HashMap<&'a str, usize>,
+    /// Before a node's name is looked up there, it is looked for here, where that is quicker.
+    guesses: Vec<Guess<'a>>,
     group_numbers: HashMap<&'a str, usize>,
     class_numbers: HashMap<&'a str, usize>,
     services: Names,
@@ -132,6 +228,7 @@ pub struct Entries<'a> {
     services_repeat: Option<At>,
     ghost pools_are: { pools.items ≡ map is_pool (map view nodes.now) },
     ghost nodes_are: { (q : List ℕ) → get_by (λ k. bytes_eq q k.now) node_numbers ≡ number_of (map view nodes.now) q },
+    ghost guesses_are: { AreFirst (map view nodes.now) guesses.items },
     ghost groups_are: { (q : List ℕ) → get_by (λ k. bytes_eq q k.now) group_numbers ≡ number_of (map view groups.now) q },
     ghost classes_are: { (q : List ℕ) → get_by (λ k. bytes_eq q k.now) class_numbers ≡ number_of (map view classes.now) q },
     ghost names_are: { services ≡ names_in Services (zone_items (option_map (λ t. table_view t.now) zone) Services) },
@@ -153,6 +250,7 @@ impl<'a> Entries<'a> {
         let zone = zone_table(top);
         let pools = pools_of(alloc, nodes)?;
         let node_numbers = numbers_of(alloc, nodes)?;
+        let guesses = guesses_of(alloc, nodes, &node_numbers)?;
         let group_numbers = numbers_of(alloc, groups)?;
         let class_numbers = numbers_of(alloc, classes)?;
         let services = wire_names(alloc, Key::Services, zone_items(zone, Key::Services))?;
@@ -165,6 +263,7 @@ impl<'a> Entries<'a> {
             zone,
             pools,
             node_numbers,
+            guesses,
             group_numbers,
             class_numbers,
             services,
@@ -207,7 +306,10 @@ impl<'a> Entries<'a> {
         ensures number { result ≡ number_of (entries self.now).nodes name.now }
         ensures within { IfSome result (λ n. n < length (entries self.now).nodes) }
     {
-        self.node_numbers.get(name).copied()
+        match guessed(self.guesses.as_slice(), name) {
+            Some(number) => Some(number),
+            None => self.node_numbers.get(name).copied(),
+        }
     }
 
     /// The first group of that name.

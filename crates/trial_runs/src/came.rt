@@ -17,7 +17,7 @@ use std::thread::Threads;
 
 /// All that the program is lent.
 #[derive(Drop)]
-pub struct AllLent<P, Q, G, D, M> {
+pub struct AllLent<P: Port, Q: Streams, G: Gate, D: Door, M> {
     pub words: Vec<String>,
     pub files: MemShelf,
     pub feed: MemSource,
@@ -69,13 +69,14 @@ pub struct Came {
 }
 
 /// All that a run is lent: these devices, lanes, a lane for conversations and a pace.
-pub fn lent_of<P, Q, G, D, M>(
+pub fn lent_of<P: Port, Q: Streams, G: Gate, D: Door, M>(
     devices: Devices,
     lanes: Vec<Lane<P, G, D>>,
     stream: StreamLane<Q, G, D>,
     pace: M,
 ) -> AllLent<P, Q, G, D, M>
-    ensures { (vec_len result.lanes ≡ vec_len lanes) × (vec_len result.more ≡ vec_len devices.feeds.more) }
+    ensures { (vec_len result.lanes ≡ vec_len lanes)
+        × (vec_len result.more ≡ vec_len devices.feeds.more) }
 {
     let Devices {
         words,

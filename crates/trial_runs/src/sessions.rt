@@ -14,9 +14,6 @@ use std::alloc::Global;
 use std::sync::Wait;
 use std::thread::Threads;
 
-/// How many octets an output takes.
-const ROOM: usize = 4096;
-
 /// The words of a session whose workers are not named, and of one of two.
 pub const SERVE: &[&str] = &["glb", "serve", "t", "--listen", "127.0.0.1:53"];
 
@@ -45,6 +42,8 @@ pub struct Scene {
     pub maps: Fails,
     pub stream: StreamScript,
     pub turns: u64,
+    /// How many octets each output takes.
+    pub room: usize,
 }
 
 /// One worker, and nothing fails.
@@ -58,12 +57,13 @@ pub const PLAIN: Scene = Scene {
     maps: NEVER,
     stream: NO_TALKS,
     turns: 100,
+    room: 4096,
 };
 
 /// The outputs of a session.
 fn outputs_of(alloc: Global, scene: Scene) -> Result<Outputs, NoMemory> {
-    let out = sink_of(alloc, ROOM, scene.lines)?;
-    let maps = sink_of(alloc, ROOM, scene.maps)?;
+    let out = sink_of(alloc, scene.room, scene.lines)?;
+    let maps = sink_of(alloc, scene.room, scene.maps)?;
     Ok(Outputs { out, maps })
 }
 

@@ -9,13 +9,13 @@ pub write_full-requires-clause-room : goal.write_full-requires-clause-room
 write_full-requires-clause-room c =
     let request = c.read_request-request.result in
     let outcome = c.decide-outcome.result in
-    let long = bound c.zone.result.now (request_view request) (outcome_view outcome) c.zone.ensures.form c.read_request-request.ensures.name.fits (view_fits (length request.query.name.now) outcome c.decide-outcome.ensures.short) in omega (arith, long)
+    let long = bound c.zone.result.now (request_view request) (outcome_view outcome) c.zone.ensures.form c.read_request-request.ensures.name.fits (view_fits (length request.query.now.name.now) outcome c.decide-outcome.ensures.short) in omega (arith, long)
 
 pub returns-else-len-limit_of-clause-room : goal.returns-else-len-limit_of-clause-room
 returns-else-len-limit_of-clause-room c =
     let request = c.read_request-request.result in
     let outcome = c.decide-outcome.result in
-    let long = bound c.zone.result.now (request_view request) (outcome_view outcome) c.zone.ensures.form c.read_request-request.ensures.name.fits (view_fits (length request.query.name.now) outcome c.decide-outcome.ensures.short) in omega (arith, ap length c.write_full.ensures, long)
+    let long = bound c.zone.result.now (request_view request) (outcome_view outcome) c.zone.ensures.form c.read_request-request.ensures.name.fits (view_fits (length request.query.now.name.now) outcome c.decide-outcome.ensures.short) in omega (arith, ap length c.write_full.ensures, long)
 
 pub write_full-requires-then-len-limit_of-clause-room : goal.write_full-requires-then-len-limit_of-clause-room
 write_full-requires-then-len-limit_of-clause-room c =

@@ -1,9 +1,9 @@
-use Rattle.std.proofs.Common.{rules, ◌≡◌, ◌∙◌, ◌++◌, [], length, map, refl, vec_len}
+use Rattle.std.proofs.Common.{rules, ◌≡◌, ◌∙◌, ◌++◌, [], inl, length, map, refl, vec_len}
 use Rattle.std.proofs.lemmas.List.{length-map}
 use Rattle.drive.proofs.Ends.{sole_history}
 use Rattle.drive.proofs.Growing.{feed_goes_on, feed_over}
 use Rattle.drive.proofs.Together.{are_done_in, ended_as}
-use Rattle.drive.specs.Told.{feed_told, lane_told, lent_of, stream_told}
+use Rattle.drive.specs.Told.{feed_told}
 use Rattle.drive.specs.Driven.{IsDriven}
 use Rattle.drive.proofs.whole.drive_one.Goals as goal
 
@@ -15,35 +15,38 @@ returns-clause-driven g c =
     let s = c.serve_all.ensures in
     let opened = sole_history c.args.mapper.history c.args.mapper.newest c.newest.ensures.last c.requires.serial in
     let size : length c.serve_all.new.works.lanes.items ≡ vec_len c.args.prepared.works.lanes = search rules in
-    let driven : IsDriven c.args.turns c.args.mapper.newest c.serve_all.new.loan.side.end (map (λ w. w.ended) c.serve_all.new.works.lanes.items) c.end_of.result
-    (lent_of (feed_told g.S.Source.told g.S.Source.faults) (feed_told g.T.Source.told g.T.Source.faults) g.K.Sink.told g.M.Pace.told (lane_told g.P.Port.told g.P.Port.faults g.G.Gate.told g.D.Door.asked g.D.Door.looks g.D.Door.greatest g.D.Door.faults) (stream_told g.Q.Streams.told g.Q.Streams.faults g.G.Gate.told g.D.Door.asked g.D.Door.looks g.D.Door.greatest g.D.Door.faults) c.args.feed.now [] c.args.out.now c.args.maps.now c.args.pace.now c.args.lanes.now c.args.stream.now)
-    (lent_of (feed_told g.S.Source.told g.S.Source.faults) (feed_told g.T.Source.told g.T.Source.faults) g.K.Sink.told g.M.Pace.told (lane_told g.P.Port.told g.P.Port.faults g.G.Gate.told g.D.Door.asked g.D.Door.looks g.D.Door.greatest g.D.Door.faults) (stream_told g.Q.Streams.told g.Q.Streams.faults g.G.Gate.told g.D.Door.asked g.D.Door.looks g.D.Door.greatest g.D.Door.faults) c.serve_all.new.loan.side.feed.now [] c.serve_all.new.loan.side.out.now c.serve_all.new.loan.side.maps.now c.serve_all.new.loan.side.pace.now (c.serve_all.new.loan.lanes.now ++ c.split_at_mut-served.result.1.now) c.serve_all.new.stream) = record {
+    let feed : c.lent-4-1.given.0 ≡ c.serve_all.new.loan.side.feed.now = search rules in
+    let out : c.lent-3-1.given.0 ≡ c.serve_all.new.loan.side.out.now = search rules in
+    let maps : c.lent-2-1.given.0 ≡ c.serve_all.new.loan.side.maps.now = search rules in
+    let pace : c.lent-1.given.0 ≡ c.serve_all.new.loan.side.pace.now = search rules in
+    let lanes : c.served-1.given.0 ≡ c.serve_all.new.loan.lanes.now = search rules in
+    let driven : IsDriven c.args.lent.now.turns c.args.mapper.newest c.serve_all.new.loan.side.end (map (λ w. w.ended) c.serve_all.new.works.lanes.items) c.end_of.result
+    (record { feed = feed_told g.S.Source.told g.S.Source.faults c.args.lent.now.feed.now; more = []; out = g.K.Sink.told c.args.lent.now.out.now; maps = g.K.Sink.told c.args.lent.now.maps.now; pace = g.M.Pace.told c.args.lent.now.pace.now; lanes = c.args.lent.now.lanes.now; stream = c.args.stream.now })
+    (record { feed = feed_told g.S.Source.told g.S.Source.faults c.serve_all.new.loan.side.feed.now; more = []; out = g.K.Sink.told c.serve_all.new.loan.side.out.now; maps = g.K.Sink.told c.serve_all.new.loan.side.maps.now; pace = g.M.Pace.told c.serve_all.new.loan.side.pace.now; lanes = (c.serve_all.new.loan.lanes.now ++ c.split_at_mut-served.result.1.now); stream = c.serve_all.new.stream }) = record {
       rest = s.done.0;
       newest = c.serve_all.new.mapper.newest;
       feed = (feed_over _ _ _ _ _ _ _ _ _ _ _ _ _ _ _ _ _ opened s.done.1 s.fed.run, record { rose = s.fed.source; stays = s.fed.source_stays }, refl);
       goes_on = feed_goes_on _ _ _ _ _ _ _ c.args.mapper.newest s.done.0 s.fed.run refl opened s.done.1 s.history;
-      lanes = are_done_in (lane_told g.P.Port.told g.P.Port.faults g.G.Gate.told g.D.Door.asked g.D.Door.looks g.D.Door.greatest g.D.Door.faults) (λ w. w.ended) _ _ _ _ _ _ _ _ c.split_at_mut-served.ensures.value s.done.2;
+      lanes = are_done_in (λ w. w.ended) _ _ _ _ _ _ _ _ c.split_at_mut-served.ensures.value s.done.2;
       stream = ended_as _ _ _ _ _ _ _ _ _ s.done.3 (length-map _ _ ∙ search rules) c.end_of.ensures;
     } in (
       map (λ w. w.ended) c.serve_all.new.works.lanes.items,
       length-map _ _ ∙ size,
       c.ends_of.ensures,
-      search (rules, driven),
+      rw (c.requires.one, feed, out, maps, pace, lanes) driven,
     )
 
-pub returns-clause-sink : goal.returns-clause-sink
-returns-clause-sink g c =
-    let out : c.out-1.given.0 ≡ c.serve_all.new.loan.side.out.now = search rules in
-    let maps : c.maps-1.given.0 ≡ c.serve_all.new.loan.side.maps.now = search rules in
-    rw (out, maps) c.serve_all.ensures.fed.sink
-
-pub returns-clause-sink_stays : goal.returns-clause-sink_stays
-returns-clause-sink_stays g c =
-    let out : c.out-1.given.0 ≡ c.serve_all.new.loan.side.out.now = search rules in
-    let maps : c.maps-1.given.0 ≡ c.serve_all.new.loan.side.maps.now = search rules in
-    rw (out, maps) c.serve_all.ensures.fed.sink_stays
-
-pub returns-clause-source_stays : goal.returns-clause-source_stays
-returns-clause-source_stays g c =
-    let feed : c.feed-1.given.0 ≡ c.serve_all.new.loan.side.feed.now = search rules in
-    rw feed c.serve_all.ensures.fed.source_stays
+pub returns-clause-counted : goal.returns-clause-counted
+returns-clause-counted g c =
+    let f = c.serve_all.ensures.fed in
+    let feed : c.lent-4-1.given.0 ≡ c.serve_all.new.loan.side.feed.now = search rules in
+    let out : c.lent-3-1.given.0 ≡ c.serve_all.new.loan.side.out.now = search rules in
+    let maps : c.lent-2-1.given.0 ≡ c.serve_all.new.loan.side.maps.now = search rules in
+    rw (c.requires.one, feed, out, maps)
+    (record {
+      later = (f.later.0, f.later.1, f.later.2, refl);
+      sink = f.sink;
+      sink_stays = f.sink_stays;
+      source = λ is. inl (f.source is);
+      source_stays = λ other one. (f.source_stays other, refl);
+    })

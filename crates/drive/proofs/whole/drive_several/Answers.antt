@@ -9,7 +9,7 @@ use Rattle.drive.proofs.Growing.{feeds_go_on, together_over}
 use Rattle.drive.proofs.Several.{are_fed, fresh_all, queues, several, some_told}
 use Rattle.drive.proofs.Together.{are_done_in, ended_as}
 use Rattle.drive.specs.Driven.{IsDriven}
-use Rattle.drive.specs.Told.{feed_told, lane_told, lent_of, stream_told}
+use Rattle.drive.specs.Told.{feed_told, lent_of}
 use Rattle.drive.proofs.whole.drive_several.Goals as goal
 
 pub serve_several-requires-clause-first : goal.serve_several-requires-clause-first
@@ -17,11 +17,11 @@ serve_several-requires-clause-first g c κs within = (sole_history _ _ c.newest.
 
 pub serve_several-requires-clause-unused : goal.serve_several-requires-clause-unused
 serve_several-requires-clause-unused g c κs within =
-    let l = c.requires.queue in (ap (λ s. s.sent) l.first, subst (λ items. All (λ f. f.sent ≡ []) items) (sym l.feeders) (fresh_all c.args.queue.taker.queue 1 (length c.args.more.now)), l.taken)
+    let l = c.requires.queue in (ap (λ s. s.sent) l.first, subst (λ items. All (λ f. f.sent ≡ []) items) (sym l.feeders) (fresh_all c.args.queue.taker.queue 1 (length c.args.lent.now.more.now)), l.taken)
 
 pub serve_several-requires-clause-feeds : goal.serve_several-requires-clause-feeds
 serve_several-requires-clause-feeds g c κs within =
-    let n : length c.args.queue.feeders.items ≡ length c.args.more.now = ap (λ items. length items) c.requires.queue.feeders ∙ length-map _ _ ∙ length-range_with_len 1 (length c.args.more.now) in
+    let n : length c.args.queue.feeders.items ≡ length c.args.lent.now.more.now = ap (λ items. length items) c.requires.queue.feeders ∙ length-map _ _ ∙ length-range_with_len 1 (length c.args.lent.now.more.now) in
     search (rules, n)
 
 pub all_back-requires-clause-queue : goal.all_back-requires-clause-queue
@@ -30,67 +30,40 @@ all_back-requires-clause-queue g c =
     let taker : c.taker-2-1.given.0 ≡ c.serve_several.new.side.taker.now = search rules in
     let queue : c.args.queue.taker.queue ≡ c.taker-2-1.given.0.queue = sym (ap (λ (t : TakerState). t.queue) taker ∙ s.worked.queue.0) in
     subst (λ (q : TableId). All (λ (f : FeederState). f.queue ≡ q) c.serve_several.new.feeders.items) queue
-    (queues (arc_value c.args.queue.desk.topology) c.args.queue.desk.turns g.T.Source.told g.T.Source.faults c.args.queue.taker.queue 1 (length c.args.more.now) c.args.more.now c.serve_several.new.more c.args.queue.feeders.items c.serve_several.new.feeders.items c.requires.queue.feeders s.sent)
+    (queues (arc_value c.args.queue.desk.topology) c.args.queue.desk.turns g.T.Source.told g.T.Source.faults c.args.queue.taker.queue 1 (length c.args.lent.now.more.now) c.args.lent.now.more.now c.serve_several.new.more c.args.queue.feeders.items c.serve_several.new.feeders.items c.requires.queue.feeders s.sent)
 
 pub returns-clause-driven : goal.returns-clause-driven
 returns-clause-driven g c =
     let s = c.serve_several.ensures in
     let opened = sole_history c.args.mapper.history c.args.mapper.newest c.newest.ensures.last c.requires.serial in
     let size : length c.serve_several.new.works.lanes.items ≡ vec_len c.args.prepared.works.lanes = search rules in
-    let out : c.out-1.given.0 ≡ c.serve_several.new.side.out.now = search rules in
-    let maps : c.maps-1.given.0 ≡ c.serve_several.new.side.maps.now = search rules in
-    let pace : c.pace-1.given.0 ≡ c.serve_several.new.side.pace.now = search rules in
-    let driven : IsDriven c.args.queue.desk.turns c.args.mapper.newest c.serve_several.new.side.end (map (λ w. w.ended) c.serve_several.new.works.lanes.items) c.end_of.result
-    (lent_of (feed_told g.S.Source.told g.S.Source.faults) (feed_told g.T.Source.told g.T.Source.faults) g.K.Sink.told g.M.Pace.told (lane_told g.P.Port.told g.P.Port.faults g.G.Gate.told g.D.Door.asked g.D.Door.looks g.D.Door.greatest g.D.Door.faults) (stream_told g.Q.Streams.told g.Q.Streams.faults g.G.Gate.told g.D.Door.asked g.D.Door.looks g.D.Door.greatest g.D.Door.faults) c.args.feed.now c.args.more.now c.args.out.now c.args.maps.now c.args.pace.now c.args.lanes.now c.args.stream.now)
-    (lent_of (feed_told g.S.Source.told g.S.Source.faults) (feed_told g.T.Source.told g.T.Source.faults) g.K.Sink.told g.M.Pace.told (lane_told g.P.Port.told g.P.Port.faults g.G.Gate.told g.D.Door.asked g.D.Door.looks g.D.Door.greatest g.D.Door.faults) (stream_told g.Q.Streams.told g.Q.Streams.faults g.G.Gate.told g.D.Door.asked g.D.Door.looks g.D.Door.greatest g.D.Door.faults) c.serve_several.new.feed c.serve_several.new.more c.serve_several.new.side.out.now c.serve_several.new.side.maps.now c.serve_several.new.side.pace.now (c.serve_several.new.lanes ++ c.split_at_mut-served.result.1.now) c.serve_several.new.stream) =
     let taker : c.taker-2-1.given.0 ≡ c.serve_several.new.side.taker.now = search rules in
-    let run = several (arc_value c.args.queue.desk.topology) c.args.mapper.newest.plan c.args.queue.desk.turns g.T.Source.told g.T.Source.faults g.N.Numbers.groups g.N.Numbers.nodes _ _ (g.S.Source.faults c.args.feed.now) (g.S.Source.faults c.serve_several.new.feed) _ _ c.args.more.now c.serve_several.new.more c.args.queue.feeders.items c.serve_several.new.feeders.items c.args.queue.taker c.taker-2-1.given.0 c.serve_several.new.side.taker.now _ _ _ c.requires.queue.topology taker s.worked.queue.1 c.requires.queue.taker c.requires.queue.first c.requires.queue.feeders s.first s.sent c.all_back.ensures.taken c.all_back.ensures.first c.all_back.ensures.begins s.worked.run s.worked.merged in
-    record {
+    let run = several (arc_value c.args.queue.desk.topology) c.args.mapper.newest.plan c.args.queue.desk.turns g.T.Source.told g.T.Source.faults g.N.Numbers.groups g.N.Numbers.nodes _ _ (g.S.Source.faults c.args.lent.now.feed.now) (g.S.Source.faults c.serve_several.new.feed) _ _ c.args.lent.now.more.now c.serve_several.new.more c.args.queue.feeders.items c.serve_several.new.feeders.items c.args.queue.taker c.taker-2-1.given.0 c.serve_several.new.side.taker.now _ _ _ c.requires.queue.topology taker s.worked.queue.1 c.requires.queue.taker c.requires.queue.first c.requires.queue.feeders s.first s.sent c.all_back.ensures.taken c.all_back.ensures.first c.all_back.ensures.begins s.worked.run s.worked.merged in
+    let driven : IsDriven c.args.queue.desk.turns c.args.mapper.newest c.serve_several.new.side.end (map (λ w. w.ended) c.serve_several.new.works.lanes.items) c.end_of.result
+    (record { feed = feed_told g.S.Source.told g.S.Source.faults c.args.lent.now.feed.now; more = map (feed_told g.T.Source.told g.T.Source.faults) c.args.lent.now.more.now; out = g.K.Sink.told c.args.lent.now.out.now; maps = g.K.Sink.told c.args.lent.now.maps.now; pace = g.M.Pace.told c.args.lent.now.pace.now; lanes = c.args.lent.now.lanes.now; stream = c.args.stream.now })
+    (record { feed = feed_told g.S.Source.told g.S.Source.faults c.serve_several.new.feed; more = map (feed_told g.T.Source.told g.T.Source.faults) c.serve_several.new.more; out = g.K.Sink.told c.serve_several.new.side.out.now; maps = g.K.Sink.told c.serve_several.new.side.maps.now; pace = g.M.Pace.told c.serve_several.new.side.pace.now; lanes = (c.serve_several.new.lanes ++ c.split_at_mut-served.result.1.now); stream = c.serve_several.new.stream }) = record {
       rest = s.done.0;
       newest = c.serve_several.new.mapper.newest;
-      feed = are_fed _ _ _ _ _ _ _ _ _ (some_told (feed_told g.T.Source.told g.T.Source.faults) c.args.more.now c.requires.several) (together_over _ _ _ _ _ _ _ _ _ _ _ _ _ _ _ _ _ _ _ opened s.done.1 run.fed);
+      feed = are_fed _ _ _ _ _ _ _ _ _ (some_told (feed_told g.T.Source.told g.T.Source.faults) c.args.lent.now.more.now c.requires.several) (together_over _ _ _ _ _ _ _ _ _ _ _ _ _ _ _ _ _ _ _ opened s.done.1 run.fed);
       goes_on = feeds_go_on _ _ _ _ _ c.args.mapper.newest s.done.0 s.worked.run refl opened s.done.1 s.history;
-      lanes = are_done_in (lane_told g.P.Port.told g.P.Port.faults g.G.Gate.told g.D.Door.asked g.D.Door.looks g.D.Door.greatest g.D.Door.faults) (λ w. w.ended) _ _ _ _ _ _ _ _ c.split_at_mut-served.ensures.value s.done.2;
+      lanes = are_done_in (λ w. w.ended) _ _ _ _ _ _ _ _ c.split_at_mut-served.ensures.value s.done.2;
       stream = ended_as _ _ _ _ _ _ _ _ _ s.done.3 (length-map _ _ ∙ search rules) c.end_of.ensures;
-    } in
-    let whole : IsDriven c.args.queue.desk.turns c.args.mapper.newest c.serve_several.new.side.end (map (λ w. w.ended) c.serve_several.new.works.lanes.items) c.end_of.result
-    (lent_of (feed_told g.S.Source.told g.S.Source.faults) (feed_told g.T.Source.told g.T.Source.faults) g.K.Sink.told g.M.Pace.told (lane_told g.P.Port.told g.P.Port.faults g.G.Gate.told g.D.Door.asked g.D.Door.looks g.D.Door.greatest g.D.Door.faults) (stream_told g.Q.Streams.told g.Q.Streams.faults g.G.Gate.told g.D.Door.asked g.D.Door.looks g.D.Door.greatest g.D.Door.faults) c.args.feed.now c.args.more.now c.args.out.now c.args.maps.now c.args.pace.now c.args.lanes.now c.args.stream.now)
-    (lent_of (feed_told g.S.Source.told g.S.Source.faults) (feed_told g.T.Source.told g.T.Source.faults) g.K.Sink.told g.M.Pace.told (lane_told g.P.Port.told g.P.Port.faults g.G.Gate.told g.D.Door.asked g.D.Door.looks g.D.Door.greatest g.D.Door.faults) (stream_told g.Q.Streams.told g.Q.Streams.faults g.G.Gate.told g.D.Door.asked g.D.Door.looks g.D.Door.greatest g.D.Door.faults) c.serve_several.new.feed c.serve_several.new.more c.out-1.given.0 c.maps-1.given.0 c.pace-1.given.0 (c.serve_several.new.lanes ++ c.split_at_mut-served.result.1.now) c.serve_several.new.stream) = rw (out, maps, pace) driven in (
+    } in (
       map (λ w. w.ended) c.serve_several.new.works.lanes.items,
       length-map _ _ ∙ size,
       c.ends_of.ensures,
-      whole,
+      rw (sym c.requires.turns.1) driven,
     )
 
-pub returns-clause-later : goal.returns-clause-later
-returns-clause-later g c =
+pub returns-clause-counted : goal.returns-clause-counted
+returns-clause-counted g c =
     let s = c.serve_several.ensures in
     let taker : c.taker-2-1.given.0 ≡ c.serve_several.new.side.taker.now = search rules in
-    let run = several (arc_value c.args.queue.desk.topology) c.args.mapper.newest.plan c.args.queue.desk.turns g.T.Source.told g.T.Source.faults g.N.Numbers.groups g.N.Numbers.nodes _ _ (g.S.Source.faults c.args.feed.now) (g.S.Source.faults c.serve_several.new.feed) _ _ c.args.more.now c.serve_several.new.more c.args.queue.feeders.items c.serve_several.new.feeders.items c.args.queue.taker c.taker-2-1.given.0 c.serve_several.new.side.taker.now _ _ _ c.requires.queue.topology taker s.worked.queue.1 c.requires.queue.taker c.requires.queue.first c.requires.queue.feeders s.first s.sent c.all_back.ensures.taken c.all_back.ensures.first c.all_back.ensures.begins s.worked.run s.worked.merged in
-    let out : c.out-1.given.0 ≡ c.serve_several.new.side.out.now = search rules in
-    let maps : c.maps-1.given.0 ≡ c.serve_several.new.side.maps.now = search rules in
-    rw (out, maps) (s.worked.later.0, s.worked.later.1, run.later.0, run.later.1)
-
-pub returns-clause-sink : goal.returns-clause-sink
-returns-clause-sink g c =
-    let out : c.out-1.given.0 ≡ c.serve_several.new.side.out.now = search rules in
-    let maps : c.maps-1.given.0 ≡ c.serve_several.new.side.maps.now = search rules in
-    rw (out, maps) c.serve_several.ensures.worked.sink
-
-pub returns-clause-sink_stays : goal.returns-clause-sink_stays
-returns-clause-sink_stays g c =
-    let out : c.out-1.given.0 ≡ c.serve_several.new.side.out.now = search rules in
-    let maps : c.maps-1.given.0 ≡ c.serve_several.new.side.maps.now = search rules in
-    rw (out, maps) c.serve_several.ensures.worked.sink_stays
-
-pub returns-clause-source : goal.returns-clause-source
-returns-clause-source g c =
-    let s = c.serve_several.ensures in
-    let taker : c.taker-2-1.given.0 ≡ c.serve_several.new.side.taker.now = search rules in
-    (several (arc_value c.args.queue.desk.topology) c.args.mapper.newest.plan c.args.queue.desk.turns g.T.Source.told g.T.Source.faults g.N.Numbers.groups g.N.Numbers.nodes _ _ (g.S.Source.faults c.args.feed.now) (g.S.Source.faults c.serve_several.new.feed) _ _ c.args.more.now c.serve_several.new.more c.args.queue.feeders.items c.serve_several.new.feeders.items c.args.queue.taker c.taker-2-1.given.0 c.serve_several.new.side.taker.now _ _ _ c.requires.queue.topology taker s.worked.queue.1 c.requires.queue.taker c.requires.queue.first c.requires.queue.feeders s.first s.sent c.all_back.ensures.taken c.all_back.ensures.first c.all_back.ensures.begins s.worked.run s.worked.merged).source
-
-pub returns-clause-source_stays : goal.returns-clause-source_stays
-returns-clause-source_stays g c =
-    let s = c.serve_several.ensures in
-    let taker : c.taker-2-1.given.0 ≡ c.serve_several.new.side.taker.now = search rules in
-    (several (arc_value c.args.queue.desk.topology) c.args.mapper.newest.plan c.args.queue.desk.turns g.T.Source.told g.T.Source.faults g.N.Numbers.groups g.N.Numbers.nodes _ _ (g.S.Source.faults c.args.feed.now) (g.S.Source.faults c.serve_several.new.feed) _ _ c.args.more.now c.serve_several.new.more c.args.queue.feeders.items c.serve_several.new.feeders.items c.args.queue.taker c.taker-2-1.given.0 c.serve_several.new.side.taker.now _ _ _ c.requires.queue.topology taker s.worked.queue.1 c.requires.queue.taker c.requires.queue.first c.requires.queue.feeders s.first s.sent c.all_back.ensures.taken c.all_back.ensures.first c.all_back.ensures.begins s.worked.run s.worked.merged).stays
+    let run = several (arc_value c.args.queue.desk.topology) c.args.mapper.newest.plan c.args.queue.desk.turns g.T.Source.told g.T.Source.faults g.N.Numbers.groups g.N.Numbers.nodes _ _ (g.S.Source.faults c.args.lent.now.feed.now) (g.S.Source.faults c.serve_several.new.feed) _ _ c.args.lent.now.more.now c.serve_several.new.more c.args.queue.feeders.items c.serve_several.new.feeders.items c.args.queue.taker c.taker-2-1.given.0 c.serve_several.new.side.taker.now _ _ _ c.requires.queue.topology taker s.worked.queue.1 c.requires.queue.taker c.requires.queue.first c.requires.queue.feeders s.first s.sent c.all_back.ensures.taken c.all_back.ensures.first c.all_back.ensures.begins s.worked.run s.worked.merged in
+    record {
+      later = (s.worked.later.0, s.worked.later.1, run.later.0, run.later.1);
+      sink = s.worked.sink;
+      sink_stays = s.worked.sink_stays;
+      source = run.source;
+      source_stays = λ other one. run.stays other (λ sink. some_told (feed_told g.T.Source.told g.T.Source.faults) c.args.lent.now.more.now c.requires.several (one sink));
+    }

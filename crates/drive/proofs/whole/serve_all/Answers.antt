@@ -1,5 +1,4 @@
 use Rattle.std.proofs.Common.{rules, refl, ◌≡◌, ◌∷◌, ◌++◌, length, sym, ap, ◌∙◌}
-use Rattle.drive.specs.Told.{stream_told}
 use Rattle.drive.proofs.Finished.{done_by}
 use Rattle.drive.proofs.StreamFinished.{stream_by}
 use Rattle.drive.proofs.Holding.{fresh_of}
@@ -14,8 +13,8 @@ returns-clause-done g c =
     let is : c.run_beside.new.mapper.history ≡ c.args.mapper.now.newest ∷ kept.0 = sym kept.1 ∙ ap (λ l. l ++ kept.0) opened in (
       kept.0,
       is,
-      all_done _ _ _ _ (λ i a b k v w x fr ran cl. done_by c.args.loan.now.side.turns c.args.mapper.now.newest kept.0 i _ _ _ _ _ _ _ _ _ _ _ _ _ _ _ _ _ _ ran.0 fr.0 fr.4 (c.note-note.ensures ∙ is) opened fr.2 fr.3 fr.1 refl refl ran.2 ran.1 cl.0 cl.1 cl.2 cl.3 ran.3 cl.4 cl.5) 0 _ _ _ _ _ _ (fresh_of _ 0 _ _ size c.requires.fresh) c.run_beside.ensures.ran c.close_all.ensures.closed,
-      may_done (stream_told g.Q.Streams.told g.Q.Streams.faults g.G.Gate.told g.D.Door.asked g.D.Door.looks g.D.Door.greatest g.D.Door.faults) (λ w. w.ended) _ _ _ c.args.loan.now.side.turns c.args.mapper.now.newest kept.0 _ (λ a b k v w x fr ran cl. stream_by c.args.loan.now.side.turns c.args.mapper.now.newest kept.0 _ _ _ _ _ _ _ _ _ _ _ _ _ _ _ _ _ _ _ ran.0 fr.0 fr.4 (c.note-note.ensures ∙ is) opened fr.2 fr.3 fr.1 refl refl refl ran.2 ran.1 cl.0 cl.1 cl.2 cl.3 ran.3 cl.4 cl.5) _ _ _ _ _ _ c.requires.listener c.run_beside.ensures.stream c.close_more.ensures.closed,
+      all_done _ _ _ _ (λ i a b k v w x fr ran cl. done_by c.args.loan.now.side.turns c.args.mapper.now.newest kept.0 i _ _ _ _ _ _ _ _ _ _ _ _ _ _ _ _ _ _ _ ran.0 fr.0 fr.4 (c.note-note.ensures ∙ is) opened fr.2 fr.3 fr.1 refl refl ran.2 ran.1 cl.0 cl.1 cl.2 cl.3 ran.3 cl.4 cl.5 cl.6) 0 _ _ _ _ _ _ (fresh_of _ 0 _ _ size c.requires.fresh) c.run_beside.ensures.ran c.close_all.ensures.closed,
+      may_done (λ w. w.ended) _ _ _ c.args.loan.now.side.turns c.args.mapper.now.newest kept.0 _ (λ a b k v w x fr ran cl. stream_by c.args.loan.now.side.turns c.args.mapper.now.newest kept.0 _ _ _ _ _ _ _ _ _ _ _ _ _ _ _ _ _ _ _ _ ran.0 fr.0 fr.4 (c.note-note.ensures ∙ is) opened fr.2 fr.3 fr.1 refl refl refl ran.2 ran.1 cl.0 cl.1 cl.2 cl.3 ran.3 cl.4 cl.5 cl.6) _ _ _ _ _ _ c.requires.listener c.run_beside.ensures.stream c.close_more.ensures.closed,
     )
 
 pub returns-clause-same : goal.returns-clause-same

@@ -1,11 +1,10 @@
 use Rattle.std.proofs.Common.{rules, ◌≡◌, ◌∙◌, [], ◌++◌, map, refl, ap, sym, append-nil}
-use Rattle.drive.specs.Told.{feed_told, lane_told}
+use Rattle.drive.specs.Told.{feed_told}
 use Rattle.glb.proofs.Tasks.{none_behind, promised_over, same_stage, unread}
 use Rattle.glb.proofs.top.glb.Goals as goal
 
 pub returns-in-Ok : goal.returns-in-Ok
 returns-in-Ok g c =
-    let tell = map (lane_told g.P.Port.told g.P.Port.faults g.G.Gate.told g.D.Door.asked g.D.Door.looks g.D.Door.greatest g.D.Door.faults) in
     let none : c.split_at_mut-all.result.1.now ≡ [] = none_behind _ _ _ c.split_at_mut-all.ensures.value (c.split_at_mut-all.ensures.front_len ∙ sym c.requires.lanes) in
     let front : c.split_at_mut-all.result.0.now ≡ c.args.lanes.now = sym (c.split_at_mut-all.ensures.value ∙ ap (λ l. c.split_at_mut-all.result.0.now ++ l) none ∙ append-nil c.split_at_mut-all.result.0.now) in
     let feed : c.run_order.new.lent.feed.now ≡ c.feed-1.given.0 = search rules in
@@ -15,8 +14,8 @@ returns-in-Ok g c =
     let pace : c.run_order.new.lent.pace.now ≡ c.pace-1.given.0 = search rules in
     let lanes : c.run_order.new.lent.lanes.now ≡ c.all-1.given.0 ++ c.split_at_mut-all.result.1.now = search rules in
     promised_over _ _ _ _ _ _ _ _ _ _ _ _ _ refl c.in-Ok.ensures.asked
-    (same_stage _ _ _ _ _ _ _ _ _ _ _ _ _ _ _ _ _ _ _ _ refl refl refl refl refl refl (ap tell front) refl refl refl)
-    (same_stage _ _ _ _ _ _ _ _ _ _ _ _ _ _ _ _ _ _ _ _ (ap (feed_told g.S.Source.told g.S.Source.faults) feed) (ap (map (feed_told g.N.Source.told g.N.Source.faults)) more) (ap (map g.N.NamedSource.opens) more) (ap g.K.Sink.told out) (ap g.K.Sink.told maps) (ap g.M.Pace.told pace) (ap tell lanes) refl (ap g.K.Sink.faults out) (ap g.K.Sink.faults maps))
+    (same_stage _ _ _ _ _ _ _ _ _ _ _ _ _ _ _ _ _ _ _ _ refl refl refl refl refl refl front refl refl refl)
+    (same_stage _ _ _ _ _ _ _ _ _ _ _ _ _ _ _ _ _ _ _ _ (ap (feed_told g.S.Source.told g.S.Source.faults) feed) (ap (map (feed_told g.N.Source.told g.N.Source.faults)) more) (ap (map g.N.NamedSource.opens) more) (ap g.K.Sink.told out) (ap g.K.Sink.told maps) (ap g.M.Pace.told pace) lanes refl (ap g.K.Sink.faults out) (ap g.K.Sink.faults maps))
     c.run_order.ensures.promised
 
 pub returns-in-Err : goal.returns-in-Err

@@ -1,7 +1,6 @@
-use Rattle.std.proofs.Common.{◌≡◌, ◌∙◌, List, ap, rules, subst, sym}
+use Rattle.std.proofs.Common.{◌≡◌, List, rules, subst, sym}
 use Rattle.map_model.specs.declared.lines.MapLine.{MapLine}
 use Rattle.map_model.specs.Progress.{IsGroupBest}
-use Rattle.topology_text.specs.Plan.{Plan}
 use Rattle.published_map.specs.Version.{IsVersion, Version}
 use Rattle.mapper.specs.Currents.{IsCurrent, version_of}
 use Rattle.mapper.proofs.Opened.{first_is}
@@ -15,7 +14,6 @@ returns-in-Ok-make-clause-first g =
     first_is g.args.topology g.in-Ok-make.version version plan (subst (λ (ls : List MapLine). IsGroupBest g.args.topology.market ls) (sym lines) g.requires.best)
 
 pub returns-in-Ok-make-clause-current : goal.returns-in-Ok-make-clause-current
-returns-in-Ok-make-clause-current g =
-    let current = g.args.first.current in
-    let version : g.in-Ok-make.version ≡ version_of 0 g.args.topology current = g.in-Ok-make.ensures.value ∙ ap (λ (t : Plan). version_of 0 t current) g.in-Ok.ensures.plan.1 in
-    subst (λ (v : Version). IsCurrent v current) (sym version) (g.requires.current 0)
+returns-in-Ok-make-clause-current c =
+    let version : c.in-Ok-make.version ≡ version_of 0 c.args.topology c.args.first.current = search rules in
+    subst (λ (v : Version). IsCurrent v c.args.first.current) (sym version) (c.requires.current 0)

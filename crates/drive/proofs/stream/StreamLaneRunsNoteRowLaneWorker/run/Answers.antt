@@ -7,7 +7,7 @@ use Rattle.drive.proofs.stream.StreamLaneRunsNoteRowLaneWorker.run.Goals as goal
 
 pub returns : goal.returns
 returns g c =
-    let nones : ℕ = c.serve_streams-work.new.notes.nones in (
+    let nones : ℕ = c.serve_streams-work.new.notes.nones in rw (← c.self.view_is) (
       nones,
       with_stream_notes _ _ _ _ _ _ _ (ap (λ s. Some (noted s)) c.over-notes.ensures) (ap (λ k. Some (record { coming = range_with_len k (most_notes - k); nones = nones })) (sym c.given.ensures)) c.serve_streams-work.ensures.call,
       omega (arith, c.given.ensures, ap (λ s. s.given) c.notes.view_is, c.notes.invariant),

@@ -17,7 +17,7 @@ returns-in-V4-clause-longest g c =
 pub returns-in-V4-clause-few : goal.returns-in-V4-clause-few
 returns-in-V4-clause-few g c =
     let are = subst (λ (l : List Entry). AreRanges family.V4 l c.self.inside.v4.starts.items c.self.inside.v4.groups.items) c.self.view_is c.self.invariant.v4 in
-    subst (λ (a : Addr). IsFew c.args.self.now a (c.range_of.new.steps - c.args.steps.now)) (sym c.in-V4.is) (omega (arith, c.range_of.ensures.few, are.few c.in-V4.number))
+    subst (λ (a : Addr). IsFew c.args.self.now a (c.range_of.new.tally - c.args.steps.now)) (sym c.in-V4.is) (omega (arith, c.range_of.ensures.few, are.few c.in-V4.number))
 
 pub returns-in-V6-clause-longest : goal.returns-in-V6-clause-longest
 returns-in-V6-clause-longest g c =
@@ -27,4 +27,4 @@ returns-in-V6-clause-longest g c =
 pub returns-in-V6-clause-few : goal.returns-in-V6-clause-few
 returns-in-V6-clause-few g c =
     let are = subst (λ (l : List Entry). AreRanges family.V6 l c.self.inside.v6.starts.items c.self.inside.v6.groups.items) c.self.view_is c.self.invariant.v6 in
-    subst (λ (a : Addr). IsFew c.args.self.now a (c.range_of-in-V6.new.steps - c.args.steps.now)) (sym c.in-V6.is) (omega (arith, c.range_of-in-V6.ensures.few, are.few c.in-V6.number))
+    subst (λ (a : Addr). IsFew c.args.self.now a (c.range_of-in-V6.new.tally - c.args.steps.now)) (sym c.in-V6.is) (omega (arith, c.range_of-in-V6.ensures.few, are.few c.in-V6.number))
