@@ -100,11 +100,13 @@ def refused(code, words):
 class Members(unittest.TestCase):
     def test_one_that_hangs_is_passed_over(self):
         with silent() as hangs, member(told=EMPTY) as (answers, _):
-            with mock.patch.object(etcd, "PATIENCE", 0.3):
+            # one that answers has time enough on a busy machine
+            bounds = iter([0.3, 9, 0.3])
+            with mock.patch.object(etcd, "Bound", lambda seconds: bounded.Bound(next(bounds))):
                 found = Etcd([hangs, answers])
                 began = time.monotonic()
                 self.assertEqual(found.txn([one("a")]).revision, 7)
-                self.assertLess(time.monotonic() - began, 2)
+                self.assertLess(time.monotonic() - began, 9)
                 self.assertEqual(found.members[0], answers)
                 self.assertIsNone(found.answers(hangs))
 
@@ -168,6 +170,10 @@ def answer_of(body, status=b"200 OK", length=None):
     return head, body
 
 
+# far below what a whole drip takes, and far above what a busy machine adds
+LONG = 12
+
+
 class Dripping(unittest.TestCase):
     """Members whose answers come octet by octet: the time of a whole call is bounded."""
 
@@ -194,7 +200,7 @@ class Dripping(unittest.TestCase):
             self.assertEqual(found.silent, {address: "timed out"})
             self.assertEqual(found.members, [answers, address])
         self.assertGreater(self.took(), 0.3)
-        self.assertLess(self.took(), 3)
+        self.assertLess(self.took(), LONG)
 
     def test_the_head(self):
         with dripping(b"HTTP/1.1 200 OK\r\n" + b"X-More: and more\r\n" * 90) as address:
@@ -211,20 +217,20 @@ class Dripping(unittest.TestCase):
         with dripping(head + body, len(head)) as address:
             with member(told=EMPTY) as (answers, _):
                 self.assertTrue(Etcd([address, answers]).txn([one("a")]).held)
-        self.assertLess(self.took(), 3)
+        self.assertLess(self.took(), LONG)
 
     def test_a_handshake(self):
         # the head of a record of TLS, and then its octets
         with dripping(b"\x16\x03\x03\x3f\xff\x02\x00\x3f\xfb" + bytes(400)) as address:
             with self.assertRaisesRegex(Unreachable, "timed out"):
                 Etcd([address.replace("http:", "https:")]).txn([one("a")])
-        self.assertLess(self.took(), 3)
+        self.assertLess(self.took(), LONG)
 
     def test_one_that_takes_no_octets(self):
         with dripping(bytes(400), reads=False) as address:
             with self.assertRaisesRegex(Unreachable, "timed out"):
-                Etcd([address]).txn([etcd.put("a", bytes(20 << 20))])
-        self.assertLess(self.took(), 9)
+                Etcd([address]).txn([etcd.put("a", bytes(12 << 20))])
+        self.assertLess(self.took(), 5 * LONG)
 
     def test_a_password(self):
         head, body = answer_of(b" " * 400)
@@ -234,7 +240,7 @@ class Dripping(unittest.TestCase):
             with self.assertRaises(Unreachable):
                 found.txn([one("a")])
             self.assertIsNone(found.answers(address))
-        self.assertLess(self.took(), 3)
+        self.assertLess(self.took(), LONG)
 
     def test_news(self):
         """A watch whose news drip is one without news, for as long as it is waited for."""
@@ -242,13 +248,13 @@ class Dripping(unittest.TestCase):
         with dripping(head + body, len(head) + body.index(b"\n") + 1) as address:
             Etcd([address]).wait("a", "b", 1, 0.6)
         self.assertGreater(self.took(), 0.5)
-        self.assertLess(self.took(), 3)
+        self.assertLess(self.took(), LONG)
 
     def test_what_looks_at_each_member(self):
         head, body = answer_of(b" " * 400)
         with dripping(head + body, len(head)) as address:
             self.assertIsNone(Etcd([address]).answers(address))
-            self.assertLess(self.took(), 3)
+            self.assertLess(self.took(), LONG)
             self.began = time.monotonic()
             with mock.patch.object(etcd, "DEFRAGMENT", 3), mock.patch.multiple(
                 Etcd,
@@ -256,7 +262,7 @@ class Dripping(unittest.TestCase):
                 call=lambda *words: {},
             ):
                 self.assertEqual(Etcd([address]).make_room(), (7, [address]))
-        self.assertLess(self.took(), 3)
+        self.assertLess(self.took(), LONG)
 
     def test_a_name_that_nobody_looks_up(self):
         over = threading.Event()
@@ -270,7 +276,7 @@ class Dripping(unittest.TestCase):
         with mock.patch.object(socket, "getaddrinfo", look_up):
             with self.assertRaisesRegex(Unreachable, "not looked up in time"):
                 Etcd(["http://etcd.example:2379"]).txn([one("a")])
-        self.assertLess(self.took(), 3)
+        self.assertLess(self.took(), LONG)
 
     def test_a_host_whose_first_address_hangs(self):
         """Each of its addresses has a share of the time."""
@@ -406,11 +412,12 @@ class Certificates(unittest.TestCase):
             ("member", "good", ["--cacert", self.at("good.pem")], "certificate"),
             ("member", "good", ["--cacert", self.at("good.pem"), *self.of("stranger")], ""),
         ):
-            with self.subTest(words), self.served(name, clients) as (address, _):
+            patient = mock.patch.object(etcd, "PATIENCE", 60)
+            with self.subTest(words), patient, self.served(name, clients) as (address, _):
                 began = time.monotonic()
                 with self.assertRaisesRegex(Unreachable, f"^etcd: {address}: .*({words})"):
                     self.asked(address, *more)
-                self.assertLess(time.monotonic() - began, 3)
+                self.assertLess(time.monotonic() - began, 50)
 
     def test_one_side_without_tls(self):
         signed = ["--cacert", self.at("good.pem")]
