@@ -130,14 +130,14 @@ class Pipes(unittest.TestCase):
     def test_a_server_that_is_silent(self):
         self.server.find(self.idle)
         self.played.is_held.clear()
-        # the thread reads once more before it looks
-        self.server.show(self.idle)
         waited = []
 
         def idle():
             waited.append(1)
             self.played.is_held.set()
 
+        # the thread may read once more before it looks
+        self.server.show(idle)
         self.server.show(idle)
         self.assertTrue(waited)
 
