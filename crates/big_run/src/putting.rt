@@ -9,10 +9,10 @@ use outside::{Put, Sink};
 
 /// Puts the lines of a summary, one by one, up to the first that fails.
 pub fn put_lines<K: Sink>(summary: &Summary, out: &mut K) -> Put
-    ensures puts { BothTell (K.told out.old) (K.told out.new) (ArePut result (lines_of summary.now)) }
-    ensures later { K.faults out.old ≤ K.faults out.new }
-    ensures cause { result ≡ Put.Failed → Rose (K.faults out.old) (K.faults out.new) }
-    ensures stays { result ≢ Put.Failed → K.faults out.new ≡ K.faults out.old }
+    ensures puts { BothTell (K.told out.old).past (K.told out.new).past (ArePut result (lines_of summary.now)) }
+    ensures later { (K.told out.old).faults ≤ (K.told out.new).faults }
+    ensures cause { result ≡ Put.Failed → Rose (K.told out.old).faults (K.told out.new).faults }
+    ensures stays { result ≢ Put.Failed → (K.told out.new).faults ≡ (K.told out.old).faults }
 {
     for number in 0..LINES {
         match out.put(summary.line(number).as_slice()) {

@@ -75,11 +75,11 @@ fn take_turn<S: Source, T: TakesTasks>(
     requires buffer { length buffer.old ≡ READ_SIZE }
     requires ready { IsReady T.market T.left topology.now clerk.old to.old READ_SIZE }
     ensures ready { (n : ℕ) → IsReady T.market T.left topology.now clerk.old to.old (n + READ_SIZE) → result ≡ None → IsReady T.market T.left topology.now clerk.new to.new n }
-    ensures came { (fed : Option Fed) (before : T) (pieces : List (List ℕ)) → BothTell fed (S.told feed.old) (HasRead pieces) → Reads T.does topology.now before (concat pieces) cutter.old clerk.old to.old
-        → TurnCame T.does T.cuts result topology.now fed (S.told feed.new) before (length pieces) cutter.new clerk.new to.new }
-    ensures later { S.faults feed.old ≤ S.faults feed.new }
-    ensures cause { result ≡ Some FeedEnd.SourceFault → Rose (S.faults feed.old) (S.faults feed.new) }
-    ensures stays { result ≢ Some FeedEnd.SourceFault → S.faults feed.new ≡ S.faults feed.old }
+    ensures came { (fed : Option Fed) (before : T) (pieces : List (List ℕ)) → BothTell fed (S.told feed.old).past (HasRead pieces) → Reads T.does topology.now before (concat pieces) cutter.old clerk.old to.old
+        → TurnCame T.does T.cuts result topology.now fed (S.told feed.new).past before (length pieces) cutter.new clerk.new to.new }
+    ensures later { (S.told feed.old).faults ≤ (S.told feed.new).faults }
+    ensures cause { result ≡ Some FeedEnd.SourceFault → Rose (S.told feed.old).faults (S.told feed.new).faults }
+    ensures stays { result ≢ Some FeedEnd.SourceFault → (S.told feed.new).faults ≡ (S.told feed.old).faults }
 {
     match feed.read(buffer) {
         Read::Got(size) => piece_end(take_piece(topology, clerk, cutter, &buffer[..size], to)),
@@ -100,10 +100,10 @@ fn read_all<S: Source, T: TakesTasks>(
 ) -> FeedEnd
     requires buffer { length buffer.old ≡ READ_SIZE }
     requires ready { IsReady T.market T.left topology.now clerk.old to.old (READ_SIZE * turns) }
-    ensures came { (before : T) → Reads T.does topology.now before [] cutter.old clerk.old to.old → IsRun T.does T.cuts topology.now turns result (S.told feed.old) (S.told feed.new) before to.new }
-    ensures later { S.faults feed.old ≤ S.faults feed.new }
-    ensures cause { result ≡ FeedEnd.SourceFault → Rose (S.faults feed.old) (S.faults feed.new) }
-    ensures stays { result ≢ FeedEnd.SourceFault → S.faults feed.new ≡ S.faults feed.old }
+    ensures came { (before : T) → Reads T.does topology.now before [] cutter.old clerk.old to.old → IsRun T.does T.cuts topology.now turns result (S.told feed.old).past (S.told feed.new).past before to.new }
+    ensures later { (S.told feed.old).faults ≤ (S.told feed.new).faults }
+    ensures cause { result ≡ FeedEnd.SourceFault → Rose (S.told feed.old).faults (S.told feed.new).faults }
+    ensures stays { result ≢ FeedEnd.SourceFault → (S.told feed.new).faults ≡ (S.told feed.old).faults }
 {
     let mut used: u64 = 0;
     'pieces: while used < turns {
@@ -156,10 +156,10 @@ pub fn run_lines<S: Source, T: TakesTasks>(
     requires turns { turns ≤ MOST_TURNS }
     requires market { T.market to.old ≡ topology.now.market }
     requires left { 2 ^ 63 ≤ T.left to.old }
-    ensures run { IsRun T.does T.cuts topology.now turns result (S.told feed.old) (S.told feed.new) to.old to.new }
-    ensures later { S.faults feed.old ≤ S.faults feed.new }
-    ensures cause { result ≡ FeedEnd.SourceFault → Rose (S.faults feed.old) (S.faults feed.new) }
-    ensures stays { result ≢ FeedEnd.SourceFault → S.faults feed.new ≡ S.faults feed.old }
+    ensures run { IsRun T.does T.cuts topology.now turns result (S.told feed.old).past (S.told feed.new).past to.old to.new }
+    ensures later { (S.told feed.old).faults ≤ (S.told feed.new).faults }
+    ensures cause { result ≡ FeedEnd.SourceFault → Rose (S.told feed.old).faults (S.told feed.new).faults }
+    ensures stays { result ≢ FeedEnd.SourceFault → (S.told feed.new).faults ≡ (S.told feed.old).faults }
 {
     let Intake {
         clerk,

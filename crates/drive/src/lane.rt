@@ -29,14 +29,14 @@ impl<P: Port, G: Gate, D: Door> Model for Lane<P, G, D> {
     ghost Value = { LaneTold };
 
     ghost view = { λ l. record {
-      port = P.told l.port;
-      port_faults = P.faults l.port;
-      gate = G.told l.gate;
-      gate_faults = G.faults l.gate;
-      asked = D.asked l.door;
-      looks = D.looks l.door;
-      greatest = D.greatest l.door;
-      door_faults = D.faults l.door;
+      port = (P.told l.port).past;
+      port_faults = (P.told l.port).faults;
+      gate = (G.told l.gate).past;
+      gate_faults = (G.told l.gate).faults;
+      asked = (D.told l.door).asked;
+      looks = (D.told l.door).looks;
+      greatest = (D.told l.door).greatest;
+      door_faults = (D.told l.door).faults;
       noted = l.noted;
     } };
 }
@@ -45,14 +45,14 @@ impl<P: Port, G: Gate, D: Door> Lane<P, G, D> {
     /// One that served nobody so far.
     pub fn new(port: P, gate: G, door: D) -> Lane<P, G, D>
         ensures { result ≡ record {
-          port = P.told port;
-          port_faults = P.faults port;
-          gate = G.told gate;
-          gate_faults = G.faults gate;
-          asked = D.asked door;
-          looks = D.looks door;
-          greatest = D.greatest door;
-          door_faults = D.faults door;
+          port = (P.told port).past;
+          port_faults = (P.told port).faults;
+          gate = (G.told gate).past;
+          gate_faults = (G.told gate).faults;
+          asked = (D.told door).asked;
+          looks = (D.told door).looks;
+          greatest = (D.told door).greatest;
+          door_faults = (D.told door).faults;
           noted = 0;
         } }
     {
@@ -102,9 +102,9 @@ pub(crate) fn close_lane<J: Naming, D: Door>(
     served: Ended,
 ) -> Ended
     ensures closing { IsClosing note.now.front
-        (eyes_of D.looks D.greatest D.faults worker.old.viewer door.old)
-        (eyes_of D.looks D.greatest D.faults worker.new.viewer door.new) served result }
-    ensures asked { D.asked door.new ≡ D.asked door.old }
+        (eyes_of D.told worker.old.viewer door.old)
+        (eyes_of D.told worker.new.viewer door.new) served result }
+    ensures asked { (D.told door.new).asked ≡ (D.told door.old).asked }
 {
     door.learn(&mut worker.viewer, note);
     let looked = door.look(

@@ -37,7 +37,7 @@ impl<J: Naming, S: Source, K: Sink, M: Pace> Feeds<NoteRow<J>, Mapper<J>>
 
     ghost ready = { λ l m. (l.turns ≤ MOST_TURNS) × (m.newest.serial < 2 ^ 63) };
 
-    ghost fed = { λ a b m n. IsFedBy S.told S.faults K.told K.faults M.told a b m n };
+    ghost fed = { λ a b m n. IsFedBy S.told K.told M.told a b m n };
 
     fn run_feed<R: Wait>(&mut self, rt: &R, mapper: &mut Mapper<J>, row: &NoteRow<J>) {
         self.end = mapper.run_feed(
@@ -77,7 +77,7 @@ impl<N: Numbers, S: Source> Sends<Desk, Feeder<N>> for S {
         × (length (arc_value desk.topology).market.nodes ≡ N.nodes) };
 
     ghost sent = { λ desk a b f g.
-        IsRead (arc_value desk.topology) desk.turns (S.told a) (S.told b) (S.faults a) (S.faults b) f g };
+        IsRead (arc_value desk.topology) desk.turns (S.told a).past (S.told b).past (S.told a).faults (S.told b).faults f g };
 
     fn send<R: Wait>(&mut self, rt: &R, desk: &Desk, feeder: &mut Feeder<N>, alone: bool) {
         if desk.start.may_read(rt, alone) {
@@ -108,7 +108,7 @@ impl<J: Naming, N: Numbers, K: Sink, M: Pace> Feeds<NoteRow<J>, Mapper<J>>
         × (length m.newest.plan.market.nodes ≡ N.nodes)
         × (m.newest.serial < 2 ^ 63) × (l.taker.now.taken ≡ []) };
 
-    ghost fed = { λ a b m n. AreWorked K.told K.faults M.told a b m n };
+    ghost fed = { λ a b m n. AreWorked K.told M.told a b m n };
 
     fn run_feed<R: Wait>(&mut self, rt: &R, mapper: &mut Mapper<J>, row: &NoteRow<J>) {
         self.end = mapper.run_feeds(rt, self.taker, self.out, self.maps, self.pace, row);

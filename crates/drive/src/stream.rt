@@ -26,14 +26,14 @@ impl<Q: Streams, G: Gate, D: Door> Model for StreamLane<Q, G, D> {
     ghost Value = { StreamLaneTold };
 
     ghost view = { λ l. record {
-      port = Q.told l.streams;
-      port_faults = Q.faults l.streams;
-      gate = G.told l.gate;
-      gate_faults = G.faults l.gate;
-      asked = D.asked l.door;
-      looks = D.looks l.door;
-      greatest = D.greatest l.door;
-      door_faults = D.faults l.door;
+      port = (Q.told l.streams).past;
+      port_faults = (Q.told l.streams).faults;
+      gate = (G.told l.gate).past;
+      gate_faults = (G.told l.gate).faults;
+      asked = (D.told l.door).asked;
+      looks = (D.told l.door).looks;
+      greatest = (D.told l.door).greatest;
+      door_faults = (D.told l.door).faults;
       noted = l.noted;
     } };
 }
@@ -42,14 +42,14 @@ impl<Q: Streams, G: Gate, D: Door> StreamLane<Q, G, D> {
     /// One that served nobody so far.
     pub fn new(streams: Q, gate: G, door: D) -> StreamLane<Q, G, D>
         ensures { result ≡ record {
-          port = Q.told streams;
-          port_faults = Q.faults streams;
-          gate = G.told gate;
-          gate_faults = G.faults gate;
-          asked = D.asked door;
-          looks = D.looks door;
-          greatest = D.greatest door;
-          door_faults = D.faults door;
+          port = (Q.told streams).past;
+          port_faults = (Q.told streams).faults;
+          gate = (G.told gate).past;
+          gate_faults = (G.told gate).faults;
+          asked = (D.told door).asked;
+          looks = (D.told door).looks;
+          greatest = (D.told door).greatest;
+          door_faults = (D.told door).faults;
           noted = 0;
         } }
     {

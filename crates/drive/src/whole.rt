@@ -186,7 +186,7 @@ fn serve_all<
     requires lanes { length loan.old.lanes.now ≡ vec_len works.old.lanes }
     requires listener { IfSome works.old.stream
         (IsFresh mapper.old.history loan.old.side.turns (vec_len works.old.lanes)) }
-    ensures fed { IsFedBy S.told S.faults K.told K.faults M.told
+    ensures fed { IsFedBy S.told K.told M.told
         loan.old.side loan.new.side mapper.old mapper.new }
     ensures lanes { loan.new.lanes.ghost_name ≡ loan.old.lanes.ghost_name }
     ensures history { IsHistory mapper.new.history }
@@ -251,12 +251,12 @@ fn serve_several<
     requires lanes { length lanes.old ≡ vec_len works.old.lanes }
     requires listener { IfSome works.old.stream
         (IsFresh mapper.old.history desk.now.turns (vec_len works.old.lanes)) }
-    ensures first { IsRead (arc_value desk.now.topology) desk.now.turns (S.told feed.old)
-        (S.told feed.new) (S.faults feed.old) (S.faults feed.new) first.old first.new }
+    ensures first { IsRead (arc_value desk.now.topology) desk.now.turns (S.told feed.old).past
+        (S.told feed.new).past (S.told feed.old).faults (S.told feed.new).faults first.old first.new }
     ensures sent { AllRan
-        (λ a b f g. IsRead (arc_value desk.now.topology) desk.now.turns (T.told a) (T.told b)
-        (T.faults a) (T.faults b) f g) more.old more.new feeders.old.items feeders.new.items }
-    ensures worked { AreWorked K.told K.faults M.told side.old side.new mapper.old mapper.new }
+        (λ a b f g. IsRead (arc_value desk.now.topology) desk.now.turns (T.told a).past (T.told b).past
+        (T.told a).faults (T.told b).faults f g) more.old more.new feeders.old.items feeders.new.items }
+    ensures worked { AreWorked K.told M.told side.old side.new mapper.old mapper.new }
     ensures history { IsHistory mapper.new.history }
     ensures len { vec_len works.new.lanes ≡ vec_len works.old.lanes }
     ensures done { (rest : List Version) × (mapper.new.history ≡ mapper.old.newest ∷ rest)
@@ -310,15 +310,15 @@ fn drive_one<
     ensures driven { (ends : List Ended) × (length ends ≡ vec_len prepared.works.lanes)
         × AreEnds ends result.lanes
         × IsDriven lent.old.turns mapper.newest result.feed ends result.stream
-        (lent_of S.told S.faults T.told T.faults K.told M.told lent.old stream.old)
-        (lent_of S.told S.faults T.told T.faults K.told M.told lent.new stream.new) }
+        (lent_of S.told T.told K.told M.told lent.old stream.old)
+        (lent_of S.told T.told K.told M.told lent.new stream.new) }
     ensures untouched { drop (vec_len prepared.works.lanes) lent.new.lanes.now ≡ drop
         (vec_len prepared.works.lanes) lent.old.lanes.now }
     ensures stream { length (option_to_list result.stream) ≡ length
         (option_to_list prepared.works.stream) }
     ensures counted { AreCounted result.feed
-        (counts_of S.told S.faults T.told T.faults K.faults lent.old)
-        (counts_of S.told S.faults T.told T.faults K.faults lent.new) }
+        (counts_of S.told T.told K.told lent.old)
+        (counts_of S.told T.told K.told lent.new) }
 {
     let mut mapper = mapper;
     // tells the prover what the type keeps
@@ -382,15 +382,15 @@ fn drive_several<
     ensures driven { (ends : List Ended) × (length ends ≡ vec_len prepared.works.lanes)
         × AreEnds ends result.lanes
         × IsDriven lent.old.turns mapper.newest result.feed ends result.stream
-        (lent_of S.told S.faults T.told T.faults K.told M.told lent.old stream.old)
-        (lent_of S.told S.faults T.told T.faults K.told M.told lent.new stream.new) }
+        (lent_of S.told T.told K.told M.told lent.old stream.old)
+        (lent_of S.told T.told K.told M.told lent.new stream.new) }
     ensures untouched { drop (vec_len prepared.works.lanes) lent.new.lanes.now ≡ drop
         (vec_len prepared.works.lanes) lent.old.lanes.now }
     ensures stream { length (option_to_list result.stream) ≡ length
         (option_to_list prepared.works.stream) }
     ensures counted { AreCounted result.feed
-        (counts_of S.told S.faults T.told T.faults K.faults lent.old)
-        (counts_of S.told S.faults T.told T.faults K.faults lent.new) }
+        (counts_of S.told T.told K.told lent.old)
+        (counts_of S.told T.told K.told lent.new) }
 {
     let mut mapper = mapper;
     // tells the prover what the type keeps
@@ -475,16 +475,16 @@ fn drive_with<
     ensures driven { IfOk result (λ r. (ends : List Ended)
         × (length ends ≡ vec_len prepared.works.lanes) × AreEnds ends r.lanes
         × IsDriven lent.old.turns mapper.newest r.feed ends r.stream
-        (lent_of S.told S.faults T.told T.faults K.told M.told lent.old stream.old)
-        (lent_of S.told S.faults T.told T.faults K.told M.told lent.new stream.new)) }
+        (lent_of S.told T.told K.told M.told lent.old stream.old)
+        (lent_of S.told T.told K.told M.told lent.new stream.new)) }
     ensures untouched { drop (vec_len prepared.works.lanes) lent.new.lanes.now ≡ drop
         (vec_len prepared.works.lanes) lent.old.lanes.now }
     ensures stream { IfOk result
         (λ r. length (option_to_list r.stream) ≡ length (option_to_list prepared.works.stream)) }
     ensures no_memory { OnErr result (AreUntouched lent.old lent.new × (stream.new ≡ stream.old)) }
     ensures counted { IfOk result (λ r. AreCounted r.feed
-        (counts_of S.told S.faults T.told T.faults K.faults lent.old)
-        (counts_of S.told S.faults T.told T.faults K.faults lent.new)) }
+        (counts_of S.told T.told K.told lent.old)
+        (counts_of S.told T.told K.told lent.new)) }
 {
     let count = lent.more.len() as u8;
     let Ok(queue) = open_queue::<N>(alloc, mapper.topology(), count, lent.turns) else {
@@ -561,16 +561,16 @@ pub fn drive<
     ensures driven { IfOk result (λ r. (ends : List Ended) × (length ends ≡ vec_len crew.viewers)
         × AreEnds ends r.lanes
         × IsDriven lent.old.turns crew.mapper.newest r.feed ends r.stream
-        (lent_of S.told S.faults T.told T.faults K.told M.told lent.old stream.old)
-        (lent_of S.told S.faults T.told T.faults K.told M.told lent.new stream.new)) }
+        (lent_of S.told T.told K.told M.told lent.old stream.old)
+        (lent_of S.told T.told K.told M.told lent.new stream.new)) }
     ensures untouched { drop (vec_len crew.viewers) lent.new.lanes.now ≡ drop
         (vec_len crew.viewers) lent.old.lanes.now }
     ensures stream { IfOk result
         (λ r. length (option_to_list r.stream) ≡ length (option_to_list crew.listener)) }
     ensures no_memory { OnErr result (AreUntouched lent.old lent.new × (stream.new ≡ stream.old)) }
     ensures counted { IfOk result (λ r. AreCounted r.feed
-        (counts_of S.told S.faults T.told T.faults K.faults lent.old)
-        (counts_of S.told S.faults T.told T.faults K.faults lent.new)) }
+        (counts_of S.told T.told K.told lent.old)
+        (counts_of S.told T.told K.told lent.new)) }
 {
     let Crew {
         mapper,

@@ -51,9 +51,7 @@ fn read_file<R: Files>(
 }
 
 impl<R: Files> Shelf for FileShelf<'_, R> {
-    ghost told = { λ _. None };
-
-    ghost faults = { λ s. s };
+    ghost told = { λ s. record { past = None; faults = s } };
 
     fn load(&mut self, alloc: Global, name: &str, limit: usize) -> Result<Vec<u8>, LoadFault> {
         let loaded = read_file(self.rt, alloc, name, limit);

@@ -133,9 +133,7 @@ impl<'a, R: Net + Clock> ManyStreams<'a, R> {
 }
 
 impl<R: Net + Clock> Streams for ManyStreams<'_, R> {
-    ghost told = { λ s. Some s.told };
-
-    ghost faults = { λ s. s.faults };
+    ghost told = { λ s. record { past = Some s.told; faults = s.faults } };
 
     fn open(&mut self, listen: &Listen) -> Opening {
         self.past.note(&StreamsEvent::Opened(*listen));

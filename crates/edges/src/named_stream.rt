@@ -68,9 +68,7 @@ fn open_file<R: Files>(rt: &R, name: &str) -> io::Result<R::File> {
 }
 
 impl<R: Files> Source for NamedStream<'_, R> {
-    ghost told = { λ s. Some s.fed };
-
-    ghost faults = { λ s. s.faults };
+    ghost told = { λ s. record { past = Some s.fed; faults = s.faults } };
 
     fn read(&mut self, buffer: &mut [u8]) -> Read
         requires { 1 ≤ length buffer.old }

@@ -107,9 +107,7 @@ impl<'a> FlagGate<'a> {
 }
 
 impl Gate for FlagGate<'_> {
-    ghost told = { λ g. Some g };
-
-    ghost faults = { λ _. 0 };
+    ghost told = { λ g. record { past = Some g; faults = 0 } };
 
     fn turn(&mut self, known: u64) -> Turning {
         let turning = if self.is_shut() {
@@ -154,9 +152,7 @@ impl<'a> FlagPace<'a> {
 }
 
 impl Pace for FlagPace<'_> {
-    ghost told = { λ p. Some p };
-
-    ghost faults = { λ _. 0 };
+    ghost told = { λ p. record { past = Some p; faults = 0 } };
 
     fn before(&mut self, newest: u64) {
         let call = PaceCall::Before(newest);

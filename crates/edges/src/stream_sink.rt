@@ -41,9 +41,7 @@ impl<W: Write> StreamSink<W> {
 }
 
 impl<W: Write> Sink for StreamSink<W> {
-    ghost told = { λ s. Some s.written };
-
-    ghost faults = { λ s. s.faults };
+    ghost told = { λ s. record { past = Some s.written; faults = s.faults } };
 
     fn put(&mut self, piece: &[u8]) -> Put
         ensures put { BothTell (Some self.old.written) (Some self.new.written) (IsPut result piece.now) }

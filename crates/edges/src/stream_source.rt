@@ -39,9 +39,7 @@ impl<T: io::Read> StreamSource<T> {
 }
 
 impl<T: io::Read> Source for StreamSource<T> {
-    ghost told = { λ s. Some s.fed };
-
-    ghost faults = { λ s. s.faults };
+    ghost told = { λ s. record { past = Some s.fed; faults = s.faults } };
 
     fn read(&mut self, buffer: &mut [u8]) -> Read
         requires { 1 ≤ length buffer.old }

@@ -255,9 +255,7 @@ fn take_next(socket: Option<&UdpSocket>, buffer: &mut [u8]) -> Arrival
 }
 
 impl<N: Net> Port for UdpPort<'_, N> {
-    ghost told = { λ p. Some p.told };
-
-    ghost faults = { λ p. p.faults };
+    ghost told = { λ p. record { past = Some p.told; faults = p.faults } };
 
     fn open(&mut self, listen: &Listen) -> Opening {
         self.past.note(&PortEvent::Opened(*listen));

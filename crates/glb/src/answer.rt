@@ -108,8 +108,8 @@ pub fn answer_files<F: Shelf>(
 ) -> Result<Report, Stop>
     ensures { IsEnd (loads_of_check topology.now map.now)
         (IsAnswerDue topology.now map.now (record { from = from; octets = octets.now })
-        (F.told files.old)) (record { told = F.told files.old; faults = F.faults files.old })
-        (record { told = F.told files.new; faults = F.faults files.new }) result }
+        (F.told files.old).past) (F.told files.old)
+        (F.told files.new) result }
 {
     let topology = load_topology(alloc, files, topology)?;
     let map = load_map(alloc, files, map, &topology)?;

@@ -73,9 +73,9 @@ pub fn check_files<F: Shelf>(
     map: &str,
 ) -> Result<Report, Stop>
     ensures { IsEnd (loads_of_check topology.now map.now)
-        (IsCheckDue topology.now map.now (F.told files.old))
-        (record { told = F.told files.old; faults = F.faults files.old })
-        (record { told = F.told files.new; faults = F.faults files.new }) result }
+        (IsCheckDue topology.now map.now (F.told files.old).past)
+        (F.told files.old)
+        (F.told files.new) result }
 {
     let topology = load_topology(alloc, files, topology)?;
     let map = load_map(alloc, files, map, &topology)?;

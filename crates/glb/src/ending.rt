@@ -40,12 +40,12 @@ impl From<NoMemory> for Stop {
 /// Puts a text, and answers its status unless that fails.
 pub fn say<K: Sink>(out: &mut K, status: Status, text: &[u8]) -> Status
     ensures run { Speaks (λ due. due ≡ record { status = status; pieces = text.now ∷ [] })
-        (K.told out.old) (K.told out.new) result }
+        (K.told out.old).past (K.told out.new).past result }
     ensures status { result ≡ status ⊎ result ≡ Status.SinkFault }
-    ensures later { K.faults out.old ≤ K.faults out.new }
-    ensures stays { result ≢ Status.SinkFault → K.faults out.new ≡ K.faults out.old }
+    ensures later { (K.told out.old).faults ≤ (K.told out.new).faults }
+    ensures stays { result ≢ Status.SinkFault → (K.told out.new).faults ≡ (K.told out.old).faults }
     ensures cause { HasText status → result ≡ Status.SinkFault
-        → Rose (K.faults out.old) (K.faults out.new) }
+        → Rose (K.told out.old).faults (K.told out.new).faults }
 {
     match out.put(text) {
         Put::Done => status,
@@ -56,10 +56,10 @@ pub fn say<K: Sink>(out: &mut K, status: Status, text: &[u8]) -> Status
 /// Says how a command ended.
 pub fn finish<K: Sink>(out: &mut K, ended: Result<Report, Stop>) -> Status
     requires { EndsBy IsSaid ended }
-    ensures run { RunsBy (IsReport ended) (K.told out.old) (K.told out.new) result }
-    ensures later { K.faults out.old ≤ K.faults out.new }
-    ensures stays { result ≢ Status.SinkFault → K.faults out.new ≡ K.faults out.old }
-    ensures cause { result ≡ Status.SinkFault → Rose (K.faults out.old) (K.faults out.new) }
+    ensures run { RunsBy (IsReport ended) (K.told out.old).past (K.told out.new).past result }
+    ensures later { (K.told out.old).faults ≤ (K.told out.new).faults }
+    ensures stays { result ≢ Status.SinkFault → (K.told out.new).faults ≡ (K.told out.old).faults }
+    ensures cause { result ≡ Status.SinkFault → Rose (K.told out.old).faults (K.told out.new).faults }
     ensures source { (result ≡ Status.SourceFault) ↔ (ended ≡ Err Stop.SourceFault) }
     ensures memory { (result ≡ Status.NoMemory) ↔ (ended ≡ Err Stop.NoMemory) }
 {

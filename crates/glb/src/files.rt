@@ -117,18 +117,18 @@ fn load_file<F: Shelf>(
     limit: usize,
     too_long: &[u8],
 ) -> Result<Vec<u8>, Stop>
-    ensures noted { BothTell (F.told files.old) (F.told files.new)
+    ensures noted { BothTell (F.told files.old).past (F.told files.new).past
         (AreLoadsOf (λ _. record { name = name.now; limit = limit } ∷ [])) }
     ensures loaded { MatchResult result
-        (λ _. BothTell (F.told files.old) (F.told files.new)
+        (λ _. BothTell (F.told files.old).past (F.told files.new).past
         (AreLoaded (λ _. record { name = name.now; limit = limit } ∷ [])))
-        (StopsBy (λ _. BothTell (F.told files.old) (F.told files.new)
+        (StopsBy (λ _. BothTell (F.told files.old).past (F.told files.new).past
         (AreLoaded (λ _. record { name = name.now; limit = limit } ∷ [])))) }
-    ensures bytes { MatchResult result (λ b. AreBytes (F.told files.old) name.now limit b.items)
-        (StopsBy (IsTooLong (F.told files.old) name.now limit (text.line too_long.now))) }
-    ensures later { F.faults files.old ≤ F.faults files.new }
-    ensures cause { result ≡ Err Stop.SourceFault → Rose (F.faults files.old) (F.faults files.new) }
-    ensures stays { result ≢ Err Stop.SourceFault → F.faults files.new ≡ F.faults files.old }
+    ensures bytes { MatchResult result (λ b. AreBytes (F.told files.old).past name.now limit b.items)
+        (StopsBy (IsTooLong (F.told files.old).past name.now limit (text.line too_long.now))) }
+    ensures later { (F.told files.old).faults ≤ (F.told files.new).faults }
+    ensures cause { result ≡ Err Stop.SourceFault → Rose (F.told files.old).faults (F.told files.new).faults }
+    ensures stays { result ≢ Err Stop.SourceFault → (F.told files.new).faults ≡ (F.told files.old).faults }
 {
     match files.load(alloc, name, limit) {
         Ok(bytes) => Ok(bytes),
@@ -141,8 +141,8 @@ fn load_file<F: Shelf>(
 /// The topology of that name.
 pub fn load_topology<F: Shelf>(alloc: Global, files: &mut F, name: &str) -> Result<Topology, Stop>
     ensures { IsReading topology_file (λ t. t) name.now
-        (record { told = F.told files.old; faults = F.faults files.old })
-        (record { told = F.told files.new; faults = F.faults files.new }) result }
+        (F.told files.old)
+        (F.told files.new) result }
 {
     let too_long = b"refused topology too long";
     let bytes = load_file(alloc, files, name, TOPOLOGY_LIMIT, too_long)?;
@@ -157,8 +157,8 @@ pub fn load_map<F: Shelf>(
     topology: &Topology,
 ) -> Result<MapLines, Stop>
     ensures { IsReading (map_file topology.now) mapped name.now
-        (record { told = F.told files.old; faults = F.faults files.old })
-        (record { told = F.told files.new; faults = F.faults files.new }) result }
+        (F.told files.old)
+        (F.told files.new) result }
 {
     let bytes = load_file(alloc, files, name, MAP_LIMIT, b"refused map too long")?;
     parse_map(alloc, topology, bytes.as_slice())
@@ -172,8 +172,8 @@ pub fn load_changes<F: Shelf>(
     topology: &Topology,
 ) -> Result<Batch, Stop>
     ensures reading { IsReading (changes_file topology.now) (λ b. b) name.now
-        (record { told = F.told files.old; faults = F.faults files.old })
-        (record { told = F.told files.new; faults = F.faults files.new }) result }
+        (F.told files.old)
+        (F.told files.new) result }
     ensures batch { IfOk result (IsBatch topology.now.market) }
 {
     let too_long = b"refused changes too long";

@@ -18,10 +18,10 @@ use std::sync::Wait;
 /// Puts a summary, line by line.
 fn say_summary<K: Sink>(summary: &Summary, out: &mut K) -> Status
     ensures run { Speaks (λ due. due ≡ record { status = Status.Ok; pieces = lines_of summary.now })
-        (K.told out.old) (K.told out.new) result }
-    ensures later { K.faults out.old ≤ K.faults out.new }
-    ensures cause { result ≡ Status.SinkFault → Rose (K.faults out.old) (K.faults out.new) }
-    ensures stays { result ≢ Status.SinkFault → K.faults out.new ≡ K.faults out.old }
+        (K.told out.old).past (K.told out.new).past result }
+    ensures later { (K.told out.old).faults ≤ (K.told out.new).faults }
+    ensures cause { result ≡ Status.SinkFault → Rose (K.told out.old).faults (K.told out.new).faults }
+    ensures stays { result ≢ Status.SinkFault → (K.told out.new).faults ≡ (K.told out.old).faults }
     ensures ends { (result ≡ Status.Ok) ⊎ (result ≡ Status.SinkFault) }
 {
     match put_lines(summary, out) {
@@ -40,10 +40,10 @@ fn run_named<J: Naming, R: Wait, K: Sink>(
 ) -> Status
     requires book { history ≡ J.book }
     requires groups { (1 ≤ groups) × (groups ≤ LARGEST_WORLD) }
-    ensures run { RunsBy (IsLargeDue groups) (K.told out.old) (K.told out.new) result }
-    ensures later { K.faults out.old ≤ K.faults out.new }
-    ensures cause { result ≡ Status.SinkFault → Rose (K.faults out.old) (K.faults out.new) }
-    ensures stays { result ≢ Status.SinkFault → K.faults out.new ≡ K.faults out.old }
+    ensures run { RunsBy (IsLargeDue groups) (K.told out.old).past (K.told out.new).past result }
+    ensures later { (K.told out.old).faults ≤ (K.told out.new).faults }
+    ensures cause { result ≡ Status.SinkFault → Rose (K.told out.old).faults (K.told out.new).faults }
+    ensures stays { result ≢ Status.SinkFault → (K.told out.new).faults ≡ (K.told out.old).faults }
     ensures ends { (result ≡ Status.Ok) ⊎ (result ≡ Status.SinkFault) ⊎ (result ≡ Status.NoMemory) }
 {
     match run_world::<J, R>(rt, alloc, history, groups) {
@@ -55,10 +55,10 @@ fn run_named<J: Naming, R: Wait, K: Sink>(
 /// Runs the world of so many groups, and puts its summary, one put for each line.
 pub fn large<R: Wait, K: Sink>(rt: &R, alloc: Global, groups: u32, out: &mut K) -> Status
     requires { (1 ≤ groups) × (groups ≤ LARGEST_WORLD) }
-    ensures run { RunsBy (IsLargeDue groups) (K.told out.old) (K.told out.new) result }
-    ensures later { K.faults out.old ≤ K.faults out.new }
-    ensures cause { result ≡ Status.SinkFault → Rose (K.faults out.old) (K.faults out.new) }
-    ensures stays { result ≢ Status.SinkFault → K.faults out.new ≡ K.faults out.old }
+    ensures run { RunsBy (IsLargeDue groups) (K.told out.old).past (K.told out.new).past result }
+    ensures later { (K.told out.old).faults ≤ (K.told out.new).faults }
+    ensures cause { result ≡ Status.SinkFault → Rose (K.told out.old).faults (K.told out.new).faults }
+    ensures stays { result ≢ Status.SinkFault → (K.told out.new).faults ≡ (K.told out.old).faults }
     ensures ends { (result ≡ Status.Ok) ⊎ (result ≡ Status.SinkFault) ⊎ (result ≡ Status.NoMemory) }
 {
     run_named::<Brand, R, K>(rt, alloc, EmptyHistory::new(), groups, out)

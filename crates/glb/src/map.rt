@@ -44,9 +44,9 @@ fn report(alloc: Global, topology: &Topology) -> Result<Report, Stop>
 
 /// A good map for the instance of the topology of a file.
 pub fn map_files<F: Shelf>(alloc: Global, files: &mut F, topology: &str) -> Result<Report, Stop>
-    ensures { IsEnd (loads_of_map topology.now) (IsMapDue topology.now (F.told files.old))
-        (record { told = F.told files.old; faults = F.faults files.old })
-        (record { told = F.told files.new; faults = F.faults files.new }) result }
+    ensures { IsEnd (loads_of_map topology.now) (IsMapDue topology.now (F.told files.old).past)
+        (F.told files.old)
+        (F.told files.new) result }
 {
     let topology = load_topology(alloc, files, topology)?;
     report(alloc, &topology)

@@ -69,9 +69,9 @@ pub fn repair_files<F: Shelf>(
     changes: &str,
 ) -> Result<Report, Stop>
     ensures { IsEnd (loads_of_repair topology.now map.now changes.now)
-        (IsRepairDue topology.now map.now changes.now (F.told files.old))
-        (record { told = F.told files.old; faults = F.faults files.old })
-        (record { told = F.told files.new; faults = F.faults files.new }) result }
+        (IsRepairDue topology.now map.now changes.now (F.told files.old).past)
+        (F.told files.old)
+        (F.told files.new) result }
 {
     let topology = load_topology(alloc, files, topology)?;
     let map = load_map(alloc, files, map, &topology)?;

@@ -22,9 +22,9 @@ const USAGE: &[u8] = b"usage: glb check, answer, map, repair, serve or large\n";
 /// Does what a command asks for, up to its text.
 fn run_command<F: Shelf>(alloc: Global, files: &mut F, command: Command<'_>) -> Result<Report, Stop>
     ensures end { IsEnd (loads_of_ask (ask_of command.entry))
-        (IsDue (ask_of command.entry) (F.told files.old))
-        (record { told = F.told files.old; faults = F.faults files.old })
-        (record { told = F.told files.new; faults = F.faults files.new }) result }
+        (IsDue (ask_of command.entry) (F.told files.old).past)
+        (F.told files.old)
+        (F.told files.new) result }
     ensures said { EndsBy IsSaid result }
 {
     match command {
@@ -53,23 +53,23 @@ pub fn run_files<F: Shelf, K: Sink>(
     out: &mut K,
 ) -> Status
     ensures run { IsSayingRun (option_map ask_of command.entry)
-        (record { files = F.told files.old; out = K.told out.old })
-        (record { files = F.told files.new; out = K.told out.new }) result }
-    ensures noted { BothTell (F.told files.old) (F.told files.new)
+        (record { files = (F.told files.old).past; out = (K.told out.old).past })
+        (record { files = (F.told files.new).past; out = (K.told out.new).past }) result }
+    ensures noted { BothTell (F.told files.old).past (F.told files.new).past
         (AreLoadsOf (loads_of (option_map ask_of command.entry))) }
     ensures loaded { result ≢ Status.SourceFault → result ≢ Status.NoMemory
-        → BothTell (F.told files.old) (F.told files.new)
+        → BothTell (F.told files.old).past (F.told files.new).past
         (AreLoaded (loads_of (option_map ask_of command.entry))) }
-    ensures causes { HasExactCauses (record { files = F.faults files.old; out = K.faults out.old })
-        (record { files = F.faults files.new; out = K.faults out.new }) result }
+    ensures causes { HasExactCauses (record { files = (F.told files.old).faults; out = (K.told out.old).faults })
+        (record { files = (F.told files.new).faults; out = (K.told out.new).faults }) result }
     ensures good { result ≡ Status.Ok
         → IsGoodRun (option_map ask_of command.entry)
-        (record { files = F.told files.old; out = K.told out.old })
-        (record { files = F.told files.new; out = K.told out.new }) }
-    ensures complete { IsSome (F.told files.old)
-        → IsSound (option_map ask_of command.entry) (F.told files.old)
-        → ¬ Rose (F.faults files.old) (F.faults files.new)
-        → ¬ Rose (K.faults out.old) (K.faults out.new) → (result ≡ Status.Ok)
+        (record { files = (F.told files.old).past; out = (K.told out.old).past })
+        (record { files = (F.told files.new).past; out = (K.told out.new).past }) }
+    ensures complete { IsSome (F.told files.old).past
+        → IsSound (option_map ask_of command.entry) (F.told files.old).past
+        → ¬ Rose (F.told files.old).faults (F.told files.new).faults
+        → ¬ Rose (K.told out.old).faults (K.told out.new).faults → (result ≡ Status.Ok)
         ⊎ (result ≡ Status.NoMemory) }
 {
     match command {

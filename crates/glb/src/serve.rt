@@ -255,9 +255,9 @@ fn serve_first<
     requires feeds { length lent.old.more.now ≡ 3 }
     ensures keeps { IsSameLent lent.old lent.new }
     ensures served { IsFirstSession lent.old.turns (service_asked service.now) crew.mapper.newest
-        (stage_of S.told S.faults N.told N.faults N.opens K.told K.faults M.told
+        (stage_of S.told N.told N.opens K.told M.told
         lent.old stream.old)
-        (stage_of S.told S.faults N.told N.faults N.opens K.told K.faults M.told
+        (stage_of S.told N.told N.opens K.told M.told
         lent.new stream.new)
         result }
 {
@@ -338,9 +338,9 @@ fn serve_topology<
     requires feeds { length lent.old.more.now ≡ 3 }
     ensures keeps { IsSameLent lent.old lent.new }
     ensures session { IsSession lent.old.turns (service_asked service.now) beginning.topology
-        (stage_of S.told S.faults N.told N.faults N.opens K.told K.faults M.told
+        (stage_of S.told N.told N.opens K.told M.told
         lent.old stream.old)
-        (stage_of S.told S.faults N.told N.faults N.opens K.told K.faults M.told
+        (stage_of S.told N.told N.opens K.told M.told
         lent.new stream.new)
         result }
 {
@@ -393,9 +393,9 @@ pub fn serve<
     requires feeds { length lent.old.more.now ≡ 3 }
     ensures keeps { IsSameLent lent.old lent.new }
     ensures promised { IsPromised lent.old.turns (Some (task (service_asked service.now)))
-        (told_over F.told F.faults S.told S.faults N.told N.faults N.opens K.told K.faults M.told
+        (told_over F.told S.told N.told N.opens K.told M.told
         files.old lent.old stream.old)
-        (told_over F.told F.faults S.told S.faults N.told N.faults N.opens K.told K.faults M.told
+        (told_over F.told S.told N.told N.opens K.told M.told
         files.new lent.new stream.new)
         result }
 {

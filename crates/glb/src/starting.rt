@@ -73,11 +73,11 @@ fn open_feed<N: NamedSource>(feeds: &mut [N], name: &str) -> Opening
     ensures same { length feeds.new ≡ length feeds.old }
     ensures named { HasNamed (name.now ∷ []) result
         (record {
-          feeds = map (feed_told N.told N.faults) feeds.old;
+          feeds = map (feed_told N.told) feeds.old;
           opens = map N.opens feeds.old;
         })
         (record {
-          feeds = map (feed_told N.told N.faults) feeds.new;
+          feeds = map (feed_told N.told) feeds.new;
           opens = map N.opens feeds.new;
         }) }
 {
@@ -90,11 +90,11 @@ pub fn open_feeds<N: NamedSource>(feeds: &mut [N], names: &[Option<&str>]) -> Op
     ensures same { length feeds.new ≡ length feeds.old }
     ensures named { HasNamed (given (map (option_map (λ n. n.now)) names.now)) result
         (record {
-          feeds = map (feed_told N.told N.faults) feeds.old;
+          feeds = map (feed_told N.told) feeds.old;
           opens = map N.opens feeds.old;
         })
         (record {
-          feeds = map (feed_told N.told N.faults) feeds.new;
+          feeds = map (feed_told N.told) feeds.new;
           opens = map N.opens feeds.new;
         }) }
 {
@@ -127,22 +127,22 @@ pub fn start_lanes<N: NamedSource, K: Sink, P: Port, Q: Streams, G: Gate, D: Doo
     ensures feeds { length feeds.new ≡ length feeds.old }
     ensures start { IsStart (service_asked service.now) text.now result
         (record {
-          maps = K.told maps.old;
-          maps_faults = K.faults maps.old;
+          maps = (K.told maps.old).past;
+          maps_faults = (K.told maps.old).faults;
           lanes = lanes.old;
           stream = stream.old;
           named = record {
-            feeds = map (feed_told N.told N.faults) feeds.old;
+            feeds = map (feed_told N.told) feeds.old;
             opens = map N.opens feeds.old;
           };
         })
         (record {
-          maps = K.told maps.new;
-          maps_faults = K.faults maps.new;
+          maps = (K.told maps.new).past;
+          maps_faults = (K.told maps.new).faults;
           lanes = lanes.new;
           stream = stream.new;
           named = record {
-            feeds = map (feed_told N.told N.faults) feeds.new;
+            feeds = map (feed_told N.told) feeds.new;
             opens = map N.opens feeds.new;
           };
         }) }

@@ -69,15 +69,14 @@ fn run_words<
     requires feeds { length more.old ≡ 3 }
     requires lanes { length lanes.old ≡ 16 }
     // All of it is new: so each count of faults counts from 0 on, and what is told is all that was ever asked.
-    requires fresh { (all_told F.told F.faults S.told S.faults N.told N.faults N.opens
-        K.told K.faults M.told
+    requires fresh { (all_told F.told S.told N.told N.opens K.told M.told
         files.old feed.old more.old out.old maps.old lanes.old stream.old pace.old)
         ≡ new_surroundings }
     // Unless the words could not be read for want of memory, where nothing is touched, it is a run of what some words ask for.
     ensures { Ran
-        (all_told F.told F.faults S.told S.faults N.told N.faults N.opens K.told K.faults M.told
+        (all_told F.told S.told N.told N.opens K.told M.told
         files.old feed.old more.old out.old maps.old lanes.old stream.old pace.old)
-        (all_told F.told F.faults S.told S.faults N.told N.faults N.opens K.told K.faults M.told
+        (all_told F.told S.told N.told N.opens K.told M.told
         files.new feed.new more.new out.new maps.new lanes.new stream.new pace.new)
         result }
 {

@@ -45,9 +45,7 @@ struct WordPace<'a> {
 }
 
 impl Pace for WordPace<'_> {
-    ghost told = { λ _. None };
-
-    ghost faults = { λ _. 0 };
+    ghost told = { λ _. record { past = None; faults = 0 } };
 
     fn before(&mut self, newest: u64) {
         let _ = newest;

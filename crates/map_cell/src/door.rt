@@ -2,7 +2,7 @@
 ghost use Rattle.std.specs.Prelude.{◌≡◌, ◌⊎◌, ◌+◌, ◌<◌, ◌^◌, ◌≤◌, ◌∷◌, ◌++◌, [], ℕ, length, max, IfOk, IfErr, IsErrOf, OnErr, OnOk};
 ghost use mathlib.Core.List.{IsPrefix};
 ghost use Rattle.std.specs.Fn.{FnOnceTakesAt, FnOnceReturnsAt};
-ghost use Rattle.map_cell.specs.Doors.{unused};
+ghost use Rattle.map_cell.specs.Doors.{DoorState, unused};
 ghost use Rattle.map_cell.specs.Ends.{ViewerState, LooksAt};
 ghost use Rattle.outside.specs.Faults.{Rose, raised};
 ghost use Rattle.published_map.specs.Version.{Version, IsVersion};
@@ -31,17 +31,8 @@ pub enum OpenFault {
 pub trait Door: Drop {
     ghost use Rattle.map_cell.specs.declared.door.OpenFault.TheVariants.{CellFault as Shut};
 
-    /// How many faults it has counted; the count stands still at its end.
-    ghost faults: { Self → ℕ };
-
-    /// How many places it was asked for.
-    ghost asked: { Self → ℕ };
-
-    /// How many looks it was asked for.
-    ghost looks: { Self → ℕ };
-
-    /// The greatest serial that it showed or learned, 0 at first.
-    ghost greatest: { Self → ℕ };
+    /// What it was asked for, what it showed or learned, and how many faults it has counted.
+    ghost told: { Self → DoorState };
 
     /// A new viewer, which has seen what is published.
     ///
@@ -55,10 +46,10 @@ pub trait Door: Drop {
     ) -> Result<Viewer<J>, OpenFault>
         ensures same { publisher.new ≡ publisher.old }
         ensures seen { IfOk result (λ v. (v.seen ≡ publisher.old.history) × (v.heard ≡ publisher.old.history)) }
-        ensures counts { (asked self.new ≡ raised (asked self.old) 1) × (looks self.new ≡ looks self.old) × (greatest self.new ≡ greatest self.old) }
-        ensures later { faults self.old ≤ faults self.new }
-        ensures cause { IfErr result (λ e. e ≡ Shut → faults self.new ≡ raised (faults self.old) 1) }
-        ensures stays { ¬ IsErrOf result Shut → faults self.new ≡ faults self.old };
+        ensures counts { ((told self.new).asked ≡ raised (told self.old).asked 1) × ((told self.new).looks ≡ (told self.old).looks) × ((told self.new).greatest ≡ (told self.old).greatest) }
+        ensures later { (told self.old).faults ≤ (told self.new).faults }
+        ensures cause { IfErr result (λ e. e ≡ Shut → (told self.new).faults ≡ raised (told self.old).faults 1) }
+        ensures stays { ¬ IsErrOf result Shut → (told self.new).faults ≡ (told self.old).faults };
 
     /// Tells the viewer of a published version, and of no more.
     fn learn<J: Naming>(&mut self, viewer: &mut Viewer<J>, note: &Note<J>)
@@ -66,8 +57,8 @@ pub trait Door: Drop {
         ensures kept { IsPrefix viewer.old.heard viewer.new.heard }
         ensures note { IsPrefix note.now.front viewer.new.heard }
         ensures one { (viewer.new.heard ≡ viewer.old.heard) ⊎ (viewer.new.heard ≡ note.now.front) }
-        ensures counts { (faults self.new ≡ faults self.old) × (looks self.new ≡ looks self.old) × (asked self.new ≡ asked self.old) }
-        ensures greatest { greatest self.new + 1 ≡ max (greatest self.old + 1) (length viewer.new.heard) };
+        ensures counts { ((told self.new).faults ≡ (told self.old).faults) × ((told self.new).looks ≡ (told self.old).looks) × ((told self.new).asked ≡ (told self.old).asked) }
+        ensures greatest { (told self.new).greatest + 1 ≡ max ((told self.old).greatest + 1) (length viewer.new.heard) };
 
     /// Runs the closure once, on the last version of a history that begins with what the viewer saw and with what it was
     /// told; that history is then what it has seen.
@@ -85,11 +76,11 @@ pub trait Door: Drop {
         requires call { (m : Version) → IsVersion m → FnOnceTakesAt C.FnOnce c m }
         ensures ok { IfOk result (λ r. (m : Version) × LooksAt viewer.old.seen viewer.old.heard m viewer.new.seen × FnOnceReturnsAt C.FnOnce c m r) }
         ensures heard { IfOk result (λ _. viewer.new.heard ≡ viewer.new.seen) }
-        ensures greatest { OnOk result (greatest self.new + 1 ≡ max (greatest self.old + 1) (length viewer.new.heard)) }
-        ensures err { OnErr result ((viewer.new ≡ viewer.old) × (greatest self.new ≡ greatest self.old)) }
-        ensures looks { (looks self.new ≡ raised (looks self.old) 1) × (asked self.new ≡ asked self.old) }
-        ensures cause { OnErr result (Rose (faults self.old) (faults self.new)) }
-        ensures stays { OnOk result (faults self.new ≡ faults self.old) };
+        ensures greatest { OnOk result ((told self.new).greatest + 1 ≡ max ((told self.old).greatest + 1) (length viewer.new.heard)) }
+        ensures err { OnErr result ((viewer.new ≡ viewer.old) × ((told self.new).greatest ≡ (told self.old).greatest)) }
+        ensures looks { ((told self.new).looks ≡ raised (told self.old).looks 1) × ((told self.new).asked ≡ (told self.old).asked) }
+        ensures cause { OnErr result (Rose (told self.old).faults (told self.new).faults) }
+        ensures stays { OnOk result ((told self.new).faults ≡ (told self.old).faults) };
 }
 
 /// Goes straight to the cell, and counts each refusal of it that is not for want of memory.
@@ -131,13 +122,7 @@ fn count(n: u64) -> u64
 }
 
 impl Door for PlainDoor {
-    ghost faults = { λ d. d.faults };
-
-    ghost asked = { λ d. d.asked };
-
-    ghost looks = { λ d. d.looks };
-
-    ghost greatest = { λ d. d.greatest };
+    ghost told = { λ d. d };
 
     fn admit<J: Naming, R: Wait>(
         &mut self,
@@ -214,13 +199,7 @@ impl MemDoor {
 }
 
 impl Door for MemDoor {
-    ghost faults = { λ d. d.state.faults };
-
-    ghost asked = { λ d. d.state.asked };
-
-    ghost looks = { λ d. d.state.looks };
-
-    ghost greatest = { λ d. d.state.greatest };
+    ghost told = { λ d. d.state };
 
     fn admit<J: Naming, R: Wait>(
         &mut self,

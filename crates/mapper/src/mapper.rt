@@ -162,13 +162,13 @@ impl<J: Naming> Mapper<J> {
         requires viewers { viewers ≤ 16 }
         ensures mapper { IfOk result (λ r. IsFirst topology r.0) }
         ensures viewers { IfOk result (λ r. (vec_len r.1 ≡ viewers) × All (λ v. (v.seen ≡ r.0.history) × (v.heard ≡ r.0.history)) r.1.items) }
-        ensures asked { (k : ℕ) × (k ≤ viewers) × (D.asked door.new ≡ raised (D.asked door.old) k) }
-        ensures asked_all { OnOk result (D.asked door.new ≡ raised (D.asked door.old) viewers) }
-        ensures same { (D.looks door.new ≡ D.looks door.old) × (D.greatest door.new ≡ D.greatest door.old) }
-        ensures later { D.faults door.old ≤ D.faults door.new }
-        ensures cause { IfErr result (λ e. e ≡ Shut → D.faults door.new ≡ raised (D.faults door.old) 1) }
+        ensures asked { (k : ℕ) × (k ≤ viewers) × ((D.told door.new).asked ≡ raised (D.told door.old).asked k) }
+        ensures asked_all { OnOk result ((D.told door.new).asked ≡ raised (D.told door.old).asked viewers) }
+        ensures same { ((D.told door.new).looks ≡ (D.told door.old).looks) × ((D.told door.new).greatest ≡ (D.told door.old).greatest) }
+        ensures later { (D.told door.old).faults ≤ (D.told door.new).faults }
+        ensures cause { IfErr result (λ e. e ≡ Shut → (D.told door.new).faults ≡ raised (D.told door.old).faults 1) }
         ensures asked_one { IfErr result (λ e. e ≡ Shut → 1 ≤ viewers) }
-        ensures stays { ¬ IsErrOf result Shut → D.faults door.new ≡ D.faults door.old }
+        ensures stays { ¬ IsErrOf result Shut → (D.told door.new).faults ≡ (D.told door.old).faults }
         ensures counted { IfOk result (λ r. IsMapping topology.market r.0.newest.lines steps.old steps.new) }
         ensures steps { OnOk result (steps.new ≤ steps.old + most_offers topology.market) }
         ensures steps_later { steps.old ≤ steps.new }
@@ -297,15 +297,15 @@ impl<J: Naming> Mapper<J> {
     ) -> FeedEnd
         requires turns { turns ≤ MOST_TURNS }
         requires serial { self.old.newest.serial < 2 ^ 63 }
-        ensures run { IsFeed self.old.newest.plan turns result (S.told feed.old) (S.told feed.new) (scene self.old.newest self.old.history (K.told out.old) (K.told maps.old) (M.told pace.old)) (scene self.new.newest self.new.history (K.told out.new) (K.told maps.new) (M.told pace.new)) }
+        ensures run { IsFeed self.old.newest.plan turns result (S.told feed.old).past (S.told feed.new).past (scene self.old.newest self.old.history (K.told out.old).past (K.told maps.old).past (M.told pace.old).past) (scene self.new.newest self.new.history (K.told out.new).past (K.told maps.new).past (M.told pace.new).past) }
         ensures kept { IsPrefix self.old.history self.new.history }
         ensures plan { self.new.newest.plan ≡ self.old.newest.plan }
-        ensures later { (K.faults out.old ≤ K.faults out.new) × (K.faults maps.old ≤ K.faults maps.new) }
-        ensures sink { result ≡ FeedEnd.SinkFault → Rose (K.faults out.old) (K.faults out.new) ⊎ Rose (K.faults maps.old) (K.faults maps.new) }
-        ensures sink_stays { result ≢ FeedEnd.SinkFault → (K.faults out.new ≡ K.faults out.old) × (K.faults maps.new ≡ K.faults maps.old) }
-        ensures source { result ≡ FeedEnd.SourceFault → Rose (S.faults feed.old) (S.faults feed.new) }
-        ensures source_later { S.faults feed.old ≤ S.faults feed.new }
-        ensures source_stays { result ≢ FeedEnd.SourceFault → S.faults feed.new ≡ S.faults feed.old }
+        ensures later { ((K.told out.old).faults ≤ (K.told out.new).faults) × ((K.told maps.old).faults ≤ (K.told maps.new).faults) }
+        ensures sink { result ≡ FeedEnd.SinkFault → Rose (K.told out.old).faults (K.told out.new).faults ⊎ Rose (K.told maps.old).faults (K.told maps.new).faults }
+        ensures sink_stays { result ≢ FeedEnd.SinkFault → ((K.told out.new).faults ≡ (K.told out.old).faults) × ((K.told maps.new).faults ≡ (K.told maps.old).faults) }
+        ensures source { result ≡ FeedEnd.SourceFault → Rose (S.told feed.old).faults (S.told feed.new).faults }
+        ensures source_later { (S.told feed.old).faults ≤ (S.told feed.new).faults }
+        ensures source_stays { result ≢ FeedEnd.SourceFault → (S.told feed.new).faults ≡ (S.told feed.old).faults }
     {
         let mut noted = Noted::new(&mut self.maps, row);
         run_feed(
@@ -342,13 +342,13 @@ impl<J: Naming> Mapper<J> {
         requires serial { self.old.newest.serial < 2 ^ 63 }
         requires unused { taker.old.taken ≡ [] }
         ensures queue { (taker.new.queue ≡ taker.old.queue) × (taker.new.feeders ≡ taker.old.feeders) }
-        ensures run { AreFeeds taker.old.feeders result taker.new.taken (scene self.old.newest self.old.history (K.told out.old) (K.told maps.old) (M.told pace.old)) (scene self.new.newest self.new.history (K.told out.new) (K.told maps.new) (M.told pace.new)) }
-        ensures merged { result ≢ FeedEnd.SinkFault → HasMerged taker.new.taken (scene self.old.newest self.old.history (K.told out.old) (K.told maps.old) (M.told pace.old)) (scene self.new.newest self.new.history (K.told out.new) (K.told maps.new) (M.told pace.new)) }
+        ensures run { AreFeeds taker.old.feeders result taker.new.taken (scene self.old.newest self.old.history (K.told out.old).past (K.told maps.old).past (M.told pace.old).past) (scene self.new.newest self.new.history (K.told out.new).past (K.told maps.new).past (M.told pace.new).past) }
+        ensures merged { result ≢ FeedEnd.SinkFault → HasMerged taker.new.taken (scene self.old.newest self.old.history (K.told out.old).past (K.told maps.old).past (M.told pace.old).past) (scene self.new.newest self.new.history (K.told out.new).past (K.told maps.new).past (M.told pace.new).past) }
         ensures kept { IsPrefix self.old.history self.new.history }
         ensures plan { self.new.newest.plan ≡ self.old.newest.plan }
-        ensures later { (K.faults out.old ≤ K.faults out.new) × (K.faults maps.old ≤ K.faults maps.new) }
-        ensures sink { result ≡ FeedEnd.SinkFault → Rose (K.faults out.old) (K.faults out.new) ⊎ Rose (K.faults maps.old) (K.faults maps.new) }
-        ensures sink_stays { result ≢ FeedEnd.SinkFault → (K.faults out.new ≡ K.faults out.old) × (K.faults maps.new ≡ K.faults maps.old) }
+        ensures later { ((K.told out.old).faults ≤ (K.told out.new).faults) × ((K.told maps.old).faults ≤ (K.told maps.new).faults) }
+        ensures sink { result ≡ FeedEnd.SinkFault → Rose (K.told out.old).faults (K.told out.new).faults ⊎ Rose (K.told maps.old).faults (K.told maps.new).faults }
+        ensures sink_stays { result ≢ FeedEnd.SinkFault → ((K.told out.new).faults ≡ (K.told out.old).faults) × ((K.told maps.new).faults ≡ (K.told maps.old).faults) }
     {
         let mut noted = Noted::new(&mut self.maps, row);
         run_feeds(rt, &mut noted, taker, out, maps, pace)

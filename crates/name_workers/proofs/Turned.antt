@@ -19,7 +19,7 @@ use Rattle.name_workers.specs.declared.ending.Step.{Step}
 use Rattle.name_workers.specs.declared.ending.Step.TheVariants as step
 use Rattle.lane_model.specs.Replies.{replies}
 use Rattle.name_workers.proofs.Eyes.{rise_refused}
-use Rattle.name_workers.specs.Steps.{IsFared, IsTaken, IsTried, IsTurned, Wire, step_of, step_of_fared}
+use Rattle.name_workers.specs.Steps.{IsFared, IsTaken, IsTried, IsTurned, DeviceState PortTold, step_of, step_of_fared}
 
 rose_later : (x y z : ℕ) → x ≤ y → Rose y z → Rose x z
 rose_later x y z le r = omega (arith, le, r)
@@ -88,7 +88,7 @@ rose_from : (x y z : ℕ) → y ≡ x → Rose y z → raised x 1 ≤ z
 rose_from x y z same r = omega (arith, same, r)
 
 -- a datagram that arrived, to which a reply was tried
-arrived_tried : (w n n' known len : ℕ) (buffer : List ℕ) (from : Peer) (went : Bool) (s : Step) (e g : Eyes Version) (p q r : Wire) → known + 1 ≡ length e.heard → BothTell p.told q.told (IsRecv known buffer (Arrived len from))
+arrived_tried : (w n n' known len : ℕ) (buffer : List ℕ) (from : Peer) (went : Bool) (s : Step) (e g : Eyes Version) (p q r : DeviceState PortTold) → known + 1 ≡ length e.heard → BothTell p.past q.past (IsRecv known buffer (Arrived len from))
     → (serial : ℕ) (octets : List ℕ) → IsTried w n (packet_in buffer len from) e g q r serial octets (record { octets = octets; to = from; serial = serial; went = went })
     → raised p.faults (fails_of (took (packet_in buffer len from) (tried serial octets went))) ≤ r.faults → (fails_of (took (packet_in buffer len from) (tried serial octets went)) ≡ 0 → r.faults ≡ p.faults) → n' ≡ following n → s ≡ step_of (took (packet_in buffer len from) (tried serial octets went)) → IsTaken w n n' s e g p r
 arrived_tried w n n' known len buffer from went s e g p q r is recv serial octets x faults stays count st = record {
@@ -96,7 +96,7 @@ arrived_tried w n n' known len buffer from went s e g p q r is recv serial octet
   came = took (packet_in buffer len from) (tried serial octets went);
   received = record {
     known_is = is;
-    port = tells_on p.told q.told r.told (IsRecv known buffer (Arrived len from)) (λ b c. c ≡ trying (record { octets = octets; to = from; serial = serial; went = went }) b) (λ b c. c ≡ trying (record { octets = octets; to = from; serial = serial; went = went }) (taking (packet_in buffer len from) known b))
+    port = tells_on p.past q.past r.past (IsRecv known buffer (Arrived len from)) (λ b c. c ≡ trying (record { octets = octets; to = from; serial = serial; went = went }) b) (λ b c. c ≡ trying (record { octets = octets; to = from; serial = serial; went = went }) (taking (packet_in buffer len from) known b))
         (λ b c d u v. v ∙ ap (λ k. trying (record { octets = octets; to = from; serial = serial; went = went }) k) u.port) recv x.port;
     came_is = (x.replied.spoken, omega (arith, is, x.replied.fresh), x.replied.version);
     rise = x.replied.rise;
@@ -112,21 +112,21 @@ arrived_tried w n n' known len buffer from went s e g p q r is recv serial octet
 }
 
 -- a datagram that arrived, and what became of it
-pub arrived : (w n n' known len : ℕ) (buffer : List ℕ) (from : Peer) (f : Fared) (s : Step) (e g : Eyes Version) (p q r : Wire) → known + 1 ≡ length e.heard → BothTell p.told q.told (IsRecv known buffer (Arrived len from)) → q.faults ≡ p.faults
+pub arrived : (w n n' known len : ℕ) (buffer : List ℕ) (from : Peer) (f : Fared) (s : Step) (e g : Eyes Version) (p q r : DeviceState PortTold) → known + 1 ≡ length e.heard → BothTell p.past q.past (IsRecv known buffer (Arrived len from)) → q.faults ≡ p.faults
     → IsFared w n (packet_in buffer len from) f e g q r → n' ≡ following n → s ≡ step_of_fared f → IsTaken w n n' s e g p r
 arrived w n n' known len buffer from fared.Silent s e g p q r is recv same x count st = record {
   known = known;
   came = took (packet_in buffer len from) silent;
   received = record {
     known_is = is;
-    port = subst (λ (k : Wire). BothTell p.told k.told (λ b c. c ≡ taking (packet_in buffer len from) known b)) (sym x.2) (tells_on p.told q.told q.told (IsRecv known buffer (Arrived len from)) (λ b c. c ≡ b) (λ b c. c ≡ taking (packet_in buffer len from) known b) (λ b c d u v. v ∙ u.port) recv (tells_itself q.told));
+    port = subst (λ (k : DeviceState PortTold). BothTell p.past k.past (λ b c. c ≡ taking (packet_in buffer len from) known b)) (sym x.2) (tells_on p.past q.past q.past (IsRecv known buffer (Arrived len from)) (λ b c. c ≡ b) (λ b c. c ≡ taking (packet_in buffer len from) known b) (λ b c d u v. v ∙ u.port) recv (tells_itself q.past));
     came_is = x.0;
     rise = subst (λ (k : Eyes Version). IsRise e k) (sym x.1) (rise_none e);
     knows = subst (λ (k : Eyes Version). known < length k.heard) (sym x.1) (omega (arith, is));
     looks = ap (λ k. k.looks) x.1 ∙ raised_none e.looks;
     refusal = λ b. absurd (cc b);
     stays = λ b. ap (λ k. k.faults) x.1;
-    port_faults = subst (λ (k : Wire). raised p.faults 0 ≤ k.faults) (sym x.2) (omega (arith, same));
+    port_faults = subst (λ (k : DeviceState PortTold). raised p.faults 0 ≤ k.faults) (sym x.2) (omega (arith, same));
     port_stays = λ none. ap (λ k. k.faults) x.2 ∙ same;
   };
   count = count;
@@ -137,14 +137,14 @@ arrived w n n' known len buffer from fared.Refused s e g p q r is recv same x co
   came = took (packet_in buffer len from) refused;
   received = record {
     known_is = is;
-    port = subst (λ (k : Wire). BothTell p.told k.told (λ b c. c ≡ taking (packet_in buffer len from) known b)) (sym x.1) (tells_on p.told q.told q.told (IsRecv known buffer (Arrived len from)) (λ b c. c ≡ b) (λ b c. c ≡ taking (packet_in buffer len from) known b) (λ b c d u v. v ∙ u.port) recv (tells_itself q.told));
+    port = subst (λ (k : DeviceState PortTold). BothTell p.past k.past (λ b c. c ≡ taking (packet_in buffer len from) known b)) (sym x.1) (tells_on p.past q.past q.past (IsRecv known buffer (Arrived len from)) (λ b c. c ≡ b) (λ b c. c ≡ taking (packet_in buffer len from) known b) (λ b c d u v. v ∙ u.port) recv (tells_itself q.past));
     came_is = x.0.spoken;
     rise = rise_refused (packet_in buffer len from).octets e g x.0;
     knows = subst (λ (k : List Version). known < length k) (sym x.0.heard) (omega (arith, is));
     looks = x.0.looks;
     refusal = λ b. x.0.rose;
     stays = λ b. absurd (cc b);
-    port_faults = subst (λ (k : Wire). raised p.faults 0 ≤ k.faults) (sym x.1) (omega (arith, same));
+    port_faults = subst (λ (k : DeviceState PortTold). raised p.faults 0 ≤ k.faults) (sym x.1) (omega (arith, same));
     port_stays = λ none. ap (λ k. k.faults) x.1 ∙ same;
   };
   count = count;

@@ -14,20 +14,15 @@ use Rattle.name_workers.specs.declared.ending.Step.TheVariants as step
 use Rattle.lane_model.specs.Replies.{is_silent, replies}
 use Rattle.name_workers.specs.Worker.{IsLookRefused, IsReplied}
 
--- what a port tells, and its faults
-pub record Wire : Type 0 where
-  pub told : Option PortTold
-  pub faults : ℕ
-
 -- the reply was tried
-pub record IsTried (w n : ℕ) (d : Packet) (e f : Eyes Version) (p q : Wire) (serial : ℕ) (octets : List ℕ) (t : Try) : Type 0 where
+pub record IsTried (w n : ℕ) (d : Packet) (e f : Eyes Version) (p q : DeviceState PortTold) (serial : ℕ) (octets : List ℕ) (t : Try) : Type 0 where
   pub replied : IsReplied w n d.from.addr d.octets Datagram serial e f octets
   pub looks : f.looks ≡ raised e.looks 1
   pub try_is : (t.octets ≡ octets) × (t.to ≡ d.from) × (t.serial ≡ serial)
-  pub port : BothTell p.told q.told (λ b c. c ≡ trying t b)
+  pub port : BothTell p.past q.past (λ b c. c ≡ trying t b)
 
 -- What became of a datagram that was taken. The port's count rose where the reply did not go, and else stands.
-abbrev pub IsFared : ℕ → ℕ → Packet → Fared → Eyes Version → Eyes Version → Wire → Wire → Type 0
+abbrev pub IsFared : ℕ → ℕ → Packet → Fared → Eyes Version → Eyes Version → DeviceState PortTold → DeviceState PortTold → Type 0
 IsFared w n d fared.Silent e f p q = (is_silent d.octets ≡ true) × (f ≡ e) × (q ≡ p)
 IsFared w n d fared.Refused e f p q = IsLookRefused d.octets e f × (q ≡ p)
 IsFared w n d fared.Sent e f p q = (serial : ℕ) × (octets : List ℕ) × IsTried w n d e f p q serial octets (record { octets = octets; to = d.from; serial = serial; went = true }) × (q.faults ≡ p.faults)
@@ -54,9 +49,9 @@ step_of failed = step.PortFailed
 step_of (took d fate) = step_of_fate fate
 
 -- what a recv and its answer do
-pub record IsReceived (w n known : ℕ) (came : Came) (e f : Eyes Version) (p q : Wire) : Type 0 where
+pub record IsReceived (w n known : ℕ) (came : Came) (e f : Eyes Version) (p q : DeviceState PortTold) : Type 0 where
   pub known_is : known + 1 ≡ length e.heard
-  pub port : BothTell p.told q.told (λ b c. c ≡ port_after known came b)
+  pub port : BothTell p.past q.past (λ b c. c ≡ port_after known came b)
   pub came_is : IsCame replies f.seen w n known came
   pub rise : IsRise e f
   pub knows : floor_after known came < length f.heard
@@ -67,7 +62,7 @@ pub record IsReceived (w n known : ℕ) (came : Came) (e f : Eyes Version) (p q 
   pub port_stays : fails_of came ≡ 0 → q.faults ≡ p.faults
 
 -- the same, of what came by then
-pub record IsTaken (w n n' : ℕ) (s : Step) (e f : Eyes Version) (p q : Wire) : Type 0 where
+pub record IsTaken (w n n' : ℕ) (s : Step) (e f : Eyes Version) (p q : DeviceState PortTold) : Type 0 where
   pub known : ℕ
   pub came : Came
   pub received : IsReceived w n known came e f p q

@@ -16,11 +16,11 @@ pub fn learn_all<J: Naming, D: Door, N: Notes<Note<J>>>(
     notes: &mut N,
 )
     ensures given { (serials : List ℕ) × BothTell (N.told notes.old) (N.told notes.new) (IsGiven serials) × All (λ s. s < length worker.new.viewer.heard) serials }
-    ensures rise { IsRise (eyes_of D.looks D.greatest D.faults worker.old.viewer door.old) (eyes_of D.looks D.greatest D.faults worker.new.viewer door.new) }
-    ensures looks { D.looks door.new ≡ D.looks door.old }
-    ensures faults { D.faults door.new ≡ D.faults door.old }
+    ensures rise { IsRise (eyes_of D.told worker.old.viewer door.old) (eyes_of D.told worker.new.viewer door.new) }
+    ensures looks { (D.told door.new).looks ≡ (D.told door.old).looks }
+    ensures faults { (D.told door.new).faults ≡ (D.told door.old).faults }
     ensures same { (worker.new.viewer.seen ≡ worker.old.viewer.seen) × (worker.new.count ≡ worker.old.count) × (worker.new.number ≡ worker.old.number) }
-    ensures asked { D.asked door.new ≡ D.asked door.old }
+    ensures asked { (D.told door.new).asked ≡ (D.told door.old).asked }
 {
     while let Some(note) = notes.next() {
         worker.learn(door, &note);

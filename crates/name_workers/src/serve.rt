@@ -39,13 +39,13 @@ fn answer_one<J: Naming, P: Port, D: Door>(
     from: Peer,
     out: &mut ArrayVec<u8, LARGEST_REPLY>,
 ) -> Fared
-    requires due { IfSome (P.told port.old) HasDue }
+    requires due { IfSome (P.told port.old).past HasDue }
     ensures fared { IsFared worker.old.number worker.old.count (record { octets = octets.now; from = from }) result
-        (eyes_of D.looks D.greatest D.faults worker.old.viewer door.old)
-        (eyes_of D.looks D.greatest D.faults worker.new.viewer door.new)
-        (record { told = P.told port.old; faults = P.faults port.old }) (record { told = P.told port.new; faults = P.faults port.new }) }
+        (eyes_of D.told worker.old.viewer door.old)
+        (eyes_of D.told worker.new.viewer door.new)
+        (P.told port.old) (P.told port.new) }
     ensures count { (worker.new.count ≡ following worker.old.count) × (worker.new.number ≡ worker.old.number) }
-    ensures asked { D.asked door.new ≡ D.asked door.old }
+    ensures asked { (D.told door.new).asked ≡ (D.told door.old).asked }
 {
     match worker.answer(door, from.addr, octets, Way::Datagram, out) {
         Err(CellFault) => Fared::Refused,
@@ -78,11 +78,11 @@ fn take_one<J: Naming, P: Port, D: Door>(
     out: &mut ArrayVec<u8, LARGEST_REPLY>,
 ) -> Step
     ensures taken { IsTaken worker.old.number worker.old.count worker.new.count result
-        (eyes_of D.looks D.greatest D.faults worker.old.viewer door.old)
-        (eyes_of D.looks D.greatest D.faults worker.new.viewer door.new)
-        (record { told = P.told port.old; faults = P.faults port.old }) (record { told = P.told port.new; faults = P.faults port.new }) }
+        (eyes_of D.told worker.old.viewer door.old)
+        (eyes_of D.told worker.new.viewer door.new)
+        (P.told port.old) (P.told port.new) }
     ensures number { worker.new.number ≡ worker.old.number }
-    ensures asked { D.asked door.new ≡ D.asked door.old }
+    ensures asked { (D.told door.new).asked ≡ (D.told door.old).asked }
 {
     match port.recv(worker.known(), buffer) {
         Arrival::Arrived(len, from) => {
@@ -105,10 +105,10 @@ fn one_turn<J: Naming, P: Port, G: Gate, D: Door, N: Notes<Note<J>>>(
     out: &mut ArrayVec<u8, LARGEST_REPLY>,
 ) -> Step
     ensures turned { IsTurned worker.old.number result
-        (moment_of P.told P.faults G.told G.faults N.told port.old gate.old notes.old (eyes_of D.looks D.greatest D.faults worker.old.viewer door.old) worker.old.count)
-        (moment_of P.told P.faults G.told G.faults N.told port.new gate.new notes.new (eyes_of D.looks D.greatest D.faults worker.new.viewer door.new) worker.new.count) }
+        (moment_of P.told G.told N.told port.old gate.old notes.old (eyes_of D.told worker.old.viewer door.old) worker.old.count)
+        (moment_of P.told G.told N.told port.new gate.new notes.new (eyes_of D.told worker.new.viewer door.new) worker.new.count) }
     ensures number { worker.new.number ≡ worker.old.number }
-    ensures asked { D.asked door.new ≡ D.asked door.old }
+    ensures asked { (D.told door.new).asked ≡ (D.told door.old).asked }
 {
     if let Turning::Stop = gate.turn(worker.known()) {
         return Step::Stopped;
@@ -127,10 +127,10 @@ fn serve_turns<J: Naming, P: Port, G: Gate, D: Door, N: Notes<Note<J>>>(
     turns: u64,
 ) -> Ended
     ensures served { IsServed worker.old.number turns
-        (moment_of P.told P.faults G.told G.faults N.told port.old gate.old notes.old (eyes_of D.looks D.greatest D.faults worker.old.viewer door.old) worker.old.count)
-        (moment_of P.told P.faults G.told G.faults N.told port.new gate.new notes.new (eyes_of D.looks D.greatest D.faults worker.new.viewer door.new) worker.new.count) result }
+        (moment_of P.told G.told N.told port.old gate.old notes.old (eyes_of D.told worker.old.viewer door.old) worker.old.count)
+        (moment_of P.told G.told N.told port.new gate.new notes.new (eyes_of D.told worker.new.viewer door.new) worker.new.count) result }
     ensures number { worker.new.number ≡ worker.old.number }
-    ensures asked { D.asked door.new ≡ D.asked door.old }
+    ensures asked { (D.told door.new).asked ≡ (D.told door.old).asked }
 {
     let mut buffer = [0u8; BUFFER];
     let mut out = ArrayVec::new();
@@ -154,11 +154,11 @@ pub fn serve_port<J: Naming, P: Port, G: Gate, D: Door, N: Notes<Note<J>>>(
     turns: u64,
 ) -> Ended
     ensures call { IsLaneCall replies worker.old.number turns
-        (moment_of P.told P.faults G.told G.faults N.told port.old gate.old notes.old (eyes_of D.looks D.greatest D.faults worker.old.viewer door.old) worker.old.count)
-        (moment_of P.told P.faults G.told G.faults N.told port.new gate.new notes.new (eyes_of D.looks D.greatest D.faults worker.new.viewer door.new) worker.new.count) result }
+        (moment_of P.told G.told N.told port.old gate.old notes.old (eyes_of D.told worker.old.viewer door.old) worker.old.count)
+        (moment_of P.told G.told N.told port.new gate.new notes.new (eyes_of D.told worker.new.viewer door.new) worker.new.count) result }
     ensures number { worker.new.number ≡ worker.old.number }
     // No place is asked for.
-    ensures asked { D.asked door.new ≡ D.asked door.old }
+    ensures asked { (D.told door.new).asked ≡ (D.told door.old).asked }
 {
     // tells the prover what the type keeps
     let _ = worker.known();

@@ -95,8 +95,8 @@ impl<J: Naming> Worker<J> {
         ensures note { IsPrefix note.now.front self.new.viewer.heard }
         ensures one { (self.new.viewer.heard ≡ self.old.viewer.heard) ⊎ (self.new.viewer.heard ≡ note.now.front) }
         ensures same { (self.new.number ≡ self.old.number) × (self.new.count ≡ self.old.count) }
-        ensures counts { (D.faults door.new ≡ D.faults door.old) × (D.looks door.new ≡ D.looks door.old) × (D.asked door.new ≡ D.asked door.old) }
-        ensures greatest { D.greatest door.new + 1 ≡ max (D.greatest door.old + 1) (length self.new.viewer.heard) }
+        ensures counts { ((D.told door.new).faults ≡ (D.told door.old).faults) × ((D.told door.new).looks ≡ (D.told door.old).looks) × ((D.told door.new).asked ≡ (D.told door.old).asked) }
+        ensures greatest { (D.told door.new).greatest + 1 ≡ max ((D.told door.old).greatest + 1) (length self.new.viewer.heard) }
     {
         door.learn(&mut self.viewer, note);
     }
@@ -116,11 +116,11 @@ impl<J: Naming> Worker<J> {
         way: Way,
         out: &mut ArrayVec<u8, LARGEST_REPLY>,
     ) -> Result<Option<u64>, CellFault>
-        ensures answer { IsAnswer self.old.number self.old.count from octets.now way (eyes_of D.looks D.greatest D.faults self.old.viewer door.old) (eyes_of D.looks D.greatest D.faults self.new.viewer door.new) out.new.items result }
-        ensures looks { D.looks door.new ≡ raised (D.looks door.old) (looked_by octets.now) }
+        ensures answer { IsAnswer self.old.number self.old.count from octets.now way (eyes_of D.told self.old.viewer door.old) (eyes_of D.told self.new.viewer door.new) out.new.items result }
+        ensures looks { (D.told door.new).looks ≡ raised (D.told door.old).looks (looked_by octets.now) }
         ensures count { (self.new.count ≡ following self.old.count) × (self.new.number ≡ self.old.number) }
         ensures short { length out.new.items ≤ LARGEST_REPLY }
-        ensures asked { D.asked door.new ≡ D.asked door.old }
+        ensures asked { (D.told door.new).asked ≡ (D.told door.old).asked }
     {
         let draw = draw_of(self.number, self.count);
         self.count = next_number(self.count);

@@ -36,9 +36,7 @@ impl<'a> HoldPace<'a> {
 }
 
 impl Pace for HoldPace<'_> {
-    ghost told = { λ p. paced p.noted };
-
-    ghost faults = { λ p. p.noted.faults };
+    ghost told = { λ p. record { past = paced p.noted; faults = p.noted.faults } };
 
     fn before(&mut self, newest: u64) {
         self.milestones.show(newest);

@@ -75,9 +75,7 @@ impl MemGate {
 }
 
 impl Gate for MemGate {
-    ghost told = { λ g. Some g.told };
-
-    ghost faults = { λ g. g.faults };
+    ghost told = { λ g. record { past = Some g.told; faults = g.faults } };
 
     fn turn(&mut self, known: u64) -> Turning
         ensures turn { BothTell (Some self.old.told) (Some self.new.told) (IsTurning known result) }

@@ -70,9 +70,7 @@ impl MemNamedSource {
 }
 
 impl Source for MemNamedSource {
-    ghost told = { λ s. Some (fed s.source) };
-
-    ghost faults = { λ s. named_faults s };
+    ghost told = { λ s. record { past = Some (fed s.source); faults = named_faults s } };
 
     fn read(&mut self, buffer: &mut [u8]) -> Read
         requires { 1 ≤ length buffer.old }

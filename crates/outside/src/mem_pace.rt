@@ -71,9 +71,7 @@ impl MemPace {
 impl Pace for MemPace {
     ghost use Rattle.outside.specs.MemPace.{paced};
 
-    ghost told = { paced };
-
-    ghost faults = { λ p. p.faults };
+    ghost told = { λ p. record { past = paced p; faults = p.faults } };
 
     fn before(&mut self, newest: u64)
         ensures paced { IsPaced (PaceCall.Before newest ∷ []) (paced self.old) (paced self.new) }

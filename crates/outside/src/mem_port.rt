@@ -161,9 +161,7 @@ fn copied(octets: &[u8]) -> ArrayVec<u8, LARGEST_REPLY>
 impl Port for MemPort {
     ghost use Rattle.outside.specs.MemPort.{port_faults};
 
-    ghost told = { λ p. Some p.told };
-
-    ghost faults = { λ p. port_faults p };
+    ghost told = { λ p. record { past = Some p.told; faults = port_faults p } };
 
     fn open(&mut self, listen: &Listen) -> Opening
         ensures open { BothTell (Some self.old.told) (Some self.new.told) (IsOpen listen.now result) }

@@ -144,9 +144,7 @@ fn use_one(sizes: &[usize], used: usize) -> usize
 impl Source for MemSource {
     ghost use Rattle.outside.specs.MemSource.{FailsNext, IsNextPiece, fed};
 
-    ghost told = { λ s. Some (fed s) };
-
-    ghost faults = { λ s. s.calls.faults };
+    ghost told = { λ s. record { past = Some (fed s); faults = s.calls.faults } };
 
     fn read(&mut self, buffer: &mut [u8]) -> Read
         requires { 1 ≤ length buffer.old }

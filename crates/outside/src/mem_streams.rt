@@ -193,9 +193,7 @@ impl MemStreams {
 }
 
 impl Streams for MemStreams {
-    ghost told = { λ s. Some s.told };
-
-    ghost faults = { λ s. streams_faults s };
+    ghost told = { λ s. record { past = Some s.told; faults = streams_faults s } };
 
     fn open(&mut self, listen: &Listen) -> Opening
         ensures open { BothTell (Some self.old.told) (Some self.new.told) (IsOpening listen.now result) }

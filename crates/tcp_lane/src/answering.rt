@@ -30,11 +30,11 @@ fn answer_one<J: Naming, Q: Streams, D: Door>(
     from: Peer,
 ) -> Fared
     ensures fared { IsFared worker.old.number worker.old.count from.addr octets.now result
-        (eyes_of D.looks D.greatest D.faults worker.old.viewer door.old)
-        (eyes_of D.looks D.greatest D.faults worker.new.viewer door.new)
-        (record { told = Q.told streams.old; faults = Q.faults streams.old }) (record { told = Q.told streams.new; faults = Q.faults streams.new }) }
+        (eyes_of D.told worker.old.viewer door.old)
+        (eyes_of D.told worker.new.viewer door.new)
+        (Q.told streams.old) (Q.told streams.new) }
     ensures count { (worker.new.count ≡ following worker.old.count) × (worker.new.number ≡ worker.old.number) }
-    ensures asked { D.asked door.new ≡ D.asked door.old }
+    ensures asked { (D.told door.new).asked ≡ (D.told door.old).asked }
 {
     let mut out = ArrayVec::new();
     match worker.answer(door, from.addr, octets, Way::Stream, &mut out) {
@@ -80,11 +80,11 @@ pub(crate) fn answer_all<'a, J: Naming, Q: Streams, D: Door>(
     from: Peer,
 ) -> (Fared, &'a [u8])
     ensures answered { IsAnswered worker.old.number worker.old.count worker.new.count from octets.entry.now result.1.now result.0
-        (eyes_of D.looks D.greatest D.faults worker.old.viewer door.old)
-        (eyes_of D.looks D.greatest D.faults worker.new.viewer door.new)
-        (record { told = Q.told streams.old; faults = Q.faults streams.old }) (record { told = Q.told streams.new; faults = Q.faults streams.new }) }
+        (eyes_of D.told worker.old.viewer door.old)
+        (eyes_of D.told worker.new.viewer door.new)
+        (Q.told streams.old) (Q.told streams.new) }
     ensures number { worker.new.number ≡ worker.old.number }
-    ensures asked { D.asked door.new ≡ D.asked door.old }
+    ensures asked { (D.told door.new).asked ≡ (D.told door.old).asked }
 {
     // tells the prover what the type keeps
     let _ = worker.known();

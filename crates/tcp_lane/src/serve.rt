@@ -31,11 +31,11 @@ fn take_piece<J: Naming, Q: Streams, D: Door>(
     ensures taken { IsPieceTaken worker.old.number worker.old.count worker.new.count piece.now
         (talk_state_of talk.old)
         (talk_state_of talk.new) result
-        (eyes_of D.looks D.greatest D.faults worker.old.viewer door.old)
-        (eyes_of D.looks D.greatest D.faults worker.new.viewer door.new)
-        (record { told = Q.told streams.old; faults = Q.faults streams.old }) (record { told = Q.told streams.new; faults = Q.faults streams.new }) }
+        (eyes_of D.told worker.old.viewer door.old)
+        (eyes_of D.told worker.new.viewer door.new)
+        (Q.told streams.old) (Q.told streams.new) }
     ensures number { worker.new.number ≡ worker.old.number }
-    ensures asked { D.asked door.new ≡ D.asked door.old }
+    ensures asked { (D.told door.new).asked ≡ (D.told door.old).asked }
 {
     let octets = joined(&talk.held, piece);
     let (fared, rest) = answer_all(worker, streams, door, octets.as_slice(), talk.peer);
@@ -60,7 +60,7 @@ fn accept_one<Q: Streams>(known: u64, streams: &mut Q, talk: &mut LaneTalk) -> S
     ensures plain { IsPlain known
         (talk_state_of talk.old)
         (talk_state_of talk.new) result
-        (record { told = Q.told streams.old; faults = Q.faults streams.old }) (record { told = Q.told streams.new; faults = Q.faults streams.new }) }
+        (Q.told streams.old) (Q.told streams.new) }
 {
     match streams.accept(known) {
         Accepting::Come(peer) => {
@@ -90,11 +90,11 @@ fn read_one<J: Naming, Q: Streams, D: Door>(
     ensures taken { IsTaken worker.old.number worker.old.count worker.new.count
         (talk_state_of talk.old)
         (talk_state_of talk.new) result
-        (eyes_of D.looks D.greatest D.faults worker.old.viewer door.old)
-        (eyes_of D.looks D.greatest D.faults worker.new.viewer door.new)
-        (record { told = Q.told streams.old; faults = Q.faults streams.old }) (record { told = Q.told streams.new; faults = Q.faults streams.new }) }
+        (eyes_of D.told worker.old.viewer door.old)
+        (eyes_of D.told worker.new.viewer door.new)
+        (Q.told streams.old) (Q.told streams.new) }
     ensures number { worker.new.number ≡ worker.old.number }
-    ensures asked { D.asked door.new ≡ D.asked door.old }
+    ensures asked { (D.told door.new).asked ≡ (D.told door.old).asked }
 {
     match streams.read(worker.known(), buffer) {
         Reading::Got(len) => take_piece(worker, streams, door, talk, &buffer[..len]),
@@ -126,11 +126,11 @@ fn take_one<J: Naming, Q: Streams, D: Door>(
     ensures taken { IsTaken worker.old.number worker.old.count worker.new.count
         (talk_state_of talk.old)
         (talk_state_of talk.new) result
-        (eyes_of D.looks D.greatest D.faults worker.old.viewer door.old)
-        (eyes_of D.looks D.greatest D.faults worker.new.viewer door.new)
-        (record { told = Q.told streams.old; faults = Q.faults streams.old }) (record { told = Q.told streams.new; faults = Q.faults streams.new }) }
+        (eyes_of D.told worker.old.viewer door.old)
+        (eyes_of D.told worker.new.viewer door.new)
+        (Q.told streams.old) (Q.told streams.new) }
     ensures number { worker.new.number ≡ worker.old.number }
-    ensures asked { D.asked door.new ≡ D.asked door.old }
+    ensures asked { (D.told door.new).asked ≡ (D.told door.old).asked }
 {
     if talk.is_open {
         read_one(worker, streams, door, talk, buffer)
@@ -152,10 +152,10 @@ fn one_turn<J: Naming, Q: Streams, G: Gate, D: Door, N: Notes<Note<J>>>(
     requires few { talk.old.quiets < 200 }
     ensures few { talk.new.quiets < 200 }
     ensures turned { IsTurned worker.old.number result
-        (stream_moment_of Q.told Q.faults G.told G.faults N.told streams.old gate.old notes.old (eyes_of D.looks D.greatest D.faults worker.old.viewer door.old) worker.old.count (talk_state_of talk.old))
-        (stream_moment_of Q.told Q.faults G.told G.faults N.told streams.new gate.new notes.new (eyes_of D.looks D.greatest D.faults worker.new.viewer door.new) worker.new.count (talk_state_of talk.new)) }
+        (stream_moment_of Q.told G.told N.told streams.old gate.old notes.old (eyes_of D.told worker.old.viewer door.old) worker.old.count (talk_state_of talk.old))
+        (stream_moment_of Q.told G.told N.told streams.new gate.new notes.new (eyes_of D.told worker.new.viewer door.new) worker.new.count (talk_state_of talk.new)) }
     ensures number { worker.new.number ≡ worker.old.number }
-    ensures asked { D.asked door.new ≡ D.asked door.old }
+    ensures asked { (D.told door.new).asked ≡ (D.told door.old).asked }
 {
     if let Turning::Stop = gate.turn(worker.known()) {
         return Step::Stopped;
@@ -176,10 +176,10 @@ fn serve_turns<J: Naming, Q: Streams, G: Gate, D: Door, N: Notes<Note<J>>>(
 ) -> Ended
     requires few { talk.old.quiets < 200 }
     ensures served { IsServed worker.old.number turns
-        (stream_moment_of Q.told Q.faults G.told G.faults N.told streams.old gate.old notes.old (eyes_of D.looks D.greatest D.faults worker.old.viewer door.old) worker.old.count (talk_state_of talk.old))
-        (stream_moment_of Q.told Q.faults G.told G.faults N.told streams.new gate.new notes.new (eyes_of D.looks D.greatest D.faults worker.new.viewer door.new) worker.new.count (talk_state_of talk.new)) result }
+        (stream_moment_of Q.told G.told N.told streams.old gate.old notes.old (eyes_of D.told worker.old.viewer door.old) worker.old.count (talk_state_of talk.old))
+        (stream_moment_of Q.told G.told N.told streams.new gate.new notes.new (eyes_of D.told worker.new.viewer door.new) worker.new.count (talk_state_of talk.new)) result }
     ensures number { worker.new.number ≡ worker.old.number }
-    ensures asked { D.asked door.new ≡ D.asked door.old }
+    ensures asked { (D.told door.new).asked ≡ (D.told door.old).asked }
 {
     let mut buffer = [0u8; LARGEST_FRAME];
     let mut failed = 0u8;
@@ -211,11 +211,11 @@ pub fn serve_streams<J: Naming, Q: Streams, G: Gate, D: Door, N: Notes<Note<J>>>
     turns: u64,
 ) -> Ended
     ensures call { IsStreamCall stream_replies worker.old.number turns
-        (stream_moment_of Q.told Q.faults G.told G.faults N.told streams.old gate.old notes.old (eyes_of D.looks D.greatest D.faults worker.old.viewer door.old) worker.old.count no_talk)
-        (stream_moment_of Q.told Q.faults G.told G.faults N.told streams.new gate.new notes.new (eyes_of D.looks D.greatest D.faults worker.new.viewer door.new) worker.new.count no_talk) result }
+        (stream_moment_of Q.told G.told N.told streams.old gate.old notes.old (eyes_of D.told worker.old.viewer door.old) worker.old.count no_talk)
+        (stream_moment_of Q.told G.told N.told streams.new gate.new notes.new (eyes_of D.told worker.new.viewer door.new) worker.new.count no_talk) result }
     ensures number { worker.new.number ≡ worker.old.number }
     // No place is asked for.
-    ensures asked { D.asked door.new ≡ D.asked door.old }
+    ensures asked { (D.told door.new).asked ≡ (D.told door.old).asked }
 {
     // tells the prover what the type keeps
     let _ = worker.known();

@@ -48,9 +48,7 @@ impl<'a, J: Naming> Looking<'a, J> {
 }
 
 impl<J: Naming> Sink for Looking<'_, J> {
-    ghost told = { λ _. None };
-
-    ghost faults = { λ _. 0 };
+    ghost told = { λ _. record { past = None; faults = 0 } };
 
     fn put(&mut self, piece: &[u8]) -> Put {
         if piece.starts_with(b"glb map 2\n") || piece.starts_with(b"published ") {

@@ -6,6 +6,6 @@ use Rattle.big_run.proofs.putting.put_lines.Given as goal
 
 abbrev pub invariant-loop-number : goal.invariant-loop-number
 invariant-loop-number g l = record {
-  puts : BothTell (g.K.Sink.told l.initial.out) (g.K.Sink.told l.out) (IsPrinted (take l.number (lines_of l.summary)));
-  stays : g.K.Sink.faults l.out ≡ g.K.Sink.faults l.initial.out;
+  puts : BothTell (g.K.Sink.told l.initial.out).past (g.K.Sink.told l.out).past (IsPrinted (take l.number (lines_of l.summary)));
+  stays : (g.K.Sink.told l.out).faults ≡ (g.K.Sink.told l.initial.out).faults;
 }

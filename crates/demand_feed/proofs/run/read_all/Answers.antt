@@ -13,14 +13,14 @@ pieces-init g c = record {
   size = c.requires.buffer;
   used = omega arith;
   ready = ready_less g.T.TakesTasks.market g.T.TakesTasks.left c.args.topology.now c.args.clerk.now c.args.to.now (read_size * (c.args.turns - 0)) (read_size * c.args.turns) (omega arith) c.requires.ready;
-  came = λ before reads. ([], refl, tell_self (g.S.Source.told c.args.feed.now) (HasRead []) read_none, reads);
+  came = λ before reads. ([], refl, tell_self (g.S.Source.told c.args.feed.now).past (HasRead []) read_none, reads);
   feed = refl;
 }
 
 pub returns-in-Some-clause-came : goal.returns-in-Some-clause-came
 returns-in-Some-clause-came g c = λ before reads.
     let i = c.pieces.invariant.came before reads in
-    let turn = rw c.in-Some.is at (c.take_turn-end.ensures.came (g.S.Source.told c.args.feed.now) before i.0 i.2 i.3) in
+    let turn = rw c.in-Some.is at (c.take_turn-end.ensures.came (g.S.Source.told c.args.feed.now).past before i.0 i.2 i.3) in
     (turn.0, turn.1, turn.3 c.args.turns (omega (arith, i.1, c.pieces-test.true)))
 
 pub pieces-preserved : goal.pieces-preserved
@@ -32,7 +32,7 @@ pieces-preserved g c = record {
       c.in_default.is;
   came = λ before reads.
       let i = c.pieces.invariant.came before reads in
-      let turn = rw c.in_default.is at (c.take_turn-end.ensures.came (g.S.Source.told c.args.feed.now) before i.0 i.2 i.3) in
+      let turn = rw c.in_default.is at (c.take_turn-end.ensures.came (g.S.Source.told c.args.feed.now).past before i.0 i.2 i.3) in
       (turn.0, omega (arith, turn.1, i.1), turn.2, turn.3);
   feed = c.take_turn-end.ensures.stays (not_failed c.take_turn-end.result c.in_default.is) ∙ c.pieces.invariant.feed;
 }

@@ -12,8 +12,8 @@ invariant-pieces g l = record {
   used : l.used ≤ l.turns;
   ready : IsReady g.T.TakesTasks.market g.T.TakesTasks.left l.topology l.clerk l.to (read_size * (l.turns - l.used));
   came : (before : g.row.T.Denot) → Reads g.T.TakesTasks.does l.topology before [] l.fn.cutter l.fn.clerk l.fn.to
-      → (pieces : List (List ℕ)) × (length pieces ≡ l.used) × BothTell (g.S.Source.told l.fn.feed) (g.S.Source.told l.feed) (HasRead pieces) × Reads g.T.TakesTasks.does l.topology before (concat pieces) l.cutter l.clerk l.to;
-  feed : g.S.Source.faults l.feed ≡ g.S.Source.faults l.fn.feed;
+      → (pieces : List (List ℕ)) × (length pieces ≡ l.used) × BothTell (g.S.Source.told l.fn.feed).past (g.S.Source.told l.feed).past (HasRead pieces) × Reads g.T.TakesTasks.does l.topology before (concat pieces) l.cutter l.clerk l.to;
+  feed : (g.S.Source.told l.feed).faults ≡ (g.S.Source.told l.fn.feed).faults;
 }
 
 abbrev pub decreases-pieces : goal.decreases-pieces

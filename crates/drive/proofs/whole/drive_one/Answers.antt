@@ -21,8 +21,8 @@ returns-clause-driven g c =
     let pace : c.lent-1.given.0 ≡ c.serve_all.new.loan.side.pace.now = search rules in
     let lanes : c.served-1.given.0 ≡ c.serve_all.new.loan.lanes.now = search rules in
     let driven : IsDriven c.args.lent.now.turns c.args.mapper.newest c.serve_all.new.loan.side.end (map (λ w. w.ended) c.serve_all.new.works.lanes.items) c.end_of.result
-    (record { feed = feed_told g.S.Source.told g.S.Source.faults c.args.lent.now.feed.now; more = []; out = g.K.Sink.told c.args.lent.now.out.now; maps = g.K.Sink.told c.args.lent.now.maps.now; pace = g.M.Pace.told c.args.lent.now.pace.now; lanes = c.args.lent.now.lanes.now; stream = c.args.stream.now })
-    (record { feed = feed_told g.S.Source.told g.S.Source.faults c.serve_all.new.loan.side.feed.now; more = []; out = g.K.Sink.told c.serve_all.new.loan.side.out.now; maps = g.K.Sink.told c.serve_all.new.loan.side.maps.now; pace = g.M.Pace.told c.serve_all.new.loan.side.pace.now; lanes = (c.serve_all.new.loan.lanes.now ++ c.split_at_mut-served.result.1.now); stream = c.serve_all.new.stream }) = record {
+    (record { feed = feed_told g.S.Source.told c.args.lent.now.feed.now; more = []; out = (g.K.Sink.told c.args.lent.now.out.now).past; maps = (g.K.Sink.told c.args.lent.now.maps.now).past; pace = (g.M.Pace.told c.args.lent.now.pace.now).past; lanes = c.args.lent.now.lanes.now; stream = c.args.stream.now })
+    (record { feed = feed_told g.S.Source.told c.serve_all.new.loan.side.feed.now; more = []; out = (g.K.Sink.told c.serve_all.new.loan.side.out.now).past; maps = (g.K.Sink.told c.serve_all.new.loan.side.maps.now).past; pace = (g.M.Pace.told c.serve_all.new.loan.side.pace.now).past; lanes = (c.serve_all.new.loan.lanes.now ++ c.split_at_mut-served.result.1.now); stream = c.serve_all.new.stream }) = record {
       rest = s.done.0;
       newest = c.serve_all.new.mapper.newest;
       feed = (feed_over _ _ _ _ _ _ _ _ _ _ _ _ _ _ _ _ _ opened s.done.1 s.fed.run, record { rose = s.fed.source; stays = s.fed.source_stays }, refl);

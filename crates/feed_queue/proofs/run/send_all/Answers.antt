@@ -12,5 +12,5 @@ send_next-requires-clause-few g c = few_more g.N.Numbers.groups g.N.Numbers.node
 pub returns-clause-sent : goal.returns-clause-sent
 returns-clause-sent g c =
     let e = c.send_lines-end in
-    has_sent_run c.args.topology.now c.args.turns e.result (g.S.Source.told c.args.feed.now) (g.S.Source.told e.new.feed) c.args.sender.now.feeder.now.sent e.new.sender.feeder.now.sent c.send_next.new.self.sent c.requires.unused e.ensures.run e.ensures.whole
+    has_sent_run c.args.topology.now c.args.turns e.result (g.S.Source.told c.args.feed.now).past (g.S.Source.told e.new.feed).past c.args.sender.now.feeder.now.sent e.new.sender.feeder.now.sent c.send_next.new.self.sent c.requires.unused e.ensures.run e.ensures.whole
     (ap (λ f. f.sent) c.send_next.ensures)

@@ -9,8 +9,8 @@ use Rattle.glb.proofs.placing.places_files.Goals as goal
 
 pub returns : goal.returns
 returns g c =
-    let before : ShelfAt = record { told = g.F.Shelf.told c.args.files.now; faults = g.F.Shelf.faults c.args.files.now } in
-    let after : ShelfAt = record { told = g.F.Shelf.told c.load_topology.new.files; faults = g.F.Shelf.faults c.load_topology.new.files } in
+    let before : ShelfAt = record { told = (g.F.Shelf.told c.args.files.now).past; faults = (g.F.Shelf.told c.args.files.now).faults } in
+    let after : ShelfAt = record { told = (g.F.Shelf.told c.load_topology.new.files).past; faults = (g.F.Shelf.told c.load_topology.new.files).faults } in
     let t = c.in_ok-topology.topology in
     let first : IsReading topology_file (λ (t : Plan). t) c.args.topology.now before after (Ok t) = subst (λ (r : Result Plan Stop). IsReading topology_file (λ (t : Plan). t) c.args.topology.now before after r) c.in_ok-topology.was c.load_topology.ensures in
     last_ends topology_file (λ (t : Plan). t) c.args.topology.now IsSpreadOut before after t c.report.result first c.report.ensures.ended c.report.ensures.source

@@ -21,16 +21,16 @@ returns-in-Err-clause-served g c =
     let served : c.all-1.given.0 ≡ c.drive.new.lent.lanes.now = search rules in
     let all = ap (λ xs. xs ++ c.split_at_mut-opened.result.1.now) (opened ∙ n.0.1) ∙ sym c.split_at_mut-opened.ensures.value in
     let lanes = ap (λ xs. xs ++ c.split_at_mut-all.result.1.now) (served ∙ n.0.4) ∙ sym c.split_at_mut-all.ensures.value in
-    let tell = feed_told g.N.Source.told g.N.Source.faults in
+    let tell = feed_told g.N.Source.told in
     let named : Named = record { feeds = map tell c.args.lent.now.more.now; opens = map g.N.NamedSource.opens c.args.lent.now.more.now } in
     let open_ones : Named = record { feeds = map tell c.start_lanes.new.feeds; opens = map g.N.NamedSource.opens c.start_lanes.new.feeds } in
-    let begin = starts (service_asked c.args.service.now) c.args.crew.mapper.newest c.text.result.now (feed_told g.S.Source.told g.S.Source.faults c.args.lent.now.feed.now) named open_ones (g.K.Sink.told c.args.lent.now.out.now) (g.K.Sink.told c.args.lent.now.maps.now) (g.K.Sink.told c.start_lanes.new.maps) (g.M.Pace.told c.args.lent.now.pace.now) _ _ _ _
-    (g.K.Sink.faults c.args.lent.now.out.now) (g.K.Sink.faults c.args.lent.now.maps.now) (g.K.Sink.faults c.start_lanes.new.maps)
+    let begin = starts (service_asked c.args.service.now) c.args.crew.mapper.newest c.text.result.now (feed_told g.S.Source.told c.args.lent.now.feed.now) named open_ones (g.K.Sink.told c.args.lent.now.out.now).past (g.K.Sink.told c.args.lent.now.maps.now).past (g.K.Sink.told c.start_lanes.new.maps).past (g.M.Pace.told c.args.lent.now.pace.now).past _ _ _ _
+    (g.K.Sink.told c.args.lent.now.out.now).faults (g.K.Sink.told c.args.lent.now.maps.now).faults (g.K.Sink.told c.start_lanes.new.maps).faults
     c.text.ensures c.in-Ready.ensures.start in
     unfed_session _ (service_asked c.args.service.now) _ _ _ _ begin
-    (same_stage _ _ _ _ _ _ _ _ _ _ _ _ _ _ _ _ _ _ _ _ (ap (feed_told g.S.Source.told g.S.Source.faults) n.0.0) (ap (map tell) all) (ap (map g.N.NamedSource.opens) all) (ap g.K.Sink.told n.0.2) (ap g.K.Sink.told n.0.3) (ap g.M.Pace.told n.0.5)
+    (same_stage _ _ _ _ _ _ _ _ _ _ _ _ _ _ _ _ _ _ _ _ (ap (feed_told g.S.Source.told) n.0.0) (ap (map tell) all) (ap (map g.N.NamedSource.opens) all) (ap (λ k. (g.K.Sink.told k).past) n.0.2) (ap (λ k. (g.K.Sink.told k).past) n.0.3) (ap (λ k. (g.M.Pace.told k).past) n.0.5)
     lanes n.1
-    (ap g.K.Sink.faults n.0.2) (ap g.K.Sink.faults n.0.3))
+    (ap (λ k. (g.K.Sink.told k).faults) n.0.2) (ap (λ k. (g.K.Sink.told k).faults) n.0.3))
 
 pub returns-in-Ok-clause-served : goal.returns-in-Ok-clause-served
 returns-in-Ok-clause-served g c =
@@ -42,12 +42,12 @@ returns-in-Ok-clause-served g c =
     let none : c.split_at_mut-all.result.1.now ≡ [] = none_behind _ _ _ c.split_at_mut-all.ensures.value whole in
     let front : c.start_lanes.new.lanes ≡ c.split_at_mut-all.result.0.now = c.split_at_mut-all.ensures.value ∙ ap (λ l. c.split_at_mut-all.result.0.now ++ l) none ∙ append-nil c.split_at_mut-all.result.0.now in
     let lanes : c.all-1.given.0 ++ c.split_at_mut-all.result.1.now ≡ c.drive.new.lent.lanes.now = ap (λ l. c.all-1.given.0 ++ l) none ∙ append-nil c.all-1.given.0 ∙ served in
-    let tell = feed_told g.N.Source.told g.N.Source.faults in
+    let tell = feed_told g.N.Source.told in
     let opens = g.N.NamedSource.opens in
     let named : Named = record { feeds = map tell c.args.lent.now.more.now; opens = map g.N.NamedSource.opens c.args.lent.now.more.now } in
     let open_ones : Named = record { feeds = map tell c.start_lanes.new.feeds; opens = map g.N.NamedSource.opens c.start_lanes.new.feeds } in
-    let begin = starts (service_asked c.args.service.now) c.args.crew.mapper.newest c.text.result.now (feed_told g.S.Source.told g.S.Source.faults c.args.lent.now.feed.now) named open_ones (g.K.Sink.told c.args.lent.now.out.now) (g.K.Sink.told c.args.lent.now.maps.now) (g.K.Sink.told c.start_lanes.new.maps) (g.M.Pace.told c.args.lent.now.pace.now) _ _ _ _
-    (g.K.Sink.faults c.args.lent.now.out.now) (g.K.Sink.faults c.args.lent.now.maps.now) (g.K.Sink.faults c.start_lanes.new.maps)
+    let begin = starts (service_asked c.args.service.now) c.args.crew.mapper.newest c.text.result.now (feed_told g.S.Source.told c.args.lent.now.feed.now) named open_ones (g.K.Sink.told c.args.lent.now.out.now).past (g.K.Sink.told c.args.lent.now.maps.now).past (g.K.Sink.told c.start_lanes.new.maps).past (g.M.Pace.told c.args.lent.now.pace.now).past _ _ _ _
+    (g.K.Sink.told c.args.lent.now.out.now).faults (g.K.Sink.told c.args.lent.now.maps.now).faults (g.K.Sink.told c.start_lanes.new.maps).faults
     c.text.ensures c.in-Ready.ensures.start in
     rw (opened, lanes)
     (served_session _ (service_asked c.args.service.now) _ _ _ _ (map tell c.split_at_mut-opened.result.0.now) (map tell c.drive.new.lent.more.now) (map tell c.split_at_mut-opened.result.1.now) c.in-Ok.end.feed c.in-Ok.end.lanes c.in-Ok.end.stream _ begin

@@ -15,7 +15,7 @@ returns-in-Ok g c =
     let lanes : c.run_order.new.lent.lanes.now ≡ c.all-1.given.0 ++ c.split_at_mut-all.result.1.now = search rules in
     promised_over _ _ _ _ _ _ _ _ _ _ _ _ _ refl c.in-Ok.ensures.asked
     (same_stage _ _ _ _ _ _ _ _ _ _ _ _ _ _ _ _ _ _ _ _ refl refl refl refl refl refl front refl refl refl)
-    (same_stage _ _ _ _ _ _ _ _ _ _ _ _ _ _ _ _ _ _ _ _ (ap (feed_told g.S.Source.told g.S.Source.faults) feed) (ap (map (feed_told g.N.Source.told g.N.Source.faults)) more) (ap (map g.N.NamedSource.opens) more) (ap g.K.Sink.told out) (ap g.K.Sink.told maps) (ap g.M.Pace.told pace) lanes refl (ap g.K.Sink.faults out) (ap g.K.Sink.faults maps))
+    (same_stage _ _ _ _ _ _ _ _ _ _ _ _ _ _ _ _ _ _ _ _ (ap (feed_told g.S.Source.told) feed) (ap (map (feed_told g.N.Source.told)) more) (ap (map g.N.NamedSource.opens) more) (ap (λ k. (g.K.Sink.told k).past) out) (ap (λ k. (g.K.Sink.told k).past) maps) (ap (λ k. (g.M.Pace.told k).past) pace) lanes refl (ap (λ k. (g.K.Sink.told k).faults) out) (ap (λ k. (g.K.Sink.told k).faults) maps))
     c.run_order.ensures.promised
 
 pub returns-in-Err : goal.returns-in-Err

@@ -8,8 +8,8 @@ invariant-loop g l = record {
   size : vec_len l.made ≡ l.counter;
   room : vec_capacity l.made ≡ vec_capacity l.fn.made;
   seen : All (λ v. (v.seen ≡ l.fn.publisher.history) × (v.heard ≡ l.fn.publisher.history)) l.made.items;
-  faults : g.D.Door.faults l.door ≡ g.D.Door.faults l.fn.door;
-  asked : g.D.Door.asked l.door ≡ raised (g.D.Door.asked l.fn.door) l.counter;
-  looks : g.D.Door.looks l.door ≡ g.D.Door.looks l.fn.door;
-  greatest : g.D.Door.greatest l.door ≡ g.D.Door.greatest l.fn.door;
+  faults : (g.D.Door.told l.door).faults ≡ (g.D.Door.told l.fn.door).faults;
+  asked : (g.D.Door.told l.door).asked ≡ raised (g.D.Door.told l.fn.door).asked l.counter;
+  looks : (g.D.Door.told l.door).looks ≡ (g.D.Door.told l.fn.door).looks;
+  greatest : (g.D.Door.told l.door).greatest ≡ (g.D.Door.told l.fn.door).greatest;
 }

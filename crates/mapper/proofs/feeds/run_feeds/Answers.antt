@@ -6,18 +6,18 @@ use Rattle.mapper.proofs.feeds.run_feeds.Goals as goal
 
 pub returns-in-Done-clause-run : goal.returns-in-Done-clause-run
 returns-in-Done-clause-run g c = let w = c.work_all-put.ensures in let e = c.in-Done.ensures in record {
-  calls = g.M.Pace.told c.work_all-put.new.pace;
+  calls = (g.M.Pace.told c.work_all-put.new.pace).past;
   ended = inl (c.first.ensures c.work_all-put.new.taker.taken w.noted, (e.done refl).0);
   all = sym w.noted.count ∙ (e.done refl).1 ∙ w.queue.1;
-  told = subst (λ n. IsPaced (Done n ∷ []) (g.M.Pace.told c.work_all-put.new.pace) (g.M.Pace.told c.done.new.self)) c.serial.ensures c.done.ensures.paced;
+  told = subst (λ n. IsPaced (Done n ∷ []) (g.M.Pace.told c.work_all-put.new.pace).past (g.M.Pace.told c.done.new.self).past) c.serial.ensures c.done.ensures.paced;
 }
 
 pub returns-in-Failed-clause-run : goal.returns-in-Failed-clause-run
 returns-in-Failed-clause-run g c = let w = c.work_all-put.ensures in let d = c.drain.ensures in let e = c.in-Failed.ensures in record {
-  calls = g.M.Pace.told c.work_all-put.new.pace;
+  calls = (g.M.Pace.told c.work_all-put.new.pace).past;
   ended = inr (refl, cut_more c.work_all-put.new.taker.taken d.rest.0 _ _ _ d.rest.1 (e.failed refl));
   all = sym d.noted.count ∙ d.count ∙ d.queue.1 ∙ w.queue.1;
-  told = subst (λ n. IsPaced (Done n ∷ []) (g.M.Pace.told c.work_all-put.new.pace) (g.M.Pace.told c.done-in-Failed.new.self)) c.serial-in-Failed.ensures c.done-in-Failed.ensures.paced;
+  told = subst (λ n. IsPaced (Done n ∷ []) (g.M.Pace.told c.work_all-put.new.pace).past (g.M.Pace.told c.done-in-Failed.new.self).past) c.serial-in-Failed.ensures c.done-in-Failed.ensures.paced;
 }
 
 pub returns-in-Done-clause-merged : goal.returns-in-Done-clause-merged

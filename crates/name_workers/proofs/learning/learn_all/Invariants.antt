@@ -6,8 +6,8 @@ use Rattle.name_workers.proofs.learning.learn_all.Given as goal
 
 abbrev pub invariant-loop-note : goal.invariant-loop-note
 invariant-loop-note g l = AreGivenSoFar (g.N.Notes.told l.fn.notes) (g.N.Notes.told l.notes) (length l.worker.viewer.heard)
-    × IsRise (eyes_of g.D.Door.looks g.D.Door.greatest g.D.Door.faults l.fn.worker.viewer l.fn.door) (eyes_of g.D.Door.looks g.D.Door.greatest g.D.Door.faults l.worker.viewer l.door)
-    × (g.D.Door.looks l.door ≡ g.D.Door.looks l.fn.door) × (l.worker.viewer.seen ≡ l.fn.worker.viewer.seen) × (l.worker.count ≡ l.fn.worker.count) × (l.worker.number ≡ l.fn.worker.number) × (g.D.Door.asked l.door ≡ g.D.Door.asked l.fn.door) × (g.D.Door.faults l.door ≡ g.D.Door.faults l.fn.door)
+    × IsRise (eyes_of g.D.Door.told l.fn.worker.viewer l.fn.door) (eyes_of g.D.Door.told l.worker.viewer l.door)
+    × ((g.D.Door.told l.door).looks ≡ (g.D.Door.told l.fn.door).looks) × (l.worker.viewer.seen ≡ l.fn.worker.viewer.seen) × (l.worker.count ≡ l.fn.worker.count) × (l.worker.number ≡ l.fn.worker.number) × ((g.D.Door.told l.door).asked ≡ (g.D.Door.told l.fn.door).asked) × ((g.D.Door.told l.door).faults ≡ (g.D.Door.told l.fn.door).faults)
 
 abbrev pub decreases-loop-note : goal.decreases-loop-note
 decreases-loop-note g l = g.N.Notes.left l.notes
