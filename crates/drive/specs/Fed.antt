@@ -1,7 +1,7 @@
 -- Inside this crate alone: what the feed's run does to all that it is lent.
 use Rattle.std.specs.Prelude.{◌≡◌, ◌≢◌, ◌⊎◌, ℕ, ◌≤◌, List, Option}
 use mathlib.Core.List.{IsPrefix}
-use Rattle.outside.specs.Faults.{Rose}
+use Rattle.outside.specs.Faults.{DeviceState, Rose}
 use Rattle.outside.specs.Sink.{Written}
 use Rattle.outside.specs.Source.{Fed}
 use Rattle.outside.specs.declared.pace.PaceCall.{PaceCall}
@@ -21,15 +21,15 @@ pub record IsSame {S K M : Type 0} (a b : FeedLoan S K M) : Type 0 where
   pub pace : b.pace.ghost_name ≡ a.pace.ghost_name
 
 -- the feed was run to its end
-pub record IsFedBy {S K M : Type 0} (fed : S → Option Fed) (fed_faults : S → ℕ) (told : K → Option Written) (faults : K → ℕ) (paced : M → Option (List PaceCall)) (a b : FeedLoan S K M) (m n : PublisherState) : Type 0 where
+pub record IsFedBy {S K M : Type 0} (fed : S → DeviceState Fed) (told : K → DeviceState Written) (paced : M → DeviceState (List PaceCall)) (a b : FeedLoan S K M) (m n : PublisherState) : Type 0 where
   pub same : IsSame a b
-  pub run : IsFeed m.newest.plan a.turns b.end (fed a.feed.now) (fed b.feed.now) (scene m.newest m.history (told a.out.now) (told a.maps.now) (paced a.pace.now)) (scene n.newest n.history (told b.out.now) (told b.maps.now) (paced b.pace.now))
+  pub run : IsFeed m.newest.plan a.turns b.end (fed a.feed.now).past (fed b.feed.now).past (scene m.newest m.history (told a.out.now).past (told a.maps.now).past (paced a.pace.now).past) (scene n.newest n.history (told b.out.now).past (told b.maps.now).past (paced b.pace.now).past)
   pub kept : IsPrefix m.history n.history
-  pub later : (faults a.out.now ≤ faults b.out.now) × (faults a.maps.now ≤ faults b.maps.now) × (fed_faults a.feed.now ≤ fed_faults b.feed.now)
-  pub sink : b.end ≡ SinkFault → Rose (faults a.out.now) (faults b.out.now) ⊎ Rose (faults a.maps.now) (faults b.maps.now)
-  pub sink_stays : b.end ≢ SinkFault → (faults b.out.now ≡ faults a.out.now) × (faults b.maps.now ≡ faults a.maps.now)
-  pub source : b.end ≡ SourceFault → Rose (fed_faults a.feed.now) (fed_faults b.feed.now)
-  pub source_stays : b.end ≢ SourceFault → fed_faults b.feed.now ≡ fed_faults a.feed.now
+  pub later : ((told a.out.now).faults ≤ (told b.out.now).faults) × ((told a.maps.now).faults ≤ (told b.maps.now).faults) × ((fed a.feed.now).faults ≤ (fed b.feed.now).faults)
+  pub sink : b.end ≡ SinkFault → Rose (told a.out.now).faults (told b.out.now).faults ⊎ Rose (told a.maps.now).faults (told b.maps.now).faults
+  pub sink_stays : b.end ≢ SinkFault → ((told b.out.now).faults ≡ (told a.out.now).faults) × ((told b.maps.now).faults ≡ (told a.maps.now).faults)
+  pub source : b.end ≡ SourceFault → Rose (fed a.feed.now).faults (fed b.feed.now).faults
+  pub source_stays : b.end ≢ SourceFault → (fed b.feed.now).faults ≡ (fed a.feed.now).faults
 
 -- the same things are lent
 pub record IsSameTaker {N K M : Type 0} (a b : TakerLoan N K M) : Type 0 where
@@ -39,12 +39,12 @@ pub record IsSameTaker {N K M : Type 0} (a b : TakerLoan N K M) : Type 0 where
   pub pace : b.pace.ghost_name ≡ a.pace.ghost_name
 
 -- all that was taken of several feeders was worked
-pub record AreWorked {N K M : Type 0} (told : K → Option Written) (faults : K → ℕ) (paced : M → Option (List PaceCall)) (a b : TakerLoan N K M) (m n : PublisherState) : Type 0 where
+pub record AreWorked {N K M : Type 0} (told : K → DeviceState Written) (paced : M → DeviceState (List PaceCall)) (a b : TakerLoan N K M) (m n : PublisherState) : Type 0 where
   pub same : IsSameTaker a b
   pub queue : (b.taker.now.queue ≡ a.taker.now.queue) × (b.taker.now.feeders ≡ a.taker.now.feeders)
-  pub run : AreFeeds a.taker.now.feeders b.end b.taker.now.taken (scene m.newest m.history (told a.out.now) (told a.maps.now) (paced a.pace.now)) (scene n.newest n.history (told b.out.now) (told b.maps.now) (paced b.pace.now))
-  pub merged : b.end ≢ SinkFault → HasMerged b.taker.now.taken (scene m.newest m.history (told a.out.now) (told a.maps.now) (paced a.pace.now)) (scene n.newest n.history (told b.out.now) (told b.maps.now) (paced b.pace.now))
+  pub run : AreFeeds a.taker.now.feeders b.end b.taker.now.taken (scene m.newest m.history (told a.out.now).past (told a.maps.now).past (paced a.pace.now).past) (scene n.newest n.history (told b.out.now).past (told b.maps.now).past (paced b.pace.now).past)
+  pub merged : b.end ≢ SinkFault → HasMerged b.taker.now.taken (scene m.newest m.history (told a.out.now).past (told a.maps.now).past (paced a.pace.now).past) (scene n.newest n.history (told b.out.now).past (told b.maps.now).past (paced b.pace.now).past)
   pub kept : IsPrefix m.history n.history
-  pub later : (faults a.out.now ≤ faults b.out.now) × (faults a.maps.now ≤ faults b.maps.now)
-  pub sink : b.end ≡ SinkFault → Rose (faults a.out.now) (faults b.out.now) ⊎ Rose (faults a.maps.now) (faults b.maps.now)
-  pub sink_stays : b.end ≢ SinkFault → (faults b.out.now ≡ faults a.out.now) × (faults b.maps.now ≡ faults a.maps.now)
+  pub later : ((told a.out.now).faults ≤ (told b.out.now).faults) × ((told a.maps.now).faults ≤ (told b.maps.now).faults)
+  pub sink : b.end ≡ SinkFault → Rose (told a.out.now).faults (told b.out.now).faults ⊎ Rose (told a.maps.now).faults (told b.maps.now).faults
+  pub sink_stays : b.end ≢ SinkFault → ((told b.out.now).faults ≡ (told a.out.now).faults) × ((told b.maps.now).faults ≡ (told a.maps.now).faults)

@@ -15,6 +15,7 @@ use Rattle.drive.specs.Done.{LaneTold, ServerTold, StreamLaneTold}
 use Rattle.drive.specs.Driven.{Lent}
 use Rattle.drive.specs.Feeds.{FeedTold}
 use Rattle.drive.specs.declared.lent.Lent.{Lent as LentParts}
+use Rattle.outside.specs.Faults.{DeviceState}
 
 -- a worker's viewer, with what its lane tells of its door
 abbrev pub eyes_at : {T : Type 0} → ViewerState → ServerTold T → Eyes Version
@@ -61,8 +62,8 @@ stream_moment_at lane viewer notes count = record {
 }
 
 -- a feed, by what it tells and how often an opening or a read of it has failed
-abbrev pub feed_told : {T : Type 0} → (T → Option Fed) → (T → ℕ) → T → FeedTold
-feed_told fed faults feed = record { fed = fed feed; faults = faults feed }
+abbrev pub feed_told : {T : Type 0} → (T → DeviceState Fed) → T → FeedTold
+feed_told told feed = record { fed = (told feed).past; faults = (told feed).faults }
 
 -- the same things are lent, for as many turns
 abbrev pub IsSameLent : {S N K P G D M : Type 0} → LentParts S N K P G D M → LentParts S N K P G D M → Type 0
@@ -74,14 +75,14 @@ AreUntouched a b = (b.feed.now ≡ a.feed.now) × (b.more.now ≡ a.more.now) ×
 
 -- all that is lent, by what a feed, a further one, an output and a pace tell
 abbrev pub lent_of : {S N K P G D M : Type 0}
-    → (S → Option Fed) → (S → ℕ) → (N → Option Fed) → (N → ℕ) → (K → Option Written) → (M → Option (List PaceCall))
+    → (S → DeviceState Fed) → (N → DeviceState Fed) → (K → DeviceState Written) → (M → DeviceState (List PaceCall))
     → LentParts S N K P G D M → StreamLaneTold → Lent
-lent_of fed faults named named_faults written paced l stream = record {
-  feed = feed_told fed faults l.feed.now;
-  more = map (feed_told named named_faults) l.more.now;
-  out = written l.out.now;
-  maps = written l.maps.now;
-  pace = paced l.pace.now;
+lent_of fed named written paced l stream = record {
+  feed = feed_told fed l.feed.now;
+  more = map (feed_told named) l.more.now;
+  out = (written l.out.now).past;
+  maps = (written l.maps.now).past;
+  pace = (paced l.pace.now).past;
   lanes = l.lanes.now;
   stream = stream;
 }

@@ -10,6 +10,7 @@ use Rattle.drive.specs.Feeds.{FeedTold}
 use Rattle.drive.specs.Told.{feed_told}
 use Rattle.glb.specs.Outcome.{Faults, Outside}
 use Rattle.drive.specs.declared.lent.Lent.{Lent}
+use Rattle.outside.specs.Faults.{DeviceState}
 
 -- What all but the files tells at one moment: what a drive is lent, the names under which each further feed was opened, and the counts of faults of both outputs.
 pub record Stage : Type 0 where
@@ -34,32 +35,33 @@ stage feed more opens out maps pace lanes stream out_faults maps_faults = record
 
 -- what all that is lent to a session tells
 abbrev pub stage_of : {S N K P G D M : Type 0}
-    → (S → Option Fed) → (S → ℕ) → (N → Option Fed) → (N → ℕ) → (N → Option (List (List ℕ)))
-    → (K → Option Written) → (K → ℕ) → (M → Option (List PaceCall)) → Lent S N K P G D M → StreamLaneTold → Stage
-stage_of fed feed_faults named named_faults opens written faults paced l s = stage
-    (feed_told fed feed_faults l.feed.now) (map (feed_told named named_faults) l.more.now) (map opens l.more.now)
-    (written l.out.now) (written l.maps.now) (paced l.pace.now) l.lanes.now s (faults l.out.now) (faults l.maps.now)
+    → (S → DeviceState Fed) → (N → DeviceState Fed) → (N → Option (List (List ℕ)))
+    → (K → DeviceState Written) → (M → DeviceState (List PaceCall)) → Lent S N K P G D M → StreamLaneTold → Stage
+stage_of fed named opens written paced l s = stage
+    (feed_told fed l.feed.now) (map (feed_told named) l.more.now) (map opens l.more.now)
+    (written l.out.now).past (written l.maps.now).past (paced l.pace.now).past l.lanes.now s
+    (written l.out.now).faults (written l.maps.now).faults
 
 abbrev pub surroundings : Option Shelved → ℕ → Stage → Surroundings
 surroundings files files_faults stage = record { files = files; files_faults = files_faults; stage = stage }
 
 -- what all outside tells: the files, and all that is lent to a session
 abbrev pub told_over : {F S N K P G D M : Type 0}
-    → (F → Option Shelved) → (F → ℕ) → (S → Option Fed) → (S → ℕ) → (N → Option Fed) → (N → ℕ)
-    → (N → Option (List (List ℕ))) → (K → Option Written) → (K → ℕ) → (M → Option (List PaceCall))
+    → (F → DeviceState Shelved) → (S → DeviceState Fed) → (N → DeviceState Fed)
+    → (N → Option (List (List ℕ))) → (K → DeviceState Written) → (M → DeviceState (List PaceCall))
     → F → Lent S N K P G D M → StreamLaneTold → Surroundings
-told_over shelved files_faults fed feed_faults named named_faults opens written faults paced files l s =
-    surroundings (shelved files) (files_faults files) (stage_of fed feed_faults named named_faults opens written faults paced l s)
+told_over shelved fed named opens written paced files l s =
+    surroundings (shelved files).past (shelved files).faults (stage_of fed named opens written paced l s)
 
 -- what all outside tells: the files, the feed, the further feeds, both outputs, the lanes, the one for conversations, and the pace
 abbrev pub all_told : {F S N K M : Type 0}
-    → (F → Option Shelved) → (F → ℕ) → (S → Option Fed) → (S → ℕ) → (N → Option Fed) → (N → ℕ)
-    → (N → Option (List (List ℕ))) → (K → Option Written) → (K → ℕ) → (M → Option (List PaceCall))
+    → (F → DeviceState Shelved) → (S → DeviceState Fed) → (N → DeviceState Fed)
+    → (N → Option (List (List ℕ))) → (K → DeviceState Written) → (M → DeviceState (List PaceCall))
     → F → S → List N → K → K → List LaneTold → StreamLaneTold → M → Surroundings
-all_told shelved files_faults fed feed_faults named named_faults opens written faults paced files feed more out maps lanes stream pace =
-    surroundings (shelved files) (files_faults files) (stage
-    (feed_told fed feed_faults feed) (map (feed_told named named_faults) more) (map opens more)
-    (written out) (written maps) (paced pace) lanes stream (faults out) (faults maps))
+all_told shelved fed named opens written paced files feed more out maps lanes stream pace =
+    surroundings (shelved files).past (shelved files).faults (stage
+    (feed_told fed feed) (map (feed_told named) more) (map opens more)
+    (written out).past (written maps).past (paced pace).past lanes stream (written out).faults (written maps).faults)
 
 -- the files and the output, which are all that most commands ask
 abbrev pub outside_of : Surroundings → Outside

@@ -1,9 +1,9 @@
 -- A turn is made of a Go, the notes, and what came.
 use Rattle.std.proofs.Common.{◌≡◌, ℕ, ◌+◌, ◌<◌, ◌≤◌, Bool, true, false, List, length, All, Option, None, Some, refl, sym, ap, subst, ◌∙◌, arith}
-use Rattle.outside.specs.Faults.{BothTell, Rose, raised}
+use Rattle.outside.specs.Faults.{BothTell, DeviceState, Rose, raised}
 use Rattle.addr_text.specs.declared.address.Peer.{Peer}
 use Rattle.published_map.specs.Version.{Version}
-use Rattle.outside.specs.Port.{IsRecv, packet_in, taking, trying}
+use Rattle.outside.specs.Port.{IsRecv, PortTold, packet_in, taking, trying}
 use Rattle.outside.specs.declared.port.Arrival.TheVariants.{Arrived}
 use Rattle.outside.specs.Gate.{IsTurning}
 use Rattle.outside.specs.declared.gate.Turning.TheVariants.{Go}
@@ -19,7 +19,7 @@ use Rattle.name_workers.specs.declared.ending.Step.{Step}
 use Rattle.name_workers.specs.declared.ending.Step.TheVariants as step
 use Rattle.lane_model.specs.Replies.{replies}
 use Rattle.name_workers.proofs.Eyes.{rise_refused}
-use Rattle.name_workers.specs.Steps.{IsFared, IsTaken, IsTried, IsTurned, DeviceState PortTold, step_of, step_of_fared}
+use Rattle.name_workers.specs.Steps.{IsFared, IsTaken, IsTried, IsTurned, step_of, step_of_fared}
 
 rose_later : (x y z : ℕ) → x ≤ y → Rose y z → Rose x z
 rose_later x y z le r = omega (arith, le, r)

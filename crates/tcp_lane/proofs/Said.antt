@@ -6,9 +6,9 @@ use Rattle.std.proofs.lemmas.List.Sums.{fold-append}
 use Rattle.std.proofs.lemmas.Grind.{flat_map-append}
 use Rattle.std.specs.List.{flat_map}
 use Rattle.addr_text.specs.declared.address.Peer.{Peer}
-use Rattle.outside.specs.Faults.{BothTell, Rose, raised}
+use Rattle.outside.specs.Faults.{BothTell, DeviceState, Rose, raised}
 use Rattle.outside.specs.Limits.{largest_datagram}
-use Rattle.outside.specs.Streams.{failing, writing}
+use Rattle.outside.specs.Streams.{StreamsTold, failing, writing}
 use Rattle.published_map.specs.Version.{Version}
 use Rattle.answer_core.specs.declared.way.Way.TheVariants.{Stream}
 use Rattle.lane_model.specs.Lanes.{following}
@@ -27,7 +27,7 @@ use Rattle.tcp_frames.specs.Split.{IsUnfinished, framed}
 use Rattle.tcp_lane.specs.Turns.{AreKnown, AreWell, Said, is_well, known_after, known_behind, saying, turn_of}
 use Rattle.tcp_lane.proofs.Known.{behind_more, known_more}
 use Rattle.tcp_lane.specs.Calls.{inner}
-use Rattle.tcp_lane.specs.Steps.{AreSaid, AreSoFar, IsAnswered, IsAnsweredBy, IsFared, Wire, is_on}
+use Rattle.tcp_lane.specs.Steps.{AreSaid, AreSoFar, IsAnswered, IsAnsweredBy, IsFared, is_on}
 
 tells_itself : {A : Type 0} (x : Option A) → BothTell x x (λ b c. c ≡ b)
 tells_itself None = tt
@@ -111,30 +111,30 @@ said_tried w n n' known peer octets serial reply went e f p q is count x looks f
 }
 
 -- a message after which the lane goes on
-record OneOn (w n n' known : ℕ) (peer : Peer) (octets : List ℕ) (e f : Eyes Version) (p q : Wire) : Type 0 where
+record OneOn (w n n' known : ℕ) (peer : Peer) (octets : List ℕ) (e f : Eyes Version) (p q : DeviceState StreamsTold) : Type 0 where
   said : Said
   octets_are : said.octets ≡ octets
   knows : said.known ≡ known
   behind : known_after known said.fate + 1 ≡ length f.heard
   well : is_well said.fate ≡ true
   turn : IsTurn stream_replies w (turn_of peer said) (inner e n p.faults) (inner f n' q.faults)
-  told : (cut : ℕ) → BothTell p.told q.told (λ b c. c ≡ saying cut b said)
+  told : (cut : ℕ) → BothTell p.past q.past (λ b c. c ≡ saying cut b said)
 
 -- a message after which it doesn't
-record OneOver (w n n' known : ℕ) (peer : Peer) (octets : List ℕ) (r : Fared) (e f : Eyes Version) (p q : Wire) : Type 0 where
+record OneOver (w n n' known : ℕ) (peer : Peer) (octets : List ℕ) (r : Fared) (e f : Eyes Version) (p q : DeviceState StreamsTold) : Type 0 where
   said : Said
   octets_are : said.octets ≡ octets
   knows : said.known ≡ known
   behind : known_after known said.fate + 1 ≡ length f.heard
   cut : ℕ
   turn : IsTurn stream_replies w (turn_of peer said) (inner e n p.faults) (inner f n' q.faults)
-  told : BothTell p.told q.told (λ b c. c ≡ saying cut b said)
+  told : BothTell p.past q.past (λ b c. c ≡ saying cut b said)
   over : (before : List Said) → AreWell before → IsAnsweredBy r (before ++ said ∷ []) []
 
 rose_from : (x z : ℕ) → Rose x z → raised x 1 ≤ z
 rose_from x z r = r
 
-one_on : (w n n' known : ℕ) (peer : Peer) (octets : List ℕ) (r : Fared) (e f : Eyes Version) (p q : Wire) → known + 1 ≡ length e.heard → n' ≡ following n → IsFared w n peer.addr octets r e f p q → is_on r ≡ true → OneOn w n n' known peer octets e f p q
+one_on : (w n n' known : ℕ) (peer : Peer) (octets : List ℕ) (r : Fared) (e f : Eyes Version) (p q : DeviceState StreamsTold) → known + 1 ≡ length e.heard → n' ≡ following n → IsFared w n peer.addr octets r e f p q → is_on r ≡ true → OneOn w n n' known peer octets e f p q
 one_on w n n' known peer octets fared.Silent e f p q is count x on = record {
   said = record { octets = octets; known = known; fate = silent };
   octets_are = refl;
@@ -142,7 +142,7 @@ one_on w n n' known peer octets fared.Silent e f p q is count x on = record {
   behind = is ∙ sym (ap (λ k. length k.heard) x.1);
   well = refl;
   turn = said_silent w n n' known peer octets e f p.faults q.faults is count x.0 x.1 (ap (λ k. k.faults) x.2);
-  told = λ cut. subst (λ (k : Wire). BothTell p.told k.told (λ b c. c ≡ b)) (sym x.2) (tells_itself p.told);
+  told = λ cut. subst (λ (k : DeviceState StreamsTold). BothTell p.past k.past (λ b c. c ≡ b)) (sym x.2) (tells_itself p.past);
 }
 one_on w n n' known peer octets fared.Sent e f p q is count x on = record {
   said = record { octets = octets; known = known; fate = tried x.0 x.1 true };
@@ -156,11 +156,11 @@ one_on w n n' known peer octets fared.Sent e f p q is count x on = record {
 one_on w n n' known peer octets fared.Failed e f p q is count x on = absurd (cc on)
 one_on w n n' known peer octets fared.Refused e f p q is count x on = absurd (cc on)
 
-one_over : (w n n' known : ℕ) (peer : Peer) (octets : List ℕ) (r : Fared) (e f : Eyes Version) (p q : Wire) → known + 1 ≡ length e.heard → n' ≡ following n → IsFared w n peer.addr octets r e f p q → is_on r ≡ false → OneOver w n n' known peer octets r e f p q
+one_over : (w n n' known : ℕ) (peer : Peer) (octets : List ℕ) (r : Fared) (e f : Eyes Version) (p q : DeviceState StreamsTold) → known + 1 ≡ length e.heard → n' ≡ following n → IsFared w n peer.addr octets r e f p q → is_on r ≡ false → OneOver w n n' known peer octets r e f p q
 one_over w n n' known peer octets fared.Silent e f p q is count x off = absurd (cc off)
 one_over w n n' known peer octets fared.Sent e f p q is count x off = absurd (cc off)
 one_over w n n' known peer octets fared.Failed e f p q is count x off =
-    let out = tells_out (λ k b c. c ≡ failing (writing x.0 (take k (framed x.1)) b)) p.told q.told x.4 in
+    let out = tells_out (λ k b c. c ≡ failing (writing x.0 (take k (framed x.1)) b)) p.past q.past x.4 in
     record {
       said = record { octets = octets; known = known; fate = tried x.0 x.1 false };
       octets_are = refl;
@@ -178,12 +178,12 @@ one_over w n n' known peer octets fared.Refused e f p q is count x off = record 
   behind = is ∙ sym (ap (λ k. length k) x.0.heard);
   cut = 0;
   turn = said_refused w n n' known peer octets e f p.faults q.faults is count x.0 (ap (λ k. k.faults) x.1);
-  told = subst (λ (k : Wire). BothTell p.told k.told (λ b c. c ≡ b)) (sym x.1) (tells_itself p.told);
+  told = subst (λ (k : DeviceState StreamsTold). BothTell p.past k.past (λ b c. c ≡ b)) (sym x.1) (tells_itself p.past);
   over = λ before well. (before, record { octets = octets; known = known; fate = refused }, refl, well, refl);
 }
 
-pub so_far_none : (w n : ℕ) (peer : Peer) (octets : List ℕ) (e : Eyes Version) (p : Wire) → AreSoFar w n n peer octets octets e e p p
-so_far_none w n peer octets e p = record { said = []; are_said = λ cut. record { session = refl; told = tells_itself p.told; known = λ k is. (tt, is) }; parts = refl; short = λ k d lt. absurd (omega (arith, lt)); well = λ k d lt. absurd (omega (arith, lt)) }
+pub so_far_none : (w n : ℕ) (peer : Peer) (octets : List ℕ) (e : Eyes Version) (p : DeviceState StreamsTold) → AreSoFar w n n peer octets octets e e p p
+so_far_none w n peer octets e p = record { said = []; are_said = λ cut. record { session = refl; told = tells_itself p.past; known = λ k is. (tt, is) }; parts = refl; short = λ k d lt. absurd (omega (arith, lt)); well = λ k d lt. absurd (omega (arith, lt)) }
 
 -- what is known along one message more
 known_on : (k : ℕ) (said : List Said) (s : Said) (before after : ℕ) → AreKnown k said × (known_behind k said + 1 ≡ before) → s.known + 1 ≡ before → known_after s.known s.fate + 1 ≡ after → AreKnown k (said ++ s ∷ []) × (known_behind k (said ++ s ∷ []) + 1 ≡ after)
@@ -194,12 +194,12 @@ known_on k said s before after a is behind =
     )
 
 -- one message more
-said_more : (w n n1 n2 : ℕ) (peer : Peer) (said : List Said) (cut : ℕ) (s : Said) (e f g : Eyes Version) (p q r : Wire) → AreSaid w n n1 peer said cut e f p q → IsTurn stream_replies w (turn_of peer s) (inner f n1 q.faults) (inner g n2 r.faults)
-    → BothTell q.told r.told (λ b c. c ≡ saying cut b s) → s.known + 1 ≡ length f.heard → known_after s.known s.fate + 1 ≡ length g.heard → AreSaid w n n2 peer (said ++ s ∷ []) cut e g p r
+said_more : (w n n1 n2 : ℕ) (peer : Peer) (said : List Said) (cut : ℕ) (s : Said) (e f g : Eyes Version) (p q r : DeviceState StreamsTold) → AreSaid w n n1 peer said cut e f p q → IsTurn stream_replies w (turn_of peer s) (inner f n1 q.faults) (inner g n2 r.faults)
+    → BothTell q.past r.past (λ b c. c ≡ saying cut b s) → s.known + 1 ≡ length f.heard → known_after s.known s.fate + 1 ≡ length g.heard → AreSaid w n n2 peer (said ++ s ∷ []) cut e g p r
 said_more w n n1 n2 peer said cut s e f g p q r are turn told is behind = record {
   session = subst (λ (log : List Turn). AreTurns stream_replies w log (inner e n p.faults) (inner g n2 r.faults)) (sym (map-append (turn_of peer) said (s ∷ [])))
       (one_more stream_replies w (map (turn_of peer) said) (turn_of peer s) (inner e n p.faults) (inner f n1 q.faults) (inner g n2 r.faults) are.session turn);
-  told = tells_on p.told q.told r.told (λ b c. c ≡ fold (saying cut) b said) (λ b c. c ≡ saying cut b s) (λ b c. c ≡ fold (saying cut) b (said ++ s ∷ []))
+  told = tells_on p.past q.past r.past (λ b c. c ≡ fold (saying cut) b said) (λ b c. c ≡ saying cut b s) (λ b c. c ≡ fold (saying cut) b (said ++ s ∷ []))
       (λ b c d u v. v ∙ (ap (λ k. saying cut k s) u ∙ sym (fold-append (saying cut) b said (s ∷ [])))) are.told told;
   known = λ k first. known_on k said s (length f.heard) (length g.heard) (are.known k first) is behind;
 }
@@ -210,7 +210,7 @@ parts_more octets rest behind said s m p q is =
     ∙ (sym (append_assoc (flat_map (λ x. framed x.octets) said) (framed s.octets) behind)
     ∙ ap (λ l. l ++ behind) (ap (λ l. flat_map (λ x. framed x.octets) said ++ l) (sym (append-nil (framed s.octets))) ∙ sym (flat_map-append (λ x. framed x.octets) said (s ∷ [])))))
 
-still_some : (w n n1 : ℕ) (peer : Peer) (octets rest : List ℕ) (e f : Eyes Version) (p q : Wire) → 0 < length e.heard → AreSoFar w n n1 peer octets rest e f p q → length f.heard - 1 + 1 ≡ length f.heard
+still_some : (w n n1 : ℕ) (peer : Peer) (octets rest : List ℕ) (e f : Eyes Version) (p q : DeviceState StreamsTold) → 0 < length e.heard → AreSoFar w n n1 peer octets rest e f p q → length f.heard - 1 + 1 ≡ length f.heard
 still_some w n n1 peer octets rest e f p q some so =
     let rise = turns_rises stream_replies w (map (turn_of peer) so.said) (inner e n p.faults) (inner f n1 q.faults) (so.are_said 0).session in
     let le = prefix_length e.heard f.heard rise.heard in
@@ -223,7 +223,7 @@ behind_told : (s : Said) (known after : ℕ) → s.known ≡ known → known_aft
 behind_told s known after p q = ap (λ x. known_after x s.fate + 1) p ∙ q
 
 -- the lane goes on with the conversation
-pub so_far_more : (w w' n n1 n2 : ℕ) (peer : Peer) (octets rest behind m : List ℕ) (r : Fared) (e f g : Eyes Version) (p q v : Wire) → 0 < length e.heard → w' ≡ w → n2 ≡ following n1 → AreSoFar w n n1 peer octets rest e f p q
+pub so_far_more : (w w' n n1 n2 : ℕ) (peer : Peer) (octets rest behind m : List ℕ) (r : Fared) (e f g : Eyes Version) (p q v : DeviceState StreamsTold) → 0 < length e.heard → w' ≡ w → n2 ≡ following n1 → AreSoFar w n n1 peer octets rest e f p q
     → rest ≡ framed m ++ behind → length m ≤ largest_datagram → IsFared w' n1 peer.addr m r f g q v → is_on r ≡ true → AreSoFar w n n2 peer octets behind e g p v
 so_far_more w w' n n1 n2 peer octets rest behind m r e f g p q v some same count so parts short x on =
     let some_now = still_some w n n1 peer octets rest e f p q some so in
@@ -243,7 +243,7 @@ any_rest fared.Failed said rest off x = x
 any_rest fared.Refused said rest off x = x
 
 -- it doesn't
-pub answered_over : (w w' n n1 n2 : ℕ) (peer : Peer) (octets rest behind m : List ℕ) (r : Fared) (e f g : Eyes Version) (p q v : Wire) → 0 < length e.heard → w' ≡ w → n2 ≡ following n1 → AreSoFar w n n1 peer octets rest e f p q
+pub answered_over : (w w' n n1 n2 : ℕ) (peer : Peer) (octets rest behind m : List ℕ) (r : Fared) (e f g : Eyes Version) (p q v : DeviceState StreamsTold) → 0 < length e.heard → w' ≡ w → n2 ≡ following n1 → AreSoFar w n n1 peer octets rest e f p q
     → rest ≡ framed m ++ behind → length m ≤ largest_datagram → IsFared w' n1 peer.addr m r f g q v → is_on r ≡ false → IsAnswered w n n2 peer octets behind r e g p v
 answered_over w w' n n1 n2 peer octets rest behind m r e f g p q v some same count so parts short x off =
     let some_now = still_some w n n1 peer octets rest e f p q some so in
@@ -260,5 +260,5 @@ answered_over w w' n n1 n2 peer octets rest behind m r e f g p q v some same cou
     }
 
 -- no whole message is left
-pub answered_all : (w n n1 : ℕ) (peer : Peer) (octets rest : List ℕ) (e f : Eyes Version) (p q : Wire) → 0 < length e.heard → AreSoFar w n n1 peer octets rest e f p q → IsUnfinished rest → IsAnswered w n n1 peer octets rest fared.Silent e f p q
+pub answered_all : (w n n1 : ℕ) (peer : Peer) (octets rest : List ℕ) (e f : Eyes Version) (p q : DeviceState StreamsTold) → 0 < length e.heard → AreSoFar w n n1 peer octets rest e f p q → IsUnfinished rest → IsAnswered w n n1 peer octets rest fared.Silent e f p q
 answered_all w n n1 peer octets rest e f p q some so none = record { first = length e.heard - 1; first_is = omega (arith, some); said = so.said; cut = 0; are_said = so.are_said 0; parts = so.parts; short = so.short; by = (so.well, none) }

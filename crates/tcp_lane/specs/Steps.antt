@@ -3,7 +3,7 @@ use Rattle.std.specs.Prelude.{◌≡◌, ℕ, ◌+◌, ◌<◌, ◌≤◌, ◌�
 use Rattle.std.specs.List.{flat_map}
 use Rattle.addr_text.specs.declared.address.Addr.{Addr}
 use Rattle.addr_text.specs.declared.address.Peer.{Peer}
-use Rattle.outside.specs.Faults.{BothTell, Rose, raised}
+use Rattle.outside.specs.Faults.{BothTell, DeviceState, Rose, raised}
 use Rattle.outside.specs.Limits.{largest_datagram}
 use Rattle.outside.specs.Streams.{StreamsTold, failing, writing}
 use Rattle.tcp_frames.specs.Split.{IsUnfinished, framed}
@@ -22,17 +22,12 @@ use Rattle.tcp_lane.specs.Replies.{stream_replies}
 use Rattle.tcp_lane.specs.Turns.{AreKnown, AreWell, StreamCame, IsBroken, IsPiece, IsRuled, Said, StreamTurn, TalkState, lane_came, closing_if, ended, got, stream_after, known_behind, lane_of, saying, stream_turn, turn_of}
 use Rattle.tcp_lane.specs.Calls.{IsStreamEnd, IsStreamLast, IsStreamSession, IsStreamStop, IsStreamTurn, StreamMoment, inner}
 
--- what streams tell, and their faults
-pub record Wire : Type 0 where
-  pub told : Option StreamsTold
-  pub faults : ℕ
-
 -- what became of a message: the streams' count rose where the reply was not written, and else stands
-abbrev pub IsFared : ℕ → ℕ → Addr → List ℕ → Fared → Eyes Version → Eyes Version → Wire → Wire → Type 0
+abbrev pub IsFared : ℕ → ℕ → Addr → List ℕ → Fared → Eyes Version → Eyes Version → DeviceState StreamsTold → DeviceState StreamsTold → Type 0
 IsFared w n from octets fared.Silent e f p q = (is_silent octets ≡ true) × (f ≡ e) × (q ≡ p)
 IsFared w n from octets fared.Refused e f p q = IsLookRefused octets e f × (q ≡ p)
-IsFared w n from octets fared.Sent e f p q = (serial : ℕ) × (reply : List ℕ) × IsReplied w n from octets Stream serial e f reply × (f.looks ≡ raised e.looks 1) × BothTell p.told q.told (λ b c. c ≡ writing serial (framed reply) b) × (q.faults ≡ p.faults)
-IsFared w n from octets fared.Failed e f p q = (serial : ℕ) × (reply : List ℕ) × IsReplied w n from octets Stream serial e f reply × (f.looks ≡ raised e.looks 1) × BothTell p.told q.told (λ b c. (k : ℕ) × (c ≡ failing (writing serial (take k (framed reply)) b))) × Rose p.faults q.faults
+IsFared w n from octets fared.Sent e f p q = (serial : ℕ) × (reply : List ℕ) × IsReplied w n from octets Stream serial e f reply × (f.looks ≡ raised e.looks 1) × BothTell p.past q.past (λ b c. c ≡ writing serial (framed reply) b) × (q.faults ≡ p.faults)
+IsFared w n from octets fared.Failed e f p q = (serial : ℕ) × (reply : List ℕ) × IsReplied w n from octets Stream serial e f reply × (f.looks ≡ raised e.looks 1) × BothTell p.past q.past (λ b c. (k : ℕ) × (c ≡ failing (writing serial (take k (framed reply)) b))) × Rose p.faults q.faults
 
 -- the lane goes on with the conversation
 abbrev pub is_on : Fared → Bool
@@ -42,9 +37,9 @@ is_on fared.Failed = false
 is_on fared.Refused = false
 
 -- These messages were taken, one after another.
-pub record AreSaid (w n n' : ℕ) (peer : Peer) (said : List Said) (cut : ℕ) (e f : Eyes Version) (p q : Wire) : Type 0 where
+pub record AreSaid (w n n' : ℕ) (peer : Peer) (said : List Said) (cut : ℕ) (e f : Eyes Version) (p q : DeviceState StreamsTold) : Type 0 where
   pub session : AreTurns stream_replies w (map (turn_of peer) said) (inner e n p.faults) (inner f n' q.faults)
-  pub told : BothTell p.told q.told (λ b c. c ≡ fold (saying cut) b said)
+  pub told : BothTell p.past q.past (λ b c. c ≡ fold (saying cut) b said)
   pub known : (k : ℕ) → k + 1 ≡ length e.heard → AreKnown k said × (known_behind k said + 1 ≡ length f.heard)
 
 -- why no more messages were taken
@@ -55,7 +50,7 @@ IsAnsweredBy fared.Failed said rest = IsBroken (λ f. (serial : ℕ) × (octets 
 IsAnsweredBy fared.Refused said rest = IsBroken (λ f. f ≡ refused) said
 
 -- all whole messages at the front of octets were taken
-pub record IsAnswered (w n n' : ℕ) (peer : Peer) (octets rest : List ℕ) (result : Fared) (e f : Eyes Version) (p q : Wire) : Type 0 where
+pub record IsAnswered (w n n' : ℕ) (peer : Peer) (octets rest : List ℕ) (result : Fared) (e f : Eyes Version) (p q : DeviceState StreamsTold) : Type 0 where
   pub first : ℕ
   pub first_is : first + 1 ≡ length e.heard
   pub said : List Said
@@ -66,7 +61,7 @@ pub record IsAnswered (w n n' : ℕ) (peer : Peer) (octets rest : List ℕ) (res
   pub by : IsAnsweredBy result said rest
 
 -- so far
-pub record AreSoFar (w n n' : ℕ) (peer : Peer) (octets rest : List ℕ) (e f : Eyes Version) (p q : Wire) : Type 0 where
+pub record AreSoFar (w n n' : ℕ) (peer : Peer) (octets rest : List ℕ) (e f : Eyes Version) (p q : DeviceState StreamsTold) : Type 0 where
   pub said : List Said
   pub are_said : (cut : ℕ) → AreSaid w n n' peer said cut e f p q
   pub parts : octets ≡ flat_map (λ x. framed x.octets) said ++ rest
@@ -86,34 +81,34 @@ IsStepOf step.PortFailed t = ((AreWell t.said × (fails_of (lane_came t.came) �
 IsStepOf step.Refused t = IsBroken (λ f. f ≡ refused) t.said × (is_calm (lane_came t.came) ≡ true) × (fails_of (lane_came t.came) ≡ 0)
 
 -- what an answer of accept or read without a piece does
-pub record IsPlain (known : ℕ) (l l' : TalkState) (s : Step) (p q : Wire) : Type 0 where
+pub record IsPlain (known : ℕ) (l l' : TalkState) (s : Step) (p q : DeviceState StreamsTold) : Type 0 where
   pub came : StreamCame
   pub closes : Bool
-  pub told : BothTell p.told q.told (λ b c. c ≡ closing_if closes (stream_after known came b))
+  pub told : BothTell p.past q.past (λ b c. c ≡ closing_if closes (stream_after known came b))
   pub faults : raised p.faults (fails_of (lane_came came)) ≤ q.faults
   pub stays : fails_of (lane_came came) ≡ 0 → q.faults ≡ p.faults
   pub ruled : IsRuled came l (plain known came l.peer closes) l'
   pub step : IsStepOf s (plain known came l.peer closes)
 
 -- what the messages of a piece do, behind its read
-pub record IsPieceTaken (w n n' : ℕ) (octets : List ℕ) (l l' : TalkState) (s : Step) (e f : Eyes Version) (p q : Wire) : Type 0 where
+pub record IsPieceTaken (w n n' : ℕ) (octets : List ℕ) (l l' : TalkState) (s : Step) (e f : Eyes Version) (p q : DeviceState StreamsTold) : Type 0 where
   pub t : StreamTurn
   pub came : t.came ≡ got octets
   pub known_is : t.known + 1 ≡ length e.heard
   pub session : AreTurns stream_replies w (map (turn_of t.peer) t.said) (inner e n p.faults) (inner f n' q.faults)
-  pub told : BothTell p.told q.told (λ b c. c ≡ closing_if t.closes (fold (saying t.cut) b t.said))
+  pub told : BothTell p.past q.past (λ b c. c ≡ closing_if t.closes (fold (saying t.cut) b t.said))
   pub piece : IsPiece octets l t l'
   pub step : IsStepOf s t
 
 -- what an answer of accept or read and the messages behind it do
-pub record IsTaken (w n n' : ℕ) (l l' : TalkState) (s : Step) (e f : Eyes Version) (p q : Wire) : Type 0 where
+pub record IsTaken (w n n' : ℕ) (l l' : TalkState) (s : Step) (e f : Eyes Version) (p q : DeviceState StreamsTold) : Type 0 where
   pub t : StreamTurn
   pub known_is : t.known + 1 ≡ length e.heard
   pub middle : ℕ
   pub faults : raised p.faults (fails_of (lane_came t.came)) ≤ middle
   pub stays : fails_of (lane_came t.came) ≡ 0 → middle ≡ p.faults
   pub session : AreTurns stream_replies w (map (turn_of t.peer) t.said) (inner e n middle) (inner f n' q.faults)
-  pub told : BothTell p.told q.told (λ b c. c ≡ stream_turn b t)
+  pub told : BothTell p.past q.past (λ b c. c ≡ stream_turn b t)
   pub ruled : IsRuled t.came l t l'
   pub step : IsStepOf s t
 
