@@ -5,7 +5,7 @@ use Rattle.std.specs.List.{list_any, range_with_len}
 use Rattle.std.proofs.lemmas.List.{length-map}
 use mathlib.Core.List.{IsPrefix}
 use Rattle.atomic_table.specs.Seated.{TableId}
-use Rattle.outside.specs.Faults.{Rose}
+use Rattle.outside.specs.Faults.{DeviceState, Rose}
 use Rattle.outside.specs.Source.{Fed}
 use Rattle.topology_text.specs.Plan.{Plan}
 use Rattle.demand_feed.specs.declared.run.FeedEnd.{FeedEnd}
@@ -43,11 +43,11 @@ AreBegun taken [] = Unit {0}
 AreBegun taken (g ∷ gs) = (IsPrefix (sent_by g.feeder taken) g.sent × EndsLast g.sent) × AreBegun taken gs
 
 -- how feeds were read
-abbrev pub Reads : {T : Type 0} → Plan → ℕ → (T → Option Fed) → (T → ℕ) → T → T → FeederState → FeederState → Type 0
-Reads t turns fed faults x y f g = IsRead t turns (fed x) (fed y) (faults x) (faults y) f g
+abbrev pub Reads : {T : Type 0} → Plan → ℕ → (T → DeviceState Fed) → T → T → FeederState → FeederState → Type 0
+Reads t turns told x y f g = IsRead t turns (told x).past (told y).past (told x).faults (told y).faults f g
 
-abbrev pub tells : {T : Type 0} → (T → Option Fed) → (T → ℕ) → List T → List FeedTold
-tells fed faults xs = map (feed_told fed faults) xs
+abbrev pub tells : {T : Type 0} → (T → DeviceState Fed) → List T → List FeedTold
+tells told xs = map (feed_told told) xs
 
 -- a feed that was given up: nothing was read of it, and its feeder sent this end alone
 pub given_up : (t : Plan) (turns : ℕ) (fed : Option Fed) (faults : ℕ) (f g : FeederState) → f.sent ≡ [] → g ≡ with_item f (what.End ends.NoMemory) → IsRead t turns fed fed faults faults f g
@@ -74,13 +74,13 @@ pub fresh_all : (queue : TableId) (k n : ℕ) → All (λ (f : FeederState). f.s
 fresh_all queue k zero = λ i d l. absurd (omega (arith, l))
 fresh_all queue k (suc n) = all_cons (λ (f : FeederState). f.sent ≡ []) (fresh_feeder queue k) (map (fresh_feeder queue) (range_with_len (k + 1) n)) refl (fresh_all queue (k + 1) n)
 
-module _ {T : Type 0} (t : Plan) (turns : ℕ) (fed : T → Option Fed) (faults : T → ℕ) where
+module _ {T : Type 0} (t : Plan) (turns : ℕ) (told : T → DeviceState Fed) where
   -- each has its number
-  pub numbered : (queue : TableId) (k n : ℕ) (xs ys : List T) (fs gs : List FeederState) → fs ≡ map (fresh_feeder queue) (range_with_len k n) → AllRan (Reads t turns fed faults) xs ys fs gs → AreNumbered k gs
+  pub numbered : (queue : TableId) (k n : ℕ) (xs ys : List T) (fs gs : List FeederState) → fs ≡ map (fresh_feeder queue) (range_with_len k n) → AllRan (Reads t turns told) xs ys fs gs → AreNumbered k gs
   numbered queue k zero xs ys [] [] e r = tt
   numbered queue k zero xs ys [] (g ∷ gs) e r = none xs ys r
     where
-      none : (xs ys : List T) → AllRan (Reads t turns fed faults) xs ys [] (g ∷ gs) → AreNumbered k (g ∷ gs)
+      none : (xs ys : List T) → AllRan (Reads t turns told) xs ys [] (g ∷ gs) → AreNumbered k (g ∷ gs)
       none [] [] r = absurd r
       none [] (y ∷ ys) r = absurd r
       none (x ∷ xs) [] r = absurd r
@@ -97,7 +97,7 @@ module _ {T : Type 0} (t : Plan) (turns : ℕ) (fed : T → Option Fed) (faults 
       (r.0.same.1 ∙ ap (λ (s : FeederState). s.feeder) first, numbered queue (k + 1) n xs ys fs gs rest r.1)
 
   -- they are of one queue
-  pub queues : (queue : TableId) (k n : ℕ) (xs ys : List T) (fs gs : List FeederState) → fs ≡ map (fresh_feeder queue) (range_with_len k n) → AllRan (Reads t turns fed faults) xs ys fs gs → All (λ (g : FeederState). g.queue ≡ queue) gs
+  pub queues : (queue : TableId) (k n : ℕ) (xs ys : List T) (fs gs : List FeederState) → fs ≡ map (fresh_feeder queue) (range_with_len k n) → AllRan (Reads t turns told) xs ys fs gs → All (λ (g : FeederState). g.queue ≡ queue) gs
   queues queue k n xs ys [] [] e r = λ i d l. absurd (omega (arith, l))
   queues queue k n [] [] [] (g ∷ gs) e r = absurd r
   queues queue k n [] (y ∷ ys) [] (g ∷ gs) e r = absurd r
@@ -114,7 +114,7 @@ module _ {T : Type 0} (t : Plan) (turns : ℕ) (fed : T → Option Fed) (faults 
       all_cons (λ (x : FeederState). x.queue ≡ queue) g gs (r.0.same.0 ∙ ap (λ (s : FeederState). s.queue) first) (queues queue (k + 1) n xs ys fs gs rest r.1)
 
   -- what each sent is told of it by its number
-  pub all_sent : (k : ℕ) (sent : ℕ → List What) (xs ys : List T) (fs gs : List FeederState) → ((i : ℕ) → sent (k + i) ≡ sent_at gs i) → AllRan (Reads t turns fed faults) xs ys fs gs → AreSent t turns k sent (tells fed faults xs) (tells fed faults ys)
+  pub all_sent : (k : ℕ) (sent : ℕ → List What) (xs ys : List T) (fs gs : List FeederState) → ((i : ℕ) → sent (k + i) ≡ sent_at gs i) → AllRan (Reads t turns told) xs ys fs gs → AreSent t turns k sent (tells told xs) (tells told ys)
   all_sent k sent [] [] [] [] same r = tt
   all_sent k sent [] [] [] (g ∷ gs) same r = absurd r
   all_sent k sent [] [] (f ∷ fs) gs same r = absurd r
@@ -125,12 +125,12 @@ module _ {T : Type 0} (t : Plan) (turns : ℕ) (fed : T → Option Fed) (faults 
   all_sent k sent (x ∷ xs) (y ∷ ys) (f ∷ fs) (g ∷ gs) same r =
       let here : k ≡ k + 0 = omega arith in
       let first : sent k ≡ g.sent = ap sent here ∙ same 0 in (
-        subst (λ (ws : List What). HasSent t turns (fed x) (fed y) ws) (sym first) r.0.sent,
+        subst (λ (ws : List What). HasSent t turns (told x).past (told y).past ws) (sym first) r.0.sent,
         all_sent (k + 1) sent xs ys fs gs (λ i. let n : k + 1 + i ≡ k + suc i = omega arith in ap sent n ∙ same (suc i)) r.1,
       )
 
   -- of each a beginning was taken
-  pub all_begun : (taken : List Item) (xs ys : List T) (fs gs : List FeederState) → All (λ (g : FeederState). IsPrefix (sent_by g.feeder taken) g.sent) gs → AllRan (Reads t turns fed faults) xs ys fs gs → AreBegun taken gs
+  pub all_begun : (taken : List Item) (xs ys : List T) (fs gs : List FeederState) → All (λ (g : FeederState). IsPrefix (sent_by g.feeder taken) g.sent) gs → AllRan (Reads t turns told) xs ys fs gs → AreBegun taken gs
   all_begun taken [] [] [] [] begun r = tt
   all_begun taken [] [] [] (g ∷ gs) begun r = absurd r
   all_begun taken [] [] (f ∷ fs) gs begun r = absurd r
@@ -139,10 +139,10 @@ module _ {T : Type 0} (t : Plan) (turns : ℕ) (fed : T → Option Fed) (faults 
   all_begun taken (x ∷ xs) (y ∷ ys) [] gs begun r = absurd r
   all_begun taken (x ∷ xs) (y ∷ ys) (f ∷ fs) [] begun r = absurd r
   all_begun taken (x ∷ xs) (y ∷ ys) (f ∷ fs) (g ∷ gs) begun r =
-      ((begun 0 g (omega arith), runs_end_last t turns (fed x) (fed y) g.sent r.0.sent), all_begun taken xs ys fs gs (λ k d l. begun (suc k) d (omega (arith, l))) r.1)
+      ((begun 0 g (omega arith), runs_end_last t turns (told x).past (told y).past g.sent r.0.sent), all_begun taken xs ys fs gs (λ k d l. begun (suc k) d (omega (arith, l))) r.1)
 
   -- no count fell
-  pub none_fell : (xs ys : List T) (fs gs : List FeederState) → AllRan (Reads t turns fed faults) xs ys fs gs → NoneFell (tells fed faults xs) (tells fed faults ys)
+  pub none_fell : (xs ys : List T) (fs gs : List FeederState) → AllRan (Reads t turns told) xs ys fs gs → NoneFell (tells told xs) (tells told ys)
   none_fell [] [] fs gs r = refl
   none_fell [] (y ∷ ys) fs gs r = absurd r
   none_fell (x ∷ xs) [] fs gs r = absurd r
@@ -151,7 +151,7 @@ module _ {T : Type 0} (t : Plan) (turns : ℕ) (fed : T → Option Fed) (faults 
   none_fell (x ∷ xs) (y ∷ ys) (f ∷ fs) (g ∷ gs) r = (r.0.later, none_fell xs ys fs gs r.1)
 
   -- each end that is a fault of its source is tied to its own count
-  pub all_tied : (k : ℕ) (sent : ℕ → List What) (xs ys : List T) (fs gs : List FeederState) → ((i : ℕ) → sent (k + i) ≡ sent_at gs i) → AllRan (Reads t turns fed faults) xs ys fs gs → AreTied k sent (tells fed faults xs) (tells fed faults ys)
+  pub all_tied : (k : ℕ) (sent : ℕ → List What) (xs ys : List T) (fs gs : List FeederState) → ((i : ℕ) → sent (k + i) ≡ sent_at gs i) → AllRan (Reads t turns told) xs ys fs gs → AreTied k sent (tells told xs) (tells told ys)
   all_tied k sent [] [] fs gs same r = refl
   all_tied k sent [] (y ∷ ys) fs gs same r = absurd r
   all_tied k sent (x ∷ xs) [] fs gs same r = absurd r
@@ -168,7 +168,7 @@ module _ {T : Type 0} (t : Plan) (turns : ℕ) (fed : T → Option Fed) (faults 
       )
 
   -- each feed has its feeder
-  pub lengths : (xs ys : List T) (fs gs : List FeederState) → AllRan (Reads t turns fed faults) xs ys fs gs → length gs ≡ length xs
+  pub lengths : (xs ys : List T) (fs gs : List FeederState) → AllRan (Reads t turns told) xs ys fs gs → length gs ≡ length xs
   lengths [] [] [] [] r = refl
   lengths [] [] [] (g ∷ gs) r = absurd r
   lengths [] [] (f ∷ fs) gs r = absurd r
@@ -179,7 +179,7 @@ module _ {T : Type 0} (t : Plan) (turns : ℕ) (fed : T → Option Fed) (faults 
   lengths (x ∷ xs) (y ∷ ys) (f ∷ fs) (g ∷ gs) r = ap suc (lengths xs ys fs gs r.1)
 
   -- a feed whose feeder's end was a fault of its source
-  pub any_rose : (xs ys : List T) (fs gs : List FeederState) (k : ℕ) → EndsWith (sent_at gs k) ends.SourceFault → AllRan (Reads t turns fed faults) xs ys fs gs → AnyRose (tells fed faults xs) (tells fed faults ys)
+  pub any_rose : (xs ys : List T) (fs gs : List FeederState) (k : ℕ) → EndsWith (sent_at gs k) ends.SourceFault → AllRan (Reads t turns told) xs ys fs gs → AnyRose (tells told xs) (tells told ys)
   any_rose [] [] [] [] k e r = absurd (nothing e.0 e.1)
     where
       nothing : (ahead : List What) → [] ≡ ahead ++ what.End ends.SourceFault ∷ [] → ⊥
@@ -195,14 +195,14 @@ module _ {T : Type 0} (t : Plan) (turns : ℕ) (fed : T → Option Fed) (faults 
   any_rose (x ∷ xs) (y ∷ ys) (f ∷ fs) (g ∷ gs) (suc k) e r = inr (any_rose xs ys fs gs k e r.1)
 
   -- none of them has ended so
-  pub all_stand : (xs ys : List T) (fs gs : List FeederState) → ((k : ℕ) → ¬ EndsWith (sent_at gs k) ends.SourceFault) → AllRan (Reads t turns fed faults) xs ys fs gs → AllStand (tells fed faults xs) (tells fed faults ys)
+  pub all_stand : (xs ys : List T) (fs gs : List FeederState) → ((k : ℕ) → ¬ EndsWith (sent_at gs k) ends.SourceFault) → AllRan (Reads t turns told) xs ys fs gs → AllStand (tells told xs) (tells told ys)
   all_stand [] [] fs gs none r = refl
   all_stand [] (y ∷ ys) fs gs none r = absurd r
   all_stand (x ∷ xs) [] fs gs none r = absurd r
   all_stand (x ∷ xs) (y ∷ ys) [] gs none r = absurd r
   all_stand (x ∷ xs) (y ∷ ys) (f ∷ fs) [] none r = absurd r
   all_stand (x ∷ xs) (y ∷ ys) (f ∷ fs) (g ∷ gs) none r =
-      let first : faults y ≡ faults x = r.0.stays (none 0) in
+      let first : (told y).faults ≡ (told x).faults = r.0.stays (none 0) in
       let rest = all_stand xs ys fs gs (λ k. none (suc k)) r.1 in
       cc (first, rest)
 
@@ -364,48 +364,48 @@ none_at items gs end start stop w (inl first) is put k e = go (cases_lt k (lengt
     go (inr past) = true≢false (sym has ∙ ap has_fault (past_is gs k past))
 
 -- the first feed and further ones, each with its feeder
-module _ {T : Type 0} (t : Plan) (turns : ℕ) (fed : T → Option Fed) (faults : T → ℕ) (groups nodes : ℕ) (queue : TableId) (a b : Option Fed) (i j : ℕ) (f g : FeederState) (xs ys : List T) (fs gs : List FeederState) (taken : List Item)
-    (first : IsRead t turns a b i j f g) (first_is : f ≡ fresh_feeder queue 0) (read : AllRan (Reads t turns fed faults) xs ys fs gs) (fresh : fs ≡ map (fresh_feeder queue) (range_with_len 1 (length xs)))
+module _ {T : Type 0} (t : Plan) (turns : ℕ) (told : T → DeviceState Fed) (groups nodes : ℕ) (queue : TableId) (a b : Option Fed) (i j : ℕ) (f g : FeederState) (xs ys : List T) (fs gs : List FeederState) (taken : List Item)
+    (first : IsRead t turns a b i j f g) (first_is : f ≡ fresh_feeder queue 0) (read : AllRan (Reads t turns told) xs ys fs gs) (fresh : fs ≡ map (fresh_feeder queue) (range_with_len 1 (length xs)))
     (are : AreTaken groups nodes (1 + length xs) taken) (began : IsPrefix (sent_by g.feeder taken) g.sent) (begun : All (λ (x : FeederState). IsPrefix (sent_by x.feeder taken) x.sent) gs) (ended : ends_in taken ≡ 1 + length xs) where
   size : length (g ∷ gs) ≡ 1 + length xs
-  size = let n = lengths t turns fed faults xs ys fs gs read in omega (arith, n)
+  size = let n = lengths t turns told xs ys fs gs read in omega (arith, n)
 
   pub all_of : AreWhole taken (g ∷ gs)
   all_of =
       let zero_is : g.feeder ≡ 0 = first.same.1 ∙ ap (λ (s : FeederState). s.feeder) first_is in
-      whole_of groups nodes taken (g ∷ gs) (subst (λ (n : ℕ). AreTaken groups nodes n taken) (sym size) are) (zero_is, numbered t turns fed faults queue 1 (length xs) xs ys fs gs fresh read)
-      ((began, runs_end_last t turns a b g.sent first.sent), all_begun t turns fed faults taken xs ys fs gs begun read) (ended ∙ sym size)
+      whole_of groups nodes taken (g ∷ gs) (subst (λ (n : ℕ). AreTaken groups nodes n taken) (sym size) are) (zero_is, numbered t turns told queue 1 (length xs) xs ys fs gs fresh read)
+      ((began, runs_end_last t turns a b g.sent first.sent), all_begun t turns told taken xs ys fs gs begun read) (ended ∙ sym size)
 
   pub together : (end : FeedEnd) (start stop : Scene) → AreFeeds (1 + length xs) end taken start stop → (end ≢ ends.SinkFault → HasMerged taken start stop)
-      → AreFedTogether t turns end (record { fed = a; faults = i }) (record { fed = b; faults = j }) (tells fed faults xs) (tells fed faults ys) start stop
+      → AreFedTogether t turns end (record { fed = a; faults = i }) (record { fed = b; faults = j }) (tells told xs) (tells told ys) start stop
   together end start stop run merged =
       let w = all_of in
-      let told : length (tells fed faults xs) ≡ length xs = length-map _ _ in
-      let count : 1 + length xs ≡ suc (length (tells fed faults xs)) = omega (arith, told) in record {
+      let tellers : length (tells told xs) ≡ length xs = length-map _ _ in
+      let count : 1 + length xs ≡ suc (length (tells told xs)) = omega (arith, tellers) in record {
         sent = sent_at (g ∷ gs);
         items = taken;
-        feeds = (first.sent, all_sent t turns fed faults 1 (sent_at (g ∷ gs)) xs ys fs gs (λ k. let n : 1 + k ≡ suc k = omega arith in ap (sent_at (g ∷ gs)) n) read);
-        tied = (record { rose = first.source; stays = first.stays }, all_tied t turns fed faults 1 (sent_at (g ∷ gs)) xs ys fs gs (λ k. let n : 1 + k ≡ suc k = omega arith in ap (sent_at (g ∷ gs)) n) read);
+        feeds = (first.sent, all_sent t turns told 1 (sent_at (g ∷ gs)) xs ys fs gs (λ k. let n : 1 + k ≡ suc k = omega arith in ap (sent_at (g ∷ gs)) n) read);
+        tied = (record { rose = first.source; stays = first.stays }, all_tied t turns told 1 (sent_at (g ∷ gs)) xs ys fs gs (λ k. let n : 1 + k ≡ suc k = omega arith in ap (sent_at (g ∷ gs)) n) read);
         run = subst (λ (n : ℕ). AreFeeds n end taken start stop) count run;
         merged = merged;
         whole = λ k l. w.whole k (omega (arith, l, count, size));
         others = λ k l. w.others k (omega (arith, l, count, size));
       }
 
-  pub source_rose : (end : FeedEnd) (start stop : Scene) → AreFeeds (1 + length xs) end taken start stop → end ≡ ends.SourceFault → Rose i j ⊎ AnyRose (tells fed faults xs) (tells fed faults ys)
+  pub source_rose : (end : FeedEnd) (start stop : Scene) → AreFeeds (1 + length xs) end taken start stop → end ≡ ends.SourceFault → Rose i j ⊎ AnyRose (tells told xs) (tells told ys)
   source_rose end start stop run is = go k.0 k.2
     where
       k : (k : ℕ) × (k < length (g ∷ gs)) × EndsWith (sent_at (g ∷ gs) k) ends.SourceFault
       k = fault_at taken (g ∷ gs) end start (record stop { pace = run.calls }) all_of run.ended is
 
-      go : (k : ℕ) → EndsWith (sent_at (g ∷ gs) k) ends.SourceFault → Rose i j ⊎ AnyRose (tells fed faults xs) (tells fed faults ys)
+      go : (k : ℕ) → EndsWith (sent_at (g ∷ gs) k) ends.SourceFault → Rose i j ⊎ AnyRose (tells told xs) (tells told ys)
       go zero e = inl (first.source e)
-      go (suc k) e = inr (any_rose t turns fed faults xs ys fs gs k e read)
+      go (suc k) e = inr (any_rose t turns told xs ys fs gs k e read)
 
-  pub sources_stand : (end : FeedEnd) (start stop : Scene) → AreFeeds (1 + length xs) end taken start stop → end ≢ ends.SourceFault → end ≢ ends.SinkFault → (j ≡ i) × AllStand (tells fed faults xs) (tells fed faults ys)
+  pub sources_stand : (end : FeedEnd) (start stop : Scene) → AreFeeds (1 + length xs) end taken start stop → end ≢ ends.SourceFault → end ≢ ends.SinkFault → (j ≡ i) × AllStand (tells told xs) (tells told ys)
   sources_stand end start stop run is put =
       let none = none_at taken (g ∷ gs) end start (record stop { pace = run.calls }) all_of run.ended is put in
-      (first.stays (none 0), all_stand t turns fed faults xs ys fs gs (λ k. none (suc k)) read)
+      (first.stays (none 0), all_stand t turns told xs ys fs gs (λ k. none (suc k)) read)
 
 -- one feed more than none
 pub are_fed : (t : Plan) (turns : ℕ) (end : FeedEnd) (feed feed_after : FeedTold) (more more_after : List FeedTold) (start stop : Scene) → more ≢ []
@@ -436,21 +436,21 @@ pub record AreRun (t : Plan) (turns : ℕ) (end : FeedEnd) (a b : Option Fed) (i
   pub later : (i ≤ j) × NoneFell before after
 
 -- from what was lent ahead of it, and what was told by who took all and was given the feeders back
-pub several : {T : Type 0} (t p : Plan) (turns : ℕ) (fed : T → Option Fed) (faults : T → ℕ) (groups nodes : ℕ) (a b : Option Fed) (i j : ℕ) (f g : FeederState) (xs ys : List T) (fs gs : List FeederState) (opened given now : TakerState) (end : FeedEnd) (start stop : Scene)
+pub several : {T : Type 0} (t p : Plan) (turns : ℕ) (told : T → DeviceState Fed) (groups nodes : ℕ) (a b : Option Fed) (i j : ℕ) (f g : FeederState) (xs ys : List T) (fs gs : List FeederState) (opened given now : TakerState) (end : FeedEnd) (start stop : Scene)
     → t ≡ p → given ≡ now → now.feeders ≡ opened.feeders → opened.feeders ≡ 1 + length xs → f ≡ fresh_feeder opened.queue 0 → fs ≡ map (fresh_feeder opened.queue) (range_with_len 1 (length xs))
-    → IsRead t turns a b i j f g → AllRan (Reads t turns fed faults) xs ys fs gs → AreTaken groups nodes given.feeders given.taken → Begins given.taken g → All (Begins given.taken) gs
-    → AreFeeds opened.feeders end now.taken start stop → (end ≢ ends.SinkFault → HasMerged now.taken start stop) → AreRun p turns end a b i j (tells fed faults xs) (tells fed faults ys) start stop
-several {T = T} t p turns fed faults groups nodes a b i j f g xs ys fs gs opened given now end start stop plan same count size first_is fresh first read are began begun run merged =
+    → IsRead t turns a b i j f g → AllRan (Reads t turns told) xs ys fs gs → AreTaken groups nodes given.feeders given.taken → Begins given.taken g → All (Begins given.taken) gs
+    → AreFeeds opened.feeders end now.taken start stop → (end ≢ ends.SinkFault → HasMerged now.taken start stop) → AreRun p turns end a b i j (tells told xs) (tells told ys) start stop
+several {T = T} t p turns told groups nodes a b i j f g xs ys fs gs opened given now end start stop plan same count size first_is fresh first read are began begun run merged =
     let are' : AreTaken groups nodes (1 + length xs) now.taken = subst (λ (n : ℕ). AreTaken groups nodes n now.taken) (count ∙ size) (subst (λ (x : TakerState). AreTaken groups nodes x.feeders x.taken) same are) in
     let began' : IsPrefix (sent_by g.feeder now.taken) g.sent = subst (λ (x : TakerState). Begins x.taken g) same began in
     let begun' : All (λ (x : FeederState). IsPrefix (sent_by x.feeder now.taken) x.sent) gs = subst (λ (x : TakerState). All (Begins x.taken) gs) same begun in
     let run' : AreFeeds (1 + length xs) end now.taken start stop = subst (λ (n : ℕ). AreFeeds n end now.taken start stop) size run in
-    let all = together t turns fed faults groups nodes opened.queue a b i j f g xs ys fs gs now.taken first first_is read fresh are' began' begun' run'.all end start stop run' merged in
-    let all' = subst (λ (x : Plan). AreFedTogether x turns end (record { fed = a; faults = i }) (record { fed = b; faults = j }) (tells fed faults xs) (tells fed faults ys) start stop) plan all in record {
+    let all = together t turns told groups nodes opened.queue a b i j f g xs ys fs gs now.taken first first_is read fresh are' began' begun' run'.all end start stop run' merged in
+    let all' = subst (λ (x : Plan). AreFedTogether x turns end (record { fed = a; faults = i }) (record { fed = b; faults = j }) (tells told xs) (tells told ys) start stop) plan all in record {
       fed = all';
-      source = source_rose t turns fed faults groups nodes opened.queue a b i j f g xs ys fs gs now.taken first first_is read fresh are' began' begun' run'.all end start stop run';
-      stays = sources_stand t turns fed faults groups nodes opened.queue a b i j f g xs ys fs gs now.taken first first_is read fresh are' began' begun' run'.all end start stop run';
-      later = (first.later, none_fell t turns fed faults xs ys fs gs read);
+      source = source_rose t turns told groups nodes opened.queue a b i j f g xs ys fs gs now.taken first first_is read fresh are' began' begun' run'.all end start stop run';
+      stays = sources_stand t turns told groups nodes opened.queue a b i j f g xs ys fs gs now.taken first first_is read fresh are' began' begun' run'.all end start stop run';
+      later = (first.later, none_fell t turns told xs ys fs gs read);
     }
 
 -- as many are told of as there are

@@ -53,7 +53,7 @@ turned w step.Refused m m' t q e = (t, q, e)
 
 pub turn_of : (w w1 n1 shown : ℕ) (s : Step) (e1 : Eyes Version) (m m' : Moment Version) → shown + 1 ≡ length m.eyes.heard → BothTell m.gate m'.gate (IsTurning shown Go) → m.gate_faults ≤ m'.gate_faults
     → ((serials : List ℕ) × BothTell m.notes m'.notes (IsGiven serials) × All (λ x. x < length e1.heard) serials) → IsRise m.eyes e1 → e1.looks ≡ m.eyes.looks → e1.faults ≡ m.eyes.faults → w1 ≡ w → n1 ≡ m.count
-    → IsTaken w1 n1 m'.count s e1 m'.eyes (record { told = m.port; faults = m.port_faults }) (record { told = m'.port; faults = m'.port_faults }) → IsTurned w s m m'
+    → IsTaken w1 n1 m'.count s e1 m'.eyes (record { past = m.port; faults = m.port_faults }) (record { past = m'.port; faults = m'.port_faults }) → IsTurned w s m m'
 turn_of w w1 n1 shown s e1 m m' is gate gl given rise looks faults same count q =
     let r = q.received in
     let longer = prefix_length m.eyes.heard e1.heard rise.heard in
