@@ -1,11 +1,11 @@
 -- The loads of one file after another.
 use Rattle.std.proofs.Common.{◌≡◌, ◌≢◌, ◌≤◌, ℕ, zero, suc, List, [], ◌∷◌, ◌++◌, take, Option, None, Some, Result, Ok, Err, option_map, refl, ap, sym, subst, ◌∙◌, append_assoc, inl, inr, arith}
-use Rattle.outside.specs.Faults.{BothTell, Rose}
+use Rattle.outside.specs.Faults.{BothTell, DeviceState, Rose}
 use Rattle.outside.specs.Shelf.{Load, Shelved}
 use Rattle.demand_feed.proofs.Tellings.{tell_trans}
 use Rattle.glb.specs.Outcome.{AreLoaded, AreLoadsOf, Outcome}
 use Rattle.glb.specs.Files.{IsRefused, Kind, Reads, Says, said, load_of, loads_behind, loads_from, only, refused, with_text}
-use Rattle.glb.specs.Ending.{EndsBy, IsEnd, IsReading, IsRefusedBy, ShelfAt, StopsBy, outcome_of}
+use Rattle.glb.specs.Ending.{EndsBy, IsEnd, IsReading, IsRefusedBy, StopsBy, outcome_of}
 use Rattle.glb.specs.declared.ending.Report.{Report}
 use Rattle.glb.specs.declared.ending.Stop.{Stop}
 use Rattle.glb.specs.declared.ending.Stop.TheVariants as stop
@@ -120,29 +120,29 @@ read_well : {X : Type 0} (x : X) (read : Result X Stop) → read ≡ Ok x → re
 read_well x read one two = cc
 
 -- the only file of a command is refused, or could not be loaded
-pub stopped_only : {X T : Type 0} (kind : Kind T) (see : X → T) (name : List ℕ) (Next : T → Outcome → Type 0) (before after : ShelfAt) (s : Stop) (e : Result Report Stop)
-    → IsReading kind see name before after (Err s) → Err s ≡ e → IsEnd (only kind name) (Reads kind before.told name Next) before after e
+pub stopped_only : {X T : Type 0} (kind : Kind T) (see : X → T) (name : List ℕ) (Next : T → Outcome → Type 0) (before after : DeviceState Shelved) (s : Stop) (e : Result Report Stop)
+    → IsReading kind see name before after (Err s) → Err s ≡ e → IsEnd (only kind name) (Reads kind before.past name Next) before after e
 stopped_only kind see name Next before after s e r is =
-    subst (λ (e : Result Report Stop). IsEnd (only kind name) (Reads kind before.told name Next) before after e) is
+    subst (λ (e : Result Report Stop). IsEnd (only kind name) (Reads kind before.past name Next) before after e) is
     (record {
       noted = r.noted;
       loaded = r.loaded;
-      due = stops_weaker (IsRefused kind before.told name) (Reads kind before.told name Next) s (λ due h. inl h) r.said;
+      due = stops_weaker (IsRefused kind before.past name) (Reads kind before.past name Next) s (λ due h. inl h) r.said;
       later = r.later;
       cause = λ is. r.cause (source_of s (Err s) (Err s) refl refl is);
       stays = λ other. r.stays (λ is. other (source_of s (Err s) (Err s) refl refl is));
     })
 
 -- and so is a file on which others would have followed
-pub stopped : {X T : Type 0} (kind : Kind T) (see : X → T) (name : List ℕ) (next : T → (List ℕ → Option (List ℕ)) → List Load) (Next : T → Outcome → Type 0) (before after : ShelfAt) (s : Stop) (e : Result Report Stop)
-    → IsReading kind see name before after (Err s) → Err s ≡ e → IsEnd (loads_from kind name next) (Reads kind before.told name Next) before after e
+pub stopped : {X T : Type 0} (kind : Kind T) (see : X → T) (name : List ℕ) (next : T → (List ℕ → Option (List ℕ)) → List Load) (Next : T → Outcome → Type 0) (before after : DeviceState Shelved) (s : Stop) (e : Result Report Stop)
+    → IsReading kind see name before after (Err s) → Err s ≡ e → IsEnd (loads_from kind name next) (Reads kind before.past name Next) before after e
 stopped kind see name next Next before after s e r is =
     let end = stopped_only kind see name Next before after s (Err s) r refl in
-    subst (λ (e : Result Report Stop). IsEnd (loads_from kind name next) (Reads kind before.told name Next) before after e) is
+    subst (λ (e : Result Report Stop). IsEnd (loads_from kind name next) (Reads kind before.past name Next) before after e) is
     (record {
-      noted = noted_first kind name next before.told after.told r.noted;
-      loaded = stops_both (λ _. BothTell before.told after.told (AreLoaded (only kind name))) (IsRefused kind before.told name) (λ _. BothTell before.told after.told (AreLoaded (loads_from kind name next))) s
-          (λ due h refused. loaded_first kind name next before.told after.told due h refused) r.loaded r.said;
+      noted = noted_first kind name next before.past after.past r.noted;
+      loaded = stops_both (λ _. BothTell before.past after.past (AreLoaded (only kind name))) (IsRefused kind before.past name) (λ _. BothTell before.past after.past (AreLoaded (loads_from kind name next))) s
+          (λ due h refused. loaded_first kind name next before.past after.past due h refused) r.loaded r.said;
       due = end.due;
       later = end.later;
       cause = end.cause;
@@ -156,25 +156,25 @@ always_ends P (Err stop.SourceFault) h = tt
 always_ends P (Err stop.NoMemory) h = tt
 
 -- the end of a command behind its last file
-pub last_ends : {X T : Type 0} (kind : Kind T) (see : X → T) (name : List ℕ) (Next : T → Outcome → Type 0) (before after : ShelfAt) (x : X) (e : Result Report Stop) → IsReading kind see name before after (Ok x)
-    → EndsBy (Next (see x)) e → (e ≡ Err stop.SourceFault → ⊥) → IsEnd (only kind name) (Reads kind before.told name Next) before after e
+pub last_ends : {X T : Type 0} (kind : Kind T) (see : X → T) (name : List ℕ) (Next : T → Outcome → Type 0) (before after : DeviceState Shelved) (x : X) (e : Result Report Stop) → IsReading kind see name before after (Ok x)
+    → EndsBy (Next (see x)) e → (e ≡ Err stop.SourceFault → ⊥) → IsEnd (only kind name) (Reads kind before.past name Next) before after e
 last_ends kind see name Next before after x e r ends other = record {
   noted = r.noted;
-  loaded = always_ends (BothTell before.told after.told (AreLoaded (only kind name))) e r.loaded;
-  due = ends_weaker (Next (see x)) (Reads kind before.told name Next) e (λ due h. inr (see x, r.said, h)) ends;
+  loaded = always_ends (BothTell before.past after.past (AreLoaded (only kind name))) e r.loaded;
+  due = ends_weaker (Next (see x)) (Reads kind before.past name Next) e (λ due h. inr (see x, r.said, h)) ends;
   later = r.later;
   cause = λ is. absurd (other is);
   stays = λ _. r.stays (read_well x (Ok x) refl);
 }
 
 -- the end of a command behind a file on which others follow
-pub then_ends : {X T : Type 0} (kind : Kind T) (see : X → T) (name : List ℕ) (next : T → (List ℕ → Option (List ℕ)) → List Load) (Next Later : T → Outcome → Type 0) (before mid after : ShelfAt) (x : X) (e : Result Report Stop)
-    → IsReading kind see name before mid (Ok x) → ((due : Outcome) → Later (see x) due → Next (see x) due) → IsEnd (next (see x)) (Later (see x)) mid after e → IsEnd (loads_from kind name next) (Reads kind before.told name Next) before after e
+pub then_ends : {X T : Type 0} (kind : Kind T) (see : X → T) (name : List ℕ) (next : T → (List ℕ → Option (List ℕ)) → List Load) (Next Later : T → Outcome → Type 0) (before mid after : DeviceState Shelved) (x : X) (e : Result Report Stop)
+    → IsReading kind see name before mid (Ok x) → ((due : Outcome) → Later (see x) due → Next (see x) due) → IsEnd (next (see x)) (Later (see x)) mid after e → IsEnd (loads_from kind name next) (Reads kind before.past name Next) before after e
 then_ends kind see name next Next Later before mid after x e r back end = record {
-  noted = noted_then kind name next (see x) before.told mid.told after.told r.loaded r.said end.noted;
-  loaded = ends_weaker (λ _. BothTell mid.told after.told (AreLoaded (next (see x)))) (λ _. BothTell before.told after.told (AreLoaded (loads_from kind name next))) e
-      (λ due made. loaded_then kind name next (see x) before.told mid.told after.told r.loaded r.said made) end.loaded;
-  due = ends_weaker (Later (see x)) (Reads kind before.told name Next) e (λ due h. inr (see x, r.said, back due h)) end.due;
+  noted = noted_then kind name next (see x) before.past mid.past after.past r.loaded r.said end.noted;
+  loaded = ends_weaker (λ _. BothTell mid.past after.past (AreLoaded (next (see x)))) (λ _. BothTell before.past after.past (AreLoaded (loads_from kind name next))) e
+      (λ due made. loaded_then kind name next (see x) before.past mid.past after.past r.loaded r.said made) end.loaded;
+  due = ends_weaker (Later (see x)) (Reads kind before.past name Next) e (λ due h. inr (see x, r.said, back due h)) end.due;
   later = omega (arith, r.later, end.later);
   cause = λ is. rose_later before.faults mid.faults after.faults r.later (end.cause is);
   stays = λ other. end.stays other ∙ r.stays (read_well x (Ok x) refl);

@@ -6,7 +6,7 @@ use Rattle.std.proofs.lemmas.List.{length-replicate}
 use Rattle.no_memory.specs.declared.NoMemory.{NoMemory}
 use Rattle.map_model.specs.declared.change.Change.{Change}
 use Rattle.map_model.specs.declared.lines.MapLines.{MapLines}
-use Rattle.outside.specs.Faults.{BothTell}
+use Rattle.outside.specs.Faults.{BothTell, DeviceState}
 use Rattle.outside.specs.Shelf.{IsLoad, Load, Shelved}
 use Rattle.outside.specs.declared.shelf.LoadFault.TheVariants.{TooLong}
 use Rattle.topology_text.specs.Plan.{Plan}
@@ -14,7 +14,7 @@ use Rattle.map_text.specs.Reading.{Mapped}
 use Rattle.map_text.specs.Writing.{mapped}
 use Rattle.glb.specs.Outcome.{AreLoaded, Outcome}
 use Rattle.glb.specs.Files.{IsRefused, Kind, MayHold, Reads, Says, changes_file, loads_from, map_file, only, refused, said, topology_file}
-use Rattle.glb.specs.Ending.{AreBytes, EndsBy, IsEnd, IsReading, IsRefusedBy, IsTooLong, ShelfAt, StopsBy}
+use Rattle.glb.specs.Ending.{AreBytes, EndsBy, IsEnd, IsReading, IsRefusedBy, IsTooLong, StopsBy}
 use Rattle.glb.specs.declared.ending.Report.{Report}
 use Rattle.glb.specs.declared.ending.Stop.{Stop}
 use Rattle.glb.specs.declared.ending.Stop.TheVariants as stop
@@ -68,27 +68,27 @@ reads_before kind s t due made name Next o (inl r) = inl (r.0, r.1, held_before 
 reads_before kind s t due made name Next o (inr n) = inr (n.0, (n.1.0, held_before s t due made name n.1.0 n.1.1, n.1.2), n.2)
 
 -- what was read, by what the result was
-pub came : {X T : Type 0} {kind : Kind T} {see : X → T} {name : List ℕ} {before after : ShelfAt} {r s : Result X Stop} → r ≡ s → IsReading kind see name before after r → IsReading kind see name before after s
+pub came : {X T : Type 0} {kind : Kind T} {see : X → T} {name : List ℕ} {before after : DeviceState Shelved} {r s : Result X Stop} → r ≡ s → IsReading kind see name before after r → IsReading kind see name before after s
 came {kind = kind} {see = see} {name = name} {before = before} {after = after} is read = subst (IsReading kind see name before after) is read
 
 -- the end of a command that reads a topology and a map over it
-abbrev EndsOver : List ℕ → List ℕ → (Plan → Mapped → Outcome → Type 0) → ShelfAt → ShelfAt → Result Report Stop → Type 0
-EndsOver topology map Next before after e = IsEnd (loads_from topology_file topology (λ t. only (map_file t) map)) (Reads topology_file before.told topology (λ t. Reads (map_file t) before.told map (Next t))) before after e
+abbrev EndsOver : List ℕ → List ℕ → (Plan → Mapped → Outcome → Type 0) → DeviceState Shelved → DeviceState Shelved → Result Report Stop → Type 0
+EndsOver topology map Next before after e = IsEnd (loads_from topology_file topology (λ t. only (map_file t) map)) (Reads topology_file before.past topology (λ t. Reads (map_file t) before.past map (Next t))) before after e
 
 -- a topology was read, and then the command ended over it
-over_topology : (topology map : List ℕ) (Next : Plan → Mapped → Outcome → Type 0) (before mid after : ShelfAt) (t : Plan) (e : Result Report Stop) → IsReading topology_file (λ (t : Plan). t) topology before mid (Ok t)
-    → IsEnd (only (map_file t) map) (Reads (map_file t) mid.told map (Next t)) mid after e → EndsOver topology map Next before after e
+over_topology : (topology map : List ℕ) (Next : Plan → Mapped → Outcome → Type 0) (before mid after : DeviceState Shelved) (t : Plan) (e : Result Report Stop) → IsReading topology_file (λ (t : Plan). t) topology before mid (Ok t)
+    → IsEnd (only (map_file t) map) (Reads (map_file t) mid.past map (Next t)) mid after e → EndsOver topology map Next before after e
 over_topology topology map Next before mid after t e first =
-    then_ends topology_file (λ (t : Plan). t) topology (λ t. only (map_file t) map) (λ t. Reads (map_file t) before.told map (Next t)) (λ t. Reads (map_file t) mid.told map (Next t)) before mid after t e first
-    (reads_before (map_file t) before.told mid.told (only topology_file topology) first.loaded map (Next t))
+    then_ends topology_file (λ (t : Plan). t) topology (λ t. only (map_file t) map) (λ t. Reads (map_file t) before.past map (Next t)) (λ t. Reads (map_file t) mid.past map (Next t)) before mid after t e first
+    (reads_before (map_file t) before.past mid.past (only topology_file topology) first.loaded map (Next t))
 
 -- a topology was read, and a map over it is refused or could not be loaded
-pub stopped_behind : (topology map : List ℕ) (Next : Plan → Mapped → Outcome → Type 0) (before mid after : ShelfAt) (t : Plan) (s : Stop) (e : Result Report Stop)
+pub stopped_behind : (topology map : List ℕ) (Next : Plan → Mapped → Outcome → Type 0) (before mid after : DeviceState Shelved) (t : Plan) (s : Stop) (e : Result Report Stop)
     → IsReading topology_file (λ (t : Plan). t) topology before mid (Ok t) → IsReading (map_file t) mapped map mid after (Err s) → Err s ≡ e → EndsOver topology map Next before after e
 stopped_behind topology map Next before mid after t s e first second is = over_topology topology map Next before mid after t e first (stopped_only (map_file t) mapped map (Next t) mid after s e second is)
 
 -- a topology was read and a map over it, and the command ended by what they say
-pub behind_both : (topology map : List ℕ) (Next : Plan → Mapped → Outcome → Type 0) (before mid after : ShelfAt) (t : Plan) (m : MapLines) (e : Result Report Stop) → IsReading topology_file (λ (t : Plan). t) topology before mid (Ok t)
+pub behind_both : (topology map : List ℕ) (Next : Plan → Mapped → Outcome → Type 0) (before mid after : DeviceState Shelved) (t : Plan) (m : MapLines) (e : Result Report Stop) → IsReading topology_file (λ (t : Plan). t) topology before mid (Ok t)
     → IsReading (map_file t) mapped map mid after (Ok m) → EndsBy (Next t (mapped m)) e → (e ≡ Err stop.SourceFault → ⊥) → EndsOver topology map Next before after e
 behind_both topology map Next before mid after t m e first second ends other = over_topology topology map Next before mid after t e first (last_ends (map_file t) mapped map (Next t) mid after m e second ends other)
 
@@ -98,30 +98,30 @@ reads_weaker kind files name Next Later o follows (inl r) = inl r
 reads_weaker kind files name Next Later o follows (inr n) = inr (n.0, n.1, follows n.0 n.2)
 
 -- the end of a command that reads a topology, and a map and changes over it
-abbrev EndsOverAll : List ℕ → List ℕ → List ℕ → (Plan → Mapped → List Change → Outcome → Type 0) → ShelfAt → ShelfAt → Result Report Stop → Type 0
+abbrev EndsOverAll : List ℕ → List ℕ → List ℕ → (Plan → Mapped → List Change → Outcome → Type 0) → DeviceState Shelved → DeviceState Shelved → Result Report Stop → Type 0
 EndsOverAll topology map changes Next before after e =
-    IsEnd (loads_from topology_file topology (λ t. loads_from (map_file t) map (λ m. only (changes_file t) changes))) (Reads topology_file before.told topology (λ t. Reads (map_file t) before.told map (λ m. Reads (changes_file t) before.told changes (Next t m)))) before after e
+    IsEnd (loads_from topology_file topology (λ t. loads_from (map_file t) map (λ m. only (changes_file t) changes))) (Reads topology_file before.past topology (λ t. Reads (map_file t) before.past map (λ m. Reads (changes_file t) before.past changes (Next t m)))) before after e
 
 -- a topology was read, and then the command ended over it
-over_first : (topology map changes : List ℕ) (Next : Plan → Mapped → List Change → Outcome → Type 0) (before mid after : ShelfAt) (t : Plan) (e : Result Report Stop) → IsReading topology_file (λ (t : Plan). t) topology before mid (Ok t)
-    → IsEnd (loads_from (map_file t) map (λ m. only (changes_file t) changes)) (Reads (map_file t) mid.told map (λ m. Reads (changes_file t) mid.told changes (Next t m))) mid after e → EndsOverAll topology map changes Next before after e
+over_first : (topology map changes : List ℕ) (Next : Plan → Mapped → List Change → Outcome → Type 0) (before mid after : DeviceState Shelved) (t : Plan) (e : Result Report Stop) → IsReading topology_file (λ (t : Plan). t) topology before mid (Ok t)
+    → IsEnd (loads_from (map_file t) map (λ m. only (changes_file t) changes)) (Reads (map_file t) mid.past map (λ m. Reads (changes_file t) mid.past changes (Next t m))) mid after e → EndsOverAll topology map changes Next before after e
 over_first topology map changes Next before mid after t e first =
-    then_ends topology_file (λ (t : Plan). t) topology (λ t. loads_from (map_file t) map (λ m. only (changes_file t) changes)) (λ t. Reads (map_file t) before.told map (λ m. Reads (changes_file t) before.told changes (Next t m)))
-    (λ t. Reads (map_file t) mid.told map (λ m. Reads (changes_file t) mid.told changes (Next t m))) before mid after t e first
-    (λ due h. reads_before (map_file t) before.told mid.told (only topology_file topology) first.loaded map (λ m. Reads (changes_file t) before.told changes (Next t m)) due
-    (reads_weaker (map_file t) mid.told map (λ m. Reads (changes_file t) mid.told changes (Next t m)) (λ m. Reads (changes_file t) before.told changes (Next t m)) due
-    (λ m k. reads_before (changes_file t) before.told mid.told (only topology_file topology) first.loaded changes (Next t m) due k) h))
+    then_ends topology_file (λ (t : Plan). t) topology (λ t. loads_from (map_file t) map (λ m. only (changes_file t) changes)) (λ t. Reads (map_file t) before.past map (λ m. Reads (changes_file t) before.past changes (Next t m)))
+    (λ t. Reads (map_file t) mid.past map (λ m. Reads (changes_file t) mid.past changes (Next t m))) before mid after t e first
+    (λ due h. reads_before (map_file t) before.past mid.past (only topology_file topology) first.loaded map (λ m. Reads (changes_file t) before.past changes (Next t m)) due
+    (reads_weaker (map_file t) mid.past map (λ m. Reads (changes_file t) mid.past changes (Next t m)) (λ m. Reads (changes_file t) before.past changes (Next t m)) due
+    (λ m k. reads_before (changes_file t) before.past mid.past (only topology_file topology) first.loaded changes (Next t m) due k) h))
 
 -- a topology and a map were read, and the changes are refused or could not be loaded, or the command ended by what all three say
-pub behind_three : (topology map changes : List ℕ) (Next : Plan → Mapped → List Change → Outcome → Type 0) (before mid late after : ShelfAt) (t : Plan) (m : MapLines) (e : Result Report Stop)
+pub behind_three : (topology map changes : List ℕ) (Next : Plan → Mapped → List Change → Outcome → Type 0) (before mid late after : DeviceState Shelved) (t : Plan) (m : MapLines) (e : Result Report Stop)
     → IsReading topology_file (λ (t : Plan). t) topology before mid (Ok t) → IsReading (map_file t) mapped map mid late (Ok m)
-    → IsEnd (only (changes_file t) changes) (Reads (changes_file t) late.told changes (Next t (mapped m))) late after e → EndsOverAll topology map changes Next before after e
+    → IsEnd (only (changes_file t) changes) (Reads (changes_file t) late.past changes (Next t (mapped m))) late after e → EndsOverAll topology map changes Next before after e
 behind_three topology map changes Next before mid late after t m e first second end = over_first topology map changes Next before mid after t e first
-    (then_ends (map_file t) mapped map (λ m. only (changes_file t) changes) (λ m. Reads (changes_file t) mid.told changes (Next t m)) (λ m. Reads (changes_file t) late.told changes (Next t m)) mid late after m e second
-    (λ due h. reads_before (changes_file t) mid.told late.told (only (map_file t) map) second.loaded changes (Next t (mapped m)) due h) end)
+    (then_ends (map_file t) mapped map (λ m. only (changes_file t) changes) (λ m. Reads (changes_file t) mid.past changes (Next t m)) (λ m. Reads (changes_file t) late.past changes (Next t m)) mid late after m e second
+    (λ due h. reads_before (changes_file t) mid.past late.past (only (map_file t) map) second.loaded changes (Next t (mapped m)) due h) end)
 
 -- a topology was read, and a map over it is refused or could not be loaded
-pub stopped_second : (topology map changes : List ℕ) (Next : Plan → Mapped → List Change → Outcome → Type 0) (before mid after : ShelfAt) (t : Plan) (s : Stop) (e : Result Report Stop)
+pub stopped_second : (topology map changes : List ℕ) (Next : Plan → Mapped → List Change → Outcome → Type 0) (before mid after : DeviceState Shelved) (t : Plan) (s : Stop) (e : Result Report Stop)
     → IsReading topology_file (λ (t : Plan). t) topology before mid (Ok t) → IsReading (map_file t) mapped map mid after (Err s) → Err s ≡ e → EndsOverAll topology map changes Next before after e
 stopped_second topology map changes Next before mid after t s e first second is = over_first topology map changes Next before mid after t e first
-    (stopped (map_file t) mapped map (λ m. only (changes_file t) changes) (λ m. Reads (changes_file t) mid.told changes (Next t m)) mid after s e second is)
+    (stopped (map_file t) mapped map (λ m. only (changes_file t) changes) (λ m. Reads (changes_file t) mid.past changes (Next t m)) mid after s e second is)

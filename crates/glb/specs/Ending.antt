@@ -2,7 +2,7 @@
 use Rattle.std.specs.Prelude.{◌≡◌, ◌≢◌, ℕ, ◌<◌, ◌≤◌, List, [], ◌∷◌, length, Option, Result, Ok, Err, MatchResult}
 use Rattle.map_model.specs.Market.{Market}
 use Rattle.map_model.specs.Allocation.{IsOffer}
-use Rattle.outside.specs.Faults.{BothTell, Rose}
+use Rattle.outside.specs.Faults.{BothTell, DeviceState, Rose}
 use Rattle.outside.specs.Shelf.{Load, Shelved}
 use Rattle.stable_check.specs.declared.verdict.Verdict.{Verdict}
 use Rattle.stable_check.specs.declared.verdict.Verdict.TheVariants.{Blocking, OverCapacity, OverDemand, OverLimit}
@@ -33,25 +33,20 @@ IsReport (Err (stop.Refused text)) due = due ≡ refused text.items
 IsReport (Err stop.SourceFault) due = ⊥
 IsReport (Err stop.NoMemory) due = ⊥
 
--- a shelf at one moment: what it tells, and the count of its faults
-pub record ShelfAt : Type 0 where
-  pub told : Option Shelved
-  pub faults : ℕ
-
 -- How a command ended by its files: it made the first of the loads that are due, and all of them where it has a text; this is due; and a fault of the files came with the count.
-pub record IsEnd (due_loads : (List ℕ → Option (List ℕ)) → List Load) (Due : Outcome → Type 0) (before after : ShelfAt) (ended : Result Report Stop) : Type 0 where
-  pub noted : BothTell before.told after.told (AreLoadsOf due_loads)
-  pub loaded : EndsBy (λ _. BothTell before.told after.told (AreLoaded due_loads)) ended
+pub record IsEnd (due_loads : (List ℕ → Option (List ℕ)) → List Load) (Due : Outcome → Type 0) (before after : DeviceState Shelved) (ended : Result Report Stop) : Type 0 where
+  pub noted : BothTell before.past after.past (AreLoadsOf due_loads)
+  pub loaded : EndsBy (λ _. BothTell before.past after.past (AreLoaded due_loads)) ended
   pub due : EndsBy Due ended
   pub later : before.faults ≤ after.faults
   pub cause : ended ≡ Err stop.SourceFault → Rose before.faults after.faults
   pub stays : ended ≢ Err stop.SourceFault → after.faults ≡ before.faults
 
 -- One file was loaded, and what it says was read, or it is refused; or the load failed, or memory was wanting.
-pub record IsReading {X T : Type 0} (kind : Kind T) (see : X → T) (name : List ℕ) (before after : ShelfAt) (read : Result X Stop) : Type 0 where
-  pub noted : BothTell before.told after.told (AreLoadsOf (only kind name))
-  pub loaded : MatchResult read (λ _. BothTell before.told after.told (AreLoaded (only kind name))) (StopsBy (λ _. BothTell before.told after.told (AreLoaded (only kind name))))
-  pub said : MatchResult read (λ x. Says kind before.told name (see x)) (StopsBy (IsRefused kind before.told name))
+pub record IsReading {X T : Type 0} (kind : Kind T) (see : X → T) (name : List ℕ) (before after : DeviceState Shelved) (read : Result X Stop) : Type 0 where
+  pub noted : BothTell before.past after.past (AreLoadsOf (only kind name))
+  pub loaded : MatchResult read (λ _. BothTell before.past after.past (AreLoaded (only kind name))) (StopsBy (λ _. BothTell before.past after.past (AreLoaded (only kind name))))
+  pub said : MatchResult read (λ x. Says kind before.past name (see x)) (StopsBy (IsRefused kind before.past name))
   pub later : before.faults ≤ after.faults
   pub cause : read ≡ Err stop.SourceFault → Rose before.faults after.faults
   pub stays : read ≢ Err stop.SourceFault → after.faults ≡ before.faults
