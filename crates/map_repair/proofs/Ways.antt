@@ -1,6 +1,7 @@
 -- Both ways to the new map come to what is promised.
-use Rattle.std.proofs.Common.{◌≡◌, ◌⊎◌, ℕ, Bool, List, MatchOption, OnOk, Option, None, Result, Ok, Err, slice_index, refl, sym, ◌∙◌, subst, inl, inr, arith}
+use Rattle.std.proofs.Common.{◌≡◌, ◌⊎◌, ◌+◌, ℕ, Bool, List, MatchOption, OnOk, Option, None, Some, Result, Ok, Err, slice_index, refl, sym, ◌∙◌, subst, inl, inr, arith}
 use Rattle.std.proofs.lemmas.Bool.{cases_lt}
+use Rattle.map_model.specs.declared.lines.MapLine.{MapLine}
 use Rattle.map_model.specs.Market.{Market, IsMarket, IsSameShape}
 use Rattle.map_model.specs.Allocation.{IsStable, names_of}
 use Rattle.map_model.specs.Progress.{IsEnded, IsGroupBest}
@@ -26,6 +27,10 @@ use Rattle.map_repair.proofs.Spread.{stays_local, stays_within}
 pub when_none : {X A : Type 0} (B : X → Type 0) (o : Option X) → o ≡ None → MatchOption o A B → A
 when_none {A = A} B o none m = subst (λ t. MatchOption t A B) none m
 
+-- and of the one that there is
+pub when_some : {X : Type 0} (A : Type 0) (B : X → Type 0) (o : Option X) (x : X) → o ≡ Some x → MatchOption o A B → B x
+when_some A B o x some m = subst (λ t. MatchOption t A B) some m
+
 -- a state of a good map may be cut for other numbers
 pub can_cut : (old new : Market) (s : Standing) → IsMarket new → IsSameShape old new → IsStateOf old s → CanCut new s
 can_cut old new s market shape of = record {
@@ -47,10 +52,6 @@ reopened_moved m marks from to moved ready wanted = record {
     | inl less ↦ absurd (omega (arith, moved.back g (slice_index to.pointers g) l less (λ j low. off j (omega (arith, low, less)))))
   ];
 }
-
--- nothing was thrown away
-pub thrown_none : (old : Market) (lines : List MapLine) (new : Market) (at : ℕ) → IsThrown old lines new at at
-thrown_none old lines new at = record { thrown = inl refl; steps = λ trees all. omega arith }
 
 -- what was resumed behind a try that was thrown away
 pub after_try : (old : Market) (lines : List MapLine) (new : Market) (to : Standing) (before tried after : ℕ) → HasThrown old lines new before tried → HasResumed old lines new to tried tried after → HasResumed old lines new to before tried after
@@ -80,6 +81,7 @@ module _ (old new : Market) (s mid : Standing) (marks : List Bool) (k : IsMiddle
   }
 
   counted_by : HasGoneBack new marks mid final before after ⊎ HasMovedUp new marks mid final before after → HasResumed old s.lines new final before before after
+  unfolding begun
   counted_by way = record { thrown = inl refl; begun = begun; can_go_back = can_roll_back old new s mid marks k; way = way }
 
   -- A run to the end from a state that was opened in marked trees alone.
@@ -103,6 +105,7 @@ module _ (old new : Market) (s mid : Standing) (marks : List Bool) (k : IsMiddle
 
   -- units moved up and a run from there was in vain
   pub thrown_moved : (moved : Standing) → IsMoved new marks mid moved → IsReady new moved → WantsBefore new moved → HasRunOut new moved final before after → IsThrown old s.lines new before after
+  unfolding begun
   thrown_moved moved is_moved ready wanted r = record {
     thrown = inr (record { begun = begun; to = final; tried = record { moved = moved; is_moved = is_moved; ready = ready; proposed = r.proposed } });
     steps = stays_within old new s mid marks k moved (reopened_moved new marks mid moved is_moved ready wanted) final before after r.inside;
