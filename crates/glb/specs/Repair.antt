@@ -4,7 +4,7 @@ use Rattle.map_model.specs.declared.change.Change.{Change}
 use Rattle.map_model.specs.Market.{Market}
 use Rattle.map_model.specs.Allocation.{IsGood}
 use Rattle.map_model.specs.Batch.{IsApplied}
-use Rattle.map_repair.specs.Repaired.{IsKept, IsLocal, IsWithinSpread}
+use Rattle.map_repair.specs.Repaired.{IsKept, IsLocal, IsWithinTwiceSpread}
 use Rattle.map_repair.specs.Resumed.{HasRepaired}
 use Rattle.outside.specs.Faults.{BothTell}
 use Rattle.outside.specs.Shelf.{Load, Shelved}
@@ -28,7 +28,7 @@ pub record AreRepaired (t : Plan) (m : Mapped) (changes : List Change) (pieces :
   pub local : IsLocal t.market m.lines changed repaired.lines
   pub steps : ℕ
   pub counted : HasRepaired t.market m.lines changed repaired.lines 0 steps
-  pub few : IsWithinSpread t.market m.lines changed 0 steps
+  pub few : IsWithinTwiceSpread t.market m.lines changed 0 steps
   pub text : pieces ≡ text_of_map t repaired ∷ []
 
 -- the map is good, and the text of the repaired one is due

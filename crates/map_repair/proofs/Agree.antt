@@ -57,13 +57,13 @@ repaired_of_one old lines new a b groups x y = best_below_one new y.rolled_back.
     moved = best_below_from new x.back.lines y.back.lines x.back.pointers y.back.pointers a (back_lines_one new x.begun.marks y.begun.marks x.begun.cut y.begun.cut x.back y.back marks cut places x.rolled_back y.rolled_back) (backs_one new x.begun.marks y.begun.marks x.begun.cut y.begun.cut x.back y.back marks places x.rolled_back y.rolled_back) x.best
 
 -- What a resumed state holds is that map: a group-best one is the best of those within the state that groups would go back to.
-pub resumed_is : (old : Market) (lines : List MapLine) (new : Market) (to : Standing) (before after : ℕ) → HasResumed old lines new to before after → IsStable new to.lines → IsRepairedOf old lines new to.lines
-resumed_is old lines new to before after r stable = elim r.way [
+pub resumed_is : (old : Market) (lines : List MapLine) (new : Market) (to : Standing) (before tried after : ℕ) → HasResumed old lines new to before tried after → IsStable new to.lines → IsRepairedOf old lines new to.lines
+resumed_is old lines new to before tried after r stable = elim r.way [
   | inl w ↦ is_of w.back w.rolled_back (best_below new w.proposed.count w.back to w.rolled_back.ready w.proposed.proposals stable)
   | inr w ↦
       let b : (back : Standing) × IsRolledBack new r.begun.marks r.begun.cut back = rolled_back_exists new r.begun.marks r.begun.cut r.can_go_back in
-      let right : IsRightMap new to.lines = right_of new to (ready_many new w.proposed.count w.moved to w.ready w.proposed.proposals) stable in
-      is_of b.0 b.1 (best_below_if_best new b.0.lines b.0.pointers to.lines right (within_back new r.begun.marks r.begun.cut w.moved b.0 w.is_moved b.1 to before after w.ready w.proposed) w.best)
+      let right : IsRightMap new to.lines = right_of new to (ready_many new w.tried.proposed.count w.tried.moved to w.tried.ready w.tried.proposed.proposals) stable in
+      is_of b.0 b.1 (best_below_if_best new b.0.lines b.0.pointers to.lines right (within_back new r.begun.marks r.begun.cut w.tried.moved b.0 w.tried.is_moved b.1 to tried after w.tried.ready w.tried.proposed) w.best)
 ]
   where
     is_of : (back : Standing) → IsRolledBack new r.begun.marks r.begun.cut back → IsBestBelow new back.lines back.pointers to.lines → IsRepairedOf old lines new to.lines
@@ -73,7 +73,7 @@ resumed_is old lines new to before after r stable = elim r.way [
 pub repaired_is : (old : Market) (lines : List MapLine) (new : Market) (repaired : List MapLine) (before after : ℕ) → HasRepaired old lines new repaired before after → IsStable new repaired → IsRepairedOf old lines new repaired
 repaired_is old lines new repaired before after x stable =
     let to : IsStable new x.to.lines = subst (λ (ls : List MapLine). IsStable new ls) (sym x.makes) stable in
-    subst (λ (ls : List MapLine). IsRepairedOf old lines new ls) x.makes (resumed_is old lines new x.to before after x.resumed to)
+    subst (λ (ls : List MapLine). IsRepairedOf old lines new ls) x.makes (resumed_is old lines new x.to before x.tried after x.resumed to)
 
 -- so two repairs of one map for the same numbers, in whatever order offers were made, come to the same lines and names
 pub repaired_one : (old : Market) (lines : List MapLine) (new : Market) (a b : List MapLine) (of_a of_b : List NameLine) (before after was now : ℕ) → length new.groups ≡ length old.groups → HasRepaired old lines new a before after → HasRepaired old lines new b was now

@@ -32,3 +32,7 @@ most_inside m trees = sum_by (λ g. if trees (tree_of m g 0) then length (choice
 -- a number of proposals is within those of the groups with a pool in a spread tree: within those of the groups whose first pool stands in a set of trees, for each set that holds all spread trees; of these a group's list has all or none
 abbrev pub IsWithinSpread : Market → List MapLine → Market → ℕ → ℕ → Type 0
 IsWithinSpread old lines new before after = (trees : ℕ → Bool) → ((root : ℕ) → IsSpread old lines new root → IsTrue (trees root)) → after ≤ before + most_inside new trees
+
+-- it is within twice those: once for a try that is thrown away, and once for the way that gives the map
+abbrev pub IsWithinTwiceSpread : Market → List MapLine → Market → ℕ → ℕ → Type 0
+IsWithinTwiceSpread old lines new before after = (trees : ℕ → Bool) → ((root : ℕ) → IsSpread old lines new root → IsTrue (trees root)) → after ≤ before + most_inside new trees * 2

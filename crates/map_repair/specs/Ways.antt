@@ -10,7 +10,7 @@ use Rattle.reopen.specs.Cutting.{IsCut}
 use Rattle.move_up.specs.Moved.{IsMoved}
 use Rattle.map_repair.specs.Determined.{IsRepairedOf}
 use Rattle.map_repair.specs.Repaired.{IsKept, IsLocal, IsStateOf, IsWithinSpread}
-use Rattle.map_repair.specs.Resumed.{HasResumed}
+use Rattle.map_repair.specs.Resumed.{HasResumed, HasThrown}
 
 -- a state was cut for the new numbers, and units were moved within marked trees alone
 pub record IsCutAndMoved (m : Market) (marks : List Bool) (from to : Standing) : Type 0 where
@@ -26,12 +26,17 @@ pub record HasRunOut (m : Market) (from to : Standing) (before after : ℕ) : Ty
   pub proposed : HasProposed m from to before after
   pub inside : (trees : ℕ → Bool) → HoldsWork m trees from → StaysInside m trees from to before after
 
--- all that is promised of a state that was resumed from one that holds these lines
+-- the proposals of a try that was thrown away, if there was one, and that they are within the bound
+pub record IsThrown (old : Market) (lines : List MapLine) (new : Market) (before after : ℕ) : Type 0 where
+  pub thrown : HasThrown old lines new before after
+  pub steps : IsWithinSpread old lines new before after
+
+-- all that is promised of a state that was resumed from one that holds these lines, with nothing thrown away
 pub record IsResumed (old : Market) (lines : List MapLine) (new : Market) (to : Standing) (before after : ℕ) : Type 0 where
   pub of_map : IsStateOf new to
   pub ended : IsEnded new to.pointers to.free
   pub kept : IsKept old lines new to.lines
   pub local : IsLocal old lines new to.lines
   pub determined : IsRepairedOf old lines new to.lines
-  pub counted : HasResumed old lines new to before after
+  pub counted : HasResumed old lines new to before before after
   pub steps : IsWithinSpread old lines new before after

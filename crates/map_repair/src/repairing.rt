@@ -1,16 +1,16 @@
 //! Repairing a good map, or a state of one that is kept.
 
-ghost use Rattle.std.specs.Prelude.{◌≡◌, ◌≤◌, IfOk, OnOk};
+ghost use Rattle.std.specs.Prelude.{◌≡◌, ◌+◌, ◌≤◌, IfOk, OnOk};
 ghost use Rattle.map_model.specs.Market.{IsSameShape};
 ghost use Rattle.map_model.specs.Allocation.{IsGood};
 ghost use Rattle.map_model.specs.Progress.{IsEnded};
 ghost use Rattle.move_up.specs.Asked.{AreAllListed};
 ghost use Rattle.map_repair.specs.Determined.{IsRepairedOf};
-ghost use Rattle.map_repair.specs.Repaired.{IsKept, IsLocal, IsStateOf, IsWithinSpread};
+ghost use Rattle.map_repair.specs.Repaired.{IsKept, IsLocal, IsStateOf, IsWithinSpread, IsWithinTwiceSpread};
 ghost use Rattle.map_repair.specs.Resumed.{HasRepaired, HasResumed, most_turns};
 
 use crate::reaching::reached;
-use crate::trying::{Tried, go_back, tried_or_anew};
+use crate::trying::{go_back, tried_or_anew};
 use deferred_accept::finish;
 use evict::State;
 use map_model::{Instance, MapLines, Steps};
@@ -18,12 +18,12 @@ use move_up::Asked;
 use no_memory::NoMemory;
 use std::alloc::Global;
 
-/// What a resume took beside the proposals that lead to its map. By the clauses these are bounds: no more were made.
+/// What a resume took beside its map.
 #[derive(Clone, Copy, Debug, PartialEq, Eq)]
 pub struct Effort {
-    /// In how many turns units moved up to the new map; 0 where groups went back.
+    /// In how many turns units moved up to the new map, at most; 0 where groups went back.
     pub turns: u64,
-    /// How many proposals were made by a try whose map was not taken.
+    /// How many of the proposals that were counted are those of a try whose map was not taken.
     pub thrown: u64,
 }
 
@@ -31,7 +31,7 @@ pub struct Effort {
 /// be kept for the next change. What that took is the result.
 ///
 /// Units move up first, and what comes of that is looked at: where it is not the group-best map, or can't be told to be, the
-/// state is made anew of the old map, and groups go back and offer again.
+/// state is made anew of the old map, and groups go back and offer again. All proposals are counted, also those of such a try.
 ///
 /// # Errors
 ///
@@ -56,18 +56,19 @@ pub fn resume<L>(
     ensures kept { OnOk result (IsKept old.now state.old.lines new.now state.new.lines) }
     ensures local { OnOk result (IsLocal old.now state.old.lines new.now state.new.lines) }
     ensures determined { OnOk result (IsRepairedOf old.now state.old.lines new.now state.new.lines) }
-    ensures counted { OnOk result (HasResumed old.now state.old.lines new.now state.new steps.old steps.new) }
-    ensures steps { OnOk result (IsWithinSpread old.now state.old.lines new.now steps.old steps.new) }
+    ensures counted { IfOk result (λ effort. HasResumed old.now state.old.lines new.now state.new steps.old (steps.old + effort.thrown) steps.new) }
+    ensures steps { IfOk result (λ effort. IsWithinSpread old.now state.old.lines new.now (steps.old + effort.thrown) steps.new) }
     ensures thrown { IfOk result (λ effort. IsWithinSpread old.now state.old.lines new.now 0 effort.thrown) }
     ensures few { IfOk result (λ effort. effort.turns ≤ most_turns new.now) }
     ensures later { steps.old ≤ steps.new }
 {
     let marks = reached(alloc, old, new, asked, state)?;
     let marked = marks.as_slice();
-    let Tried { turns, thrown } = tried_or_anew(alloc, old, map, new, asked, state, marked, steps)?;
-    if let Some(turns) = turns {
-        return Ok(Effort { turns, thrown });
+    let before = steps.count();
+    if let Some(turns) = tried_or_anew(alloc, old, map, new, asked, state, marked, steps)? {
+        return Ok(Effort { turns, thrown: 0 });
     }
+    let thrown = steps.count() - before;
     go_back(alloc, old, new, state, marked, steps)?;
     Ok(Effort { turns: 0, thrown })
 }
@@ -75,7 +76,8 @@ pub fn resume<L>(
 /// Repairs a good map for an instance that differs in demands and capacities alone. The new map is good.
 ///
 /// A group with no old wanted place in a reached tree is not moved up. A group with no pool in a spread
-/// tree keeps its lines and names, and the proposals are within those that the other groups may make.
+/// tree keeps its lines and names. The proposals are all counted, also those of a try whose map was not taken. They are within
+/// twice those that the other groups may make.
 /// There is one such map: it is determined by the old instance, the old map and the new instance.
 ///
 /// # Errors
@@ -95,7 +97,7 @@ pub fn repair<L>(
     ensures local { IfOk result (λ made. IsLocal old.now map.now.lines.items new.now made.lines.items) }
     ensures determined { IfOk result (λ made. IsRepairedOf old.now map.now.lines.items new.now made.lines.items) }
     ensures counted { IfOk result (λ made. HasRepaired old.now map.now.lines.items new.now made.lines.items steps.old steps.new) }
-    ensures steps { OnOk result (IsWithinSpread old.now map.now.lines.items new.now steps.old steps.new) }
+    ensures steps { OnOk result (IsWithinTwiceSpread old.now map.now.lines.items new.now steps.old steps.new) }
     ensures later { steps.old ≤ steps.new }
 {
     let mut state = State::of_map(alloc, old, map)?;

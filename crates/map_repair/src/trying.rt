@@ -1,16 +1,16 @@
 //! The two ways from a state of the old map to one of the new map: units move up, and what comes of that is looked at; or
 //! groups go back, and offer again.
 
-ghost use Rattle.std.specs.Prelude.{◌≡◌, ◌≤◌, None, IfOk, IfSome, MatchOption, OnOk};
+ghost use Rattle.std.specs.Prelude.{◌≡◌, ◌≤◌, true, IfOk, IfSome, MatchOption, OnOk};
 ghost use Rattle.map_model.specs.Market.{IsSameShape};
 ghost use Rattle.map_model.specs.Allocation.{IsGood};
 ghost use Rattle.map_model.specs.Progress.{IsGroupBest};
 ghost use Rattle.evict.specs.Standing.{IsReady};
 ghost use Rattle.deferred_accept.specs.Runs.{WantsBefore};
 ghost use Rattle.map_repair.specs.Marks.{AreReached};
-ghost use Rattle.map_repair.specs.Repaired.{IsStateOf, IsWithinSpread};
+ghost use Rattle.map_repair.specs.Repaired.{IsStateOf};
 ghost use Rattle.map_repair.specs.Resumed.{most_turns};
-ghost use Rattle.map_repair.specs.Ways.{HasRunOut, IsCutAndMoved, IsResumed};
+ghost use Rattle.map_repair.specs.Ways.{HasRunOut, IsCutAndMoved, IsResumed, IsThrown};
 
 use best_check::{is_best, is_resumable};
 use deferred_accept::run;
@@ -20,15 +20,6 @@ use move_up::{Asked, Search, move_up};
 use no_memory::NoMemory;
 use reopen::{cut_and_trim, roll_back};
 use std::alloc::Global;
-
-/// What came of a try.
-#[derive(Clone, Copy, Debug)]
-pub(crate) struct Tried {
-    /// In how many turns units moved up to the new map; none where what came of it is not that, or can't be told to be.
-    pub turns: Option<u64>,
-    /// How many proposals were made in vain.
-    pub thrown: u64,
-}
 
 /// How many turns units may take to move up: half as many as there are groups, which in large worlds take a few times as long
 /// as the way back, and are not needed by thousands of changes. Without a bound a unit of room could move each unit of a ring
@@ -61,31 +52,25 @@ fn moved(
     move_up(old, new, state, marks, &mut search, most_turns(new))
 }
 
-/// Runs a state to its end. Where that does not hold the group-best map, or can't be told to, the result is how many proposals
-/// it took; else there is none, and they are counted.
+/// Runs a state to its end, and says whether that holds the group-best map. It also says no where that can't be told.
 fn run_to_best<L>(
     alloc: Global,
     new: &Instance,
     state: &mut State,
     steps: &mut Steps<L>,
-) -> Result<Option<u64>, NoMemory>
+) -> Result<bool, NoMemory>
     requires ready { IsReady new.now state.old }
     requires wanted { WantsBefore new.now state.old }
-    ensures run { IfOk result (λ vain. vain ≡ None → HasRunOut new.now state.old state.new steps.old steps.new) }
-    ensures best { IfOk result (λ vain. vain ≡ None → IsGroupBest new.now state.new.lines) }
-    ensures vain { IfOk result (λ vain. IfSome vain (λ n. (steps.new ≡ steps.old) × HasRunOut new.now state.old state.new 0 n)) }
+    ensures run { OnOk result (HasRunOut new.now state.old state.new steps.old steps.new) }
+    ensures best { IfOk result (λ best. best ≡ true → IsGroupBest new.now state.new.lines) }
     ensures later { steps.old ≤ steps.new }
 {
-    let mut own: Steps<L> = Steps::new();
-    run(alloc, new, state, &mut own)?;
-    if !is_best(alloc, new, state)? {
-        return Ok(Some(own.count()));
-    }
-    steps.add(own.count());
-    Ok(None)
+    run(alloc, new, state, steps)?;
+    is_best(alloc, new, state)
 }
 
-/// Tries to come to the new map by units that move up. Where there are no turns in the result, the state is only to be dropped.
+/// Tries to come to the new map by units that move up, in so many turns. There are none where what came of it is not that map, or
+/// can't be told to be: the state is only to be dropped then. Its proposals are counted all the same.
 fn try_moves<L>(
     alloc: Global,
     old: &Instance,
@@ -94,35 +79,25 @@ fn try_moves<L>(
     state: &mut State,
     marks: &[bool],
     steps: &mut Steps<L>,
-) -> Result<Tried, NoMemory>
+) -> Result<Option<u64>, NoMemory>
     requires of_map { IsStateOf old.now state.old }
     requires shape { IsSameShape old.now new.now }
     requires marks { AreReached old.now state.old.lines new.now marks.now }
-    ensures tried { IfOk result (λ t. MatchOption t.turns (steps.new ≡ steps.old) (λ n. IsResumed old.now state.old.lines new.now state.new steps.old steps.new)) }
-    ensures few { IfOk result (λ t. IfSome t.turns (λ n. n ≤ most_turns new.now)) }
-    ensures thrown { IfOk result (λ t. IsWithinSpread old.now state.old.lines new.now 0 t.thrown) }
+    ensures tried { IfOk result (λ turns. MatchOption turns (IsThrown old.now state.old.lines new.now steps.old steps.new) (λ n. IsResumed old.now state.old.lines new.now state.new steps.old steps.new)) }
+    ensures few { IfOk result (λ turns. IfSome turns (λ n. n ≤ most_turns new.now)) }
     ensures later { steps.old ≤ steps.new }
 {
     let turns = moved(alloc, old, new, asked, state, marks)?;
     if !is_resumable(alloc, new, state)? {
-        return Ok(Tried {
-            turns: None,
-            thrown: 0,
-        });
+        return Ok(None);
     }
-    match run_to_best(alloc, new, state, steps)? {
-        None => Ok(Tried {
-            turns: Some(turns),
-            thrown: 0,
-        }),
-        Some(thrown) => Ok(Tried {
-            turns: None,
-            thrown,
-        }),
+    if !run_to_best(alloc, new, state, steps)? {
+        return Ok(None);
     }
+    Ok(Some(turns))
 }
 
-/// Tries to come to the new map by units that move up. Where there are no turns in the result, the state is one of the old map.
+/// Tries to come to the new map by units that move up, in so many turns. Where there are none, the state is one of the old map.
 pub fn tried_or_anew<L>(
     alloc: Global,
     old: &Instance,
@@ -132,22 +107,21 @@ pub fn tried_or_anew<L>(
     state: &mut State,
     marks: &[bool],
     steps: &mut Steps<L>,
-) -> Result<Tried, NoMemory>
+) -> Result<Option<u64>, NoMemory>
     requires of_map { IsStateOf old.now state.old }
     requires good { IsGood old.now map.now.lines.items map.now.names.items }
     requires holds { state.old.lines ≡ map.now.lines.items }
     requires shape { IsSameShape old.now new.now }
     requires marks { AreReached old.now state.old.lines new.now marks.now }
-    ensures tried { IfOk result (λ t. MatchOption t.turns (IsStateOf old.now state.new × (state.new.lines ≡ state.old.lines) × (steps.new ≡ steps.old)) (λ n. IsResumed old.now state.old.lines new.now state.new steps.old steps.new)) }
-    ensures few { IfOk result (λ t. IfSome t.turns (λ n. n ≤ most_turns new.now)) }
-    ensures thrown { IfOk result (λ t. IsWithinSpread old.now state.old.lines new.now 0 t.thrown) }
+    ensures tried { IfOk result (λ turns. MatchOption turns (IsStateOf old.now state.new × (state.new.lines ≡ state.old.lines) × IsThrown old.now state.old.lines new.now steps.old steps.new) (λ n. IsResumed old.now state.old.lines new.now state.new steps.old steps.new)) }
+    ensures few { IfOk result (λ turns. IfSome turns (λ n. n ≤ most_turns new.now)) }
     ensures later { steps.old ≤ steps.new }
 {
-    let tried = try_moves(alloc, old, new, asked, state, marks, steps)?;
-    if tried.turns.is_none() {
+    let turns = try_moves(alloc, old, new, asked, state, marks, steps)?;
+    if turns.is_none() {
         *state = State::of_map(alloc, old, map)?;
     }
-    Ok(tried)
+    Ok(turns)
 }
 
 /// Cuts a state for the new numbers, sends groups back to their first places in marked trees, and lets them offer again.

@@ -15,7 +15,7 @@ mod smallest;
 use evict::State;
 use map_model::Change::{Capacity, Demand};
 use map_model::{Change, GroupId, Instance, MapLines, NodeId, Proposals, Steps};
-use map_repair::{repair, resume};
+use map_repair::{Effort, repair, resume};
 use move_up::Asked;
 use no_memory::NoMemory;
 use stable_check::{CheckRoom, Verdict, check};
@@ -150,7 +150,8 @@ const CROSSED: &[Batch] = &[
         names: &[(0, 0, 0), (1, 0, 1)],
         proposals: 0,
     },
-    // The two groups are left as they are, though mapping afresh would give both their first place.
+    // The two groups are left as they are, though mapping afresh would give both their first place. So the try is in vain,
+    // and the third group makes its one proposal in it and once more.
     Batch {
         changes: &[Demand {
             group: GroupId(2),
@@ -158,7 +159,7 @@ const CROSSED: &[Batch] = &[
         }],
         lines: &[(0, 1, 1), (1, 1, 1), (2, 0, 2)],
         names: &[(0, 0, 0), (1, 0, 1)],
-        proposals: 1,
+        proposals: 2,
     },
     Batch {
         changes: &[Capacity {
@@ -227,25 +228,26 @@ fn repaired(
     Ok(repair(alloc, old, map, new, steps)?)
 }
 
-/// In how many turns units move up in the repair of a good map: in none where groups go back.
-fn turns(alloc: Global, old: &Instance, map: &MapLines, new: &Instance) -> Result<u64, NoMemory>
+/// What the repair of a good map takes: in how many turns units move up, in none where groups go back, and how many proposals
+/// are made in vain.
+fn effort(alloc: Global, old: &Instance, map: &MapLines, new: &Instance) -> Result<Effort, NoMemory>
     requires good { IsGood old.now map.now.lines.items map.now.names.items }
     requires shape { IsSameShape old.now new.now }
 {
     let mut steps: Steps<Proposals> = Steps::new();
     let mut state = State::of_map(alloc, old, map)?;
     let asked = Asked::build(alloc, old, &state)?;
-    Ok(resume(alloc, old, map, new, &asked, &mut state, &mut steps)?.turns)
+    resume(alloc, old, map, new, &asked, &mut state, &mut steps)
 }
 
 /// The same, where the old map is good.
-fn turns_of(alloc: Global, old: &Instance, map: &MapLines, new: &Instance) -> Result<u64, Fail>
+fn effort_of(alloc: Global, old: &Instance, map: &MapLines, new: &Instance) -> Result<Effort, Fail>
     requires { IsSameShape old.now new.now }
 {
     if !is_good(alloc, old, map)? {
         return Err(Fail::from("the old map is not good"));
     }
-    Ok(turns(alloc, old, map, new)?)
+    Ok(effort(alloc, old, map, new)?)
 }
 
 /// Whether the repairs of so many batches, one after another and from the first again after the last,

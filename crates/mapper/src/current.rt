@@ -6,7 +6,7 @@ ghost use Rattle.map_model.specs.Allocation.{IsGood, IsMapForm};
 ghost use Rattle.map_model.specs.Batch.{IsApplied, IsBatch};
 ghost use Rattle.map_model.specs.Progress.{IsEnded};
 ghost use Rattle.move_up.specs.Asked.{AreAllListed};
-ghost use Rattle.map_repair.specs.Repaired.{IsKept, IsLocal, IsStateOf, IsWithinSpread};
+ghost use Rattle.map_repair.specs.Repaired.{IsKept, IsLocal, IsStateOf, IsWithinTwiceSpread};
 ghost use Rattle.map_repair.specs.Resumed.{HasRepaired};
 ghost use Rattle.evict.specs.Standing.{IsReady};
 ghost use Rattle.map_text.specs.Cutting.{AreCutsOf};
@@ -116,7 +116,7 @@ fn repaired<L>(
     ensures kept { IfOk result (λ map. IsKept old.now.instance old.now.map.lines.items new.now map.lines.items) }
     ensures local { IfOk result (λ map. IsLocal old.now.instance old.now.map.lines.items new.now map.lines.items) }
     ensures counted { IfOk result (λ map. HasRepaired old.now.instance old.now.map.lines.items new.now map.lines.items steps.old steps.new) }
-    ensures steps { OnOk result (IsWithinSpread old.now.instance old.now.map.lines.items new.now steps.old steps.new) }
+    ensures steps { OnOk result (IsWithinTwiceSpread old.now.instance old.now.map.lines.items new.now steps.old steps.new) }
     ensures later { steps.old ≤ steps.new }
 {
     let before = steps.count();
@@ -131,7 +131,8 @@ fn repaired<L>(
         steps,
     )?;
     kept.asked = Some(asked);
-    let proposals = steps.count() - before;
+    // the state of a try in vain is gone
+    let proposals = (steps.count() - before).saturating_sub(effort.thrown);
     kept.proposals = kept
         .proposals
         .saturating_add(proposals)
@@ -272,7 +273,7 @@ pub(crate) fn next_of<L>(
     ensures makes { IfOk result (Makes topology.now old.now batch.now) }
     ensures kept { IfOk result (λ c. IsKeptFor c.instance c.map.lines.items kept.new) }
     ensures counted { IfOk result (λ c. HasRepaired old.now.instance old.now.map.lines.items c.instance c.map.lines.items steps.old steps.new) }
-    ensures steps { IfOk result (λ c. IsWithinSpread old.now.instance old.now.map.lines.items c.instance steps.old steps.new) }
+    ensures steps { IfOk result (λ c. IsWithinTwiceSpread old.now.instance old.now.map.lines.items c.instance steps.old steps.new) }
     ensures later { steps.old ≤ steps.new }
 {
     let other = another(&old.instance, spare)?;

@@ -3,7 +3,7 @@ ghost use Rattle.std.specs.Prelude.{◌≡◌, ◌≢◌, ◌⊎◌, ◌+◌, �
 ghost use mathlib.Core.List.{IsPrefix};
 ghost use Rattle.outside.specs.Faults.{Rose, raised};
 ghost use Rattle.map_model.specs.Batch.{IsBatch};
-ghost use Rattle.map_repair.specs.Repaired.{IsWithinSpread};
+ghost use Rattle.map_repair.specs.Repaired.{IsWithinTwiceSpread};
 ghost use Rattle.demand_feed.specs.declared.limits.TheConstants.{MOST_TURNS};
 ghost use Rattle.published_map.specs.Version.{IsVersion};
 ghost use Rattle.map_cell.specs.declared.door.OpenFault.TheVariants.{CellFault as Shut};
@@ -272,7 +272,7 @@ impl<J: Naming> Mapper<J> {
         ensures next { batch.now ≢ [] → IfOk result (λ s. IsPublished self.old batch.now self.new × (s ≡ self.new.newest.serial)) }
         ensures same { OnErr result (self.new ≡ self.old) }
         ensures counted { batch.now ≢ [] → OnOk result (IsRepairing self.old.newest self.new.newest steps.old steps.new) }
-        ensures steps { OnOk result (IsWithinSpread self.old.newest.market self.old.newest.lines self.new.newest.market steps.old steps.new) }
+        ensures steps { OnOk result (IsWithinTwiceSpread self.old.newest.market self.old.newest.lines self.new.newest.market steps.old steps.new) }
         ensures later { steps.old ≤ steps.new }
     {
         if batch.is_empty() {

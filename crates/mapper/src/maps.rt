@@ -1,7 +1,7 @@
 //! The published maps, of which the newest is at hand for the next commit.
 ghost use Rattle.std.specs.Prelude.{◌≡◌, ◌-◌, ◌<◌, ◌≤◌, ◌^◌, IfOk, IfSome, OnErr, OnOk};
 ghost use Rattle.map_model.specs.Batch.{IsBatch};
-ghost use Rattle.map_repair.specs.Repaired.{IsWithinSpread};
+ghost use Rattle.map_repair.specs.Repaired.{IsWithinTwiceSpread};
 ghost use Rattle.published_map.specs.Changes.{after};
 ghost use Rattle.published_map.specs.Version.{IsVersion};
 ghost use Rattle.map_cell.specs.Histories.{IsSealed};
@@ -149,7 +149,7 @@ impl<J: Naming> Maps<J> {
         ensures next { IfOk result (IsPrepared self.now.newest batch.now) }
         ensures kept { IfOk result (λ n. IsKeptFor (after self.now.newest n.delta).market (after self.now.newest n.delta).lines kept.new) }
         ensures counted { IfOk result (λ n. IsRepairing self.now.newest (after self.now.newest n.delta) steps.old steps.new) }
-        ensures steps { IfOk result (λ n. IsWithinSpread self.now.newest.market self.now.newest.lines (after self.now.newest n.delta).market steps.old steps.new) }
+        ensures steps { IfOk result (λ n. IsWithinTwiceSpread self.now.newest.market self.now.newest.lines (after self.now.newest n.delta).market steps.old steps.new) }
         ensures later { steps.old ≤ steps.new }
     {
         let newest = self.publisher.newest();
@@ -188,7 +188,7 @@ impl<J: Naming> Maps<J> {
         ensures next { IfOk result (λ s. IsPublished self.old batch.now self.new × (s ≡ self.new.newest.serial)) }
         ensures same { OnErr result (self.new ≡ self.old) }
         ensures counted { OnOk result (IsRepairing self.old.newest self.new.newest steps.old steps.new) }
-        ensures steps { OnOk result (IsWithinSpread self.old.newest.market self.old.newest.lines self.new.newest.market steps.old steps.new) }
+        ensures steps { OnOk result (IsWithinTwiceSpread self.old.newest.market self.old.newest.lines self.new.newest.market steps.old steps.new) }
         ensures later { steps.old ≤ steps.new }
     {
         let mut kept = self.take_kept()?;

@@ -17,7 +17,7 @@ can_of_open m s o = record { market = o.market; whole = o.whole; shape = o.shape
 
 -- nothing moved
 pub moved_itself : (m : Market) (marks : List Bool) (s : Standing) → IsOpen m s → IsMoved m marks s s
-moved_itself m marks s open_ = record { is_open = open_; market = refl; units = λ test none. refl; pointers = λ g l. omega arith; back = λ g k l lt none. lt }
+moved_itself m marks s open_ = record { is_open = open_; market = refl; units = λ test none. refl; pointers = λ g l. omega arith; back = λ g k l lt none. lt; no_more = λ g k o at. omega arith }
 
 -- units moved, and then some more
 pub moved_trans : (m : Market) (marks : List Bool) (a b c : Standing) → IsMoved m marks a b → IsMoved m marks b c → IsMoved m marks a c
@@ -27,6 +27,7 @@ moved_trans m marks a b c first next = record {
   units = λ test none. next.units test none ∙ first.units test none;
   pointers = λ g l. omega (arith, next.pointers g l, first.pointers g l);
   back = λ g k l lt none. next.back g k l (first.back g k l lt none) none;
+  no_more = λ g k o at. omega (arith, next.no_more g k o (omega (arith, at, first.pointers g o.group)), first.no_more g k o at);
 }
 
 -- a test that passes no offer in a marked tree does not pass one
@@ -56,10 +57,11 @@ moved_released m marks old new g k units s rel o on = record {
   units = λ test none. omega (arith, rel.lines test, apart m marks test g k units o on none);
   pointers = λ h l. omega (arith, ap (λ (xs : List ℕ). slice_index xs h) rel.pointers);
   back = λ h j l lt none. omega (arith, ap (λ (xs : List ℕ). slice_index xs h) rel.pointers, lt);
+  no_more = λ h j oo at. omega (arith, rel.lines (λ x y. (x == h) && (y == j)));
 }
 
 -- free units are held at an offer in a marked tree
-pub moved_granted : (m : Market) (marks : List Bool) (old new : Standing) (g k units : ℕ) → IsOpen m old → IsGranted old new g k units → IsOffer m g k → is_marked m marks g k ≡ true → k ≤ slice_index old.pointers g → units ≤ slice_index old.free g
+pub moved_granted : (m : Market) (marks : List Bool) (old new : Standing) (g k units : ℕ) → IsOpen m old → IsGranted old new g k units → IsOffer m g k → is_marked m marks g k ≡ true → k < slice_index old.pointers g → units ≤ slice_index old.free g
     → amount_at old.lines g k + units ≤ limit_of m g k → ((n : ℕ) → counts_at m n g k ≡ true → units ≤ capacity_of m n - load m old.lines n) → IsMoved m marks old new
 moved_granted m marks old new g k units s grant o on upto some limit room = record {
   is_open = record {
@@ -79,6 +81,7 @@ moved_granted m marks old new g k units s grant o on upto some limit room = reco
   units = λ test none. omega (arith, grant.lines test, apart m marks test g k units o on none);
   pointers = λ h l. omega (arith, ap (λ (xs : List ℕ). slice_index xs h) grant.pointers);
   back = λ h j l lt none. omega (arith, ap (λ (xs : List ℕ). slice_index xs h) grant.pointers, lt);
+  no_more = λ h j oo at. least h j at (cases_Bool ((g == h) && (k == j)));
 }
   where
     fits : (n : ℕ) → n < length m.nodes → (counts_at m n g k ≡ true) ⊎ (counts_at m n g k ≡ false) → load m new.lines n ≤ capacity_of m n
@@ -112,6 +115,13 @@ moved_granted m marks old new g k units s grant o on upto some limit room = reco
         absurd (omega (arith, upto, e, lt, eqb-true k j p.1))
     past h j oo lt (inr y) = let z : (if (g == h) && (k == j) then units else 0) ≡ 0 = rw y refl in omega (arith, grant.lines (λ x w. (x == h) && (w == j)), z, s.none_past h j oo lt)
 
+    least : (h j : ℕ) → slice_index old.pointers h ≤ j → (((g == h) && (k == j)) ≡ true) ⊎ (((g == h) && (k == j)) ≡ false) → amount_at new.lines h j ≤ amount_at old.lines h j
+    least h j at (inl y) =
+        let p = and_parts (g == h) (k == j) y in
+        let e : slice_index old.pointers g ≡ slice_index old.pointers h = ap (slice_index old.pointers) (eqb-true g h p.0) in
+        absurd (omega (arith, upto, e, at, eqb-true k j p.1))
+    least h j at (inr y) = let z : (if (g == h) && (k == j) then units else 0) ≡ 0 = rw y refl in omega (arith, grant.lines (λ x w. (x == h) && (w == j)), z)
+
 -- a pointer goes back to a place that is neither before the first place in a marked tree nor before the last at which units are held
 pub moved_back : (m : Market) (marks : List Bool) (s : Standing) (g first place : ℕ) → IsOpen m s → g < length m.groups → place < slice_index s.pointers g → IsBackAt m marks g (slice_index s.pointers g) first → first ≤ place → ((j : ℕ) → IsOffer m g j → place < j → amount_at s.lines g j ≡ 0)
     → IsMoved m marks s (record s { pointers = slice_set s.pointers g place })
@@ -139,6 +149,7 @@ moved_back m marks s g first place v there lower at upto past = record {
     | inl e ↦ omega (arith, here h e, behind k (subst (λ x. (j : ℕ) → j ≤ k → is_marked m marks x j ≡ false) (sym e) none), upto)
     | inr ne ↦ omega (arith, other h ne, lt)
   ];
+  no_more = λ h j o at. omega arith;
 }
   where
     here : (h : ℕ) → g ≡ h → slice_index (slice_set s.pointers g place) h ≡ place

@@ -66,8 +66,8 @@ fn most_at(instance: &Instance, state: &State, offer: Offer, units: Units) -> Un
     room_at(instance, state, instance.pool_at(offer), most)
 }
 
-/// Lets an offer hold free units where its tree is marked and it stands at its group's pointer or before it, at most so many
-/// and as many as may be. How many they are is the result, of which no clause speaks.
+/// Lets an offer hold free units where its tree is marked and it stands before its group's pointer, at most so many and as many
+/// as may be. To offer them at the pointer would be a proposal. How many they are is the result, of which no clause speaks.
 ///
 /// # Errors
 ///
@@ -84,7 +84,7 @@ pub fn grant_marked(
     requires offer { IsOffer instance.now offer.group.0 offer.place }
     ensures { OnOk result (IsMoved instance.now marks.now state.old state.new) }
 {
-    if offer.place > state.pointer(offer.group) {
+    if offer.place >= state.pointer(offer.group) {
         return Ok(0);
     }
     if !is_marked(instance, state, marks, offer) {

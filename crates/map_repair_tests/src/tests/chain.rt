@@ -3,7 +3,7 @@
 ghost use Rattle.std.specs.Prelude.{◌≡◌};
 ghost use Rattle.map_model.specs.Market.{IsSameShape};
 
-use super::{changed, repaired, turns_of};
+use super::{changed, effort_of, repaired};
 use crate::tests::every_change::mapped;
 use crate::tests::plain::{Rows, Sight, Spot, spots_of};
 use crate::tests::smallest::Digits;
@@ -154,7 +154,7 @@ fn linked(
         demands.as_slice(),
     )?;
     let instance = changed(alloc, &link.instance, batch)?;
-    let turns = turns_of(alloc, &link.instance, &link.map, &instance)?;
+    let turns = effort_of(alloc, &link.instance, &link.map, &instance)?.turns;
     let map = repaired(
         alloc,
         &link.instance,

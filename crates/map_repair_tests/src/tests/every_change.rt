@@ -59,12 +59,12 @@ pub fn mapped(alloc: Global, instance: &Instance) -> Result<MapLines, NoMemory> 
     finish(alloc, instance, state)
 }
 
-/// Whether a repair keeps what the definitions say, in that many proposals; how many places are outside its trees.
+/// Whether a repair keeps what the definitions say, in that many proposals, with those in vain; how many places are outside its trees.
 fn judged(rows: &[Row], reached: u8, proposals: u64) -> Option<u64> {
     let spread = spread(rows, reached);
     let kept = rows.iter().all(|row| is_kept(rows, reached, row));
     let local = rows.iter().all(|row| is_local(spread, row));
-    if kept && local && proposals <= most_inside(rows, spread) {
+    if kept && local && proposals <= most_inside(rows, spread).saturating_mul(2) {
         Some(outside(rows, spread))
     } else {
         None

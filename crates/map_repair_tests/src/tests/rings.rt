@@ -1,10 +1,10 @@
 //! Changes behind which units can't simply move up: a ring of groups in which single moves would take thousands of
-//! millions of turns, and two groups that have each other's first place.
+//! millions of turns, and two groups that have each other's first place. Proposals of a try in vain are counted too.
 ghost use Rattle.std.specs.Prelude.{◌≡◌};
 
-use super::{changed, is_good, repaired, turns_of};
-use map_model::Change::Capacity;
-use map_model::{Change, MapLines, NodeId, Steps};
+use super::{changed, effort_of, is_good, repaired};
+use map_model::Change::{Capacity, Demand};
+use map_model::{Change, GroupId, MapLines, NodeId, Steps};
 use std::alloc::Global;
 use std::test::Fail;
 use worlds::{NameAt, Placed, World, map_of};
@@ -75,21 +75,44 @@ const CROSSED: World = World {
     names: &[(0, 0, 2), (0, 1, 0), (1, 0, 1), (3, 0, 2)],
 };
 
-/// A change of a world, the repaired map, whether units move up to it, and how many proposals it takes.
+/// The same, and a group in trees of its own, whose first pool is full.
+const CROSSED_AND_ONE: World = World {
+    name: "crossed, and a group apart",
+    nodes: &[
+        (1, None, true),
+        (1, None, true),
+        (1, None, true),
+        (1, None, true),
+        (5, None, true),
+    ],
+    groups: &[
+        (1, &[(2, 3), (0, 2), (1, 1)]),
+        (1, &[(1, 2), (0, 1)]),
+        (1, &[(2, 1)]),
+        (1, &[(2, 2)]),
+        (1, &[(3, 1), (4, 1)]),
+    ],
+    lines: &[(0, 2, 1), (1, 1, 1), (2, 0, 1), (4, 0, 1)],
+    names: &[(0, 0, 2), (0, 1, 0), (1, 0, 1), (3, 0, 2)],
+};
+
+/// Changes of a world, the repaired map, whether units move up to it, how many proposals it takes, and how many of them a
+/// try makes in vain.
 struct Repair {
-    change: Change,
+    changes: &'static [Change],
     lines: &'static [Placed],
     names: &'static [NameAt],
     moves_up: bool,
     proposals: u64,
+    thrown: u64,
 }
 
 /// Room for one unit in the first pool: group by group, every unit comes to its first place.
 const ROOM: Repair = Repair {
-    change: Capacity {
+    changes: &[Capacity {
         node: NodeId(0),
         capacity: 1_000_000_001,
-    },
+    }],
     lines: &[
         (0, 0, 1_000_000_000),
         (1, 0, 1_000_000_000),
@@ -101,45 +124,77 @@ const ROOM: Repair = Repair {
     names: &[],
     moves_up: false,
     proposals: 6,
+    thrown: 0,
 };
 
 /// The same in the small ring: unit by unit they move up.
 const SMALL_ROOM: Repair = Repair {
-    change: Capacity {
+    changes: &[Capacity {
         node: NodeId(0),
         capacity: 3,
-    },
+    }],
     lines: &[(0, 0, 2), (1, 0, 2), (2, 0, 2)],
     names: &[],
     moves_up: true,
     proposals: 0,
+    thrown: 0,
 };
 
 /// Room for the last group in the full pool: it is all that moves up by itself. But the first two groups want places in
 /// trees that this reaches, so they go back, and each has its better place.
 const BESIDE: Repair = Repair {
-    change: Capacity {
+    changes: &[Capacity {
         node: NodeId(2),
         capacity: 2,
-    },
+    }],
     lines: &[(0, 1, 1), (1, 0, 1), (2, 0, 1), (3, 0, 1)],
     names: &[(0, 0, 2)],
     moves_up: false,
     proposals: 4,
+    thrown: 0,
+};
+
+/// The same, and the group apart asks for two units more. It offers them to its full first pool and then to its second one.
+/// It does so in the try, which the first two groups make vain, and once more when groups have gone back: two proposals in
+/// vain, then two, and the four of the others.
+const BESIDE_AND_MORE: Repair = Repair {
+    changes: &[
+        Capacity {
+            node: NodeId(2),
+            capacity: 2,
+        },
+        Demand {
+            group: GroupId(4),
+            demand: 3,
+        },
+    ],
+    lines: &[
+        (0, 1, 1),
+        (1, 0, 1),
+        (2, 0, 1),
+        (3, 0, 1),
+        (4, 0, 1),
+        (4, 1, 2),
+    ],
+    names: &[(0, 0, 2), (4, 0, 3)],
+    moves_up: false,
+    proposals: 8,
+    thrown: 2,
 };
 
 /// Whether the repaired map of a world is as told.
 fn is_repaired_so(alloc: Global, world: &World, repair: &Repair) -> Result<bool, Fail> {
     let old = world.instance(alloc)?.ok_or("no instance")?;
     let map = world.map(alloc)?;
-    let new = changed(alloc, &old, &[repair.change])?;
-    let moves_up = turns_of(alloc, &old, &map, &new)? > 0;
+    let new = changed(alloc, &old, repair.changes)?;
+    let effort = effort_of(alloc, &old, &map, &new)?;
     let mut steps = Steps::new();
     let made = repaired(alloc, &old, &map, &new, &mut steps)?;
     let told: MapLines = map_of(alloc, repair.lines, repair.names)?;
     Ok(
         made == told
-            && moves_up == repair.moves_up
+            && (effort.turns > 0) == repair.moves_up
+            && effort.thrown == repair.thrown
             && steps.count() == repair.proposals
             && is_good(alloc, &new, &made)?,
     )
@@ -160,5 +215,11 @@ fn repairs_a_ring_of_small_groups(rt: HostRuntime) -> Result<(), Fail> {
 #[test]
 fn repairs_a_circle_that_nothing_comes_to(rt: HostRuntime) -> Result<(), Fail> {
     assert!(rt; is_repaired_so(rt.alloc(), &CROSSED, &BESIDE)?);
+    Ok(())
+}
+
+#[test]
+fn counts_proposals_in_vain(rt: HostRuntime) -> Result<(), Fail> {
+    assert!(rt; is_repaired_so(rt.alloc(), &CROSSED_AND_ONE, &BESIDE_AND_MORE)?);
     Ok(())
 }

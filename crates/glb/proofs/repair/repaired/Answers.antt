@@ -3,7 +3,7 @@ use Rattle.map_model.specs.Market.{IsMarket, Market}
 use Rattle.map_model.specs.Batch.{IsApplied}
 use Rattle.map_model.proofs.NameForm.{IsMapForm-IsGood}
 use Rattle.map_model.proofs.Shapes.{IsMapForm-shape, shape_sym}
-use Rattle.map_repair.specs.Repaired.{IsKept, IsLocal, IsWithinSpread}
+use Rattle.map_repair.specs.Repaired.{IsKept, IsLocal, IsWithinTwiceSpread}
 use Rattle.map_repair.specs.Resumed.{HasRepaired}
 use Rattle.map_text.specs.Writing.{mapped}
 use Rattle.glb.proofs.repair.repaired.Goals as goal
@@ -31,7 +31,7 @@ returns c =
         local = subst (λ (m : Market). IsLocal m old c.apply.new.instance map.lines.items) c.instance-2.ensures.instance c.in_ok-map.ensures.local;
         steps = c.repair.new.steps;
         counted = subst (λ (n : ℕ). HasRepaired c.args.topology.now.market old c.apply.new.instance map.lines.items n c.repair.new.steps) c.new-steps.ensures (subst (λ (m : Market). HasRepaired m old c.apply.new.instance map.lines.items c.new-steps.result c.repair.new.steps) c.instance-2.ensures.instance c.in_ok-map.ensures.counted);
-        few = subst (λ (n : ℕ). IsWithinSpread c.args.topology.now.market old c.apply.new.instance n c.repair.new.steps) c.new-steps.ensures (subst (λ (m : Market). IsWithinSpread m old c.apply.new.instance c.new-steps.result c.repair.new.steps) c.instance-2.ensures.instance c.in_ok-map.ensures.steps);
+        few = subst (λ (n : ℕ). IsWithinTwiceSpread c.args.topology.now.market old c.apply.new.instance n c.repair.new.steps) c.new-steps.ensures (subst (λ (m : Market). IsWithinTwiceSpread m old c.apply.new.instance c.new-steps.result c.repair.new.steps) c.instance-2.ensures.instance c.in_ok-map.ensures.steps);
         text = ap (λ (text : List ℕ). text ∷ []) c.in_ok-text.ensures.text;
       };
     }

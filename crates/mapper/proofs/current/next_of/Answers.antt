@@ -3,7 +3,7 @@ use Rattle.std.proofs.lemmas.Result.{IfOk-weaker}
 use Rattle.map_model.specs.Market.{Market}
 use Rattle.map_model.specs.Batch.{IsApplied}
 use Rattle.map_model.proofs.Shapes.{shape_trans}
-use Rattle.map_repair.specs.Repaired.{IsWithinSpread}
+use Rattle.map_repair.specs.Repaired.{IsWithinTwiceSpread}
 use Rattle.map_repair.proofs.Agree.{repaired_is}
 use Rattle.mapper.proofs.Nexts.{both, makes}
 use Rattle.mapper.proofs.current.next_of.Goals as goal
@@ -26,4 +26,4 @@ pub returns-clause-counted : goal.returns-clause-counted
 returns-clause-counted g c = IfOk-weaker c.dressed.result _ _ (λ new parts. rw (parts.0, parts.1) c.in_ok-map.ensures.counted) c.dressed.ensures.parts
 
 pub returns-clause-steps : goal.returns-clause-steps
-returns-clause-steps g c = IfOk-weaker c.dressed.result _ _ (λ new parts. subst (λ (m : Market). IsWithinSpread c.args.old.now.instance c.args.old.now.map.lines.items m c.args.steps.now c.repaired.new.steps) (sym parts.0) c.in_ok-map.ensures.steps) c.dressed.ensures.parts
+returns-clause-steps g c = IfOk-weaker c.dressed.result _ _ (λ new parts. subst (λ (m : Market). IsWithinTwiceSpread c.args.old.now.instance c.args.old.now.map.lines.items m c.args.steps.now c.repaired.new.steps) (sym parts.0) c.in_ok-map.ensures.steps) c.dressed.ensures.parts

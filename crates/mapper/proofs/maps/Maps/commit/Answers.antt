@@ -1,7 +1,7 @@
 use Rattle.std.proofs.Common.{◌≡◌, IfSome, List, Option, ap, sym, subst, ◌∙◌}
 use Rattle.map_model.specs.Batch.{IsApplied, IsBatch}
 use Rattle.map_model.specs.Market.{Market}
-use Rattle.map_repair.specs.Repaired.{IsWithinSpread}
+use Rattle.map_repair.specs.Repaired.{IsWithinTwiceSpread}
 use Rattle.published_map.specs.Changes.{after}
 use Rattle.published_map.specs.Version.{IsVersion, Version}
 use Rattle.map_cell.specs.Ends.{PublisherState}
@@ -66,5 +66,5 @@ returns-clause-steps g c =
     let d = c.in_ok-next.next.delta in
     let old : PublisherState = c.take_spare-spare.new.self in
     let newest : c.publish.new.self.newest ≡ after old.newest d = c.in_ok-serial.ensures.ok.1 ∙ ap (λ (p : PublisherState). after p.newest d) c.self.view_is in
-    let within = subst (λ (v : Version). IsWithinSpread old.newest.market old.newest.lines v.market c.args.steps.now c.next.new.steps) (sym newest) c.in_ok-next.ensures.steps in
-    subst (λ (p : PublisherState). IsWithinSpread p.newest.market p.newest.lines c.publish.new.self.newest.market c.args.steps.now c.next.new.steps) (c.take_spare-spare.ensures.same ∙ c.in_ok-kept.ensures.same) within
+    let within = subst (λ (v : Version). IsWithinTwiceSpread old.newest.market old.newest.lines v.market c.args.steps.now c.next.new.steps) (sym newest) c.in_ok-next.ensures.steps in
+    subst (λ (p : PublisherState). IsWithinTwiceSpread p.newest.market p.newest.lines c.publish.new.self.newest.market c.args.steps.now c.next.new.steps) (c.take_spare-spare.ensures.same ∙ c.in_ok-kept.ensures.same) within

@@ -2,7 +2,7 @@ use Rattle.std.proofs.Common.{◌≡◌, ℕ, ◌+◌, ap, sym, subst, ◌∙◌
 use Rattle.std.proofs.lemmas.Option.{IfSome_then}
 use Rattle.map_model.specs.Batch.{IsBatch}
 use Rattle.map_model.proofs.NameForm.{IsMapForm-IsGood}
-use Rattle.map_repair.specs.Repaired.{IsWithinSpread}
+use Rattle.map_repair.specs.Repaired.{IsWithinTwiceSpread}
 use Rattle.topology_text.specs.Plan.{Plan}
 use Rattle.published_map.specs.Between.{IsBetween}
 use Rattle.published_map.specs.Changes.{after}
@@ -76,7 +76,7 @@ pub returns-clause-counted : goal.returns-clause-counted
 returns-clause-counted g c = leads g (goal.at.returns-clause-counted g c).In_ok-delta (λ a b. IsRepairing a b c.args.steps.now c.next_of.new.steps) c.in_ok-current.ensures.counted
 
 pub returns-clause-steps : goal.returns-clause-steps
-returns-clause-steps g c = leads g (goal.at.returns-clause-steps g c).In_ok-delta (λ a b. IsWithinSpread a.market a.lines b.market c.args.steps.now c.next_of.new.steps) c.in_ok-current.ensures.steps
+returns-clause-steps g c = leads g (goal.at.returns-clause-steps g c).In_ok-delta (λ a b. IsWithinTwiceSpread a.market a.lines b.market c.args.steps.now c.next_of.new.steps) c.in_ok-current.ensures.steps
 
 pub next_of-requires-clause-ids : goal.next_of-requires-clause-ids
 next_of-requires-clause-ids g c =
