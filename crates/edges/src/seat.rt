@@ -11,6 +11,7 @@ ghost use Rattle.edges.specs.Rooms.{IsChangedAt, IsEmpty, IsFilled, IsFlushed};
 use crate::line::Line;
 use crate::room::Room;
 use addr_text::{Addr, Peer};
+use mio::net::TcpStream;
 use std::io::{Error, ErrorKind, Result};
 use tcp_frames::LARGEST_FRAME;
 
@@ -74,11 +75,11 @@ impl Seat {
     }
 
     /// A place that a connection takes.
-    pub(crate) fn taken(line: Line, peer: Peer, now: u64) -> Seat
+    pub(crate) fn taken(stream: TcpStream, peer: Peer, now: u64) -> Seat
         ensures { IsTaken peer now result }
     {
         Seat {
-            line: Some(line),
+            line: Some(Line::new(stream)),
             peer,
             since: now,
             turn: 0,
