@@ -1,7 +1,7 @@
 -- What becomes of all places, one thing after another.
 use Rattle.std.proofs.Common.{◌≡◌, ◌⊎◌, ◌<◌, ◌≤◌, ◌+◌, ℕ, zero, suc, Bool, List, Option, Some, None, true, false, cond, refl, sym, subst, ap, ◌∙◌, ◌∷◌, [], ◌++◌, append-nil, length, set, arith, inl, inr, ⊎_elim, MatchBool, MatchOption}
 use Rattle.std.specs.List.{AllZip, position_or_len, prefix_len}
-use Rattle.std.specs.Prelude.{slice_get, drop, take, not, is_some, nat_lt, nat_le, count_by, position, ◌==◌, ◌&&◌, ◌||◌, if◌then◌else◌}
+use Rattle.std.specs.Prelude.{slice_get, drop, take, not, is_some, IfSome, nat_lt, nat_le, count_by, position, ◌==◌, ◌&&◌, ◌||◌, if◌then◌else◌}
 use Rattle.std.proofs.lemmas.List.{drop_all, length-set, take_all}
 use Rattle.std.proofs.lemmas.Bool.{eqb-true}
 use Rattle.std.proofs.lemmas.Option.{slice_get_within, none-some}
@@ -9,11 +9,11 @@ use Rattle.addr_text.specs.declared.address.Addr.{Addr}
 use Rattle.addr_text.specs.declared.address.Peer.{Peer}
 use Rattle.outside.specs.Faults.{raised}
 use Rattle.edges.proofs.Told.{got_at, some_eq}
-use Rattle.edges.specs.Halls.{AreAllChanged, AreRounded, GoesOn, HasCome, IsEntered, IsGivenOut, IsGoneOn, IsIdle, IsLetIn, IsPlaceChangedAt, IsRound, IsSettled, IsTakenIn, IsToLeaveAt, IsTurned, Stays}
+use Rattle.edges.specs.Halls.{AreAllChanged, AreRounded, GoesOn, HasCome, IsEntered, IsGivenOut, IsGoneOn, IsIdle, IsLeft, IsLetIn, IsPlaceChangedAt, IsRound, IsSettled, IsTakenIn, IsToLeaveAt, IsTurned, Stays}
 use Rattle.edges.specs.declared.ears.Taken.{Taken}
 use Rattle.edges.specs.declared.ears.Taken.TheVariants as taken
 use Rattle.edges.specs.declared.seat.Stirring.{Stirring}
-use Rattle.edges.specs.Places.{AreCallsNoted, GivesWay, IsFound, IsLeast, IsPlaceFor, IsSamePeer, IsSameSeat, IsTaken, IsVacant, IsWoken, MayBeWoken, WasRead, is_free, is_of, reads_of, rested, socket_of, told_of}
+use Rattle.edges.specs.Places.{AreCallsNoted, GivesWay, IsEndedByCalls, IsFound, IsLeast, IsPlaceFor, IsSamePeer, IsSameSeat, IsTaken, IsVacant, IsWoken, MayBeWoken, WasRead, is_free, is_of, reads_of, rested, socket_of, told_of}
 use Rattle.edges.specs.declared.line.Line.{Line}
 use Rattle.edges.specs.Rooms.{IsChangedAt, IsDue, IsEmpty, IsFilled, IsNotDue}
 use Rattle.edges.specs.declared.places.Wanted.TheVariants.{Oldest, OldestOf}
@@ -314,6 +314,11 @@ settled now l m s0 s1 s2 s3 r0 r1 r3 there tried on left = subst (λ b. MatchBoo
     by : ((s3 ≡ s2) × (r3 ≡ r1) × (IsToLeaveAt now s2 r1 → ⊥)) ⊎ (IsVacant s3 × IsEmpty r3) → Outcome
     by (inl (s-is, r-is, stays)) = inr (subst (λ x. GoesOn now l m s0 r0 x r3 × (IsToLeaveAt now x r3 → ⊥)) (sym s-is) (subst (λ y. GoesOn now l m s0 r0 s2 y × (IsToLeaveAt now s2 y → ⊥)) (sym r-is) (went, stays)))
     by (inr vacant) = inl vacant
+
+-- what is handed back of a connection that is left
+pub left_behind : (now l m : ℕ) (s0 s1 s2 : Seat) (r0 r1 : Room) (was : Option Seat) → s1 ≡ tried_again s0 s1 → GoesOn now l m s1 r0 s2 r1 → IsEndedByCalls s1 s2 → IfSome was (λ w. (w ≡ s2) × IsToLeaveAt now s2 r1) → IfSome was (IsLeft now l m s0 r0)
+left_behind now l m s0 s1 s2 r0 r1 None tried on ended left = tt
+left_behind now l m s0 s1 s2 r0 r1 (Some w) tried on ended (is, leaves) = subst (λ x. IsLeft now l m s0 r0 x) (sym is) (r1, subst (λ x. GoesOn now l m x r0 s2 r1) tried on, subst (λ x. IsEndedByCalls x s2) tried ended, leaves)
 
 -- one comes to a place where nothing waits
 placed : (now l m k : ℕ) (s1 s2 : List Seat) (r1 r2 : List Room) → ((s : Seat) → slice_get s1 k ≡ Some s → IsIdle s) → IsPlaceChangedAt (λ _ _. IsEntered now l m) k s1 r1 s2 r2 → AreAllChanged (λ _. IsLetIn now l m) s1 r1 s2 r2

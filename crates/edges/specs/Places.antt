@@ -109,6 +109,10 @@ IsSamePeer seat seat' = (socket_of seat'.line ≡ socket_of seat.line) × (seat'
 abbrev pub IsSameEnd : Seat → Seat → Type 0
 IsSameEnd seat seat' = (seat.is_over ≡ true → seat'.is_over ≡ true) × (seat.is_ended ≡ true → seat'.is_ended ≡ true) × (AreCallsNoted seat → AreCallsNoted seat')
 
+-- a connection is of no use, or its peer sends no more, only where that was so or the system answered so to a call of its socket
+abbrev pub IsEndedByCalls : Seat → Seat → Type 0
+IsEndedByCalls seat seat' = (seat'.is_over ≡ true → (seat.is_over ≡ true) ⊎ ((told_of seat'.line).has_failed ≡ true)) × (seat'.is_ended ≡ true → (seat.is_ended ≡ true) ⊎ ((told_of seat'.line).has_ended ≡ true)) × ((told_of seat.line).has_failed ≡ true → (told_of seat'.line).has_failed ≡ true) × ((told_of seat.line).has_ended ≡ true → (told_of seat'.line).has_ended ≡ true)
+
 -- the same, with its time, which waits as before, and has come to its end where it had
 abbrev pub IsSameSeat : Seat → Seat → Type 0
 IsSameSeat seat seat' = IsSamePeer seat seat' × (seat'.turn ≡ seat.turn) × IsSameEnd seat seat' × (seat'.since ≡ seat.since)
