@@ -6,6 +6,7 @@ ghost use Rattle.edges.specs.Halls.{AreAllChanged, AreNumberedUpTo, IsLetIn, IsT
 ghost use Rattle.edges.specs.Judged.{IsWaitBroken, next_of};
 ghost use Rattle.edges.specs.Places.{GivesWay, HasPlace, IsVacant, MayBeWoken, WasRead};
 ghost use Rattle.edges.specs.Rooms.{IsChangedAt, IsEmpty};
+ghost use Rattle.edges.specs.Watches.{HasWaited, MayCome};
 
 use crate::judged::{Knock, knock_of};
 use crate::peers::{peer_of, socket_addr};
@@ -193,7 +194,7 @@ impl Ears {
         ensures broken { IsWaitBroken result true → self.new.is_broken ≡ true }
         ensures fine { IsWaitBroken result false → self.new.is_broken ≡ self.old.is_broken }
         ensures stays { self.old.is_broken ≡ true → self.new.is_broken ≡ true }
-        ensures waited { self.new.waits.told ≡ self.old.waits.told + 1 }
+        ensures waited { HasWaited self.old self.new }
         ensures accepts { self.new.accepts ≡ self.old.accepts }
     {
         let waited = self
@@ -344,7 +345,7 @@ impl Ears {
         ensures turns { (turns.old ≤ turns.new) × (turns.new ≤ raised turns.old (length seats.old)) }
         ensures broken { self.old.is_broken ≡ true → self.new.is_broken ≡ true }
         // Where one may wait, and can have a place, the system is asked for it.
-        ensures asked { self.old.queue ≢ Queue.Empty → HasPlace now seats.old → self.old.accepts.told < self.new.accepts.told }
+        ensures asked { MayCome now self.old seats.old → self.old.accepts.told < self.new.accepts.told }
         ensures waits { self.new.waits ≡ self.old.waits }
     {
         self.may_make_room = true;

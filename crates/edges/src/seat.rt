@@ -4,7 +4,7 @@ ghost use Rattle.std.specs.Prelude.{◌≡◌, ◌≢◌, ◌<◌, ◌≤◌, �
 ghost use Rattle.outside.specs.Faults.{raised};
 ghost use Rattle.addr_text.specs.declared.address.Peer.{Peer};
 ghost use Rattle.tcp_frames.specs.declared.front.TheConstants.{LARGEST_FRAME};
-ghost use Rattle.edges.specs.Halls.{GoesOn, IsEntered, IsLeft, IsLeftAtOnce, IsPlaceChangedAt, IsSettled, IsTurned};
+ghost use Rattle.edges.specs.Halls.{GoesOn, IsEntered, IsLeft, IsLeftAtOnce, IsPlaceChangedAt, IsSettled, IsToLeaveAt, IsTurned};
 ghost use Rattle.edges.specs.Places.{IsEndedByCalls, IsOverNow, IsReadNoted, IsSameSeat, IsTaken, IsToLeave, IsVacant, IsWoken, IsWriteNoted, WasRead, is_free, rested};
 ghost use Rattle.edges.specs.Rooms.{IsChangedAt, IsEmpty, IsFilled, IsFlushed};
 
@@ -243,7 +243,7 @@ fn leave_if_due(seat: &mut Seat, room: &mut Room, now: u64) -> Option<Seat>
     ensures left { IsToLeave LONGEST_IDLE now seat.old room.old.going.items → IsVacant seat.new × IsEmpty room.new }
     ensures stays { (IsToLeave LONGEST_IDLE now seat.old room.old.going.items → ⊥) → (seat.new ≡ seat.old) × (room.new ≡ room.old) }
     ensures gone { ((seat.new ≡ seat.old) × (room.new ≡ room.old) × (IsToLeave LONGEST_IDLE now seat.old room.old.going.items → ⊥)) ⊎ (IsVacant seat.new × IsEmpty room.new) }
-    ensures was { IfSome result (λ was. (was ≡ seat.old) × IsToLeave LONGEST_IDLE now seat.old room.old.going.items) }
+    ensures was { IfSome result (λ was. (was ≡ seat.old) × IsToLeaveAt now seat.old room.old) }
     ensures none { IfNone result ((seat.new ≡ seat.old) × (room.new ≡ room.old)) }
 {
     if !is_left(seat, room, now) {
@@ -256,12 +256,7 @@ fn leave_if_due(seat: &mut Seat, room: &mut Room, now: u64) -> Option<Seat>
 
 /// Has the connection of a place go on, and leaves it where it is to be left. One that is idle for too long is tried once
 /// more before. It hands back the place of one that is left, as it was.
-pub(crate) fn settle(
-    seat: &mut Seat,
-    room: &mut Room,
-    now: u64,
-    turns: &mut u64,
-) -> Option<Seat>
+pub(crate) fn settle(seat: &mut Seat, room: &mut Room, now: u64, turns: &mut u64) -> Option<Seat>
     ensures settled { IsSettled now turns.old turns.new seat.old room.old seat.new room.new }
     ensures left { IfSome result (IsLeft now turns.old turns.new seat.old room.old) }
     ensures stays { IfNone result (is_free seat.new ≡ is_free seat.old) }

@@ -1,7 +1,7 @@
 //! What a clock showed when it was last read.
 ghost use Rattle.std.specs.Duration.{as_nanos};
-ghost use Rattle.std.specs.Prelude.{◌≡◌, ◌+◌, ◌-◌, ◌/◌, ◌^◌, min};
-ghost use Rattle.edges.specs.Watches.{IsShown};
+ghost use Rattle.std.specs.Prelude.{◌≡◌, ◌-◌, ◌/◌, ◌^◌, min};
+ghost use Rattle.edges.specs.Watches.{IsReadOnce, IsShown};
 
 use past_log::{CallEvent, CallsPast};
 use std::io::Result;
@@ -37,7 +37,7 @@ impl Watch {
     /// Reads a clock once, and answers what it does.
     pub(crate) fn read<C: Clock>(&mut self, clock: &C) -> Result<Duration>
         ensures shown { IsShown result self.old.now self.new.now }
-        ensures read { self.new.reads.told ≡ self.old.reads.told + 1 }
+        ensures read { IsReadOnce self.old self.new }
     {
         let answer = clock.monotonic();
         self.reads.note(&CallEvent::Made);

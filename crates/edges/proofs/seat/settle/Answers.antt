@@ -10,7 +10,7 @@ again : (c : goal.After-leave_if_due) → c.if-saturating_sub-ge-LONGEST_IDLE.se
 again c =
     let before = c.args.seat.now in
     elim c.if-saturating_sub-ge-LONGEST_IDLE.branch [
-      then-saturating_sub-ge-LONGEST_IDLE w ↦ w.seat-is ∙ ap (tried_again before) (sym w.seat-is)
+      | then-saturating_sub-ge-LONGEST_IDLE w ↦ w.seat-is ∙ ap (tried_again before) (sym w.seat-is)
       | else-saturating_sub-ge-LONGEST_IDLE w ↦ w.seat-is ∙ ap (tried_again before) (sym w.seat-is)
     ]
 
