@@ -91,16 +91,18 @@ pub struct UdpPort<'a, N: Net> {
     past: PortPast,
     /// The calls for a datagram, of which clauses alone speak.
     asked: CallsPast,
+    /// The calls that handed a reply on, likewise.
+    handed: CallsPast,
 }
 
 impl<'a, N: Net> Model for UdpPort<'a, N> {
-    ghost use Rattle.edges.specs.Pasts.{PortNoted, IsAsked, IsGoing};
+    ghost use Rattle.edges.specs.Pasts.{PortNoted, IsAsked, IsGoing, IsHanded};
 
     ghost Value = { PortNoted };
 
     ghost view = { λ p. record { told = p.past.told; faults = p.faults } };
 
-    ghost invariant = { λ p. IsGoing p.past.told × IsAsked p.asked.told p.past.told };
+    ghost invariant = { λ p. IsGoing p.past.told × IsAsked p.asked.told p.past.told × IsHanded p.handed.told p.past.told };
 }
 
 impl<'a, N: Net> UdpPort<'a, N> {
@@ -115,6 +117,7 @@ impl<'a, N: Net> UdpPort<'a, N> {
             faults: 0,
             past: PortPast::new(),
             asked: CallsPast::new(),
+            handed: CallsPast::new(),
         }
     }
 }
@@ -261,6 +264,25 @@ fn take_next(socket: Option<&UdpSocket>, asked: &mut CallsPast, buffer: &mut [u8
     }
 }
 
+/// Hands a reply on, where there is a socket.
+fn send_next(
+    socket: Option<&UdpSocket>,
+    handed: &mut CallsPast,
+    octets: &[u8],
+    peer: Peer,
+) -> Sending
+    ensures later { handed.old.told ≤ handed.new.told }
+    ensures once { result ≡ Sending.Sent → handed.new.told ≡ handed.old.told + 1 }
+{
+    match socket {
+        Some(socket) => {
+            handed.note(&CallEvent::Made);
+            sending_of(socket.send_to(octets, socket_addr(peer.addr, peer.port)))
+        }
+        None => Sending::Failed,
+    }
+}
+
 impl<N: Net> Port for UdpPort<'_, N> {
     ghost told = { λ p. Some p.told };
 
@@ -288,12 +310,7 @@ impl<N: Net> Port for UdpPort<'_, N> {
     }
 
     fn send(&mut self, octets: &[u8], peer: Peer, serial: u64) -> Sending {
-        let sending = match socket_of(&self.socket) {
-            Some(socket) => {
-                sending_of(socket.send_to(octets, socket_addr(peer.addr, peer.port)))
-            }
-            None => Sending::Failed,
-        };
+        let sending = send_next(socket_of(&self.socket), &mut self.handed, octets, peer);
         self.past
             .note(&PortEvent::Tried(octets, peer, serial, sending));
         if let Sending::Failed = sending {
