@@ -1,7 +1,7 @@
 -- What becomes of all places, one thing after another.
 use Rattle.std.proofs.Common.{◌≡◌, ◌⊎◌, ◌<◌, ◌≤◌, ◌+◌, ℕ, zero, suc, Bool, List, Option, Some, None, true, false, cond, refl, sym, subst, ap, ◌∙◌, ◌∷◌, [], ◌++◌, append-nil, length, set, arith, inl, inr, ⊎_elim, MatchBool, MatchOption}
 use Rattle.std.specs.List.{AllZip, position_or_len, prefix_len}
-use Rattle.std.specs.Prelude.{slice_get, drop, take, not, is_some, nat_lt, nat_le, count_by, position, ◌==◌, ◌&&◌, ◌||◌, if◌then◌else◌}
+use Rattle.std.specs.Prelude.{slice_get, drop, take, not, is_some, IfSome, nat_lt, nat_le, count_by, position, ◌==◌, ◌&&◌, ◌||◌, if◌then◌else◌}
 use Rattle.std.proofs.lemmas.List.{drop_all, length-set, take_all}
 use Rattle.std.proofs.lemmas.Bool.{eqb-true}
 use Rattle.std.proofs.lemmas.Option.{slice_get_within, none-some}
@@ -9,16 +9,17 @@ use Rattle.addr_text.specs.declared.address.Addr.{Addr}
 use Rattle.addr_text.specs.declared.address.Peer.{Peer}
 use Rattle.outside.specs.Faults.{raised}
 use Rattle.edges.proofs.Told.{got_at, some_eq}
-use Rattle.edges.specs.Halls.{AreAllChanged, AreRounded, GoesOn, HasCome, IsEntered, IsGivenOut, IsGoneOn, IsIdle, IsLetIn, IsPlaceChangedAt, IsRound, IsSettled, IsTakenIn, IsToLeaveAt, IsTurned, Stays}
+use Rattle.edges.specs.Halls.{AreAllChanged, AreRounded, GoesOn, HasCome, IsEntered, IsGivenOut, IsGoneOn, IsIdle, IsLeft, IsLetIn, IsPlaceChangedAt, IsRound, IsSettled, IsTakenIn, IsToLeaveAt, IsTurned, Stays}
 use Rattle.edges.specs.declared.ears.Taken.{Taken}
 use Rattle.edges.specs.declared.ears.Taken.TheVariants as taken
 use Rattle.edges.specs.declared.seat.Stirring.{Stirring}
-use Rattle.edges.specs.Places.{GivesWay, IsFound, IsLeast, IsPlaceFor, IsSamePeer, IsSameSeat, IsTaken, IsVacant, IsWoken, MayBeWoken, WasRead, is_free, is_of, reads_of, rested, socket_of}
+use Rattle.edges.specs.Places.{AreCallsNoted, GivesWay, IsEndedByCalls, IsFound, IsLeast, IsPlaceFor, IsSamePeer, IsSameSeat, IsTaken, IsVacant, IsWoken, MayBeWoken, WasRead, is_free, is_of, reads_of, rested, socket_of, told_of}
 use Rattle.edges.specs.declared.line.Line.{Line}
 use Rattle.edges.specs.Rooms.{IsChangedAt, IsDue, IsEmpty, IsFilled, IsNotDue}
 use Rattle.edges.specs.declared.places.Wanted.TheVariants.{Oldest, OldestOf}
 use Rattle.edges.specs.declared.room.Room.{Room}
 use Rattle.edges.specs.declared.seat.Seat.{Seat}
+use Rattle.past_log.specs.Line.{new_line}
 use Rattle.tcp_frames.specs.declared.front.TheConstants.{LARGEST_FRAME}
 
 -- a number is below another one or not
@@ -234,7 +235,7 @@ none_in now l m seats rooms = record { seats_stay = refl; rooms_stay = refl; eac
 
 entered_wider : (now l l1 m m1 : ℕ) (s : Seat) (p : Room) → l ≤ l1 → m ≤ m1 → IsEntered now l1 m s p → IsEntered now l m1 s p
 entered_wider now l l1 m m1 s p below above (inl left) = inl left
-entered_wider now l l1 m m1 s p below above (inr (there, since, read, none, turned, stays)) = inr (there, since, read, none, turned_wider l l1 m m1 0 s p below above turned, stays)
+entered_wider now l l1 m m1 s p below above (inr (there, since, read, noted, none, turned, stays)) = inr (there, since, read, noted, none, turned_wider l l1 m m1 0 s p below above turned, stays)
 
 -- some come, and then more
 pub let_in_more : (now l m m1 : ℕ) (s0 s1 s2 : List Seat) (r0 r1 r2 : List Room) → l ≤ m → m ≤ m1 → AreAllChanged (λ _. IsLetIn now l m) s0 r0 s1 r1 → AreAllChanged (λ _. IsLetIn now m m1) s1 r1 s2 r2 → AreAllChanged (λ _. IsLetIn now l m1) s0 r0 s2 r2
@@ -257,6 +258,10 @@ line_same (Some a) (Some b) e = refl
 pub there_same : (s t : Seat) → IsSamePeer s t → is_free t ≡ is_free s
 there_same s t same = ap not (line_same s.line t.line same.0)
 
+-- of a socket that had no call all is noted
+pub new_noted : (s : Seat) → told_of s.line ≡ new_line → AreCallsNoted s
+new_noted s is = ((λ failed. absurd (cc (sym (ap (λ t. t.has_failed) is) ∙ failed))), (λ ended. absurd (cc (sym (ap (λ t. t.has_ended) is) ∙ ended))))
+
 -- something may be read, with room for it
 abbrev pub may_read : Bool → Bool → List ℕ → Bool
 may_read is_readable is_over coming = is_readable && not is_over && nat_lt (length coming) LARGEST_FRAME
@@ -265,31 +270,55 @@ may_read is_readable is_over coming = is_readable && not is_over && nat_lt (leng
 pub entered : (l m since : ℕ) (peer : Peer) (s0 s1 s2 s3 : Seat) (r0 r1 r3 : Room) → IsTaken peer since s0 → IsEmpty r0 → IsFilled r0.coming.items r1.coming.items r0.going.items r1.going.items → IsSameSeat s0 s1 → (may_read s0.is_readable s0.is_over r0.coming.items ≡ true → WasRead s1) → s2 ≡ record s1 { turn = s2.turn } → IsTurned l m s1.turn s2 r1
     → ((s3 ≡ s2) × (r3 ≡ r1) × (IsToLeaveAt s0.since s2 r1 → ⊥)) ⊎ (IsVacant s3 × IsEmpty r3) → IsEntered s0.since l m s3 r3
 entered l m since peer s0 s1 s2 s3 r0 r1 r3 taken empty filled same read waits turned (inr left) = inl left
-entered l m since peer s0 s1 s2 s3 r0 r1 r3 taken empty filled same read waits turned (inl (s-is, r-is, stays)) =
+entered l m since peer s0 s1 s2 s3 r0 r1 r3 (here, of, at, rests, goes, opens, readable, fresh) empty filled same read waits turned (inl (s-is, r-is, stays)) =
     subst (λ x. IsEntered s0.since l m x r3) (sym s-is) (subst (λ y. IsEntered s0.since l m s2 y) (sym r-is) (inr come))
   where
     line-is : s2.line ≡ s1.line
     line-is = ap (λ x. x.line) waits
 
     there : is_free s1 ≡ false
-    there = there_same s0 s1 same.0 ∙ taken.0
+    there = there_same s0 s1 same.0 ∙ here
 
     reads : WasRead s1 → 0 < reads_of s1.line
     reads (inl free) = absurd (cc (sym free ∙ there))
     reads (inr some) = some
 
     may : may_read s0.is_readable s0.is_over r0.coming.items ≡ true
-    may = ap (λ b. may_read b s0.is_over r0.coming.items) taken.6 ∙ ap (λ b. may_read true b r0.coming.items) taken.4 ∙ ap (λ l. may_read true false l) empty.0
+    may = ap (λ b. may_read b s0.is_over r0.coming.items) readable ∙ ap (λ b. may_read true b r0.coming.items) goes ∙ ap (λ l. may_read true false l) empty.0
 
     come : HasCome s0.since l m s2 r1
     come = (
       ap (λ x. not (is_some x)) line-is ∙ there,
       ap (λ x. x.since) waits ∙ same.3,
       subst (λ x. 0 < reads_of x) (sym line-is) (reads (read may)),
+      subst (λ x. AreCallsNoted x) (sym waits) (same.2.2 (new_noted s0 fresh)),
       filled.1 ∙ empty.1,
-      subst (λ n. IsTurned l m n s2 r1) (same.1 ∙ taken.3) turned,
+      subst (λ n. IsTurned l m n s2 r1) (same.1 ∙ rests) turned,
       stays,
     )
+
+-- it may be read and written as another one
+abbrev pub tried_again : Seat → Seat → Seat
+tried_again seat other = record seat { is_readable = other.is_readable; is_writable = other.is_writable }
+
+-- a connection went on, and was left where it was to be left
+pub settled : (now l m : ℕ) (s0 s1 s2 s3 : Seat) (r0 r1 r3 : Room) → is_free s0 ≡ false → s1 ≡ tried_again s0 s1 → GoesOn now l m s1 r0 s2 r1 → ((s3 ≡ s2) × (r3 ≡ r1) × (IsToLeaveAt now s2 r1 → ⊥)) ⊎ (IsVacant s3 × IsEmpty r3) → IsSettled now l m s0 r0 s3 r3
+settled now l m s0 s1 s2 s3 r0 r1 r3 there tried on left = subst (λ b. MatchBool b (Stays s0 r0 s3 r3) Outcome) (sym there) (by left)
+  where
+    Outcome : Type 0
+    Outcome = (IsVacant s3 × IsEmpty r3) ⊎ (GoesOn now l m s0 r0 s3 r3 × (IsToLeaveAt now s3 r3 → ⊥))
+
+    went : GoesOn now l m s0 r0 s2 r1
+    went = subst (λ x. GoesOn now l m x r0 s2 r1) tried on
+
+    by : ((s3 ≡ s2) × (r3 ≡ r1) × (IsToLeaveAt now s2 r1 → ⊥)) ⊎ (IsVacant s3 × IsEmpty r3) → Outcome
+    by (inl (s-is, r-is, stays)) = inr (subst (λ x. GoesOn now l m s0 r0 x r3 × (IsToLeaveAt now x r3 → ⊥)) (sym s-is) (subst (λ y. GoesOn now l m s0 r0 s2 y × (IsToLeaveAt now s2 y → ⊥)) (sym r-is) (went, stays)))
+    by (inr vacant) = inl vacant
+
+-- what is handed back of a connection that is left
+pub left_behind : (now l m : ℕ) (s0 s1 s2 : Seat) (r0 r1 : Room) (was : Option Seat) → s1 ≡ tried_again s0 s1 → GoesOn now l m s1 r0 s2 r1 → IsEndedByCalls s1 s2 → IfSome was (λ w. (w ≡ s2) × IsToLeaveAt now s2 r1) → IfSome was (IsLeft now l m s0 r0)
+left_behind now l m s0 s1 s2 r0 r1 None tried on ended left = tt
+left_behind now l m s0 s1 s2 r0 r1 (Some w) tried on ended (is, leaves) = subst (λ x. IsLeft now l m s0 r0 x) (sym is) (r1, subst (λ x. GoesOn now l m x r0 s2 r1) tried on, subst (λ x. IsEndedByCalls x s2) tried ended, leaves)
 
 -- one comes to a place where nothing waits
 placed : (now l m k : ℕ) (s1 s2 : List Seat) (r1 r2 : List Room) → ((s : Seat) → slice_get s1 k ≡ Some s → IsIdle s) → IsPlaceChangedAt (λ _ _. IsEntered now l m) k s1 r1 s2 r2 → AreAllChanged (λ _. IsLetIn now l m) s1 r1 s2 r2

@@ -8,3 +8,4 @@ pub mod Going
 pub mod Turns
 pub mod Ordered
 pub mod Rows
+pub mod Ways

@@ -1,23 +1,25 @@
 -- No place has a greater number than the last that was given out.
 use Rattle.std.proofs.Common.{◌≡◌, ◌⊎◌, ◌<◌, ◌≤◌, ℕ, Bool, List, Option, Some, None, true, false, refl, sym, subst, ap, ◌∙◌, length, set, arith, inl, inr, MatchBool}
 use Rattle.std.specs.List.{All, AllZip}
-use Rattle.std.specs.Prelude.{slice_get, nat_lt, get_or}
+use Rattle.std.specs.Prelude.{slice_get, nat_lt, get_or, not, is_some}
 use Rattle.std.proofs.lemmas.Bool.Decides.{nat_tests}
 use Rattle.std.proofs.lemmas.List.{length-set}
 use Rattle.std.proofs.lemmas.Option.{get_or_from_slice_get, slice_get-get_or, slice_get_cases, slice_get_within}
 use Rattle.outside.specs.declared.streams.Reading.{Reading}
 use Rattle.outside.specs.declared.streams.Reading.TheVariants as read
-use Rattle.edges.proofs.Going.{AtOr, also, at_one, got_other, kept_of, moved, put, same_or_not, there_same, within, woken, written}
+use Rattle.edges.proofs.Going.{AtOr, also, at_one, got_other, kept_of, moved, new_noted, put, same_or_not, there_same, within, woken, written}
 use Rattle.edges.proofs.Told.{got_at, some_eq}
 use Rattle.edges.specs.Halls.{AreAllChanged, AreNumberedUpTo, GoesOn, IsGivenOut, IsHeard, IsLetIn, IsPlaceChangedAt, IsSameOrEnded, IsSettled, IsToLeaveAt, IsTurned, Stays}
-use Rattle.edges.specs.Places.{IsOverNow, IsSamePeer, IsVacant, MayBeWoken, WasRead, is_free, rested}
+use Rattle.edges.specs.Places.{AreCallsNoted, IsFollowed, IsOverNow, IsSamePeer, IsVacant, MayBeWoken, WasRead, is_free, rested, told_of}
+use Rattle.edges.specs.declared.line.Line.{Line}
 use Rattle.edges.specs.Rooms.{IsChangedAt, IsDue, IsEmpty, IsHandingOver, IsNotDue}
 use Rattle.edges.specs.declared.room.Room.{Room}
 use Rattle.edges.specs.declared.seat.Seat.{Seat}
+use Rattle.past_log.specs.Line.{new_line}
 
--- a place has no greater number than the last one, and its connection was read since it came
+-- a place has no greater number than the last one, and its connection was read since it came, with all noted that the system answered
 abbrev pub IsInOrder : ℕ → Seat → Type 0
-IsInOrder last seat = (seat.turn ≤ last) × WasRead seat
+IsInOrder last seat = (seat.turn ≤ last) × IsFollowed seat
 
 -- where that was so, it is so of a later last one
 abbrev pub Bounded : ℕ → ℕ → Seat → Room → Seat → Room → Type 0
@@ -27,6 +29,17 @@ Bounded last last' seat room seat' room' = IsInOrder last seat → IsInOrder las
 read_same : (s t : Seat) → IsSamePeer s t → WasRead s → WasRead t
 read_same s t same (inl free) = inl (there_same s t same ∙ free)
 read_same s t same (inr read) = inr (omega (arith, read, same.2))
+
+followed_same : (s t : Seat) → IsSamePeer s t → (AreCallsNoted s → AreCallsNoted t) → IsFollowed s → IsFollowed t
+followed_same s t same noted (read, all) = (read_same s t same read, noted all)
+
+-- where there is no connection, nothing is to be noted
+followed_free : (s : Seat) → is_free s ≡ true → IsFollowed s
+followed_free s free = (inl free, new_noted s (by s.line free))
+  where
+    by : (line : Option Line) → not (is_some line) ≡ true → told_of line ≡ new_line
+    by None e = refl
+    by (Some line) e = absurd (cc e)
 
 turned_bounded : (l m turn : ℕ) (s : Seat) (r : Room) → l ≤ m → IsTurned l m turn s r → turn ≤ l → s.turn ≤ m
 turned_bounded l m turn s r rises turned low = by (nat_lt 0 turn) (nat_lt 0 s.turn) refl turned
@@ -43,17 +56,17 @@ settled_bounded : (now l m : ℕ) (s t : Seat) (p q : Room) → l ≤ m → IsSe
 settled_bounded now l m s t p q rises settled low = by (is_free s) settled
   where
     by : (b : Bool) → MatchBool b (Stays s p t q) ((IsVacant t × IsEmpty q) ⊎ (GoesOn now l m s p t q × (IsToLeaveAt now t q → ⊥))) → IsInOrder m t
-    by true stays = (omega (arith, ap (λ x. x.turn) stays.0, low.0, rises), subst (λ x. WasRead x) (sym stays.0) low.1)
-    by false (inl (vacant, empty)) = (omega (arith, vacant.1), inl vacant.0)
-    by false (inr ((end, place, going, turned, since), stays)) = (turned_bounded l m s.turn t q rises turned low.0, read_same s t place low.1)
+    by true stays = (omega (arith, ap (λ x. x.turn) stays.0, low.0, rises), subst (λ x. IsFollowed x) (sym stays.0) low.1)
+    by false (inl (vacant, empty)) = (omega (arith, vacant.1), followed_free t vacant.0)
+    by false (inr ((end, place, going, turned, since), stays)) = (turned_bounded l m s.turn t q rises turned low.0, followed_same s t place end.2 low.1)
 
 let_in_bounded : (now l m : ℕ) (s t : Seat) (p q : Room) → l ≤ m → IsLetIn now l m s p t q → Bounded l m s p t q
-let_in_bounded now l m s t p q rises (inl stays) low = (omega (arith, ap (λ x. x.turn) stays.0, low.0, rises), subst (λ x. WasRead x) (sym stays.0) low.1)
-let_in_bounded now l m s t p q rises (inr (idle, inl (vacant, empty))) low = (omega (arith, vacant.1), inl vacant.0)
-let_in_bounded now l m s t p q rises (inr (idle, inr (there, since, read, none, turned, stays))) low = (turned_bounded l m 0 t q rises turned (omega arith), inr read)
+let_in_bounded now l m s t p q rises (inl stays) low = (omega (arith, ap (λ x. x.turn) stays.0, low.0, rises), subst (λ x. IsFollowed x) (sym stays.0) low.1)
+let_in_bounded now l m s t p q rises (inr (idle, inl (vacant, empty))) low = (omega (arith, vacant.1), followed_free t vacant.0)
+let_in_bounded now l m s t p q rises (inr (idle, inr (there, since, read, noted, none, turned, stays))) low = (turned_bounded l m 0 t q rises turned (omega arith), (inr read, noted))
 
 woken_bounded : (l : ℕ) (s t : Seat) → MayBeWoken s t → IsInOrder l s → IsInOrder l t
-woken_bounded l s t woke low = (omega (arith, kept_of (λ x. x.turn) (λ x a b c. refl) s t woke, low.0), subst (λ x. WasRead x) (sym woke) low.1)
+woken_bounded l s t woke low = (omega (arith, kept_of (λ x. x.turn) (λ x a b c. refl) s t woke, low.0), subst (λ x. IsFollowed x) (sym woke) low.1)
 
 -- what stands at a place that is there
 pub there : {A : Type 0} (xs : List A) (i : ℕ) → i < length xs → (x : A) × (slice_get xs i ≡ Some x)
@@ -63,10 +76,10 @@ there {A = A} xs i lt = by (slice_get_cases xs i).1
     by (inl (x, within, is, or)) = (x, is)
     by (inr (past, is)) = absurd (omega (arith, lt, past))
 
-every : (m : ℕ) (ts : List Seat) → ((i : ℕ) (t : Seat) → slice_get ts i ≡ Some t → IsInOrder m t) → All (λ t. (t.turn ≤ m) × WasRead t) ts
+every : (m : ℕ) (ts : List Seat) → ((i : ℕ) (t : Seat) → slice_get ts i ≡ Some t → IsInOrder m t) → All (λ t. (t.turn ≤ m) × IsFollowed t) ts
 every m ts each = λ k d lt. each k (get_or ts k d) (slice_get-get_or ts k d lt)
 
-one_of : (m : ℕ) (ts : List Seat) (i : ℕ) (t : Seat) → All (λ t. (t.turn ≤ m) × WasRead t) ts → slice_get ts i ≡ Some t → IsInOrder m t
+one_of : (m : ℕ) (ts : List Seat) (i : ℕ) (t : Seat) → All (λ t. (t.turn ≤ m) × IsFollowed t) ts → slice_get ts i ≡ Some t → IsInOrder m t
 one_of m ts i t all is = subst (λ x. IsInOrder m x) (get_or_from_slice_get ts i t t is) (all i t (slice_get_within ts i t is))
 
 -- so of all places
@@ -91,7 +104,7 @@ let_in_numbered now l m s0 s1 r0 r1 rises came = all_bounded l m s0 s1 r0 r1 (al
 
 -- all were read
 pub read_of : (l : ℕ) (seats : List Seat) (rooms : List Room) → AreNumberedUpTo l seats rooms → All WasRead seats
-read_of l seats rooms (long, all) = λ k d lt. (all k d lt).1
+read_of l seats rooms (long, all) = λ k d lt. (all k d lt).1.0
 
 -- where a wait is broken
 pub woken_numbered : (l n : ℕ) (s0 w d : List Seat) (rooms : List Room) → n ≡ length s0 → d ≡ s0 → AllZip MayBeWoken d w → AreNumberedUpTo l s0 rooms → AreNumberedUpTo l (put n w s0) rooms
@@ -111,7 +124,7 @@ placed_numbered l m s0 s1 r0 r1 i R rises bounded at before = all_bounded l m s0
 
     so : (k : ℕ) (s t : Seat) (p q : Room) → AtOr i R k s p t q → Bounded l m s p t q
     so k s t p q (inl (e, r)) = bounded s t p q r
-    so k s t p q (inr (other, stays)) = λ low. (omega (arith, ap (λ x. x.turn) stays.0, low.0, rises), subst (λ x. WasRead x) (sym stays.0) low.1)
+    so k s t p q (inr (other, stays)) = λ low. (omega (arith, ap (λ x. x.turn) stays.0, low.0, rises), subst (λ x. IsFollowed x) (sym stays.0) low.1)
 
     changed : AreAllChanged (λ _. Bounded l m) s0 r0 s1 r1
     changed = also (AtOr i R) (λ _. Bounded l m) s0 s1 r0 r1 so one
@@ -123,7 +136,7 @@ back_numbered now l m i s0 s1 r0 r1 rises at none before = by (within i (length 
     rested_bounded : (s t : Seat) (p q : Room) → IsSettled now l m (rested s) p t q → Bounded l m s p t q
     rested_bounded s t p q settled = λ low. settled_bounded now l m (rested s) t p q rises settled (omega arith, low.1)
 
-    higher : (ts : List Seat) → All (λ t. (t.turn ≤ l) × WasRead t) ts → All (λ t. (t.turn ≤ m) × WasRead t) ts
+    higher : (ts : List Seat) → All (λ t. (t.turn ≤ l) × IsFollowed t) ts → All (λ t. (t.turn ≤ m) × IsFollowed t) ts
     higher ts all = λ k d lt. let one = all k d lt in (omega (arith, one.0, rises), one.1)
 
     by : (i < length s0) ⊎ (length s0 ≤ i) → AreNumberedUpTo m s1 r1
@@ -169,16 +182,16 @@ heard_numbered l l' buffer buffer' reading current s0 s1 r0 r1 l-is seats rooms 
     by (inl same) = rooms-long reading rooms ∙ long ∙ sym (ap length same)
     by (inr (i, is, changed)) = rooms-long reading rooms ∙ long ∙ sym (changed_length IsOverNow i s0 s1 changed)
 
-    ended : (i : ℕ) (old new : Seat) → slice_get s0 i ≡ Some old → new.turn ≡ old.turn → IsSamePeer old new → All (λ t. (t.turn ≤ l) × WasRead t) (set s0 i new)
-    ended i old new is same peer = every l (set s0 i new) (λ k t at. at_place k t at (same_or_not k i))
+    ended : (i : ℕ) (old new : Seat) → slice_get s0 i ≡ Some old → new.turn ≡ old.turn → IsSamePeer old new → (AreCallsNoted old → AreCallsNoted new) → All (λ t. (t.turn ≤ l) × IsFollowed t) (set s0 i new)
+    ended i old new is same peer noted = every l (set s0 i new) (λ k t at. at_place k t at (same_or_not k i))
       where
         at_place : (k : ℕ) (t : Seat) → slice_get (set s0 i new) k ≡ Some t → (k ≡ i) ⊎ (k ≡ i → ⊥) → IsInOrder l t
         at_place k t at (inr other) = one_of l s0 k t low (sym (got_other s0 k i new other) ∙ at)
         at_place k t at (inl e) =
             let t-is : new ≡ t = some_eq new t (sym (got_at s0 i old new is) ∙ sym (ap (λ j. slice_get (set s0 i new) j) e) ∙ at) in
             let was = one_of l s0 i old low is in
-            subst (λ x. IsInOrder l x) t-is (omega (arith, same, was.0), read_same old new peer was.1)
+            subst (λ x. IsInOrder l x) t-is (omega (arith, same, was.0), followed_same old new peer noted was.1)
 
-    all : IsSameOrEnded current s0 s1 → All (λ t. (t.turn ≤ l) × WasRead t) s1
-    all (inl same) = subst (λ s. All (λ t. (t.turn ≤ l) × WasRead t) s) (sym same) low
-    all (inr (i, is, changed)) = subst (λ s. All (λ t. (t.turn ≤ l) × WasRead t) s) (sym changed.is) (ended i changed.old changed.new changed.was changed.changed.0.1 changed.changed.0.0)
+    all : IsSameOrEnded current s0 s1 → All (λ t. (t.turn ≤ l) × IsFollowed t) s1
+    all (inl same) = subst (λ s. All (λ t. (t.turn ≤ l) × IsFollowed t) s) (sym same) low
+    all (inr (i, is, changed)) = subst (λ s. All (λ t. (t.turn ≤ l) × IsFollowed t) s) (sym changed.is) (ended i changed.old changed.new changed.was changed.changed.0.1 changed.changed.0.0 changed.changed.0.2.2)

@@ -10,7 +10,7 @@ use Rattle.tcp_frames.specs.Split.{AreWhole, IsOverlong}
 use Rattle.tcp_frames.specs.declared.batch.Batch.{Batch}
 use Rattle.tcp_frames.specs.declared.batch.TheConstants.{MOST_MESSAGES}
 use Rattle.addr_text.specs.declared.address.Addr.{Addr}
-use Rattle.edges.specs.Places.{IsOverNow, IsNextTalk, IsPlaceFor, IsSameEnd, IsSamePeer, IsToLeave, IsVacant, MayBeWoken, WasRead, is_free, key_of, reads_of}
+use Rattle.edges.specs.Places.{IsOverNow, IsNextTalk, IsPlaceFor, IsSameEnd, IsSamePeer, IsToLeave, IsFollowed, IsVacant, MayBeWoken, AreCallsNoted, IsEndedByCalls, is_free, key_of, reads_of}
 use Rattle.edges.specs.declared.ears.Taken.{Taken}
 use Rattle.edges.specs.declared.ears.Taken.TheVariants as taken
 use Rattle.edges.specs.Rooms.{IsChangedAt, IsDue, IsEmpty, IsGoingOn, IsHandingOver, IsNotDue}
@@ -91,17 +91,25 @@ Stays seat room seat' room' = (seat' ≡ seat) × (room' ≡ room)
 abbrev pub IsSettled : ℕ → ℕ → ℕ → Seat → Room → Seat → Room → Type 0
 IsSettled now last last' seat room seat' room' = MatchBool (is_free seat) (Stays seat room seat' room') ((IsVacant seat' × IsEmpty room') ⊎ (GoesOn now last last' seat room seat' room' × (IsToLeaveAt now seat' room' → ⊥)))
 
+-- A connection that is left went on, and was to be left then: it was of no use, or its peer sent no more, only where that was so before or the system answered so.
+abbrev pub IsLeft : ℕ → ℕ → ℕ → Seat → Room → Seat → Type 0
+IsLeft now last last' seat room seat' = (room' : Room) × GoesOn now last last' seat room seat' room' × IsEndedByCalls seat seat' × IsToLeaveAt now seat' room'
+
 -- nothing waits at a place to be handed over
 abbrev pub IsIdle : Seat → Type 0
 IsIdle seat = (is_free seat ≡ true) ⊎ (seat.turn ≡ 0)
 
--- a connection came at that time: it was read, nothing of it is to go, it waits where it is due, and it is not to be left
+-- a connection came at that time: it was read, all is noted that the system answered, nothing of it is to go, it waits where it is due, and it is not to be left
 abbrev pub HasCome : ℕ → ℕ → ℕ → Seat → Room → Type 0
-HasCome now last last' seat room = (is_free seat ≡ false) × (seat.since ≡ now) × (0 < reads_of seat.line) × (room.going.items ≡ []) × IsTurned last last' 0 seat room × (IsToLeaveAt now seat room → ⊥)
+HasCome now last last' seat room = (is_free seat ≡ false) × (seat.since ≡ now) × (0 < reads_of seat.line) × AreCallsNoted seat × (room.going.items ≡ []) × IsTurned last last' 0 seat room × (IsToLeaveAt now seat room → ⊥)
 
 -- it came, or it came and was left at once
 abbrev pub IsEntered : ℕ → ℕ → ℕ → Seat → Room → Type 0
 IsEntered now last last' seat room = (IsVacant seat × IsEmpty room) ⊎ HasCome now last last' seat room
+
+-- One that came and was left at once was read, and was to be left then.
+abbrev pub IsLeftAtOnce : ℕ → Seat → Seat → Type 0
+IsLeftAtOnce now seat seat' = (room' : Room) × IsSamePeer seat seat' × (0 < reads_of seat'.line) × IsEndedByCalls seat seat' × IsToLeaveAt now seat' room'
 
 -- What becomes of a place where connections are taken in: it stays as it is; or nothing waited there, and it has no connection and no octets, or one that came at that time.
 abbrev pub IsLetIn : ℕ → ℕ → ℕ → Seat → Room → Seat → Room → Type 0
@@ -119,9 +127,9 @@ AreFree places seats = (length seats ≡ places) × All IsVacant seats
 abbrev pub AreEmpty : ℕ → List Room → Type 0
 AreEmpty places rooms = (length rooms ≡ places) × All IsEmpty rooms
 
--- there are as many rooms as places, no place has a greater number than the last that was given out, and each connection was read since it came
+-- there are as many rooms as places, no place has a greater number than the last that was given out, and each connection was read since it came, with all noted that the system answered
 abbrev pub AreNumberedUpTo : ℕ → List Seat → List Room → Type 0
-AreNumberedUpTo last seats rooms = (length rooms ≡ length seats) × All (λ s. (s.turn ≤ last) × WasRead s) seats
+AreNumberedUpTo last seats rooms = (length rooms ≡ length seats) × All (λ s. (s.turn ≤ last) × IsFollowed s) seats
 
 -- one place with its room became another so, and no other one changed
 pub record IsPlaceChangedAt (R : Seat → Room → Seat → Room → Type 0) (i : ℕ) (seats : List Seat) (rooms : List Room) (seats' : List Seat) (rooms' : List Room) : Type 0 where

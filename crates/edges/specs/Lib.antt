@@ -1,4 +1,5 @@
 pub mod Peers
+pub mod Watches
 pub mod Judged
 pub mod Streams
 pub mod Pasts

@@ -15,6 +15,7 @@ use Rattle.edges.specs.declared.room.Room.{Room}
 use Rattle.edges.specs.declared.seat.Seat.{Seat}
 use Rattle.edges.specs.declared.seat.Stirring.{Stirring}
 use Rattle.mio.specs.declared.net.stream.TcpStream.{TcpStream}
+use Rattle.past_log.specs.Line.{LineTold, new_line}
 
 -- Two addresses count as one where they are equal, or, in IPv6, are of one network of 2^64 addresses, but for the first network.
 abbrev pub is_same : Addr → Addr → Bool
@@ -67,14 +68,26 @@ HasPlace now seats = ((i : ℕ) × (position is_free seats ≡ Some i)) ⊎ ((i 
 abbrev pub socket_of : Option Line → Option TcpStream
 socket_of line = option_map (λ l. l.stream) line
 
+-- what it tells of its calls
+abbrev pub told_of : Option Line → LineTold
+told_of None = new_line
+told_of (Some line) = line.past.told
+
 -- how many reads it had
 abbrev pub reads_of : Option Line → ℕ
-reads_of None = 0
-reads_of (Some line) = line.reads
+reads_of line = (told_of line).reads
 
 -- a place has no connection, or one that was read since it came
 abbrev pub WasRead : Seat → Type 0
 WasRead seat = (is_free seat ≡ true) ⊎ (0 < reads_of seat.line)
+
+-- what the system answered to the calls of a place's socket is noted of the place: the connection is of no use where one failed, and its peer sends no more where a read came to the end
+abbrev pub AreCallsNoted : Seat → Type 0
+AreCallsNoted seat = ((told_of seat.line).has_failed ≡ true → seat.is_over ≡ true) × ((told_of seat.line).has_ended ≡ true → seat.is_ended ≡ true)
+
+-- a place has no connection, or one that was read since it came, of which all is noted that the system answered
+abbrev pub IsFollowed : Seat → Type 0
+IsFollowed seat = WasRead seat × AreCallsNoted seat
 
 -- the place whose connection is handed over next, and that connection's peer
 abbrev pub IsNextTalk : List Seat → ℕ → Peer → Type 0
@@ -84,17 +97,21 @@ IsNextTalk seats i peer = (seat : Seat) × (slice_get seats i ≡ Some seat) × 
 abbrev pub IsVacant : Seat → Type 0
 IsVacant seat = (is_free seat ≡ true) × (seat.turn ≡ 0)
 
--- a place has a connection of a peer, which came at that time, may be read, does not wait, and has not come to its end
+-- a place has a connection of a peer, which came at that time, may be read, does not wait, has not come to its end, and had no call
 abbrev pub IsTaken : Peer → ℕ → Seat → Type 0
-IsTaken peer now seat = (is_free seat ≡ false) × (seat.peer ≡ peer) × (seat.since ≡ now) × (seat.turn ≡ 0) × (seat.is_over ≡ false) × (seat.is_ended ≡ false) × (seat.is_readable ≡ true)
+IsTaken peer now seat = (is_free seat ≡ false) × (seat.peer ≡ peer) × (seat.since ≡ now) × (seat.turn ≡ 0) × (seat.is_over ≡ false) × (seat.is_ended ≡ false) × (seat.is_readable ≡ true) × (told_of seat.line ≡ new_line)
 
 -- a place has the socket that it had, if any, which had as many reads at least, with its peer
 abbrev pub IsSamePeer : Seat → Seat → Type 0
 IsSamePeer seat seat' = (socket_of seat'.line ≡ socket_of seat.line) × (seat'.peer ≡ seat.peer) × (reads_of seat.line ≤ reads_of seat'.line)
 
--- a connection is of no use where it was of none, and its peer sends no more where it sent no more
+-- a connection is of no use where it was of none, its peer sends no more where it sent no more, and all is noted that the system answered where it was
 abbrev pub IsSameEnd : Seat → Seat → Type 0
-IsSameEnd seat seat' = (seat.is_over ≡ true → seat'.is_over ≡ true) × (seat.is_ended ≡ true → seat'.is_ended ≡ true)
+IsSameEnd seat seat' = (seat.is_over ≡ true → seat'.is_over ≡ true) × (seat.is_ended ≡ true → seat'.is_ended ≡ true) × (AreCallsNoted seat → AreCallsNoted seat')
+
+-- a connection is of no use, or its peer sends no more, only where that was so or the system answered so to a call of its socket
+abbrev pub IsEndedByCalls : Seat → Seat → Type 0
+IsEndedByCalls seat seat' = (seat'.is_over ≡ true → (seat.is_over ≡ true) ⊎ ((told_of seat'.line).has_failed ≡ true)) × (seat'.is_ended ≡ true → (seat.is_ended ≡ true) ⊎ ((told_of seat'.line).has_ended ≡ true)) × ((told_of seat.line).has_failed ≡ true → (told_of seat'.line).has_failed ≡ true) × ((told_of seat.line).has_ended ≡ true → (told_of seat'.line).has_ended ≡ true)
 
 -- the same, with its time, which waits as before, and has come to its end where it had
 abbrev pub IsSameSeat : Seat → Seat → Type 0

@@ -1,14 +1,14 @@
 //! A listener of TCP, and what waits for it and for its connections.
-ghost use Rattle.std.specs.Prelude.{◌≡◌, ◌≢◌, ◌≤◌, ◌⊎◌, ℕ, true, false, All, IsErrOf, MatchBool, length};
+ghost use Rattle.std.specs.Prelude.{◌≡◌, ◌≢◌, ◌<◌, ◌≤◌, ◌+◌, ◌⊎◌, ℕ, true, false, All, IsErrOf, MatchBool, length};
 ghost use Rattle.std.specs.List.{AllZip};
 ghost use Rattle.outside.specs.Faults.{raised};
 ghost use Rattle.edges.specs.Halls.{AreAllChanged, AreNumberedUpTo, IsLetIn, IsTakenIn};
 ghost use Rattle.edges.specs.Judged.{IsWaitBroken, next_of};
 ghost use Rattle.edges.specs.Places.{GivesWay, HasPlace, IsVacant, MayBeWoken, WasRead};
 ghost use Rattle.edges.specs.Rooms.{IsChangedAt, IsEmpty};
+ghost use Rattle.edges.specs.Watches.{HasWaited, MayCome};
 
 use crate::judged::{Knock, knock_of};
-use crate::line::Line;
 use crate::peers::{peer_of, socket_addr};
 use crate::places::{has_place, oldest_idle, place_for};
 use crate::room::Room;
@@ -18,6 +18,7 @@ use handed_in::{Unfit, handed_in, take_tcp};
 use mio::event::Event;
 use mio::net::{TcpListener, TcpStream};
 use mio::{Events, Interest, Poll, Registry, Token};
+use past_log::{CallEvent, CallsPast};
 use reuse_port::send_at_once;
 use std::io::{self, ErrorKind};
 use std::net::{Net, SocketAddr};
@@ -54,6 +55,10 @@ pub(crate) struct Ears {
     is_broken: bool,
     /// Whether the listener was handed in, so that another server may have what waits there.
     is_handed: bool,
+    /// The waits, of which clauses alone speak.
+    waits: CallsPast,
+    /// The tries to take a connection, of which clauses alone speak.
+    accepts: CallsPast,
 }
 
 /// What became of a connection that was taken off the queue of the system.
@@ -145,6 +150,8 @@ pub(crate) fn bind<N: Net>(net: &N, listen: Listen, events: Events) -> Option<Ea
         may_make_room: true,
         is_broken: false,
         is_handed,
+        waits: CallsPast::new(),
+        accepts: CallsPast::new(),
     })
 }
 
@@ -187,13 +194,24 @@ impl Ears {
         ensures broken { IsWaitBroken result true → self.new.is_broken ≡ true }
         ensures fine { IsWaitBroken result false → self.new.is_broken ≡ self.old.is_broken }
         ensures stays { self.old.is_broken ≡ true → self.new.is_broken ≡ true }
+        ensures waited { HasWaited self.old self.new }
+        ensures accepts { self.new.accepts ≡ self.old.accepts }
     {
         let waited = self
             .poll
             .poll(&mut self.events, Some(Duration::from_millis(millis)));
+        self.waits.note(&CallEvent::Made);
         note_all(&self.events, seats, &mut self.queue);
         self.is_broken = self.is_broken || is_wait_broken(&waited);
         waited
+    }
+
+    /// Whether a connection may wait at the listener that can have a place.
+    fn may_ask(&self, seats: &[Seat], now: u64) -> bool
+        ensures place { result ≡ true → HasPlace now seats.now }
+        ensures none { result ≡ false → HasPlace now seats.now → self.now.queue ≡ Queue.Empty }
+    {
+        self.queue != Queue::Empty && has_place(seats, now)
     }
 
     /// Takes the next connection off the queue of the system, or says what came of the try. All that have a place were
@@ -203,8 +221,12 @@ impl Ears {
         requires place { HasPlace now seats.now }
         ensures deaf { IsErrOf result Knock.Deaf → self.new.is_broken ≡ true }
         ensures heard { (IsErrOf result Knock.Deaf → ⊥) → self.new.is_broken ≡ self.old.is_broken }
+        ensures asked { self.new.accepts.told ≡ self.old.accepts.told + 1 }
+        ensures waits { self.new.waits ≡ self.old.waits }
     {
-        match self.listener.accept() {
+        let answer = self.listener.accept();
+        self.accepts.note(&CallEvent::Made);
+        match answer {
             Ok((stream, at)) => {
                 self.queue = Queue::Now;
                 self.may_make_room = true;
@@ -224,14 +246,14 @@ impl Ears {
     }
 
     /// Has what happens at a connection noted of a place.
-    fn line_at(&self, stream: TcpStream, i: usize) -> Option<Line> {
+    fn watched_at(&self, stream: TcpStream, i: usize) -> Option<TcpStream> {
         let mut stream = stream;
         let wanted = Interest::READABLE | Interest::WRITABLE;
         self.poll
             .registry()
             .register(&mut stream, Token(i.saturating_add(1)), wanted)
             .ok()?;
-        Some(Line::new(stream))
+        Some(stream)
     }
 
     /// Takes a connection in, where there is a place for it, and reads it.
@@ -251,9 +273,9 @@ impl Ears {
         let Some(i) = place_for(seats, peer.addr, most_of_one) else {
             return Taken::Turned;
         };
-        match self.line_at(stream, i) {
-            Some(line) => {
-                enter_at(seats, rooms, i, Seat::taken(line, peer, now), turns);
+        match self.watched_at(stream, i) {
+            Some(stream) => {
+                enter_at(seats, rooms, i, Seat::taken(stream, peer, now), turns);
                 Taken::At(i)
             }
             None => Taken::Refused,
@@ -266,6 +288,8 @@ impl Ears {
         ensures left { result ≡ true → (i : ℕ) × GivesWay now seats.old i × IsChangedAt (λ _ seat. IsVacant seat) i seats.old seats.new × IsChangedAt (λ _ room. IsEmpty room) i rooms.old rooms.new }
         ensures none { result ≡ false → (seats.new ≡ seats.old) × (rooms.new ≡ rooms.old) }
         ensures broken { self.new.is_broken ≡ self.old.is_broken }
+        ensures asked { self.new.accepts ≡ self.old.accepts }
+        ensures waits { self.new.waits ≡ self.old.waits }
     {
         if knock != Knock::Full || !self.may_make_room {
             return false;
@@ -290,6 +314,9 @@ impl Ears {
         ensures turns { (turns.old ≤ turns.new) × (turns.new ≤ raised turns.old 1) }
         ensures broken { self.old.is_broken ≡ true → self.new.is_broken ≡ true }
         ensures ends { result ≡ Next.Broken → self.new.is_broken ≡ true }
+        ensures goes { result ≢ Next.Broken → self.new.is_broken ≡ self.old.is_broken }
+        ensures asked { self.new.accepts.told ≡ self.old.accepts.told + 1 }
+        ensures waits { self.new.waits ≡ self.old.waits }
     {
         match self.accept_next(seats, now) {
             Ok(come) => {
@@ -317,11 +344,17 @@ impl Ears {
         ensures changed { AreAllChanged (λ _. IsLetIn now turns.old turns.new) seats.old rooms.old seats.new rooms.new }
         ensures turns { (turns.old ≤ turns.new) × (turns.new ≤ raised turns.old (length seats.old)) }
         ensures broken { self.old.is_broken ≡ true → self.new.is_broken ≡ true }
+        // Where one may wait, and can have a place, the system is asked for it.
+        ensures asked { MayCome now self.old seats.old → self.old.accepts.told < self.new.accepts.told }
+        ensures waits { self.new.waits ≡ self.old.waits }
     {
         self.may_make_room = true;
-        let mut next = Next::Again;
-        for _ in 0..seats.len() {
-            if !is_again(next) || self.queue == Queue::Empty || !has_place(seats, now) {
+        if !self.may_ask(seats, now) {
+            return;
+        }
+        let mut next = self.take_next(seats, rooms, most_of_one, now, turns);
+        for _ in 1..seats.len() {
+            if !is_again(next) || !self.may_ask(seats, now) {
                 return;
             }
             next = self.take_next(seats, rooms, most_of_one, now, turns);

@@ -6,6 +6,7 @@ ghost use Rattle.outside.specs.Streams.{IsWithin};
 ghost use Rattle.edges.specs.Halls.{AreAllChanged, AreEmpty, AreFree, AreNumberedUpTo, AreRounded, EndsBehind, GoesOnBehind, IsAdvance, IsHeard, IsPlaceChangedAt, IsRound, IsSameOrEnded, IsSettled};
 ghost use Rattle.edges.specs.Places.{rested};
 ghost use Rattle.edges.specs.Rooms.{HasNothing, IsChangedAt, IsKeeping};
+ghost use Rattle.edges.specs.Watches.{HasWaited, IsReadOnce};
 ghost use Rattle.edges.specs.declared.room.Room.{Room};
 ghost use Rattle.edges.specs.declared.room.TheConstants.{LARGEST_GOING};
 ghost use Rattle.tcp_frames.specs.declared.front.TheConstants.{LARGEST_FRAME};
@@ -15,6 +16,7 @@ use crate::places::{has_place, next_talk, used};
 use crate::room::{Room, hand_over_at, keep_at};
 use crate::seat::{Seat, end_at, is_any_waiting, rest_at, settle_at};
 use crate::stop_flag::StopFlag;
+use crate::watch::Watch;
 use no_memory::NoMemory;
 use outside::{Accepting, Reading};
 use std::alloc::Global;
@@ -32,8 +34,7 @@ pub(crate) struct Hall {
     pub(crate) current: Option<usize>,
     /// Whether it was read.
     pub(crate) is_read: bool,
-    /// The microseconds of the clock. Where it can't be read, it stands still.
-    now: u64,
+    watch: Watch,
     /// The last number that was given to a connection which waits to be handed over.
     turns: u64,
 }
@@ -58,17 +59,6 @@ fn free_rooms(alloc: Global, places: usize) -> Result<Vec<Room>, NoMemory>
         rooms.push(Room::new())?;
     }
     Ok(rooms)
-}
-
-/// The microseconds of a clock, or those before where it can't be read.
-fn now_of<C: Clock>(clock: &C, before: u64) -> u64 {
-    match clock.monotonic() {
-        Ok(time) => time
-            .as_secs()
-            .saturating_mul(1_000_000)
-            .saturating_add(u64::from(time.subsec_micros())),
-        Err(_) => before,
-    }
 }
 
 /// Has all connections go on.
@@ -97,6 +87,7 @@ fn go_round(
     ensures turns { (turns.old ≤ turns.new) × (turns.new ≤ raised (raised turns.old (length seats.old)) (length seats.old)) }
     ensures numbered { AreNumberedUpTo turns.new seats.new rooms.new }
     ensures broken { ears.old.is_broken ≡ true → ears.new.is_broken ≡ true }
+    ensures waits { ears.new.waits ≡ ears.old.waits }
 {
     settle_all(seats, rooms, now, turns);
     if let Some(most_of_one) = most_of_one {
@@ -114,7 +105,7 @@ impl Hall {
             rooms,
             current: None,
             is_read: false,
-            now: 0,
+            watch: Watch::new(),
             turns: 0,
         }
     }
@@ -131,7 +122,7 @@ impl Hall {
     /// Takes back the connection that was handed over: it waits no more, and goes on.
     pub(crate) fn take_back(&mut self)
         ensures current { self.new.current ≡ None }
-        ensures back { (i : ℕ) → self.old.current ≡ Some i → i < length self.old.seats.items → i < length self.old.rooms.items → IsPlaceChangedAt (λ seat. IsSettled self.old.now self.old.turns self.new.turns (rested seat)) i self.old.seats.items self.old.rooms.items self.new.seats.items self.new.rooms.items }
+        ensures back { (i : ℕ) → self.old.current ≡ Some i → i < length self.old.seats.items → i < length self.old.rooms.items → IsPlaceChangedAt (λ seat. IsSettled self.old.watch.now self.old.turns self.new.turns (rested seat)) i self.old.seats.items self.old.rooms.items self.new.seats.items self.new.rooms.items }
         ensures turns { (self.old.turns ≤ self.new.turns) × (self.new.turns ≤ raised self.old.turns 1) }
         ensures numbered { AreNumberedUpTo self.old.turns self.old.seats.items self.old.rooms.items → AreNumberedUpTo self.new.turns self.new.seats.items self.new.rooms.items }
         ensures none { self.old.current ≡ None → self.new ≡ self.old }
@@ -146,7 +137,7 @@ impl Hall {
             &mut self.seats,
             &mut self.rooms,
             i,
-            self.now,
+            self.watch.now,
             &mut self.turns,
         );
     }
@@ -159,11 +150,13 @@ impl Hall {
         ensures turns { (self.old.turns ≤ self.new.turns) × (self.new.turns ≤ raised (raised self.old.turns (length self.old.seats.items)) (length self.old.seats.items)) }
         ensures numbered { AreNumberedUpTo self.new.turns self.new.seats.items self.new.rooms.items }
         ensures broken { ears.old.is_broken ≡ true → ears.new.is_broken ≡ true }
-        ensures went { ears.new.is_broken ≡ false → IsRound self.new.now self.old.turns self.new.turns self.old.seats.items self.old.rooms.items self.new.seats.items self.new.rooms.items }
+        ensures waited { HasWaited ears.old ears.new }
+        ensures read { ears.new.is_broken ≡ false → IsReadOnce self.old.watch self.new.watch }
+        ensures went { ears.new.is_broken ≡ false → IsRound self.new.watch.now self.old.turns self.new.turns self.old.seats.items self.old.rooms.items self.new.seats.items self.new.rooms.items }
     {
         let may_take = !ears.is_left(flag.is_set())
             && ears.may_take()
-            && has_place(&self.seats, self.now);
+            && has_place(&self.seats, self.watch.now);
         let wait = if may_take || is_any_waiting(&self.seats) {
             0
         } else {
@@ -173,7 +166,7 @@ impl Hall {
         if ears.is_broken() {
             return;
         }
-        self.now = now_of(clock, self.now);
+        let _ = self.watch.read(clock);
         let most = if ears.is_left(flag.is_set()) {
             None
         } else {
@@ -184,7 +177,7 @@ impl Hall {
             &mut self.seats,
             &mut self.rooms,
             most,
-            self.now,
+            self.watch.now,
             &mut self.turns,
         );
     }
@@ -203,8 +196,10 @@ impl Hall {
         ensures advance { IsAdvance result self.new.current self.new.seats.items }
         ensures turns { (self.old.turns ≤ self.new.turns) × (self.new.turns ≤ raised (raised self.old.turns (length self.old.seats.items)) (length self.old.seats.items)) }
         ensures numbered { AreNumberedUpTo self.new.turns self.new.seats.items self.new.rooms.items }
-        ensures went { result ≢ Accepting.Failed → IsRound self.new.now self.old.turns self.new.turns self.old.seats.items self.old.rooms.items self.new.seats.items self.new.rooms.items }
+        ensures went { result ≢ Accepting.Failed → IsRound self.new.watch.now self.old.turns self.new.turns self.old.seats.items self.old.rooms.items self.new.seats.items self.new.rooms.items }
         ensures broken { (ears.new ≡ None → result ≡ Accepting.Failed) × IfSome ears.new (λ e. MatchBool e.is_broken (result ≡ Accepting.Failed) (result ≢ Accepting.Failed)) }
+        ensures waited { IfSome ears.old (λ old. IfSome ears.new (HasWaited old)) }
+        ensures read { result ≢ Accepting.Failed → IsReadOnce self.old.watch self.new.watch }
         ensures unread { (peer : Peer) → result ≡ Accepting.Come peer → self.new.is_read ≡ false }
     {
         let Some(ears) = ears else {
@@ -231,6 +226,7 @@ impl Hall {
         ensures current { self.new.current ≡ self.old.current }
         ensures seats { IsSameOrEnded self.old.current self.old.seats.items self.new.seats.items }
         ensures turns { self.new.turns ≡ self.old.turns }
+        ensures watch { self.new.watch ≡ self.old.watch }
         ensures once { self.old.is_read ≡ true → result ≡ Reading.Closed }
         ensures read { self.new.is_read ≡ true ⊎ (self.new ≡ self.old) × (self.old.current ≡ None) }
         ensures ended { EndsBehind buffer.new result self.old.current self.old.seats.items self.new.seats.items }

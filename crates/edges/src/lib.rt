@@ -31,6 +31,7 @@ mod stop_flag;
 mod stream_sink;
 mod stream_source;
 mod udp_port;
+mod watch;
 
 pub use file_shelf::FileShelf;
 pub use judged::{Knock, arrival_of, is_broken, knock_of, sending_of};

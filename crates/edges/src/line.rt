@@ -1,28 +1,28 @@
-//! The line of a connection: its socket, and how many calls it had.
+//! The line of a connection: its socket, and what came of its calls.
 ghost use Rattle.std.specs.Prelude.{◌≡◌, length};
 ghost use Rattle.std.specs.Io.{ReadsAtMost, WritesAtMost};
-ghost use Rattle.outside.specs.Faults.{raised};
+ghost use Rattle.past_log.specs.Line.{after_read, after_write, new_line};
 
 use mio::net::TcpStream;
+use past_log::{LineEvent, LinePast};
 use std::io::{Read, Result, Write};
 
-/// The socket of a connection, which nothing reaches but these two calls. Each counts.
+/// The socket of a connection, which nothing reaches but these two calls. It tells what the system answered to each.
 #[derive(Drop)]
 pub(crate) struct Line {
     stream: TcpStream,
-    reads: u64,
-    writes: u64,
+    past: LinePast,
 }
 
 impl Line {
     /// One that had no call.
     pub(crate) fn new(stream: TcpStream) -> Line
-        ensures { result ≡ record { stream = stream; reads = 0; writes = 0 } }
+        ensures stream { result.stream ≡ stream }
+        ensures told { result.past.told ≡ new_line }
     {
         Line {
             stream,
-            reads: 0,
-            writes: 0,
+            past: LinePast::new(),
         }
     }
 
@@ -30,18 +30,22 @@ impl Line {
     pub(crate) fn read(&mut self, buffer: &mut [u8]) -> Result<usize>
         ensures bound { ReadsAtMost result buffer.new }
         ensures buffer { length buffer.new ≡ length buffer.old }
-        ensures counted { self.new ≡ record self.old { reads = raised self.old.reads 1 } }
+        ensures told { self.new.past.told ≡ after_read result self.old.past.told }
+        ensures same { self.new.stream ≡ self.old.stream }
     {
-        self.reads = self.reads.saturating_add(1);
-        self.stream.read(buffer)
+        let answer = self.stream.read(buffer);
+        self.past.note(&LineEvent::Read(&answer));
+        answer
     }
 
     /// Writes once, and answers what the system does.
     pub(crate) fn write(&mut self, octets: &[u8]) -> Result<usize>
         ensures bound { WritesAtMost result octets.now }
-        ensures counted { self.new ≡ record self.old { writes = raised self.old.writes 1 } }
+        ensures told { self.new.past.told ≡ after_write result self.old.past.told }
+        ensures same { self.new.stream ≡ self.old.stream }
     {
-        self.writes = self.writes.saturating_add(1);
-        self.stream.write(octets)
+        let answer = self.stream.write(octets);
+        self.past.note(&LineEvent::Written(&answer));
+        answer
     }
 }

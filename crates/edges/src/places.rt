@@ -1,5 +1,5 @@
 //! Which connection has a place, gives way, or is handed over next.
-ghost use Rattle.std.specs.Prelude.{◌≡◌, ◌∷◌, [], ◌++◌, List, ℕ, ◌≤◌, MatchBool, slice_get, length, true, Some, IfNone, IfSome, All, count_by, position};
+ghost use Rattle.std.specs.Prelude.{◌≡◌, ◌∷◌, [], ◌++◌, List, ℕ, ◌≤◌, MatchBool, slice_get, length, false, true, Some, IfNone, IfSome, All, count_by, position};
 ghost use Rattle.edges.specs.Places.{GivesWay, HasPlace, IsFound, IsLeastSoFar, IsNextTalk, IsPlaceFor, IsVacant, is_free, is_of, is_same, key_of};
 ghost use Rattle.edges.specs.declared.seat.Seat.{Seat};
 
@@ -156,7 +156,8 @@ pub(crate) fn place_for(seats: &[Seat], addr: Addr, most_of_one: usize) -> Optio
 
 /// The place of the connection that is idle for the longest time, where that is long enough for it to give way.
 pub(crate) fn oldest_idle(seats: &[Seat], now: u64) -> Option<usize>
-    ensures { IfSome result (λ i. GivesWay now seats.now i) }
+    ensures some { IfSome result (λ i. GivesWay now seats.now i) }
+    ensures none { IfNone result ((i : ℕ) → GivesWay now seats.now i → ⊥) }
 {
     let i = least(seats, Wanted::Oldest)?;
     let seat = seats.get(i)?;
@@ -169,7 +170,8 @@ pub(crate) fn oldest_idle(seats: &[Seat], now: u64) -> Option<usize>
 
 /// Whether a connection that comes can have a place: one is free, or a connection gives way that was idle for long enough.
 pub(crate) fn has_place(seats: &[Seat], now: u64) -> bool
-    ensures { result ≡ true → HasPlace now seats.now }
+    ensures some { result ≡ true → HasPlace now seats.now }
+    ensures none { result ≡ false → HasPlace now seats.now → ⊥ }
 {
     first_free(seats).is_some() || oldest_idle(seats, now).is_some()
 }

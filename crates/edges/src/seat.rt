@@ -1,17 +1,19 @@
 //! A place for a connection: what is taken, and what goes on with it.
 ghost use Rattle.std.specs.IoError.{error_kind};
-ghost use Rattle.std.specs.Prelude.{◌≡◌, ◌≢◌, ◌<◌, ◌≤◌, ◌⊎◌, ◌&&◌, ℕ, length, nat_lt, not, true, false, IfSome};
+ghost use Rattle.std.specs.Prelude.{◌≡◌, ◌≢◌, ◌<◌, ◌≤◌, ◌⊎◌, ◌&&◌, ℕ, length, nat_lt, not, true, false, IfNone, IfSome};
 ghost use Rattle.outside.specs.Faults.{raised};
 ghost use Rattle.addr_text.specs.declared.address.Peer.{Peer};
 ghost use Rattle.tcp_frames.specs.declared.front.TheConstants.{LARGEST_FRAME};
-ghost use Rattle.edges.specs.Halls.{GoesOn, IsEntered, IsPlaceChangedAt, IsSettled, IsTurned};
-ghost use Rattle.edges.specs.Places.{IsOverNow, IsReadNoted, IsSameSeat, IsTaken, IsToLeave, IsVacant, IsWoken, IsWriteNoted, WasRead, is_free, rested};
+ghost use Rattle.edges.specs.Halls.{GoesOn, IsEntered, IsLeft, IsLeftAtOnce, IsPlaceChangedAt, IsSettled, IsToLeaveAt, IsTurned};
+ghost use Rattle.edges.specs.Places.{IsEndedByCalls, IsOverNow, IsReadNoted, IsSameSeat, IsTaken, IsToLeave, IsVacant, IsWoken, IsWriteNoted, WasRead, is_free, rested};
 ghost use Rattle.edges.specs.Rooms.{IsChangedAt, IsEmpty, IsFilled, IsFlushed};
 
 use crate::line::Line;
 use crate::room::Room;
 use addr_text::{Addr, Peer};
+use mio::net::TcpStream;
 use std::io::{Error, ErrorKind, Result};
+use std::mem::replace;
 use tcp_frames::LARGEST_FRAME;
 
 /// For how long a connection may bring no whole query, or take no octet of a reply, in microseconds.
@@ -74,11 +76,11 @@ impl Seat {
     }
 
     /// A place that a connection takes.
-    pub(crate) fn taken(line: Line, peer: Peer, now: u64) -> Seat
+    pub(crate) fn taken(stream: TcpStream, peer: Peer, now: u64) -> Seat
         ensures { IsTaken peer now result }
     {
         Seat {
-            line: Some(line),
+            line: Some(Line::new(stream)),
             peer,
             since: now,
             turn: 0,
@@ -109,6 +111,7 @@ fn meet(error: &Error, may_go_on: &mut bool, is_over: &mut bool)
 fn fill_once(seat: &mut Seat, room: &mut Room) -> Option<Result<usize>>
     ensures octets { IsFilled room.old.coming.items room.new.coming.items room.old.going.items room.new.going.items }
     ensures seat { IsSameSeat seat.old seat.new }
+    ensures ended { IsEndedByCalls seat.old seat.new }
     ensures noted { IfSome result (λ answer. IsReadNoted answer seat.old room.old seat.new room.new) }
     ensures read { WasRead seat.new }
 {
@@ -145,6 +148,7 @@ fn may_fill(seat: &Seat, room: &Room) -> bool
 fn fill(seat: &mut Seat, room: &mut Room)
     ensures octets { IsFilled room.old.coming.items room.new.coming.items room.old.going.items room.new.going.items }
     ensures seat { IsSameSeat seat.old seat.new }
+    ensures ended { IsEndedByCalls seat.old seat.new }
     ensures read { (seat.old.is_readable && not seat.old.is_over && nat_lt (length room.old.coming.items) LARGEST_FRAME) ≡ true → WasRead seat.new }
 {
     if !may_fill(seat, room) {
@@ -163,6 +167,7 @@ fn fill(seat: &mut Seat, room: &mut Room)
 fn flush_once(seat: &mut Seat, room: &mut Room) -> Option<Result<usize>>
     ensures octets { IsFlushed room.old.coming.items room.new.coming.items room.old.going.items room.new.going.items }
     ensures seat { IsSameSeat seat.old seat.new }
+    ensures ended { IsEndedByCalls seat.old seat.new }
     ensures noted { IfSome result (λ answer. IsWriteNoted answer seat.old room.old seat.new room.new) }
 {
     let Some(line) = &mut seat.line else {
@@ -180,6 +185,7 @@ fn flush_once(seat: &mut Seat, room: &mut Room) -> Option<Result<usize>>
 fn flush(seat: &mut Seat, room: &mut Room)
     ensures octets { IsFlushed room.old.coming.items room.new.coming.items room.old.going.items room.new.going.items }
     ensures seat { IsSameSeat seat.old seat.new }
+    ensures ended { IsEndedByCalls seat.old seat.new }
 {
     for _ in 0..MOST_CALLS {
         if !seat.is_writable || seat.is_over || room.going.is_empty() {
@@ -201,15 +207,6 @@ fn is_left(seat: &Seat, room: &Room, now: u64) -> bool
                 || now.saturating_sub(seat.since) >= LONGEST_IDLE))
 }
 
-/// Leaves a connection.
-pub(crate) fn leave(seat: &mut Seat, room: &mut Room)
-    ensures seat { IsVacant seat.new }
-    ensures room { IsEmpty room.new }
-{
-    *seat = Seat::free();
-    room.clear();
-}
-
 /// Has a connection wait to be handed over where there is something to hand over and no reply of it is to go. `turns` is
 /// the last number that one got which waits.
 fn queue_up(seat: &mut Seat, room: &Room, turns: &mut u64)
@@ -228,6 +225,7 @@ fn queue_up(seat: &mut Seat, room: &Room, turns: &mut u64)
 /// over and no reply of it is to go. It is not idle where it takes octets of a reply.
 fn go_on(seat: &mut Seat, room: &mut Room, now: u64, turns: &mut u64)
     ensures went { GoesOn now turns.old turns.new seat.old room.old seat.new room.new }
+    ensures ended { IsEndedByCalls seat.old seat.new }
     ensures turn { seat.old.turn ≡ 0 → 0 < seat.new.turn → (turns.new ≡ raised turns.old 1) × (seat.new.turn ≡ turns.new) }
     ensures turns { (turns.old ≤ turns.new) × (turns.new ≤ raised turns.old 1) }
 {
@@ -240,39 +238,49 @@ fn go_on(seat: &mut Seat, room: &mut Room, now: u64, turns: &mut u64)
     queue_up(seat, room, turns);
 }
 
-/// Leaves a connection where it is to be left.
-fn leave_if_due(seat: &mut Seat, room: &mut Room, now: u64)
+/// Leaves a connection where it is to be left. It hands back the place of one that is left, as it was.
+fn leave_if_due(seat: &mut Seat, room: &mut Room, now: u64) -> Option<Seat>
     ensures left { IsToLeave LONGEST_IDLE now seat.old room.old.going.items → IsVacant seat.new × IsEmpty room.new }
     ensures stays { (IsToLeave LONGEST_IDLE now seat.old room.old.going.items → ⊥) → (seat.new ≡ seat.old) × (room.new ≡ room.old) }
     ensures gone { ((seat.new ≡ seat.old) × (room.new ≡ room.old) × (IsToLeave LONGEST_IDLE now seat.old room.old.going.items → ⊥)) ⊎ (IsVacant seat.new × IsEmpty room.new) }
+    ensures was { IfSome result (λ was. (was ≡ seat.old) × IsToLeaveAt now seat.old room.old) }
+    ensures none { IfNone result ((seat.new ≡ seat.old) × (room.new ≡ room.old)) }
 {
-    if is_left(seat, room, now) {
-        leave(seat, room);
+    if !is_left(seat, room, now) {
+        return None;
     }
+    let was = replace(seat, Seat::free());
+    room.clear();
+    Some(was)
 }
 
 /// Has the connection of a place go on, and leaves it where it is to be left. One that is idle for too long is tried once
-/// more before.
-pub(crate) fn settle(seat: &mut Seat, room: &mut Room, now: u64, turns: &mut u64)
+/// more before. It hands back the place of one that is left, as it was.
+pub(crate) fn settle(seat: &mut Seat, room: &mut Room, now: u64, turns: &mut u64) -> Option<Seat>
     ensures settled { IsSettled now turns.old turns.new seat.old room.old seat.new room.new }
+    ensures left { IfSome result (IsLeft now turns.old turns.new seat.old room.old) }
+    ensures stays { IfNone result (is_free seat.new ≡ is_free seat.old) }
     ensures turn { seat.old.turn ≡ 0 → 0 < seat.new.turn → (turns.new ≡ raised turns.old 1) × (seat.new.turn ≡ turns.new) }
     ensures turns { (turns.old ≤ turns.new) × (turns.new ≤ raised turns.old 1) }
 {
     if seat.line.is_none() {
-        return;
+        return None;
     }
     if now.saturating_sub(seat.since) >= LONGEST_IDLE {
         seat.is_readable = true;
         seat.is_writable = true;
     }
     go_on(seat, room, now, turns);
-    leave_if_due(seat, room, now);
+    leave_if_due(seat, room, now)
 }
 
-/// Has a place hold a connection that came, reads it, and leaves it where it is to be left.
-fn enter(seat: &mut Seat, room: &mut Room, new: Seat, turns: &mut u64)
+/// Has a place hold a connection that came, reads it, and leaves it where it is to be left. It hands back the place of one
+/// that is left, as it was.
+fn enter(seat: &mut Seat, room: &mut Room, new: Seat, turns: &mut u64) -> Option<Seat>
     requires { (peer : Peer) × (now : ℕ) × IsTaken peer now new }
     ensures entered { IsEntered new.since turns.old turns.new seat.new room.new }
+    ensures left { IfSome result (IsLeftAtOnce new.since new) }
+    ensures stays { IfNone result (is_free seat.new ≡ false) }
     ensures turns { (turns.old ≤ turns.new) × (turns.new ≤ raised turns.old 1) }
 {
     let now = new.since;
@@ -280,7 +288,7 @@ fn enter(seat: &mut Seat, room: &mut Room, new: Seat, turns: &mut u64)
     room.clear();
     fill(seat, room);
     queue_up(seat, room, turns);
-    leave_if_due(seat, room, now);
+    leave_if_due(seat, room, now)
 }
 
 /// Has the place hold a connection that came, and reads it, if there is such a place with a room.
@@ -291,7 +299,7 @@ pub(crate) fn enter_at(seats: &mut [Seat], rooms: &mut [Room], i: usize, new: Se
     ensures turns { (turns.old ≤ turns.new) × (turns.new ≤ raised turns.old 1) }
 {
     if i < seats.len() && i < rooms.len() {
-        enter(&mut seats[i], &mut rooms[i], new, turns);
+        let _ = enter(&mut seats[i], &mut rooms[i], new, turns);
     }
 }
 
@@ -346,7 +354,7 @@ pub(crate) fn settle_at(seats: &mut [Seat], rooms: &mut [Room], i: usize, now: u
     ensures turns { (turns.old ≤ turns.new) × (turns.new ≤ raised turns.old 1) }
 {
     if i < seats.len() && i < rooms.len() {
-        settle(&mut seats[i], &mut rooms[i], now, turns);
+        let _ = settle(&mut seats[i], &mut rooms[i], now, turns);
     }
 }
 

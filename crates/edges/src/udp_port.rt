@@ -1,5 +1,5 @@
 //! A port of UDP over a socket of its own, at an address and port that all ports have.
-ghost use Rattle.std.specs.Prelude.{◌≡◌, ◌≢◌, ◌≤◌, ℕ, Some, length};
+ghost use Rattle.std.specs.Prelude.{◌≡◌, ◌≢◌, ◌≤◌, ◌+◌, ℕ, Some, length};
 ghost use Rattle.outside.specs.Port.{IsShort};
 ghost use Rattle.past_log.specs.Port.{new_port};
 ghost use Rattle.outside.specs.declared.limits.TheConstants.{LARGEST_DATAGRAM};
@@ -9,7 +9,7 @@ use crate::peers::socket_addr;
 use addr_text::{Listen, Peer};
 use handed_in::{Unfit, handed_in, take_udp};
 use outside::{Arrival, LARGEST_DATAGRAM, Opening, Port, Sending};
-use past_log::{PortEvent, PortPast};
+use past_log::{CallEvent, CallsPast, PortEvent, PortPast};
 use reuse_port::{bind_beside, grow_receive_buffer};
 use std::io::ErrorKind;
 use std::marker::Model;
@@ -89,16 +89,20 @@ pub struct UdpPort<'a, N: Net> {
     socket: Option<PortSocket<'a>>,
     faults: u64,
     past: PortPast,
+    /// The calls for a datagram, of which clauses alone speak.
+    asked: CallsPast,
+    /// The calls that handed a reply on, likewise.
+    handed: CallsPast,
 }
 
 impl<'a, N: Net> Model for UdpPort<'a, N> {
-    ghost use Rattle.edges.specs.Pasts.{PortNoted, IsGoing};
+    ghost use Rattle.edges.specs.Pasts.{PortNoted, IsAsked, IsGoing, IsHanded};
 
     ghost Value = { PortNoted };
 
     ghost view = { λ p. record { told = p.past.told; faults = p.faults } };
 
-    ghost invariant = { λ p. IsGoing p.past.told };
+    ghost invariant = { λ p. IsGoing p.past.told × IsAsked p.asked.told p.past.told × IsHanded p.handed.told p.past.told };
 }
 
 impl<'a, N: Net> UdpPort<'a, N> {
@@ -112,6 +116,8 @@ impl<'a, N: Net> UdpPort<'a, N> {
             socket: None,
             faults: 0,
             past: PortPast::new(),
+            asked: CallsPast::new(),
+            handed: CallsPast::new(),
         }
     }
 }
@@ -224,12 +230,14 @@ fn socket_of<'s>(socket: &'s Option<PortSocket<'_>>) -> Option<&'s UdpSocket> {
 
 /// Takes the next datagram, to the front of the buffer. One octet more than is answered has to be seen, so a buffer that
 /// has no room for it is filled from a longer one.
-fn take_datagram(socket: &UdpSocket, buffer: &mut [u8]) -> Arrival
+fn take_datagram(socket: &UdpSocket, asked: &mut CallsPast, buffer: &mut [u8]) -> Arrival
     requires { LARGEST_DATAGRAM ≤ length buffer.old }
+    ensures asked { asked.new.told ≡ asked.old.told + 1 }
     ensures short { IsShort result }
     ensures open { result ≢ Arrival.End }
     ensures buffer { length buffer.new ≡ length buffer.old }
 {
+    asked.note(&CallEvent::Made);
     if buffer.len() > LARGEST_DATAGRAM {
         return arrival_of(socket.recv_from(buffer));
     }
@@ -242,15 +250,36 @@ fn take_datagram(socket: &UdpSocket, buffer: &mut [u8]) -> Arrival
 }
 
 /// Takes the next datagram of a socket, if there is one.
-fn take_next(socket: Option<&UdpSocket>, buffer: &mut [u8]) -> Arrival
+fn take_next(socket: Option<&UdpSocket>, asked: &mut CallsPast, buffer: &mut [u8]) -> Arrival
     requires { LARGEST_DATAGRAM ≤ length buffer.old }
+    ensures asked { asked.old.told ≤ asked.new.told }
+    ensures once { result ≢ Arrival.Failed → asked.new.told ≡ asked.old.told + 1 }
     ensures short { IsShort result }
     ensures open { result ≢ Arrival.End }
     ensures buffer { length buffer.new ≡ length buffer.old }
 {
     match socket {
-        Some(socket) => take_datagram(socket, buffer),
+        Some(socket) => take_datagram(socket, asked, buffer),
         None => Arrival::Failed,
+    }
+}
+
+/// Hands a reply on, where there is a socket.
+fn send_next(
+    socket: Option<&UdpSocket>,
+    handed: &mut CallsPast,
+    octets: &[u8],
+    peer: Peer,
+) -> Sending
+    ensures later { handed.old.told ≤ handed.new.told }
+    ensures once { result ≡ Sending.Sent → handed.new.told ≡ handed.old.told + 1 }
+{
+    match socket {
+        Some(socket) => {
+            handed.note(&CallEvent::Made);
+            sending_of(socket.send_to(octets, socket_addr(peer.addr, peer.port)))
+        }
+        None => Sending::Failed,
     }
 }
 
@@ -270,7 +299,7 @@ impl<N: Net> Port for UdpPort<'_, N> {
     }
 
     fn recv(&mut self, known: u64, buffer: &mut [u8]) -> Arrival {
-        let arrival = take_next(socket_of(&self.socket), buffer);
+        let arrival = take_next(socket_of(&self.socket), &mut self.asked, buffer);
         self.past.note(&PortEvent::Received(known, buffer, arrival));
         if let Arrival::Failed = arrival {
             self.faults = self.faults.saturating_add(1);
@@ -279,12 +308,7 @@ impl<N: Net> Port for UdpPort<'_, N> {
     }
 
     fn send(&mut self, octets: &[u8], peer: Peer, serial: u64) -> Sending {
-        let sending = match socket_of(&self.socket) {
-            Some(socket) => {
-                sending_of(socket.send_to(octets, socket_addr(peer.addr, peer.port)))
-            }
-            None => Sending::Failed,
-        };
+        let sending = send_next(socket_of(&self.socket), &mut self.handed, octets, peer);
         self.past
             .note(&PortEvent::Tried(octets, peer, serial, sending));
         if let Sending::Failed = sending {

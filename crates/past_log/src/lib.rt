@@ -2,7 +2,9 @@
 //! nothing.
 #![tactic(auto)]
 
+mod calls;
 mod gate;
+mod line;
 mod names;
 mod pace;
 mod past;
@@ -11,7 +13,9 @@ mod sink;
 mod source;
 mod streams;
 
+pub use calls::{CallEvent, CallsPast, CallsTelling};
 pub use gate::{GateEvent, GatePast, GateTelling};
+pub use line::{LineEvent, LinePast, LineTelling};
 pub use names::{NameEvent, NamesPast, NamesTelling};
 pub use pace::{PaceEvent, PacePast, PaceTelling};
 pub use past::Past;

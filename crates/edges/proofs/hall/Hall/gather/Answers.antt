@@ -20,11 +20,11 @@ go_round-requires g c =
     }
 
 -- what the round left, in the vectors
-all : (g : Over) (c : goal.After-self-4-1 g) → let hall = c.args.self.now in (put hall.seats.len c.go_round.new.seats (put hall.seats.len c.wait.new.seats hall.seats.items) ≡ c.go_round.new.seats) × (put hall.rooms.len c.go_round.new.rooms hall.rooms.items ≡ c.go_round.new.rooms)
-    × IsRound c.now_of-self.result hall.turns c.go_round.new.turns hall.seats.items hall.rooms.items (put hall.seats.len c.go_round.new.seats (put hall.seats.len c.wait.new.seats hall.seats.items)) (put hall.rooms.len c.go_round.new.rooms hall.rooms.items)
+all : (g : Over) (c : goal.After-self-3-1 g) → let hall = c.args.self.now in (put hall.seats.len c.go_round.new.seats (put hall.seats.len c.wait.new.seats hall.seats.items) ≡ c.go_round.new.seats) × (put hall.rooms.len c.go_round.new.rooms hall.rooms.items ≡ c.go_round.new.rooms)
+    × IsRound c.read.new.self.now hall.turns c.go_round.new.turns hall.seats.items hall.rooms.items (put hall.seats.len c.go_round.new.seats (put hall.seats.len c.wait.new.seats hall.seats.items)) (put hall.rooms.len c.go_round.new.rooms hall.rooms.items)
 all g c =
     let hall = c.args.self.now in
-    round_put c.now_of-self.result hall.turns c.go_round.new.turns hall.seats.len hall.rooms.len hall.seats.items c.wait.new.seats c.go_round.new.seats c.deref_mut.result.now c.deref_mut-2.result.now hall.rooms.items c.go_round.new.rooms c.deref_mut-3.result.now
+    round_put c.read.new.self.now hall.turns c.go_round.new.turns hall.seats.len hall.rooms.len hall.seats.items c.wait.new.seats c.go_round.new.seats c.deref_mut.result.now c.deref_mut-2.result.now hall.rooms.items c.go_round.new.rooms c.deref_mut-3.result.now
     (sym c.deref_mut.ensures.len ∙ ap length c.deref_mut.ensures.value) (sym c.deref_mut-3.ensures.len ∙ ap length c.deref_mut-3.ensures.value) c.deref_mut.ensures.value c.wait.ensures.woken c.deref_mut-2.ensures.value c.deref_mut-3.ensures.value c.go_round.ensures.went
 
 pub returns-clause-numbered : goal.returns-clause-numbered
