@@ -19,7 +19,10 @@ pub(crate) struct Judge {
 impl Judge {
     /// One that has checked nothing.
     pub fn new(alloc: Global, instance: &Instance) -> Result<Judge, NoMemory>
-        ensures room { IfOk result (λ j. j.room ≡ record { groups = length instance.now.groups; nodes = length instance.now.nodes }) }
+        ensures room { IfOk result (λ j. j.room ≡ record {
+          groups = length instance.now.groups;
+          nodes = length instance.now.nodes;
+        }) }
         ensures good { IfOk result (λ j. j.good ≡ 0) }
     {
         Ok(Judge {
@@ -30,7 +33,10 @@ impl Judge {
 
     /// Checks the newest map, and counts it where it is good.
     pub fn check_newest<J: Naming>(&mut self, mapper: &Mapper<J>)
-        requires room { self.old.room ≡ record { groups = length mapper.now.newest.market.groups; nodes = length mapper.now.newest.market.nodes } }
+        requires room { self.old.room ≡ record {
+          groups = length mapper.now.newest.market.groups;
+          nodes = length mapper.now.newest.market.nodes;
+        } }
         requires few { self.old.good < 2 ^ 64 - 1 }
         ensures room { self.new.room ≡ self.old.room }
         ensures good { self.new.good ≡ self.old.good + 1 }

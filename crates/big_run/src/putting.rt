@@ -9,7 +9,8 @@ use outside::{Put, Sink};
 
 /// Puts the lines of a summary, one by one, up to the first that fails.
 pub fn put_lines<K: Sink>(summary: &Summary, out: &mut K) -> Put
-    ensures puts { BothTell (K.told out.old).past (K.told out.new).past (ArePut result (lines_of summary.now)) }
+    ensures puts { BothTell
+        (K.told out.old).past (K.told out.new).past (ArePut result (lines_of summary.now)) }
     ensures later { (K.told out.old).faults ≤ (K.told out.new).faults }
     ensures cause { result ≡ Put.Failed → Rose (K.told out.old).faults (K.told out.new).faults }
     ensures stays { result ≢ Put.Failed → (K.told out.new).faults ≡ (K.told out.old).faults }

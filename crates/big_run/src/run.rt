@@ -31,7 +31,8 @@ fn summary<J: Naming>(mapper: &Mapper<J>, groups: u32, good: u64, proposals: u64
     requires groups { groups ≤ LARGEST_WORLD }
     requires good { good ≡ mapper.now.newest.serial + 1 }
     requires last { mapper.now.newest.serial < 2 ^ 64 - 1 }
-    ensures { (t : Plan) → length mapper.now.newest.market.nodes ≡ length t.market.nodes → result ≡ summary_of groups t mapper.now proposals }
+    ensures { (t : Plan) → length mapper.now.newest.market.nodes ≡ length t.market.nodes
+        → result ≡ summary_of groups t mapper.now proposals }
 {
     let (instance, _) = mapper.newest_map();
     Summary {
@@ -58,8 +59,10 @@ fn work<J: Naming, R: Wait>(
     requires first { IsFirst mapper.old.newest.plan mapper.old }
     requires length { length feed.now < 2 ^ 63 }
     requires groups { groups ≤ LARGEST_WORLD }
-    ensures done { OnOk result (AllDo TaskPublishes (tasks mapper.old.newest.plan (whole_lines feed.now)) mapper.old mapper.new) }
-    ensures sums { IfOk result (λ s. s ≡ summary_of groups mapper.old.newest.plan mapper.new proposals) }
+    ensures done { OnOk result (AllDo
+        TaskPublishes (tasks mapper.old.newest.plan (whole_lines feed.now)) mapper.old mapper.new) }
+    ensures sums { IfOk result (λ s.
+        s ≡ summary_of groups mapper.old.newest.plan mapper.new proposals) }
 {
     let topology = Arc::try_clone(mapper.topology())?;
     let mut judge = Judge::new(alloc, mapper.newest_map().0)?;

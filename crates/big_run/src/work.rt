@@ -29,7 +29,10 @@ fn publish<J: Naming, R: Wait>(
     requires ids { IsBatch mapper.old.newest.plan.market clerk.now.due }
     requires some { clerk.now.due ≢ [] }
     requires serial { mapper.old.newest.serial < 2 ^ 64 - 2 }
-    requires room { judge.old.room ≡ record { groups = length mapper.old.newest.market.groups; nodes = length mapper.old.newest.market.nodes } }
+    requires room { judge.old.room ≡ record {
+      groups = length mapper.old.newest.market.groups;
+      nodes = length mapper.old.newest.market.nodes;
+    } }
     requires good { judge.old.good ≡ mapper.old.newest.serial + 1 }
     ensures published { OnOk result (IsPublished mapper.old clerk.now.due mapper.new) }
     ensures room { OnOk result (judge.new.room ≡ judge.old.room) }
@@ -54,7 +57,8 @@ fn take_line<J: Naming, R: Wait>(
     requires number { clerk.old.ledger.number < 2 ^ 64 - 1 }
     requires serial { mapper.old.newest.serial < 2 ^ 64 - 2 }
     ensures work { OnOk result (IsAtWork topology.now clerk.new mapper.new judge.new) }
-    ensures taken { IfOk result (λ goes_on. IsLineTaken topology.now line.now goes_on clerk.old.ledger clerk.new.ledger mapper.old mapper.new) }
+    ensures taken { IfOk result (λ goes_on. IsLineTaken
+        topology.now line.now goes_on clerk.old.ledger clerk.new.ledger mapper.old mapper.new) }
     ensures number { OnOk result (clerk.new.ledger.number ≡ clerk.old.ledger.number + 1) }
     ensures serial { OnOk result (mapper.new.newest.serial ≤ mapper.old.newest.serial + 1) }
 {
@@ -82,7 +86,8 @@ pub(crate) fn take_lines<J: Naming, R: Wait>(
     requires serial { mapper.old.newest.serial ≡ 0 }
     requires length { length feed.now < 2 ^ 63 }
     ensures work { OnOk result (IsAtWork topology.now clerk.new mapper.new judge.new) }
-    ensures done { OnOk result (AllDo TaskPublishes (tasks topology.now (whole_lines feed.now)) mapper.old mapper.new) }
+    ensures done { OnOk result
+        (AllDo TaskPublishes (tasks topology.now (whole_lines feed.now)) mapper.old mapper.new) }
 {
     let mut rest = feed;
     'lines: while let Some((line, behind)) = cut(rest, b'\n') {

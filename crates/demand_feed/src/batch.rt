@@ -30,7 +30,8 @@ impl Model for Batch {
 
     ghost view = { λ b. b.changes.items };
 
-    ghost invariant = { λ b. (most_changes ≤ vec_capacity b.changes) × (vec_len b.changes ≤ most_changes) × All IsInRange b.changes.items };
+    ghost invariant = { λ b. (most_changes ≤ vec_capacity b.changes)
+        × (vec_len b.changes ≤ most_changes) × All IsInRange b.changes.items };
 }
 
 /// Another demand of a group, by its name.
@@ -119,7 +120,8 @@ impl Batch {
     /// Takes one change more, unless there are 4,096.
     fn push(&mut self, change: Change) -> Result<(), BatchFault>
         requires { IsInRange change }
-        ensures added { MatchResult result (λ _. with_change self.old (Ok change) ≡ Ok self.new) (λ e. (with_change self.old (Ok change) ≡ Err e) × (self.new ≡ self.old)) }
+        ensures added { MatchResult result (λ _. with_change self.old (Ok change) ≡ Ok self.new)
+            (λ e. (with_change self.old (Ok change) ≡ Err e) × (self.new ≡ self.old)) }
         ensures kept { (m : Market) → IsChange m change → IsBatch m self.old → IsBatch m self.new }
     {
         if self.changes.len() < MOST_CHANGES && self.changes.push(change).is_ok() {
@@ -137,7 +139,9 @@ impl Batch {
     /// else `Full` where there are 4,096 changes.
     pub fn add(&mut self, topology: &Topology, line: &Line<'_>) -> Result<(), BatchFault>
         requires { IsChangeLine line.now }
-        ensures added { MatchResult result (λ _. with_line topology.now self.old line.now ≡ Ok self.new) (λ e. (with_line topology.now self.old line.now ≡ Err e) × (self.new ≡ self.old)) }
+        ensures added { MatchResult result (λ _. with_line topology.now self.old line.now
+            ≡ Ok self.new) (λ e. (with_line topology.now self.old line.now ≡ Err e)
+            × (self.new ≡ self.old)) }
         ensures kept { IsBatch topology.now.market self.old → IsBatch topology.now.market self.new }
     {
         let change = match line {
@@ -152,7 +156,8 @@ impl Batch {
 /// Gives one group or node its number.
 fn apply_change(instance: &mut Instance, change: Change)
     requires { IsChange instance.old change }
-    ensures { (old : Market) (changes : List Change) → IsApplied old changes instance.old → IsApplied old (changes ++ change ∷ []) instance.new }
+    ensures { (old : Market) (changes : List Change)
+        → IsApplied old changes instance.old → IsApplied old (changes ++ change ∷ []) instance.new }
 {
     match change {
         Change::Demand { group, demand } => instance.set_demand(group, demand),

@@ -58,7 +58,8 @@ impl Error for ChangesFault {}
 /// A change by the first word of its line and what follows that.
 fn change_by<'a>(word: &[u8], rest: &'a [u8]) -> Result<Line<'a>, LineFault>
     ensures change { IfOk result IsChangeLine }
-    ensures said { MatchResult result (λ l. change_by word.now (words_of rest.entry.now) ≡ Ok (said_by l)) (λ e. change_by word.now (words_of rest.entry.now) ≡ Err e) }
+    ensures said { MatchResult result (λ l. change_by word.now (words_of rest.entry.now)
+        ≡ Ok (said_by l)) (λ e. change_by word.now (words_of rest.entry.now) ≡ Err e) }
 {
     if word == b"demand".as_slice() {
         demand_line(rest)
@@ -73,7 +74,8 @@ fn change_by<'a>(word: &[u8], rest: &'a [u8]) -> Result<Line<'a>, LineFault>
 #[tactic(auto, unfolding(crate::specs::Changes::change_line_of))]
 fn read_change_line(line: &[u8]) -> Result<Line<'_>, LineFault>
     ensures change { IfOk result IsChangeLine }
-    ensures said { MatchResult result (λ l. change_line_of line.now ≡ Ok (said_by l)) (λ e. change_line_of line.now ≡ Err e) }
+    ensures said { MatchResult result (λ l.
+        change_line_of line.now ≡ Ok (said_by l)) (λ e. change_line_of line.now ≡ Err e) }
 {
     if line.len() > LONGEST_LINE {
         return Err(LineFault::TooLong);
@@ -89,7 +91,9 @@ fn read_change_line(line: &[u8]) -> Result<Line<'_>, LineFault>
 
 /// Takes the change of a line. After a refusal the batch is as before.
 fn take_line(topology: &Topology, batch: &mut Batch, line: &[u8]) -> Result<(), Refusal>
-    ensures taken { MatchResult result (λ _. with_said topology.now batch.old (change_line_of line.now) ≡ Ok batch.new) (λ why. with_said topology.now batch.old (change_line_of line.now) ≡ Err why) }
+    ensures taken { MatchResult result (λ _.
+        with_said topology.now batch.old (change_line_of line.now) ≡ Ok batch.new) (λ why.
+        with_said topology.now batch.old (change_line_of line.now) ≡ Err why) }
     ensures kept { IsBatch topology.now.market batch.old → IsBatch topology.now.market batch.new }
 {
     let line = match read_change_line(line) {
@@ -111,8 +115,10 @@ fn take_line(topology: &Topology, batch: &mut Batch, line: &[u8]) -> Result<(), 
 ///
 /// `Refused` with the number of the first line that is refused, and why; `NoMemory`.
 pub fn read_changes(alloc: Global, topology: &Topology, text: &[u8]) -> Result<Batch, ChangesFault>
-    ensures read { MatchResult result (λ batch. changes_of topology.now text.now ≡ Ok batch) (λ e. ¬ (e ≡ ChangesFault.NoMemory) → changes_of topology.now text.now ≡ Err e) }
-    ensures plain { MatchResult result (λ batch. FileSays topology.now text.now (Ok batch)) (λ e. ¬ (e ≡ ChangesFault.NoMemory) → FileSays topology.now text.now (Err e)) }
+    ensures read { MatchResult result (λ batch. changes_of topology.now text.now ≡ Ok batch) (λ e.
+        ¬ (e ≡ ChangesFault.NoMemory) → changes_of topology.now text.now ≡ Err e) }
+    ensures plain { MatchResult result (λ batch. FileSays topology.now text.now (Ok batch)) (λ e.
+        ¬ (e ≡ ChangesFault.NoMemory) → FileSays topology.now text.now (Err e)) }
     ensures batch { IfOk result (IsBatch topology.now.market) }
 {
     let mut batch = Batch::new(alloc)?;

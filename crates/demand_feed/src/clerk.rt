@@ -57,7 +57,14 @@ impl Model for Clerk {
 
     ghost Value = { Clerking };
 
-    ghost view = { λ c. record { ledger = record { number = c.number; refused = c.refused; changes = c.batch }; due = c.due } };
+    ghost view = { λ c. record {
+      ledger = record {
+        number = c.number;
+        refused = c.refused;
+        changes = c.batch;
+      };
+      due = c.due;
+    } };
 
     ghost invariant = { λ c. c.refused ≤ c.number };
 }
@@ -112,7 +119,10 @@ impl Clerk {
 
     fn refuse(&mut self, why: Refusal) -> Next
         requires { self.old.ledger.refused < self.old.ledger.number }
-        ensures step { record { task = task_by self.new.due result; ledger = self.new.ledger } ≡ refuse self.old.ledger why }
+        ensures step { record {
+          task = task_by self.new.due result;
+          ledger = self.new.ledger;
+        } ≡ refuse self.old.ledger why }
         ensures due { self.new.due ≡ self.old.due }
         ensures goes_on { ¬ (result ≡ Next.Stop) }
     {
@@ -123,9 +133,11 @@ impl Clerk {
     fn change(&mut self, topology: &Topology, line: &Line<'_>) -> Next
         requires line { IsChangeLine line.now }
         requires refused { self.old.ledger.refused < self.old.ledger.number }
-        ensures step { record { task = task_by self.new.due result; ledger = self.new.ledger } ≡ changed self.old.ledger (with_line topology.now self.old.ledger.changes line.now) }
+        ensures step { record { task = task_by self.new.due result; ledger = self.new.ledger }
+            ≡ changed self.old.ledger (with_line topology.now self.old.ledger.changes line.now) }
         ensures due { self.new.due ≡ self.old.due }
-        ensures kept { AreBatches topology.now.market self.old → AreBatches topology.now.market self.new }
+        ensures kept { AreBatches topology.now.market self.old
+            → AreBatches topology.now.market self.new }
         ensures goes_on { ¬ (result ≡ Next.Stop) }
     {
         match self.batch.add(topology, line) {
@@ -135,7 +147,10 @@ impl Clerk {
     }
 
     fn commit(&mut self) -> Next
-        ensures step { record { task = task_by self.new.due result; ledger = self.new.ledger } ≡ commit_line self.old.ledger }
+        ensures step { record {
+          task = task_by self.new.due result;
+          ledger = self.new.ledger;
+        } ≡ commit_line self.old.ledger }
         ensures due { result ≢ Next.Batch → self.new.due ≡ self.old.due }
         ensures kept { (m : Market) → AreBatches m self.old → AreBatches m self.new }
         ensures goes_on { ¬ (result ≡ Next.Stop) }
@@ -157,9 +172,11 @@ impl Clerk {
     fn take_line(&mut self, topology: &Topology, line: Line<'_>) -> Next
         requires short { IsShort LONGEST_LINE line }
         requires refused { self.old.ledger.refused < self.old.ledger.number }
-        ensures step { record { task = task_by self.new.due result; ledger = self.new.ledger } ≡ by_said topology.now self.old.ledger (Ok (said_by line.entry)) }
+        ensures step { record { task = task_by self.new.due result; ledger = self.new.ledger }
+            ≡ by_said topology.now self.old.ledger (Ok (said_by line.entry)) }
         ensures due { result ≢ Next.Batch → self.new.due ≡ self.old.due }
-        ensures kept { AreBatches topology.now.market self.old → AreBatches topology.now.market self.new }
+        ensures kept { AreBatches topology.now.market self.old
+            → AreBatches topology.now.market self.new }
         ensures stop { (result ≡ Next.Stop) ↔ (line.entry ≡ Line.Stop) }
     {
         match line {
@@ -178,10 +195,14 @@ impl Clerk {
     #[tactic(auto, unfolding(crate::specs::Task::step))]
     pub fn take(&mut self, topology: &Topology, line: &[u8]) -> Next
         requires { self.old.ledger.number < 2 ^ 64 - 1 }
-        ensures step { record { task = task_by self.new.due result; ledger = self.new.ledger } ≡ step topology.now self.old.ledger line.now }
+        ensures step { record {
+          task = task_by self.new.due result;
+          ledger = self.new.ledger;
+        } ≡ step topology.now self.old.ledger line.now }
         // The batch that ended last stays until another one ends.
         ensures due { result ≢ Next.Batch → self.new.due ≡ self.old.due }
-        ensures kept { AreBatches topology.now.market self.old → AreBatches topology.now.market self.new }
+        ensures kept { AreBatches topology.now.market self.old
+            → AreBatches topology.now.market self.new }
         ensures stop { (result ≡ Next.Stop) ↔ (is_stop line.now ≡ true) }
     {
         self.number += 1;

@@ -28,7 +28,8 @@ impl Model for Cutter {
 
     ghost view = { λ c. c.line.items };
 
-    ghost invariant = { λ c. (longest_line + 1 ≤ vec_capacity c.line) × (vec_len c.line ≤ longest_line + 1) };
+    ghost invariant = { λ c. (longest_line + 1 ≤ vec_capacity c.line)
+        × (vec_len c.line ≤ longest_line + 1) };
 }
 
 impl Cutter {
@@ -70,7 +71,9 @@ impl Cutter {
     /// Takes a piece up to the end of the line, and answers what stands behind that; None where the line does not
     /// end in this piece. A line that has ended is kept until it is cleared.
     pub fn take<'a>(&mut self, piece: &'a [u8]) -> Option<&'a [u8]>
-        ensures cut { MatchOption result (parts 10 piece.entry.now ≡ piece.entry.now ∷ []) (λ behind. (before : List ℕ) × (parts 10 piece.entry.now ≡ before ∷ parts 10 behind.now) × GoesOn self.old before self.new) }
+        ensures cut { MatchOption result (parts 10 piece.entry.now ≡ piece.entry.now ∷ [])
+            (λ behind. (before : List ℕ) × (parts 10 piece.entry.now ≡ before ∷ parts 10 behind.now)
+            × GoesOn self.old before self.new) }
         ensures open { IfNone result (GoesOn self.old piece.entry.now self.new) }
         ensures shorter { IfSome result (λ behind. length behind.now < length piece.entry.now) }
     {

@@ -54,7 +54,8 @@ fn is_number(word: &[u8]) -> bool
 
 /// The number that a word writes.
 fn read_number(word: &[u8]) -> Result<u64, LineFault>
-    ensures { MatchResult result (λ n. (is_number word.now ≡ true) × (n ≡ digits_value 10 word.now)) (λ e. (is_number word.now ≡ false) × (e ≡ LineFault.BadNumber)) }
+    ensures { MatchResult result (λ n. (is_number word.now ≡ true) × (n ≡ digits_value 10 word.now))
+        (λ e. (is_number word.now ≡ false) × (e ≡ LineFault.BadNumber)) }
 {
     if !is_number(word) {
         return Err(LineFault::BadNumber);
@@ -87,7 +88,8 @@ fn is_hex(word: &[u8]) -> bool
 
 /// The two words of a text that has no others.
 fn two_words(text: &[u8]) -> Option<(&[u8], &[u8])>
-    ensures words { MatchOption result (two_of (words_of text.now) ≡ None) (λ r. two_of (words_of text.now) ≡ Some (r.0.now, r.1.now)) }
+    ensures words { MatchOption result (two_of (words_of text.now) ≡ None) (λ r.
+        two_of (words_of text.now) ≡ Some (r.0.now, r.1.now)) }
     ensures short { IfSome result (λ r. length r.1.now ≤ length text.now) }
 {
     let (first, rest) = next_word(text)?;
@@ -100,7 +102,9 @@ fn two_words(text: &[u8]) -> Option<(&[u8], &[u8])>
 
 /// The name and the number of a change.
 fn read_change(rest: &[u8]) -> Result<(&[u8], u64), LineFault>
-    ensures { (said : List ℕ → ℕ → Said) → MatchResult result (λ r. change_of said (two_of (words_of rest.now)) ≡ Ok (said r.0.now r.1)) (λ e. change_of said (two_of (words_of rest.now)) ≡ Err e) }
+    ensures { (said : List ℕ → ℕ → Said)
+        → MatchResult result (λ r. change_of said (two_of (words_of rest.now))
+        ≡ Ok (said r.0.now r.1)) (λ e. change_of said (two_of (words_of rest.now)) ≡ Err e) }
 {
     match two_words(rest) {
         Some((name, word)) => match read_number(word) {
@@ -114,7 +118,8 @@ fn read_change(rest: &[u8]) -> Result<(&[u8], u64), LineFault>
 /// The query of an address and digits.
 fn read_ask(rest: &[u8]) -> Result<Line<'_>, LineFault>
     ensures short { IfOk result (IsShort (length rest.now)) }
-    ensures said { MatchResult result (λ l. ask_of (two_of (words_of rest.now)) ≡ Ok (said_by l)) (λ e. ask_of (two_of (words_of rest.now)) ≡ Err e) }
+    ensures said { MatchResult result (λ l. ask_of (two_of (words_of rest.now))
+        ≡ Ok (said_by l)) (λ e. ask_of (two_of (words_of rest.now)) ≡ Err e) }
 {
     let Some((addr, digits)) = two_words(rest) else {
         return Err(LineFault::WrongCount);
@@ -133,7 +138,8 @@ fn read_ask(rest: &[u8]) -> Result<Line<'_>, LineFault>
 fn alone<'a>(line: Line<'a>, rest: &[u8]) -> Result<Line<'a>, LineFault>
     requires { IsShort 0 line }
     ensures short { IfOk result (IsShort (length rest.now)) }
-    ensures said { MatchResult result (λ l. alone (said_by line.entry) (words_of rest.now) ≡ Ok (said_by l)) (λ e. alone (said_by line.entry) (words_of rest.now) ≡ Err e) }
+    ensures said { MatchResult result (λ l. alone (said_by line.entry) (words_of rest.now)
+        ≡ Ok (said_by l)) (λ e. alone (said_by line.entry) (words_of rest.now) ≡ Err e) }
 {
     match next_word(rest) {
         None => Ok(line),
@@ -145,7 +151,8 @@ fn alone<'a>(line: Line<'a>, rest: &[u8]) -> Result<Line<'a>, LineFault>
 pub(crate) fn demand_line(rest: &[u8]) -> Result<Line<'_>, LineFault>
     ensures change { IfOk result IsChangeLine }
     ensures short { IfOk result (IsShort (length rest.now)) }
-    ensures said { MatchResult result (λ l. change_of demand (two_of (words_of rest.now)) ≡ Ok (said_by l)) (λ e. change_of demand (two_of (words_of rest.now)) ≡ Err e) }
+    ensures said { MatchResult result (λ l. change_of demand (two_of (words_of rest.now))
+        ≡ Ok (said_by l)) (λ e. change_of demand (two_of (words_of rest.now)) ≡ Err e) }
 {
     match read_change(rest) {
         Ok((group, number)) => Ok(Line::Demand { group, number }),
@@ -157,7 +164,8 @@ pub(crate) fn demand_line(rest: &[u8]) -> Result<Line<'_>, LineFault>
 pub(crate) fn capacity_line(rest: &[u8]) -> Result<Line<'_>, LineFault>
     ensures change { IfOk result IsChangeLine }
     ensures short { IfOk result (IsShort (length rest.now)) }
-    ensures said { MatchResult result (λ l. change_of capacity (two_of (words_of rest.now)) ≡ Ok (said_by l)) (λ e. change_of capacity (two_of (words_of rest.now)) ≡ Err e) }
+    ensures said { MatchResult result (λ l. change_of capacity (two_of (words_of rest.now))
+        ≡ Ok (said_by l)) (λ e. change_of capacity (two_of (words_of rest.now)) ≡ Err e) }
 {
     match read_change(rest) {
         Ok((node, number)) => Ok(Line::Capacity { node, number }),
@@ -168,7 +176,8 @@ pub(crate) fn capacity_line(rest: &[u8]) -> Result<Line<'_>, LineFault>
 /// A line by its first word and what follows that.
 fn by_word<'a>(word: &[u8], rest: &'a [u8]) -> Result<Line<'a>, LineFault>
     ensures short { IfOk result (IsShort (length rest.entry.now)) }
-    ensures said { MatchResult result (λ l. by_word word.now (words_of rest.entry.now) ≡ Ok (said_by l)) (λ e. by_word word.now (words_of rest.entry.now) ≡ Err e) }
+    ensures said { MatchResult result (λ l. by_word word.now (words_of rest.entry.now)
+        ≡ Ok (said_by l)) (λ e. by_word word.now (words_of rest.entry.now) ≡ Err e) }
 {
     if word == b"demand".as_slice() {
         demand_line(rest)
@@ -195,7 +204,8 @@ fn by_word<'a>(word: &[u8], rest: &'a [u8]) -> Result<Line<'a>, LineFault>
 #[tactic(auto, unfolding(crate::specs::Line::line_of))]
 pub fn read_line(line: &[u8]) -> Result<Line<'_>, LineFault>
     ensures short { IfOk result (IsShort LONGEST_LINE) }
-    ensures said { MatchResult result (λ l. line_of line.now ≡ Ok (said_by l)) (λ e. line_of line.now ≡ Err e) }
+    ensures said { MatchResult result (λ l.
+        line_of line.now ≡ Ok (said_by l)) (λ e. line_of line.now ≡ Err e) }
 {
     if line.len() > LONGEST_LINE {
         return Err(LineFault::TooLong);

@@ -32,8 +32,11 @@ pub(crate) fn end_line<T: TakesTasks>(
     to: &mut T,
 ) -> LineEnd
     requires { IsReady T.market T.left topology.now clerk.old to.old 1 }
-    ensures ready { (n : ℕ) → IsReady T.market T.left topology.now clerk.old to.old (n + 1) → IsReady T.market T.left topology.now clerk.new to.new n }
-    ensures came { (before : T) (done : List (List ℕ)) (whole : List ℕ) → line.now ≡ front whole → Stands T.does topology.now before done clerk.old to.old → LineCame T.does T.cuts result topology.now before done whole clerk.new to.new }
+    ensures ready { (n : ℕ) → IsReady T.market T.left topology.now clerk.old to.old (n + 1)
+        → IsReady T.market T.left topology.now clerk.new to.new n }
+    ensures came { (before : T) (done : List (List ℕ)) (whole : List ℕ)
+        → line.now ≡ front whole → Stands T.does topology.now before done clerk.old to.old
+        → LineCame T.does T.cuts result topology.now before done whole clerk.new to.new }
 {
     let next = clerk.take(topology, line);
     match to.take(&next, clerk.due()) {
@@ -57,8 +60,12 @@ pub(crate) fn take_piece<T: TakesTasks>(
     to: &mut T,
 ) -> LineEnd
     requires { IsReady T.market T.left topology.now clerk.old to.old (length piece.now) }
-    ensures ready { (n : ℕ) → IsReady T.market T.left topology.now clerk.old to.old (n + length piece.now) → result ≡ LineEnd.GoesOn → IsReady T.market T.left topology.now clerk.new to.new n }
-    ensures came { (before : T) (bytes : List ℕ) → Reads T.does topology.now before bytes cutter.old clerk.old to.old → PieceCame T.does T.cuts result topology.now before (bytes ++ piece.now) cutter.new clerk.new to.new }
+    ensures ready { (n : ℕ)
+        → IsReady T.market T.left topology.now clerk.old to.old (n + length piece.now)
+        → result ≡ LineEnd.GoesOn → IsReady T.market T.left topology.now clerk.new to.new n }
+    ensures came { (before : T) (bytes : List ℕ)
+        → Reads T.does topology.now before bytes cutter.old clerk.old to.old → PieceCame
+        T.does T.cuts result topology.now before (bytes ++ piece.now) cutter.new clerk.new to.new }
 {
     let mut rest = piece;
     'lines: while let Some(behind) = cutter.take(rest) {

@@ -38,7 +38,8 @@ fn end_last<T: TakesTasks>(
     to: &mut T,
 ) -> FeedEnd
     requires { IsReady T.market T.left topology.now clerk.old to.old 1 }
-    ensures came { (before : T) (bytes : List ℕ) → Reads T.does topology.now before bytes line.now clerk.old to.old → LastCame T.does T.cuts result topology.now before bytes to.new }
+    ensures came { (before : T) (bytes : List ℕ) → Reads T.does topology.now before bytes
+        line.now clerk.old to.old → LastCame T.does T.cuts result topology.now before bytes to.new }
     ensures no_source { result ≢ FeedEnd.SourceFault }
 {
     if line.is_empty() {
@@ -74,12 +75,17 @@ fn take_turn<S: Source, T: TakesTasks>(
 ) -> Option<FeedEnd>
     requires buffer { length buffer.old ≡ READ_SIZE }
     requires ready { IsReady T.market T.left topology.now clerk.old to.old READ_SIZE }
-    ensures ready { (n : ℕ) → IsReady T.market T.left topology.now clerk.old to.old (n + READ_SIZE) → result ≡ None → IsReady T.market T.left topology.now clerk.new to.new n }
-    ensures came { (fed : Option Fed) (before : T) (pieces : List (List ℕ)) → BothTell fed (S.told feed.old).past (HasRead pieces) → Reads T.does topology.now before (concat pieces) cutter.old clerk.old to.old
-        → TurnCame T.does T.cuts result topology.now fed (S.told feed.new).past before (length pieces) cutter.new clerk.new to.new }
+    ensures ready { (n : ℕ) → IsReady T.market T.left topology.now clerk.old to.old (n + READ_SIZE)
+        → result ≡ None → IsReady T.market T.left topology.now clerk.new to.new n }
+    ensures came { (fed : Option Fed) (before : T) (pieces : List (List ℕ))
+        → BothTell fed (S.told feed.old).past (HasRead pieces) → Reads T.does topology.now
+        before (concat pieces) cutter.old clerk.old to.old → TurnCame T.does T.cuts result
+        topology.now fed (S.told feed.new).past before (length pieces) cutter.new clerk.new to.new }
     ensures later { (S.told feed.old).faults ≤ (S.told feed.new).faults }
-    ensures cause { result ≡ Some FeedEnd.SourceFault → Rose (S.told feed.old).faults (S.told feed.new).faults }
-    ensures stays { result ≢ Some FeedEnd.SourceFault → (S.told feed.new).faults ≡ (S.told feed.old).faults }
+    ensures cause { result ≡ Some FeedEnd.SourceFault
+        → Rose (S.told feed.old).faults (S.told feed.new).faults }
+    ensures stays { result ≢ Some FeedEnd.SourceFault
+        → (S.told feed.new).faults ≡ (S.told feed.old).faults }
 {
     match feed.read(buffer) {
         Read::Got(size) => piece_end(take_piece(topology, clerk, cutter, &buffer[..size], to)),
@@ -100,10 +106,14 @@ fn read_all<S: Source, T: TakesTasks>(
 ) -> FeedEnd
     requires buffer { length buffer.old ≡ READ_SIZE }
     requires ready { IsReady T.market T.left topology.now clerk.old to.old (READ_SIZE * turns) }
-    ensures came { (before : T) → Reads T.does topology.now before [] cutter.old clerk.old to.old → IsRun T.does T.cuts topology.now turns result (S.told feed.old).past (S.told feed.new).past before to.new }
+    ensures came { (before : T)
+        → Reads T.does topology.now before [] cutter.old clerk.old to.old → IsRun T.does T.cuts
+        topology.now turns result (S.told feed.old).past (S.told feed.new).past before to.new }
     ensures later { (S.told feed.old).faults ≤ (S.told feed.new).faults }
-    ensures cause { result ≡ FeedEnd.SourceFault → Rose (S.told feed.old).faults (S.told feed.new).faults }
-    ensures stays { result ≢ FeedEnd.SourceFault → (S.told feed.new).faults ≡ (S.told feed.old).faults }
+    ensures cause { result ≡ FeedEnd.SourceFault
+        → Rose (S.told feed.old).faults (S.told feed.new).faults }
+    ensures stays { result ≢ FeedEnd.SourceFault
+        → (S.told feed.new).faults ≡ (S.told feed.old).faults }
 {
     let mut used: u64 = 0;
     'pieces: while used < turns {
@@ -156,10 +166,13 @@ pub fn run_lines<S: Source, T: TakesTasks>(
     requires turns { turns ≤ MOST_TURNS }
     requires market { T.market to.old ≡ topology.now.market }
     requires left { 2 ^ 63 ≤ T.left to.old }
-    ensures run { IsRun T.does T.cuts topology.now turns result (S.told feed.old).past (S.told feed.new).past to.old to.new }
+    ensures run { IsRun T.does T.cuts
+        topology.now turns result (S.told feed.old).past (S.told feed.new).past to.old to.new }
     ensures later { (S.told feed.old).faults ≤ (S.told feed.new).faults }
-    ensures cause { result ≡ FeedEnd.SourceFault → Rose (S.told feed.old).faults (S.told feed.new).faults }
-    ensures stays { result ≢ FeedEnd.SourceFault → (S.told feed.new).faults ≡ (S.told feed.old).faults }
+    ensures cause { result ≡ FeedEnd.SourceFault
+        → Rose (S.told feed.old).faults (S.told feed.new).faults }
+    ensures stays { result ≢ FeedEnd.SourceFault
+        → (S.told feed.new).faults ≡ (S.told feed.old).faults }
 {
     let Intake {
         clerk,

@@ -36,7 +36,8 @@ pub trait TakesTasks {
 
     /// Takes what comes of one line. `due` is the batch that ended last.
     fn take(&mut self, next: &Next, due: &Batch) -> Taken
-        requires batch { next.now ≡ Next.Batch → IsBatch (market self.old) due.now × (due.now ≢ []) }
+        requires batch { next.now ≡ Next.Batch
+            → IsBatch (market self.old) due.now × (due.now ≢ []) }
         requires left { 1 ≤ left self.old }
         ensures taken { HasTaken does cuts result (task_by due.now next.now) self.old self.new }
         ensures market { market self.new ≡ market self.old }

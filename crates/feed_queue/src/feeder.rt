@@ -39,9 +39,17 @@ impl<N: Numbers> Model for Feeder<N> {
 
     ghost Value = { FeederState };
 
-    ghost view = { λ f. record { queue = (arc_value f.queue).items.table.shared.table_id; feeder = f.number; sent = (hand_of f.pass).sent } };
+    ghost view = { λ f. record {
+      queue = (arc_value f.queue).items.table.shared.table_id;
+      feeder = f.number;
+      sent = (hand_of f.pass).sent;
+    } };
 
-    ghost invariant = { λ f. IsPassOf (arc_value f.queue).items f.pass × ((hand_of f.pass).feeds ≡ true) × ((hand_of f.pass).feeder ≡ f.number) × MaySend N.groups N.nodes (hand_of f.pass).sent × (length (hand_of f.pass).sent < 2 ^ 64 → f.count ≡ length (hand_of f.pass).sent) × (f.batch_count ≡ batches (hand_of f.pass).sent) };
+    ghost invariant = { λ f. IsPassOf (arc_value f.queue).items f.pass
+        × ((hand_of f.pass).feeds ≡ true)
+        × ((hand_of f.pass).feeder ≡ f.number) × MaySend N.groups N.nodes (hand_of f.pass).sent
+        × (length (hand_of f.pass).sent < 2 ^ 64 → f.count ≡ length (hand_of f.pass).sent)
+        × (f.batch_count ≡ batches (hand_of f.pass).sent) };
 }
 
 /// Sends an item by a pass. It waits for as long as the queue is full.

@@ -66,7 +66,8 @@ fn admit<N: Numbers>(alloc: Global, taker: &mut Taker<N>) -> Result<Feeder<N>, N
 #[tactic(auto, using(crate::proofs::Lists::fresh_more))]
 pub fn open<N: Numbers>(alloc: Global, feeders: u8) -> Result<(Vec<Feeder<N>>, Taker<N>), NoMemory>
     requires feeders { (1 ≤ feeders) × (feeders ≤ 4) }
-    ensures feeders { IfOk result (λ r. r.0.items ≡ map (fresh_feeder r.1.queue) (range_with_len 0 feeders)) }
+    ensures feeders { IfOk result (λ r.
+        r.0.items ≡ map (fresh_feeder r.1.queue) (range_with_len 0 feeders)) }
     ensures taker { IfOk result (λ r. (r.1.feeders ≡ feeders) × (r.1.taken ≡ [])) }
 {
     let mut made = Vec::with_capacity(alloc, usize::from(feeders))?;

@@ -25,14 +25,18 @@ fn send_lines<R: Wait, S: Source, N: Numbers>(
     turns: u64,
 ) -> FeedEnd
     requires turns { turns ≤ MOST_TURNS }
-    requires topology { market_if N.groups N.nodes sender.old.topology.now.market ≡ topology.now.market }
+    requires topology { market_if N.groups N.nodes sender.old.topology.now.market
+        ≡ topology.now.market }
     requires unused { sender.old.feeder.now.sent ≡ [] }
     ensures keeps { Keeps sender.old sender.new }
-    ensures run { IsRun Adds Breaks topology.now turns result (S.told feed.old).past (S.told feed.new).past sender.old.feeder.now.sent sender.new.feeder.now.sent }
+    ensures run { IsRun Adds Breaks topology.now turns result (S.told feed.old).past
+        (S.told feed.new).past sender.old.feeder.now.sent sender.new.feeder.now.sent }
     ensures whole { result ≢ FeedEnd.SinkFault }
-    ensures source { result ≡ FeedEnd.SourceFault → Rose (S.told feed.old).faults (S.told feed.new).faults }
+    ensures source { result ≡ FeedEnd.SourceFault
+        → Rose (S.told feed.old).faults (S.told feed.new).faults }
     ensures later { (S.told feed.old).faults ≤ (S.told feed.new).faults }
-    ensures stays { result ≢ FeedEnd.SourceFault → (S.told feed.new).faults ≡ (S.told feed.old).faults }
+    ensures stays { result ≢ FeedEnd.SourceFault
+        → (S.told feed.new).faults ≡ (S.told feed.old).faults }
 {
     run_lines(topology, intake, feed, sender, turns)
 }
@@ -46,14 +50,19 @@ fn send_all<R: Wait, S: Source, N: Numbers>(
     turns: u64,
 )
     requires turns { turns ≤ MOST_TURNS }
-    requires topology { market_if N.groups N.nodes sender.old.topology.now.market ≡ topology.now.market }
+    requires topology { market_if N.groups N.nodes sender.old.topology.now.market
+        ≡ topology.now.market }
     requires unused { sender.old.feeder.now.sent ≡ [] }
     ensures lent { sender.new.feeder.ghost_name ≡ sender.old.feeder.ghost_name }
-    ensures same { (sender.new.feeder.now.queue ≡ sender.old.feeder.now.queue) × (sender.new.feeder.now.feeder ≡ sender.old.feeder.now.feeder) }
-    ensures sent { HasSent topology.now turns (S.told feed.old).past (S.told feed.new).past sender.new.feeder.now.sent }
-    ensures source { EndsWith sender.new.feeder.now.sent FeedEnd.SourceFault → Rose (S.told feed.old).faults (S.told feed.new).faults }
+    ensures same { (sender.new.feeder.now.queue ≡ sender.old.feeder.now.queue)
+        × (sender.new.feeder.now.feeder ≡ sender.old.feeder.now.feeder) }
+    ensures sent { HasSent topology.now
+        turns (S.told feed.old).past (S.told feed.new).past sender.new.feeder.now.sent }
+    ensures source { EndsWith sender.new.feeder.now.sent FeedEnd.SourceFault
+        → Rose (S.told feed.old).faults (S.told feed.new).faults }
     ensures later { (S.told feed.old).faults ≤ (S.told feed.new).faults }
-    ensures stays { ¬ EndsWith sender.new.feeder.now.sent FeedEnd.SourceFault → (S.told feed.new).faults ≡ (S.told feed.old).faults }
+    ensures stays { ¬ EndsWith sender.new.feeder.now.sent FeedEnd.SourceFault
+        → (S.told feed.new).faults ≡ (S.told feed.old).faults }
 {
     let end = send_lines(topology, intake, feed, sender, turns);
     // tells the prover what the type keeps
@@ -82,10 +91,13 @@ impl<N: Numbers> Feeder<N> {
         requires nodes { length topology.now.market.nodes ≡ N.nodes }
         requires unused { self.old.sent ≡ [] }
         ensures same { (self.new.queue ≡ self.old.queue) × (self.new.feeder ≡ self.old.feeder) }
-        ensures sent { HasSent topology.now turns (S.told feed.old).past (S.told feed.new).past self.new.sent }
-        ensures source { EndsWith self.new.sent FeedEnd.SourceFault → Rose (S.told feed.old).faults (S.told feed.new).faults }
+        ensures sent { HasSent
+            topology.now turns (S.told feed.old).past (S.told feed.new).past self.new.sent }
+        ensures source { EndsWith self.new.sent FeedEnd.SourceFault
+            → Rose (S.told feed.old).faults (S.told feed.new).faults }
         ensures later { (S.told feed.old).faults ≤ (S.told feed.new).faults }
-        ensures stays { ¬ EndsWith self.new.sent FeedEnd.SourceFault → (S.told feed.new).faults ≡ (S.told feed.old).faults }
+        ensures stays { ¬ EndsWith self.new.sent FeedEnd.SourceFault
+            → (S.told feed.new).faults ≡ (S.told feed.old).faults }
     {
         match Intake::new(self.alloc) {
             Err(NoMemory) => self.give_up(rt),

@@ -67,7 +67,8 @@ fn batch_of(has_room: bool, due: &Batch) -> What
 fn what_of(has_room: bool, next: &Next, due: &Batch) -> Option<What>
     ensures none { IfNone result (task_by due.now next.now ≡ None) }
     ensures becomes { IfSome result (BecomesOf (task_by due.now next.now)) }
-    ensures fits { (groups nodes : ℕ) → (next.now ≡ Next.Batch → All (IsAmong groups nodes) due.now) → IfSome result (Fits groups nodes) }
+    ensures fits { (groups nodes : ℕ) → (next.now ≡ Next.Batch → All (IsAmong groups nodes) due.now)
+        → IfSome result (Fits groups nodes) }
     ensures few { IsFalse has_room → IfSome result (λ w. is_batch w ≡ false) }
 {
     match next {

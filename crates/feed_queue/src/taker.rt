@@ -29,9 +29,15 @@ impl<N: Numbers> Model for Taker<N> {
 
     ghost Value = { TakerState };
 
-    ghost view = { λ t. record { queue = (arc_value t.queue).items.table.shared.table_id; feeders = t.feeders; taken = (hand_of t.pass).got } };
+    ghost view = { λ t. record {
+      queue = (arc_value t.queue).items.table.shared.table_id;
+      feeders = t.feeders;
+      taken = (hand_of t.pass).got;
+    } };
 
-    ghost invariant = { λ t. IsPassOf (arc_value t.queue).items t.pass × ((hand_of t.pass).takes ≡ true) × ((hand_of t.pass).feeders ≡ t.feeders) × AreTaken N.groups N.nodes t.feeders (hand_of t.pass).got };
+    ghost invariant = { λ t. IsPassOf (arc_value t.queue).items t.pass
+        × ((hand_of t.pass).takes ≡ true) × ((hand_of t.pass).feeders ≡ t.feeders)
+        × AreTaken N.groups N.nodes t.feeders (hand_of t.pass).got };
 }
 
 impl<N: Numbers> Taker<N> {
@@ -46,9 +52,14 @@ impl<N: Numbers> Taker<N> {
     /// Takes the next item. None means that the queue was found empty.
     pub fn next<R: Wait>(&mut self, rt: &R) -> Option<Item>
         ensures none { IfNone result (self.new ≡ self.old) }
-        ensures some { IfSome result (λ x. self.new ≡ record { queue = self.old.queue; feeders = self.old.feeders; taken = self.old.taken ++ x ∷ [] }) }
+        ensures some { IfSome result (λ x. self.new ≡ record {
+          queue = self.old.queue;
+          feeders = self.old.feeders;
+          taken = self.old.taken ++ x ∷ [];
+        }) }
         ensures taken { AreTaken N.groups N.nodes self.new.feeders self.new.taken }
-        ensures fits { IfSome result (λ x. Fits N.groups N.nodes x.what × (x.feeder < self.old.feeders)) }
+        ensures fits { IfSome result (λ x. Fits N.groups N.nodes x.what
+            × (x.feeder < self.old.feeders)) }
     {
         let ring: &Ring<N> = &self.queue;
         let taken = ring.items.pop_as::<Takes<N>, R>(rt, &mut self.pass);

@@ -45,10 +45,14 @@ pub trait Door: Drop {
         publisher: &mut Publisher<J>,
     ) -> Result<Viewer<J>, OpenFault>
         ensures same { publisher.new ≡ publisher.old }
-        ensures seen { IfOk result (λ v. (v.seen ≡ publisher.old.history) × (v.heard ≡ publisher.old.history)) }
-        ensures counts { ((told self.new).asked ≡ raised (told self.old).asked 1) × ((told self.new).looks ≡ (told self.old).looks) × ((told self.new).greatest ≡ (told self.old).greatest) }
+        ensures seen { IfOk result (λ v. (v.seen ≡ publisher.old.history)
+            × (v.heard ≡ publisher.old.history)) }
+        ensures counts { ((told self.new).asked ≡ raised (told self.old).asked 1)
+            × ((told self.new).looks ≡ (told self.old).looks)
+            × ((told self.new).greatest ≡ (told self.old).greatest) }
         ensures later { (told self.old).faults ≤ (told self.new).faults }
-        ensures cause { IfErr result (λ e. e ≡ Shut → (told self.new).faults ≡ raised (told self.old).faults 1) }
+        ensures cause { IfErr result (λ e. e ≡ Shut
+            → (told self.new).faults ≡ raised (told self.old).faults 1) }
         ensures stays { ¬ IsErrOf result Shut → (told self.new).faults ≡ (told self.old).faults };
 
     /// Tells the viewer of a published version, and of no more.
@@ -57,8 +61,10 @@ pub trait Door: Drop {
         ensures kept { IsPrefix viewer.old.heard viewer.new.heard }
         ensures note { IsPrefix note.now.front viewer.new.heard }
         ensures one { (viewer.new.heard ≡ viewer.old.heard) ⊎ (viewer.new.heard ≡ note.now.front) }
-        ensures counts { ((told self.new).faults ≡ (told self.old).faults) × ((told self.new).looks ≡ (told self.old).looks) × ((told self.new).asked ≡ (told self.old).asked) }
-        ensures greatest { (told self.new).greatest + 1 ≡ max ((told self.old).greatest + 1) (length viewer.new.heard) };
+        ensures counts { ((told self.new).faults ≡ (told self.old).faults) × ((told self.new).looks
+            ≡ (told self.old).looks) × ((told self.new).asked ≡ (told self.old).asked) }
+        ensures greatest { (told self.new).greatest + 1
+            ≡ max ((told self.old).greatest + 1) (length viewer.new.heard) };
 
     /// Runs the closure once, on the last version of a history that begins with what the viewer saw and with what it was
     /// told; that history is then what it has seen.
@@ -74,11 +80,15 @@ pub trait Door: Drop {
     where
         C: Drop,
         requires call { (m : Version) → IsVersion m → FnOnceTakesAt C.FnOnce c m }
-        ensures ok { IfOk result (λ r. (m : Version) × LooksAt viewer.old.seen viewer.old.heard m viewer.new.seen × FnOnceReturnsAt C.FnOnce c m r) }
+        ensures ok { IfOk result (λ r. (m : Version) × LooksAt
+            viewer.old.seen viewer.old.heard m viewer.new.seen × FnOnceReturnsAt C.FnOnce c m r) }
         ensures heard { IfOk result (λ _. viewer.new.heard ≡ viewer.new.seen) }
-        ensures greatest { OnOk result ((told self.new).greatest + 1 ≡ max ((told self.old).greatest + 1) (length viewer.new.heard)) }
-        ensures err { OnErr result ((viewer.new ≡ viewer.old) × ((told self.new).greatest ≡ (told self.old).greatest)) }
-        ensures looks { ((told self.new).looks ≡ raised (told self.old).looks 1) × ((told self.new).asked ≡ (told self.old).asked) }
+        ensures greatest { OnOk result ((told self.new).greatest + 1
+            ≡ max ((told self.old).greatest + 1) (length viewer.new.heard)) }
+        ensures err { OnErr result ((viewer.new ≡ viewer.old)
+            × ((told self.new).greatest ≡ (told self.old).greatest)) }
+        ensures looks { ((told self.new).looks ≡ raised (told self.old).looks 1)
+            × ((told self.new).asked ≡ (told self.old).asked) }
         ensures cause { OnErr result (Rose (told self.old).faults (told self.new).faults) }
         ensures stays { OnOk result ((told self.new).faults ≡ (told self.old).faults) };
 }
@@ -97,7 +107,12 @@ impl Model for PlainDoor {
 
     ghost Value = { DoorState };
 
-    ghost view = { λ d. record { asked = d.asked; looks = d.looks; greatest = d.greatest; faults = d.faults } };
+    ghost view = { λ d. record {
+      asked = d.asked;
+      looks = d.looks;
+      greatest = d.greatest;
+      faults = d.faults;
+    } };
 }
 
 impl PlainDoor {
@@ -130,8 +145,10 @@ impl Door for PlainDoor {
         publisher: &mut Publisher<J>,
     ) -> Result<Viewer<J>, OpenFault>
         ensures same { publisher.new ≡ publisher.old }
-        ensures seen { IfOk result (λ v. (v.seen ≡ publisher.old.history) × (v.heard ≡ publisher.old.history)) }
-        ensures counts { (self.new.asked ≡ raised self.old.asked 1) × (self.new.looks ≡ self.old.looks) × (self.new.greatest ≡ self.old.greatest) }
+        ensures seen { IfOk result (λ v. (v.seen ≡ publisher.old.history)
+            × (v.heard ≡ publisher.old.history)) }
+        ensures counts { (self.new.asked ≡ raised self.old.asked 1)
+            × (self.new.looks ≡ self.old.looks) × (self.new.greatest ≡ self.old.greatest) }
         ensures stays { self.new.faults ≡ self.old.faults }
         ensures granted { ¬ IsErrOf result OpenFault.CellFault }
     {
@@ -182,13 +199,21 @@ impl Model for MemDoor {
 
     ghost Value = { RefusingDoor };
 
-    ghost view = { λ d. record { state = d.inner; refused_places = d.refused_places.items; refused_looks = d.refused_looks.items } };
+    ghost view = { λ d. record {
+      state = d.inner;
+      refused_places = d.refused_places.items;
+      refused_looks = d.refused_looks.items;
+    } };
 }
 
 impl MemDoor {
     /// A door that refuses these places and looks, and was not used yet.
     pub fn new(refused_places: Vec<u64>, refused_looks: Vec<u64>) -> MemDoor
-        ensures { result ≡ record { state = unused; refused_places = refused_places.items; refused_looks = refused_looks.items } }
+        ensures { result ≡ record {
+          state = unused;
+          refused_places = refused_places.items;
+          refused_looks = refused_looks.items;
+        } }
     {
         MemDoor {
             inner: PlainDoor::new(),

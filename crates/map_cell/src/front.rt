@@ -145,7 +145,8 @@ impl<J: Naming> Model for Front<J> {
 
     ghost view = { λ f. f.seen.log };
 
-    ghost invariant = { λ f. (f.count ≡ length f.seen.log) × (f.seen.book ≡ J.book) × IsHistory f.seen.log };
+    ghost invariant = { λ f. (f.count ≡ length f.seen.log)
+        × (f.seen.book ≡ J.book) × IsHistory f.seen.log };
 }
 
 impl<J: Naming> Front<J> {
@@ -166,7 +167,8 @@ impl<J: Naming> Front<J> {
     }
 
     pub(crate) fn of_token(count: u64, seen: &Seen<MapVersion, u64, Law>) -> Front<J>
-        requires { (seen.now.book ≡ J.book) × (count ≡ length seen.now.log) × IsHistory seen.now.log }
+        requires { (seen.now.book ≡ J.book)
+            × (count ≡ length seen.now.log) × IsHistory seen.now.log }
         ensures { result ≡ seen.now.log }
     {
         Front {
@@ -204,7 +206,8 @@ impl<J: Naming> Front<J> {
 
     /// Whether this front begins with the other. It doesn't where it is shorter.
     pub fn covers(&self, other: &Front<J>) -> bool
-        ensures begins { MatchBool result (IsPrefix other.now self.now) (length self.now < length other.now) }
+        ensures begins { MatchBool result (IsPrefix other.now self.now) (length self.now
+            < length other.now) }
         ensures begun { result ≡ false → IsPrefix self.now other.now }
         ensures history { IsHistory self.now }
         ensures other { IsHistory other.now }
@@ -221,7 +224,8 @@ impl<J: Naming> Front<J> {
     pub(crate) fn add(&mut self, book: &Book<J>, about: &Addition) -> bool
         requires room { length self.old < 2 ^ 64 - 1 }
         requires next { MayFollow self.old (added about.now) }
-        ensures { MatchBool result (self.new ≡ self.old ++ added about.now ∷ []) (IsPrefix self.old self.new) }
+        ensures { MatchBool result (self.new
+            ≡ self.old ++ added about.now ∷ []) (IsPrefix self.old self.new) }
     {
         let mut offer: Offer<MapVersion, u64, Law, Nothing> = self
             .seen

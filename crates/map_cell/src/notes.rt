@@ -82,14 +82,16 @@ impl<J: Naming> NoteRow<J> {
 
     /// Puts the note into the first free cell, not looking at those before `at`, and moves `at` past that cell. False means that no cell was free.
     pub fn put<R: Wait>(&self, rt: &R, at: &mut u32, note: Note<J>) -> bool
-        ensures { MatchBool result ((at.old < at.new) × (at.new ≤ most_notes)) (at.new ≡ most_notes) }
+        ensures { MatchBool result ((at.old < at.new)
+            × (at.new ≤ most_notes)) (at.new ≡ most_notes) }
     {
         self.put_shown(rt, at, note).is_some()
     }
 
     /// As `put`, and shows that the cell just before the new `at` holds the note.
     pub fn put_shown<R: Wait>(&self, rt: &R, at: &mut u32, note: Note<J>) -> Option<KeptNote<'_, J>>
-        ensures place { MatchOption result (at.new ≡ most_notes) (λ _. (at.old < at.new) × (at.new ≤ most_notes)) }
+        ensures place { MatchOption result (at.new ≡ most_notes) (λ _. (at.old < at.new)
+            × (at.new ≤ most_notes)) }
         ensures cell { IfSome result (λ kept. slice_get self.now (at.new - 1) ≡ Some kept.cell) }
         ensures note { IfSome result (λ kept. kept.history ≡ note.front) }
     {
@@ -115,8 +117,10 @@ impl<J: Naming> NoteRow<J> {
         note: Note<J>,
     ) -> Result<KeptNote<'_, J>, (KeptNote<'_, J>, Note<J>)>
         requires { place < most_notes }
-        ensures ok { IfOk result (λ kept. (slice_get self.now place ≡ Some kept.cell) × (kept.history ≡ note.front)) }
-        ensures err { IfErr result (λ e. (slice_get self.now place ≡ Some e.0.cell) × (e.1.front ≡ note.front)) }
+        ensures ok { IfOk result (λ kept. (slice_get self.now place ≡ Some kept.cell)
+            × (kept.history ≡ note.front)) }
+        ensures err { IfErr result (λ e. (slice_get self.now place ≡ Some e.0.cell)
+            × (e.1.front ≡ note.front)) }
     {
         match self.cells[place].try_insert(rt, note) {
             Ok(token) => Ok(KeptNote { token }),
@@ -143,7 +147,12 @@ impl<'a, J: Naming> Model for RowNotes<'a, J> {
 
     ghost Value = { ReaderState };
 
-    ghost view = { λ s. record { row = s.row.now; given = s.next; nones = s.nones; last = s.last } };
+    ghost view = { λ s. record {
+      row = s.row.now;
+      given = s.next;
+      nones = s.nones;
+      last = s.last;
+    } };
 
     ghost invariant = { λ s. s.next ≤ most_notes };
 }
@@ -183,7 +192,8 @@ impl<'a, J: Naming> RowNotes<'a, J> {
     /// The note of the next cell, where that cell shows the note of the serial that is due.
     fn due(&self) -> Option<(Note<J>, KeptNote<'a, J>)>
         ensures cell { IfSome result (λ r. slice_get self.now.row self.now.given ≡ Some r.1.cell) }
-        ensures note { IfSome result (λ r. (r.1.history ≡ r.0.front) × (length r.0.front ≡ self.now.given + 1)) }
+        ensures note { IfSome result (λ r. (r.1.history ≡ r.0.front)
+            × (length r.0.front ≡ self.now.given + 1)) }
         ensures within { IfSome result (λ _. self.now.given < most_notes) }
     {
         if self.next >= MOST_NOTES {
@@ -210,12 +220,17 @@ impl<J: Naming> Notes<Note<J>> for RowNotes<'_, J> {
     ghost left = { λ s. most_notes - s.given };
 
     fn next(&mut self) -> Option<Note<J>>
-        ensures next { BothTell (Some (noted self.old)) (Some (noted self.new)) (IsNextNote (option_map (λ n. length n.front - 1) result)) }
+        ensures next { BothTell (Some (noted self.old))
+            (Some (noted self.new)) (IsNextNote (option_map (λ n. length n.front - 1) result)) }
         ensures few { most_notes - self.old.given ≤ most_notes }
-        ensures some { IfSome result (λ _. most_notes - self.new.given < most_notes - self.old.given) }
+        ensures some { IfSome result (λ _.
+            most_notes - self.new.given < most_notes - self.old.given) }
         ensures none { IfNone result (most_notes - self.new.given ≡ most_notes - self.old.given) }
         // Each note that it gives is that of the next cell, and it counts it. Else it counts the answer, and nothing else changes.
-        ensures gives { MatchOption result (self.new ≡ record self.old { nones = raised self.old.nones 1 }) (λ note. Gives self.old note.front self.new) }
+        ensures gives { MatchOption result (self.new ≡ record self.old {
+          nones
+              = raised self.old.nones 1;
+        }) (λ note. Gives self.old note.front self.new) }
         // The first one names the first version, and each later one the version behind: they are given in the order of serials, each once.
         ensures number { IfSome result (λ note. length note.front ≡ self.old.given + 1) }
     {

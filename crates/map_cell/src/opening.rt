@@ -35,12 +35,17 @@ pub fn open<J: Naming, D: Door, R: Wait>(
     requires first { IsVersion first × (first.serial ≡ 0) }
     requires viewers { viewers ≤ 16 }
     ensures publisher { IfOk result (λ r. r.0 ≡ record { history = first ∷ []; newest = first }) }
-    ensures viewers { IfOk result (λ r. (vec_len r.1 ≡ viewers) × All (λ v. (v.seen ≡ first ∷ []) × (v.heard ≡ first ∷ [])) r.1.items) }
-    ensures asked { (k : ℕ) × (k ≤ viewers) × ((D.told door.new).asked ≡ raised (D.told door.old).asked k) }
-    ensures asked_all { OnOk result ((D.told door.new).asked ≡ raised (D.told door.old).asked viewers) }
-    ensures same { ((D.told door.new).looks ≡ (D.told door.old).looks) × ((D.told door.new).greatest ≡ (D.told door.old).greatest) }
+    ensures viewers { IfOk result (λ r. (vec_len r.1 ≡ viewers)
+        × All (λ v. (v.seen ≡ first ∷ []) × (v.heard ≡ first ∷ [])) r.1.items) }
+    ensures asked { (k : ℕ)
+        × (k ≤ viewers) × ((D.told door.new).asked ≡ raised (D.told door.old).asked k) }
+    ensures asked_all { OnOk result ((D.told door.new).asked
+        ≡ raised (D.told door.old).asked viewers) }
+    ensures same { ((D.told door.new).looks ≡ (D.told door.old).looks)
+        × ((D.told door.new).greatest ≡ (D.told door.old).greatest) }
     ensures later { (D.told door.old).faults ≤ (D.told door.new).faults }
-    ensures cause { IfErr result (λ e. e ≡ Shut → (D.told door.new).faults ≡ raised (D.told door.old).faults 1) }
+    ensures cause { IfErr result (λ e. e ≡ Shut
+        → (D.told door.new).faults ≡ raised (D.told door.old).faults 1) }
     ensures asked_one { IfErr result (λ e. e ≡ Shut → 1 ≤ viewers) }
     ensures stays { ¬ IsErrOf result Shut → (D.told door.new).faults ≡ (D.told door.old).faults }
 {
@@ -77,12 +82,17 @@ fn fill<J: Naming, D: Door, R: Wait>(
     requires { (vec_len made.old ≡ 0) × (viewers ≤ vec_capacity made.old) }
     ensures same { publisher.new ≡ publisher.old }
     ensures count { OnOk result (vec_len made.new ≡ viewers) }
-    ensures made { OnOk result (All (λ v. (v.seen ≡ publisher.old.history) × (v.heard ≡ publisher.old.history)) made.new.items) }
-    ensures asked { (k : ℕ) × (k ≤ viewers) × ((D.told door.new).asked ≡ raised (D.told door.old).asked k) }
-    ensures asked_all { OnOk result ((D.told door.new).asked ≡ raised (D.told door.old).asked viewers) }
-    ensures untouched { ((D.told door.new).looks ≡ (D.told door.old).looks) × ((D.told door.new).greatest ≡ (D.told door.old).greatest) }
+    ensures made { OnOk result (All (λ v. (v.seen ≡ publisher.old.history)
+        × (v.heard ≡ publisher.old.history)) made.new.items) }
+    ensures asked { (k : ℕ)
+        × (k ≤ viewers) × ((D.told door.new).asked ≡ raised (D.told door.old).asked k) }
+    ensures asked_all { OnOk result ((D.told door.new).asked
+        ≡ raised (D.told door.old).asked viewers) }
+    ensures untouched { ((D.told door.new).looks ≡ (D.told door.old).looks)
+        × ((D.told door.new).greatest ≡ (D.told door.old).greatest) }
     ensures later { (D.told door.old).faults ≤ (D.told door.new).faults }
-    ensures cause { IfErr result (λ e. e ≡ Shut → (D.told door.new).faults ≡ raised (D.told door.old).faults 1) }
+    ensures cause { IfErr result (λ e. e ≡ Shut
+        → (D.told door.new).faults ≡ raised (D.told door.old).faults 1) }
     ensures asked_one { IsErr result → 1 ≤ viewers }
     ensures stays { ¬ IsErrOf result Shut → (D.told door.new).faults ≡ (D.told door.old).faults }
 {

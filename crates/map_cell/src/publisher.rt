@@ -50,7 +50,12 @@ impl<J: Naming> Model for Publisher<J> {
     ghost view = { λ p. record { history = p.front; newest = p.newest.value } };
 
     ghost invariant = { λ p. IsSome p.writer × IsSealed p.front p.newest.value
-        × IfSome p.writer (λ w. (client_view w.desk.place ≡ tag_of J.book) × (w.desk.shown.value ≡ record { book = J.book; history = p.front; version = p.newest.value }) × (drop w.behind w.log.items ≡ [])) };
+        × IfSome p.writer (λ w. (client_view w.desk.place ≡ tag_of J.book)
+        × (w.desk.shown.value ≡ record {
+          book = J.book;
+          history = p.front;
+          version = p.newest.value;
+        }) × (drop w.behind w.log.items ≡ [])) };
 }
 
 /// Opens the cell with a version, of which there are two copies.
@@ -106,7 +111,8 @@ impl<J: Naming> Publisher<J> {
     /// `NoMemory` where there was no place for it.
     pub fn admit(&mut self) -> Result<Viewer<J>, NoMemory>
         ensures same { self.new ≡ self.old }
-        ensures seen { IfOk result (λ v. (v.seen ≡ self.old.history) × (v.heard ≡ self.old.history)) }
+        ensures seen { IfOk result (λ v. (v.seen ≡ self.old.history)
+            × (v.heard ≡ self.old.history)) }
     {
         let Some(writer) = &mut self.writer else {
             unreachable!()
@@ -160,7 +166,8 @@ impl<J: Naming> Publisher<J> {
         requires within { IsTrue (is_within self.old.newest delta) }
         requires good { IsVersion (after self.old.newest delta) }
         requires room { delta.base < 2 ^ 64 - 1 }
-        ensures ok { IfOk result (λ s. (self.new.history ≡ self.old.history ++ after self.old.newest delta ∷ []) × (self.new.newest ≡ after self.old.newest delta) × (s ≡ delta.base + 1)) }
+        ensures ok { IfOk result (λ s. (self.new.history ≡ self.old.history ++ after self.old.newest
+            delta ∷ []) × (self.new.newest ≡ after self.old.newest delta) × (s ≡ delta.base + 1)) }
         ensures err { OnErr result (self.new ≡ self.old) }
     {
         if self.broken || delta.base >= LAST_BASE {
@@ -201,9 +208,17 @@ fn show<R: Wait>(rt: &R, writer: CellWriter, step: SealedDelta) -> Result<CellWr
     requires idle { drop writer.behind writer.log.items ≡ [] }
     requires within { is_within writer.desk.shown.value.version step.delta ≡ true }
     requires book { step.book ≡ writer.desk.shown.value.book }
-    requires last { IsSealed step.history (moved writer.desk.shown.value.version step.delta step.serial) }
-    ensures ok { IfOk result (λ w. (client_view w.desk.place ≡ tag_of step.book) × (w.desk.shown.value ≡ record { book = step.book; history = step.history; version = moved writer.desk.shown.value.version step.delta step.serial }) × (drop w.behind w.log.items ≡ [])) }
-    ensures err { IfErr result (λ w. (client_view w.desk.place ≡ client_view writer.desk.place) × (w.desk.shown.value ≡ writer.desk.shown.value) × (drop w.behind w.log.items ≡ [])) }
+    requires last { IsSealed
+        step.history (moved writer.desk.shown.value.version step.delta step.serial) }
+    ensures ok { IfOk result (λ w. (client_view w.desk.place ≡ tag_of step.book)
+        × (w.desk.shown.value ≡ record {
+          book = step.book;
+          history = step.history;
+          version = moved writer.desk.shown.value.version step.delta step.serial;
+        })
+        × (drop w.behind w.log.items ≡ [])) }
+    ensures err { IfErr result (λ w. (client_view w.desk.place ≡ client_view writer.desk.place)
+        × (w.desk.shown.value ≡ writer.desk.shown.value) × (drop w.behind w.log.items ≡ [])) }
 {
     let mut writer = writer;
     if writer.append(step).is_err() {
@@ -226,7 +241,9 @@ fn put_back<R: Wait>(place: &mut Option<CellWriter>, writer: CellWriter, rt: &R)
 /// A new reader, which knows the book.
 fn join_cell(writer: &mut CellWriter) -> Result<CellReader, NoMemory>
     ensures reader { IfOk result (λ r. client_view r.place ≡ client_view writer.old.desk.place) }
-    ensures same { (client_view writer.new.desk.place ≡ client_view writer.old.desk.place) × (writer.new.desk.shown ≡ writer.old.desk.shown) × (writer.new.log ≡ writer.old.log) × (writer.new.behind ≡ writer.old.behind) }
+    ensures same { (client_view writer.new.desk.place ≡ client_view writer.old.desk.place)
+        × (writer.new.desk.shown ≡ writer.old.desk.shown)
+        × (writer.new.log ≡ writer.old.log) × (writer.new.behind ≡ writer.old.behind) }
 {
     let mut reader = writer.factory().reader()?;
     reader.learn::<Same>(writer.tell::<Same>());

@@ -22,7 +22,8 @@ impl Protocol<Sealed, Tag> for OneCell {
 pub struct Knows;
 
 impl Outcome<Sealed, Tag> for Knows {
-    ghost then = { λ v x y w. (v.known ≡ true → v ≡ tag_of y.book) × IsSealed y.history y.version × (w ≡ v) };
+    ghost then = { λ v x y w. (v.known ≡ true → v ≡ tag_of y.book)
+        × IsSealed y.history y.version × (w ≡ v) };
 }
 
 /// A publish.

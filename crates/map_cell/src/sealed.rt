@@ -70,15 +70,26 @@ impl Model for SealedDelta {
 
     ghost Value = { DeltaState };
 
-    ghost view = { λ s. record { book = s.seen.book; history = s.seen.log; serial = s.serial; delta = s.delta } };
+    ghost view = { λ s. record {
+      book = s.seen.book;
+      history = s.seen.log;
+      serial = s.serial;
+      delta = s.delta;
+    } };
 
-    ghost invariant = { λ s. (s.count ≡ length s.seen.log) × (length s.seen.log ≡ s.serial + 1) × IsHistory s.seen.log };
+    ghost invariant = { λ s. (s.count ≡ length s.seen.log)
+        × (length s.seen.log ≡ s.serial + 1) × IsHistory s.seen.log };
 }
 
 impl SealedDelta {
     pub fn new<J: Naming>(delta: Delta, serial: u64, front: &Front<J>) -> SealedDelta
         requires { length front.now ≡ serial + 1 }
-        ensures { result ≡ record { book = J.book; history = front.now; serial = serial; delta = delta } }
+        ensures { result ≡ record {
+          book = J.book;
+          history = front.now;
+          serial = serial;
+          delta = delta;
+        } }
     {
         SealedDelta {
             delta,

@@ -73,7 +73,8 @@ impl<J: Naming> Model for Viewer<J> {
 
     ghost view = { λ v. record { seen = v.seen; heard = v.heard } };
 
-    ghost invariant = { λ v. IsSome v.reader × IfSome v.reader (λ r. client_view r.place ≡ tag_of J.book) × (0 < length v.seen) × (length v.seen ≤ length v.heard) };
+    ghost invariant = { λ v. IsSome v.reader × IfSome v.reader (λ r. client_view r.place
+        ≡ tag_of J.book) × (0 < length v.seen) × (length v.seen ≤ length v.heard) };
 }
 
 /// Runs the closure on the copy, where it is no older than what was seen and told.
@@ -88,7 +89,8 @@ where
     requires book { sealed.now.book ≡ J.book }
     requires last { IsSealed sealed.now.history sealed.now.version }
     requires call { (m : Version) → IsVersion m → FnOnceTakesAt C.FnOnce c m }
-    ensures { IfSome result (λ r. (m : Version) × LooksAt seen.now heard.now m r.1 × FnOnceReturnsAt C.FnOnce c m r.0) }
+    ensures { IfSome result (λ r. (m : Version)
+        × LooksAt seen.now heard.now m r.1 × FnOnceReturnsAt C.FnOnce c m r.0) }
 {
     let front = sealed.front::<J>();
     if !front.covers(heard) || !front.covers(seen) {
@@ -108,7 +110,8 @@ impl<J: Naming> Viewer<J> {
 
     /// Whether all that this viewer has seen begins the note's history.
     pub fn is_within(&self, note: &Note<J>) -> bool
-        ensures within { MatchBool result (IsPrefix self.now.seen note.now.front) (length note.now.front < length self.now.seen) }
+        ensures within { MatchBool result
+            (IsPrefix self.now.seen note.now.front) (length note.now.front < length self.now.seen) }
         ensures begun { result ≡ false → IsPrefix note.now.front self.now.seen }
         ensures history { IsHistory self.now.seen }
     {
@@ -134,7 +137,8 @@ impl<J: Naming> Viewer<J> {
     where
         C: Drop,
         requires call { (m : Version) → IsVersion m → FnOnceTakesAt C.FnOnce c m }
-        ensures ok { IfOk result (λ r. (m : Version) × LooksAt self.old.seen self.old.heard m self.new.seen × FnOnceReturnsAt C.FnOnce c m r) }
+        ensures ok { IfOk result (λ r. (m : Version) × LooksAt
+            self.old.seen self.old.heard m self.new.seen × FnOnceReturnsAt C.FnOnce c m r) }
         ensures heard { IfOk result (λ _. self.new.heard ≡ self.new.seen) }
         ensures err { OnErr result (self.new ≡ self.old) }
     {

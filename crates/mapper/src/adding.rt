@@ -14,7 +14,8 @@ use map_model::{GroupId, Instance, NodeId};
 /// Units that are placed.
 fn placed_sum(instance: &Instance, state: &State) -> u64
     requires { IsReady instance.now state.now }
-    ensures { result ≡ sum_by (λ g. placed state.now.lines g) (range_with_len 0 (length instance.now.groups)) }
+    ensures { result
+        ≡ sum_by (λ g. placed state.now.lines g) (range_with_len 0 (length instance.now.groups)) }
 {
     let mut sum = 0;
     for g in 0..instance.groups() {
@@ -26,7 +27,8 @@ fn placed_sum(instance: &Instance, state: &State) -> u64
 /// Units of demand that are not placed.
 fn unplaced_sum(instance: &Instance, state: &State) -> u64
     requires { IsReady instance.now state.now }
-    ensures { result ≡ sum_by (λ g. demand_of instance.now g - placed state.now.lines g) (range_with_len 0 (length instance.now.groups)) }
+    ensures { result ≡ sum_by (λ g. demand_of instance.now g
+        - placed state.now.lines g) (range_with_len 0 (length instance.now.groups)) }
 {
     let mut sum = 0;
     for g in 0..instance.groups() {
@@ -39,7 +41,8 @@ fn unplaced_sum(instance: &Instance, state: &State) -> u64
 fn is_full(instance: &Instance, state: &State, node: NodeId) -> bool
     requires ready { IsReady instance.now state.now }
     requires node { node.0 < length instance.now.nodes }
-    ensures { result ≡ (load instance.now state.now.lines node.0 == capacity_of instance.now node.0) }
+    ensures { result
+        ≡ (load instance.now state.now.lines node.0 == capacity_of instance.now node.0) }
 {
     state.load(node) == instance.capacity(node)
 }
@@ -48,7 +51,8 @@ fn is_full(instance: &Instance, state: &State, node: NodeId) -> bool
 fn full_at(instance: &Instance, state: &State, node: NodeId) -> u64
     requires ready { IsReady instance.now state.now }
     requires node { node.0 < length instance.now.nodes }
-    ensures { result ≡ (if load instance.now state.now.lines node.0 == capacity_of instance.now node.0 then 1 else 0) }
+    ensures { result ≡ (if
+        load instance.now state.now.lines node.0 == capacity_of instance.now node.0 then 1 else 0) }
 {
     if is_full(instance, state, node) { 1 } else { 0 }
 }
@@ -56,7 +60,8 @@ fn full_at(instance: &Instance, state: &State, node: NodeId) -> u64
 /// Nodes with as many units as their capacity.
 fn full_count(instance: &Instance, state: &State) -> u64
     requires { IsReady instance.now state.now }
-    ensures { result ≡ count_by (λ n. load instance.now state.now.lines n == capacity_of instance.now n) (range_with_len 0 (length instance.now.nodes)) }
+    ensures { result ≡ count_by (λ n. load instance.now state.now.lines
+        n == capacity_of instance.now n) (range_with_len 0 (length instance.now.nodes)) }
 {
     let mut count = 0;
     for n in 0..instance.nodes() {
@@ -68,7 +73,8 @@ fn full_count(instance: &Instance, state: &State) -> u64
 /// The totals of what a state holds.
 pub(crate) fn totals(instance: &Instance, state: &State) -> Totals
     requires { IsReady instance.now state.now }
-    ensures { (v : Version) → v.market ≡ instance.now → v.lines ≡ state.now.lines → result ≡ totals_of v }
+    ensures { (v : Version)
+        → v.market ≡ instance.now → v.lines ≡ state.now.lines → result ≡ totals_of v }
 {
     Totals {
         placed: placed_sum(instance, state),

@@ -27,7 +27,8 @@ use std::sync::Wait;
 /// Puts a line of control text, behind its feed's mark if it has one.
 pub(crate) fn say<K: Sink>(mark: Option<u8>, line: &mut Spoken, out: &mut K, saying: &Saying) -> Put
     requires { IfSome mark (λ feeder. feeder < 4) }
-    ensures put { BothTell (K.told out.old).past (K.told out.new).past (IsPut result (marked mark (text_of saying.now))) }
+    ensures put { BothTell (K.told out.old).past
+        (K.told out.new).past (IsPut result (marked mark (text_of saying.now))) }
     ensures later { (K.told out.old).faults ≤ (K.told out.new).faults }
     ensures cause { result ≡ Put.Failed → Rose (K.told out.old).faults (K.told out.new).faults }
     ensures stays { result ≢ Put.Failed → (K.told out.new).faults ≡ (K.told out.old).faults }
@@ -56,10 +57,15 @@ fn announce<R: Wait, X: Mapping, K: Sink>(
     ensures newest { X.newest mapper.new ≡ X.newest mapper.old }
     ensures history { X.history mapper.new ≡ X.history mapper.old }
     ensures lent { X.lent mapper.new ≡ X.lent mapper.old }
-    ensures put { BothPut result (map_text (X.newest mapper.old)) (marked mark (text.published serial)) (K.told maps.old).past (K.told maps.new).past (K.told out.old).past (K.told out.new).past }
-    ensures later { ((K.told out.old).faults ≤ (K.told out.new).faults) × ((K.told maps.old).faults ≤ (K.told maps.new).faults) }
-    ensures cause { result ≡ Put.Failed → Rose (K.told out.old).faults (K.told out.new).faults ⊎ Rose (K.told maps.old).faults (K.told maps.new).faults }
-    ensures stays { result ≢ Put.Failed → ((K.told out.new).faults ≡ (K.told out.old).faults) × ((K.told maps.new).faults ≡ (K.told maps.old).faults) }
+    ensures put { BothPut
+        result (map_text (X.newest mapper.old)) (marked mark (text.published serial))
+        (K.told maps.old).past (K.told maps.new).past (K.told out.old).past (K.told out.new).past }
+    ensures later { ((K.told out.old).faults ≤ (K.told out.new).faults)
+        × ((K.told maps.old).faults ≤ (K.told maps.new).faults) }
+    ensures cause { result ≡ Put.Failed → Rose (K.told out.old).faults (K.told out.new).faults
+        ⊎ Rose (K.told maps.old).faults (K.told maps.new).faults }
+    ensures stays { result ≢ Put.Failed → ((K.told out.new).faults ≡ (K.told out.old).faults)
+        × ((K.told maps.new).faults ≡ (K.told maps.old).faults) }
 {
     match maps.put(mapper.text()) {
         Put::Done => {}
@@ -88,14 +94,20 @@ pub(crate) fn commit<R: Wait, X: Mapping, K: Sink>(
     requires ids { IsBatch (X.newest mapper.old).plan.market batch.now }
     requires some { batch.now ≢ [] }
     requires serial { (X.newest mapper.old).serial < 2 ^ 64 - 1 }
-    ensures came { (before : Scene) (base c : Course) (pace : Option (List PaceCall)) → base.out ≡ c.out → base.maps ≡ c.maps → IsAt before c (scene (X.newest mapper.old) (X.history mapper.old) (K.told out.old).past (K.told maps.old).past pace)
-        → Came result before base (CommitWorks mark batch.now c) (scene (X.newest mapper.new) (X.history mapper.new) (K.told out.new).past (K.told maps.new).past pace) }
+    ensures came { (before : Scene) (base c : Course) (pace : Option (List PaceCall))
+        → base.out ≡ c.out → base.maps ≡ c.maps → IsAt before c (scene (X.newest mapper.old)
+        (X.history mapper.old) (K.told out.old).past (K.told maps.old).past pace)
+        → Came result before base (CommitWorks mark batch.now c) (scene (X.newest mapper.new)
+        (X.history mapper.new) (K.told out.new).past (K.told maps.new).past pace) }
     ensures plan { (X.newest mapper.new).plan ≡ (X.newest mapper.old).plan }
     ensures lent { X.lent mapper.new ≡ X.lent mapper.old }
     ensures serial { (X.newest mapper.new).serial ≤ (X.newest mapper.old).serial + 1 }
-    ensures later { ((K.told out.old).faults ≤ (K.told out.new).faults) × ((K.told maps.old).faults ≤ (K.told maps.new).faults) }
-    ensures cause { result ≡ Put.Failed → Rose (K.told out.old).faults (K.told out.new).faults ⊎ Rose (K.told maps.old).faults (K.told maps.new).faults }
-    ensures stays { result ≢ Put.Failed → ((K.told out.new).faults ≡ (K.told out.old).faults) × ((K.told maps.new).faults ≡ (K.told maps.old).faults) }
+    ensures later { ((K.told out.old).faults ≤ (K.told out.new).faults)
+        × ((K.told maps.old).faults ≤ (K.told maps.new).faults) }
+    ensures cause { result ≡ Put.Failed → Rose (K.told out.old).faults (K.told out.new).faults
+        ⊎ Rose (K.told maps.old).faults (K.told maps.new).faults }
+    ensures stays { result ≢ Put.Failed → ((K.told out.new).faults ≡ (K.told out.old).faults)
+        × ((K.told maps.new).faults ≡ (K.told maps.old).faults) }
 {
     match mapper.commit(rt, batch) {
         Ok(serial) => announce(rt, mapper, mark, line, serial, out, maps),
@@ -124,7 +136,8 @@ fn saying_of<X: Mapping>(mapper: &X, next: &Next) -> Option<Saying>
 
 /// Puts the line of a task that is no batch.
 fn say_task<X: Mapping, K: Sink>(mapper: &X, line: &mut Spoken, next: &Next, out: &mut K) -> Put
-    ensures put { PutIf (line_for (X.newest mapper.now) next.now) result (K.told out.old).past (K.told out.new).past }
+    ensures put { PutIf (line_for (X.newest mapper.now) next.now)
+        result (K.told out.old).past (K.told out.new).past }
     ensures later { (K.told out.old).faults ≤ (K.told out.new).faults }
     ensures cause { result ≡ Put.Failed → Rose (K.told out.old).faults (K.told out.new).faults }
     ensures stays { result ≢ Put.Failed → (K.told out.new).faults ≡ (K.told out.old).faults }
@@ -149,15 +162,21 @@ pub(crate) fn come<R: Wait, X: Mapping, K: Sink, M: Pace>(
     requires ids { next.now ≡ Next.Batch → IsBatch (X.newest mapper.old).plan.market due.now }
     requires some { next.now ≡ Next.Batch → due.now ≢ [] }
     requires serial { (X.newest mapper.old).serial < 2 ^ 64 - 1 }
-    ensures came { (before : Scene) (c : Course) → IsAt before c (scene (X.newest mapper.old) (X.history mapper.old) (K.told out.old).past (K.told maps.old).past (M.told pace.old).past)
-        → Came result before c (ComesOf (task_by due.now next.now) c) (scene (X.newest mapper.new) (X.history mapper.new) (K.told out.new).past (K.told maps.new).past (M.told pace.new).past) }
+    ensures came { (before : Scene) (c : Course)
+        → IsAt before c (scene (X.newest mapper.old) (X.history mapper.old)
+        (K.told out.old).past (K.told maps.old).past (M.told pace.old).past) → Came result before
+        c (ComesOf (task_by due.now next.now) c) (scene (X.newest mapper.new) (X.history mapper.new)
+        (K.told out.new).past (K.told maps.new).past (M.told pace.new).past) }
     ensures plan { (X.newest mapper.new).plan ≡ (X.newest mapper.old).plan }
     ensures lent { X.lent mapper.new ≡ X.lent mapper.old }
     ensures serial { (X.newest mapper.new).serial ≤ (X.newest mapper.old).serial + 1 }
     ensures said { result ≡ Put.Failed → IsSome (task_by due.now next.now) }
-    ensures later { ((K.told out.old).faults ≤ (K.told out.new).faults) × ((K.told maps.old).faults ≤ (K.told maps.new).faults) }
-    ensures cause { result ≡ Put.Failed → Rose (K.told out.old).faults (K.told out.new).faults ⊎ Rose (K.told maps.old).faults (K.told maps.new).faults }
-    ensures stays { result ≢ Put.Failed → ((K.told out.new).faults ≡ (K.told out.old).faults) × ((K.told maps.new).faults ≡ (K.told maps.old).faults) }
+    ensures later { ((K.told out.old).faults ≤ (K.told out.new).faults)
+        × ((K.told maps.old).faults ≤ (K.told maps.new).faults) }
+    ensures cause { result ≡ Put.Failed → Rose (K.told out.old).faults (K.told out.new).faults
+        ⊎ Rose (K.told maps.old).faults (K.told maps.new).faults }
+    ensures stays { result ≢ Put.Failed → ((K.told out.new).faults ≡ (K.told out.old).faults)
+        × ((K.told maps.new).faults ≡ (K.told maps.old).faults) }
 {
     match next {
         Next::Batch => {

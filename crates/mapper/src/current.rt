@@ -53,7 +53,8 @@ pub(crate) struct Kept {
 /// What was kept, but where there were so many proposals that it is to be made anew: its memory would grow from commit to
 /// commit.
 pub(crate) fn unworn(kept: Option<Kept>, groups: u32) -> Option<Kept>
-    ensures { (m : Market) (lines : List MapLine) → IfSome kept (λ k. IsKeptFor m lines k) → IfSome result (λ k. IsKeptFor m lines k) }
+    ensures { (m : Market) (lines : List MapLine)
+        → IfSome kept (λ k. IsKeptFor m lines k) → IfSome result (λ k. IsKeptFor m lines k) }
 {
     let kept = kept?;
     if kept.proposals > PROPOSALS_KEPT * u64::from(groups) {
@@ -113,10 +114,14 @@ fn repaired<L>(
     requires shape { IsSameShape old.now.instance new.now }
     ensures state { IfOk result (λ map. IsKeptFor new.now map.lines.items kept.new) }
     ensures good { IfOk result (λ map. IsGood new.now map.lines.items map.names.items) }
-    ensures kept { IfOk result (λ map. IsKept old.now.instance old.now.map.lines.items new.now map.lines.items) }
-    ensures local { IfOk result (λ map. IsLocal old.now.instance old.now.map.lines.items new.now map.lines.items) }
-    ensures counted { IfOk result (λ map. HasRepaired old.now.instance old.now.map.lines.items new.now map.lines.items steps.old steps.new) }
-    ensures steps { OnOk result (IsWithinTwiceSpread old.now.instance old.now.map.lines.items new.now steps.old steps.new) }
+    ensures kept { IfOk result (λ map.
+        IsKept old.now.instance old.now.map.lines.items new.now map.lines.items) }
+    ensures local { IfOk result (λ map.
+        IsLocal old.now.instance old.now.map.lines.items new.now map.lines.items) }
+    ensures counted { IfOk result (λ map. HasRepaired
+        old.now.instance old.now.map.lines.items new.now map.lines.items steps.old steps.new) }
+    ensures steps { OnOk result
+        (IsWithinTwiceSpread old.now.instance old.now.map.lines.items new.now steps.old steps.new) }
     ensures later { steps.old ≤ steps.new }
 {
     let before = steps.count();
@@ -180,7 +185,8 @@ fn dressed(
     requires ready { IsReady instance state.now }
     requires lines { state.now.lines ≡ map.lines.items }
     ensures parts { IfOk result (λ c. (c.instance ≡ instance) × (c.map ≡ map)) }
-    ensures current { IfOk result (λ c. (serial : ℕ) → IsCurrent (version_of serial topology.now c) c) }
+    ensures current { IfOk result (λ c. (serial : ℕ)
+        → IsCurrent (version_of serial topology.now c) c) }
 {
     // tells the prover what the type keeps
     let _groups = instance.groups();
@@ -207,7 +213,8 @@ fn mapped<L>(alloc: Global, instance: &Instance, steps: &mut Steps<L>) -> Result
     ensures state { IfOk result (λ kept. IsStateOf instance.now kept.state) }
     ensures ended { IfOk result (λ kept. IsEnded instance.now kept.state.pointers kept.state.free) }
     ensures asked { IfOk result (λ kept. IfSome kept.asked (λ a. AreAllListed instance.now a)) }
-    ensures counted { IfOk result (λ kept. IsMapping instance.now kept.state.lines steps.old steps.new) }
+    ensures counted { IfOk result (λ kept.
+        IsMapping instance.now kept.state.lines steps.old steps.new) }
     ensures steps { OnOk result (steps.new ≤ steps.old + most_offers instance.now) }
     ensures later { steps.old ≤ steps.new }
 {
@@ -227,10 +234,14 @@ pub(crate) fn first_of<L>(
     steps: &mut Steps<L>,
 ) -> Result<First, NoMemory>
     ensures instance { IfOk result (λ f. f.current.instance ≡ topology.now.market) }
-    ensures good { IfOk result (λ f. IsGood topology.now.market f.current.map.lines.items f.current.map.names.items) }
-    ensures current { IfOk result (λ f. (serial : ℕ) → IsCurrent (version_of serial topology.now f.current) f.current) }
-    ensures kept { IfOk result (λ f. IsKeptFor topology.now.market f.current.map.lines.items f.kept) }
-    ensures counted { IfOk result (λ f. IsMapping topology.now.market f.current.map.lines.items steps.old steps.new) }
+    ensures good { IfOk result (λ f.
+        IsGood topology.now.market f.current.map.lines.items f.current.map.names.items) }
+    ensures current { IfOk result (λ f. (serial : ℕ)
+        → IsCurrent (version_of serial topology.now f.current) f.current) }
+    ensures kept { IfOk result (λ f.
+        IsKeptFor topology.now.market f.current.map.lines.items f.kept) }
+    ensures counted { IfOk result (λ f.
+        IsMapping topology.now.market f.current.map.lines.items steps.old steps.new) }
     ensures steps { OnOk result (steps.new ≤ steps.old + most_offers topology.now.market) }
     ensures later { steps.old ≤ steps.new }
 {
@@ -244,7 +255,8 @@ pub(crate) fn first_of<L>(
 /// A state of a map.
 pub(crate) fn kept_of(alloc: Global, current: &Current) -> Result<Kept, NoMemory>
     requires { IsGood current.now.instance current.now.map.lines.items current.now.map.names.items }
-    ensures { IfOk result (λ kept. IsKeptFor current.now.instance current.now.map.lines.items kept) }
+    ensures { IfOk result (λ kept.
+        IsKeptFor current.now.instance current.now.map.lines.items kept) }
 {
     let state = State::of_map(alloc, &current.instance, &current.map)?;
     Ok(Kept {
@@ -272,8 +284,10 @@ pub(crate) fn next_of<L>(
     requires written { IsWritten topology.now old.now }
     ensures makes { IfOk result (Makes topology.now old.now batch.now) }
     ensures kept { IfOk result (λ c. IsKeptFor c.instance c.map.lines.items kept.new) }
-    ensures counted { IfOk result (λ c. HasRepaired old.now.instance old.now.map.lines.items c.instance c.map.lines.items steps.old steps.new) }
-    ensures steps { IfOk result (λ c. IsWithinTwiceSpread old.now.instance old.now.map.lines.items c.instance steps.old steps.new) }
+    ensures counted { IfOk result (λ c. HasRepaired
+        old.now.instance old.now.map.lines.items c.instance c.map.lines.items steps.old steps.new) }
+    ensures steps { IfOk result (λ c. IsWithinTwiceSpread
+        old.now.instance old.now.map.lines.items c.instance steps.old steps.new) }
     ensures later { steps.old ≤ steps.new }
 {
     let other = another(&old.instance, spare)?;

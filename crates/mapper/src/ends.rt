@@ -50,7 +50,8 @@ impl Ends {
     /// None has ended.
     pub fn new() -> Ends
         ensures count { result.count ≡ 0 }
-        ensures none { (result.source_fault ≡ false) × (result.no_memory ≡ false) × (result.spent ≡ false) }
+        ensures none { (result.source_fault ≡ false)
+            × (result.no_memory ≡ false) × (result.spent ≡ false) }
     {
         Ends {
             count: 0,
@@ -64,7 +65,8 @@ impl Ends {
     pub fn note(&mut self, what: &What)
         requires { self.old.count < 4 }
         ensures count { self.new.count ≡ self.old.count + cond (is_end what.now) 1 0 }
-        ensures source { self.new.source_fault ≡ (self.old.source_fault || is_source_fault what.now) }
+        ensures source { self.new.source_fault
+            ≡ (self.old.source_fault || is_source_fault what.now) }
         ensures memory { self.new.no_memory ≡ (self.old.no_memory || is_no_memory what.now) }
         ensures spent { self.new.spent ≡ (self.old.spent || is_spent_end what.now) }
     {

@@ -37,16 +37,26 @@ fn work_next<R: Wait, X: Mapping, N: Numbers, K: Sink, M: Pace>(
     ensures queue { (taker.new.queue ≡ taker.old.queue) × (taker.new.feeders ≡ taker.old.feeders) }
     ensures noted { AreNoted taker.new.taken ends.new }
     ensures count { ends.new.count ≤ ends.old.count + 1 }
-    ensures goes_on { result ≢ Put.Failed → (before : Scene) → AllWorked taker.old.taken before (scene (X.newest mapper.old) (X.history mapper.old) (K.told out.old).past (K.told maps.old).past (M.told pace.old).past)
-        → AllWorked taker.new.taken before (scene (X.newest mapper.new) (X.history mapper.new) (K.told out.new).past (K.told maps.new).past (M.told pace.new).past) }
-    ensures broken { result ≡ Put.Failed → (before : Scene) → AllWorked taker.old.taken before (scene (X.newest mapper.old) (X.history mapper.old) (K.told out.old).past (K.told maps.old).past (M.told pace.old).past)
-        → WorkWasCut taker.new.taken before (scene (X.newest mapper.new) (X.history mapper.new) (K.told out.new).past (K.told maps.new).past (M.told pace.new).past) }
-    ensures serial { (n : ℕ) → (X.newest mapper.old).serial ≤ n + batches (whats_of taker.old.taken) → (X.newest mapper.new).serial ≤ n + batches (whats_of taker.new.taken) }
+    ensures goes_on { result ≢ Put.Failed
+        → (before : Scene) → AllWorked taker.old.taken before (scene (X.newest mapper.old)
+        (X.history mapper.old) (K.told out.old).past (K.told maps.old).past (M.told pace.old).past)
+        → AllWorked taker.new.taken before (scene (X.newest mapper.new) (X.history mapper.new)
+        (K.told out.new).past (K.told maps.new).past (M.told pace.new).past) }
+    ensures broken { result ≡ Put.Failed
+        → (before : Scene) → AllWorked taker.old.taken before (scene (X.newest mapper.old)
+        (X.history mapper.old) (K.told out.old).past (K.told maps.old).past (M.told pace.old).past)
+        → WorkWasCut taker.new.taken before (scene (X.newest mapper.new) (X.history mapper.new)
+        (K.told out.new).past (K.told maps.new).past (M.told pace.new).past) }
+    ensures serial { (n : ℕ) → (X.newest mapper.old).serial ≤ n + batches (whats_of taker.old.taken)
+        → (X.newest mapper.new).serial ≤ n + batches (whats_of taker.new.taken) }
     ensures plan { (X.newest mapper.new).plan ≡ (X.newest mapper.old).plan }
     ensures lent { X.lent mapper.new ≡ X.lent mapper.old }
-    ensures later { ((K.told out.old).faults ≤ (K.told out.new).faults) × ((K.told maps.old).faults ≤ (K.told maps.new).faults) }
-    ensures cause { result ≡ Put.Failed → Rose (K.told out.old).faults (K.told out.new).faults ⊎ Rose (K.told maps.old).faults (K.told maps.new).faults }
-    ensures stays { result ≢ Put.Failed → ((K.told out.new).faults ≡ (K.told out.old).faults) × ((K.told maps.new).faults ≡ (K.told maps.old).faults) }
+    ensures later { ((K.told out.old).faults ≤ (K.told out.new).faults)
+        × ((K.told maps.old).faults ≤ (K.told maps.new).faults) }
+    ensures cause { result ≡ Put.Failed → Rose (K.told out.old).faults (K.told out.new).faults
+        ⊎ Rose (K.told maps.old).faults (K.told maps.new).faults }
+    ensures stays { result ≢ Put.Failed → ((K.told out.new).faults ≡ (K.told out.old).faults)
+        × ((K.told maps.new).faults ≡ (K.told maps.old).faults) }
 {
     match taker.next(rt) {
         None => {
@@ -86,14 +96,22 @@ fn work_all<R: Wait, X: Mapping, N: Numbers, K: Sink, M: Pace>(
     ensures queue { (taker.new.queue ≡ taker.old.queue) × (taker.new.feeders ≡ taker.old.feeders) }
     ensures noted { AreNoted taker.new.taken ends.new }
     ensures count { ends.new.count ≤ taker.new.feeders }
-    ensures done { result ≡ Put.Done → AllWorked taker.new.taken (scene (X.newest mapper.old) (X.history mapper.old) (K.told out.old).past (K.told maps.old).past (M.told pace.old).past) (scene (X.newest mapper.new) (X.history mapper.new) (K.told out.new).past (K.told maps.new).past (M.told pace.new).past)
-        × (ends.new.count ≡ taker.new.feeders) }
-    ensures failed { result ≡ Put.Failed → WorkWasCut taker.new.taken (scene (X.newest mapper.old) (X.history mapper.old) (K.told out.old).past (K.told maps.old).past (M.told pace.old).past) (scene (X.newest mapper.new) (X.history mapper.new) (K.told out.new).past (K.told maps.new).past (M.told pace.new).past) }
+    ensures done { result ≡ Put.Done → AllWorked taker.new.taken (scene (X.newest mapper.old)
+        (X.history mapper.old) (K.told out.old).past (K.told maps.old).past (M.told pace.old).past)
+        (scene (X.newest mapper.new) (X.history mapper.new) (K.told out.new).past
+        (K.told maps.new).past (M.told pace.new).past) × (ends.new.count ≡ taker.new.feeders) }
+    ensures failed { result ≡ Put.Failed → WorkWasCut taker.new.taken (scene (X.newest mapper.old)
+        (X.history mapper.old) (K.told out.old).past (K.told maps.old).past (M.told pace.old).past)
+        (scene (X.newest mapper.new) (X.history mapper.new)
+        (K.told out.new).past (K.told maps.new).past (M.told pace.new).past) }
     ensures plan { (X.newest mapper.new).plan ≡ (X.newest mapper.old).plan }
     ensures lent { X.lent mapper.new ≡ X.lent mapper.old }
-    ensures later { ((K.told out.old).faults ≤ (K.told out.new).faults) × ((K.told maps.old).faults ≤ (K.told maps.new).faults) }
-    ensures cause { result ≡ Put.Failed → Rose (K.told out.old).faults (K.told out.new).faults ⊎ Rose (K.told maps.old).faults (K.told maps.new).faults }
-    ensures stays { result ≢ Put.Failed → ((K.told out.new).faults ≡ (K.told out.old).faults) × ((K.told maps.new).faults ≡ (K.told maps.old).faults) }
+    ensures later { ((K.told out.old).faults ≤ (K.told out.new).faults)
+        × ((K.told maps.old).faults ≤ (K.told maps.new).faults) }
+    ensures cause { result ≡ Put.Failed → Rose (K.told out.old).faults (K.told out.new).faults
+        ⊎ Rose (K.told maps.old).faults (K.told maps.new).faults }
+    ensures stays { result ≢ Put.Failed → ((K.told out.new).faults ≡ (K.told out.old).faults)
+        × ((K.told maps.new).faults ≡ (K.told maps.old).faults) }
 {
     for _ in rt.forever() {
         if ends.count == u64::from(taker.feeders()) {
@@ -155,14 +173,23 @@ pub(crate) fn run_feeds<R: Wait, X: Mapping, N: Numbers, K: Sink, M: Pace>(
     requires serial { (X.newest mapper.old).serial < 2 ^ 63 }
     requires unused { taker.old.taken ≡ [] }
     ensures queue { (taker.new.queue ≡ taker.old.queue) × (taker.new.feeders ≡ taker.old.feeders) }
-    ensures run { AreFeeds taker.old.feeders result taker.new.taken (scene (X.newest mapper.old) (X.history mapper.old) (K.told out.old).past (K.told maps.old).past (M.told pace.old).past) (scene (X.newest mapper.new) (X.history mapper.new) (K.told out.new).past (K.told maps.new).past (M.told pace.new).past) }
-    ensures merged { result ≢ FeedEnd.SinkFault → HasMerged taker.new.taken (scene (X.newest mapper.old) (X.history mapper.old) (K.told out.old).past (K.told maps.old).past (M.told pace.old).past) (scene (X.newest mapper.new) (X.history mapper.new) (K.told out.new).past (K.told maps.new).past (M.told pace.new).past) }
+    ensures run { AreFeeds taker.old.feeders result taker.new.taken (scene (X.newest mapper.old)
+        (X.history mapper.old) (K.told out.old).past (K.told maps.old).past (M.told pace.old).past)
+        (scene (X.newest mapper.new) (X.history mapper.new)
+        (K.told out.new).past (K.told maps.new).past (M.told pace.new).past) }
+    ensures merged { result ≢ FeedEnd.SinkFault → HasMerged
+        taker.new.taken (scene (X.newest mapper.old) (X.history mapper.old) (K.told out.old).past
+        (K.told maps.old).past (M.told pace.old).past) (scene (X.newest mapper.new) (X.history
+        mapper.new) (K.told out.new).past (K.told maps.new).past (M.told pace.new).past) }
     ensures kept { IsPrefix (X.history mapper.old) (X.history mapper.new) }
     ensures plan { (X.newest mapper.new).plan ≡ (X.newest mapper.old).plan }
     ensures lent { X.lent mapper.new ≡ X.lent mapper.old }
-    ensures later { ((K.told out.old).faults ≤ (K.told out.new).faults) × ((K.told maps.old).faults ≤ (K.told maps.new).faults) }
-    ensures sink { result ≡ FeedEnd.SinkFault → Rose (K.told out.old).faults (K.told out.new).faults ⊎ Rose (K.told maps.old).faults (K.told maps.new).faults }
-    ensures sink_stays { result ≢ FeedEnd.SinkFault → ((K.told out.new).faults ≡ (K.told out.old).faults) × ((K.told maps.new).faults ≡ (K.told maps.old).faults) }
+    ensures later { ((K.told out.old).faults ≤ (K.told out.new).faults)
+        × ((K.told maps.old).faults ≤ (K.told maps.new).faults) }
+    ensures sink { result ≡ FeedEnd.SinkFault → Rose (K.told out.old).faults (K.told out.new).faults
+        ⊎ Rose (K.told maps.old).faults (K.told maps.new).faults }
+    ensures sink_stays { result ≢ FeedEnd.SinkFault → ((K.told out.new).faults
+        ≡ (K.told out.old).faults) × ((K.told maps.new).faults ≡ (K.told maps.old).faults) }
 {
     let mut line = Spoken::new();
     let mut ends = Ends::new();

@@ -50,7 +50,8 @@ fn say_item<X: Mapping, K: Sink>(
     out: &mut K,
 ) -> Put
     requires { feeder < 4 }
-    ensures put { PutIf (option_map (λ text. mark_of feeder ++ text) (line_of_item (X.newest mapper.now) what.now)) result (K.told out.old).past (K.told out.new).past }
+    ensures put { PutIf (option_map (λ text. mark_of feeder ++ text) (line_of_item
+        (X.newest mapper.now) what.now)) result (K.told out.old).past (K.told out.new).past }
     ensures later { (K.told out.old).faults ≤ (K.told out.new).faults }
     ensures cause { result ≡ Put.Failed → Rose (K.told out.old).faults (K.told out.new).faults }
     ensures stays { result ≢ Put.Failed → (K.told out.new).faults ≡ (K.told out.old).faults }
@@ -74,14 +75,20 @@ fn commit_sent<R: Wait, X: Mapping, K: Sink>(
     requires feeder { feeder < 4 }
     requires ids { All IsInRange batch.now → IsBatch (X.newest mapper.old).plan.market batch.now }
     requires serial { (X.newest mapper.old).serial < 2 ^ 64 - 1 }
-    ensures came { (before : Scene) (c : Course) (pace : Option (List PaceCall)) → IsAt before (before_commit c) (scene (X.newest mapper.old) (X.history mapper.old) (K.told out.old).past (K.told maps.old).past pace)
-        → Came result before c (WorksAs (Some feeder) (whats.Commit batch.now) c) (scene (X.newest mapper.new) (X.history mapper.new) (K.told out.new).past (K.told maps.new).past pace) }
+    ensures came { (before : Scene) (c : Course) (pace : Option (List PaceCall))
+        → IsAt before (before_commit c) (scene (X.newest mapper.old)
+        (X.history mapper.old) (K.told out.old).past (K.told maps.old).past pace)
+        → Came result before c (WorksAs (Some feeder) (whats.Commit batch.now) c) (scene (X.newest
+        mapper.new) (X.history mapper.new) (K.told out.new).past (K.told maps.new).past pace) }
     ensures plan { (X.newest mapper.new).plan ≡ (X.newest mapper.old).plan }
     ensures lent { X.lent mapper.new ≡ X.lent mapper.old }
     ensures serial { (X.newest mapper.new).serial ≤ (X.newest mapper.old).serial + 1 }
-    ensures later { ((K.told out.old).faults ≤ (K.told out.new).faults) × ((K.told maps.old).faults ≤ (K.told maps.new).faults) }
-    ensures cause { result ≡ Put.Failed → Rose (K.told out.old).faults (K.told out.new).faults ⊎ Rose (K.told maps.old).faults (K.told maps.new).faults }
-    ensures stays { result ≢ Put.Failed → ((K.told out.new).faults ≡ (K.told out.old).faults) × ((K.told maps.new).faults ≡ (K.told maps.old).faults) }
+    ensures later { ((K.told out.old).faults ≤ (K.told out.new).faults)
+        × ((K.told maps.old).faults ≤ (K.told maps.new).faults) }
+    ensures cause { result ≡ Put.Failed → Rose (K.told out.old).faults (K.told out.new).faults
+        ⊎ Rose (K.told maps.old).faults (K.told maps.new).faults }
+    ensures stays { result ≢ Put.Failed → ((K.told out.new).faults ≡ (K.told out.old).faults)
+        × ((K.told maps.new).faults ≡ (K.told maps.old).faults) }
 {
     // tells the prover what the type keeps
     let _ = batch.changes();
@@ -104,16 +111,24 @@ pub(crate) fn work<R: Wait, X: Mapping, K: Sink, M: Pace>(
     pace: &mut M,
 ) -> Put
     requires feeder { feeder < 4 }
-    requires ids { (changes : List Change) → what.now ≡ whats.Commit changes → All IsInRange changes → IsBatch (X.newest mapper.old).plan.market changes }
+    requires ids { (changes : List Change) → what.now ≡ whats.Commit changes
+        → All IsInRange changes → IsBatch (X.newest mapper.old).plan.market changes }
     requires serial { (X.newest mapper.old).serial < 2 ^ 64 - 1 }
-    ensures came { (before : Scene) (c : Course) → IsAt before c (scene (X.newest mapper.old) (X.history mapper.old) (K.told out.old).past (K.told maps.old).past (M.told pace.old).past)
-        → Came result before c (WorksAs (Some feeder) what.now c) (scene (X.newest mapper.new) (X.history mapper.new) (K.told out.new).past (K.told maps.new).past (M.told pace.new).past) }
+    ensures came { (before : Scene) (c : Course)
+        → IsAt before c (scene (X.newest mapper.old) (X.history mapper.old)
+        (K.told out.old).past (K.told maps.old).past (M.told pace.old).past) → Came result before
+        c (WorksAs (Some feeder) what.now c) (scene (X.newest mapper.new) (X.history mapper.new)
+        (K.told out.new).past (K.told maps.new).past (M.told pace.new).past) }
     ensures plan { (X.newest mapper.new).plan ≡ (X.newest mapper.old).plan }
     ensures lent { X.lent mapper.new ≡ X.lent mapper.old }
-    ensures serial { (X.newest mapper.new).serial ≤ (X.newest mapper.old).serial + batches (what.now ∷ []) }
-    ensures later { ((K.told out.old).faults ≤ (K.told out.new).faults) × ((K.told maps.old).faults ≤ (K.told maps.new).faults) }
-    ensures cause { result ≡ Put.Failed → Rose (K.told out.old).faults (K.told out.new).faults ⊎ Rose (K.told maps.old).faults (K.told maps.new).faults }
-    ensures stays { result ≢ Put.Failed → ((K.told out.new).faults ≡ (K.told out.old).faults) × ((K.told maps.new).faults ≡ (K.told maps.old).faults) }
+    ensures serial { (X.newest mapper.new).serial
+        ≤ (X.newest mapper.old).serial + batches (what.now ∷ []) }
+    ensures later { ((K.told out.old).faults ≤ (K.told out.new).faults)
+        × ((K.told maps.old).faults ≤ (K.told maps.new).faults) }
+    ensures cause { result ≡ Put.Failed → Rose (K.told out.old).faults (K.told out.new).faults
+        ⊎ Rose (K.told maps.old).faults (K.told maps.new).faults }
+    ensures stays { result ≢ Put.Failed → ((K.told out.new).faults ≡ (K.told out.old).faults)
+        × ((K.told maps.new).faults ≡ (K.told maps.old).faults) }
 {
     match what {
         What::Commit(batch) => {

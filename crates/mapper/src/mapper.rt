@@ -76,7 +76,8 @@ type Sharing = (Arc<Topology>, Arc<Shared>);
 
 /// The topology, and what its versions share.
 fn share(alloc: Global, topology: Topology) -> Result<Sharing, NoMemory>
-    ensures plan { IfOk result (λ r. (arc_value r.0 ≡ topology) × (plan_of (arc_value r.1) ≡ topology)) }
+    ensures plan { IfOk result (λ r. (arc_value r.0 ≡ topology)
+        × (plan_of (arc_value r.1) ≡ topology)) }
     ensures lookup { IfOk result (λ r. LooksUp (arc_value r.1)) }
 {
     let shared = Shared::build(alloc, topology)?;
@@ -92,13 +93,18 @@ fn prepare_first(
     first: First,
 ) -> Result<Prepared, NoMemory>
     requires instance { first.current.instance ≡ topology.market }
-    requires good { IsGood topology.market first.current.map.lines.items first.current.map.names.items }
+    requires good { IsGood
+        topology.market first.current.map.lines.items first.current.map.names.items }
     requires best { IsGroupBest topology.market first.current.map.lines.items }
-    requires current { (serial : ℕ) → IsCurrent (version_of serial topology first.current) first.current }
+    requires current { (serial : ℕ)
+        → IsCurrent (version_of serial topology first.current) first.current }
     requires kept { IsKeptFor topology.market first.current.map.lines.items first.kept }
-    ensures plan { IfOk result (λ p. (arc_value p.topology ≡ topology) × (p.version.plan ≡ topology)) }
-    ensures version { IfOk result (λ p. IsVersion p.version × (p.version.serial ≡ 0) × (p.version.market ≡ topology.market)) }
-    ensures first { IfOk result (λ p. IsFirst topology (record { history = p.version ∷ []; newest = p.version })) }
+    ensures plan { IfOk result (λ p. (arc_value p.topology ≡ topology)
+        × (p.version.plan ≡ topology)) }
+    ensures version { IfOk result (λ p. IsVersion p.version
+        × (p.version.serial ≡ 0) × (p.version.market ≡ topology.market)) }
+    ensures first { IfOk result (λ p.
+        IsFirst topology (record { history = p.version ∷ []; newest = p.version })) }
     ensures lines { IfOk result (λ p. p.version.lines ≡ first.current.map.lines.items) }
     ensures current { IfOk result (λ p. IsCurrent p.version p.first.current) }
     ensures kept { IfOk result (λ p. IsKeptFor p.version.market p.version.lines p.first.kept) }
@@ -122,12 +128,16 @@ fn prepare_first(
 
 /// Maps a topology from scratch, and takes all room that reading a feed needs.
 fn prepare<L>(alloc: Global, topology: Topology, steps: &mut Steps<L>) -> Result<Prepared, NoMemory>
-    ensures plan { IfOk result (λ p. (arc_value p.topology ≡ topology) × (p.version.plan ≡ topology)) }
-    ensures version { IfOk result (λ p. IsVersion p.version × (p.version.serial ≡ 0) × (p.version.market ≡ topology.market)) }
-    ensures first { IfOk result (λ p. IsFirst topology (record { history = p.version ∷ []; newest = p.version })) }
+    ensures plan { IfOk result (λ p. (arc_value p.topology ≡ topology)
+        × (p.version.plan ≡ topology)) }
+    ensures version { IfOk result (λ p. IsVersion p.version
+        × (p.version.serial ≡ 0) × (p.version.market ≡ topology.market)) }
+    ensures first { IfOk result (λ p.
+        IsFirst topology (record { history = p.version ∷ []; newest = p.version })) }
     ensures current { IfOk result (λ p. IsCurrent p.version p.first.current) }
     ensures kept { IfOk result (λ p. IsKeptFor p.version.market p.version.lines p.first.kept) }
-    ensures counted { IfOk result (λ p. IsMapping topology.market p.version.lines steps.old steps.new) }
+    ensures counted { IfOk result (λ p.
+        IsMapping topology.market p.version.lines steps.old steps.new) }
     ensures steps { OnOk result (steps.new ≤ steps.old + most_offers topology.market) }
     ensures later { steps.old ≤ steps.new }
 {
@@ -161,15 +171,22 @@ impl<J: Naming> Mapper<J> {
         requires book { history ≡ J.book }
         requires viewers { viewers ≤ 16 }
         ensures mapper { IfOk result (λ r. IsFirst topology r.0) }
-        ensures viewers { IfOk result (λ r. (vec_len r.1 ≡ viewers) × All (λ v. (v.seen ≡ r.0.history) × (v.heard ≡ r.0.history)) r.1.items) }
-        ensures asked { (k : ℕ) × (k ≤ viewers) × ((D.told door.new).asked ≡ raised (D.told door.old).asked k) }
-        ensures asked_all { OnOk result ((D.told door.new).asked ≡ raised (D.told door.old).asked viewers) }
-        ensures same { ((D.told door.new).looks ≡ (D.told door.old).looks) × ((D.told door.new).greatest ≡ (D.told door.old).greatest) }
+        ensures viewers { IfOk result (λ r. (vec_len r.1 ≡ viewers)
+            × All (λ v. (v.seen ≡ r.0.history) × (v.heard ≡ r.0.history)) r.1.items) }
+        ensures asked { (k : ℕ)
+            × (k ≤ viewers) × ((D.told door.new).asked ≡ raised (D.told door.old).asked k) }
+        ensures asked_all { OnOk result ((D.told door.new).asked
+            ≡ raised (D.told door.old).asked viewers) }
+        ensures same { ((D.told door.new).looks ≡ (D.told door.old).looks)
+            × ((D.told door.new).greatest ≡ (D.told door.old).greatest) }
         ensures later { (D.told door.old).faults ≤ (D.told door.new).faults }
-        ensures cause { IfErr result (λ e. e ≡ Shut → (D.told door.new).faults ≡ raised (D.told door.old).faults 1) }
+        ensures cause { IfErr result (λ e. e ≡ Shut
+            → (D.told door.new).faults ≡ raised (D.told door.old).faults 1) }
         ensures asked_one { IfErr result (λ e. e ≡ Shut → 1 ≤ viewers) }
-        ensures stays { ¬ IsErrOf result Shut → (D.told door.new).faults ≡ (D.told door.old).faults }
-        ensures counted { IfOk result (λ r. IsMapping topology.market r.0.newest.lines steps.old steps.new) }
+        ensures stays { ¬ IsErrOf result Shut
+            → (D.told door.new).faults ≡ (D.told door.old).faults }
+        ensures counted { IfOk result (λ r.
+            IsMapping topology.market r.0.newest.lines steps.old steps.new) }
         ensures steps { OnOk result (steps.new ≤ steps.old + most_offers topology.market) }
         ensures steps_later { steps.old ≤ steps.new }
     {
@@ -268,11 +285,15 @@ impl<J: Naming> Mapper<J> {
     ) -> Result<u64, NoMemory>
         requires ids { IsBatch self.old.newest.plan.market batch.now }
         requires serial { self.old.newest.serial < 2 ^ 64 - 1 }
-        ensures empty { batch.now ≡ [] → (result ≡ Ok self.old.newest.serial) × (self.new ≡ self.old) × (steps.new ≡ steps.old) }
-        ensures next { batch.now ≢ [] → IfOk result (λ s. IsPublished self.old batch.now self.new × (s ≡ self.new.newest.serial)) }
+        ensures empty { batch.now ≡ [] → (result ≡ Ok self.old.newest.serial)
+            × (self.new ≡ self.old) × (steps.new ≡ steps.old) }
+        ensures next { batch.now ≢ [] → IfOk result (λ s. IsPublished self.old batch.now self.new
+            × (s ≡ self.new.newest.serial)) }
         ensures same { OnErr result (self.new ≡ self.old) }
-        ensures counted { batch.now ≢ [] → OnOk result (IsRepairing self.old.newest self.new.newest steps.old steps.new) }
-        ensures steps { OnOk result (IsWithinTwiceSpread self.old.newest.market self.old.newest.lines self.new.newest.market steps.old steps.new) }
+        ensures counted { batch.now ≢ []
+            → OnOk result (IsRepairing self.old.newest self.new.newest steps.old steps.new) }
+        ensures steps { OnOk result (IsWithinTwiceSpread self.old.newest.market
+            self.old.newest.lines self.new.newest.market steps.old steps.new) }
         ensures later { steps.old ≤ steps.new }
     {
         if batch.is_empty() {
@@ -297,15 +318,23 @@ impl<J: Naming> Mapper<J> {
     ) -> FeedEnd
         requires turns { turns ≤ MOST_TURNS }
         requires serial { self.old.newest.serial < 2 ^ 63 }
-        ensures run { IsFeed self.old.newest.plan turns result (S.told feed.old).past (S.told feed.new).past (scene self.old.newest self.old.history (K.told out.old).past (K.told maps.old).past (M.told pace.old).past) (scene self.new.newest self.new.history (K.told out.new).past (K.told maps.new).past (M.told pace.new).past) }
+        ensures run { IsFeed self.old.newest.plan turns result (S.told feed.old).past
+            (S.told feed.new).past (scene self.old.newest self.old.history (K.told out.old).past
+            (K.told maps.old).past (M.told pace.old).past) (scene self.new.newest
+            self.new.history (K.told out.new).past (K.told maps.new).past (M.told pace.new).past) }
         ensures kept { IsPrefix self.old.history self.new.history }
         ensures plan { self.new.newest.plan ≡ self.old.newest.plan }
-        ensures later { ((K.told out.old).faults ≤ (K.told out.new).faults) × ((K.told maps.old).faults ≤ (K.told maps.new).faults) }
-        ensures sink { result ≡ FeedEnd.SinkFault → Rose (K.told out.old).faults (K.told out.new).faults ⊎ Rose (K.told maps.old).faults (K.told maps.new).faults }
-        ensures sink_stays { result ≢ FeedEnd.SinkFault → ((K.told out.new).faults ≡ (K.told out.old).faults) × ((K.told maps.new).faults ≡ (K.told maps.old).faults) }
-        ensures source { result ≡ FeedEnd.SourceFault → Rose (S.told feed.old).faults (S.told feed.new).faults }
+        ensures later { ((K.told out.old).faults ≤ (K.told out.new).faults)
+            × ((K.told maps.old).faults ≤ (K.told maps.new).faults) }
+        ensures sink { result ≡ FeedEnd.SinkFault → Rose (K.told out.old).faults
+            (K.told out.new).faults ⊎ Rose (K.told maps.old).faults (K.told maps.new).faults }
+        ensures sink_stays { result ≢ FeedEnd.SinkFault → ((K.told out.new).faults
+            ≡ (K.told out.old).faults) × ((K.told maps.new).faults ≡ (K.told maps.old).faults) }
+        ensures source { result ≡ FeedEnd.SourceFault
+            → Rose (S.told feed.old).faults (S.told feed.new).faults }
         ensures source_later { (S.told feed.old).faults ≤ (S.told feed.new).faults }
-        ensures source_stays { result ≢ FeedEnd.SourceFault → (S.told feed.new).faults ≡ (S.told feed.old).faults }
+        ensures source_stays { result ≢ FeedEnd.SourceFault
+            → (S.told feed.new).faults ≡ (S.told feed.old).faults }
     {
         let mut noted = Noted::new(&mut self.maps, row);
         run_feed(
@@ -341,14 +370,24 @@ impl<J: Naming> Mapper<J> {
         requires nodes { length self.old.newest.plan.market.nodes ≡ N.nodes }
         requires serial { self.old.newest.serial < 2 ^ 63 }
         requires unused { taker.old.taken ≡ [] }
-        ensures queue { (taker.new.queue ≡ taker.old.queue) × (taker.new.feeders ≡ taker.old.feeders) }
-        ensures run { AreFeeds taker.old.feeders result taker.new.taken (scene self.old.newest self.old.history (K.told out.old).past (K.told maps.old).past (M.told pace.old).past) (scene self.new.newest self.new.history (K.told out.new).past (K.told maps.new).past (M.told pace.new).past) }
-        ensures merged { result ≢ FeedEnd.SinkFault → HasMerged taker.new.taken (scene self.old.newest self.old.history (K.told out.old).past (K.told maps.old).past (M.told pace.old).past) (scene self.new.newest self.new.history (K.told out.new).past (K.told maps.new).past (M.told pace.new).past) }
+        ensures queue { (taker.new.queue ≡ taker.old.queue)
+            × (taker.new.feeders ≡ taker.old.feeders) }
+        ensures run { AreFeeds taker.old.feeders
+            result taker.new.taken (scene self.old.newest self.old.history (K.told out.old).past
+            (K.told maps.old).past (M.told pace.old).past) (scene self.new.newest
+            self.new.history (K.told out.new).past (K.told maps.new).past (M.told pace.new).past) }
+        ensures merged { result ≢ FeedEnd.SinkFault
+            → HasMerged taker.new.taken (scene self.old.newest self.old.history (K.told
+            out.old).past (K.told maps.old).past (M.told pace.old).past) (scene self.new.newest
+            self.new.history (K.told out.new).past (K.told maps.new).past (M.told pace.new).past) }
         ensures kept { IsPrefix self.old.history self.new.history }
         ensures plan { self.new.newest.plan ≡ self.old.newest.plan }
-        ensures later { ((K.told out.old).faults ≤ (K.told out.new).faults) × ((K.told maps.old).faults ≤ (K.told maps.new).faults) }
-        ensures sink { result ≡ FeedEnd.SinkFault → Rose (K.told out.old).faults (K.told out.new).faults ⊎ Rose (K.told maps.old).faults (K.told maps.new).faults }
-        ensures sink_stays { result ≢ FeedEnd.SinkFault → ((K.told out.new).faults ≡ (K.told out.old).faults) × ((K.told maps.new).faults ≡ (K.told maps.old).faults) }
+        ensures later { ((K.told out.old).faults ≤ (K.told out.new).faults)
+            × ((K.told maps.old).faults ≤ (K.told maps.new).faults) }
+        ensures sink { result ≡ FeedEnd.SinkFault → Rose (K.told out.old).faults
+            (K.told out.new).faults ⊎ Rose (K.told maps.old).faults (K.told maps.new).faults }
+        ensures sink_stays { result ≢ FeedEnd.SinkFault → ((K.told out.new).faults
+            ≡ (K.told out.old).faults) × ((K.told maps.new).faults ≡ (K.told maps.old).faults) }
     {
         let mut noted = Noted::new(&mut self.maps, row);
         run_feeds(rt, &mut noted, taker, out, maps, pace)

@@ -43,9 +43,12 @@ pub(crate) trait Mapping {
         requires ids { IsBatch (newest self.old).plan.market batch.now }
         requires some { batch.now ≢ [] }
         requires serial { (newest self.old).serial < 2 ^ 64 - 1 }
-        ensures next { IfOk result (λ s. IsNext (newest self.old) batch.now (newest self.new) × (s ≡ (newest self.new).serial)) }
-        ensures history { IfOk result (λ _. history self.new ≡ history self.old ++ newest self.new ∷ []) }
-        ensures same { OnErr result ((newest self.new ≡ newest self.old) × (history self.new ≡ history self.old)) }
+        ensures next { IfOk result (λ s. IsNext (newest self.old) batch.now (newest self.new)
+            × (s ≡ (newest self.new).serial)) }
+        ensures history { IfOk result (λ _.
+            history self.new ≡ history self.old ++ newest self.new ∷ []) }
+        ensures same { OnErr result ((newest self.new ≡ newest self.old)
+            × (history self.new ≡ history self.old)) }
         ensures lent { lent self.new ≡ lent self.old };
 
     /// Tells those who look at maps of the newest one, and shows that the cell of its serial holds a note, where there is
@@ -54,7 +57,8 @@ pub(crate) trait Mapping {
         ensures newest { newest self.new ≡ newest self.old }
         ensures history { history self.new ≡ history self.old }
         ensures lent { lent self.new ≡ lent self.old }
-        ensures told { IsToldOf (newest self.old).serial (cells self.old) (option_map kept result) };
+        ensures told { IsToldOf
+            (newest self.old).serial (cells self.old) (option_map kept result) };
 
     /// The newest serial.
     fn serial(&self) -> u64

@@ -53,7 +53,8 @@ impl<J: Naming> Model for Maps<J> {
 
     ghost view = { λ m. m.publisher };
 
-    ghost invariant = { λ m. IsVersion m.publisher.newest × IsSealed m.publisher.history m.publisher.newest × IsCurrent m.publisher.newest m.current
+    ghost invariant = { λ m. IsVersion m.publisher.newest
+        × IsSealed m.publisher.history m.publisher.newest × IsCurrent m.publisher.newest m.current
         × IfSome m.kept (λ k. IsKeptFor m.publisher.newest.market m.publisher.newest.lines k)
         × IfSome m.spare (λ s. s ≡ m.publisher.newest.market) };
 }
@@ -147,9 +148,12 @@ impl<J: Naming> Maps<J> {
         requires spare { IfSome spare (λ s. s ≡ self.now.newest.market) }
         requires ids { IsBatch self.now.newest.plan.market batch.now }
         ensures next { IfOk result (IsPrepared self.now.newest batch.now) }
-        ensures kept { IfOk result (λ n. IsKeptFor (after self.now.newest n.delta).market (after self.now.newest n.delta).lines kept.new) }
-        ensures counted { IfOk result (λ n. IsRepairing self.now.newest (after self.now.newest n.delta) steps.old steps.new) }
-        ensures steps { IfOk result (λ n. IsWithinTwiceSpread self.now.newest.market self.now.newest.lines (after self.now.newest n.delta).market steps.old steps.new) }
+        ensures kept { IfOk result (λ n. IsKeptFor
+            (after self.now.newest n.delta).market (after self.now.newest n.delta).lines kept.new) }
+        ensures counted { IfOk result (λ n.
+            IsRepairing self.now.newest (after self.now.newest n.delta) steps.old steps.new) }
+        ensures steps { IfOk result (λ n. IsWithinTwiceSpread self.now.newest.market
+            self.now.newest.lines (after self.now.newest n.delta).market steps.old steps.new) }
         ensures later { steps.old ≤ steps.new }
     {
         let newest = self.publisher.newest();
@@ -185,10 +189,13 @@ impl<J: Naming> Maps<J> {
     ) -> Result<u64, NoMemory>
         requires ids { IsBatch self.old.newest.plan.market batch.now }
         requires serial { self.old.newest.serial < 2 ^ 64 - 1 }
-        ensures next { IfOk result (λ s. IsPublished self.old batch.now self.new × (s ≡ self.new.newest.serial)) }
+        ensures next { IfOk result (λ s. IsPublished self.old batch.now self.new
+            × (s ≡ self.new.newest.serial)) }
         ensures same { OnErr result (self.new ≡ self.old) }
-        ensures counted { OnOk result (IsRepairing self.old.newest self.new.newest steps.old steps.new) }
-        ensures steps { OnOk result (IsWithinTwiceSpread self.old.newest.market self.old.newest.lines self.new.newest.market steps.old steps.new) }
+        ensures counted { OnOk
+            result (IsRepairing self.old.newest self.new.newest steps.old steps.new) }
+        ensures steps { OnOk result (IsWithinTwiceSpread self.old.newest.market
+            self.old.newest.lines self.new.newest.market steps.old steps.new) }
         ensures later { steps.old ≤ steps.new }
     {
         let mut kept = self.take_kept()?;

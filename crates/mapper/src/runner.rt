@@ -81,12 +81,16 @@ fn work<R: Wait, S: Source, X: Mapping, K: Sink, M: Pace>(
     requires plan { (X.newest runner.old.mapper.now).plan ≡ topology.now }
     requires serial { (X.newest runner.old.mapper.now).serial < 2 ^ 63 }
     ensures keeps { Keeps X.lent K.told runner.old runner.new }
-    ensures run { IsFeedRun topology.now turns result (S.told feed.old).past (S.told feed.new).past (told_by X.newest X.history K.told M.told runner.old) (told_by X.newest X.history K.told M.told runner.new) }
+    ensures run { IsFeedRun topology.now turns result (S.told feed.old).past
+        (S.told feed.new).past (told_by X.newest X.history K.told M.told runner.old)
+        (told_by X.newest X.history K.told M.told runner.new) }
     ensures sink { result ≡ FeedEnd.SinkFault → HasFault K.told runner.old runner.new }
     ensures sink_stays { result ≢ FeedEnd.SinkFault → HasNoFault K.told runner.old runner.new }
-    ensures source { result ≡ FeedEnd.SourceFault → Rose (S.told feed.old).faults (S.told feed.new).faults }
+    ensures source { result ≡ FeedEnd.SourceFault
+        → Rose (S.told feed.old).faults (S.told feed.new).faults }
     ensures source_later { (S.told feed.old).faults ≤ (S.told feed.new).faults }
-    ensures source_stays { result ≢ FeedEnd.SourceFault → (S.told feed.new).faults ≡ (S.told feed.old).faults }
+    ensures source_stays { result ≢ FeedEnd.SourceFault
+        → (S.told feed.new).faults ≡ (S.told feed.old).faults }
 {
     run_lines(topology, intake, feed, runner, turns)
 }
@@ -103,14 +107,18 @@ fn finish<R: Wait, S: Source, X: Mapping, K: Sink, M: Pace>(
     requires plan { (X.newest runner.old.mapper.now).plan ≡ topology.now }
     requires serial { (X.newest runner.old.mapper.now).serial < 2 ^ 63 }
     ensures keeps { Keeps X.lent K.told runner.old runner.new }
-    ensures run { IsFeed topology.now turns result (S.told feed.old).past (S.told feed.new).past (told_by X.newest X.history K.told M.told runner.old) (told_by X.newest X.history K.told M.told runner.new) }
+    ensures run { IsFeed topology.now turns result (S.told feed.old).past
+        (S.told feed.new).past (told_by X.newest X.history K.told M.told runner.old)
+        (told_by X.newest X.history K.told M.told runner.new) }
     ensures plan { (X.newest runner.new.mapper.now).plan ≡ (X.newest runner.old.mapper.now).plan }
     ensures kept { IsPrefix (X.history runner.old.mapper.now) (X.history runner.new.mapper.now) }
     ensures sink { result ≡ FeedEnd.SinkFault → HasFault K.told runner.old runner.new }
     ensures sink_stays { result ≢ FeedEnd.SinkFault → HasNoFault K.told runner.old runner.new }
-    ensures source { result ≡ FeedEnd.SourceFault → Rose (S.told feed.old).faults (S.told feed.new).faults }
+    ensures source { result ≡ FeedEnd.SourceFault
+        → Rose (S.told feed.old).faults (S.told feed.new).faults }
     ensures source_later { (S.told feed.old).faults ≤ (S.told feed.new).faults }
-    ensures source_stays { result ≢ FeedEnd.SourceFault → (S.told feed.new).faults ≡ (S.told feed.old).faults }
+    ensures source_stays { result ≢ FeedEnd.SourceFault
+        → (S.told feed.new).faults ≡ (S.told feed.old).faults }
 {
     let end = work(topology, intake, feed, runner, turns);
     let newest = runner.mapper.serial();
@@ -135,16 +143,24 @@ pub(crate) fn run_feed<R: Wait, S: Source, X: Mapping, K: Sink, M: Pace>(
     requires turns { turns ≤ MOST_TURNS }
     requires plan { (X.newest mapper.old).plan ≡ topology.now }
     requires serial { (X.newest mapper.old).serial < 2 ^ 63 }
-    ensures run { IsFeed topology.now turns result (S.told feed.old).past (S.told feed.new).past (scene (X.newest mapper.old) (X.history mapper.old) (K.told out.old).past (K.told maps.old).past (M.told pace.old).past) (scene (X.newest mapper.new) (X.history mapper.new) (K.told out.new).past (K.told maps.new).past (M.told pace.new).past) }
+    ensures run { IsFeed topology.now turns result (S.told feed.old).past (S.told feed.new).past
+        (scene (X.newest mapper.old) (X.history mapper.old) (K.told out.old).past
+        (K.told maps.old).past (M.told pace.old).past) (scene (X.newest mapper.new) (X.history
+        mapper.new) (K.told out.new).past (K.told maps.new).past (M.told pace.new).past) }
     ensures lent { X.lent mapper.new ≡ X.lent mapper.old }
     ensures plan { (X.newest mapper.new).plan ≡ (X.newest mapper.old).plan }
     ensures kept { IsPrefix (X.history mapper.old) (X.history mapper.new) }
-    ensures later { ((K.told out.old).faults ≤ (K.told out.new).faults) × ((K.told maps.old).faults ≤ (K.told maps.new).faults) }
-    ensures sink { result ≡ FeedEnd.SinkFault → Rose (K.told out.old).faults (K.told out.new).faults ⊎ Rose (K.told maps.old).faults (K.told maps.new).faults }
-    ensures sink_stays { result ≢ FeedEnd.SinkFault → ((K.told out.new).faults ≡ (K.told out.old).faults) × ((K.told maps.new).faults ≡ (K.told maps.old).faults) }
-    ensures source { result ≡ FeedEnd.SourceFault → Rose (S.told feed.old).faults (S.told feed.new).faults }
+    ensures later { ((K.told out.old).faults ≤ (K.told out.new).faults)
+        × ((K.told maps.old).faults ≤ (K.told maps.new).faults) }
+    ensures sink { result ≡ FeedEnd.SinkFault → Rose (K.told out.old).faults (K.told out.new).faults
+        ⊎ Rose (K.told maps.old).faults (K.told maps.new).faults }
+    ensures sink_stays { result ≢ FeedEnd.SinkFault → ((K.told out.new).faults
+        ≡ (K.told out.old).faults) × ((K.told maps.new).faults ≡ (K.told maps.old).faults) }
+    ensures source { result ≡ FeedEnd.SourceFault
+        → Rose (S.told feed.old).faults (S.told feed.new).faults }
     ensures source_later { (S.told feed.old).faults ≤ (S.told feed.new).faults }
-    ensures source_stays { result ≢ FeedEnd.SourceFault → (S.told feed.new).faults ≡ (S.told feed.old).faults }
+    ensures source_stays { result ≢ FeedEnd.SourceFault
+        → (S.told feed.new).faults ≡ (S.told feed.old).faults }
 {
     let mut line = Spoken::new();
     let mut runner = Runner {

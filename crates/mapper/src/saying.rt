@@ -86,7 +86,8 @@ fn push_digits(line: &mut Spoken, octets: &[u8])
 /// Appends the digits of a reply, or a dash where there is none.
 fn push_reply(line: &mut Spoken, reply: &Option<ArrayVec<u8, LARGEST_REPLY>>)
     requires { length line.old.items + 2600 ≤ LINE_ROOM }
-    ensures digits { line.new.items ≡ line.old.items ++ digits_of (option_map (λ r. r.items) reply.now) }
+    ensures digits { line.new.items
+        ≡ line.old.items ++ digits_of (option_map (λ r. r.items) reply.now) }
     ensures short { length line.new.items ≤ length line.old.items + 2600 }
 {
     match reply {

@@ -15,11 +15,14 @@ pub fn learn_all<J: Naming, D: Door, N: Notes<Note<J>>>(
     door: &mut D,
     notes: &mut N,
 )
-    ensures given { (serials : List ℕ) × BothTell (N.told notes.old) (N.told notes.new) (IsGiven serials) × All (λ s. s < length worker.new.viewer.heard) serials }
-    ensures rise { IsRise (eyes_of D.told worker.old.viewer door.old) (eyes_of D.told worker.new.viewer door.new) }
+    ensures given { (serials : List ℕ) × BothTell (N.told notes.old) (N.told notes.new)
+        (IsGiven serials) × All (λ s. s < length worker.new.viewer.heard) serials }
+    ensures rise { IsRise
+        (eyes_of D.told worker.old.viewer door.old) (eyes_of D.told worker.new.viewer door.new) }
     ensures looks { (D.told door.new).looks ≡ (D.told door.old).looks }
     ensures faults { (D.told door.new).faults ≡ (D.told door.old).faults }
-    ensures same { (worker.new.viewer.seen ≡ worker.old.viewer.seen) × (worker.new.count ≡ worker.old.count) × (worker.new.number ≡ worker.old.number) }
+    ensures same { (worker.new.viewer.seen ≡ worker.old.viewer.seen)
+        × (worker.new.count ≡ worker.old.count) × (worker.new.number ≡ worker.old.number) }
     ensures asked { (D.told door.new).asked ≡ (D.told door.old).asked }
 {
     while let Some(note) = notes.next() {

@@ -40,11 +40,13 @@ fn answer_one<J: Naming, P: Port, D: Door>(
     out: &mut ArrayVec<u8, LARGEST_REPLY>,
 ) -> Fared
     requires due { IfSome (P.told port.old).past HasDue }
-    ensures fared { IsFared worker.old.number worker.old.count (record { octets = octets.now; from = from }) result
-        (eyes_of D.told worker.old.viewer door.old)
-        (eyes_of D.told worker.new.viewer door.new)
-        (P.told port.old) (P.told port.new) }
-    ensures count { (worker.new.count ≡ following worker.old.count) × (worker.new.number ≡ worker.old.number) }
+    ensures fared { IsFared worker.old.number worker.old.count (record {
+      octets = octets.now;
+      from = from;
+    }) result (eyes_of D.told worker.old.viewer door.old)
+        (eyes_of D.told worker.new.viewer door.new) (P.told port.old) (P.told port.new) }
+    ensures count { (worker.new.count ≡ following worker.old.count)
+        × (worker.new.number ≡ worker.old.number) }
     ensures asked { (D.told door.new).asked ≡ (D.told door.old).asked }
 {
     match worker.answer(door, from.addr, octets, Way::Datagram, out) {
@@ -104,9 +106,10 @@ fn one_turn<J: Naming, P: Port, G: Gate, D: Door, N: Notes<Note<J>>>(
     buffer: &mut [u8; BUFFER],
     out: &mut ArrayVec<u8, LARGEST_REPLY>,
 ) -> Step
-    ensures turned { IsTurned worker.old.number result
-        (moment_of P.told G.told N.told port.old gate.old notes.old (eyes_of D.told worker.old.viewer door.old) worker.old.count)
-        (moment_of P.told G.told N.told port.new gate.new notes.new (eyes_of D.told worker.new.viewer door.new) worker.new.count) }
+    ensures turned { IsTurned worker.old.number result (moment_of P.told G.told N.told
+        port.old gate.old notes.old (eyes_of D.told worker.old.viewer door.old) worker.old.count)
+        (moment_of P.told G.told N.told
+        port.new gate.new notes.new (eyes_of D.told worker.new.viewer door.new) worker.new.count) }
     ensures number { worker.new.number ≡ worker.old.number }
     ensures asked { (D.told door.new).asked ≡ (D.told door.old).asked }
 {
@@ -126,9 +129,10 @@ fn serve_turns<J: Naming, P: Port, G: Gate, D: Door, N: Notes<Note<J>>>(
     notes: &mut N,
     turns: u64,
 ) -> Ended
-    ensures served { IsServed worker.old.number turns
-        (moment_of P.told G.told N.told port.old gate.old notes.old (eyes_of D.told worker.old.viewer door.old) worker.old.count)
-        (moment_of P.told G.told N.told port.new gate.new notes.new (eyes_of D.told worker.new.viewer door.new) worker.new.count) result }
+    ensures served { IsServed worker.old.number turns (moment_of P.told G.told N.told
+        port.old gate.old notes.old (eyes_of D.told worker.old.viewer door.old) worker.old.count)
+        (moment_of P.told G.told N.told port.new
+        gate.new notes.new (eyes_of D.told worker.new.viewer door.new) worker.new.count) result }
     ensures number { worker.new.number ≡ worker.old.number }
     ensures asked { (D.told door.new).asked ≡ (D.told door.old).asked }
 {
@@ -153,9 +157,10 @@ pub fn serve_port<J: Naming, P: Port, G: Gate, D: Door, N: Notes<Note<J>>>(
     notes: &mut N,
     turns: u64,
 ) -> Ended
-    ensures call { IsLaneCall replies worker.old.number turns
-        (moment_of P.told G.told N.told port.old gate.old notes.old (eyes_of D.told worker.old.viewer door.old) worker.old.count)
-        (moment_of P.told G.told N.told port.new gate.new notes.new (eyes_of D.told worker.new.viewer door.new) worker.new.count) result }
+    ensures call { IsLaneCall replies worker.old.number turns (moment_of P.told G.told N.told
+        port.old gate.old notes.old (eyes_of D.told worker.old.viewer door.old) worker.old.count)
+        (moment_of P.told G.told N.told port.new
+        gate.new notes.new (eyes_of D.told worker.new.viewer door.new) worker.new.count) result }
     ensures number { worker.new.number ≡ worker.old.number }
     // No place is asked for.
     ensures asked { (D.told door.new).asked ≡ (D.told door.old).asked }

@@ -93,10 +93,14 @@ impl<J: Naming> Worker<J> {
         ensures seen { self.new.viewer.seen ≡ self.old.viewer.seen }
         ensures kept { IsPrefix self.old.viewer.heard self.new.viewer.heard }
         ensures note { IsPrefix note.now.front self.new.viewer.heard }
-        ensures one { (self.new.viewer.heard ≡ self.old.viewer.heard) ⊎ (self.new.viewer.heard ≡ note.now.front) }
+        ensures one { (self.new.viewer.heard ≡ self.old.viewer.heard)
+            ⊎ (self.new.viewer.heard ≡ note.now.front) }
         ensures same { (self.new.number ≡ self.old.number) × (self.new.count ≡ self.old.count) }
-        ensures counts { ((D.told door.new).faults ≡ (D.told door.old).faults) × ((D.told door.new).looks ≡ (D.told door.old).looks) × ((D.told door.new).asked ≡ (D.told door.old).asked) }
-        ensures greatest { (D.told door.new).greatest + 1 ≡ max ((D.told door.old).greatest + 1) (length self.new.viewer.heard) }
+        ensures counts { ((D.told door.new).faults ≡ (D.told door.old).faults)
+            × ((D.told door.new).looks ≡ (D.told door.old).looks)
+            × ((D.told door.new).asked ≡ (D.told door.old).asked) }
+        ensures greatest { (D.told door.new).greatest + 1
+            ≡ max ((D.told door.old).greatest + 1) (length self.new.viewer.heard) }
     {
         door.learn(&mut self.viewer, note);
     }
@@ -116,9 +120,13 @@ impl<J: Naming> Worker<J> {
         way: Way,
         out: &mut ArrayVec<u8, LARGEST_REPLY>,
     ) -> Result<Option<u64>, CellFault>
-        ensures answer { IsAnswer self.old.number self.old.count from octets.now way (eyes_of D.told self.old.viewer door.old) (eyes_of D.told self.new.viewer door.new) out.new.items result }
-        ensures looks { (D.told door.new).looks ≡ raised (D.told door.old).looks (looked_by octets.now) }
-        ensures count { (self.new.count ≡ following self.old.count) × (self.new.number ≡ self.old.number) }
+        ensures answer { IsAnswer self.old.number
+            self.old.count from octets.now way (eyes_of D.told self.old.viewer door.old)
+            (eyes_of D.told self.new.viewer door.new) out.new.items result }
+        ensures looks { (D.told door.new).looks
+            ≡ raised (D.told door.old).looks (looked_by octets.now) }
+        ensures count { (self.new.count ≡ following self.old.count)
+            × (self.new.number ≡ self.old.number) }
         ensures short { length out.new.items ≤ LARGEST_REPLY }
         ensures asked { (D.told door.new).asked ≡ (D.told door.old).asked }
     {
@@ -134,7 +142,8 @@ impl<J: Naming> Worker<J> {
             move |m: &MapVersion| -> Replied
                 requires { IsVersion m.now × (is_silent octets.now ≡ false) }
                 ensures lent { result.room.ghost_name ≡ room.entry.ghost_name }
-                ensures reply { reply_of m.now from octets.entry.now draw way ≡ Some result.room.now.items }
+                ensures reply { reply_of m.now from octets.entry.now draw way
+                    ≡ Some result.room.now.items }
                 ensures short { length result.room.now.items ≤ LARGEST_REPLY }
                 ensures serial { result.serial ≡ m.now.serial }
             { reply_by(m, from, octets, draw, way, room) },

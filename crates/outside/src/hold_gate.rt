@@ -49,7 +49,13 @@ impl<'a> HoldGate<'a> {
 impl Gate for HoldGate<'_> {
     ghost use Rattle.outside.specs.MemGate.{shown_of};
 
-    ghost told = { λ g. record { past = Some (record { turns = map shown_of g.turns.items; is_stopped = g.is_stopped }); faults = g.faults } };
+    ghost told = { λ g. record {
+      past = Some (record {
+        turns = map shown_of g.turns.items;
+        is_stopped = g.is_stopped;
+      });
+      faults = g.faults;
+    } };
 
     fn turn(&mut self, known: u64) -> Turning {
         self.milestones.begin_turn(self.lane);

@@ -1,7 +1,7 @@
 //! What the program asks of the outside: files, streams, ports, and who paces it, each with a count of its faults.
 //!
-//! A trait says what an object means by one record that the object may tell, and by the count, which every object
-//! tells. A call that fails raises the count, and one that does not leaves it. What a record says of the past, which is
+//! A trait says what an object means by what it tells: a record of its past, where it tells that, and the count, which
+//! every object tells. A call that fails raises the count, and one that does not leaves it. What a record says of the past, which is
 //! what was read, taken, tried, put or turned so far, also an object over a system's calls can tell. What is still to
 //! come stands in it as an `Option`, since those in memory alone can tell that. The clauses on content hold where it is
 //! told.

@@ -33,7 +33,15 @@ impl Model for MemGate {
 
     ghost Value = { GateInMemory };
 
-    ghost view = { λ g. record { told = record { turns = map shown_of g.turns.items; is_stopped = g.is_stopped }; goes = g.goes; room = g.room; faults = g.faults } };
+    ghost view = { λ g. record {
+      told = record {
+        turns = map shown_of g.turns.items;
+        is_stopped = g.is_stopped;
+      };
+      goes = g.goes;
+      room = g.room;
+      faults = g.faults;
+    } };
 
     ghost invariant = { λ g. vec_len g.turns + g.goes + g.room ≤ vec_capacity g.turns };
 }
@@ -45,7 +53,12 @@ impl MemGate {
     ///
     /// `NoMemory`.
     pub fn new(alloc: Global, goes: usize) -> Result<MemGate, NoMemory>
-        ensures { IfOk result (λ g. g ≡ record { told = record { turns = []; is_stopped = false }; goes = goes; room = 1; faults = 0 }) }
+        ensures { IfOk result (λ g. g ≡ record {
+          told = record { turns = []; is_stopped = false };
+          goes = goes;
+          room = 1;
+          faults = 0;
+        }) }
     {
         let Some(room) = goes.checked_add(1) else {
             return Err(NoMemory);
@@ -85,8 +98,12 @@ impl Gate for MemGate {
         ensures go { (result ≡ Turning.Go) ↔ (0 < self.old.goes) }
         ensures goes { self.new.goes ≡ self.old.goes - 1 }
         ensures room { result ≡ Turning.Go → self.new.room ≡ self.old.room }
-        ensures stop { result ≡ Turning.Stop → 0 < self.old.room → (self.new.told.turns ≡ self.old.told.turns ++ record { known = known; go = false } ∷ []) × (self.new.room + 1 ≡ self.old.room) × (self.new.faults ≡ self.old.faults) }
-        ensures full { result ≡ Turning.Stop → self.old.room ≡ 0 → (self.new.told.turns ≡ self.old.told.turns) × (self.new.room ≡ 0) × (self.new.faults ≡ raised self.old.faults 1) }
+        ensures stop { result ≡ Turning.Stop → 0 < self.old.room
+            → (self.new.told.turns ≡ self.old.told.turns ++ record { known = known; go = false }
+            ∷ []) × (self.new.room + 1 ≡ self.old.room) × (self.new.faults ≡ self.old.faults) }
+        ensures full { result ≡ Turning.Stop
+            → self.old.room ≡ 0 → (self.new.told.turns ≡ self.old.told.turns)
+            × (self.new.room ≡ 0) × (self.new.faults ≡ raised self.old.faults 1) }
     {
         if self.goes > 0 {
             self.goes -= 1;

@@ -29,7 +29,11 @@ impl Model for MemNamedSource {
 
     ghost Value = { NamedInMemory };
 
-    ghost view = { λ s. record { source = s.source; names = map (λ n. n.bytes) s.names.items; opens = s.calls } };
+    ghost view = { λ s. record {
+      source = s.source;
+      names = map (λ n. n.bytes) s.names.items;
+      opens = s.calls;
+    } };
 
     ghost invariant = { λ s. 1 ≤ vec_capacity s.names };
 }
@@ -45,7 +49,11 @@ impl MemNamedSource {
         source: MemSource,
         fails: Vec<u64>,
     ) -> Result<MemNamedSource, NoMemory>
-        ensures { IfOk result (λ s. s ≡ record { source = source; names = []; opens = record { made = 0; fails = fails.items; faults = 0 } }) }
+        ensures { IfOk result (λ s. s ≡ record {
+          source = source;
+          names = [];
+          opens = record { made = 0; fails = fails.items; faults = 0 };
+        }) }
     {
         Ok(MemNamedSource {
             source,
@@ -75,13 +83,16 @@ impl Source for MemNamedSource {
     fn read(&mut self, buffer: &mut [u8]) -> Read
         requires { 1 ≤ length buffer.old }
         ensures within { IsWithin result (length buffer.old) }
-        ensures read { BothTell (Some (fed self.old.source)) (Some (fed self.new.source)) (IsRead (length buffer.old) result buffer.new) }
+        ensures read { BothTell (Some (fed self.old.source))
+            (Some (fed self.new.source)) (IsRead (length buffer.old) result buffer.new) }
         ensures later { named_faults self.old ≤ named_faults self.new }
-        ensures cause { result ≡ Read.Failed → Rose (named_faults self.old) (named_faults self.new) }
+        ensures cause { result ≡ Read.Failed
+            → Rose (named_faults self.old) (named_faults self.new) }
         ensures stays { result ≢ Read.Failed → named_faults self.new ≡ named_faults self.old }
         // It reads as the source does.
         ensures failed { (result ≡ Read.Failed) ↔ FailsNext self.old.source }
-        ensures end { (result ≡ Read.End) ↔ (self.old.source.is_ended ≡ true) ⊎ ((self.old.source.left ≡ []) × ¬ FailsNext self.old.source) }
+        ensures end { (result ≡ Read.End) ↔ (self.old.source.is_ended ≡ true)
+            ⊎ ((self.old.source.left ≡ []) × ¬ FailsNext self.old.source) }
         ensures piece { IsNextPiece result (length buffer.old) self.old.source self.new.source }
         ensures counted { self.new.source.calls ≡ counted self.old.source.calls (is_failed result) }
         ensures others { (self.new.names ≡ self.old.names) × (self.new.opens ≡ self.old.opens) }
@@ -94,15 +105,21 @@ impl NamedSource for MemNamedSource {
     ghost opens = { λ s. Some s.names };
 
     fn open(&mut self, name: &str) -> Opening
-        ensures open { BothTell (Some self.old.names) (Some self.new.names) (IsNamed name.now result) }
-        ensures told { BothTell (Some (fed self.old.source)) (Some (fed self.new.source)) (λ before after. after ≡ before) }
+        ensures open { BothTell
+            (Some self.old.names) (Some self.new.names) (IsNamed name.now result) }
+        ensures told { BothTell (Some (fed self.old.source))
+            (Some (fed self.new.source)) (λ before after. after ≡ before) }
         ensures later { named_faults self.old ≤ named_faults self.new }
-        ensures cause { result ≡ Opening.Failed → Rose (named_faults self.old) (named_faults self.new) }
+        ensures cause { result ≡ Opening.Failed
+            → Rose (named_faults self.old) (named_faults self.new) }
         ensures stays { result ≢ Opening.Failed → named_faults self.new ≡ named_faults self.old }
         // It fails only where it is to, or where there is no room to note the name.
         ensures failed { (result ≡ Opening.Failed) ↔ OpenFails self.old name.now }
         ensures unnoted { result ≡ Opening.Failed → self.new.names ≡ self.old.names }
-        ensures rest { self.new ≡ record self.old { names = self.new.names; opens = counted self.old.opens (is_shut result) } }
+        ensures rest { self.new ≡ record self.old {
+          names = self.new.names;
+          opens = counted self.old.opens (is_shut result);
+        } }
     {
         let mut text = ArrayString::new();
         let has_room = text.try_push_str(name).is_ok() && self.names.is_empty();

@@ -38,7 +38,8 @@ impl<T> Model for MemNotes<T> {
 
     ghost view = { λ s. record { coming = s.coming; places = s.places.items; nones = s.nones } };
 
-    ghost invariant = { λ s. (linked_list_len s.coming ≤ most_notes) × (vec_len s.places + linked_list_len s.coming ≤ vec_capacity s.places) };
+    ghost invariant = { λ s. (linked_list_len s.coming ≤ most_notes)
+        × (vec_len s.places + linked_list_len s.coming ≤ vec_capacity s.places) };
 }
 
 impl<T: Drop> MemNotes<T> {
@@ -67,15 +68,18 @@ impl<T: Drop + Numbered> Notes<T> for MemNotes<T> {
     ghost left = { λ s. length s.coming };
 
     fn next(&mut self) -> Option<T>
-        ensures next { BothTell (Some (noted T.number self.old)) (Some (noted T.number self.new)) (IsNextNote (option_map T.number result)) }
+        ensures next { BothTell (Some (noted T.number self.old))
+            (Some (noted T.number self.new)) (IsNextNote (option_map T.number result)) }
         ensures few { length self.old.coming ≤ MOST_NOTES }
         ensures some { IfSome result (λ _. length self.new.coming < length self.old.coming) }
         ensures none { IfNone result (length self.new.coming ≡ length self.old.coming) }
         // A note is given exactly where it is due.
         ensures due { MatchOption result (¬ IsDue self.old) (λ _. IsDue self.old) }
-        ensures coming { MatchOption result (self.new.coming ≡ self.old.coming) (λ _. self.new.coming ≡ drop 1 self.old.coming) }
+        ensures coming { MatchOption result (self.new.coming ≡ self.old.coming) (λ _.
+            self.new.coming ≡ drop 1 self.old.coming) }
         // It notes how many answers were `None` before.
-        ensures places { MatchOption result (self.new.places ≡ self.old.places) (λ _. self.new.places ≡ self.old.places ++ self.old.nones ∷ []) }
+        ensures places { MatchOption result (self.new.places ≡ self.old.places) (λ _.
+            self.new.places ≡ self.old.places ++ self.old.nones ∷ []) }
     {
         match self.coming.front() {
             Some(due) if due.nones <= self.nones => {}

@@ -59,8 +59,10 @@ impl MemPace {
 
     /// Notes a call, where there is room.
     fn note(&mut self, call: PaceCall)
-        ensures noted { length self.old.calls < self.old.room → self.new ≡ record self.old { calls = self.old.calls ++ call ∷ [] } }
-        ensures full { self.old.room ≤ length self.old.calls → self.new ≡ record self.old { faults = raised self.old.faults 1 } }
+        ensures noted { length self.old.calls < self.old.room
+            → self.new ≡ record self.old { calls = self.old.calls ++ call ∷ [] } }
+        ensures full { self.old.room ≤ length self.old.calls
+            → self.new ≡ record self.old { faults = raised self.old.faults 1 } }
     {
         if self.calls.len() >= self.room || self.calls.push(call).is_err() {
             self.faults = self.faults.saturating_add(1);
@@ -76,8 +78,10 @@ impl Pace for MemPace {
     fn before(&mut self, newest: u64)
         ensures paced { IsPaced (PaceCall.Before newest ∷ []) (paced self.old) (paced self.new) }
         ensures later { self.old.faults ≤ self.new.faults }
-        ensures noted { length self.old.calls < self.old.room → self.new ≡ record self.old { calls = self.old.calls ++ PaceCall.Before newest ∷ [] } }
-        ensures full { self.old.room ≤ length self.old.calls → self.new ≡ record self.old { faults = raised self.old.faults 1 } }
+        ensures noted { length self.old.calls < self.old.room
+            → self.new ≡ record self.old { calls = self.old.calls ++ PaceCall.Before newest ∷ [] } }
+        ensures full { self.old.room ≤ length self.old.calls
+            → self.new ≡ record self.old { faults = raised self.old.faults 1 } }
     {
         self.note(PaceCall::Before(newest));
     }
@@ -85,8 +89,10 @@ impl Pace for MemPace {
     fn done(&mut self, newest: u64)
         ensures paced { IsPaced (PaceCall.Done newest ∷ []) (paced self.old) (paced self.new) }
         ensures later { self.old.faults ≤ self.new.faults }
-        ensures noted { length self.old.calls < self.old.room → self.new ≡ record self.old { calls = self.old.calls ++ PaceCall.Done newest ∷ [] } }
-        ensures full { self.old.room ≤ length self.old.calls → self.new ≡ record self.old { faults = raised self.old.faults 1 } }
+        ensures noted { length self.old.calls < self.old.room
+            → self.new ≡ record self.old { calls = self.old.calls ++ PaceCall.Done newest ∷ [] } }
+        ensures full { self.old.room ≤ length self.old.calls
+            → self.new ≡ record self.old { faults = raised self.old.faults 1 } }
     {
         self.note(PaceCall::Done(newest));
     }

@@ -80,7 +80,9 @@ impl Model for MemPort {
       sends = p.send_calls;
     } };
 
-    ghost invariant = { λ p. (1 ≤ vec_capacity p.opens) × (vec_len p.tries ≤ vec_len p.taken) × (vec_len p.taken + linked_list_len p.waiting ≤ vec_capacity p.taken) × (vec_len p.taken + linked_list_len p.waiting ≤ vec_capacity p.tries) };
+    ghost invariant = { λ p. (1 ≤ vec_capacity p.opens) × (vec_len p.tries ≤ vec_len p.taken)
+        × (vec_len p.taken + linked_list_len p.waiting ≤ vec_capacity p.taken)
+        × (vec_len p.taken + linked_list_len p.waiting ≤ vec_capacity p.tries) };
 }
 
 impl MemPort {
@@ -97,10 +99,32 @@ impl MemPort {
         recv_fails: Vec<u64>,
         send_fails: Vec<u64>,
     ) -> Result<MemPort, NoMemory>
-        ensures told { IfOk result (λ p. p.told ≡ record { opens = []; waiting = Some (map packet_of waiting); taken = []; tries = []; places = []; recvs = 0; failed = 0; is_ended = false; greatest = 0 }) }
-        ensures opens { IfOk result (λ p. p.opens ≡ record { made = 0; fails = open_fails.items; faults = 0 }) }
-        ensures recvs { IfOk result (λ p. p.recvs ≡ record { made = 0; fails = recv_fails.items; faults = 0 }) }
-        ensures sends { IfOk result (λ p. p.sends ≡ record { made = 0; fails = send_fails.items; faults = 0 }) }
+        ensures told { IfOk result (λ p. p.told ≡ record {
+          opens = [];
+          waiting = Some (map packet_of waiting);
+          taken = [];
+          tries = [];
+          places = [];
+          recvs = 0;
+          failed = 0;
+          is_ended = false;
+          greatest = 0;
+        }) }
+        ensures opens { IfOk result (λ p. p.opens ≡ record {
+          made = 0;
+          fails = open_fails.items;
+          faults = 0;
+        }) }
+        ensures recvs { IfOk result (λ p. p.recvs ≡ record {
+          made = 0;
+          fails = recv_fails.items;
+          faults = 0;
+        }) }
+        ensures sends { IfOk result (λ p. p.sends ≡ record {
+          made = 0;
+          fails = send_fails.items;
+          faults = 0;
+        }) }
     {
         let room = waiting.len();
         Ok(MemPort {
@@ -164,9 +188,11 @@ impl Port for MemPort {
     ghost told = { λ p. record { past = Some p.told; faults = port_faults p } };
 
     fn open(&mut self, listen: &Listen) -> Opening
-        ensures open { BothTell (Some self.old.told) (Some self.new.told) (IsOpen listen.now result) }
+        ensures open { BothTell
+            (Some self.old.told) (Some self.new.told) (IsOpen listen.now result) }
         ensures later { port_faults self.old ≤ port_faults self.new }
-        ensures cause { result ≡ Opening.Failed → Rose (port_faults self.old) (port_faults self.new) }
+        ensures cause { result ≡ Opening.Failed
+            → Rose (port_faults self.old) (port_faults self.new) }
         ensures stays { result ≢ Opening.Failed → port_faults self.new ≡ port_faults self.old }
         // It fails only where it is to, or where it was opened.
         ensures failed { (result ≡ Opening.Failed) ↔ OpenFails self.old }
@@ -185,15 +211,18 @@ impl Port for MemPort {
 
     fn recv(&mut self, known: u64, buffer: &mut [u8]) -> Arrival
         requires { LARGEST_DATAGRAM ≤ length buffer.old }
-        ensures recv { BothTell (Some self.old.told) (Some self.new.told) (IsRecv known buffer.new result) }
+        ensures recv { BothTell
+            (Some self.old.told) (Some self.new.told) (IsRecv known buffer.new result) }
         ensures short { IsShort result }
         ensures buffer { length buffer.new ≡ length buffer.old }
         ensures later { port_faults self.old ≤ port_faults self.new }
-        ensures cause { result ≡ Arrival.Failed → Rose (port_faults self.old) (port_faults self.new) }
+        ensures cause { result ≡ Arrival.Failed
+            → Rose (port_faults self.old) (port_faults self.new) }
         ensures stays { result ≢ Arrival.Failed → port_faults self.new ≡ port_faults self.old }
         // It fails only where it is to, and ends only where no datagram waits.
         ensures failed { (result ≡ Arrival.Failed) ↔ RecvFails self.old }
-        ensures end { (result ≡ Arrival.End) ↔ (self.old.told.is_ended ≡ true) ⊎ ((self.old.told.waiting ≡ Some []) × ¬ RecvFails self.old) }
+        ensures end { (result ≡ Arrival.End) ↔ (self.old.told.is_ended ≡ true)
+            ⊎ ((self.old.told.waiting ≡ Some []) × ¬ RecvFails self.old) }
         ensures busy { result ≢ Arrival.Idle }
         ensures counted { self.new.recvs ≡ counted self.old.recvs (is_failed result) }
         ensures others { (self.new.opens ≡ self.old.opens) × (self.new.sends ≡ self.old.sends) }
@@ -230,9 +259,11 @@ impl Port for MemPort {
     fn send(&mut self, octets: &[u8], peer: Peer, serial: u64) -> Sending
         requires due { IfSome (Some self.old.told) HasDue }
         requires short { length octets.now ≤ LARGEST_REPLY }
-        ensures send { BothTell (Some self.old.told) (Some self.new.told) (IsSend octets.now peer serial result) }
+        ensures send { BothTell
+            (Some self.old.told) (Some self.new.told) (IsSend octets.now peer serial result) }
         ensures later { port_faults self.old ≤ port_faults self.new }
-        ensures cause { result ≡ Sending.Failed → Rose (port_faults self.old) (port_faults self.new) }
+        ensures cause { result ≡ Sending.Failed
+            → Rose (port_faults self.old) (port_faults self.new) }
         ensures stays { result ≢ Sending.Failed → port_faults self.new ≡ port_faults self.old }
         // It fails only where it is to.
         ensures failed { (result ≡ Sending.Failed) ↔ SendFails self.old }

@@ -33,9 +33,18 @@ impl Model for MemSource {
 
     ghost Value = { SourceInMemory };
 
-    ghost view = { λ s. record { left = drop s.at s.bytes.items; sizes = drop s.used s.sizes.items; pieces = cut_by s.bytes.items s.given.items; shortest = s.shortest; is_ended = s.is_ended; calls = s.calls } };
+    ghost view = { λ s. record {
+      left = drop s.at s.bytes.items;
+      sizes = drop s.used s.sizes.items;
+      pieces = cut_by s.bytes.items s.given.items;
+      shortest = s.shortest;
+      is_ended = s.is_ended;
+      calls = s.calls;
+    } };
 
-    ghost invariant = { λ s. (s.at ≤ vec_len s.bytes) × (s.used ≤ vec_len s.sizes) × (s.is_ended ≡ true → s.at ≡ vec_len s.bytes) × (s.at ≡ total s.given.items) × (vec_len s.given ≤ s.at) × (vec_len s.bytes ≤ vec_capacity s.given) };
+    ghost invariant = { λ s. (s.at ≤ vec_len s.bytes) × (s.used ≤ vec_len s.sizes)
+        × (s.is_ended ≡ true → s.at ≡ vec_len s.bytes) × (s.at ≡ total s.given.items)
+        × (vec_len s.given ≤ s.at) × (vec_len s.bytes ≤ vec_capacity s.given) };
 }
 
 impl MemSource {
@@ -51,7 +60,14 @@ impl MemSource {
         sizes: Vec<usize>,
         fails: Vec<u64>,
     ) -> Result<MemSource, NoMemory>
-        ensures { IfOk result (λ s. s ≡ record { left = bytes.items; sizes = sizes.items; pieces = []; shortest = None; is_ended = false; calls = record { made = 0; fails = fails.items; faults = 0 } }) }
+        ensures { IfOk result (λ s. s ≡ record {
+          left = bytes.items;
+          sizes = sizes.items;
+          pieces = [];
+          shortest = None;
+          is_ended = false;
+          calls = record { made = 0; fails = fails.items; faults = 0 };
+        }) }
     {
         let given = Vec::with_capacity(alloc, bytes.len())?;
         Ok(MemSource {
@@ -124,7 +140,8 @@ fn give(buffer: &mut [u8], left: &[u8], size: usize)
 fn note(given: &mut Vec<usize>, bytes: &[u8], at: usize, size: usize)
     requires at { at ≡ total given.old.items }
     requires room { vec_len given.old < vec_capacity given.old }
-    ensures pieces { cut_by bytes.now given.new.items ≡ cut_by bytes.now given.old.items ++ take size (drop at bytes.now) ∷ [] }
+    ensures pieces { cut_by bytes.now given.new.items
+        ≡ cut_by bytes.now given.old.items ++ take size (drop at bytes.now) ∷ [] }
     ensures total { total given.new.items ≡ at + size }
     ensures len { vec_len given.new ≡ vec_len given.old + 1 }
     ensures capacity { vec_capacity given.old ≤ vec_capacity given.new }
@@ -149,13 +166,15 @@ impl Source for MemSource {
     fn read(&mut self, buffer: &mut [u8]) -> Read
         requires { 1 ≤ length buffer.old }
         ensures within { IsWithin result (length buffer.old) }
-        ensures read { BothTell (Some (fed self.old)) (Some (fed self.new)) (IsRead (length buffer.old) result buffer.new) }
+        ensures read { BothTell (Some (fed self.old))
+            (Some (fed self.new)) (IsRead (length buffer.old) result buffer.new) }
         ensures later { self.old.calls.faults ≤ self.new.calls.faults }
         ensures cause { result ≡ Read.Failed → Rose self.old.calls.faults self.new.calls.faults }
         ensures stays { result ≢ Read.Failed → self.new.calls.faults ≡ self.old.calls.faults }
         // It fails only where it is to, and ends only where nothing is left.
         ensures failed { (result ≡ Read.Failed) ↔ FailsNext self.old }
-        ensures end { (result ≡ Read.End) ↔ (self.old.is_ended ≡ true) ⊎ ((self.old.left ≡ []) × ¬ FailsNext self.old) }
+        ensures end { (result ≡ Read.End)
+            ↔ (self.old.is_ended ≡ true) ⊎ ((self.old.left ≡ []) × ¬ FailsNext self.old) }
         ensures piece { IsNextPiece result (length buffer.old) self.old self.new }
         ensures counted { self.new.calls ≡ counted self.old.calls (is_failed result) }
     {

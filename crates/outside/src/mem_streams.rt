@@ -57,7 +57,8 @@ impl Model for MemStreams {
       writes = s.write_calls;
     } };
 
-    ghost invariant = { λ s. (1 ≤ vec_capacity s.opens) × (vec_len s.closed + open_count s.current + linked_list_len s.waiting ≤ vec_capacity s.closed) };
+    ghost invariant = { λ s. (1 ≤ vec_capacity s.opens) × (vec_len s.closed
+        + open_count s.current + linked_list_len s.waiting ≤ vec_capacity s.closed) };
 }
 
 impl MemStreams {
@@ -74,11 +75,32 @@ impl MemStreams {
         answer_fails: Vec<u64>,
         write_fails: Vec<u64>,
     ) -> Result<MemStreams, NoMemory>
-        ensures told { IfOk result (λ s. s.told ≡ record { opens = []; closed = []; current = None; answers = 0; failed = 0; is_ended = false; greatest = 0; shortest = None }) }
+        ensures told { IfOk result (λ s. s.told ≡ record {
+          opens = [];
+          closed = [];
+          current = None;
+          answers = 0;
+          failed = 0;
+          is_ended = false;
+          greatest = 0;
+          shortest = None;
+        }) }
         ensures waiting { IfOk result (λ s. (s.waiting ≡ waiting) × (s.current ≡ None)) }
-        ensures opens { IfOk result (λ s. s.opens ≡ record { made = 0; fails = open_fails.items; faults = 0 }) }
-        ensures answers { IfOk result (λ s. s.answers ≡ record { made = 0; fails = answer_fails.items; faults = 0 }) }
-        ensures writes { IfOk result (λ s. s.writes ≡ record { made = 0; fails = write_fails.items; faults = 0 }) }
+        ensures opens { IfOk result (λ s. s.opens ≡ record {
+          made = 0;
+          fails = open_fails.items;
+          faults = 0;
+        }) }
+        ensures answers { IfOk result (λ s. s.answers ≡ record {
+          made = 0;
+          fails = answer_fails.items;
+          faults = 0;
+        }) }
+        ensures writes { IfOk result (λ s. s.writes ≡ record {
+          made = 0;
+          fails = write_fails.items;
+          faults = 0;
+        }) }
     {
         let room = waiting.len();
         Ok(MemStreams {
@@ -112,7 +134,14 @@ impl MemStreams {
 
     /// Counts an answer, which failed or not.
     fn count_answer(&mut self, has_failed: bool)
-        ensures counted { self.new ≡ record self.old { told = record self.old.told { answers = raised self.old.told.answers 1; failed = if has_failed then raised self.old.told.failed 1 else self.old.told.failed }; answers = counted self.old.answers has_failed } }
+        ensures counted { self.new ≡ record self.old {
+          told
+              = record self.old.told {
+                answers = raised self.old.told.answers 1;
+                failed = if has_failed then raised self.old.told.failed 1 else self.old.told.failed;
+              };
+          answers = counted self.old.answers has_failed;
+        } }
         ensures rose { has_failed ≡ true → Rose self.old.answers.faults self.new.answers.faults }
     {
         if has_failed {
@@ -125,7 +154,13 @@ impl MemStreams {
 
     /// Counts a write, which failed or not.
     fn count_write(&mut self, has_failed: bool)
-        ensures counted { self.new ≡ record self.old { told = record self.old.told { failed = if has_failed then raised self.old.told.failed 1 else self.old.told.failed }; writes = counted self.old.writes has_failed } }
+        ensures counted { self.new ≡ record self.old {
+          told = record self.old.told {
+            failed
+                = if has_failed then raised self.old.told.failed 1 else self.old.told.failed;
+          };
+          writes = counted self.old.writes has_failed;
+        } }
         ensures rose { has_failed ≡ true → Rose self.old.writes.faults self.new.writes.faults }
     {
         if has_failed {
@@ -138,9 +173,11 @@ impl MemStreams {
 
     /// Begins the next conversation, and gives its peer. One that is open is closed.
     fn come(&mut self) -> Option<Peer>
-        ensures some { IfSome result (λ p. (self.new.told ≡ coming p self.old.told) × IsNextTalk (Accepting.Come p) self.old self.new) }
+        ensures some { IfSome result (λ p. (self.new.told ≡ coming p self.old.told)
+            × IsNextTalk (Accepting.Come p) self.old self.new) }
         ensures none { IfNone result ((self.new ≡ self.old) × (self.old.waiting ≡ [])) }
-        ensures calls { (self.new.opens ≡ self.old.opens) × (self.new.answers ≡ self.old.answers) × (self.new.writes ≡ self.old.writes) }
+        ensures calls { (self.new.opens ≡ self.old.opens)
+            × (self.new.answers ≡ self.old.answers) × (self.new.writes ≡ self.old.writes) }
     {
         let Some(mut talk) = self.waiting.pop_front() else {
             return None;
@@ -156,13 +193,22 @@ impl MemStreams {
 
     /// What comes next of the open conversation.
     fn hear(&mut self, known: u64, place: u64, buffer: &mut [u8]) -> Reading
-        ensures heard { HasHeard known place buffer.new result self.old.told.current self.new.told.current }
-        ensures next { IsNextPiece result buffer.new (coming_of self.old.current) (coming_of self.new.current) }
-        ensures failed { (result ≡ Reading.Failed) ↔ IsTooLong (length buffer.old) (coming_of self.old.current) }
+        ensures heard { HasHeard
+            known place buffer.new result self.old.told.current self.new.told.current }
+        ensures next { IsNextPiece
+            result buffer.new (coming_of self.old.current) (coming_of self.new.current) }
+        ensures failed { (result ≡ Reading.Failed)
+            ↔ IsTooLong (length buffer.old) (coming_of self.old.current) }
         ensures kept { result ≡ Reading.Failed → self.new.current ≡ self.old.current }
         ensures within { IsWithin result (length buffer.old) }
         ensures buffer { length buffer.new ≡ length buffer.old }
-        ensures rest { self.new ≡ record self.old { told = record self.old.told { current = self.new.told.current }; current = self.new.current } }
+        ensures rest { self.new ≡ record self.old {
+          told = record self.old.told {
+            current
+                = self.new.told.current;
+          };
+          current = self.new.current;
+        } }
     {
         match self.current.take() {
             None => Reading::Closed,
@@ -176,9 +222,13 @@ impl MemStreams {
 
     /// Writes to the open conversation as many octets as there is room for, and answers whether these are all.
     fn say(&mut self, serial: u64, octets: &[u8]) -> bool
-        ensures wrote { self.new.told ≡ writing serial (take (room_of self.old.current) octets.now) self.old.told }
+        ensures wrote { self.new.told
+            ≡ writing serial (take (room_of self.old.current) octets.now) self.old.told }
         ensures all { IsTrue result ↔ HasRoom (length octets.now) self.old.current }
-        ensures rest { self.new ≡ record self.old { told = self.new.told; current = self.new.current } }
+        ensures rest { self.new ≡ record self.old {
+          told = self.new.told;
+          current = self.new.current;
+        } }
     {
         self.greatest = self.greatest.max(serial);
         match self.current.take() {
@@ -196,14 +246,20 @@ impl Streams for MemStreams {
     ghost told = { λ s. record { past = Some s.told; faults = streams_faults s } };
 
     fn open(&mut self, listen: &Listen) -> Opening
-        ensures open { BothTell (Some self.old.told) (Some self.new.told) (IsOpening listen.now result) }
+        ensures open { BothTell
+            (Some self.old.told) (Some self.new.told) (IsOpening listen.now result) }
         ensures later { streams_faults self.old ≤ streams_faults self.new }
-        ensures cause { result ≡ Opening.Failed → Rose (streams_faults self.old) (streams_faults self.new) }
-        ensures stays { result ≢ Opening.Failed → streams_faults self.new ≡ streams_faults self.old }
+        ensures cause { result ≡ Opening.Failed
+            → Rose (streams_faults self.old) (streams_faults self.new) }
+        ensures stays { result ≢ Opening.Failed
+            → streams_faults self.new ≡ streams_faults self.old }
         // It fails only where it is to, or where they were opened.
         ensures failed { (result ≡ Opening.Failed) ↔ OpenFails self.old }
         ensures unnoted { result ≡ Opening.Failed → self.new.told ≡ self.old.told }
-        ensures rest { self.new ≡ record self.old { told = self.new.told; opens = counted self.old.opens (is_shut result) } }
+        ensures rest { self.new ≡ record self.old {
+          told = self.new.told;
+          opens = counted self.old.opens (is_shut result);
+        } }
     {
         if self.open_calls.is_to_fail() || !self.opens.is_empty() {
             self.open_calls.count_failed();
@@ -215,13 +271,17 @@ impl Streams for MemStreams {
     }
 
     fn accept(&mut self, known: u64) -> Accepting
-        ensures accept { BothTell (Some self.old.told) (Some self.new.told) (IsAccept known result) }
+        ensures accept { BothTell
+            (Some self.old.told) (Some self.new.told) (IsAccept known result) }
         ensures later { streams_faults self.old ≤ streams_faults self.new }
-        ensures cause { result ≡ Accepting.Failed → Rose (streams_faults self.old) (streams_faults self.new) }
-        ensures stays { result ≢ Accepting.Failed → streams_faults self.new ≡ streams_faults self.old }
+        ensures cause { result ≡ Accepting.Failed
+            → Rose (streams_faults self.old) (streams_faults self.new) }
+        ensures stays { result ≢ Accepting.Failed
+            → streams_faults self.new ≡ streams_faults self.old }
         // It fails only where it is to, and ends only where no conversation waits.
         ensures failed { (result ≡ Accepting.Failed) ↔ AcceptFails self.old }
-        ensures end { (result ≡ Accepting.End) ↔ (self.old.told.is_ended ≡ true) ⊎ ((self.old.waiting ≡ []) × ¬ AcceptFails self.old) }
+        ensures end { (result ≡ Accepting.End)
+            ↔ (self.old.told.is_ended ≡ true) ⊎ ((self.old.waiting ≡ []) × ¬ AcceptFails self.old) }
         ensures busy { result ≢ Accepting.Idle }
         ensures next { IsNextTalk result self.old self.new }
         ensures counted { self.new.answers ≡ counted self.old.answers (is_refused result) }
@@ -248,18 +308,23 @@ impl Streams for MemStreams {
 
     fn read(&mut self, known: u64, buffer: &mut [u8]) -> Reading
         requires { 1 ≤ length buffer.old }
-        ensures read { BothTell (Some self.old.told) (Some self.new.told) (IsRead known (length buffer.old) buffer.new result) }
+        ensures read { BothTell (Some self.old.told)
+            (Some self.new.told) (IsRead known (length buffer.old) buffer.new result) }
         ensures within { IsWithin result (length buffer.old) }
         ensures buffer { length buffer.new ≡ length buffer.old }
         ensures later { streams_faults self.old ≤ streams_faults self.new }
-        ensures cause { result ≡ Reading.Failed → Rose (streams_faults self.old) (streams_faults self.new) }
-        ensures stays { result ≢ Reading.Failed → streams_faults self.new ≡ streams_faults self.old }
+        ensures cause { result ≡ Reading.Failed
+            → Rose (streams_faults self.old) (streams_faults self.new) }
+        ensures stays { result ≢ Reading.Failed
+            → streams_faults self.new ≡ streams_faults self.old }
         // It fails only where it is to, or where the next piece is longer than the buffer, and then takes nothing.
         ensures failed { (result ≡ Reading.Failed) ↔ ReadFails (length buffer.old) self.old }
-        ensures next { ¬ Contains self.old.answers.fails self.old.answers.made → IsNextPiece result buffer.new (coming_of self.old.current) (coming_of self.new.current) }
+        ensures next { ¬ Contains self.old.answers.fails self.old.answers.made → IsNextPiece
+            result buffer.new (coming_of self.old.current) (coming_of self.new.current) }
         ensures kept { result ≡ Reading.Failed → self.new.current ≡ self.old.current }
         ensures counted { self.new.answers ≡ counted self.old.answers (is_broken result) }
-        ensures others { (self.new.opens ≡ self.old.opens) × (self.new.writes ≡ self.old.writes) × (self.new.waiting ≡ self.old.waiting) }
+        ensures others { (self.new.opens ≡ self.old.opens)
+            × (self.new.writes ≡ self.old.writes) × (self.new.waiting ≡ self.old.waiting) }
     {
         let place = self.answer_calls.made();
         self.greatest = self.greatest.max(known);
@@ -274,16 +339,23 @@ impl Streams for MemStreams {
     }
 
     fn write(&mut self, serial: u64, octets: &[u8]) -> Writing
-        ensures write { BothTell (Some self.old.told) (Some self.new.told) (IsWrite serial octets.now result) }
+        ensures write { BothTell
+            (Some self.old.told) (Some self.new.told) (IsWrite serial octets.now result) }
         ensures later { streams_faults self.old ≤ streams_faults self.new }
-        ensures cause { result ≡ Writing.Failed → Rose (streams_faults self.old) (streams_faults self.new) }
-        ensures stays { result ≢ Writing.Failed → streams_faults self.new ≡ streams_faults self.old }
+        ensures cause { result ≡ Writing.Failed
+            → Rose (streams_faults self.old) (streams_faults self.new) }
+        ensures stays { result ≢ Writing.Failed
+            → streams_faults self.new ≡ streams_faults self.old }
         // It fails only where it is to, and then writes nothing, or where there is not room for all octets in an open conversation, and then writes those that there is room for.
         ensures failed { (result ≡ Writing.Failed) ↔ WriteFails (length octets.now) self.old }
-        ensures to_fail { Contains self.old.writes.fails self.old.writes.made → self.new.told ≡ failing (writing serial [] self.old.told) }
-        ensures short { ¬ Contains self.old.writes.fails self.old.writes.made → result ≡ Writing.Failed → self.new.told ≡ failing (writing serial (take (room_of self.old.current) octets.now) self.old.told) }
+        ensures to_fail { Contains self.old.writes.fails self.old.writes.made
+            → self.new.told ≡ failing (writing serial [] self.old.told) }
+        ensures short { ¬ Contains self.old.writes.fails self.old.writes.made
+            → result ≡ Writing.Failed → self.new.told
+            ≡ failing (writing serial (take (room_of self.old.current) octets.now) self.old.told) }
         ensures counted { self.new.writes ≡ counted self.old.writes (is_cut result) }
-        ensures others { (self.new.opens ≡ self.old.opens) × (self.new.answers ≡ self.old.answers) × (self.new.waiting ≡ self.old.waiting) }
+        ensures others { (self.new.opens ≡ self.old.opens)
+            × (self.new.answers ≡ self.old.answers) × (self.new.waiting ≡ self.old.waiting) }
     {
         if self.write_calls.is_to_fail() {
             let _ = self.say(serial, &[]);
@@ -300,7 +372,8 @@ impl Streams for MemStreams {
     }
 
     fn close(&mut self)
-        ensures close { BothTell (Some self.old.told) (Some self.new.told) (λ before after. after ≡ closing before) }
+        ensures close { BothTell (Some self.old.told) (Some self.new.told) (λ before after.
+            after ≡ closing before) }
         ensures stays { streams_faults self.new ≡ streams_faults self.old }
         ensures rest { self.new ≡ record self.old { told = closing self.old.told; current = None } }
     {

@@ -50,7 +50,8 @@ impl Model for MemTalk {
       room = t.room;
     } };
 
-    ghost invariant = { λ t. (vec_len t.pieces + linked_list_len t.coming ≤ vec_capacity t.pieces) × (vec_len t.written ≤ t.room) × (t.room ≤ vec_capacity t.written) };
+    ghost invariant = { λ t. (vec_len t.pieces + linked_list_len t.coming ≤ vec_capacity t.pieces)
+        × (vec_len t.written ≤ t.room) × (t.room ≤ vec_capacity t.written) };
 }
 
 impl MemTalk {
@@ -65,7 +66,11 @@ impl MemTalk {
         coming: LinkedList<Vec<u8>>,
         room: usize,
     ) -> Result<MemTalk, NoMemory>
-        ensures { IfOk result (λ t. t ≡ record { talk = fresh peer; coming = map (λ v. v.items) coming; room = room }) }
+        ensures { IfOk result (λ t. t ≡ record {
+          talk = fresh peer;
+          coming = map (λ v. v.items) coming;
+          room = room;
+        }) }
     {
         let pieces = Vec::with_capacity(alloc, coming.len())?;
         Ok(MemTalk {
@@ -152,8 +157,15 @@ impl MemTalk {
 
     /// Writes as many octets as there is room for, and answers whether these are all.
     pub(crate) fn write(&mut self, octets: &[u8]) -> bool
-        ensures wrote { self.new ≡ record self.old { talk = record self.old.talk { written = self.old.talk.written ++ take (self.old.room - length self.old.talk.written) octets.now } } }
-        ensures all { IsTrue result ↔ (length octets.now ≤ self.old.room - length self.old.talk.written) }
+        ensures wrote { self.new
+            ≡ record self.old {
+              talk = record self.old.talk {
+                written = self.old.talk.written
+                    ++ take (self.old.room - length self.old.talk.written) octets.now;
+              };
+            } }
+        ensures all { IsTrue result
+            ↔ (length octets.now ≤ self.old.room - length self.old.talk.written) }
     {
         let fits = octets.len().min(self.room - self.written.len());
         self.written.extend_from_slice(&octets[..fits]).is_ok() && fits == octets.len()

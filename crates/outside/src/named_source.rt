@@ -13,8 +13,11 @@ pub trait NamedSource: Source {
     /// Opens it under that name. What it tells as a source stays.
     fn open(&mut self, name: &str) -> Opening
         ensures open { BothTell (opens self.old) (opens self.new) (IsNamed name.now result) }
-        ensures told { BothTell (Self.told self.old).past (Self.told self.new).past (λ before after. after ≡ before) }
+        ensures told { BothTell (Self.told self.old).past (Self.told self.new).past (λ before after.
+            after ≡ before) }
         ensures later { (Self.told self.old).faults ≤ (Self.told self.new).faults }
-        ensures cause { result ≡ Opening.Failed → Rose (Self.told self.old).faults (Self.told self.new).faults }
-        ensures stays { result ≢ Opening.Failed → (Self.told self.new).faults ≡ (Self.told self.old).faults };
+        ensures cause { result ≡ Opening.Failed
+            → Rose (Self.told self.old).faults (Self.told self.new).faults }
+        ensures stays { result ≢ Opening.Failed
+            → (Self.told self.new).faults ≡ (Self.told self.old).faults };
 }

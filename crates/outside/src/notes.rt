@@ -21,7 +21,8 @@ pub trait Notes<T: Numbered> {
 
     /// The next note, if one is there now.
     fn next(&mut self) -> Option<T>
-        ensures next { BothTell (told self.old) (told self.new) (IsNextNote (option_map T.number result)) }
+        ensures next { BothTell
+            (told self.old) (told self.new) (IsNextNote (option_map T.number result)) }
         ensures few { left self.old ≤ MOST_NOTES }
         ensures some { IfSome result (λ _. left self.new < left self.old) }
         ensures none { IfNone result (left self.new ≡ left self.old) };

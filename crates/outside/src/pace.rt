@@ -21,11 +21,13 @@ pub trait Pace {
 
     /// A commit line comes next.
     fn before(&mut self, newest: u64)
-        ensures paced { IsPaced (PaceCall.Before newest ∷ []) (told self.old).past (told self.new).past }
+        ensures paced { IsPaced (PaceCall.Before newest
+            ∷ []) (told self.old).past (told self.new).past }
         ensures later { (told self.old).faults ≤ (told self.new).faults };
 
     /// The feed has ended.
     fn done(&mut self, newest: u64)
-        ensures paced { IsPaced (PaceCall.Done newest ∷ []) (told self.old).past (told self.new).past }
+        ensures paced { IsPaced (PaceCall.Done newest
+            ∷ []) (told self.old).past (told self.new).past }
         ensures later { (told self.old).faults ≤ (told self.new).faults };
 }

@@ -46,27 +46,33 @@ pub trait Port {
 
     /// Opens the port there.
     fn open(&mut self, listen: &Listen) -> Opening
-        ensures open { BothTell (told self.old).past (told self.new).past (IsOpen listen.now result) }
+        ensures open { BothTell
+            (told self.old).past (told self.new).past (IsOpen listen.now result) }
         ensures later { (told self.old).faults ≤ (told self.new).faults }
-        ensures cause { result ≡ Opening.Failed → Rose (told self.old).faults (told self.new).faults }
+        ensures cause { result ≡ Opening.Failed
+            → Rose (told self.old).faults (told self.new).faults }
         ensures stays { result ≢ Opening.Failed → (told self.new).faults ≡ (told self.old).faults };
 
     /// Takes the next datagram, to the front of the buffer. `known` is the greatest serial that the caller knows.
     fn recv(&mut self, known: u64, buffer: &mut [u8]) -> Arrival
         requires { LARGEST_DATAGRAM ≤ length buffer.old }
-        ensures recv { BothTell (told self.old).past (told self.new).past (IsRecv known buffer.new result) }
+        ensures recv { BothTell
+            (told self.old).past (told self.new).past (IsRecv known buffer.new result) }
         ensures short { IsShort result }
         ensures buffer { length buffer.new ≡ length buffer.old }
         ensures later { (told self.old).faults ≤ (told self.new).faults }
-        ensures cause { result ≡ Arrival.Failed → Rose (told self.old).faults (told self.new).faults }
+        ensures cause { result ≡ Arrival.Failed
+            → Rose (told self.old).faults (told self.new).faults }
         ensures stays { result ≢ Arrival.Failed → (told self.new).faults ≡ (told self.old).faults };
 
     /// Tries to send a reply of the map of that serial.
     fn send(&mut self, octets: &[u8], peer: Peer, serial: u64) -> Sending
         requires due { IfSome (told self.old).past HasDue }
         requires short { length octets.now ≤ LARGEST_REPLY }
-        ensures send { BothTell (told self.old).past (told self.new).past (IsSend octets.now peer serial result) }
+        ensures send { BothTell
+            (told self.old).past (told self.new).past (IsSend octets.now peer serial result) }
         ensures later { (told self.old).faults ≤ (told self.new).faults }
-        ensures cause { result ≡ Sending.Failed → Rose (told self.old).faults (told self.new).faults }
+        ensures cause { result ≡ Sending.Failed
+            → Rose (told self.old).faults (told self.new).faults }
         ensures stays { result ≢ Sending.Failed → (told self.new).faults ≡ (told self.old).faults };
 }

@@ -23,7 +23,8 @@ pub trait Source {
     fn read(&mut self, buffer: &mut [u8]) -> Read
         requires { 1 ≤ length buffer.old }
         ensures within { IsWithin result (length buffer.old) }
-        ensures read { BothTell (told self.old).past (told self.new).past (IsRead (length buffer.old) result buffer.new) }
+        ensures read { BothTell (told self.old).past
+            (told self.new).past (IsRead (length buffer.old) result buffer.new) }
         ensures later { (told self.old).faults ≤ (told self.new).faults }
         ensures cause { result ≡ Read.Failed → Rose (told self.old).faults (told self.new).faults }
         ensures stays { result ≢ Read.Failed → (told self.new).faults ≡ (told self.old).faults };

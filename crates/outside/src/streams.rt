@@ -48,37 +48,47 @@ pub trait Streams {
 
     /// Opens them there.
     fn open(&mut self, listen: &Listen) -> Opening
-        ensures open { BothTell (told self.old).past (told self.new).past (IsOpening listen.now result) }
+        ensures open { BothTell
+            (told self.old).past (told self.new).past (IsOpening listen.now result) }
         ensures later { (told self.old).faults ≤ (told self.new).faults }
-        ensures cause { result ≡ Opening.Failed → Rose (told self.old).faults (told self.new).faults }
+        ensures cause { result ≡ Opening.Failed
+            → Rose (told self.old).faults (told self.new).faults }
         ensures stays { result ≢ Opening.Failed → (told self.new).faults ≡ (told self.old).faults };
 
     /// Waits for the next conversation. One that is open is closed where another comes. `known` is the greatest serial that the caller knows.
     fn accept(&mut self, known: u64) -> Accepting
-        ensures accept { BothTell (told self.old).past (told self.new).past (IsAccept known result) }
+        ensures accept { BothTell
+            (told self.old).past (told self.new).past (IsAccept known result) }
         ensures later { (told self.old).faults ≤ (told self.new).faults }
-        ensures cause { result ≡ Accepting.Failed → Rose (told self.old).faults (told self.new).faults }
-        ensures stays { result ≢ Accepting.Failed → (told self.new).faults ≡ (told self.old).faults };
+        ensures cause { result ≡ Accepting.Failed
+            → Rose (told self.old).faults (told self.new).faults }
+        ensures stays { result ≢ Accepting.Failed
+            → (told self.new).faults ≡ (told self.old).faults };
 
     /// Reads the next piece of the open conversation, to the front of the buffer. `known` is as for `accept`. With none open no conversation changes.
     fn read(&mut self, known: u64, buffer: &mut [u8]) -> Reading
         requires { 1 ≤ length buffer.old }
-        ensures read { BothTell (told self.old).past (told self.new).past (IsRead known (length buffer.old) buffer.new result) }
+        ensures read { BothTell (told self.old).past
+            (told self.new).past (IsRead known (length buffer.old) buffer.new result) }
         ensures within { IsWithin result (length buffer.old) }
         ensures buffer { length buffer.new ≡ length buffer.old }
         ensures later { (told self.old).faults ≤ (told self.new).faults }
-        ensures cause { result ≡ Reading.Failed → Rose (told self.old).faults (told self.new).faults }
+        ensures cause { result ≡ Reading.Failed
+            → Rose (told self.old).faults (told self.new).faults }
         ensures stays { result ≢ Reading.Failed → (told self.new).faults ≡ (told self.old).faults };
 
     /// Writes to the open conversation a reply of the map of that serial. With none open no conversation changes.
     fn write(&mut self, serial: u64, octets: &[u8]) -> Writing
-        ensures write { BothTell (told self.old).past (told self.new).past (IsWrite serial octets.now result) }
+        ensures write { BothTell
+            (told self.old).past (told self.new).past (IsWrite serial octets.now result) }
         ensures later { (told self.old).faults ≤ (told self.new).faults }
-        ensures cause { result ≡ Writing.Failed → Rose (told self.old).faults (told self.new).faults }
+        ensures cause { result ≡ Writing.Failed
+            → Rose (told self.old).faults (told self.new).faults }
         ensures stays { result ≢ Writing.Failed → (told self.new).faults ≡ (told self.old).faults };
 
     /// Closes the open conversation.
     fn close(&mut self)
-        ensures close { BothTell (told self.old).past (told self.new).past (λ before after. after ≡ closing before) }
+        ensures close { BothTell (told self.old).past (told self.new).past (λ before after.
+            after ≡ closing before) }
         ensures stays { (told self.new).faults ≡ (told self.old).faults };
 }

@@ -33,7 +33,8 @@ fn answer_one<J: Naming, Q: Streams, D: Door>(
         (eyes_of D.told worker.old.viewer door.old)
         (eyes_of D.told worker.new.viewer door.new)
         (Q.told streams.old) (Q.told streams.new) }
-    ensures count { (worker.new.count ≡ following worker.old.count) × (worker.new.number ≡ worker.old.number) }
+    ensures count { (worker.new.count ≡ following worker.old.count)
+        × (worker.new.number ≡ worker.old.number) }
     ensures asked { (D.told door.new).asked ≡ (D.told door.old).asked }
 {
     let mut out = ArrayVec::new();
@@ -79,10 +80,9 @@ pub(crate) fn answer_all<'a, J: Naming, Q: Streams, D: Door>(
     octets: &'a [u8],
     from: Peer,
 ) -> (Fared, &'a [u8])
-    ensures answered { IsAnswered worker.old.number worker.old.count worker.new.count from octets.entry.now result.1.now result.0
-        (eyes_of D.told worker.old.viewer door.old)
-        (eyes_of D.told worker.new.viewer door.new)
-        (Q.told streams.old) (Q.told streams.new) }
+    ensures answered { IsAnswered worker.old.number worker.old.count worker.new.count
+        from octets.entry.now result.1.now result.0 (eyes_of D.told worker.old.viewer door.old)
+        (eyes_of D.told worker.new.viewer door.new) (Q.told streams.old) (Q.told streams.new) }
     ensures number { worker.new.number ≡ worker.old.number }
     ensures asked { (D.told door.new).asked ≡ (D.told door.old).asked }
 {

@@ -151,9 +151,11 @@ fn one_turn<J: Naming, Q: Streams, G: Gate, D: Door, N: Notes<Note<J>>>(
 ) -> Step
     requires few { talk.old.quiets < 200 }
     ensures few { talk.new.quiets < 200 }
-    ensures turned { IsTurned worker.old.number result
-        (stream_moment_of Q.told G.told N.told streams.old gate.old notes.old (eyes_of D.told worker.old.viewer door.old) worker.old.count (talk_state_of talk.old))
-        (stream_moment_of Q.told G.told N.told streams.new gate.new notes.new (eyes_of D.told worker.new.viewer door.new) worker.new.count (talk_state_of talk.new)) }
+    ensures turned { IsTurned worker.old.number
+        result (stream_moment_of Q.told G.told N.told streams.old gate.old notes.old
+        (eyes_of D.told worker.old.viewer door.old) worker.old.count (talk_state_of talk.old))
+        (stream_moment_of Q.told G.told N.told streams.new gate.new notes.new
+        (eyes_of D.told worker.new.viewer door.new) worker.new.count (talk_state_of talk.new)) }
     ensures number { worker.new.number ≡ worker.old.number }
     ensures asked { (D.told door.new).asked ≡ (D.told door.old).asked }
 {
@@ -175,9 +177,11 @@ fn serve_turns<J: Naming, Q: Streams, G: Gate, D: Door, N: Notes<Note<J>>>(
     turns: u64,
 ) -> Ended
     requires few { talk.old.quiets < 200 }
-    ensures served { IsServed worker.old.number turns
-        (stream_moment_of Q.told G.told N.told streams.old gate.old notes.old (eyes_of D.told worker.old.viewer door.old) worker.old.count (talk_state_of talk.old))
-        (stream_moment_of Q.told G.told N.told streams.new gate.new notes.new (eyes_of D.told worker.new.viewer door.new) worker.new.count (talk_state_of talk.new)) result }
+    ensures served { IsServed worker.old.number
+        turns (stream_moment_of Q.told G.told N.told streams.old gate.old notes.old
+        (eyes_of D.told worker.old.viewer door.old) worker.old.count (talk_state_of talk.old))
+        (stream_moment_of Q.told G.told N.told streams.new gate.new notes.new (eyes_of
+        D.told worker.new.viewer door.new) worker.new.count (talk_state_of talk.new)) result }
     ensures number { worker.new.number ≡ worker.old.number }
     ensures asked { (D.told door.new).asked ≡ (D.told door.old).asked }
 {
@@ -210,9 +214,10 @@ pub fn serve_streams<J: Naming, Q: Streams, G: Gate, D: Door, N: Notes<Note<J>>>
     notes: &mut N,
     turns: u64,
 ) -> Ended
-    ensures call { IsStreamCall stream_replies worker.old.number turns
-        (stream_moment_of Q.told G.told N.told streams.old gate.old notes.old (eyes_of D.told worker.old.viewer door.old) worker.old.count no_talk)
-        (stream_moment_of Q.told G.told N.told streams.new gate.new notes.new (eyes_of D.told worker.new.viewer door.new) worker.new.count no_talk) result }
+    ensures call { IsStreamCall stream_replies worker.old.number turns (stream_moment_of Q.told
+        G.told N.told streams.old gate.old notes.old (eyes_of D.told worker.old.viewer door.old)
+        worker.old.count no_talk) (stream_moment_of Q.told G.told N.told streams.new gate.new
+        notes.new (eyes_of D.told worker.new.viewer door.new) worker.new.count no_talk) result }
     ensures number { worker.new.number ≡ worker.old.number }
     // No place is asked for.
     ensures asked { (D.told door.new).asked ≡ (D.told door.old).asked }

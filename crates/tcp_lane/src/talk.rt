@@ -28,7 +28,8 @@ pub(crate) struct LaneTalk {
 
 /// Before the first conversation.
 pub(crate) fn no_talk() -> LaneTalk
-    ensures { (result.is_open ≡ false) × (result.peer ≡ no_talk.peer) × (result.held.items ≡ []) × (result.quiets ≡ 0) }
+    ensures { (result.is_open ≡ false)
+        × (result.peer ≡ no_talk.peer) × (result.held.items ≡ []) × (result.quiets ≡ 0) }
 {
     LaneTalk {
         is_open: false,
@@ -64,7 +65,8 @@ pub(crate) fn kept(rest: &[u8]) -> ArrayVec<u8, LARGEST_REST>
 
 /// Closes the conversation.
 pub(crate) fn close<Q: Streams>(streams: &mut Q, talk: &mut LaneTalk)
-    ensures told { BothTell (Q.told streams.old).past (Q.told streams.new).past (λ b c. c ≡ closing b) }
+    ensures told { BothTell (Q.told streams.old).past (Q.told streams.new).past (λ b c.
+        c ≡ closing b) }
     ensures faults { (Q.told streams.new).faults ≡ (Q.told streams.old).faults }
     ensures shut { talk.new.is_open ≡ false }
     ensures quiets { talk.new.quiets ≡ talk.old.quiets }
@@ -76,9 +78,11 @@ pub(crate) fn close<Q: Streams>(streams: &mut Q, talk: &mut LaneTalk)
 /// Counts a read that was quiet. Too many in a row close the conversation.
 pub(crate) fn rest_once<Q: Streams>(streams: &mut Q, talk: &mut LaneTalk)
     requires { talk.old.quiets < 200 }
-    ensures told { BothTell (Q.told streams.old).past (Q.told streams.new).past (λ b c. c ≡ closing_if (talk.old.quiets + 1 == 200) b) }
+    ensures told { BothTell (Q.told streams.old).past (Q.told streams.new).past (λ b c.
+        c ≡ closing_if (talk.old.quiets + 1 == 200) b) }
     ensures faults { (Q.told streams.new).faults ≡ (Q.told streams.old).faults }
-    ensures left { IsLeft (talk.old.quiets + 1 == 200) (record (talk_state_of talk.old) { quiets = talk.old.quiets + 1 }) (talk_state_of talk.new) }
+    ensures left { IsLeft (talk.old.quiets + 1 == 200) (record
+        (talk_state_of talk.old) { quiets = talk.old.quiets + 1 }) (talk_state_of talk.new) }
     ensures few { talk.new.quiets < 200 }
 {
     talk.quiets += 1;
