@@ -413,10 +413,6 @@ pub are_fed : (t : Plan) (turns : ℕ) (end : FeedEnd) (feed feed_after : FeedTo
 are_fed t turns end feed feed_after [] more_after start stop some f = absurd (some refl)
 are_fed t turns end feed feed_after (m ∷ more) more_after start stop some f = f
 
--- an opened queue, whose first feeder stands by itself
-pub parted : (queue : TableId) (n : ℕ) (items : List FeederState) → items ≡ map (fresh_feeder queue) (range_with_len 0 (1 + n)) → items ≡ fresh_feeder queue 0 ∷ map (fresh_feeder queue) (range_with_len 1 n)
-parted queue n items e = let same : 1 + n ≡ suc n = omega arith in e ∙ ap (λ (m : ℕ). map (fresh_feeder queue) (range_with_len 0 m)) same
-
 -- a beginning of what it sent was taken
 abbrev pub Begins : List Item → FeederState → Type 0
 Begins taken f = IsPrefix (sent_by f.feeder taken) f.sent

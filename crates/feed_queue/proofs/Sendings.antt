@@ -47,10 +47,6 @@ last_end (x ∷ us) (y ∷ vs) w v e = last_end us vs w v (rest x y (us ++ w ∷
 end_is : (end fault : FeedEnd) → what.End end ≡ what.End fault → end ≡ fault
 end_is end fault e = cc
 
--- a feed whose end that was sent is this one has ended by that
-pub ended_by : (whats sent : List What) (end fault : FeedEnd) → sent ≡ whats ++ what.End end ∷ [] → EndsWith sent fault → end ≡ fault
-ended_by whats sent end fault is h = end_is end fault (last_end whats h.0 (what.End end) (what.End fault) (sym is ∙ h.1))
-
 -- a run whose end was sent too
 pub has_sent_run : (t : Plan) (turns : ℕ) (end : FeedEnd) (fed then : Option Fed) (none whats sent : List What) → none ≡ [] → IsRun Adds Breaks t turns end fed then none whats → end ≢ ends.SinkFault → sent ≡ whats ++ what.End end ∷ [] → HasSent t turns fed then sent
 has_sent_run t turns end fed then none whats sent is run whole sent_is = unfold HasSent in inl (end, record { whats = whats; run = subst (λ xs. IsRun Adds Breaks t turns end fed then xs whats) is run; whole = whole; sent_is = sent_is })

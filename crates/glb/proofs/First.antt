@@ -31,28 +31,6 @@ use Rattle.std.proofs.Math.Seq.{drop-append_seam, take-append_seam}
 use Rattle.glb.proofs.Named.{all_stand_more, any_rose, fell_more}
 use Rattle.glb.proofs.Served.{is_served}
 
--- a port failed to open
-pub shut_session : (turns : ℕ) (ask : Service) (first : Version) (text : List ℕ) (fed : FeedTold) (named named' : Named) (out maps maps' : Option Written) (pace : Option (List PaceCall)) (lanes lanes' : List LaneTold) (stream stream' : StreamLaneTold) (of mf mf' : ℕ)
-    → IsStart ask text start.NoPort (record { maps = maps; maps_faults = mf; lanes = lanes; stream = stream; named = named }) (record { maps = maps'; maps_faults = mf'; lanes = lanes'; stream = stream'; named = named' })
-    → IsFirstSession turns ask first (stage fed named.feeds named.opens out maps pace lanes stream of mf) (stage fed named'.feeds named'.opens out maps' pace lanes' stream' of mf') status.PortFault
-shut_session turns ask first text fed named named' out maps maps' pace lanes lanes' stream stream' of mf mf' h =
-    inl (record { why = refl; opened = h.0; lent = rw (h.1, h.2) refl; rest = rw (h.1, h.3) refl })
-
--- a further feed failed to open
-pub unopened_session : (turns : ℕ) (ask : Service) (first : Version) (text : List ℕ) (fed : FeedTold) (named named' : Named) (out maps maps' : Option Written) (pace : Option (List PaceCall)) (lanes lanes' : List LaneTold) (stream stream' : StreamLaneTold) (of mf mf' : ℕ)
-    → IsStart ask text start.NoFeed (record { maps = maps; maps_faults = mf; lanes = lanes; stream = stream; named = named }) (record { maps = maps'; maps_faults = mf'; lanes = lanes'; stream = stream'; named = named' })
-    → IsFirstSession turns ask first (stage fed named.feeds named.opens out maps pace lanes stream of mf) (stage fed named'.feeds named'.opens out maps' pace lanes' stream' of mf') status.SourceFault
-unopened_session turns ask first text fed named named' out maps maps' pace lanes lanes' stream stream' of mf mf' h =
-    inr (inl (record { why = refl; opened = h.0; stream = h.1; named = h.2; lent = rw h.3 refl; rest = rw h.4 refl }))
-
--- the put of the first text failed
-pub unput_session : (turns : ℕ) (ask : Service) (first : Version) (text : List ℕ) (fed : FeedTold) (named named' : Named) (out maps maps' : Option Written) (pace : Option (List PaceCall)) (lanes lanes' : List LaneTold) (stream stream' : StreamLaneTold) (of mf mf' : ℕ)
-    → text ≡ map_text first → IsStart ask text start.NoSink (record { maps = maps; maps_faults = mf; lanes = lanes; stream = stream; named = named }) (record { maps = maps'; maps_faults = mf'; lanes = lanes'; stream = stream'; named = named' })
-    → IsFirstSession turns ask first (stage fed named.feeds named.opens out maps pace lanes stream of mf) (stage fed named'.feeds named'.opens out maps' pace lanes' stream' of mf') status.SinkFault
-unput_session turns ask first text fed named named' out maps maps' pace lanes lanes' stream stream' of mf mf' is h =
-    let k = subst (λ t. IsStart ask t start.NoSink (record { maps = maps; maps_faults = mf; lanes = lanes; stream = stream; named = named }) (record { maps = maps'; maps_faults = mf'; lanes = lanes'; stream = stream'; named = named' })) is h in
-    inr (inr (inl (record { why = refl; opened = k.0; stream = k.1; named = k.2; cut = k.3; rose = k.4; lent = refl; rest = refl })))
-
 -- the session was started
 pub starts : (ask : Service) (first : Version) (text : List ℕ) (fed : FeedTold) (named named' : Named) (out maps maps' : Option Written) (pace : Option (List PaceCall)) (lanes lanes' : List LaneTold) (stream stream' : StreamLaneTold) (of mf mf' : ℕ)
     → text ≡ map_text first → IsStart ask text start.Ready (record { maps = maps; maps_faults = mf; lanes = lanes; stream = stream; named = named }) (record { maps = maps'; maps_faults = mf'; lanes = lanes'; stream = stream'; named = named' })

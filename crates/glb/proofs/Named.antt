@@ -182,13 +182,6 @@ named_on f g name names r xs a b c d is one h k =
     rw (is, map-append f a b, map-append f c d, map-append g a b, map-append g c d)
     (named_more name names r (record { feeds = map f a; opens = map g a }) (record { feeds = map f c; opens = map g c }) (record { feeds = map f b; opens = map g b }) (record { feeds = map f d; opens = map g d }) (length-map a f ∙ one) (length-map a g ∙ one) h k)
 
-pub named_stop : {N : Type 0} (f : N → FeedTold) (g : N → Option (List (List ℕ))) (name : List ℕ) (names : List (List ℕ)) (xs a b c : List N) → xs ≡ a ++ b
-    → HasNamed (name ∷ []) opening.Failed (record { feeds = map f a; opens = map g a }) (record { feeds = map f c; opens = map g c })
-    → HasNamed (name ∷ names) opening.Failed (record { feeds = map f xs; opens = map g xs }) (record { feeds = map f (c ++ b); opens = map g (c ++ b) })
-named_stop f g name names xs a b c is h =
-    rw (is, map-append f a b, map-append f c b, map-append g a b, map-append g c b)
-    (named_first name names (record { feeds = map f a; opens = map g a }) (record { feeds = map f c; opens = map g c }) (record { feeds = map f b; opens = map g b }) h)
-
 -- where no name is given, none of a list is among the first
 pub none_named : {N : Type 0} (names : List (List ℕ)) (front : List N) → length front ≡ length names → names ≡ [] → front ≡ []
 none_named names [] count none = refl

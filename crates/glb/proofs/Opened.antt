@@ -27,10 +27,6 @@ pub more_opened : (listen : Listen) (n : ℕ) (r : Opening) (a c b d : List Lane
 more_opened listen n opening.Ready a c b d one h k = then_opened listen (all_ready n) a c b d one h k
 more_opened listen n opening.Failed a c b d one h k = (suc k.0, omega (arith, k.1), then_opened listen (then_failed k.0) a c b d one h k.2)
 
--- the first lane failed to open
-pub first_failed : (listen : Listen) (n : ℕ) (a c b : List LaneTold) → 0 < n → HasOpened listen 1 opening.Failed a c → HasOpened listen n opening.Failed (a ++ b) (c ++ b)
-first_failed listen n a c b some h = (h.0, omega (arith, h.1, some), opened_more listen (then_failed h.0) a c b h.2)
-
 -- the same of all of them
 pub more_lanes : (listen : Listen) (n : ℕ) (r : Opening) (xs a b c d : List LaneTold) → xs ≡ a ++ b → length a ≡ 1 → 0 < n
     → HasOpened listen 1 opening.Ready a c → HasOpened listen (n - 1) r b d → HasOpened listen n r xs (c ++ d)

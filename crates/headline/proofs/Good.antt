@@ -25,9 +25,6 @@ use Rattle.headline.proofs.Trees.{IsForest, climb_all, path_there, up_is}
 
 -- OFFERS
 
-no_choice : code_choice.Choice
-no_choice = record { pool = record { 0 = 0 }; score = 0; limit = 0 }
-
 pub has_of : (m : Market) (g k : ℕ) → IsOffer m g k → Has (instance m) g k (choice (choice_at m g k))
 has_of m g k o = (group (group_at m g), got group m.groups g (record { demand = 0; choices = [] }) o.group, got choice (choices_of m g) k (record { pool = record { 0 = 0 }; score = 0; limit = 0 }) o.place)
 

@@ -14,9 +14,6 @@ use Rattle.evict.specs.Standing.{IsReady, Standing}
 use Rattle.reopen.specs.Cutting.{CanCut}
 use Rattle.map_repair.specs.Marks.{AreDone, AreMarkedTo, HoldsInMarked, IsClosedForAll, IsMarking, IsPending, IsSettled, Marking, is_on, left_of, unmarked}
 
-pub can_of_ready : (m : Market) (s : Standing) → IsReady m s → CanCut m s
-can_of_ready m s ready = record { market = ready.market; whole = ready.whole; shape = ready.shape; form = ready.resumable.form; count = ready.resumable.free_for }
-
 -- no mark came
 pub marking_none : (a : Marking) → IsMarking a a
 marking_none a = record { count = refl; kept = λ n on. on; came = λ n on. inl on; waits = λ n p. p; fewer = omega arith }
@@ -47,10 +44,6 @@ on_from_set marks r n on = elim (cases_eq n r) [
   | inr ne ↦ inr (sym (get_or-set_other marks r n true false ne) ∙ on)
 ]
 
--- one that is marked already
-pub set_again : (marks : List Bool) (r : ℕ) → is_on marks r ≡ true → slice_set marks r true ≡ marks
-set_again marks r on = ap (slice_set marks r) (sym on) ∙ set-get_or marks r false
-
 abbrev one_unless : Bool → ℕ
 one_unless b = if b then 0 else 1
 
@@ -73,14 +66,6 @@ marking_one a r there off = record {
         let was : one_unless (is_on a.on r.0) ≡ 1 = ap one_unless off in
         let none : one_unless true ≡ 0 = refl in
         omega (arith, set, was, none, length_push a.pending r)
-
--- the nodes that are to be looked at are marked
-pub pending_on : (on : List Bool) (pending : List NodeId) (r : NodeId) → r.0 < length on → All (λ n. (n.0 < length on) × (is_on on n.0 ≡ true)) pending
-    → All (λ n. (n.0 < length (slice_set on r.0 true)) × (is_on (slice_set on r.0 true) n.0 ≡ true)) (pending ++ r ∷ [])
-pending_on on pending r there all =
-    All-push (λ (n : NodeId). (n.0 < length (slice_set on r.0 true)) × (is_on (slice_set on r.0 true) n.0 ≡ true)) pending r
-    (λ i d l. (omega (arith, (all i d l).0, length-set on r.0 true), on_set on r.0 (get_or pending i d).0 there (all i d l).1))
-    (omega (arith, length-set on r.0 true), get_or-set_same on r.0 true false there)
 
 -- what is done stays done as marks come
 pub done_on : (m : Market) (lines : List MapLine) (a b : Marking) (done : List Bool) → IsMarking a b → AreDone m lines a.on done → AreDone m lines b.on done

@@ -126,7 +126,3 @@ came_done put.Failed before base To s whole h = absurd (whole refl)
 pub speaks_at : (mark : Option ℕ) (line : Version → List ℕ) (result : Put) (before : Scene) (base c : Course) (v : Version) (h : List Version) (out o maps : Option Written) (pace : Option (List PaceCall))
     → base.out ≡ c.out → base.maps ≡ c.maps → IsAt before c (scene v h out maps pace) → BothTell out o (IsPut result (marked mark (line v))) → Came result before base (λ d. d ≡ with_marked mark c (line c.newest)) (scene v h o maps pace)
 speaks_at mark line result before base c v h out o maps pace eo em at p = said_at result before base c v h out o maps pace (marked mark (line c.newest)) eo em at (subst (λ w. BothTell out o (IsPut result (marked mark (line w)))) at.newest p)
-
--- nothing to do
-pub rests_at : (before : Scene) (c : Course) (s : Scene) → IsAt before c s → Came put.Done before c (λ d. d ≡ c) s
-rests_at before c s at = (c, refl, at)

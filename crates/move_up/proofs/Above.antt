@@ -6,9 +6,6 @@ use Rattle.map_model.specs.declared.instance.NodeId.{NodeId}
 use Rattle.map_model.specs.Market.{Market, climb, parent_of}
 use Rattle.map_model.proofs.Paths.{climb_none, climb_step}
 
-pub any_here : (m : Market) (i n : ℕ) (p : NodeId) (at : Option NodeId) → i < 8 → at ≡ Some p → p.0 ≡ n → list_any (λ x. x == n) (climb (8 - i) m at) ≡ true
-any_here m i n p at h is e = rw is (rw (climb_step m i p h) (rw (eq-eqb p.0 n e) refl))
-
 pub any_on : (m : Market) (i n : ℕ) (p : NodeId) (at at' : Option NodeId) → i < 8 → at ≡ Some p → (p.0 ≡ n → ⊥) → at' ≡ parent_of m p.0 → list_any (λ x. x == n) (climb (8 - (i + 1)) m at') ≡ list_any (λ x. x == n) (climb (8 - i) m at)
 any_on m i n p at at' h is ne up = rw (up, is) (sym (rw (climb_step m i p h) (rw (ne_eqb p.0 n ne) refl)))
 

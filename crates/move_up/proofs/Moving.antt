@@ -12,13 +12,6 @@ use Rattle.reopen.specs.Rolling.{IsBackAt, is_marked}
 use Rattle.reopen.proofs.Lessening.{sums_released}
 use Rattle.move_up.specs.Moved.{IsMoved}
 
-pub can_of_open : (m : Market) (s : Standing) → IsOpen m s → CanCut m s
-can_of_open m s o = record { market = o.market; whole = o.whole; shape = o.shape; form = o.form; count = o.free_for }
-
--- nothing moved
-pub moved_itself : (m : Market) (marks : List Bool) (s : Standing) → IsOpen m s → IsMoved m marks s s
-moved_itself m marks s open_ = record { is_open = open_; market = refl; units = λ test none. refl; pointers = λ g l. omega arith; back = λ g k l lt none. lt; no_more = λ g k o at. omega arith }
-
 -- units moved, and then some more
 pub moved_trans : (m : Market) (marks : List Bool) (a b c : Standing) → IsMoved m marks a b → IsMoved m marks b c → IsMoved m marks a c
 moved_trans m marks a b c first next = record {

@@ -19,9 +19,6 @@ tells_none : (x : Option NotesTold) → BothTell x x (AreSome [])
 tells_none None = tt
 tells_none (Some b) = none_given b
 
-pub given_none : (x : Option NotesTold) (below : ℕ) → AreGivenSoFar x x below
-given_none x below = record { serials = []; given = tells_none x; noted = λ k d lt. absurd (omega (arith, lt)) }
-
 -- one note more
 some_more : (serials : List ℕ) (number : ℕ) (b c d : NotesTold) → AreSome serials b c → IsNextNote (Some number) c d → AreSome (serials ++ number ∷ []) b d
 some_more serials number b c d p q = record { coming = p.coming ∙ (ap (λ l. serials ++ l) q.0 ∙ sym (append_assoc serials (number ∷ []) d.coming)); nones = q.1 ∙ p.nones }
@@ -37,14 +34,6 @@ given_more number x y z below below' p q le lt = record {
   given = tells_on x y z (AreSome p.serials) (IsNextNote (Some number)) (AreSome (p.serials ++ number ∷ [])) (some_more p.serials number) p.given q;
   noted = below_more p.serials number below below' p.noted le lt;
 }
-
--- and then a None
-pub given_all : (x y z : Option NotesTold) (below : ℕ) → AreGivenSoFar x y below → BothTell y z (IsNextNote None) → (serials : List ℕ) × BothTell x z (IsGiven serials) × All (λ s. s < below) serials
-given_all x y z below p q = (
-  p.serials,
-  tells_on x y z (AreSome p.serials) (IsNextNote None) (IsGiven p.serials) (λ b c d s t. record { coming = s.coming ∙ ap (λ k. p.serials ++ k.coming) (sym t); nones = ap (λ k. k.nones) t ∙ ap (λ n. raised n 1) s.nones }) p.given q,
-  p.noted,
-)
 
 -- a note was learned
 pub rise_learned : {V : Type 0} (e f : Eyes V) → f.seen ≡ e.seen → IsPrefix e.heard f.heard → f.greatest + 1 ≡ max (e.greatest + 1) (length f.heard) → f.faults ≡ e.faults → IsRise e f

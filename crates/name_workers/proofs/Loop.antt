@@ -15,9 +15,6 @@ use Rattle.name_workers.specs.Ending.{IsNextEnd}
 use Rattle.name_workers.specs.Steps.{IsServed, IsTurned, step_of}
 use Rattle.name_workers.specs.Invariant.{IsSoFar}
 
-pub start : (w : ℕ) (m : Moment Version) → IsSoFar w 0 0 m m
-start w m = record { log = []; made = refl; calm = λ k d lt. absurd (omega (arith, lt)); failures_are = refl; few = omega arith; turns_are = refl }
-
 -- what a calm turn adds
 calm_more : (log : List Turn) (t : Turn) → AreCalm log → is_calm t.came ≡ true → AreCalm (log ++ t ∷ [])
 calm_more log t c is = grind (arith, common_steps)
@@ -137,10 +134,6 @@ ends w i k k' turns step.PortFailed e m mid m' lt so t n =
     let is = failed_is t.0.came t.2 in
     let here = eighth k k' e n.0 n.1 in
     ends_with w i k turns e end.PortFault m mid m' so t.0 t.1 lt here.0 refl (λ short. (so.log, t.0, refl, calm_more so.log t.0 so.calm is.0, omega (arith, so.failures_are, n.0, here.1), is.1, short))
-
--- all turns were made
-pub all_spent : (w i k turns : ℕ) (m m' : Moment Version) → i ≡ turns → IsSoFar w i k m m' → IsServed w turns m m' end.Spent
-all_spent w i k turns m m' is so = record { log = so.log; mid = m'; made = so.made; last = refl; ending = (so.calm, omega (arith, so.failures_are, so.few), so.turns_are ∙ is) }
 
 -- the same, where the worker's number is told by an equation
 pub goes_on_by : (w w' i k k' : ℕ) (s : Step) (m mid m' : Moment Version) → w' ≡ w → IsSoFar w i k m mid → IsTurned w' s mid m' → IsNextEnd s k k' None → IsSoFar w (i + 1) k' m m'

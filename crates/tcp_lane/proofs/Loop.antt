@@ -94,9 +94,6 @@ one_more : (w : ℕ) (log : List StreamTurn) (t : StreamTurn) (m mid m' : Stream
 one_more w [] t m mid m' s q = (m', subst (λ k. IsStreamTurn stream_replies w t k m') s q, refl)
 one_more w (x ∷ log) t m mid m' s q = (s.0, s.1, one_more w log t s.0 mid m' s.2 q)
 
-pub start : (w : ℕ) (m : StreamMoment Version) → IsSoFar w 0 0 m m
-start w m = record { log = []; session = refl; calm = All-nil (λ (t : Turn). is_calm t.came ≡ true); failures_are = refl; few = omega arith; turns_are = refl }
-
 -- the eighth failure ends the lane, and no other does
 not_eighth_by : (b : Bool) (k k' : ℕ) → (k' == 8) ≡ b → k' ≡ k + 1 → None ≡ (if b then Some end.PortFault else None) → k < 8 → k' < 8
 not_eighth_by true k k' is n e lt = absurd (cc e)
@@ -160,10 +157,6 @@ ends w i k k' turns step.PortFailed e m mid m' lt so t n =
     let here = eighth k k' e n.0 n.1 in
     let sum = failures_more so.log t.0 in
     ends_with w i k turns e end.PortFault m mid m' so t.0 t.1 lt here.0 refl (λ short. (so.log, t.0, refl, calm_more so.log t.0 so.calm is.0, omega (arith, so.failures_are, n.0, here.1), omega (arith, sum, so.failures_are, is.1, n.0, here.1), short))
-
--- all turns were made
-pub all_spent : (w i k turns : ℕ) (m m' : StreamMoment Version) → i ≡ turns → IsSoFar w i k m m' → IsServed w turns m m' end.Spent
-all_spent w i k turns m m' is so = record { log = so.log; mid = m'; session = so.session; last = refl; ending = (so.calm, omega (arith, so.failures_are, so.few), so.turns_are ∙ is) }
 
 -- the same, where the worker's number is told by an equation
 pub goes_on_by : (w w' i k k' : ℕ) (s : Step) (m mid m' : StreamMoment Version) → w' ≡ w → IsSoFar w i k m mid → IsTurned w' s mid m' → IsNextEnd s k k' None → IsSoFar w (i + 1) k' m m'

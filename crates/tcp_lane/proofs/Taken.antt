@@ -50,17 +50,6 @@ accept_idle known l p q told same closed = record {
   step = (none_well, refl, refl);
 }
 
-pub accept_end : (known : ℕ) (l : TalkState) (p q : DeviceState StreamsTold) → BothTell p.past q.past (IsAccept known came.End) → q.faults ≡ p.faults → l.is_open ≡ false → IsPlain known l l step.PortEnd p q
-accept_end known l p q told same closed = record {
-  came = ended;
-  closes = false;
-  told = told;
-  faults = omega (arith, same);
-  stays = λ none. same;
-  ruled = (closed, refl, refl, refl);
-  step = refl;
-}
-
 pub accept_failed : (known : ℕ) (l : TalkState) (p q : DeviceState StreamsTold) → BothTell p.past q.past (IsAccept known came.Failed) → Rose p.faults q.faults → l.is_open ≡ false → IsPlain known l l step.PortFailed p q
 accept_failed known l p q told rose closed = record {
   came = missed;

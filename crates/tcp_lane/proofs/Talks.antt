@@ -41,10 +41,6 @@ frames tries = flat_map (λ x. framed x.octets) tries
 flat_more : {X A : Type 0} (f : X → List A) (xs : List X) (x : X) → flat_map f (xs ++ x ∷ []) ≡ flat_map f xs ++ f x
 flat_more f xs x = flat_map-append f xs (x ∷ []) ∙ ap (λ l. flat_map f xs ++ l) (append-nil (f x))
 
-all_flat : {X A : Type 0} (f : X → List A) (P : A → Type 0) (xs : List X) → All (λ x. All P (f x)) xs → All P (flat_map f xs)
-all_flat f P [] p = All-nil P
-all_flat f P (x ∷ xs) p = All-append P (f x) (flat_map f xs) (p 0 x (omega arith)) (all_flat f P xs (All-tail (λ y. All P (f y)) x xs p))
-
 all_front : {A : Type 0} (P : A → Type 0) (xs ys : List A) → All P (xs ++ ys) → All P xs
 all_front P [] ys a = All-nil P
 all_front P (x ∷ xs) ys a = All-cons P x xs (a 0 x (omega arith)) (all_front P xs ys (All-tail P x (xs ++ ys) a))
