@@ -1,5 +1,5 @@
 -- Real things, as what they were asked and answered.
-use Rattle.std.specs.Prelude.{◌≡◌, ◌≤◌, ◌+◌, ℕ, None, false, length, if◌then◌else◌}
+use Rattle.std.specs.Prelude.{◌≡◌, ◌≤◌, ◌+◌, ℕ, Bool, None, false, length, if◌then◌else◌}
 use Rattle.std.specs.List.{sum_by}
 use Rattle.outside.specs.Port.{PortTold}
 use Rattle.outside.specs.Streams.{StreamsTold}
@@ -21,7 +21,9 @@ IsAsked asked port = port.recvs ≤ asked + port.failed
 abbrev pub IsHanded : ℕ → PortTold → Type 0
 IsHanded handed port = sum_by (λ t. if t.went then 1 else 0) port.tries ≤ handed
 
--- streams, with the count of their calls that failed
+-- streams, with the count of their calls that failed, whether no connection can be had any more, and how many waits there were
 pub record StreamsNoted : Type 0 where
   pub told : StreamsTold
   pub faults : ℕ
+  pub is_deaf : Bool
+  pub waits : ℕ

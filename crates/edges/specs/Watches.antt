@@ -1,7 +1,7 @@
 -- What a clock shows, and that the system was asked.
 use Rattle.std.specs.Duration.{as_nanos}
 use Rattle.std.specs.declared.time.Duration.{Duration}
-use Rattle.std.specs.Prelude.{◌≡◌, ◌≢◌, ◌+◌, ◌-◌, ◌/◌, ◌^◌, ℕ, List, min, Result, Ok, Err}
+use Rattle.std.specs.Prelude.{◌≡◌, ◌≢◌, ◌+◌, ◌-◌, ◌/◌, ◌^◌, ℕ, Bool, true, List, min, Option, None, Some, Result, Ok, Err}
 use Rattle.std.specs.declared.io.Error.{Error}
 use Rattle.edges.specs.Places.{HasPlace}
 use Rattle.edges.specs.declared.ears.Ears.{Ears}
@@ -21,6 +21,16 @@ IsReadOnce before after = after.reads.told ≡ before.reads.told + 1
 -- one wait was made
 abbrev pub HasWaited : Ears → Ears → Type 0
 HasWaited before after = after.waits.told ≡ before.waits.told + 1
+
+-- no connection can be had any more: there is no listener, or it or a wait for it is broken
+abbrev pub deaf_of : Option Ears → Bool
+deaf_of None = true
+deaf_of (Some ears) = ears.is_broken
+
+-- how many waits there were
+abbrev pub waits_of : Option Ears → ℕ
+waits_of None = 0
+waits_of (Some ears) = ears.waits.told
 
 -- a connection may wait at a listener, and can have a place
 abbrev pub MayCome : ℕ → Ears → List Seat → Type 0

@@ -1,5 +1,5 @@
 //! A listener of TCP, and what waits for it and for its connections.
-ghost use Rattle.std.specs.Prelude.{◌≡◌, ◌≢◌, ◌<◌, ◌≤◌, ◌+◌, ◌⊎◌, ℕ, true, false, All, IsErrOf, MatchBool, length};
+ghost use Rattle.std.specs.Prelude.{◌≡◌, ◌≢◌, ◌<◌, ◌≤◌, ◌+◌, ◌⊎◌, ℕ, true, false, All, IfSome, IsErrOf, MatchBool, length};
 ghost use Rattle.std.specs.List.{AllZip};
 ghost use Rattle.outside.specs.Faults.{raised};
 ghost use Rattle.edges.specs.Halls.{AreAllChanged, AreNumberedUpTo, IsLetIn, IsTakenIn};
@@ -123,7 +123,9 @@ fn has_spare(registry: &Registry) -> bool {
 /// Listens there, at the listener that was handed in or else at one that is bound. Where a standard stream was closed at
 /// the start, the system may give its descriptor away, and a connection would be read as a feed: such a listener is given
 /// up, and so is one where no descriptor is left for a connection.
-pub(crate) fn bind<N: Net>(net: &N, listen: Listen, events: Events) -> Option<Ears> {
+pub(crate) fn bind<N: Net>(net: &N, listen: Listen, events: Events) -> Option<Ears>
+    ensures { IfSome result (λ ears. ears.is_broken ≡ false) }
+{
     let place = socket_addr(listen.addr, listen.port);
     let handed = handed_at(net, place).ok()?;
     let is_handed = handed.is_some();

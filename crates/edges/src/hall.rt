@@ -6,7 +6,7 @@ ghost use Rattle.outside.specs.Streams.{IsWithin};
 ghost use Rattle.edges.specs.Halls.{AreAllChanged, AreEmpty, AreFree, AreNumberedUpTo, AreRounded, EndsBehind, GoesOnBehind, IsAdvance, IsHeard, IsPlaceChangedAt, IsRound, IsSameOrEnded, IsSettled};
 ghost use Rattle.edges.specs.Places.{rested};
 ghost use Rattle.edges.specs.Rooms.{HasNothing, IsChangedAt, IsKeeping};
-ghost use Rattle.edges.specs.Watches.{HasWaited, IsReadOnce};
+ghost use Rattle.edges.specs.Watches.{HasWaited, IsReadOnce, deaf_of, waits_of};
 ghost use Rattle.edges.specs.declared.room.Room.{Room};
 ghost use Rattle.edges.specs.declared.room.TheConstants.{LARGEST_GOING};
 ghost use Rattle.tcp_frames.specs.declared.front.TheConstants.{LARGEST_FRAME};
@@ -197,8 +197,9 @@ impl Hall {
         ensures turns { (self.old.turns ≤ self.new.turns) × (self.new.turns ≤ raised (raised self.old.turns (length self.old.seats.items)) (length self.old.seats.items)) }
         ensures numbered { AreNumberedUpTo self.new.turns self.new.seats.items self.new.rooms.items }
         ensures went { result ≢ Accepting.Failed → IsRound self.new.watch.now self.old.turns self.new.turns self.old.seats.items self.old.rooms.items self.new.seats.items self.new.rooms.items }
-        ensures broken { (ears.new ≡ None → result ≡ Accepting.Failed) × IfSome ears.new (λ e. MatchBool e.is_broken (result ≡ Accepting.Failed) (result ≢ Accepting.Failed)) }
-        ensures waited { IfSome ears.old (λ old. IfSome ears.new (HasWaited old)) }
+        ensures deaf { MatchBool (deaf_of ears.new) (result ≡ Accepting.Failed) (result ≢ Accepting.Failed) }
+        ensures stays { deaf_of ears.old ≡ true → deaf_of ears.new ≡ true }
+        ensures waited { result ≢ Accepting.Failed → waits_of ears.new ≡ waits_of ears.old + 1 }
         ensures read { result ≢ Accepting.Failed → IsReadOnce self.old.watch self.new.watch }
         ensures unread { (peer : Peer) → result ≡ Accepting.Come peer → self.new.is_read ≡ false }
     {

@@ -1,6 +1,7 @@
 //! Conversations over TCP with many connections at once.
-ghost use Rattle.std.specs.Prelude.{◌≡◌, ℕ, Some};
-ghost use Rattle.outside.specs.Faults.{raised};
+ghost use Rattle.std.specs.Prelude.{◌≡◌, ◌≢◌, ◌≤◌, ◌+◌, ℕ, IfOk, MatchBool, Some, false, not, true};
+ghost use Rattle.outside.specs.Faults.{BothTell, Rose, raised};
+ghost use Rattle.outside.specs.Streams.{IsAccept, IsOpening};
 ghost use Rattle.past_log.specs.Streams.{new_streams};
 
 use crate::ears::{Ears, bind};
@@ -72,10 +73,11 @@ impl<'a, R: Net + Clock> Model for ManyStreams<'a, R> {
     ghost use Rattle.std.specs.Prelude.{◌≡◌, false};
     ghost use Rattle.edges.specs.Halls.{AreNumberedUpTo, IsTold};
     ghost use Rattle.edges.specs.Pasts.{StreamsNoted};
+    ghost use Rattle.edges.specs.Watches.{deaf_of, waits_of};
 
     ghost Value = { StreamsNoted };
 
-    ghost view = { λ s. record { told = s.past.told; faults = s.faults } };
+    ghost view = { λ s. record { told = s.past.told; faults = s.faults; is_deaf = deaf_of s.ears; waits = waits_of s.ears } };
 
     ghost invariant = { λ s. ((s.past.told.is_ended ≡ false) × IsTold s.hall.current s.hall.is_read s.hall.seats.items s.past.told.current) × AreNumberedUpTo s.hall.turns s.hall.seats.items s.hall.rooms.items };
 }
@@ -91,7 +93,7 @@ impl<'a, R: Net + Clock> ManyStreams<'a, R> {
         places: usize,
         most_of_one: usize,
     ) -> ManyStreams<'a, R>
-        ensures { result ≡ record { told = new_streams; faults = 0 } }
+        ensures { result ≡ record { told = new_streams; faults = 0; is_deaf = true; waits = 0 } }
     {
         ManyStreams {
             alloc,
@@ -109,7 +111,8 @@ impl<'a, R: Net + Clock> ManyStreams<'a, R> {
 
     /// Listens there, and takes all memory. Answers whether it listens.
     fn begin(&mut self, listen: Listen) -> Result<bool, NoMemory>
-        ensures { self.new ≡ self.old }
+        ensures same { (self.new.told ≡ self.old.told) × (self.new.faults ≡ self.old.faults) }
+        ensures listens { IfOk result (λ listens. self.new.is_deaf ≡ not listens) }
     {
         self.hall.take_back();
         self.ears = None;
@@ -135,7 +138,13 @@ impl<'a, R: Net + Clock> ManyStreams<'a, R> {
 impl<R: Net + Clock> Streams for ManyStreams<'_, R> {
     ghost told = { λ s. record { past = Some s.told; faults = s.faults } };
 
-    fn open(&mut self, listen: &Listen) -> Opening {
+    fn open(&mut self, listen: &Listen) -> Opening
+        ensures open { BothTell (Some self.old.told) (Some self.new.told) (IsOpening listen.now result) }
+        ensures later { self.old.faults ≤ self.new.faults }
+        ensures cause { result ≡ Opening.Failed → Rose self.old.faults self.new.faults }
+        ensures stays { result ≢ Opening.Failed → self.new.faults ≡ self.old.faults }
+        ensures ready { result ≡ Opening.Ready → self.new.is_deaf ≡ false }
+    {
         self.past.note(&StreamsEvent::Opened(*listen));
         match self.begin(*listen) {
             Ok(true) => Opening::Ready,
@@ -146,7 +155,16 @@ impl<R: Net + Clock> Streams for ManyStreams<'_, R> {
         }
     }
 
-    fn accept(&mut self, known: u64) -> Accepting {
+    fn accept(&mut self, known: u64) -> Accepting
+        ensures accept { BothTell (Some self.old.told) (Some self.new.told) (IsAccept known result) }
+        ensures later { self.old.faults ≤ self.new.faults }
+        ensures cause { result ≡ Accepting.Failed → Rose self.old.faults self.new.faults }
+        ensures stays { result ≢ Accepting.Failed → self.new.faults ≡ self.old.faults }
+        // It fails exactly where no connection can be had any more, and from then on.
+        ensures deaf { MatchBool self.new.is_deaf (result ≡ Accepting.Failed) (result ≢ Accepting.Failed) }
+        ensures ends { self.old.is_deaf ≡ true → self.new.is_deaf ≡ true }
+        ensures waited { result ≢ Accepting.Failed → self.new.waits ≡ self.old.waits + 1 }
+    {
         self.hall.take_back();
         let is_last = self.flag.is_set();
         let accepting = self
