@@ -59,7 +59,8 @@ pub fn finish<K: Sink>(out: &mut K, ended: Result<Report, Stop>) -> Status
     ensures run { RunsBy (IsReport ended) (K.told out.old).past (K.told out.new).past result }
     ensures later { (K.told out.old).faults ≤ (K.told out.new).faults }
     ensures stays { result ≢ Status.SinkFault → (K.told out.new).faults ≡ (K.told out.old).faults }
-    ensures cause { result ≡ Status.SinkFault → Rose (K.told out.old).faults (K.told out.new).faults }
+    ensures cause { result ≡ Status.SinkFault
+        → Rose (K.told out.old).faults (K.told out.new).faults }
     ensures source { (result ≡ Status.SourceFault) ↔ (ended ≡ Err Stop.SourceFault) }
     ensures memory { (result ≡ Status.NoMemory) ↔ (ended ≡ Err Stop.NoMemory) }
 {

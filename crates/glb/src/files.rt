@@ -124,11 +124,14 @@ fn load_file<F: Shelf>(
         (AreLoaded (λ _. record { name = name.now; limit = limit } ∷ [])))
         (StopsBy (λ _. BothTell (F.told files.old).past (F.told files.new).past
         (AreLoaded (λ _. record { name = name.now; limit = limit } ∷ [])))) }
-    ensures bytes { MatchResult result (λ b. AreBytes (F.told files.old).past name.now limit b.items)
+    ensures bytes { MatchResult result (λ b.
+        AreBytes (F.told files.old).past name.now limit b.items)
         (StopsBy (IsTooLong (F.told files.old).past name.now limit (text.line too_long.now))) }
     ensures later { (F.told files.old).faults ≤ (F.told files.new).faults }
-    ensures cause { result ≡ Err Stop.SourceFault → Rose (F.told files.old).faults (F.told files.new).faults }
-    ensures stays { result ≢ Err Stop.SourceFault → (F.told files.new).faults ≡ (F.told files.old).faults }
+    ensures cause { result ≡ Err Stop.SourceFault
+        → Rose (F.told files.old).faults (F.told files.new).faults }
+    ensures stays { result ≢ Err Stop.SourceFault
+        → (F.told files.new).faults ≡ (F.told files.old).faults }
 {
     match files.load(alloc, name, limit) {
         Ok(bytes) => Ok(bytes),

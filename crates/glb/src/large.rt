@@ -20,7 +20,8 @@ fn say_summary<K: Sink>(summary: &Summary, out: &mut K) -> Status
     ensures run { Speaks (λ due. due ≡ record { status = Status.Ok; pieces = lines_of summary.now })
         (K.told out.old).past (K.told out.new).past result }
     ensures later { (K.told out.old).faults ≤ (K.told out.new).faults }
-    ensures cause { result ≡ Status.SinkFault → Rose (K.told out.old).faults (K.told out.new).faults }
+    ensures cause { result ≡ Status.SinkFault
+        → Rose (K.told out.old).faults (K.told out.new).faults }
     ensures stays { result ≢ Status.SinkFault → (K.told out.new).faults ≡ (K.told out.old).faults }
     ensures ends { (result ≡ Status.Ok) ⊎ (result ≡ Status.SinkFault) }
 {
@@ -42,7 +43,8 @@ fn run_named<J: Naming, R: Wait, K: Sink>(
     requires groups { (1 ≤ groups) × (groups ≤ LARGEST_WORLD) }
     ensures run { RunsBy (IsLargeDue groups) (K.told out.old).past (K.told out.new).past result }
     ensures later { (K.told out.old).faults ≤ (K.told out.new).faults }
-    ensures cause { result ≡ Status.SinkFault → Rose (K.told out.old).faults (K.told out.new).faults }
+    ensures cause { result ≡ Status.SinkFault
+        → Rose (K.told out.old).faults (K.told out.new).faults }
     ensures stays { result ≢ Status.SinkFault → (K.told out.new).faults ≡ (K.told out.old).faults }
     ensures ends { (result ≡ Status.Ok) ⊎ (result ≡ Status.SinkFault) ⊎ (result ≡ Status.NoMemory) }
 {
@@ -57,7 +59,8 @@ pub fn large<R: Wait, K: Sink>(rt: &R, alloc: Global, groups: u32, out: &mut K) 
     requires { (1 ≤ groups) × (groups ≤ LARGEST_WORLD) }
     ensures run { RunsBy (IsLargeDue groups) (K.told out.old).past (K.told out.new).past result }
     ensures later { (K.told out.old).faults ≤ (K.told out.new).faults }
-    ensures cause { result ≡ Status.SinkFault → Rose (K.told out.old).faults (K.told out.new).faults }
+    ensures cause { result ≡ Status.SinkFault
+        → Rose (K.told out.old).faults (K.told out.new).faults }
     ensures stays { result ≢ Status.SinkFault → (K.told out.new).faults ≡ (K.told out.old).faults }
     ensures ends { (result ≡ Status.Ok) ⊎ (result ≡ Status.SinkFault) ⊎ (result ≡ Status.NoMemory) }
 {

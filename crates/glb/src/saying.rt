@@ -60,8 +60,13 @@ pub fn run_files<F: Shelf, K: Sink>(
     ensures loaded { result ≢ Status.SourceFault → result ≢ Status.NoMemory
         → BothTell (F.told files.old).past (F.told files.new).past
         (AreLoaded (loads_of (option_map ask_of command.entry))) }
-    ensures causes { HasExactCauses (record { files = (F.told files.old).faults; out = (K.told out.old).faults })
-        (record { files = (F.told files.new).faults; out = (K.told out.new).faults }) result }
+    ensures causes { HasExactCauses (record {
+      files = (F.told files.old).faults;
+      out = (K.told out.old).faults;
+    }) (record {
+      files = (F.told files.new).faults;
+      out = (K.told out.new).faults;
+    }) result }
     ensures good { result ≡ Status.Ok
         → IsGoodRun (option_map ask_of command.entry)
         (record { files = (F.told files.old).past; out = (K.told out.old).past })

@@ -245,10 +245,12 @@ fn serve_first<
     stream: &mut StreamLane<Q, G, D>,
 ) -> Status
     requires serial { crew.mapper.newest.serial ≡ 0 }
-    requires viewers { (vec_len crew.viewers + streams_of service.now.tcp ≡ lanes_of (service_asked service.now))
-        × All (λ v. (v.seen ≡ crew.mapper.history) × (v.heard ≡ crew.mapper.history)) crew.viewers.items }
+    requires viewers { (vec_len crew.viewers + streams_of service.now.tcp
+        ≡ lanes_of (service_asked service.now)) × All (λ v. (v.seen ≡ crew.mapper.history)
+        × (v.heard ≡ crew.mapper.history)) crew.viewers.items }
     requires listener { (length (option_to_list crew.listener) ≡ streams_of service.now.tcp)
-        × IfSome crew.listener (λ v. (v.seen ≡ crew.mapper.history) × (v.heard ≡ crew.mapper.history)) }
+        × IfSome crew.listener (λ v. (v.seen ≡ crew.mapper.history)
+        × (v.heard ≡ crew.mapper.history)) }
     requires workers { (service.now.workers ≤ most_workers service.now.tcp)
         × (service.now.workers ≤ length lent.old.lanes.now) }
     requires turns { lent.old.turns ≤ MOST_TURNS }
