@@ -26,7 +26,8 @@ use Rattle.tcp_lane.specs.Stream.{IsStreamRun}
 use Rattle.tcp_lane.specs.Turns.{StreamTurn, TalkState, closing_if, lane_of, lead_of, no_talk, stream_turn}
 use Rattle.glb.specs.Told.{Stage, Surroundings}
 use Rattle.glb.specs.Files.{Says, topology_file}
-use Rattle.glb.specs.Serve.{IsFirstOf, IsPlaced, IsStarted}
+use Rattle.glb.specs.declared.status.Status.TheVariants as status
+use Rattle.glb.specs.Serve.{IsFirstOf, IsPlaced, IsServed, IsStarted}
 
 -- A lane that ended well: in each turn its gate was asked and its port after that, whose count of faults rose by at least as many as its calls failed, and stands where none did; each datagram with a reply was answered from a version of the history that is no older than what the lane had used or was told of; it was given the notes of the first versions, as many as the lane tells, in their order, each once; what its gate was shown last is no less than what was known by then; and it went on until its port's end or its gate's stop.
 pub record IsWellDone (turns : ℕ) (history : List Version) (w : ℕ) (before after : LaneTold) : Type 0 where
@@ -78,7 +79,7 @@ abbrev pub IsStreamWell : Option Listen → ℕ → List Version → ℕ → Str
 IsStreamWell None turns history w before after = after ≡ before
 IsStreamWell (Some at) turns history w before after = IsStreamWellDone turns history w before after
 
--- The file holds a topology; a history of good maps begins with the topology's own numbers, mapped from scratch, and goes on by the batches of the feeds; the maps got the texts of that history and nothing else; the output got what the feed's lines come to, or the merged text of several feeds; and each of the first lanes, and that for conversations where it is asked for, was opened and answered from that history until it ended.
+-- The file holds a topology; a history of good maps begins with the topology's own numbers, mapped from scratch, and goes on by the batches of the feeds; the maps got the texts of that history and nothing else; the output got what the feed's lines come to, or the merged text of several feeds; and each of the first lanes, and that for conversations where it is asked for, was opened and answered from that history until it ended. What the run is said to have done is of the same history.
 pub record IsWellServed (turns : ℕ) (ask : Service) (before after : Surroundings) : Type 0 where
   pub topology : Plan
   pub is_plan : IsPlan topology
@@ -96,3 +97,6 @@ pub record IsWellServed (turns : ℕ) (ask : Service) (before after : Surroundin
   pub fed : AreFed topology turns feed.Ended started.lent.feed (take (length ask.more) started.lent.more) after.stage.lent.feed (take (length ask.more) after.stage.lent.more) (scene first (first ∷ []) started.lent.out started.lent.maps started.lent.pace) (scene newest (first ∷ rest) after.stage.lent.out after.stage.lent.maps after.stage.lent.pace)
   pub lanes : AreWellDone turns (first ∷ rest) 0 ask.workers started.lent.lanes after.stage.lent.lanes
   pub stream : IsStreamWell ask.tcp turns (first ∷ rest) ask.workers started.lent.stream after.stage.lent.stream
+  -- what the run did behind its start, over this same history
+  pub served : IsServed turns ask first started after.stage status.Ok
+  pub one : served.driven.rest ≡ rest
