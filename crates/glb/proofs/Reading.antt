@@ -45,6 +45,17 @@ fits kind bytes le = rw (le-ltb kind.limit (length bytes) le) refl
 too_long : {T : Type 0} (kind : Kind T) (bytes : List ℕ) → kind.limit < length bytes → said kind bytes ≡ Err kind.too_long
 too_long kind bytes lt = rw (lt-ltb kind.limit (length bytes) lt) refl
 
+-- a file that is too long is refused
+refused_long : {T : Type 0} (kind : Kind T) (files : Option Shelved) (name : List ℕ) (e : Stop) → StopsBy (IsTooLong files name kind.limit kind.too_long) e → StopsBy (IsRefused kind files name) e
+refused_long kind files name e = stops_weaker (IsTooLong files name kind.limit kind.too_long) (IsRefused kind files name) e (λ due h. (h.0, kind.too_long, h.1, too_long kind h.0 h.2, h.3))
+
+-- what is read of a file's octets is what the file says
+pub parsed : {X T : Type 0} (see : X → T) (kind : Kind T) (files : Option Shelved) (name bytes : List ℕ) (r : Result X Stop) → AreBytes files name kind.limit bytes
+    → MatchResult r (λ x. kind.reading bytes ≡ Ok (see x)) (StopsBy (IsRefusedBy (kind.reading bytes))) → MatchResult r (λ x. Says kind files name (see x)) (StopsBy (IsRefused kind files name))
+parsed see kind files name bytes (Ok x) are h = (bytes, are.0, fits kind bytes are.1 ∙ h)
+parsed see kind files name bytes (Err e) are h =
+    stops_weaker (IsRefusedBy (kind.reading bytes)) (IsRefused kind files name) e (λ due r. (bytes, r.0, are.0, fits kind bytes are.1 ∙ r.1, r.2)) h
+
 -- a shelf held before its loads what it holds after them
 held_before : (s t : Option Shelved) (due : (List ℕ → Option (List ℕ)) → List Load) → BothTell s t (AreLoaded due) → (name bytes : List ℕ) → MayHold t name bytes → MayHold s name bytes
 held_before None None due made name bytes h = tt
