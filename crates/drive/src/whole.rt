@@ -152,6 +152,11 @@ fn prepare<J: Naming, R: Threads>(
     })
 }
 
+/// Hands on the first map's note.
+fn put_first<J: Naming, R: Wait>(rt: &R, row: &NoteRow<J>, mapper: &Mapper<J>) {
+    let _ = row.put_at(rt, 0, mapper.note());
+}
+
 /// Hands on the first map's note, runs the feed beside the lanes, and then makes the closing look of each. What is lent
 /// stays lent.
 fn serve_all<
@@ -194,7 +199,7 @@ fn serve_all<
     ensures same { length (option_to_list prepared.new.works.stream) ≡ length
         (option_to_list prepared.old.works.stream) }
 {
-    let _ = prepared.row.put_at(rt, 0, side.mapper.note());
+    put_first(rt, &prepared.row, side.mapper);
     run_beside(rt, prepared, lanes, stream, side);
     let newest = side.mapper.note();
     // tells the prover what the type keeps
@@ -266,7 +271,7 @@ fn serve_several<
     ensures same { length (option_to_list prepared.new.works.stream) ≡ length
         (option_to_list prepared.old.works.stream) }
 {
-    let _ = prepared.row.put_at(rt, 0, side.mapper.note());
+    put_first(rt, &prepared.row, side.mapper);
     run_among(rt, readers, prepared, lanes, stream, side);
     let note = side.mapper.note();
     // tells the prover what the type keeps
