@@ -1,5 +1,5 @@
 -- The ends of lanes, place by place, and the history of a mapper that published nothing yet.
-use Rattle.std.proofs.Common.{◌≡◌, ℕ, zero, suc, List, [], ◌∷◌, ◌++◌, ◌∙◌, length, map, take, replicate, slice_get, slice_set, Some, None, ap, refl, sym, subst, arith, length-append, append-nil}
+use Rattle.std.proofs.Common.{◌≡◌, ℕ, zero, suc, List, [], ◌∷◌, ◌++◌, map, take, replicate, slice_get, slice_set, Some, None, ap, subst, arith}
 use Rattle.published_map.specs.Version.{Version}
 use Rattle.map_cell.specs.Histories.{IsSealed}
 
@@ -14,16 +14,3 @@ pub sole_history : (h : List Version) (v : Version) → IsSealed h v → v.seria
 sole_history [] v s is = absurd (omega (arith, s.whole, is))
 sole_history (x ∷ []) v s is = let last : slice_get (x ∷ []) 0 ≡ Some v = subst (λ n. slice_get (x ∷ []) n ≡ Some v) is s.last in cc last
 sole_history (x ∷ y ∷ h) v s is = absurd (omega (arith, s.whole, is))
-
--- where the front is as long as all, there is nothing behind it
-none_behind : {A : Type 0} (all front behind : List A) → all ≡ front ++ behind → length front ≡ length all → behind ≡ []
-none_behind all front [] is same = refl
-none_behind all front (x ∷ xs) is same = absurd (omega (arith, ap length is, length-append front (x ∷ xs), same))
-
--- so the front is all
-pub whole_front : {A : Type 0} (all front behind : List A) → all ≡ front ++ behind → length front ≡ length all → front ≡ all
-whole_front all front behind is same = sym (is ∙ ap (λ l. front ++ l) (none_behind all front behind is same) ∙ append-nil front)
-
--- and what takes its place is all
-pub whole_again : {A : Type 0} (all front behind mid : List A) → all ≡ front ++ behind → length front ≡ length all → mid ++ behind ≡ mid
-whole_again all front behind mid is same = ap (λ l. mid ++ l) (none_behind all front behind is same) ∙ append-nil mid

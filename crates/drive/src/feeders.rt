@@ -1,13 +1,12 @@
 //! Feeders at once, each over its feed in a thread of its own, beside what runs in this one. Where a feeder gets no thread
 //! it is told so, and gives its feed up.
-ghost use Rattle.std.specs.Prelude.{◌≡◌, ◌+◌, ◌∷◌, ◌++◌, [], All, length, vec_len, vec_capacity};
+ghost use Rattle.std.specs.Prelude.{◌≡◌, ◌∷◌, [], All, length, vec_len, vec_capacity};
 ghost use Rattle.std.specs.Thread.{IsSync, IsSend};
 ghost use Rattle.drive.specs.All.{AllRan, MayRan};
-ghost use Rattle.drive.specs.Readers.{AreRead};
 
 use crate::beside::{Feeds, run_beside};
 use crate::fork::join_told;
-use crate::lane::{Prepared, Runs};
+use crate::lane::{Runs, Workers};
 use std::sync::Wait;
 use std::thread::Threads;
 
@@ -15,16 +14,6 @@ use std::thread::Threads;
 pub(crate) trait Starts {
     /// Lets all feeders go on, now that a thread was asked for each.
     fn start<R: Wait>(&self, rt: &R);
-}
-
-/// Feeds with the feeders that read them, the first of each by itself, and what all feeders share.
-#[derive(Drop)]
-pub(crate) struct Readers<'d, 'r, 'f, 'e, 'n, Q, F, S, T> {
-    pub desk: &'d Q,
-    pub first: &'r mut F,
-    pub feed: &'f mut S,
-    pub feeders: &'e mut Vec<F>,
-    pub feeds: &'n mut [T],
 }
 
 /// What sends.
@@ -87,7 +76,9 @@ fn run_more<
         inner();
         return;
     };
-    let feeder = run_last(rt, desk, feeders, feeder, inner, feeds);
+    let count = feeds.len() - 1;
+    let (rest, last) = feeds.split_at_mut(count);
+    let feeder = run_last(rt, desk, feeders, feeder, inner, rest, last);
     feeders.push_reserved(feeder);
 }
 
@@ -98,21 +89,28 @@ fn run_last<
     T: Sends<Q, F> + Send,
     I: FnMut(),
     R: Threads + Wait + Sync,
->(rt: &R, desk: &Q, feeders: &mut Vec<F>, feeder: F, inner: &mut I, feeds: &mut [T]) -> F
+>(
+    rt: &R,
+    desk: &Q,
+    feeders: &mut Vec<F>,
+    feeder: F,
+    inner: &mut I,
+    rest: &mut [T],
+    last: &mut [T],
+) -> F
     requires inner { I.pre inner.old }
     requires desk { T.ready desk.now }
     requires fresh { All F.fresh feeders.old.items }
     requires feeder { F.fresh feeder }
-    requires len { length feeds.old ≡ vec_len feeders.old + 1 }
+    requires rest { length rest.old ≡ vec_len feeders.old }
+    requires last { length last.old ≡ 1 }
     ensures inner { I.step inner.old tt inner.new }
-    ensures sent { AllRan (T.sent desk.now) feeds.old feeds.new
-        (feeders.old.items ++ feeder ∷ []) (feeders.new.items ++ result ∷ []) }
+    ensures rest { AllRan (T.sent desk.now) rest.old rest.new feeders.old.items feeders.new.items }
+    ensures last { AllRan (T.sent desk.now) last.old last.new (feeder ∷ []) (result ∷ []) }
     ensures len { vec_len feeders.new ≡ vec_len feeders.old }
     ensures room { vec_capacity feeders.new ≡ vec_capacity feeders.old }
 {
     let mut feeder = feeder;
-    let count = feeders.len();
-    let (rest, last) = feeds.split_at_mut(count);
     let mut one = |alone: bool|
         requires { IsSync R.row × IsSync Q.row × IsSend T.row × IsSend F.row × (length last.now ≡ 1)
             × T.ready desk.now × F.fresh feeder }
@@ -138,19 +136,26 @@ fn run_feeders<
     T: Sends<Q, F> + Send,
     I: FnMut(),
     R: Threads + Wait + Sync,
->(rt: &R, readers: &mut Readers<'_, '_, '_, '_, '_, Q, F, S, T>, inner: &mut I)
+>(
+    rt: &R,
+    desk: &Q,
+    first: &mut F,
+    feed: &mut S,
+    feeders: &mut Vec<F>,
+    inner: &mut I,
+    feeds: &mut [T],
+)
     requires inner { I.pre inner.old }
-    requires desk { S.ready readers.old.desk.now × T.ready readers.old.desk.now }
-    requires fresh { F.fresh readers.old.first.now × All F.fresh readers.old.feeders.now.items }
-    requires len { length readers.old.feeds.now ≡ vec_len readers.old.feeders.now }
+    requires desk { S.ready desk.now × T.ready desk.now }
+    requires first { F.fresh first.old }
+    requires fresh { All F.fresh feeders.old.items }
+    requires len { length feeds.old ≡ vec_len feeders.old }
     ensures inner { I.step inner.old tt inner.new }
-    ensures read { AreRead S.sent T.sent readers.old readers.new }
+    ensures first { S.sent desk.now feed.old feed.new first.old first.new }
+    ensures sent { AllRan
+        (T.sent desk.now) feeds.old feeds.new feeders.old.items feeders.new.items }
+    ensures len { vec_len feeders.new ≡ vec_len feeders.old }
 {
-    let desk = readers.desk;
-    let first = &mut *readers.first;
-    let feed = &mut *readers.feed;
-    let feeders = &mut *readers.feeders;
-    let feeds = &mut *readers.feeds;
     let mut one = |alone: bool|
         requires { IsSync R.row × IsSync Q.row × IsSend S.row × IsSend F.row × S.ready desk.now
             × F.fresh first.now }
@@ -174,40 +179,47 @@ pub(crate) fn run_among<
     T: Sends<Q, F> + Send,
     W: Sync,
     H: Drop + Send,
+    M,
     L: Runs<W, H> + Send,
     U: Runs<W, H> + Send,
-    G: Feeds<W>,
+    G: Feeds<W, M>,
     R: Threads + Wait + Sync,
 >(
     rt: &R,
-    readers: &mut Readers<'_, '_, '_, '_, '_, Q, F, S, T>,
-    prepared: &mut Prepared<W, H>,
+    desk: &Q,
+    first: &mut F,
+    feed: &mut S,
+    feeders: &mut Vec<F>,
+    feeds: &mut [T],
+    row: &W,
+    works: &mut Workers<H>,
     lanes: &mut [L],
     stream: &mut U,
+    mapper: &mut M,
     side: &mut G,
 )
-    requires desk { S.ready readers.old.desk.now × T.ready readers.old.desk.now }
-    requires fresh { F.fresh readers.old.first.now × All F.fresh readers.old.feeders.now.items }
-    requires feeds { length readers.old.feeds.now ≡ vec_len readers.old.feeders.now }
-    requires ready { G.ready side.old }
-    requires lanes { length lanes.old ≡ vec_len prepared.old.works.lanes }
-    ensures read { AreRead S.sent T.sent readers.old readers.new }
-    ensures row { prepared.new.row ≡ prepared.old.row }
-    ensures fed { G.fed side.old side.new }
-    ensures ran { AllRan L.ran lanes.old lanes.new prepared.old.works.lanes.items prepared.new.works.lanes.items }
-    ensures stream { MayRan U.ran stream.old stream.new prepared.old.works.stream prepared.new.works.stream }
-    ensures len { vec_len prepared.new.works.lanes ≡ vec_len prepared.old.works.lanes }
+    requires desk { S.ready desk.now × T.ready desk.now }
+    requires first { F.fresh first.old }
+    requires fresh { All F.fresh feeders.old.items }
+    requires feeds { length feeds.old ≡ vec_len feeders.old }
+    requires ready { G.ready side.old mapper.old }
+    requires lanes { length lanes.old ≡ vec_len works.old.lanes }
+    ensures first { S.sent desk.now feed.old feed.new first.old first.new }
+    ensures sent { AllRan
+        (T.sent desk.now) feeds.old feeds.new feeders.old.items feeders.new.items }
+    ensures fed { G.fed side.old side.new mapper.old mapper.new }
+    ensures ran { AllRan L.ran lanes.old lanes.new works.old.lanes.items works.new.lanes.items }
+    ensures stream { MayRan U.ran stream.old stream.new works.old.stream works.new.stream }
+    ensures len { vec_len works.new.lanes ≡ vec_len works.old.lanes }
 {
-    let desk = readers.desk;
     let mut inner = ||
-        requires { G.ready side.now × (length lanes.now ≡ vec_len prepared.now.works.lanes) }
-        ensures { G.fed side.entry.now side.exit.now
-            × (prepared.exit.now.row ≡ prepared.entry.now.row)
-            × AllRan L.ran lanes.entry.now lanes.exit.now prepared.entry.now.works.lanes.items prepared.exit.now.works.lanes.items
-            × MayRan U.ran stream.entry.now stream.exit.now prepared.entry.now.works.stream prepared.exit.now.works.stream × (vec_len prepared.exit.now.works.lanes ≡ vec_len prepared.entry.now.works.lanes) }
+        requires { G.ready side.now mapper.now × (length lanes.now ≡ vec_len works.now.lanes) }
+        ensures { G.fed side.entry.now side.exit.now mapper.entry.now mapper.exit.now
+            × AllRan L.ran lanes.entry.now lanes.exit.now works.entry.now.lanes.items works.exit.now.lanes.items
+            × MayRan U.ran stream.entry.now stream.exit.now works.entry.now.stream works.exit.now.stream × (vec_len works.exit.now.lanes ≡ vec_len works.entry.now.lanes) }
     {
         desk.start(rt);
-        run_beside(rt, prepared, lanes, stream, side);
+        run_beside(rt, row, works, lanes, stream, mapper, side);
     };
-    run_feeders(rt, readers, &mut inner);
+    run_feeders(rt, desk, first, feed, feeders, &mut inner, feeds);
 }

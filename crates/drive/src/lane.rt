@@ -80,13 +80,6 @@ pub(crate) struct Workers<H> {
     pub stream: Option<H>,
 }
 
-/// What a drive takes ahead of the first lane, but for a queue: the row of notes, and the workers.
-#[derive(Drop)]
-pub(crate) struct Prepared<W, H> {
-    pub row: W,
-    pub works: Workers<H>,
-}
-
 /// How a lane ended whose closing look was refused.
 fn shut(ended: Ended) -> Ended
     ensures { result ≡ shut ended }

@@ -1,4 +1,4 @@
-//! What the sides of a drive are lent: values that are made once, and go through its functions.
+//! All that a drive is lent: one value, made once, which goes through its functions.
 
 use crate::beside::Feeds;
 use crate::feeders::{Fresh, Sends, Starts};
@@ -11,10 +11,9 @@ use outside::{Pace, Sink, Source};
 use std::sync::{Arc, Wait};
 use topology_text::Topology;
 
-/// What the mapper's side is lent: the mapper, the feed, both outputs and the pace; and the number of turns, and how the feed ended.
+/// What the mapper's side is lent: the feed, both outputs and the pace; and the number of turns, and how the feed ended.
 #[derive(Drop)]
-pub(crate) struct FeedLoan<'x, 'f, 'o, 'm, 'p, J: Naming, S, K, M> {
-    pub mapper: &'x mut Mapper<J>,
+pub(crate) struct FeedLoan<'f, 'o, 'm, 'p, S, K, M> {
     pub feed: &'f mut S,
     pub out: &'o mut K,
     pub maps: &'m mut K,
@@ -23,18 +22,25 @@ pub(crate) struct FeedLoan<'x, 'f, 'o, 'm, 'p, J: Naming, S, K, M> {
     pub end: FeedEnd,
 }
 
-impl<J: Naming, S: Source, K: Sink, M: Pace> Feeds<NoteRow<J>>
-    for FeedLoan<'_, '_, '_, '_, '_, J, S, K, M> {
+/// What both sides are lent: the mapper's, and the lanes that have workers.
+#[derive(Drop)]
+pub(crate) struct Loan<'f, 'o, 'm, 'p, 'l, S, K, M, T> {
+    pub side: FeedLoan<'f, 'o, 'm, 'p, S, K, M>,
+    pub lanes: &'l mut [T],
+}
+
+impl<J: Naming, S: Source, K: Sink, M: Pace> Feeds<NoteRow<J>, Mapper<J>>
+    for FeedLoan<'_, '_, '_, '_, S, K, M> {
     ghost use Rattle.std.specs.Prelude.{◌<◌, ◌≤◌, ◌^◌};
     ghost use Rattle.demand_feed.specs.declared.limits.TheConstants.{MOST_TURNS};
     ghost use Rattle.drive.specs.Fed.{IsFedBy};
 
-    ghost ready = { λ l. (l.turns ≤ MOST_TURNS) × (l.mapper.now.newest.serial < 2 ^ 63) };
+    ghost ready = { λ l m. (l.turns ≤ MOST_TURNS) × (m.newest.serial < 2 ^ 63) };
 
-    ghost fed = { λ a b. IsFedBy S.told K.told M.told a b };
+    ghost fed = { λ a b m n. IsFedBy S.told K.told M.told a b m n };
 
-    fn run_feed<R: Wait>(&mut self, rt: &R, row: &NoteRow<J>) {
-        self.end = self.mapper.run_feed(
+    fn run_feed<R: Wait>(&mut self, rt: &R, mapper: &mut Mapper<J>, row: &NoteRow<J>) {
+        self.end = mapper.run_feed(
             rt, self.feed, self.out, self.maps, self.pace, row, self.turns,
         );
     }
@@ -82,11 +88,10 @@ impl<N: Numbers, S: Source> Sends<Desk, Feeder<N>> for S {
     }
 }
 
-/// What the mapper's side is lent where several feeders read: the mapper, who takes what they send, both outputs and the pace; and how
+/// What the mapper's side is lent where several feeders read: who takes what they send, both outputs and the pace; and how
 /// the feeds ended.
 #[derive(Drop)]
-pub(crate) struct TakerLoan<'x, 't, 'o, 'm, 'p, J: Naming, N: Numbers, K, M> {
-    pub mapper: &'x mut Mapper<J>,
+pub(crate) struct TakerLoan<'t, 'o, 'm, 'p, N: Numbers, K, M> {
     pub taker: &'t mut Taker<N>,
     pub out: &'o mut K,
     pub maps: &'m mut K,
@@ -94,20 +99,18 @@ pub(crate) struct TakerLoan<'x, 't, 'o, 'm, 'p, J: Naming, N: Numbers, K, M> {
     pub end: FeedEnd,
 }
 
-impl<J: Naming, N: Numbers, K: Sink, M: Pace> Feeds<NoteRow<J>>
-    for TakerLoan<'_, '_, '_, '_, '_, J, N, K, M> {
+impl<J: Naming, N: Numbers, K: Sink, M: Pace> Feeds<NoteRow<J>, Mapper<J>>
+    for TakerLoan<'_, '_, '_, '_, N, K, M> {
     ghost use Rattle.std.specs.Prelude.{◌≡◌, ◌<◌, ◌^◌, [], length};
     ghost use Rattle.drive.specs.Fed.{AreWorked};
 
-    ghost ready = { λ l. (length l.mapper.now.newest.plan.market.groups ≡ N.groups)
-        × (length l.mapper.now.newest.plan.market.nodes ≡ N.nodes)
-        × (l.mapper.now.newest.serial < 2 ^ 63) × (l.taker.now.taken ≡ []) };
+    ghost ready = { λ l m. (length m.newest.plan.market.groups ≡ N.groups)
+        × (length m.newest.plan.market.nodes ≡ N.nodes)
+        × (m.newest.serial < 2 ^ 63) × (l.taker.now.taken ≡ []) };
 
-    ghost fed = { λ a b. AreWorked K.told M.told a b };
+    ghost fed = { λ a b m n. AreWorked K.told M.told a b m n };
 
-    fn run_feed<R: Wait>(&mut self, rt: &R, row: &NoteRow<J>) {
-        self.end = self
-            .mapper
-            .run_feeds(rt, self.taker, self.out, self.maps, self.pace, row);
+    fn run_feed<R: Wait>(&mut self, rt: &R, mapper: &mut Mapper<J>, row: &NoteRow<J>) {
+        self.end = mapper.run_feeds(rt, self.taker, self.out, self.maps, self.pace, row);
     }
 }

@@ -14,16 +14,15 @@ ghost use Rattle.drive.specs.Driven.{AreEnds, IsDriven};
 ghost use Rattle.drive.specs.Fed.{AreWorked, IsFedBy};
 ghost use Rattle.drive.specs.Queue.{IsFeedQueue};
 ghost use Rattle.drive.specs.Read.{IsRead};
-ghost use Rattle.drive.specs.Readers.{IsSameFeeds};
 ghost use Rattle.drive.specs.Streams.{AreStreamsDone};
 ghost use Rattle.drive.specs.Told.{AreUntouched, IsSameLent, lent_of};
 
 use crate::beside::run_beside;
-use crate::feeders::{Readers, run_among};
+use crate::feeders::run_among;
 use crate::joins::{close_all, close_more};
-use crate::lane::{Lane, LaneWorker, Prepared, Workers};
+use crate::lane::{Lane, LaneWorker, Workers};
 use crate::lent::Lent;
-use crate::loan::{Desk, FeedLoan, TakerLoan};
+use crate::loan::{Desk, FeedLoan, Loan, TakerLoan};
 use crate::queue::{FeedQueue, all_back, open_queue};
 use crate::stream::StreamLane;
 use crate::threads::can_fork;
@@ -115,6 +114,13 @@ fn ends_of<J: Naming>(works: &Vec<LaneWorker<J>>) -> [Option<Ended>; MOST_VIEWER
     ends
 }
 
+/// What a drive takes ahead of the first lane, but for a queue: the row of notes, and the workers.
+#[derive(Drop)]
+struct Prepared<J: Naming> {
+    row: NoteRow<J>,
+    works: Workers<LaneWorker<J>>,
+}
+
 /// Takes memory, and tries whether as many threads can be had as the lanes and so many feeders need.
 fn prepare<J: Naming, R: Threads>(
     rt: &R,
@@ -123,7 +129,7 @@ fn prepare<J: Naming, R: Threads>(
     listener: Option<Viewer<J>>,
     feeders: usize,
     turns: u64,
-) -> Result<Prepared<NoteRow<J>, LaneWorker<J>>, NoMemory>
+) -> Result<Prepared<J>, NoMemory>
     requires few { vec_len viewers ≤ 16 }
     requires feeders { feeders ≤ 4 }
     ensures len { IfOk result (λ r. vec_len r.works.lanes ≡ vec_len viewers) }
@@ -152,11 +158,6 @@ fn prepare<J: Naming, R: Threads>(
     })
 }
 
-/// Hands on the first map's note.
-fn put_first<J: Naming, R: Wait>(rt: &R, row: &NoteRow<J>, mapper: &Mapper<J>) {
-    let _ = row.put_at(rt, 0, mapper.note());
-}
-
 /// Hands on the first map's note, runs the feed beside the lanes, and then makes the closing look of each. What is lent
 /// stays lent.
 fn serve_all<
@@ -171,41 +172,41 @@ fn serve_all<
     R: Threads + Wait + Sync,
 >(
     rt: &R,
-    prepared: &mut Prepared<NoteRow<J>, LaneWorker<J>>,
-    lanes: &mut [Lane<P, G, D>],
+    row: &NoteRow<J>,
+    mapper: &mut Mapper<J>,
+    works: &mut Workers<LaneWorker<J>>,
+    loan: &mut Loan<'_, '_, '_, '_, '_, S, K, M, Lane<P, G, D>>,
     stream: &mut StreamLane<Q, G, D>,
-    side: &mut FeedLoan<'_, '_, '_, '_, '_, J, S, K, M>,
 )
-    requires turns { side.old.turns ≤ MOST_TURNS }
-    requires first { (side.old.mapper.now.history ≡ side.old.mapper.now.newest ∷ [])
-        × (side.old.mapper.now.newest.serial ≡ 0) }
-    requires fresh { AllHeld (IsFresh side.old.mapper.now.history side.old.turns) 0
-        prepared.old.works.lanes.items }
-    requires lanes { length lanes.old ≡ vec_len prepared.old.works.lanes }
-    requires listener { IfSome prepared.old.works.stream
-        (IsFresh side.old.mapper.now.history side.old.turns (vec_len prepared.old.works.lanes)) }
+    requires turns { loan.old.side.turns ≤ MOST_TURNS }
+    requires first { (mapper.old.history ≡ mapper.old.newest ∷ [])
+        × (mapper.old.newest.serial ≡ 0) }
+    requires fresh { AllHeld
+        (IsFresh mapper.old.history loan.old.side.turns) 0 works.old.lanes.items }
+    requires lanes { length loan.old.lanes.now ≡ vec_len works.old.lanes }
+    requires listener { IfSome works.old.stream
+        (IsFresh mapper.old.history loan.old.side.turns (vec_len works.old.lanes)) }
     ensures fed { IsFedBy S.told K.told M.told
-        side.old side.new }
-    ensures history { IsHistory side.new.mapper.now.history }
-    ensures len { vec_len prepared.new.works.lanes ≡ vec_len prepared.old.works.lanes }
-    ensures done { (rest : List Version)
-        × (side.new.mapper.now.history ≡ side.old.mapper.now.newest ∷ rest)
-        × AllDone (λ i l k w. IsDone side.old.turns side.old.mapper.now.newest rest i
-        l k w.ended) 0 lanes.old lanes.new prepared.new.works.lanes.items
-        × AreStreamsDone side.old.turns side.old.mapper.now.newest rest
-        (vec_len prepared.old.works.lanes)
-        (option_map (λ w. w.ended) prepared.new.works.stream)
+        loan.old.side loan.new.side mapper.old mapper.new }
+    ensures lanes { loan.new.lanes.ghost_name ≡ loan.old.lanes.ghost_name }
+    ensures history { IsHistory mapper.new.history }
+    ensures len { vec_len works.new.lanes ≡ vec_len works.old.lanes }
+    ensures done { (rest : List Version) × (mapper.new.history ≡ mapper.old.newest ∷ rest)
+        × AllDone (λ i l k w. IsDone loan.old.side.turns mapper.old.newest rest i
+        l k w.ended) 0 loan.old.lanes.now loan.new.lanes.now works.new.lanes.items
+        × AreStreamsDone loan.old.side.turns mapper.old.newest rest (vec_len works.old.lanes)
+        (option_map (λ w. w.ended) works.new.stream)
         stream.old stream.new }
-    ensures same { length (option_to_list prepared.new.works.stream) ≡ length
-        (option_to_list prepared.old.works.stream) }
+    ensures same { length (option_to_list works.new.stream) ≡ length
+        (option_to_list works.old.stream) }
 {
-    put_first(rt, &prepared.row, side.mapper);
-    run_beside(rt, prepared, lanes, stream, side);
-    let newest = side.mapper.note();
+    let _ = row.put_at(rt, 0, mapper.note());
+    run_beside(rt, row, works, loan.lanes, stream, mapper, &mut loan.side);
+    let note = mapper.note();
     // tells the prover what the type keeps
-    let _ = newest.front.len();
-    close_all(&newest, &mut prepared.works.lanes, lanes);
-    close_more(&newest, &mut prepared.works.stream, stream);
+    let _ = note.front.len();
+    close_all(&note, &mut works.lanes, loan.lanes);
+    close_more(&note, &mut works.stream, stream);
 }
 
 /// Hands on the first map's note, runs the feeders and the mapper's side beside the lanes, and then makes the closing look
@@ -224,60 +225,58 @@ fn serve_several<
     R: Threads + Wait + Sync,
 >(
     rt: &R,
-    readers: &mut Readers<'_, '_, '_, '_, '_, Desk, Feeder<N>, S, T>,
-    prepared: &mut Prepared<NoteRow<J>, LaneWorker<J>>,
+    desk: &Desk,
+    first: &mut Feeder<N>,
+    feed: &mut S,
+    feeders: &mut Vec<Feeder<N>>,
+    more: &mut [T],
+    row: &NoteRow<J>,
+    mapper: &mut Mapper<J>,
+    works: &mut Workers<LaneWorker<J>>,
+    side: &mut TakerLoan<'_, '_, '_, '_, N, K, M>,
     lanes: &mut [Lane<P, G, D>],
     stream: &mut StreamLane<Q, G, D>,
-    side: &mut TakerLoan<'_, '_, '_, '_, '_, J, N, K, M>,
 )
-    requires turns { readers.old.desk.now.turns ≤ MOST_TURNS }
-    requires groups { (length (arc_value readers.old.desk.now.topology).market.groups ≡ N.groups)
-        × (length side.old.mapper.now.newest.plan.market.groups ≡ N.groups) }
-    requires nodes { (length (arc_value readers.old.desk.now.topology).market.nodes ≡ N.nodes)
-        × (length side.old.mapper.now.newest.plan.market.nodes ≡ N.nodes) }
-    requires unused { (readers.old.first.now.sent ≡ []) × All (λ f. f.sent ≡ []) readers.old.feeders.now.items
+    requires turns { desk.now.turns ≤ MOST_TURNS }
+    requires groups { (length (arc_value desk.now.topology).market.groups ≡ N.groups)
+        × (length mapper.old.newest.plan.market.groups ≡ N.groups) }
+    requires nodes { (length (arc_value desk.now.topology).market.nodes ≡ N.nodes)
+        × (length mapper.old.newest.plan.market.nodes ≡ N.nodes) }
+    requires unused { (first.old.sent ≡ []) × All (λ f. f.sent ≡ []) feeders.old.items
         × (side.old.taker.now.taken ≡ []) }
-    requires feeds { length readers.old.feeds.now ≡ vec_len readers.old.feeders.now }
-    requires first { (side.old.mapper.now.history ≡ side.old.mapper.now.newest ∷ [])
-        × (side.old.mapper.now.newest.serial ≡ 0) }
-    requires fresh { AllHeld (IsFresh side.old.mapper.now.history readers.old.desk.now.turns) 0
-        prepared.old.works.lanes.items }
-    requires lanes { length lanes.old ≡ vec_len prepared.old.works.lanes }
-    requires listener { IfSome prepared.old.works.stream
-        (IsFresh side.old.mapper.now.history readers.old.desk.now.turns
-        (vec_len prepared.old.works.lanes)) }
-    ensures same_feeds { IsSameFeeds readers.old readers.new }
-    ensures first { IsRead (arc_value readers.old.desk.now.topology) readers.old.desk.now.turns
-        (S.told readers.old.feed.now).past (S.told readers.new.feed.now).past
-        (S.told readers.old.feed.now).faults (S.told readers.new.feed.now).faults
-        readers.old.first.now readers.new.first.now }
+    requires feeds { length more.old ≡ vec_len feeders.old }
+    requires first { (mapper.old.history ≡ mapper.old.newest ∷ [])
+        × (mapper.old.newest.serial ≡ 0) }
+    requires fresh { AllHeld (IsFresh mapper.old.history desk.now.turns) 0 works.old.lanes.items }
+    requires lanes { length lanes.old ≡ vec_len works.old.lanes }
+    requires listener { IfSome works.old.stream
+        (IsFresh mapper.old.history desk.now.turns (vec_len works.old.lanes)) }
+    ensures first { IsRead (arc_value desk.now.topology) desk.now.turns (S.told feed.old).past
+        (S.told feed.new).past (S.told feed.old).faults (S.told feed.new).faults first.old first.new }
     ensures sent { AllRan
-        (λ a b f g. IsRead (arc_value readers.old.desk.now.topology) readers.old.desk.now.turns
-        (T.told a).past (T.told b).past (T.told a).faults (T.told b).faults f g)
-        readers.old.feeds.now readers.new.feeds.now
-        readers.old.feeders.now.items readers.new.feeders.now.items }
-    ensures worked { AreWorked K.told M.told
-        side.old side.new }
-    ensures history { IsHistory side.new.mapper.now.history }
-    ensures len { vec_len prepared.new.works.lanes ≡ vec_len prepared.old.works.lanes }
-    ensures done { (rest : List Version)
-        × (side.new.mapper.now.history ≡ side.old.mapper.now.newest ∷ rest)
-        × AllDone (λ i l k w. IsDone readers.old.desk.now.turns side.old.mapper.now.newest rest i
-        l k w.ended) 0 lanes.old lanes.new prepared.new.works.lanes.items
-        × AreStreamsDone readers.old.desk.now.turns side.old.mapper.now.newest rest
-        (vec_len prepared.old.works.lanes)
-        (option_map (λ w. w.ended) prepared.new.works.stream)
+        (λ a b f g. IsRead (arc_value desk.now.topology) desk.now.turns (T.told a).past (T.told b).past
+        (T.told a).faults (T.told b).faults f g) more.old more.new feeders.old.items feeders.new.items }
+    ensures worked { AreWorked K.told M.told side.old side.new mapper.old mapper.new }
+    ensures history { IsHistory mapper.new.history }
+    ensures len { vec_len works.new.lanes ≡ vec_len works.old.lanes }
+    ensures done { (rest : List Version) × (mapper.new.history ≡ mapper.old.newest ∷ rest)
+        × AllDone (λ i l k w. IsDone desk.now.turns mapper.old.newest rest i
+        l k w.ended) 0 lanes.old lanes.new works.new.lanes.items
+        × AreStreamsDone desk.now.turns mapper.old.newest rest (vec_len works.old.lanes)
+        (option_map (λ w. w.ended) works.new.stream)
         stream.old stream.new }
-    ensures same { length (option_to_list prepared.new.works.stream) ≡ length
-        (option_to_list prepared.old.works.stream) }
+    ensures same { length (option_to_list works.new.stream) ≡ length
+        (option_to_list works.old.stream) }
 {
-    put_first(rt, &prepared.row, side.mapper);
-    run_among(rt, readers, prepared, lanes, stream, side);
-    let note = side.mapper.note();
+    let _ = row.put_at(rt, 0, mapper.note());
+    run_among(
+        rt, desk, first, feed, feeders, more, row, works, lanes, stream, mapper, side,
+    );
+    let note = mapper.note();
     // tells the prover what the type keeps
     let _ = note.front.len();
-    close_all(&note, &mut prepared.works.lanes, lanes);
-    close_more(&note, &mut prepared.works.stream, stream);
+    close_all(&note, &mut works.lanes, lanes);
+    close_more(&note, &mut works.stream, stream);
 }
 
 /// Drives one feed, as `drive`.
@@ -295,7 +294,7 @@ fn drive_one<
 >(
     rt: &R,
     mapper: Mapper<J>,
-    prepared: Prepared<NoteRow<J>, LaneWorker<J>>,
+    prepared: Prepared<J>,
     lent: &mut Lent<'_, '_, '_, '_, '_, '_, S, T, K, P, G, D, M>,
     stream: &mut StreamLane<Q, G, D>,
 ) -> DriveEnd
@@ -324,26 +323,28 @@ fn drive_one<
     let mut mapper = mapper;
     // tells the prover what the type keeps
     let _ = mapper.newest();
-    let mut prepared = prepared;
-    let count = prepared.works.lanes.len();
+    let Prepared { row, works } = prepared;
+    let mut works = works;
+    let count = works.lanes.len();
     let lanes = &mut *lent.lanes;
     let (served, _behind) = lanes.split_at_mut(count);
-    let mut side = FeedLoan {
-        mapper: &mut mapper,
-        feed: lent.feed,
-        out: lent.out,
-        maps: lent.maps,
-        pace: lent.pace,
-        turns: lent.turns,
-        end: FeedEnd::Ended,
+    let mut loan = Loan {
+        side: FeedLoan {
+            feed: lent.feed,
+            out: lent.out,
+            maps: lent.maps,
+            pace: lent.pace,
+            turns: lent.turns,
+            end: FeedEnd::Ended,
+        },
+        lanes: served,
     };
-    serve_all(rt, &mut prepared, served, stream, &mut side);
-    let feed = side.end;
+    serve_all(rt, &row, &mut mapper, &mut works, &mut loan, stream);
     mapper.close(rt);
     DriveEnd {
-        feed,
-        lanes: ends_of(&prepared.works.lanes),
-        stream: end_of(&prepared.works.stream),
+        feed: loan.side.end,
+        lanes: ends_of(&works.lanes),
+        stream: end_of(&works.stream),
     }
 }
 
@@ -364,7 +365,7 @@ fn drive_several<
     rt: &R,
     queue: FeedQueue<N>,
     mapper: Mapper<J>,
-    prepared: Prepared<NoteRow<J>, LaneWorker<J>>,
+    prepared: Prepared<J>,
     lent: &mut Lent<'_, '_, '_, '_, '_, '_, S, T, K, P, G, D, M>,
     stream: &mut StreamLane<Q, G, D>,
 ) -> DriveEnd
@@ -394,7 +395,8 @@ fn drive_several<
     let mut mapper = mapper;
     // tells the prover what the type keeps
     let _ = mapper.newest();
-    let mut prepared = prepared;
+    let Prepared { row, works } = prepared;
+    let mut works = works;
     let FeedQueue {
         desk,
         first,
@@ -404,35 +406,37 @@ fn drive_several<
     let mut first = first;
     let mut feeders = feeders;
     let mut taker = taker;
-    let count = prepared.works.lanes.len();
+    let count = works.lanes.len();
     let lanes = &mut *lent.lanes;
     let (served, _behind) = lanes.split_at_mut(count);
-    let further = lent.more.len();
-    let more = &mut *lent.more;
-    let (feeds, _none) = more.split_at_mut(further);
-    let mut readers = Readers {
-        desk: &desk,
-        first: &mut first,
-        feed: lent.feed,
-        feeders: &mut feeders,
-        feeds,
-    };
     let mut side = TakerLoan {
-        mapper: &mut mapper,
         taker: &mut taker,
         out: lent.out,
         maps: lent.maps,
         pace: lent.pace,
         end: FeedEnd::Ended,
     };
-    serve_several(rt, &mut readers, &mut prepared, served, stream, &mut side);
+    serve_several(
+        rt,
+        &desk,
+        &mut first,
+        lent.feed,
+        &mut feeders,
+        lent.more,
+        &row,
+        &mut mapper,
+        &mut works,
+        &mut side,
+        served,
+        stream,
+    );
     let end = side.end;
     all_back(&mut taker, first, feeders);
     mapper.close(rt);
     DriveEnd {
         feed: end,
-        lanes: ends_of(&prepared.works.lanes),
-        stream: end_of(&prepared.works.stream),
+        lanes: ends_of(&works.lanes),
+        stream: end_of(&works.stream),
     }
 }
 
@@ -453,7 +457,7 @@ fn drive_with<
     rt: &R,
     alloc: Global,
     mapper: Mapper<J>,
-    prepared: Prepared<NoteRow<J>, LaneWorker<J>>,
+    prepared: Prepared<J>,
     lent: &mut Lent<'_, '_, '_, '_, '_, '_, S, T, K, P, G, D, M>,
     stream: &mut StreamLane<Q, G, D>,
 ) -> Result<DriveEnd, NoMemory>

@@ -4,9 +4,7 @@ use Rattle.std.proofs.lemmas.List.{length-map}
 use Rattle.std.proofs.lemmas.List.FromFn.{length-range_with_len}
 use Rattle.atomic_table.specs.Seated.{TableId}
 use Rattle.feed_queue.specs.Ends.{FeederState, TakerState}
-use Rattle.drive.proofs.Ends.{sole_history, whole_again, whole_front}
-use Rattle.drive.specs.All.{AllRan}
-use Rattle.drive.specs.Read.{IsRead}
+use Rattle.drive.proofs.Ends.{sole_history}
 use Rattle.drive.proofs.Growing.{feeds_go_on, together_over}
 use Rattle.drive.proofs.Several.{are_fed, fresh_all, queues, several, some_told}
 use Rattle.drive.proofs.Together.{are_done_in, ended_as}
@@ -29,66 +27,43 @@ serve_several-requires-clause-feeds g c κs within =
 pub all_back-requires-clause-queue : goal.all_back-requires-clause-queue
 all_back-requires-clause-queue g c =
     let s = c.serve_several.ensures in
-    let n : length c.split_at_mut-feeds.result.0.now ≡ length c.args.lent.now.more.now = search rules in
-    let feeders : c.feeders-2-1.given.0 ≡ c.serve_several.new.readers.feeders.now = search rules in
-    let sent = subst (λ xs. AllRan (λ a b f h. IsRead (arc_value c.args.queue.desk.topology) c.args.queue.desk.turns (g.T.Source.told a).past (g.T.Source.told b).past (g.T.Source.told a).faults (g.T.Source.told b).faults f h) xs c.serve_several.new.readers.feeds.now c.args.queue.feeders.items c.serve_several.new.readers.feeders.now.items) (whole_front _ _ _ c.split_at_mut-feeds.ensures.value n) s.sent in
     let taker : c.taker-2-1.given.0 ≡ c.serve_several.new.side.taker.now = search rules in
     let queue : c.args.queue.taker.queue ≡ c.taker-2-1.given.0.queue = sym (ap (λ (t : TakerState). t.queue) taker ∙ s.worked.queue.0) in
-    rw feeders
-    (subst (λ (q : TableId). All (λ (f : FeederState). f.queue ≡ q) c.serve_several.new.readers.feeders.now.items) queue
-    (queues (arc_value c.args.queue.desk.topology) c.args.queue.desk.turns g.T.Source.told c.args.queue.taker.queue 1 (length c.args.lent.now.more.now) c.args.lent.now.more.now c.serve_several.new.readers.feeds.now c.args.queue.feeders.items c.serve_several.new.readers.feeders.now.items c.requires.queue.feeders sent))
+    subst (λ (q : TableId). All (λ (f : FeederState). f.queue ≡ q) c.serve_several.new.feeders.items) queue
+    (queues (arc_value c.args.queue.desk.topology) c.args.queue.desk.turns g.T.Source.told c.args.queue.taker.queue 1 (length c.args.lent.now.more.now) c.args.lent.now.more.now c.serve_several.new.more c.args.queue.feeders.items c.serve_several.new.feeders.items c.requires.queue.feeders s.sent)
 
 pub returns-clause-driven : goal.returns-clause-driven
 returns-clause-driven g c =
     let s = c.serve_several.ensures in
-    let n : length c.split_at_mut-feeds.result.0.now ≡ length c.args.lent.now.more.now = search rules in
-    let feeders : c.feeders-2-1.given.0 ≡ c.serve_several.new.readers.feeders.now = search rules in
-    let sent = subst (λ xs. AllRan (λ a b f h. IsRead (arc_value c.args.queue.desk.topology) c.args.queue.desk.turns (g.T.Source.told a).past (g.T.Source.told b).past (g.T.Source.told a).faults (g.T.Source.told b).faults f h) xs c.serve_several.new.readers.feeds.now c.args.queue.feeders.items c.serve_several.new.readers.feeders.now.items) (whole_front _ _ _ c.split_at_mut-feeds.ensures.value n) s.sent in
-    let first : c.first-2-1.given.0 ≡ c.serve_several.new.readers.first.now = search rules in
     let opened = sole_history c.args.mapper.history c.args.mapper.newest c.newest.ensures.last c.requires.serial in
-    let size : length c.serve_several.new.prepared.works.lanes.items ≡ vec_len c.args.prepared.works.lanes = search rules in
+    let size : length c.serve_several.new.works.lanes.items ≡ vec_len c.args.prepared.works.lanes = search rules in
     let taker : c.taker-2-1.given.0 ≡ c.serve_several.new.side.taker.now = search rules in
-    let run = several (arc_value c.args.queue.desk.topology) c.args.mapper.newest.plan c.args.queue.desk.turns g.T.Source.told g.N.Numbers.groups g.N.Numbers.nodes _ _ (g.S.Source.told c.args.lent.now.feed.now).faults (g.S.Source.told c.serve_several.new.readers.feed.now).faults _ _ c.args.lent.now.more.now c.serve_several.new.readers.feeds.now c.args.queue.feeders.items c.serve_several.new.readers.feeders.now.items c.args.queue.taker c.taker-2-1.given.0 c.serve_several.new.side.taker.now _ _ _ c.requires.queue.topology taker s.worked.queue.1 c.requires.queue.taker c.requires.queue.first c.requires.queue.feeders s.first sent c.all_back.ensures.taken (rw (sym first) c.all_back.ensures.first) (rw (sym feeders) c.all_back.ensures.begins) s.worked.run s.worked.merged in
-    let feeds : c.feeds-1.given.0 ≡ c.serve_several.new.readers.feeds.now = search rules in
-    let feed : c.lent-4-1.given.0 ≡ c.serve_several.new.readers.feed.now = search rules in
-    let out : c.lent-3-1.given.0 ≡ c.serve_several.new.side.out.now = search rules in
-    let maps : c.lent-2-1.given.0 ≡ c.serve_several.new.side.maps.now = search rules in
-    let pace : c.lent-1.given.0 ≡ c.serve_several.new.side.pace.now = search rules in
-    let lanes : c.served-1.given.0 ≡ c.serve_several.new.lanes = search rules in
-    let driven : IsDriven c.args.queue.desk.turns c.args.mapper.newest c.serve_several.new.side.end (map (λ w. w.ended) c.serve_several.new.prepared.works.lanes.items) c.end_of.result
+    let run = several (arc_value c.args.queue.desk.topology) c.args.mapper.newest.plan c.args.queue.desk.turns g.T.Source.told g.N.Numbers.groups g.N.Numbers.nodes _ _ (g.S.Source.told c.args.lent.now.feed.now).faults (g.S.Source.told c.serve_several.new.feed).faults _ _ c.args.lent.now.more.now c.serve_several.new.more c.args.queue.feeders.items c.serve_several.new.feeders.items c.args.queue.taker c.taker-2-1.given.0 c.serve_several.new.side.taker.now _ _ _ c.requires.queue.topology taker s.worked.queue.1 c.requires.queue.taker c.requires.queue.first c.requires.queue.feeders s.first s.sent c.all_back.ensures.taken c.all_back.ensures.first c.all_back.ensures.begins s.worked.run s.worked.merged in
+    let driven : IsDriven c.args.queue.desk.turns c.args.mapper.newest c.serve_several.new.side.end (map (λ w. w.ended) c.serve_several.new.works.lanes.items) c.end_of.result
     (record { feed = feed_told g.S.Source.told c.args.lent.now.feed.now; more = map (feed_told g.T.Source.told) c.args.lent.now.more.now; out = (g.K.Sink.told c.args.lent.now.out.now).past; maps = (g.K.Sink.told c.args.lent.now.maps.now).past; pace = (g.M.Pace.told c.args.lent.now.pace.now).past; lanes = c.args.lent.now.lanes.now; stream = c.args.stream.now })
-    (record { feed = feed_told g.S.Source.told c.serve_several.new.readers.feed.now; more = map (feed_told g.T.Source.told) c.serve_several.new.readers.feeds.now; out = (g.K.Sink.told c.serve_several.new.side.out.now).past; maps = (g.K.Sink.told c.serve_several.new.side.maps.now).past; pace = (g.M.Pace.told c.serve_several.new.side.pace.now).past; lanes = (c.serve_several.new.lanes ++ c.split_at_mut-served.result.1.now); stream = c.serve_several.new.stream }) = record {
+    (record { feed = feed_told g.S.Source.told c.serve_several.new.feed; more = map (feed_told g.T.Source.told) c.serve_several.new.more; out = (g.K.Sink.told c.serve_several.new.side.out.now).past; maps = (g.K.Sink.told c.serve_several.new.side.maps.now).past; pace = (g.M.Pace.told c.serve_several.new.side.pace.now).past; lanes = (c.serve_several.new.lanes ++ c.split_at_mut-served.result.1.now); stream = c.serve_several.new.stream }) = record {
       rest = s.done.0;
-      newest = c.serve_several.new.side.mapper.now.newest;
+      newest = c.serve_several.new.mapper.newest;
       feed = are_fed _ _ _ _ _ _ _ _ _ (some_told (feed_told g.T.Source.told) c.args.lent.now.more.now c.requires.several) (together_over _ _ _ _ _ _ _ _ _ _ _ _ _ _ _ _ _ _ _ opened s.done.1 run.fed);
       goes_on = feeds_go_on _ _ _ _ _ c.args.mapper.newest s.done.0 s.worked.run refl opened s.done.1 s.history;
       lanes = are_done_in (λ w. w.ended) _ _ _ _ _ _ _ _ c.split_at_mut-served.ensures.value s.done.2;
       stream = ended_as _ _ _ _ _ _ _ _ _ s.done.3 (length-map _ _ ∙ search rules) c.end_of.ensures;
     } in (
-      map (λ w. w.ended) c.serve_several.new.prepared.works.lanes.items,
+      map (λ w. w.ended) c.serve_several.new.works.lanes.items,
       length-map _ _ ∙ size,
       c.ends_of.ensures,
-      rw (whole_again _ _ _ c.feeds-1.given.0 c.split_at_mut-feeds.ensures.value n, feeds, feed, out, maps, pace, lanes, sym c.requires.turns.1) driven,
+      rw (sym c.requires.turns.1) driven,
     )
 
 pub returns-clause-counted : goal.returns-clause-counted
 returns-clause-counted g c =
     let s = c.serve_several.ensures in
-    let n : length c.split_at_mut-feeds.result.0.now ≡ length c.args.lent.now.more.now = search rules in
-    let feeders : c.feeders-2-1.given.0 ≡ c.serve_several.new.readers.feeders.now = search rules in
-    let sent = subst (λ xs. AllRan (λ a b f h. IsRead (arc_value c.args.queue.desk.topology) c.args.queue.desk.turns (g.T.Source.told a).past (g.T.Source.told b).past (g.T.Source.told a).faults (g.T.Source.told b).faults f h) xs c.serve_several.new.readers.feeds.now c.args.queue.feeders.items c.serve_several.new.readers.feeders.now.items) (whole_front _ _ _ c.split_at_mut-feeds.ensures.value n) s.sent in
-    let first : c.first-2-1.given.0 ≡ c.serve_several.new.readers.first.now = search rules in
     let taker : c.taker-2-1.given.0 ≡ c.serve_several.new.side.taker.now = search rules in
-    let run = several (arc_value c.args.queue.desk.topology) c.args.mapper.newest.plan c.args.queue.desk.turns g.T.Source.told g.N.Numbers.groups g.N.Numbers.nodes _ _ (g.S.Source.told c.args.lent.now.feed.now).faults (g.S.Source.told c.serve_several.new.readers.feed.now).faults _ _ c.args.lent.now.more.now c.serve_several.new.readers.feeds.now c.args.queue.feeders.items c.serve_several.new.readers.feeders.now.items c.args.queue.taker c.taker-2-1.given.0 c.serve_several.new.side.taker.now _ _ _ c.requires.queue.topology taker s.worked.queue.1 c.requires.queue.taker c.requires.queue.first c.requires.queue.feeders s.first sent c.all_back.ensures.taken (rw (sym first) c.all_back.ensures.first) (rw (sym feeders) c.all_back.ensures.begins) s.worked.run s.worked.merged in
-    let feeds : c.feeds-1.given.0 ≡ c.serve_several.new.readers.feeds.now = search rules in
-    let feed : c.lent-4-1.given.0 ≡ c.serve_several.new.readers.feed.now = search rules in
-    let out : c.lent-3-1.given.0 ≡ c.serve_several.new.side.out.now = search rules in
-    let maps : c.lent-2-1.given.0 ≡ c.serve_several.new.side.maps.now = search rules in
-    rw (whole_again _ _ _ c.feeds-1.given.0 c.split_at_mut-feeds.ensures.value n, feeds, feed, out, maps)
-    (record {
+    let run = several (arc_value c.args.queue.desk.topology) c.args.mapper.newest.plan c.args.queue.desk.turns g.T.Source.told g.N.Numbers.groups g.N.Numbers.nodes _ _ (g.S.Source.told c.args.lent.now.feed.now).faults (g.S.Source.told c.serve_several.new.feed).faults _ _ c.args.lent.now.more.now c.serve_several.new.more c.args.queue.feeders.items c.serve_several.new.feeders.items c.args.queue.taker c.taker-2-1.given.0 c.serve_several.new.side.taker.now _ _ _ c.requires.queue.topology taker s.worked.queue.1 c.requires.queue.taker c.requires.queue.first c.requires.queue.feeders s.first s.sent c.all_back.ensures.taken c.all_back.ensures.first c.all_back.ensures.begins s.worked.run s.worked.merged in
+    record {
       later = (s.worked.later.0, s.worked.later.1, run.later.0, run.later.1);
       sink = s.worked.sink;
       sink_stays = s.worked.sink_stays;
       source = run.source;
       source_stays = λ other one. run.stays other (λ sink. some_told (feed_told g.T.Source.told) c.args.lent.now.more.now c.requires.several (one sink));
-    })
+    }
