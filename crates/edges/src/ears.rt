@@ -268,7 +268,8 @@ impl Ears {
         now: u64,
         turns: &mut u64,
     ) -> Taken
-        ensures taken { IsTakenIn come.1.addr most_of_one now result turns.old turns.new seats.old rooms.old seats.new rooms.new }
+        ensures taken { IsTakenIn come.1.addr
+            most_of_one now result turns.old turns.new seats.old rooms.old seats.new rooms.new }
         ensures turns { (turns.old ≤ turns.new) × (turns.new ≤ raised turns.old 1) }
     {
         let (stream, peer) = come;
@@ -287,7 +288,9 @@ impl Ears {
     /// Leaves a connection where there is no descriptor to be had, if one gives way: one at most in a turn, until a further
     /// one was taken. Answers whether one did.
     fn try_room(&mut self, knock: Knock, seats: &mut [Seat], rooms: &mut [Room], now: u64) -> bool
-        ensures left { result ≡ true → (i : ℕ) × GivesWay now seats.old i × IsChangedAt (λ _ seat. IsVacant seat) i seats.old seats.new × IsChangedAt (λ _ room. IsEmpty room) i rooms.old rooms.new }
+        ensures left { result ≡ true → (i : ℕ)
+            × GivesWay now seats.old i × IsChangedAt (λ _ seat. IsVacant seat) i seats.old seats.new
+            × IsChangedAt (λ _ room. IsEmpty room) i rooms.old rooms.new }
         ensures none { result ≡ false → (seats.new ≡ seats.old) × (rooms.new ≡ rooms.old) }
         ensures broken { self.new.is_broken ≡ self.old.is_broken }
         ensures asked { self.new.accepts ≡ self.old.accepts }
@@ -312,7 +315,8 @@ impl Ears {
     ) -> Next
         requires numbered { AreNumberedUpTo turns.old seats.old rooms.old }
         requires place { HasPlace now seats.old }
-        ensures changed { AreAllChanged (λ _. IsLetIn now turns.old turns.new) seats.old rooms.old seats.new rooms.new }
+        ensures changed { AreAllChanged (λ _.
+            IsLetIn now turns.old turns.new) seats.old rooms.old seats.new rooms.new }
         ensures turns { (turns.old ≤ turns.new) × (turns.new ≤ raised turns.old 1) }
         ensures broken { self.old.is_broken ≡ true → self.new.is_broken ≡ true }
         ensures ends { result ≡ Next.Broken → self.new.is_broken ≡ true }
@@ -343,11 +347,14 @@ impl Ears {
         turns: &mut u64,
     )
         requires numbered { AreNumberedUpTo turns.old seats.old rooms.old }
-        ensures changed { AreAllChanged (λ _. IsLetIn now turns.old turns.new) seats.old rooms.old seats.new rooms.new }
-        ensures turns { (turns.old ≤ turns.new) × (turns.new ≤ raised turns.old (length seats.old)) }
+        ensures changed { AreAllChanged (λ _.
+            IsLetIn now turns.old turns.new) seats.old rooms.old seats.new rooms.new }
+        ensures turns { (turns.old ≤ turns.new)
+            × (turns.new ≤ raised turns.old (length seats.old)) }
         ensures broken { self.old.is_broken ≡ true → self.new.is_broken ≡ true }
         // Where one may wait, and can have a place, the system is asked for it.
-        ensures asked { MayCome now self.old seats.old → self.old.accepts.told < self.new.accepts.told }
+        ensures asked { MayCome now self.old seats.old
+            → self.old.accepts.told < self.new.accepts.told }
         ensures waits { self.new.waits ≡ self.old.waits }
     {
         self.may_make_room = true;
@@ -408,7 +415,9 @@ fn note_all(events: &Events, seats: &mut [Seat], queue: &mut Queue)
 
 /// Leaves the connection that is idle for the longest time, where that is long enough. Answers whether there was one.
 fn make_room(seats: &mut [Seat], rooms: &mut [Room], now: u64) -> bool
-    ensures left { result ≡ true → (i : ℕ) × GivesWay now seats.old i × IsChangedAt (λ _ seat. IsVacant seat) i seats.old seats.new × IsChangedAt (λ _ room. IsEmpty room) i rooms.old rooms.new }
+    ensures left { result ≡ true → (i : ℕ)
+        × GivesWay now seats.old i × IsChangedAt (λ _ seat. IsVacant seat) i seats.old seats.new
+        × IsChangedAt (λ _ room. IsEmpty room) i rooms.old rooms.new }
     ensures none { result ≡ false → (seats.new ≡ seats.old) × (rooms.new ≡ rooms.old) }
 {
     match oldest_idle(seats, now) {

@@ -63,7 +63,8 @@ fn free_rooms(alloc: Global, places: usize) -> Result<Vec<Room>, NoMemory>
 
 /// Has all connections go on.
 fn settle_all(seats: &mut [Seat], rooms: &mut [Room], now: u64, turns: &mut u64)
-    ensures settled { AreAllChanged (λ _. IsSettled now turns.old turns.new) seats.old rooms.old seats.new rooms.new }
+    ensures settled { AreAllChanged (λ _.
+        IsSettled now turns.old turns.new) seats.old rooms.old seats.new rooms.new }
     ensures turns { (turns.old ≤ turns.new) × (turns.new ≤ raised turns.old (length seats.old)) }
 {
     let used = used(seats);
@@ -84,7 +85,8 @@ fn go_round(
 )
     requires numbered { AreNumberedUpTo turns.old seats.old rooms.old }
     ensures went { AreRounded now turns.old turns.new seats.old rooms.old seats.new rooms.new }
-    ensures turns { (turns.old ≤ turns.new) × (turns.new ≤ raised (raised turns.old (length seats.old)) (length seats.old)) }
+    ensures turns { (turns.old ≤ turns.new)
+        × (turns.new ≤ raised (raised turns.old (length seats.old)) (length seats.old)) }
     ensures numbered { AreNumberedUpTo turns.new seats.new rooms.new }
     ensures broken { ears.old.is_broken ≡ true → ears.new.is_broken ≡ true }
     ensures waits { ears.new.waits ≡ ears.old.waits }
@@ -98,7 +100,8 @@ fn go_round(
 impl Hall {
     /// These places and their octets, with none handed over.
     pub(crate) fn new(seats: Vec<Seat>, rooms: Vec<Room>) -> Hall
-        ensures { (result.current ≡ None) × (result.seats ≡ seats) × (result.rooms ≡ rooms) × (result.turns ≡ 0) }
+        ensures { (result.current ≡ None)
+            × (result.seats ≡ seats) × (result.rooms ≡ rooms) × (result.turns ≡ 0) }
     {
         Hall {
             seats,
@@ -112,7 +115,8 @@ impl Hall {
 
     /// So many places, which are free.
     pub(crate) fn with_places(alloc: Global, places: usize) -> Result<Hall, NoMemory>
-        ensures { IfOk result (λ hall. (hall.current ≡ None) × (hall.turns ≡ 0) × AreFree places hall.seats.items × AreEmpty places hall.rooms.items) }
+        ensures { IfOk result (λ hall. (hall.current ≡ None) × (hall.turns ≡ 0)
+            × AreFree places hall.seats.items × AreEmpty places hall.rooms.items) }
     {
         let seats = free_seats(alloc, places)?;
         let rooms = free_rooms(alloc, places)?;
@@ -122,11 +126,21 @@ impl Hall {
     /// Takes back the connection that was handed over: it waits no more, and goes on.
     pub(crate) fn take_back(&mut self)
         ensures current { self.new.current ≡ None }
-        ensures back { (i : ℕ) → self.old.current ≡ Some i → i < length self.old.seats.items → i < length self.old.rooms.items → IsPlaceChangedAt (λ seat. IsSettled self.old.watch.now self.old.turns self.new.turns (rested seat)) i self.old.seats.items self.old.rooms.items self.new.seats.items self.new.rooms.items }
-        ensures turns { (self.old.turns ≤ self.new.turns) × (self.new.turns ≤ raised self.old.turns 1) }
-        ensures numbered { AreNumberedUpTo self.old.turns self.old.seats.items self.old.rooms.items → AreNumberedUpTo self.new.turns self.new.seats.items self.new.rooms.items }
+        ensures back { (i : ℕ) → self.old.current ≡ Some i → i < length self.old.seats.items
+            → i < length self.old.rooms.items → IsPlaceChangedAt (λ seat.
+            IsSettled self.old.watch.now self.old.turns self.new.turns (rested seat))
+            i self.old.seats.items self.old.rooms.items self.new.seats.items self.new.rooms.items }
+        ensures turns { (self.old.turns ≤ self.new.turns)
+            × (self.new.turns ≤ raised self.old.turns 1) }
+        ensures numbered { AreNumberedUpTo self.old.turns self.old.seats.items self.old.rooms.items
+            → AreNumberedUpTo self.new.turns self.new.seats.items self.new.rooms.items }
         ensures none { self.old.current ≡ None → self.new ≡ self.old }
-        ensures same { self.new ≡ record self.old { current = None; seats = self.new.seats; rooms = self.new.rooms; turns = self.new.turns } }
+        ensures same { self.new ≡ record self.old {
+          current = None;
+          seats = self.new.seats;
+          rooms = self.new.rooms;
+          turns = self.new.turns;
+        } }
     {
         let Some(i) = self.current else {
             return;
@@ -145,14 +159,19 @@ impl Hall {
     /// Waits for something to happen, has all connections go on, and takes in those that come. Where the flag is set they
     /// are left to the next server, if the listener was handed in.
     fn gather<C: Clock>(&mut self, ears: &mut Ears, clock: &C, flag: &StopFlag, most_of_one: usize)
-        requires numbered { AreNumberedUpTo self.old.turns self.old.seats.items self.old.rooms.items }
+        requires numbered { AreNumberedUpTo
+            self.old.turns self.old.seats.items self.old.rooms.items }
         ensures current { self.new.current ≡ self.old.current }
-        ensures turns { (self.old.turns ≤ self.new.turns) × (self.new.turns ≤ raised (raised self.old.turns (length self.old.seats.items)) (length self.old.seats.items)) }
-        ensures numbered { AreNumberedUpTo self.new.turns self.new.seats.items self.new.rooms.items }
+        ensures turns { (self.old.turns ≤ self.new.turns) × (self.new.turns ≤ raised
+            (raised self.old.turns (length self.old.seats.items)) (length self.old.seats.items)) }
+        ensures numbered { AreNumberedUpTo
+            self.new.turns self.new.seats.items self.new.rooms.items }
         ensures broken { ears.old.is_broken ≡ true → ears.new.is_broken ≡ true }
         ensures waited { HasWaited ears.old ears.new }
         ensures read { ears.new.is_broken ≡ false → IsReadOnce self.old.watch self.new.watch }
-        ensures went { ears.new.is_broken ≡ false → IsRound self.new.watch.now self.old.turns self.new.turns self.old.seats.items self.old.rooms.items self.new.seats.items self.new.rooms.items }
+        ensures went { ears.new.is_broken ≡ false
+            → IsRound self.new.watch.now self.old.turns self.new.turns
+            self.old.seats.items self.old.rooms.items self.new.seats.items self.new.rooms.items }
     {
         let may_take = !ears.is_left(flag.is_set())
             && ears.may_take()
@@ -192,12 +211,18 @@ impl Hall {
         most_of_one: usize,
     ) -> Accepting
         requires current { self.old.current ≡ None }
-        requires numbered { AreNumberedUpTo self.old.turns self.old.seats.items self.old.rooms.items }
+        requires numbered { AreNumberedUpTo
+            self.old.turns self.old.seats.items self.old.rooms.items }
         ensures advance { IsAdvance result self.new.current self.new.seats.items }
-        ensures turns { (self.old.turns ≤ self.new.turns) × (self.new.turns ≤ raised (raised self.old.turns (length self.old.seats.items)) (length self.old.seats.items)) }
-        ensures numbered { AreNumberedUpTo self.new.turns self.new.seats.items self.new.rooms.items }
-        ensures went { result ≢ Accepting.Failed → IsRound self.new.watch.now self.old.turns self.new.turns self.old.seats.items self.old.rooms.items self.new.seats.items self.new.rooms.items }
-        ensures deaf { MatchBool (deaf_of ears.new) (result ≡ Accepting.Failed) (result ≢ Accepting.Failed) }
+        ensures turns { (self.old.turns ≤ self.new.turns) × (self.new.turns ≤ raised
+            (raised self.old.turns (length self.old.seats.items)) (length self.old.seats.items)) }
+        ensures numbered { AreNumberedUpTo
+            self.new.turns self.new.seats.items self.new.rooms.items }
+        ensures went { result ≢ Accepting.Failed
+            → IsRound self.new.watch.now self.old.turns self.new.turns
+            self.old.seats.items self.old.rooms.items self.new.seats.items self.new.rooms.items }
+        ensures deaf { MatchBool (deaf_of ears.new) (result
+            ≡ Accepting.Failed) (result ≢ Accepting.Failed) }
         ensures stays { deaf_of ears.old ≡ true → deaf_of ears.new ≡ true }
         ensures waited { result ≢ Accepting.Failed → waits_of ears.new ≡ waits_of ears.old + 1 }
         ensures read { result ≢ Accepting.Failed → IsReadOnce self.old.watch self.new.watch }
@@ -223,17 +248,21 @@ impl Hall {
         ensures within { IsWithin result (length buffer.old) }
         ensures buffer { length buffer.new ≡ length buffer.old }
         ensures fine { result ≢ Reading.Failed }
-        ensures heard { IsHeard buffer.old buffer.new result self.old.current self.old.rooms.items self.new.rooms.items }
+        ensures heard { IsHeard buffer.old
+            buffer.new result self.old.current self.old.rooms.items self.new.rooms.items }
         ensures current { self.new.current ≡ self.old.current }
         ensures seats { IsSameOrEnded self.old.current self.old.seats.items self.new.seats.items }
         ensures turns { self.new.turns ≡ self.old.turns }
         ensures watch { self.new.watch ≡ self.old.watch }
         ensures once { self.old.is_read ≡ true → result ≡ Reading.Closed }
         ensures read { self.new.is_read ≡ true ⊎ (self.new ≡ self.old) × (self.old.current ≡ None) }
-        ensures ended { EndsBehind buffer.new result self.old.current self.old.seats.items self.new.seats.items }
+        ensures ended { EndsBehind
+            buffer.new result self.old.current self.old.seats.items self.new.seats.items }
         ensures goes_on { GoesOnBehind buffer.new result self.old.seats.items self.new.seats.items }
         // Where something whole has come it is handed over.
-        ensures due { result ≡ Reading.Closed → self.old.is_read ≡ false → LARGEST_FRAME ≤ length buffer.old → (i : ℕ) (room : Room) → self.old.current ≡ Some i → slice_get self.old.rooms.items i ≡ Some room → HasNothing room }
+        ensures due { result ≡ Reading.Closed → self.old.is_read ≡ false
+            → LARGEST_FRAME ≤ length buffer.old → (i : ℕ) (room : Room) → self.old.current ≡ Some i
+            → slice_get self.old.rooms.items i ≡ Some room → HasNothing room }
     {
         let Some(i) = self.current else {
             return Reading::Closed;
@@ -256,9 +285,14 @@ impl Hall {
 
     /// Keeps a reply for the connection that was handed over. Answers whether there is one, with room for it.
     pub(crate) fn keep(&mut self, octets: &[u8]) -> bool
-        ensures kept { result ≡ true → (i : ℕ) × (self.old.current ≡ Some i) × IsChangedAt (IsKeeping octets.now true) i self.old.rooms.items self.new.rooms.items }
-        ensures full { result ≡ false → (self.new.rooms.items ≡ self.old.rooms.items) ⊎ ((i : ℕ) × (self.old.current ≡ Some i) × IsChangedAt (IsKeeping octets.now false) i self.old.rooms.items self.new.rooms.items) }
-        ensures fits { result ≡ false → (i : ℕ) (room : Room) → self.old.current ≡ Some i → slice_get self.old.rooms.items i ≡ Some room → LARGEST_GOING < length room.going.items + length octets.now }
+        ensures kept { result ≡ true → (i : ℕ) × (self.old.current ≡ Some i)
+            × IsChangedAt (IsKeeping octets.now true) i self.old.rooms.items self.new.rooms.items }
+        ensures full { result ≡ false → (self.new.rooms.items ≡ self.old.rooms.items)
+            ⊎ ((i : ℕ) × (self.old.current ≡ Some i) × IsChangedAt
+            (IsKeeping octets.now false) i self.old.rooms.items self.new.rooms.items) }
+        ensures fits { result ≡ false → (i : ℕ) (room : Room)
+            → self.old.current ≡ Some i → slice_get self.old.rooms.items i ≡ Some room
+            → LARGEST_GOING < length room.going.items + length octets.now }
         ensures same { self.new ≡ record self.old { rooms = self.new.rooms } }
     {
         match self.current {

@@ -77,9 +77,16 @@ impl<'a, R: Net + Clock> Model for ManyStreams<'a, R> {
 
     ghost Value = { StreamsNoted };
 
-    ghost view = { λ s. record { told = s.past.told; faults = s.faults; is_deaf = deaf_of s.ears; waits = waits_of s.ears } };
+    ghost view = { λ s. record {
+      told = s.past.told;
+      faults = s.faults;
+      is_deaf = deaf_of s.ears;
+      waits = waits_of s.ears;
+    } };
 
-    ghost invariant = { λ s. ((s.past.told.is_ended ≡ false) × IsTold s.hall.current s.hall.is_read s.hall.seats.items s.past.told.current) × AreNumberedUpTo s.hall.turns s.hall.seats.items s.hall.rooms.items };
+    ghost invariant = { λ s. ((s.past.told.is_ended ≡ false)
+        × IsTold s.hall.current s.hall.is_read s.hall.seats.items s.past.told.current)
+        × AreNumberedUpTo s.hall.turns s.hall.seats.items s.hall.rooms.items };
 }
 
 impl<'a, R: Net + Clock> ManyStreams<'a, R> {
@@ -139,7 +146,8 @@ impl<R: Net + Clock> Streams for ManyStreams<'_, R> {
     ghost told = { λ s. record { past = Some s.told; faults = s.faults } };
 
     fn open(&mut self, listen: &Listen) -> Opening
-        ensures open { BothTell (Some self.old.told) (Some self.new.told) (IsOpening listen.now result) }
+        ensures open { BothTell
+            (Some self.old.told) (Some self.new.told) (IsOpening listen.now result) }
         ensures later { self.old.faults ≤ self.new.faults }
         ensures cause { result ≡ Opening.Failed → Rose self.old.faults self.new.faults }
         ensures stays { result ≢ Opening.Failed → self.new.faults ≡ self.old.faults }
@@ -156,12 +164,14 @@ impl<R: Net + Clock> Streams for ManyStreams<'_, R> {
     }
 
     fn accept(&mut self, known: u64) -> Accepting
-        ensures accept { BothTell (Some self.old.told) (Some self.new.told) (IsAccept known result) }
+        ensures accept { BothTell
+            (Some self.old.told) (Some self.new.told) (IsAccept known result) }
         ensures later { self.old.faults ≤ self.new.faults }
         ensures cause { result ≡ Accepting.Failed → Rose self.old.faults self.new.faults }
         ensures stays { result ≢ Accepting.Failed → self.new.faults ≡ self.old.faults }
         // It fails exactly where no connection can be had any more, and from then on.
-        ensures deaf { MatchBool self.new.is_deaf (result ≡ Accepting.Failed) (result ≢ Accepting.Failed) }
+        ensures deaf { MatchBool self.new.is_deaf (result
+            ≡ Accepting.Failed) (result ≢ Accepting.Failed) }
         ensures ends { self.old.is_deaf ≡ true → self.new.is_deaf ≡ true }
         ensures waited { result ≢ Accepting.Failed → self.new.waits ≡ self.old.waits + 1 }
     {

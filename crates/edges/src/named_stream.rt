@@ -31,7 +31,13 @@ impl<'a, R: Files> Model for NamedStream<'a, R> {
 
     ghost Value = { Named R.File };
 
-    ghost view = { λ s. record { stream = s.stream; is_ended = s.heard.is_ended; faults = s.heard.faults; fed = s.heard.fed; names = s.names.told } };
+    ghost view = { λ s. record {
+      stream = s.stream;
+      is_ended = s.heard.is_ended;
+      faults = s.heard.faults;
+      fed = s.heard.fed;
+      names = s.names.told;
+    } };
 
     ghost invariant = { λ s. s.stream ≡ None → s.heard.is_ended ≡ false };
 }
@@ -73,7 +79,8 @@ impl<R: Files> Source for NamedStream<'_, R> {
     fn read(&mut self, buffer: &mut [u8]) -> Read
         requires { 1 ≤ length buffer.old }
         ensures within { IsWithin result (length buffer.old) }
-        ensures read { BothTell (Some self.old.fed) (Some self.new.fed) (IsRead (length buffer.old) result buffer.new) }
+        ensures read { BothTell
+            (Some self.old.fed) (Some self.new.fed) (IsRead (length buffer.old) result buffer.new) }
         ensures later { self.old.faults ≤ self.new.faults }
         ensures cause { result ≡ Read.Failed → Rose self.old.faults self.new.faults }
         ensures stays { result ≢ Read.Failed → self.new.faults ≡ self.old.faults }
@@ -81,11 +88,16 @@ impl<R: Files> Source for NamedStream<'_, R> {
         // Where it is not open it fails.
         ensures shut { self.old.stream ≡ None → (result ≡ Read.Failed) × (self.new.stream ≡ None) }
         // Where it is, it reads as a stream does: of one that tells its bytes the next ones are taken, where it has not ended; its end is answered where none is left, and from then on, without asking it; and a read that failed takes nothing.
-        ensures got { (n : ℕ) → result ≡ Read.Got n → Consumes (left_of R.File.remaining self.old.stream) (left_of R.File.remaining self.new.stream) (take n buffer.new) }
-        ensures end { result ≡ Read.End → self.old.is_ended ≡ false → IsAtEnd (left_of R.File.remaining self.new.stream) × Keeps (left_of R.File.remaining self.old.stream) (left_of R.File.remaining self.new.stream) }
-        ensures failed { result ≡ Read.Failed → Keeps (left_of R.File.remaining self.old.stream) (left_of R.File.remaining self.new.stream) }
+        ensures got { (n : ℕ) → result ≡ Read.Got n → Consumes (left_of R.File.remaining
+            self.old.stream) (left_of R.File.remaining self.new.stream) (take n buffer.new) }
+        ensures end { result ≡ Read.End
+            → self.old.is_ended ≡ false → IsAtEnd (left_of R.File.remaining self.new.stream) × Keeps
+            (left_of R.File.remaining self.old.stream) (left_of R.File.remaining self.new.stream) }
+        ensures failed { result ≡ Read.Failed → Keeps
+            (left_of R.File.remaining self.old.stream) (left_of R.File.remaining self.new.stream) }
         ensures ended { (result ≡ Read.End) ↔ (self.new.is_ended ≡ true) }
-        ensures unasked { self.old.is_ended ≡ true → (result ≡ Read.End) × (self.new.stream ≡ self.old.stream) }
+        ensures unasked { self.old.is_ended ≡ true
+            → (result ≡ Read.End) × (self.new.stream ≡ self.old.stream) }
         ensures open { is_some self.new.stream ≡ is_some self.old.stream }
         ensures names { self.new.names ≡ self.old.names }
     {
@@ -103,14 +115,17 @@ impl<R: Files> NamedSource for NamedStream<'_, R> {
     ghost opens = { λ s. Some s.names };
 
     fn open(&mut self, name: &str) -> Opening
-        ensures open { BothTell (Some self.old.names) (Some self.new.names) (IsNamed name.now result) }
-        ensures told { BothTell (Some self.old.fed) (Some self.new.fed) (λ before after. after ≡ before) }
+        ensures open { BothTell
+            (Some self.old.names) (Some self.new.names) (IsNamed name.now result) }
+        ensures told { BothTell (Some self.old.fed) (Some self.new.fed) (λ before after.
+            after ≡ before) }
         ensures later { self.old.faults ≤ self.new.faults }
         ensures cause { result ≡ Opening.Failed → Rose self.old.faults self.new.faults }
         ensures stays { result ≢ Opening.Failed → self.new.faults ≡ self.old.faults }
         ensures counted { result ≡ Opening.Failed → self.new.faults ≡ raised self.old.faults 1 }
         // It is opened once, and each name is noted.
-        ensures ready { result ≡ Opening.Ready → (self.old.stream ≡ None) × (is_some self.new.stream ≡ true) }
+        ensures ready { result ≡ Opening.Ready
+            → (self.old.stream ≡ None) × (is_some self.new.stream ≡ true) }
         ensures failed { result ≡ Opening.Failed → self.new.stream ≡ self.old.stream }
         ensures noted { self.new.names ≡ self.old.names ++ name.now ∷ [] }
         ensures ended { self.new.is_ended ≡ self.old.is_ended }

@@ -27,7 +27,8 @@ fn read_most<T: io::Read + Drop>(
     most: u64,
     expected: u64,
 ) -> Result<Vec<u8>, LoadFault>
-    ensures first { IfOk result (λ bytes. IfSome (T.remaining reader) (λ octets. bytes.items ≡ take most octets)) }
+    ensures first { IfOk result (λ bytes.
+        IfSome (T.remaining reader) (λ octets. bytes.items ≡ take most octets)) }
     ensures long { IsErrOf result LoadFault.TooLong → ⊥ }
 {
     let room = expected.min(most) as usize;
@@ -51,8 +52,10 @@ pub fn read_within<T: io::Read + Drop>(
     expected: u64,
 ) -> Result<Vec<u8>, LoadFault>
     ensures within { IfOk result (λ bytes. vec_len bytes ≤ limit) }
-    ensures whole { IfOk result (λ bytes. IfSome (T.remaining reader) (λ octets. bytes.items ≡ octets)) }
-    ensures long { IsErrOf result LoadFault.TooLong → IfSome (T.remaining reader) (λ octets. limit < length octets) }
+    ensures whole { IfOk result (λ bytes.
+        IfSome (T.remaining reader) (λ octets. bytes.items ≡ octets)) }
+    ensures long { IsErrOf result LoadFault.TooLong
+        → IfSome (T.remaining reader) (λ octets. limit < length octets) }
 {
     let bytes = read_most(reader, alloc, (limit as u64).saturating_add(1), expected)?;
     if bytes.len() > limit {
@@ -65,9 +68,12 @@ pub fn read_within<T: io::Read + Drop>(
 pub fn read_piece<T: io::Read>(reader: &mut T, buffer: &mut [u8]) -> Read
     requires { 1 ≤ length buffer.old }
     ensures within { IsWithin result (length buffer.old) }
-    ensures got { (n : ℕ) → result ≡ Read.Got n → Consumes (T.remaining reader.old) (T.remaining reader.new) (take n buffer.new) }
-    ensures end { result ≡ Read.End → IsAtEnd (T.remaining reader.new) × Keeps (T.remaining reader.old) (T.remaining reader.new) }
-    ensures failed { result ≡ Read.Failed → Keeps (T.remaining reader.old) (T.remaining reader.new) }
+    ensures got { (n : ℕ) → result ≡ Read.Got n
+        → Consumes (T.remaining reader.old) (T.remaining reader.new) (take n buffer.new) }
+    ensures end { result ≡ Read.End → IsAtEnd (T.remaining reader.new)
+        × Keeps (T.remaining reader.old) (T.remaining reader.new) }
+    ensures failed { result ≡ Read.Failed
+        → Keeps (T.remaining reader.old) (T.remaining reader.new) }
 {
     match reader.read(buffer) {
         Ok(0) => Read::End,
@@ -83,7 +89,8 @@ const MOST_TRIES: u64 = 1 << 48;
 /// the writer took, and whether it took all and kept nothing back.
 pub fn put_whole<W: Write>(writer: &mut W, piece: &[u8]) -> (usize, Put)
     ensures within { result.0 ≤ length piece.now }
-    ensures took { Appends (W.contents writer.old) (W.contents writer.new) (take result.0 piece.now) }
+    ensures took { Appends
+        (W.contents writer.old) (W.contents writer.new) (take result.0 piece.now) }
     ensures done { result.1 ≡ Put.Done → result.0 ≡ length piece.now }
 {
     let mut at = 0;

@@ -71,7 +71,8 @@ fn key_of(seat: &Seat, wanted: Wanted) -> Option<u64>
 
 /// The lesser of what was found so far and the next place.
 fn lesser(seat: &Seat, place: usize, wanted: Wanted, found: Option<Found>) -> Option<Found>
-    ensures { (before : List Seat) → length before ≡ place → IsLeastSoFar wanted before found → IsLeastSoFar wanted (before ++ seat.now ∷ []) result }
+    ensures { (before : List Seat) → length before ≡ place
+        → IsLeastSoFar wanted before found → IsLeastSoFar wanted (before ++ seat.now ∷ []) result }
 {
     match key_of(seat, wanted) {
         None => found,
@@ -91,7 +92,8 @@ fn is_vacant(seat: &Seat) -> bool
 
 /// A number such that no place from there on has a connection. So a look at the places ends at the last one that has.
 pub(crate) fn used(seats: &[Seat]) -> usize
-    ensures vacant { (i : ℕ) (seat : Seat) → result ≤ i → slice_get seats.now i ≡ Some seat → IsVacant seat }
+    ensures vacant { (i : ℕ) (seat : Seat)
+        → result ≤ i → slice_get seats.now i ≡ Some seat → IsVacant seat }
     ensures within { result ≤ length seats.now }
 {
     let mut used = seats.len();

@@ -63,7 +63,8 @@ impl Room {
     /// Keeps a reply behind those that are to go, where there is room for it. It answers whether there was.
     pub(crate) fn keep(&mut self, reply: &[u8]) -> bool
         ensures keep { IsKeeping reply.now result self.old self.new }
-        ensures fits { length self.old.going.items + length reply.now ≤ LARGEST_GOING → result ≡ true }
+        ensures fits { length self.old.going.items + length reply.now ≤ LARGEST_GOING
+            → result ≡ true }
     {
         self.going.try_extend_from_slice(reply).is_ok()
     }
@@ -77,8 +78,10 @@ impl Room {
 
     /// Takes octets that came, if there is room for them.
     pub(crate) fn take_in(&mut self, piece: &[u8])
-        ensures came { (self.new.coming.items ≡ self.old.coming.items ++ piece.now) ⊎ (self.new.coming.items ≡ self.old.coming.items) }
-        ensures room { length self.old.coming.items + length piece.now ≤ LARGEST_FRAME → self.new.coming.items ≡ self.old.coming.items ++ piece.now }
+        ensures came { (self.new.coming.items ≡ self.old.coming.items ++ piece.now)
+            ⊎ (self.new.coming.items ≡ self.old.coming.items) }
+        ensures room { length self.old.coming.items + length piece.now ≤ LARGEST_FRAME
+            → self.new.coming.items ≡ self.old.coming.items ++ piece.now }
         ensures going { self.new.going.items ≡ self.old.going.items }
     {
         let _ = self.coming.try_extend_from_slice(piece);
@@ -95,7 +98,8 @@ impl Room {
 
 /// Hands over what stands at the front of what has come to the room of a place, if there is such a place.
 pub(crate) fn hand_over_at(rooms: &mut [Room], i: usize, buffer: &mut [u8]) -> Option<Batch>
-    ensures some { IfSome result (λ batch. IsChangedAt (IsHandingOver buffer.old buffer.new batch) i rooms.old rooms.new) }
+    ensures some { IfSome result (λ batch.
+        IsChangedAt (IsHandingOver buffer.old buffer.new batch) i rooms.old rooms.new) }
     ensures none { IfNone result ((rooms.new ≡ rooms.old) × (length rooms.old ≤ i)) }
 {
     if i >= rooms.len() {
@@ -107,8 +111,10 @@ pub(crate) fn hand_over_at(rooms: &mut [Room], i: usize, buffer: &mut [u8]) -> O
 /// Keeps a reply in the room of a place, where there is room for it. It answers whether there was.
 pub(crate) fn keep_at(rooms: &mut [Room], i: usize, reply: &[u8]) -> bool
     ensures kept { result ≡ true → IsChangedAt (IsKeeping reply.now true) i rooms.old rooms.new }
-    ensures full { result ≡ false → (rooms.new ≡ rooms.old) ⊎ IsChangedAt (IsKeeping reply.now false) i rooms.old rooms.new }
-    ensures fits { result ≡ false → (room : Room) → slice_get rooms.old i ≡ Some room → LARGEST_GOING < length room.going.items + length reply.now }
+    ensures full { result ≡ false
+        → (rooms.new ≡ rooms.old) ⊎ IsChangedAt (IsKeeping reply.now false) i rooms.old rooms.new }
+    ensures fits { result ≡ false → (room : Room) → slice_get rooms.old i ≡ Some room
+        → LARGEST_GOING < length room.going.items + length reply.now }
 {
     i < rooms.len() && rooms[i].keep(reply)
 }

@@ -96,9 +96,12 @@ impl Seat {
 /// What an error of a connection comes to: a wait, another try, or its end. Whoever connects can bring about each.
 fn meet(error: &Error, may_go_on: &mut bool, is_over: &mut bool)
     ensures over { is_over.old ≡ true → is_over.new ≡ true }
-    ensures waits { error_kind error.now ≡ ErrorKind.WouldBlock → (may_go_on.new ≡ false) × (is_over.new ≡ is_over.old) }
-    ensures again { error_kind error.now ≡ ErrorKind.Interrupted → (may_go_on.new ≡ may_go_on.old) × (is_over.new ≡ is_over.old) }
-    ensures ends { error_kind error.now ≢ ErrorKind.WouldBlock → error_kind error.now ≢ ErrorKind.Interrupted → is_over.new ≡ true }
+    ensures waits { error_kind error.now ≡ ErrorKind.WouldBlock
+        → (may_go_on.new ≡ false) × (is_over.new ≡ is_over.old) }
+    ensures again { error_kind error.now ≡ ErrorKind.Interrupted
+        → (may_go_on.new ≡ may_go_on.old) × (is_over.new ≡ is_over.old) }
+    ensures ends { error_kind error.now ≢ ErrorKind.WouldBlock
+        → error_kind error.now ≢ ErrorKind.Interrupted → is_over.new ≡ true }
 {
     match error.kind() {
         ErrorKind::WouldBlock => *may_go_on = false,
@@ -109,10 +112,12 @@ fn meet(error: &Error, may_go_on: &mut bool, is_over: &mut bool)
 
 /// Reads once. It answers what the system did, where there is a connection.
 fn fill_once(seat: &mut Seat, room: &mut Room) -> Option<Result<usize>>
-    ensures octets { IsFilled room.old.coming.items room.new.coming.items room.old.going.items room.new.going.items }
+    ensures octets { IsFilled
+        room.old.coming.items room.new.coming.items room.old.going.items room.new.going.items }
     ensures seat { IsSameSeat seat.old seat.new }
     ensures ended { IsEndedByCalls seat.old seat.new }
-    ensures noted { IfSome result (λ answer. IsReadNoted answer seat.old room.old seat.new room.new) }
+    ensures noted { IfSome result (λ answer.
+        IsReadNoted answer seat.old room.old seat.new room.new) }
     ensures read { WasRead seat.new }
 {
     let Some(line) = &mut seat.line else {
@@ -139,17 +144,20 @@ fn fill_once(seat: &mut Seat, room: &mut Room) -> Option<Result<usize>>
 
 /// Whether something may be read of a connection, with room for it.
 fn may_fill(seat: &Seat, room: &Room) -> bool
-    ensures { result ≡ (seat.now.is_readable && not seat.now.is_over && nat_lt (length room.now.coming.items) LARGEST_FRAME) }
+    ensures { result ≡ (seat.now.is_readable
+        && not seat.now.is_over && nat_lt (length room.now.coming.items) LARGEST_FRAME) }
 {
     seat.is_readable && !seat.is_over && room.coming.len() < LARGEST_FRAME
 }
 
 /// Reads what is there.
 fn fill(seat: &mut Seat, room: &mut Room)
-    ensures octets { IsFilled room.old.coming.items room.new.coming.items room.old.going.items room.new.going.items }
+    ensures octets { IsFilled
+        room.old.coming.items room.new.coming.items room.old.going.items room.new.going.items }
     ensures seat { IsSameSeat seat.old seat.new }
     ensures ended { IsEndedByCalls seat.old seat.new }
-    ensures read { (seat.old.is_readable && not seat.old.is_over && nat_lt (length room.old.coming.items) LARGEST_FRAME) ≡ true → WasRead seat.new }
+    ensures read { (seat.old.is_readable && not seat.old.is_over
+        && nat_lt (length room.old.coming.items) LARGEST_FRAME) ≡ true → WasRead seat.new }
 {
     if !may_fill(seat, room) {
         return;
@@ -165,10 +173,12 @@ fn fill(seat: &mut Seat, room: &mut Room)
 
 /// Writes once. It answers what the system did, where there is a connection.
 fn flush_once(seat: &mut Seat, room: &mut Room) -> Option<Result<usize>>
-    ensures octets { IsFlushed room.old.coming.items room.new.coming.items room.old.going.items room.new.going.items }
+    ensures octets { IsFlushed
+        room.old.coming.items room.new.coming.items room.old.going.items room.new.going.items }
     ensures seat { IsSameSeat seat.old seat.new }
     ensures ended { IsEndedByCalls seat.old seat.new }
-    ensures noted { IfSome result (λ answer. IsWriteNoted answer seat.old room.old seat.new room.new) }
+    ensures noted { IfSome result (λ answer.
+        IsWriteNoted answer seat.old room.old seat.new room.new) }
 {
     let Some(line) = &mut seat.line else {
         return None;
@@ -183,7 +193,8 @@ fn flush_once(seat: &mut Seat, room: &mut Room) -> Option<Result<usize>>
 
 /// Writes what goes.
 fn flush(seat: &mut Seat, room: &mut Room)
-    ensures octets { IsFlushed room.old.coming.items room.new.coming.items room.old.going.items room.new.going.items }
+    ensures octets { IsFlushed
+        room.old.coming.items room.new.coming.items room.old.going.items room.new.going.items }
     ensures seat { IsSameSeat seat.old seat.new }
     ensures ended { IsEndedByCalls seat.old seat.new }
 {
@@ -212,7 +223,8 @@ fn is_left(seat: &Seat, room: &Room, now: u64) -> bool
 fn queue_up(seat: &mut Seat, room: &Room, turns: &mut u64)
     ensures seat { seat.new ≡ record seat.old { turn = seat.new.turn } }
     ensures turned { IsTurned turns.old turns.new seat.old.turn seat.new room.now }
-    ensures turn { seat.old.turn ≡ 0 → 0 < seat.new.turn → (turns.new ≡ raised turns.old 1) × (seat.new.turn ≡ turns.new) }
+    ensures turn { seat.old.turn ≡ 0
+        → 0 < seat.new.turn → (turns.new ≡ raised turns.old 1) × (seat.new.turn ≡ turns.new) }
     ensures turns { (turns.old ≤ turns.new) × (turns.new ≤ raised turns.old 1) }
 {
     if seat.turn == 0 && room.is_due() {
@@ -226,7 +238,8 @@ fn queue_up(seat: &mut Seat, room: &Room, turns: &mut u64)
 fn go_on(seat: &mut Seat, room: &mut Room, now: u64, turns: &mut u64)
     ensures went { GoesOn now turns.old turns.new seat.old room.old seat.new room.new }
     ensures ended { IsEndedByCalls seat.old seat.new }
-    ensures turn { seat.old.turn ≡ 0 → 0 < seat.new.turn → (turns.new ≡ raised turns.old 1) × (seat.new.turn ≡ turns.new) }
+    ensures turn { seat.old.turn ≡ 0
+        → 0 < seat.new.turn → (turns.new ≡ raised turns.old 1) × (seat.new.turn ≡ turns.new) }
     ensures turns { (turns.old ≤ turns.new) × (turns.new ≤ raised turns.old 1) }
 {
     let before = room.going.len();
@@ -240,9 +253,12 @@ fn go_on(seat: &mut Seat, room: &mut Room, now: u64, turns: &mut u64)
 
 /// Leaves a connection where it is to be left. It hands back the place of one that is left, as it was.
 fn leave_if_due(seat: &mut Seat, room: &mut Room, now: u64) -> Option<Seat>
-    ensures left { IsToLeave LONGEST_IDLE now seat.old room.old.going.items → IsVacant seat.new × IsEmpty room.new }
-    ensures stays { (IsToLeave LONGEST_IDLE now seat.old room.old.going.items → ⊥) → (seat.new ≡ seat.old) × (room.new ≡ room.old) }
-    ensures gone { ((seat.new ≡ seat.old) × (room.new ≡ room.old) × (IsToLeave LONGEST_IDLE now seat.old room.old.going.items → ⊥)) ⊎ (IsVacant seat.new × IsEmpty room.new) }
+    ensures left { IsToLeave LONGEST_IDLE now seat.old room.old.going.items
+        → IsVacant seat.new × IsEmpty room.new }
+    ensures stays { (IsToLeave LONGEST_IDLE now seat.old room.old.going.items → ⊥)
+        → (seat.new ≡ seat.old) × (room.new ≡ room.old) }
+    ensures gone { ((seat.new ≡ seat.old) × (room.new ≡ room.old) × (IsToLeave LONGEST_IDLE
+        now seat.old room.old.going.items → ⊥)) ⊎ (IsVacant seat.new × IsEmpty room.new) }
     ensures was { IfSome result (λ was. (was ≡ seat.old) × IsToLeaveAt now seat.old room.old) }
     ensures none { IfNone result ((seat.new ≡ seat.old) × (room.new ≡ room.old)) }
 {
@@ -260,7 +276,8 @@ pub(crate) fn settle(seat: &mut Seat, room: &mut Room, now: u64, turns: &mut u64
     ensures settled { IsSettled now turns.old turns.new seat.old room.old seat.new room.new }
     ensures left { IfSome result (IsLeft now turns.old turns.new seat.old room.old) }
     ensures stays { IfNone result (is_free seat.new ≡ is_free seat.old) }
-    ensures turn { seat.old.turn ≡ 0 → 0 < seat.new.turn → (turns.new ≡ raised turns.old 1) × (seat.new.turn ≡ turns.new) }
+    ensures turn { seat.old.turn ≡ 0
+        → 0 < seat.new.turn → (turns.new ≡ raised turns.old 1) × (seat.new.turn ≡ turns.new) }
     ensures turns { (turns.old ≤ turns.new) × (turns.new ≤ raised turns.old 1) }
 {
     if seat.line.is_none() {
@@ -294,8 +311,11 @@ fn enter(seat: &mut Seat, room: &mut Room, new: Seat, turns: &mut u64) -> Option
 /// Has the place hold a connection that came, and reads it, if there is such a place with a room.
 pub(crate) fn enter_at(seats: &mut [Seat], rooms: &mut [Room], i: usize, new: Seat, turns: &mut u64)
     requires { (peer : Peer) × (now : ℕ) × IsTaken peer now new }
-    ensures at { i < length seats.old → i < length rooms.old → IsPlaceChangedAt (λ _ _ seat room. IsEntered new.since turns.old turns.new seat room) i seats.old rooms.old seats.new rooms.new }
-    ensures none { (length seats.old ≤ i) ⊎ (length rooms.old ≤ i) → (seats.new ≡ seats.old) × (rooms.new ≡ rooms.old) }
+    ensures at { i < length seats.old → i < length rooms.old
+        → IsPlaceChangedAt (λ _ _ seat room. IsEntered new.since turns.old turns.new seat room)
+        i seats.old rooms.old seats.new rooms.new }
+    ensures none { (length seats.old ≤ i) ⊎ (length rooms.old ≤ i)
+        → (seats.new ≡ seats.old) × (rooms.new ≡ rooms.old) }
     ensures turns { (turns.old ≤ turns.new) × (turns.new ≤ raised turns.old 1) }
 {
     if i < seats.len() && i < rooms.len() {
@@ -305,7 +325,8 @@ pub(crate) fn enter_at(seats: &mut [Seat], rooms: &mut [Room], i: usize, new: Se
 
 /// Has the connection of a place wait no more to be handed over.
 pub(crate) fn rest_at(seats: &mut [Seat], i: usize)
-    ensures at { i < length seats.old → IsChangedAt (λ old new. new ≡ rested old) i seats.old seats.new }
+    ensures at { i < length seats.old
+        → IsChangedAt (λ old new. new ≡ rested old) i seats.old seats.new }
     ensures none { length seats.old ≤ i → seats.new ≡ seats.old }
 {
     if i < seats.len() {
@@ -349,8 +370,10 @@ pub(crate) fn is_any_waiting(seats: &[Seat]) -> bool {
 
 /// Has the connection of a place go on, where there is such a place with a room.
 pub(crate) fn settle_at(seats: &mut [Seat], rooms: &mut [Room], i: usize, now: u64, turns: &mut u64)
-    ensures at { i < length seats.old → i < length rooms.old → IsPlaceChangedAt (IsSettled now turns.old turns.new) i seats.old rooms.old seats.new rooms.new }
-    ensures none { (length seats.old ≤ i) ⊎ (length rooms.old ≤ i) → (seats.new ≡ seats.old) × (rooms.new ≡ rooms.old) }
+    ensures at { i < length seats.old → i < length rooms.old → IsPlaceChangedAt
+        (IsSettled now turns.old turns.new) i seats.old rooms.old seats.new rooms.new }
+    ensures none { (length seats.old ≤ i) ⊎ (length rooms.old ≤ i)
+        → (seats.new ≡ seats.old) × (rooms.new ≡ rooms.old) }
     ensures turns { (turns.old ≤ turns.new) × (turns.new ≤ raised turns.old 1) }
 {
     if i < seats.len() && i < rooms.len() {

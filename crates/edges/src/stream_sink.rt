@@ -44,14 +44,18 @@ impl<W: Write> Sink for StreamSink<W> {
     ghost told = { λ s. record { past = Some s.written; faults = s.faults } };
 
     fn put(&mut self, piece: &[u8]) -> Put
-        ensures put { BothTell (Some self.old.written) (Some self.new.written) (IsPut result piece.now) }
+        ensures put { BothTell
+            (Some self.old.written) (Some self.new.written) (IsPut result piece.now) }
         ensures later { self.old.faults ≤ self.new.faults }
         ensures cause { result ≡ Put.Failed → Rose self.old.faults self.new.faults }
         ensures stays { result ≢ Put.Failed → self.new.faults ≡ self.old.faults }
         // A writer that tells its bytes has got what is noted, once, and nothing else: a beginning of the piece, also where
         // it failed, and the whole piece where not.
-        ensures took { (k : ℕ) × (self.new.written.bytes ≡ self.old.written.bytes ++ take k piece.now) × Appends (W.contents self.old.stream) (W.contents self.new.stream) (take k piece.now) }
-        ensures done { result ≡ Put.Done → Appends (W.contents self.old.stream) (W.contents self.new.stream) piece.now }
+        ensures took { (k : ℕ)
+            × (self.new.written.bytes ≡ self.old.written.bytes ++ take k piece.now)
+            × Appends (W.contents self.old.stream) (W.contents self.new.stream) (take k piece.now) }
+        ensures done { result ≡ Put.Done
+            → Appends (W.contents self.old.stream) (W.contents self.new.stream) piece.now }
     {
         let (taken, put) = put_whole(&mut self.stream, piece);
         self.past.note(&SinkEvent { piece, taken });

@@ -23,13 +23,23 @@ impl<T: io::Read> Model for StreamSource<T> {
 
     ghost Value = { Reading T };
 
-    ghost view = { λ s. record { stream = s.stream; is_ended = s.heard.is_ended; faults = s.heard.faults; fed = s.heard.fed } };
+    ghost view = { λ s. record {
+      stream = s.stream;
+      is_ended = s.heard.is_ended;
+      faults = s.heard.faults;
+      fed = s.heard.fed;
+    } };
 }
 
 impl<T: io::Read> StreamSource<T> {
     /// One over this stream, without a fault so far.
     pub fn new(stream: T) -> StreamSource<T>
-        ensures { result ≡ record { stream = stream; is_ended = false; faults = 0; fed = new_source } }
+        ensures { result ≡ record {
+          stream = stream;
+          is_ended = false;
+          faults = 0;
+          fed = new_source;
+        } }
     {
         StreamSource {
             stream,
@@ -44,16 +54,22 @@ impl<T: io::Read> Source for StreamSource<T> {
     fn read(&mut self, buffer: &mut [u8]) -> Read
         requires { 1 ≤ length buffer.old }
         ensures within { IsWithin result (length buffer.old) }
-        ensures read { BothTell (Some self.old.fed) (Some self.new.fed) (IsRead (length buffer.old) result buffer.new) }
+        ensures read { BothTell
+            (Some self.old.fed) (Some self.new.fed) (IsRead (length buffer.old) result buffer.new) }
         ensures later { self.old.faults ≤ self.new.faults }
         ensures cause { result ≡ Read.Failed → Rose self.old.faults self.new.faults }
         ensures stays { result ≢ Read.Failed → self.new.faults ≡ self.old.faults }
         // Of a reader that tells its bytes the next ones are taken, where it has not ended; its end is answered where none is left, and from then on, without asking it; and a read that failed takes nothing.
-        ensures got { (n : ℕ) → result ≡ Read.Got n → Consumes (T.remaining self.old.stream) (T.remaining self.new.stream) (take n buffer.new) }
-        ensures end { result ≡ Read.End → self.old.is_ended ≡ false → IsAtEnd (T.remaining self.new.stream) × Keeps (T.remaining self.old.stream) (T.remaining self.new.stream) }
-        ensures failed { result ≡ Read.Failed → Keeps (T.remaining self.old.stream) (T.remaining self.new.stream) }
+        ensures got { (n : ℕ) → result ≡ Read.Got n → Consumes
+            (T.remaining self.old.stream) (T.remaining self.new.stream) (take n buffer.new) }
+        ensures end { result ≡ Read.End
+            → self.old.is_ended ≡ false → IsAtEnd (T.remaining self.new.stream)
+            × Keeps (T.remaining self.old.stream) (T.remaining self.new.stream) }
+        ensures failed { result ≡ Read.Failed
+            → Keeps (T.remaining self.old.stream) (T.remaining self.new.stream) }
         ensures ended { (result ≡ Read.End) ↔ (self.new.is_ended ≡ true) }
-        ensures unasked { self.old.is_ended ≡ true → (result ≡ Read.End) × (self.new.stream ≡ self.old.stream) × (self.new.faults ≡ self.old.faults) }
+        ensures unasked { self.old.is_ended ≡ true → (result ≡ Read.End)
+            × (self.new.stream ≡ self.old.stream) × (self.new.faults ≡ self.old.faults) }
     {
         let read = if self.heard.is_ended() {
             Read::End

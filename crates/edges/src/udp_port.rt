@@ -102,7 +102,8 @@ impl<'a, N: Net> Model for UdpPort<'a, N> {
 
     ghost view = { λ p. record { told = p.past.told; faults = p.faults } };
 
-    ghost invariant = { λ p. IsGoing p.past.told × IsAsked p.asked.told p.past.told × IsHanded p.handed.told p.past.told };
+    ghost invariant = { λ p. IsGoing p.past.told
+        × IsAsked p.asked.told p.past.told × IsHanded p.handed.told p.past.told };
 }
 
 impl<'a, N: Net> UdpPort<'a, N> {

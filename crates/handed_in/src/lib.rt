@@ -122,7 +122,8 @@ pub fn take_tcp<N: Net>(
     number: u32,
     place: SocketAddr,
 ) -> Result<Option<TcpListener>, Unfit>
-    ensures place { IfOk result (λ taken. IfSome taken (λ l. listener_raw_fd l ≡ pos (3 + number))) }
+    ensures place { IfOk result (λ taken.
+        IfSome taken (λ l. listener_raw_fd l ≡ pos (3 + number))) }
     ensures few { IfOk result (λ taken. IfSome taken (λ _. number < 64)) }
 {
     let Some(fd) = descriptor(number) else {
