@@ -85,14 +85,15 @@ class Way:
         return self
 
     async def carry(self, reader, writer):
-        # the loop itself holds tasks but weakly
-        self.tasks.add(asyncio.current_task())
+        # the loop itself holds tasks but weakly; one that it drops at its end has no current task
+        task = asyncio.current_task()
+        self.tasks.add(task)
         try:
             await self.carried(reader, writer)
         except (OSError, asyncio.IncompleteReadError):
             pass
         finally:
-            self.tasks.discard(asyncio.current_task())
+            self.tasks.discard(task)
             writer.close()
 
     async def carried(self, reader, writer):
