@@ -1,6 +1,6 @@
 -- Which connections give way, and when none does.
-use Rattle.std.proofs.Common.{◌≡◌, ◌⊎◌, ◌<◌, ◌≤◌, ◌-◌, ℕ, Bool, List, Option, Some, None, true, false, refl, sym, ap, subst, ◌∙◌, All, [], ◌∷◌, length, inl, inr, arith}
-use Rattle.std.specs.Prelude.{slice_get, get_or, is_some, position, IfNone, ◌==◌, ◌&&◌, if◌then◌else◌}
+use Rattle.std.proofs.Common.{◌≡◌, ◌<◌, ◌≤◌, ◌-◌, ℕ, Bool, List, Option, Some, None, true, false, sym, ap, subst, ◌∙◌, All, [], ◌∷◌, length, inl, inr, arith}
+use Rattle.std.specs.Prelude.{slice_get, is_some, position, IfNone, ◌==◌, ◌&&◌, if◌then◌else◌}
 use Rattle.std.proofs.lemmas.Option.{get_or_from_slice_get, none-some, slice_get_within}
 use Rattle.edges.proofs.Told.{some_eq}
 use Rattle.edges.specs.Places.{GivesWay, HasPlace, IsLeast, is_free, key_of}
