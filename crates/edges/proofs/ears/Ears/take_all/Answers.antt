@@ -1,7 +1,6 @@
 use Rattle.std.proofs.Common.{arith, ◌∙◌}
-use Rattle.edges.proofs.Going.{let_in_more, none_in}
+use Rattle.edges.proofs.Going.{let_in_more}
 use Rattle.edges.proofs.Turns.{let_in_numbered}
-use Rattle.edges.proofs.Ways.{some_place}
 use Rattle.edges.proofs.ears.Ears.take_all.Goals as goal
 
 pub loop-init : goal.loop-init
