@@ -22,7 +22,7 @@ new_line = record { reads = 0; writes = 0; has_failed = false; has_ended = false
 abbrev pub is_failure : ErrorKind → Bool
 is_failure kind.WouldBlock = false
 is_failure kind.Interrupted = false
-is_failure other = true
+is_failure _ = true
 
 -- a socket after a read
 abbrev pub after_read : Result ℕ Error → LineTold → LineTold
