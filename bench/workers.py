@@ -3,9 +3,11 @@
 
     workers.py WORK [GROUPS [SECONDS [ROUNDS]]]      with the program in GLB, another one in GLB_OTHER, flood in WORK
 
+Queries are those with client subnets, or the plain ones where QUERIES is `plain`.
+
 The server has as many processors as workers, and the client (flood.c) all others; so with three workers on four
-processors it is the client that bounds the queries a second, and the processor time of a query is what compares. Queries
-have client subnets, and 256 of them are on their way.
+processors it is the client that bounds the queries a second, and the processor time of a query is what compares. 256
+queries are on their way.
 """
 
 import os
@@ -17,6 +19,7 @@ import sys
 import serve
 
 ROUNDS = int(sys.argv[4]) if len(sys.argv) > 4 else 3
+QUERIES = "plain" if os.environ.get("QUERIES") == "plain" else "subnets"
 PROCESSORS = os.cpu_count()
 
 
@@ -26,13 +29,32 @@ def ask(server, workers):
     for pid in serve.family_of(server.process.pid):
         subprocess.run(["taskset", "-a", "-cp", f"0-{first - 1}", str(pid)], capture_output=True)
     threads = 2 if PROCESSORS - first > 1 else 1
-    words = [str(serve.WORK / "flood"), str(server.port), str(serve.SECONDS), str(threads), str(32 // threads), "8", str(serve.WORK / "subnets")]
+    words = [
+        str(serve.WORK / "flood"),
+        str(server.port),
+        str(serve.SECONDS),
+        str(threads),
+        str(32 // threads),
+        "8",
+        str(serve.WORK / QUERIES),
+    ]
     before = serve.processor(server.process.pid)
-    told = subprocess.run(["taskset", "-c", f"{first}-{PROCESSORS - 1}", *words], capture_output=True, text=True, check=True).stdout.split()
+    told = subprocess.run(
+        ["taskset", "-c", f"{first}-{PROCESSORS - 1}", *words],
+        capture_output=True,
+        text=True,
+        check=True,
+    ).stdout.split()
     after = serve.processor(server.process.pid)
     sent, got, lost, seconds = int(told[0]), int(told[1]), int(told[2]), float(told[3])
     user, system = ((b - a) * 1e6 / max(got, 1) for a, b in zip(before, after))
-    return got / seconds, user, system, 100 * lost / max(sent, 1), (sum(after) - sum(before)) / seconds
+    return (
+        got / seconds,
+        user,
+        system,
+        100 * lost / max(sent, 1),
+        (sum(after) - sum(before)) / seconds,
+    )
 
 
 def main():
@@ -48,12 +70,18 @@ def main():
             for name, make in makers:
                 with make(workers) as server:
                     rows.setdefault((workers, name), []).append(ask(server, workers))
-    print(f"{serve.GROUPS} groups, medians of {ROUNDS} rows of {serve.SECONDS} s, load {os.getloadavg()[0]:.1f} at the end")
-    print("| Workers | Server | a second | user, µs | system, µs | both, µs | lost | processors busy |\n|---|---|---|---|---|---|---|---|")
+    print(
+        f"{serve.GROUPS} groups, {QUERIES} queries, medians of {ROUNDS} rows of {serve.SECONDS} s, load {os.getloadavg()[0]:.1f} at the end"
+    )
+    print(
+        "| Workers | Server | a second | user, µs | system, µs | both, µs | lost | processors busy |\n|---|---|---|---|---|---|---|---|"
+    )
     for (workers, name), found in sorted(rows.items()):
         rate, user, system, lost, busy = (statistics.median(column) for column in zip(*found))
         both = statistics.median(row[1] + row[2] for row in found)
-        print(f"| {workers} | {name} | {rate:,.0f} | {user:.2f} | {system:.2f} | {both:.2f} | {lost:.2f} % | {busy:.2f} |")
+        print(
+            f"| {workers} | {name} | {rate:,.0f} | {user:.2f} | {system:.2f} | {both:.2f} | {lost:.2f} % | {busy:.2f} |"
+        )
 
 
 main()

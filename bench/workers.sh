@@ -6,6 +6,7 @@
 #     apt-get install gcc libc6-dev gdnsd knot knot-module-geoip
 #
 #     bench/workers.sh [GROUPS [SECONDS [ROUNDS]]]       1,024 groups, 10 seconds a row and three rounds if they are not given
+#     QUERIES=plain bench/workers.sh                      queries without client subnets
 . "$(dirname "$0")/set-up.sh"
 "${CC:-cc}" -O2 -Wall -Wextra -pthread -o "$work/flood" "$here/flood.c"
 GLB=$glb python3 "$here/workers.py" "$work" "$@"
