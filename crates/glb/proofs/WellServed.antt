@@ -213,7 +213,8 @@ session_well turns ask topology before after plan says placed started first plac
       lanes = subst (λ (n : ℕ). AreWellDone turns (first ∷ d.rest) 0 n started.lent.lanes after.stage.lent.lanes) served.as_many
           (all_well turns first d.rest 0 served.ends started.lent.lanes after.stage.lent.lanes d.lanes ports.0 spents.0 cells.0);
       stream = stream_well turns first d.rest ask.workers ask.tcp served.stream_end started.lent.stream after.stage.lent.stream served.as_asked
-          (subst (λ (n : ℕ). AreStreamsDone turns first d.rest n served.stream_end started.lent.stream after.stage.lent.stream) served.as_many d.stream) ports.1 spents.1 cells.1;      served = served;
+          (subst (λ (n : ℕ). AreStreamsDone turns first d.rest n served.stream_end started.lent.stream after.stage.lent.stream) served.as_many d.stream) ports.1 spents.1 cells.1;
+      served = served;
       one = refl;
     }
 
