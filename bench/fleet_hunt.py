@@ -73,7 +73,8 @@ class Keys:
         found = {}
         for key, octets in self.octets.items():
             name = key.removeprefix("glb/log/")
-            if name != key and len(name) == 16 and name.isdigit():
+            # entries are numbered from 1: what stands at 0 was put by hand, and is none
+            if name != key and is_number(name) and int(name):
                 found[int(name)] = octets
         return found
 
@@ -564,6 +565,9 @@ class Hunt:
     def roll_where_told(self, words):
         """As glb-fleet says it to whoever looks, once all is mended."""
         if self.is_mended and "roll the topology anew" in words and self.rolls_left:
+            if "glb/roll" in Keys(self.etcd).octets:
+                # one is under way, which glb-roll says: whoever looks waits for its end
+                return
             self.rolls_left -= 1
             self.say("rolls anew")
             self.fleet.command(
