@@ -181,9 +181,9 @@ impl<'a, J: Naming> RowNotes<'a, J> {
 
     /// All that it answered. The notes that it gave are those of the first versions, one after another.
     pub fn into_past(self) -> NotesPast
-        ensures told { result.told ≡ self.told }
-        ensures first { AreFirst self.given self.told }
-        ensures few { self.given ≤ most_notes }
+        ensures told { result.told ≡ self.entry.told }
+        ensures first { AreFirst self.entry.given self.entry.told }
+        ensures few { self.entry.given ≤ most_notes }
     {
         self.past
     }
