@@ -1,6 +1,7 @@
 pub mod Calls
 pub mod Gate
 pub mod Line
+pub mod Notes
 pub mod Pace
 pub mod Port
 pub mod Sink

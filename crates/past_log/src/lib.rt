@@ -5,6 +5,7 @@
 mod calls;
 mod gate;
 mod line;
+mod notes;
 mod pace;
 mod past;
 mod port;
@@ -15,6 +16,7 @@ mod streams;
 pub use calls::{CallEvent, CallsPast, CallsTelling};
 pub use gate::{GateEvent, GatePast, GateTelling};
 pub use line::{LineEvent, LinePast, LineTelling};
+pub use notes::{NoteEvent, NotesPast, NotesTelling};
 pub use pace::{PaceEvent, PacePast, PaceTelling};
 pub use past::Past;
 pub use port::{PortEvent, PortPast, PortTelling};
