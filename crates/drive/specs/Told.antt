@@ -13,7 +13,6 @@ use Rattle.tcp_lane.specs.Calls.{StreamMoment}
 use Rattle.tcp_lane.specs.Turns.{no_talk}
 use Rattle.drive.specs.Done.{LaneTold, ServerTold, StreamLaneTold}
 use Rattle.drive.specs.Driven.{Lent}
-use Rattle.drive.specs.Feeds.{FeedTold}
 use Rattle.drive.specs.declared.lent.Lent.{Lent as LentParts}
 use Rattle.outside.specs.Faults.{DeviceState}
 
@@ -61,10 +60,6 @@ stream_moment_at lane viewer notes count = record {
   talk = no_talk;
 }
 
--- a feed, by what it tells and how often an opening or a read of it has failed
-abbrev pub feed_told : {T : Type 0} → (T → DeviceState Fed) → T → FeedTold
-feed_told told feed = record { fed = (told feed).past; faults = (told feed).faults }
-
 -- the same things are lent, for as many turns
 abbrev pub IsSameLent : {S N K P G D M : Type 0} → LentParts S N K P G D M → LentParts S N K P G D M → Type 0
 IsSameLent a b = (b.feed.ghost_name ≡ a.feed.ghost_name) × (b.more.ghost_name ≡ a.more.ghost_name) × (b.out.ghost_name ≡ a.out.ghost_name) × (b.maps.ghost_name ≡ a.maps.ghost_name) × (b.lanes.ghost_name ≡ a.lanes.ghost_name) × (b.pace.ghost_name ≡ a.pace.ghost_name)
@@ -78,11 +73,11 @@ abbrev pub lent_of : {S N K P G D M : Type 0}
     → (S → DeviceState Fed) → (N → DeviceState Fed) → (K → DeviceState Written) → (M → DeviceState (List PaceCall))
     → LentParts S N K P G D M → StreamLaneTold → Lent
 lent_of fed named written paced l stream = record {
-  feed = feed_told fed l.feed.now;
-  more = map (feed_told named) l.more.now;
-  out = (written l.out.now).past;
-  maps = (written l.maps.now).past;
-  pace = (paced l.pace.now).past;
+  feed = fed l.feed.now;
+  more = map named l.more.now;
+  out = written l.out.now;
+  maps = written l.maps.now;
+  pace = paced l.pace.now;
   lanes = l.lanes.now;
   stream = stream;
 }

@@ -73,13 +73,6 @@ pub(crate) struct LaneWorker<J: Naming> {
     pub ended: Ended,
 }
 
-/// The workers of a drive: one for each lane, and one for conversations, if they are to be answered.
-#[derive(Drop)]
-pub(crate) struct Workers<H> {
-    pub lanes: Vec<H>,
-    pub stream: Option<H>,
-}
-
 /// How a lane ended whose closing look was refused.
 fn shut(ended: Ended) -> Ended
     ensures { result ≡ shut ended }

@@ -1,4 +1,4 @@
-use Rattle.std.proofs.Common.{rules, ◌≡◌, ◌∙◌, [], arith, length, sym}
+use Rattle.std.proofs.Common.{rules, sym}
 use Rattle.drive.specs.AllDone.{IsFresh}
 use Rattle.drive.proofs.Holding.{numbered_as}
 use Rattle.drive.proofs.Several.{no_more}
