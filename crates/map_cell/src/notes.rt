@@ -184,6 +184,7 @@ impl<'a, J: Naming> RowNotes<'a, J> {
     pub fn into_past(self) -> NotesPast
         ensures told { result.told ≡ self.entry.told }
         ensures first { AreFirst result.told }
+        ensures few { length result.told.given ≤ most_notes }
     {
         self.past
     }
