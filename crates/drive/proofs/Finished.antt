@@ -45,7 +45,7 @@ told_by port faults gate gate_faults e n notes = record { port = port; port_faul
 pub record HasLogged (a : Answers Version) (first : Version) (rest : List Version) (w : ℕ) (log : List Turn) (shown : ℕ) (m m' : Moment Version) (f : Eyes Version) (served e : Ended) (n n' : ℕ) (k : NotesTold) : Type 0 where
   pub shown_is : shown + 1 ≡ length m'.eyes.heard
   pub all : IsLaneLog a w log m m'
-  pub first_notes : AreFirst k
+  pub numbers : AreFirst k
   pub notes : flat_map (λ t. t.notes) log ≡ range_with_len 0 (length k.given)
   pub closing : IsClosing (first ∷ rest) m'.eyes f served e
   pub refusing : served ≡ CellFault → 0 < sum_by (λ t. refused_of t.came) log
@@ -66,7 +66,7 @@ log_over a first rest w log shown m m' f served e n n' j k port port' gate gate'
       over = over;
       run = run;
       told = h.all.told 0 some;
-      notes = h.first_notes;
+      numbers = h.numbers;
       noted = let few = noted_within log (length k.given) (length m'.eyes.heard) h.notes (h.all.told 0 some) h.all.known in omega (arith, one, few, h.all.rise.above, h.closing.rise.rising);
       within = λ k d lt. let known = h.all.within k d lt in omega (arith, one, known, h.all.rise.above, h.closing.rise.rising);
       last = (
@@ -129,7 +129,7 @@ done_of turns first rest w m m' f served e n n' j k asked seen heard count c beg
   served_log = (served_log replies first rest w c.log c.shown m m' f served e n n' j k m.port m'.port m.gate m'.gate m.gate_faults m'.gate_faults (record {
     shown_is = c.shown_is;
     all = c.all;
-    first_notes = begin;
+    numbers = begin;
     notes = notes_are c.log k begin are;
     closing = q;
     refusing = λ is. refused_last turns c.log (subst (IsEnd turns c.log) is c.ending);

@@ -30,7 +30,7 @@ stream_of turns first rest w m m' f served e n n' j k asked seen heard count fre
     let logged = served_log stream_replies first rest w (lane_of c.log) c.shown (inner m.eyes m.count m.stream_faults) (inner m'.eyes m'.count m'.stream_faults) f served e n n' j k m.streams m'.streams m.gate m'.gate m.gate_faults m'.gate_faults (record {
       shown_is = c.shown_is;
       all = c.all;
-      first_notes = begin;
+      numbers = begin;
       notes = lane_notes c.log ∙ notes_are (map lead_of c.log) k begin are;
       closing = q;
       refusing = λ is. refused_last turns c.log (subst (IsStreamEnd turns c.log) is c.ending);

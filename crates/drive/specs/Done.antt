@@ -79,7 +79,7 @@ pub record IsServedLog {T : Type 0} (a : Answers Version) (first : Version) (res
   pub over : List Version
   pub run : IsLaneRun a over w 0 0 (entries_of a.way log) (tries_of log)
   pub told : IsTold 0 log
-  pub notes : AreFirst after.notes
+  pub numbers : AreFirst after.notes
   pub noted : length after.notes.given ≤ after.greatest + 1
   pub within : All (λ t. floor_after t.known t.came ≤ after.greatest) log
   pub last : (floor_behind 0 log ≤ shown) × (shown ≤ after.greatest)
