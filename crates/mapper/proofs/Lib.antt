@@ -1,7 +1,7 @@
 pub mod Tellings
 pub mod Courses
 pub mod Chains
-mod Together
+pub mod Together
 mod Followed
 pub mod Counted
 pub mod Fresh
@@ -13,3 +13,4 @@ pub mod Merging
 pub mod Giving
 pub mod Several
 pub mod Working
+mod Taking

@@ -1,13 +1,14 @@
 //! What is to be done for what comes of a feed's line, whichever way it came.
-ghost use Rattle.std.specs.Prelude.{◌≡◌, ◌≢◌, ◌<◌, ℕ, All, List, None, Some, []};
+ghost use Rattle.std.specs.Prelude.{◌≡◌, ◌≢◌, ◌≤◌, ◌∷◌, ℕ, All, List, None, Some, []};
 ghost use Rattle.map_model.specs.declared.change.Change.{Change};
 ghost use Rattle.map_model.specs.Batch.{IsBatch};
 ghost use Rattle.demand_feed.specs.Batch.{IsInRange};
 ghost use Rattle.demand_feed.specs.Clerk.{task_by};
 ghost use Rattle.demand_feed.specs.declared.sent.What.TheVariants as whats;
+ghost use Rattle.feed_queue.specs.Items.{batches};
 ghost use Rattle.mapper.specs.Coming.{ComesOf};
 ghost use Rattle.mapper.specs.Control.{Course};
-ghost use Rattle.mapper.specs.Deeds.{DeedWorks, MayBeDone};
+ghost use Rattle.mapper.specs.Deeds.{DeedWorks, MayBeDone, raises};
 ghost use Rattle.mapper.specs.Items.{WorksAs};
 
 use crate::Saying;
@@ -33,6 +34,7 @@ pub(crate) fn deed_of_line<'b, J: Naming>(maps: &Maps<J>, next: &Next, due: &'b 
     requires { next.now ≡ Next.Batch → IsBatch maps.now.newest.plan.market due.now
         × (due.now ≢ []) }
     ensures may { MayBeDone maps.now.newest.plan.market result }
+    ensures few { raises result ≤ 1 }
     ensures works { (c d : Course) → c.newest ≡ maps.now.newest
         → DeedWorks None result c d → ComesOf (task_by due.now next.now) c d }
 {
@@ -55,6 +57,7 @@ pub(crate) fn deed_of_line<'b, J: Naming>(maps: &Maps<J>, next: &Next, due: &'b 
 fn deed_of_batch<'b, J: Naming>(maps: &Maps<J>, batch: &'b Batch) -> Deed<'b>
     requires { All IsInRange batch.now → IsBatch maps.now.newest.plan.market batch.now }
     ensures may { MayBeDone maps.now.newest.plan.market result }
+    ensures few { raises result ≤ 1 }
     ensures works { (feeder : ℕ) (c d : Course) → c.newest ≡ maps.now.newest
         → DeedWorks (Some feeder) result c d
         → WorksAs (Some feeder) (whats.Commit batch.now) c d }
@@ -73,6 +76,7 @@ pub(crate) fn deed_of_item<'b, J: Naming>(maps: &Maps<J>, what: &'b What) -> Dee
     requires { (changes : List Change) → what.now ≡ whats.Commit changes
         → All IsInRange changes → IsBatch maps.now.newest.plan.market changes }
     ensures may { MayBeDone maps.now.newest.plan.market result }
+    ensures few { raises result ≤ batches (what.now ∷ []) }
     ensures works { (feeder : ℕ) (c d : Course) → c.newest ≡ maps.now.newest
         → DeedWorks (Some feeder) result c d → WorksAs (Some feeder) what.now c d }
 {

@@ -6,7 +6,7 @@ ghost use Rattle.map_model.specs.Batch.{IsBatch};
 ghost use Rattle.published_map.specs.Version.{Version};
 ghost use Rattle.mapper.specs.Coming.{BothPut, Came};
 ghost use Rattle.mapper.specs.Control.{Course, before_commit};
-ghost use Rattle.mapper.specs.Deeds.{DeedWorks, MayBeDone};
+ghost use Rattle.mapper.specs.Deeds.{DeedWorks, MayBeDone, raises};
 ghost use Rattle.mapper.specs.Desks.{IsOutAlone, IsPaceAlone, IsWhole, Keeps, desk_told};
 ghost use Rattle.mapper.specs.Items.{CommitWorks, with_marked};
 ghost use Rattle.mapper.specs.Lending.{HasFault, HasNoFault};
@@ -20,7 +20,7 @@ ghost use Rattle.mapper.specs.Words.{map_text};
 use crate::deed::Deed;
 use crate::maps::Maps;
 use crate::saying::{with_mark, write_saying};
-use crate::{Outputs, Saying, Spoken};
+use crate::{Outputs, Saying, Spoken, Told};
 use demand_feed::Batch;
 use map_cell::{Naming, NoteRow};
 use map_model::{Proposals, Steps};
@@ -37,6 +37,35 @@ pub(crate) struct Desk<'r, 'x, 'n, 'o, 'm, 'p, R, J: Naming, K, M> {
     pub row: &'n NoteRow<J>,
     pub line: Spoken,
     pub to: Outputs<'o, 'm, 'p, K, M>,
+}
+
+impl<'r, 'x, 'n, 'o, 'm, 'p, R, J: Naming, K, M> Desk<'r, 'x, 'n, 'o, 'm, 'p, R, J, K, M> {
+    /// One with room for a line.
+    pub fn new(
+        rt: &'r R,
+        published: &'x mut Maps<J>,
+        row: &'n NoteRow<J>,
+        to: Outputs<'o, 'm, 'p, K, M>,
+    ) -> Desk<'r, 'x, 'n, 'o, 'm, 'p, R, J, K, M>
+        ensures published { (result.published.ghost_name ≡ published.entry.ghost_name)
+            × (result.published.now ≡ published.entry.now) }
+        ensures to { result.to ≡ to.entry }
+    {
+        Desk {
+            rt,
+            published,
+            row,
+            line: Spoken::new(),
+            to,
+        }
+    }
+
+    /// Of how many maps the row of notes tells.
+    pub fn told(&self) -> Told
+        ensures { result ≡ self.now.to.told }
+    {
+        self.to.told
+    }
 }
 
 impl<R: Wait, J: Naming, K: Sink, M: Pace> Desk<'_, '_, '_, '_, '_, '_, R, J, K, M> {
@@ -134,7 +163,7 @@ impl<R: Wait, J: Naming, K: Sink, M: Pace> Desk<'_, '_, '_, '_, '_, '_, R, J, K,
             → Came result before c (DeedWorks mark deed.now c) (desk_told K.told M.told self.new) }
         ensures keeps { Keeps K.told self.old self.new }
         ensures serial { self.new.published.now.newest.serial
-            ≤ self.old.published.now.newest.serial + 1 }
+            ≤ self.old.published.now.newest.serial + raises deed.now }
         ensures cause { result ≡ Put.Failed → HasFault K.told self.old.to self.new.to }
         ensures stays { result ≢ Put.Failed → IsWhole K.told self.old self.new }
     {

@@ -22,6 +22,8 @@ impl Model for Told {
     ghost Value = { ℕ };
 
     ghost view = { λ t. t.count };
+
+    ghost inverse = { λ n. record { count = n } };
 }
 
 /// Puts a note into a cell, if it holds none, and shows what it holds then.
@@ -46,6 +48,13 @@ impl Told {
         ensures { result ≡ 0 }
     {
         Told { count: 0 }
+    }
+
+    /// Of how many.
+    pub fn count(self) -> u64
+        ensures { result ≡ self }
+    {
+        self.count
     }
 
     /// One more, whose cell is shown to hold a note.
