@@ -24,8 +24,7 @@ fn is_quiet(next: &Next) -> bool
     matches!(next, Next::Nothing | Next::Stop)
 }
 
-impl<R: Wait, J: Naming, K: Sink, M: Pace> TakesTasks
-    for Desk<'_, '_, '_, '_, '_, '_, R, J, K, M> {
+impl<R: Wait, J: Naming, K: Sink, M: Pace> TakesTasks for Desk<'_, '_, '_, '_, '_, '_, R, J, K, M> {
     ghost use Rattle.std.specs.Prelude.{◌-◌, ◌^◌};
     ghost use Rattle.mapper.specs.Desks.{DeskCuts, DeskDoes};
 

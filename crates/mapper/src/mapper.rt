@@ -21,12 +21,12 @@ ghost use Rattle.mapper.specs.Lending.{HasFault, HasNoFault, HasNoLess, IsSameLe
 ghost use Rattle.mapper.specs.Notes.{AreTold};
 ghost use Rattle.mapper.specs.Words.{map_text, reply_by, totals_of};
 
-use crate::{Outputs, Spoken, Totals};
 use crate::current::{First, first_of};
 use crate::desk::Desk;
 use crate::feed::run_feed;
 use crate::feeds::run_feeds;
 use crate::maps::Maps;
+use crate::{Outputs, Spoken, Totals};
 use addr_text::Addr;
 use answer_core::Answer;
 use arrayvec::ArrayVec;

@@ -11,7 +11,7 @@ ghost use Rattle.mapper.specs.Mappers.{IsPublished, IsRepairing};
 ghost use Rattle.mapper.specs.Words.{map_text, reply_by, totals_of};
 
 use crate::Totals;
-use crate::current::{Current, First, Kept, applied, kept_of, next_of, unworn};
+use crate::current::{Current, First, Kept, after_batch, applied, kept_of, next_of, unworn};
 use addr_text::Addr;
 use answer_core::{Answer, Way, reply};
 use arrayvec::ArrayVec;
@@ -184,15 +184,8 @@ impl<J: Naming> Maps<J> {
     {
         let newest = self.publisher.newest();
         let old = &self.current;
-        let current = next_of(
-            self.alloc,
-            newest.topology(),
-            old,
-            kept,
-            spare,
-            batch,
-            steps,
-        )?;
+        let instance = after_batch(&old.instance, spare, batch)?;
+        let current = next_of(self.alloc, newest.topology(), old, kept, instance, steps)?;
         // tells the prover what the type keeps
         let _groups = (old.instance.groups(), current.instance.groups());
         let delta = Delta::between(
