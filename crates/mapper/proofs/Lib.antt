@@ -12,5 +12,4 @@ pub mod Marks
 pub mod Merging
 pub mod Giving
 pub mod Several
-pub mod Working
 mod Taking

@@ -16,13 +16,13 @@ use Rattle.mapper.specs.declared.desk.Desk.{Desk}
 use Rattle.demand_feed.proofs.Chains.{ends_cut, ends_keep, ends_whole}
 use Rattle.mapper.proofs.Chains.{has_ended}
 
-pub rests : {R J K M : Type 0} (told : K → DeviceState Written) (a : Desk R J K M) → Keeps told a a
+rests : {R J K M : Type 0} (told : K → DeviceState Written) (a : Desk R J K M) → Keeps told a a
 rests told a = (refl, (refl, refl, refl), (omega arith, omega arith), refl)
 
 pub joins : {R J K M : Type 0} (told : K → DeviceState Written) (a b c : Desk R J K M) → Keeps told a b → Keeps told b c → Keeps told a c
 joins told a b c h k = (k.0 ∙ h.0, (k.1.0 ∙ h.1.0, k.1.1 ∙ h.1.1, k.1.2 ∙ h.1.2), (omega (arith, h.2.0, k.2.0), omega (arith, h.2.1, k.2.1)), k.3 ∙ h.3)
 
-pub faulty : {R J K M : Type 0} (told : K → DeviceState Written) (a b c : Desk R J K M) → Keeps told a b → HasFault told b.to c.to → HasFault told a.to c.to
+faulty : {R J K M : Type 0} (told : K → DeviceState Written) (a b c : Desk R J K M) → Keeps told a b → HasFault told b.to c.to → HasFault told a.to c.to
 faulty told a b c h (inl r) = inl (omega (arith, h.2.0, r))
 faulty told a b c h (inr r) = inr (omega (arith, h.2.1, r))
 

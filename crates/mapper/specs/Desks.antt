@@ -1,5 +1,5 @@
 -- Inside this crate alone: what is done at a desk.
-use Rattle.std.specs.Prelude.{◌≡◌, ℕ, List}
+use Rattle.std.specs.Prelude.{◌≡◌, List}
 use Rattle.outside.specs.Faults.{DeviceState}
 use Rattle.outside.specs.Sink.{Written}
 use Rattle.outside.specs.declared.pace.PaceCall.{PaceCall}

@@ -1,7 +1,5 @@
-use Rattle.std.proofs.Common.{◌≡◌, inr, List, sym, subst}
-use Rattle.published_map.specs.Version.{Version}
+use Rattle.std.proofs.Common.{◌≡◌, inr}
 use Rattle.mapper.specs.Items.{CommitWorks, with_marked}
-use Rattle.mapper.specs.Notes.{AreTold}
 use Rattle.mapper.specs.Texts.{marked}
 use Rattle.mapper.specs.Texts as text
 use Rattle.mapper.proofs.Courses.{came_map, published_at, said_at}
