@@ -11,7 +11,7 @@ use std::sync::Wait;
 
 /// Of how many maps a row of notes tells, from serial 0 on. It rises by one, and only where the cell of the next serial is
 /// shown to hold a note.
-#[derive(Clone, Copy)]
+#[derive(Clone, Copy, Debug, PartialEq, Eq)]
 pub struct Told {
     count: u64,
 }
